@@ -1,0 +1,5 @@
+use Rattle.join_core.specs.Order as order
+use Rattle.join_core.proofs.laws.joined_laws.Goals as goal
+
+pub returns : goal.returns
+returns g c = order.bound_laws g.met.J.Join.laws

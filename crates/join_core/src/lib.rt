@@ -1,0 +1,25 @@
+//! State-based replicated values: states in an order in which each two have a least upper bound, their join.
+//!
+//! Updates only go up and replicas only join, so replicas that took the same updates are equal, in
+//! whatever order and however often they took them. Read in this order: [`Exact`] (equality and
+//! copies), [`Join`] (the order, the join and deltas), [`Key`], then the joins [`Max`], [`Flat`] and
+//! [`Pair`]. What all of them keep is said by the calls [`same_laws`], [`join_laws`], [`leq_laws`],
+//! [`joined_laws`] and [`delta_laws`].
+#![tactic(auto)]
+
+mod flats;
+mod laws;
+mod memory;
+mod numbers;
+mod pairs;
+mod values;
+
+pub use flats::Flat;
+pub use laws::{delta_laws, join_laws, joined_laws, leq_laws, same_laws};
+pub use memory::OutOfMemory;
+pub use numbers::Max;
+pub use pairs::Pair;
+pub use values::{Exact, Join, Key};
+
+#[cfg(test)]
+mod tests;

@@ -1,0 +1,5 @@
+pub mod Places
+pub mod Steps
+pub mod Views
+pub mod Passes
+pub mod Fronts

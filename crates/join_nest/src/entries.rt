@@ -1,0 +1,242 @@
+// Slices of entries whose keys strictly rise.
+ghost use Rattle.std.specs.Prelude.{◌≡◌, IsTrue, IfOk, IfErr, OnOk, OnErr, ◌++◌, ◌∷◌, []};
+ghost use Rattle.std.specs.FinMap.{find, is_sorted, put};
+ghost use Rattle.std.specs.Option.{option_copied, option_map};
+ghost use Rattle.join_nest.specs.Entries.{merge, entries_leq, entries_delta, entries_equal, with_key};
+ghost use Rattle.join_nest.specs.Optional.{option_delta};
+ghost use Rattle.join_nest.specs.Seen.{seen};
+ghost use Rattle.join_nest.specs.Place.{IsAt, IsGap};
+
+use join_core::{Exact, Join, Key, OutOfMemory};
+use std::alloc::Global;
+use std::cmp::Ordering;
+
+// Where the key is, or where it would go.
+pub fn place<K: Ord, J>(entries: &[(K, J)], key: &K) -> Result<usize, usize>
+    requires { IsTrue (is_sorted K.cmp entries.now) }
+    ensures found { IfOk result (IsAt K.cmp entries.now key.now) }
+    ensures absent { IfErr result (IsGap K.cmp entries.now key.now) }
+{
+    entries.binary_search_by(|entry| entry.0.cmp(key))
+}
+
+// The value at the key.
+pub fn lookup<'a, K: Ord, J>(entries: &'a [(K, J)], key: &K) -> Option<&'a J>
+    requires { IsTrue (is_sorted K.cmp entries.now) }
+    ensures { option_copied result ≡ find K.cmp key.now entries.now }
+{
+    match place(entries, key) {
+        Ok(at) => Some(&entries[at].1),
+        Err(_) => None,
+    }
+}
+
+pub fn same_entries<K: Key, J: Exact>(left: &[(K, J)], right: &[(K, J)]) -> bool
+    ensures { result ≡ entries_equal K.cmp J.equal (seen J.view left.now) (seen J.view right.now) }
+{
+    if left.len() != right.len() {
+        return false;
+    }
+    for i in 0..left.len() {
+        let (left_key, left_value) = &left[i];
+        let (right_key, right_value) = &right[i];
+        if left_key.cmp(right_key) != Ordering::Equal || !left_value.same(right_value) {
+            return false;
+        }
+    }
+    true
+}
+
+// Whether each entry is below what the other slice has at its key, in one pass over both.
+pub fn all_below<K: Key, J: Join>(left: &[(K, J)], right: &[(K, J)]) -> bool
+    requires left { IsTrue (is_sorted K.cmp left.now) }
+    requires right { IsTrue (is_sorted K.cmp right.now) }
+    ensures { result ≡ entries_leq K.cmp J.joining (seen J.view left.now) (seen J.view right.now) }
+{
+    let mut i = 0;
+    let mut j = 0;
+    while i < left.len() {
+        if j == right.len() {
+            return false;
+        }
+        let mine = &left[i];
+        let theirs = &right[j];
+        match mine.0.cmp(&theirs.0) {
+            Ordering::Less => return false,
+            Ordering::Greater => j += 1,
+            Ordering::Equal => {
+                if !mine.1.leq(&theirs.1) {
+                    return false;
+                }
+                i += 1;
+                j += 1;
+            }
+        }
+    }
+    true
+}
+
+// Adds a copy at the end.
+pub fn push_copy<K: Key, J: Exact>(
+    alloc: Global,
+    made: &mut Vec<(K, J)>,
+    entry: &(K, J),
+) -> Result<(), OutOfMemory>
+    ensures { OnOk result (seen J.view made.new.items ≡ seen J.view made.old.items ++ (entry.now.0, J.view entry.now.1) ∷ []) }
+{
+    let key = entry.0.copy(alloc)?;
+    let value = entry.1.copy(alloc)?;
+    made.push((key, value))?;
+    Ok(())
+}
+
+// Adds copies at the end.
+pub fn push_copies<K: Key, J: Exact>(
+    alloc: Global,
+    made: &mut Vec<(K, J)>,
+    entries: &[(K, J)],
+) -> Result<(), OutOfMemory>
+    ensures { OnOk result (seen J.view made.new.items ≡ seen J.view made.old.items ++ seen J.view entries.now) }
+{
+    for entry in entries {
+        push_copy(alloc, made, entry)?;
+    }
+    Ok(())
+}
+
+// Adds the key of the left entry with the join of both values at the end.
+pub fn push_joined<K: Key, J: Join>(
+    alloc: Global,
+    made: &mut Vec<(K, J)>,
+    left: &(K, J),
+    right: &J,
+) -> Result<(), OutOfMemory>
+    ensures { OnOk result (seen J.view made.new.items
+        ≡ seen J.view made.old.items ++ (left.now.0, J.joining.join (J.view left.now.1) (J.view right.now)) ∷ []) }
+{
+    let key = left.0.copy(alloc)?;
+    let value = left.1.joined(alloc, right)?;
+    made.push((key, value))?;
+    Ok(())
+}
+
+// Each key of either slice once, with the join of what both have there.
+pub fn merged<K: Key, J: Join>(
+    alloc: Global,
+    left: &[(K, J)],
+    right: &[(K, J)],
+) -> Result<Vec<(K, J)>, OutOfMemory>
+    ensures { IfOk result (λ made. seen J.view made.items ≡ merge K.cmp J.joining.join (seen J.view left.now) (seen J.view right.now)) }
+{
+    let mut made = Vec::new(alloc);
+    let mut i = 0;
+    let mut j = 0;
+    while i < left.len() && j < right.len() {
+        match left[i].0.cmp(&right[j].0) {
+            Ordering::Less => {
+                push_copy(alloc, &mut made, &left[i])?;
+                i += 1;
+            }
+            Ordering::Greater => {
+                push_copy(alloc, &mut made, &right[j])?;
+                j += 1;
+            }
+            Ordering::Equal => {
+                push_joined(alloc, &mut made, &left[i], &right[j].1)?;
+                i += 1;
+                j += 1;
+            }
+        }
+    }
+    push_copies(alloc, &mut made, &left[i..])?;
+    push_copies(alloc, &mut made, &right[j..])?;
+    Ok(made)
+}
+
+// Of each entry what the known ones lack, in one pass over both.
+pub fn lacking<K: Key, J: Join>(
+    alloc: Global,
+    entries: &[(K, J)],
+    known: &[(K, J)],
+) -> Result<Vec<(K, J)>, OutOfMemory>
+    requires entries { IsTrue (is_sorted K.cmp entries.now) }
+    requires known { IsTrue (is_sorted K.cmp known.now) }
+    ensures { IfOk result (λ made. seen J.view made.items ≡ entries_delta K.cmp J.joining (seen J.view entries.now) (seen J.view known.now)) }
+{
+    let mut made = Vec::new(alloc);
+    let mut i = 0;
+    let mut j = 0;
+    while i < entries.len() && j < known.len() {
+        let mine = &entries[i];
+        let theirs = &known[j];
+        match mine.0.cmp(&theirs.0) {
+            Ordering::Less => {
+                push_copy(alloc, &mut made, mine)?;
+                i += 1;
+            }
+            Ordering::Greater => j += 1,
+            Ordering::Equal => {
+                push_lacking(alloc, &mut made, mine, &theirs.1)?;
+                i += 1;
+                j += 1;
+            }
+        }
+    }
+    push_copies(alloc, &mut made, &entries[i..])?;
+    Ok(made)
+}
+
+// Adds what the known value lacks of the entry at the end, if it lacks any.
+fn push_lacking<K: Key, J: Join>(
+    alloc: Global,
+    made: &mut Vec<(K, J)>,
+    entry: &(K, J),
+    known: &J,
+) -> Result<(), OutOfMemory>
+    ensures { OnOk result (seen J.view made.new.items
+        ≡ seen J.view made.old.items ++ with_key entry.now.0 (option_delta J.joining (Some (J.view entry.now.1)) (Some (J.view known.now))) []) }
+{
+    if entry.1.leq(known) {
+        Ok(())
+    } else {
+        push_delta(alloc, made, entry, known)
+    }
+}
+
+// Adds the key of the entry with what the known value lacks at the end.
+fn push_delta<K: Key, J: Join>(
+    alloc: Global,
+    made: &mut Vec<(K, J)>,
+    entry: &(K, J),
+    known: &J,
+) -> Result<(), OutOfMemory>
+    ensures { OnOk result (seen J.view made.new.items
+        ≡ seen J.view made.old.items ++ (entry.now.0, J.joining.delta (J.view entry.now.1) (J.view known.now)) ∷ []) }
+{
+    let key = entry.0.copy(alloc)?;
+    let value = entry.1.delta(alloc, known)?;
+    made.push((key, value))?;
+    Ok(())
+}
+
+// Sets the value of a key. An `Err` changes nothing.
+pub fn put_entry<K: Key, J: Drop>(
+    entries: &mut Vec<(K, J)>,
+    key: K,
+    value: J,
+) -> Result<(), OutOfMemory>
+    requires { IsTrue (is_sorted K.cmp entries.old.items) }
+    ensures ok { OnOk result (entries.new.items ≡ put K.cmp key value entries.old.items) }
+    ensures err { OnErr result (entries.new.items ≡ entries.old.items) }
+{
+    match place(entries, &key) {
+        Ok(at) => {
+            entries[at] = (key, value);
+            Ok(())
+        }
+        Err(at) => {
+            entries.insert(at, (key, value))?;
+            Ok(())
+        }
+    }
+}

@@ -1,0 +1,105 @@
+ghost use Rattle.std.specs.Prelude.{◌≡◌, nat_eq, IsTrue, IfOk, OnOk, OnErr};
+ghost use Rattle.std.specs.FinMap.{FinMap, is_sorted, empty, get, entries, len, insert};
+ghost use Rattle.std.specs.Option.{option_map, option_copied};
+ghost use Rattle.join_nest.specs.Keyed.{keyed_equal, keyed_joining, keyed_equality, keyed_laws};
+ghost use Rattle.join_nest.specs.Seen.{keyed_view, seen};
+
+use crate::entries::{all_below, lacking, lookup, merged, push_copies, put_entry, same_entries};
+use join_core::{Exact, Join, Key, OutOfMemory};
+use std::alloc::Global;
+
+/// A finite map, joined key by key: an absent key is below each entry.
+#[derive(Debug, Drop)]
+pub struct Keyed<K: Ord, J> {
+    entries: Vec<(K, J)>,
+    ghost sorted: { IsTrue (is_sorted K.cmp entries.items) },
+}
+
+impl<K: Key, J: Exact> Exact for Keyed<K, J> {
+    ghost View = { FinMap K.cmp J.View };
+
+    ghost view = { λ m. keyed_view K.cmp J.view m.entries.items };
+
+    ghost equal = { keyed_equal J.equal };
+
+    ghost joining = { keyed_joining J.joining };
+
+    fn same(&self, other: &Keyed<K, J>) -> bool {
+        same_entries(&self.entries, &other.entries)
+    }
+
+    fn copy(&self, alloc: Global) -> Result<Keyed<K, J>, OutOfMemory> {
+        let mut entries = Vec::new(alloc);
+        push_copies(alloc, &mut entries, &self.entries)?;
+        Ok(Keyed { entries })
+    }
+
+    ghost equality = { keyed_equality K.total K.exact_order J.equality };
+}
+
+impl<K: Key, J: Join> Join for Keyed<K, J> {
+    fn leq(&self, other: &Keyed<K, J>) -> bool {
+        all_below(&self.entries, &other.entries)
+    }
+
+    fn joined(&self, alloc: Global, other: &Keyed<K, J>) -> Result<Keyed<K, J>, OutOfMemory> {
+        let entries = merged(alloc, &self.entries, &other.entries)?;
+        Ok(Keyed { entries })
+    }
+
+    fn delta(&self, alloc: Global, known: &Keyed<K, J>) -> Result<Keyed<K, J>, OutOfMemory> {
+        let entries = lacking(alloc, &self.entries, &known.entries)?;
+        Ok(Keyed { entries })
+    }
+
+    ghost laws = { keyed_laws K.total K.exact_order J.laws };
+}
+
+impl<K: Key, J: Exact> Keyed<K, J> {
+    /// The map with no entry.
+    pub fn new(alloc: Global) -> Keyed<K, J>
+        ensures { ⟦<Keyed<K, J> as Exact>⟧.view result ≡ empty }
+    {
+        Keyed {
+            entries: Vec::new(alloc),
+        }
+    }
+
+    /// The value at the key.
+    pub fn get(&self, key: &K) -> Option<&J>
+        ensures { option_map J.view (option_copied result) ≡ get (⟦<Keyed<K, J> as Exact>⟧.view self.now) key.now }
+    {
+        lookup(&self.entries, key)
+    }
+
+    /// The entries in the rising order of their keys.
+    pub fn entries(&self) -> &[(K, J)]
+        ensures entries { seen J.view result.now ≡ entries (⟦<Keyed<K, J> as Exact>⟧.view self.now) }
+        ensures rising { IsTrue (is_sorted K.cmp result.now) }
+    {
+        &self.entries
+    }
+
+    /// How many keys have an entry.
+    pub fn len(&self) -> usize
+        ensures { result ≡ len (⟦<Keyed<K, J> as Exact>⟧.view self.now) }
+    {
+        self.entries.len()
+    }
+
+    /// Whether no key has an entry.
+    pub fn is_empty(&self) -> bool
+        ensures { result ≡ nat_eq (len (⟦<Keyed<K, J> as Exact>⟧.view self.now)) 0 }
+    {
+        self.entries.is_empty()
+    }
+
+    /// Sets the value of a key, in place of the entry that is there. An `Err` changes nothing.
+    pub fn put(&mut self, key: K, value: J) -> Result<(), OutOfMemory>
+        ensures ok { OnOk result (⟦<Keyed<K, J> as Exact>⟧.view self.new
+            ≡ insert (⟦<Keyed<K, J> as Exact>⟧.view self.old) key (J.view value)) }
+        ensures err { OnErr result (⟦<Keyed<K, J> as Exact>⟧.view self.new ≡ ⟦<Keyed<K, J> as Exact>⟧.view self.old) }
+    {
+        put_entry(&mut self.entries, key, value)
+    }
+}

@@ -1,0 +1,76 @@
+// Each join at a concrete type, through the bound.
+use crate::{Keyed, Trunc};
+use join_core::{Exact, Flat, Join, Max, OutOfMemory};
+use std::alloc::Global;
+use std::test::Fail;
+
+// Whether the laws are seen to hold of these two values.
+fn laws_hold<J: Join>(alloc: Global, a: &J, b: &J) -> Result<bool, OutOfMemory> {
+    let joined = a.joined(alloc, b)?;
+    let turned = b.joined(alloc, a)?;
+    let served = b.joined(alloc, &a.delta(alloc, b)?)?;
+    let copy = joined.copy(alloc)?;
+    Ok(
+        joined.same(&turned)
+            && joined.same(&served)
+            && joined.same(&copy)
+            && a.leq(&joined)
+            && b.leq(&joined)
+            && a.delta(alloc, b)?.leq(a),
+    )
+}
+
+// The map of these entries.
+fn map_of(alloc: Global, entries: &[(u32, u32)]) -> Result<Keyed<u32, Max>, OutOfMemory> {
+    let mut map = Keyed::new(alloc);
+    for entry in entries {
+        map.put(entry.0, Max(entry.1))?;
+    }
+    Ok(map)
+}
+
+#[test]
+fn maps_join_key_by_key(rt: HostRuntime) -> Result<(), Fail> {
+    let alloc = rt.alloc();
+    let left = map_of(alloc, &[(1, 3), (5, 9), (5, 1)])?;
+    let right = map_of(alloc, &[(5, 4), (2, 7)])?;
+    assert!(rt; laws_hold(alloc, &left, &right)?);
+    assert!(rt; laws_hold(alloc, &right, &left)?);
+    let joined = left.joined(alloc, &right)?;
+    assert!(rt; joined.same(&map_of(alloc, &[(1, 3), (2, 7), (5, 4)])?));
+    assert!(rt; !joined.leq(&left));
+    assert!(rt;
+        joined
+            .delta(alloc, &right)?
+            .same(&map_of(alloc, &[(1, 3)])?)
+    );
+    assert_eq!(rt; joined.get(&5).map_or(0, |n| n.0), 4);
+    assert!(rt; joined.get(&3).is_none());
+    assert_eq!(rt; joined.len(), 3);
+    assert!(rt; joined.delta(alloc, &joined)?.is_empty());
+    let mut keys = 0;
+    for entry in joined.entries() {
+        assert!(rt; keys < entry.0);
+        keys = entry.0;
+    }
+    Ok(())
+}
+
+// What either side has dropped is gone from the join, whichever way it is made.
+#[test]
+fn dropped_calls_stay_dropped(rt: HostRuntime) -> Result<(), Fail> {
+    let alloc = rt.alloc();
+    let board = Trunc::<Flat<u32>>::new(alloc, 5);
+    let mut part = Trunc::new(alloc, 0);
+    part.put(3, Flat::Known(7u32))?;
+    part.put(6, Flat::Known(8))?;
+    assert!(rt; laws_hold(alloc, &board, &part)?);
+    assert!(rt; laws_hold(alloc, &part, &board)?);
+    let joined = board.joined(alloc, &part)?;
+    assert!(rt; joined.same(&part.joined(alloc, &board)?));
+    assert_eq!(rt; joined.dropped(), 5);
+    assert!(rt; joined.get(&3).is_none());
+    assert!(rt; joined.get(&6).is_some());
+    assert_eq!(rt; joined.entries().len(), 1);
+    Ok(())
+}

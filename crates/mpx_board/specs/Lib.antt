@@ -1,0 +1,4 @@
+pub mod Places
+pub mod Boards
+pub mod Maps
+pub mod Looks

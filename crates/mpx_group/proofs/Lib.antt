@@ -1,0 +1,4 @@
+pub mod Members
+pub mod Places
+pub mod Strides
+pub mod Choices

@@ -1,0 +1,5 @@
+use Rattle.mpx_group.proofs.Members.{IsGroup-filter}
+use Rattle.mpx_group.proofs.groups.Group.intersection.Goals as goal
+
+pub invariant_of-result : goal.invariant_of-result
+invariant_of-result c = rw (c.in_ok-members.ensures, c.deref.ensures.value) (IsGroup-filter _ _ c.self.invariant)

@@ -1,0 +1,393 @@
+ghost use Rattle.std.specs.Prelude.{◌≡◌, ◌<◌, ◌↔◌, ℕ, nat_eq, List, All, map, length, slice_index, IfOk, IfSome, IfNone, IsOkUnless, Ok, Err, if◌then◌else◌};
+ghost use Rattle.std.specs.Bool.{OnTrue, OnFalse};
+ghost use Rattle.std.specs.List.{list_all};
+ghost use Rattle.std.specs.Cmp.Lexicographic.{pointwise};
+ghost use Rattle.join_core.specs.Laws.{never_joined};
+ghost use Rattle.mpx_group.specs.Group.{numbers_equality, IsGroup, has, has_twice, union_of, intersection_of, difference_of, rank_in, comparison_of};
+ghost use Rattle.mpx_group.specs.Choice.{ranks_refusal, triplets_refusal, incl_of, excl_of, ranks_of};
+ghost use Rattle.mpx_group.specs.Translation.{translated};
+
+use crate::picks::Picks;
+use crate::triplets::any_bad;
+use crate::{Comparison, GroupError, Proc, Rank, Triplet};
+use join_core::{Exact, OutOfMemory};
+use std::alloc::{AllocError, Global};
+use std::marker::Model;
+
+/// An ordered list of distinct processes; rank i is the i-th.
+#[derive(Debug, Drop)]
+pub struct Group {
+    members: Vec<Proc>,
+}
+
+impl Model for Group {
+    ghost Value = { List ℕ };
+
+    ghost view = { λ g. g.members.items };
+
+    ghost invariant = { λ g. IsGroup g.members.items };
+}
+
+impl Group {
+    /// The group of these processes in this order. A process that stands twice is refused as `RankTwice`.
+    pub fn new(members: Vec<Proc>) -> Result<Group, GroupError>
+        ensures { result ≡ (if has_twice members.items then Err GroupError.RankTwice else Ok members.items) }
+    {
+        for (i, member) in members.iter().enumerate() {
+            if members[..i].contains(member) {
+                return Err(GroupError::RankTwice);
+            }
+            // so that the proof knows it to be below 64
+            let _number = member.number();
+        }
+        Ok(Group { members })
+    }
+
+    /// How many members it has.
+    pub fn size(&self) -> u8
+        ensures size { result ≡ length self.now }
+        ensures group { IsGroup self.now }
+    {
+        self.members.len() as u8
+    }
+
+    /// The members in rank order.
+    pub fn members(&self) -> &[Proc]
+        ensures { result.now ≡ self.now }
+    {
+        self.members.as_slice()
+    }
+
+    /// The rank of a process, where it is a member.
+    pub fn rank_of(&self, process: Proc) -> Option<u8>
+        ensures { result ≡ rank_in self.now process }
+    {
+        for (rank, member) in self.members.iter().enumerate() {
+            if *member == process {
+                return Some(rank as u8);
+            }
+        }
+        None
+    }
+
+    /// All of this group, then those of the other that aren't in this one, in the other's order.
+    pub fn union(&self, alloc: Global, other: &Group) -> Result<Group, OutOfMemory>
+        ensures { IfOk result (λ made. made ≡ union_of self.now other.now) }
+    {
+        let mut members = Vec::from_slice(alloc, &self.members)?;
+        members.extend_from_slice(&lacking(alloc, &other.members, &self.members)?)?;
+        Ok(Group { members })
+    }
+
+    /// Those of this group that are in the other, in this one's order.
+    pub fn intersection(&self, alloc: Global, other: &Group) -> Result<Group, OutOfMemory>
+        ensures { IfOk result (λ made. made ≡ intersection_of self.now other.now) }
+    {
+        let members = shared(alloc, &self.members, &other.members)?;
+        Ok(Group { members })
+    }
+
+    /// Those of this group that aren't in the other, in this one's order.
+    pub fn difference(&self, alloc: Global, other: &Group) -> Result<Group, OutOfMemory>
+        ensures { IfOk result (λ made. made ≡ difference_of self.now other.now) }
+    {
+        let members = lacking(alloc, &self.members, &other.members)?;
+        Ok(Group { members })
+    }
+
+    /// How it compares with the other (MPI 4.1, section 7.3.1).
+    pub fn compare(&self, other: &Group) -> Comparison
+        ensures comparison { result ≡ comparison_of self.now other.now }
+        ensures ident { (result ≡ Comparison.Ident) ↔ (self.now ≡ other.now) }
+    {
+        if self.members == other.members {
+            Comparison::Ident
+        } else if all_in(&self.members, &other.members) && all_in(&other.members, &self.members) {
+            Comparison::Similar
+        } else {
+            Comparison::Unequal
+        }
+    }
+
+    /// The rank in the other group of the process at each rank here. A rank here that is no member's, and one
+    /// whose process isn't in the other group, give `Undefined`; `ProcNull` gives `ProcNull` and `Undefined`
+    /// gives `Undefined`.
+    pub fn translate(
+        &self,
+        alloc: Global,
+        ranks: &[Rank],
+        to: &Group,
+    ) -> Result<Vec<Rank>, OutOfMemory>
+        ensures { IfOk result (λ found. found.items ≡ map (translated self.now to.now) ranks.now) }
+    {
+        let mut found = Vec::new(alloc);
+        for rank in ranks {
+            found.push(self.translated(*rank, to))?;
+        }
+        Ok(found)
+    }
+
+    fn translated(&self, rank: Rank, to: &Group) -> Rank
+        ensures { result ≡ translated self.now to.now rank }
+    {
+        match rank {
+            Rank::At(rank) => match self.members.get(rank as usize) {
+                Some(member) => match to.rank_of(*member) {
+                    Some(found) => Rank::At(found),
+                    None => Rank::Undefined,
+                },
+                None => Rank::Undefined,
+            },
+            Rank::ProcNull => Rank::ProcNull,
+            Rank::Undefined => Rank::Undefined,
+        }
+    }
+
+    /// The group whose rank i is the process at `ranks[i]`; no ranks give the empty group. Ranks that are none
+    /// of the group's are `RankOutOfRange`, and those listed twice `RankTwice`.
+    pub fn incl(&self, alloc: Global, ranks: &[i128]) -> Result<Group, GroupError>
+        ensures refused { IfSome (ranks_refusal self.now ranks.now) (λ e. result ≡ Err e) }
+        ensures memory { IfNone (ranks_refusal self.now ranks.now) (IsOkUnless result GroupError.OutOfMemory) }
+        ensures made { IfOk result (λ made. made ≡ incl_of self.now ranks.now) }
+    {
+        let mut picks = Picks::new();
+        for rank in ranks {
+            if !picks.pick(self.size(), *rank) {
+                return Err(GroupError::RankOutOfRange);
+            }
+        }
+        self.picked(alloc, &picks)
+    }
+
+    /// This group without the processes at these ranks, in its own order. The refusals are those of `incl`.
+    pub fn excl(&self, alloc: Global, ranks: &[i128]) -> Result<Group, GroupError>
+        ensures refused { IfSome (ranks_refusal self.now ranks.now) (λ e. result ≡ Err e) }
+        ensures memory { IfNone (ranks_refusal self.now ranks.now) (IsOkUnless result GroupError.OutOfMemory) }
+        ensures made { IfOk result (λ made. made ≡ excl_of self.now ranks.now) }
+    {
+        let excluded = self.incl(alloc, ranks)?;
+        Ok(self.difference(alloc, &excluded)?)
+    }
+
+    /// `incl` of the ranks of all triplets, one after another; a triplet that stands for no ranks is `BadTriplet`.
+    pub fn range_incl(&self, alloc: Global, triplets: &[Triplet]) -> Result<Group, GroupError>
+        ensures refused { IfSome (triplets_refusal self.now triplets.now) (λ e. result ≡ Err e) }
+        ensures memory { IfNone (triplets_refusal self.now triplets.now) (IsOkUnless result GroupError.OutOfMemory) }
+        ensures made { IfOk result (λ made. made ≡ incl_of self.now (ranks_of triplets.now)) }
+    {
+        if any_bad(triplets) {
+            return Err(GroupError::BadTriplet);
+        }
+        let mut picks = Picks::new();
+        for triplet in triplets {
+            if !picks.pick_triplet(self.size(), triplet) {
+                return Err(GroupError::RankOutOfRange);
+            }
+        }
+        self.picked(alloc, &picks)
+    }
+
+    /// `excl` of the ranks of all triplets. The refusals are those of `range_incl`.
+    pub fn range_excl(&self, alloc: Global, triplets: &[Triplet]) -> Result<Group, GroupError>
+        ensures refused { IfSome (triplets_refusal self.now triplets.now) (λ e. result ≡ Err e) }
+        ensures memory { IfNone (triplets_refusal self.now triplets.now) (IsOkUnless result GroupError.OutOfMemory) }
+        ensures made { IfOk result (λ made. made ≡ excl_of self.now (ranks_of triplets.now)) }
+    {
+        let excluded = self.range_incl(alloc, triplets)?;
+        Ok(self.difference(alloc, &excluded)?)
+    }
+
+    /// The members at the ranks that were picked.
+    fn picked(&self, alloc: Global, picks: &Picks) -> Result<Group, GroupError>
+        requires { All (λ r. r < length self.now) picks.now.0 }
+        ensures twice { OnTrue picks.now.1 (result ≡ Err GroupError.RankTwice) }
+        ensures memory { OnFalse picks.now.1 (IsOkUnless result GroupError.OutOfMemory) }
+        ensures made { IfOk result (λ made. made ≡ map (λ r. slice_index self.now r) picks.now.0) }
+    {
+        if picks.has_twice() {
+            return Err(GroupError::RankTwice);
+        }
+        let mut members = Vec::new(alloc);
+        for rank in picks.ranks() {
+            members.push(self.members[*rank as usize])?;
+        }
+        Ok(Group { members })
+    }
+}
+
+impl Exact for Group {
+    ghost View = { List ℕ };
+
+    ghost view = { λ g. g };
+
+    ghost equal = { pointwise nat_eq };
+
+    ghost joining = { never_joined };
+
+    fn same(&self, other: &Group) -> bool {
+        self.members() == other.members()
+    }
+
+    fn copy(&self, alloc: Global) -> Result<Group, OutOfMemory> {
+        let members = Vec::from_slice(alloc, &self.members)?;
+        Ok(Group { members })
+    }
+
+    ghost equality = { numbers_equality };
+}
+
+fn shared(alloc: Global, members: &[Proc], others: &[Proc]) -> Result<Vec<Proc>, AllocError>
+    ensures { IfOk result (λ made. made.items ≡ intersection_of members.now others.now) }
+{
+    members
+        .iter()
+        .copied()
+        .filter(|member| others.contains(member))
+        .collect(alloc)
+}
+
+fn lacking(alloc: Global, members: &[Proc], others: &[Proc]) -> Result<Vec<Proc>, AllocError>
+    ensures { IfOk result (λ made. made.items ≡ difference_of members.now others.now) }
+{
+    members
+        .iter()
+        .copied()
+        .filter(|member| !others.contains(member))
+        .collect(alloc)
+}
+
+fn all_in(members: &[Proc], others: &[Proc]) -> bool
+    ensures { result ≡ list_all (λ p. has others.now p) members.now }
+{
+    members.iter().all(|member| others.contains(member))
+}
+
+#[cfg(test)]
+mod tests {
+    use super::*;
+    use std::process::Abort;
+    use std::test::Fail;
+
+    fn group(alloc: Global, numbers: &[u8]) -> Result<Group, Fail> {
+        let mut members = Vec::new(alloc);
+        for number in numbers {
+            if *number < 64 {
+                members.push(Proc::new(*number))?;
+            }
+        }
+        Ok(Group::new(members)?)
+    }
+
+    fn expect_members(rt: &impl Abort, group: &Group, numbers: &[u8]) {
+        assert_eq!(rt; usize::from(group.size()), numbers.len());
+        for (member, number) in group.members().iter().zip(numbers) {
+            assert_eq!(rt; member.number(), *number);
+        }
+    }
+
+    #[test]
+    fn joins_filters_and_translates(rt: HostRuntime) -> Result<(), Fail> {
+        let alloc = rt.alloc();
+        let a = group(alloc, &[3, 1])?;
+        let b = group(alloc, &[1, 2, 0])?;
+        expect_members(&rt, &a.union(alloc, &b)?, &[3, 1, 2, 0]);
+        expect_members(&rt, &a.intersection(alloc, &b)?, &[1]);
+        expect_members(&rt, &a.difference(alloc, &b)?, &[3]);
+        let asked = [Rank::At(1), Rank::At(0), Rank::ProcNull, Rank::Undefined];
+        let found = a.translate(alloc, &asked, &b)?;
+        let wanted = [
+            Rank::At(0),
+            Rank::Undefined,
+            Rank::ProcNull,
+            Rank::Undefined,
+        ];
+        assert_eq!(rt; found.as_slice(), wanted.as_slice());
+        assert_eq!(rt; b.rank_of(Proc::new(2)), Some(1));
+        assert!(rt; a.copy(alloc)?.same(&a));
+        Ok(())
+    }
+
+    #[test]
+    fn chooses_by_rank(rt: HostRuntime) -> Result<(), Fail> {
+        let alloc = rt.alloc();
+        let g = group(alloc, &[5, 6, 7])?;
+        expect_members(&rt, &g.incl(alloc, &[2, 0])?, &[7, 5]);
+        expect_members(&rt, &g.incl(alloc, &[])?, &[]);
+        expect_members(&rt, &g.excl(alloc, &[1])?, &[5, 7]);
+        let ends = [Triplet {
+            first: 0,
+            last: 2,
+            stride: 2,
+        }];
+        expect_members(&rt, &g.range_excl(alloc, &ends)?, &[6]);
+        for (ranks, error) in [
+            ([2, 2], GroupError::RankTwice),
+            ([2, 3], GroupError::RankOutOfRange),
+            ([-1, 0], GroupError::RankOutOfRange),
+            ([i128::MAX, i128::MAX], GroupError::RankOutOfRange),
+        ] {
+            assert_eq!(rt; g.incl(alloc, &ranks).err(), Some(error));
+        }
+        let first = group(alloc, &[5, 6])?;
+        let second = group(alloc, &[6, 5])?;
+        assert_eq!(rt; first.compare(&second), Comparison::Similar);
+        assert_eq!(rt; first.compare(&first), Comparison::Ident);
+        assert_eq!(rt; first.compare(&g), Comparison::Unequal);
+        let repeated = vec![in alloc; Proc::new(5), Proc::new(6), Proc::new(5)]?;
+        assert_eq!(rt; Group::new(repeated).err(), Some(GroupError::RankTwice));
+        Ok(())
+    }
+
+    #[test]
+    fn walks_triplets(rt: HostRuntime) -> Result<(), Fail> {
+        let alloc = rt.alloc();
+        let g = group(alloc, &[0, 1, 2, 3, 4, 5, 6, 7])?;
+        for (first, last, stride, numbers) in [
+            (1, 7, 3, [1, 4, 7].as_slice()),
+            (6, 1, -2, [6, 4, 2].as_slice()),
+            (5, 5, -9, [5].as_slice()),
+            (3, i128::MAX, i128::MAX, [3].as_slice()),
+            (4, i128::MIN + 5, i128::MIN, [4].as_slice()),
+        ] {
+            let triplet = [Triplet {
+                first,
+                last,
+                stride,
+            }];
+            expect_members(&rt, &g.range_incl(alloc, &triplet)?, numbers);
+        }
+        for (first, last, stride, error) in [
+            (5, 3, 1, GroupError::BadTriplet),
+            (3, 5, 0, GroupError::BadTriplet),
+            (6, 9, 1, GroupError::RankOutOfRange),
+            (0, i128::MAX, i128::MAX - 1, GroupError::RankOutOfRange),
+            (4, i128::MIN, i128::MIN, GroupError::RankOutOfRange),
+            (i128::MIN, i128::MAX, 1, GroupError::RankOutOfRange),
+            (i128::MAX, i128::MIN, i128::MIN, GroupError::RankOutOfRange),
+        ] {
+            let triplet = [Triplet {
+                first,
+                last,
+                stride,
+            }];
+            assert_eq!(rt; g.range_incl(alloc, &triplet).err(), Some(error));
+        }
+        let twice = [
+            Triplet {
+                first: 1,
+                last: 3,
+                stride: 1,
+            },
+            Triplet {
+                first: 7,
+                last: 3,
+                stride: -2,
+            },
+        ];
+        assert_eq!(rt;
+            g.range_incl(alloc, &twice).err(),
+            Some(GroupError::RankTwice)
+        );
+        Ok(())
+    }
+}

@@ -1,0 +1,264 @@
+ghost use Rattle.std.specs.Prelude.{◌≡◌, ◌≢◌, ◌<◌, ◌-◌, ◌^◌, ◌↔◌, List, [], ◌∷◌, reverse, length, slice_get, option_copied, IfOk, IfSome, OnOk, IsErrOf, IsOkUnless, refl};
+ghost use Rattle.std.specs.declared.cmp.Ordering.TheVariants.{Less};
+ghost use Rattle.std.specs.Cmp.{IsTotalOrder, partial_equiv_from_equiv, partial_order_from_total, eq_by_cmp_equiv};
+ghost use Rattle.std.specs.FinMap.{IsAntisymmetric};
+ghost use Rattle.std.specs.Ordering.{eq_by_cmp, as_partial_cmp};
+ghost use Rattle.join_core.specs.Laws.{never_joined};
+ghost use Rattle.mpx_name.specs.declared.steps.Step.{Step};
+ghost use Rattle.mpx_name.specs.declared.steps.Step.TheVariants.{Child, Gathering};
+ghost use Rattle.mpx_name.specs.Order.{name_cmp, name_total, name_exact, name_equality};
+ghost use Rattle.mpx_name.specs.Name.{IsStep, IsName, is_gathering, parent_of};
+
+use crate::{NameError, Step};
+use join_core::{Exact, Key, OutOfMemory};
+use mpx_group::Group;
+use std::alloc::Global;
+use std::cmp::Ordering;
+use std::marker::Model;
+
+/// How many steps a name can have.
+const DEPTH: usize = 8;
+
+/// The steps that lead from the world to a context, kept oldest first; contracts see the newest first.
+#[derive(Debug, Drop)]
+pub struct Name {
+    steps: Vec<Step>,
+}
+
+impl Model for Name {
+    ghost Value = { List Step };
+
+    ghost view = { λ n. reverse n.steps.items };
+
+    ghost invariant = { λ n. IsName n.steps.items };
+}
+
+impl Name {
+    /// The name of the communicator of all ranks.
+    pub fn world(alloc: Global) -> Self
+        ensures { result ≡ [] }
+    {
+        Name {
+            steps: Vec::new(alloc),
+        }
+    }
+
+    /// The communicator of this colour that the call with this number on this context makes.
+    pub fn child(&self, alloc: Global, call: u32, colour: u32) -> Result<Name, NameError>
+        requires call { call < 2 ^ 32 - 1 }
+        requires colour { colour < 2 ^ 31 }
+        ensures child { IfOk result (λ name. name ≡ Child call colour ∷ self.now) }
+        ensures full { IsErrOf result NameError.DepthUsedUp ↔ (length self.now ≡ 8) }
+    {
+        self.room()?;
+        Ok(self.extended(alloc, Step::Child { call, colour })?)
+    }
+
+    /// The gathering of these members with this tag below this context.
+    pub fn gathering(&self, alloc: Global, tag: u16, members: &Group) -> Result<Name, NameError>
+        requires tag { tag < 2 ^ 15 }
+        requires members { members.now ≢ [] }
+        ensures gathering { IfOk result (λ name. name ≡ Gathering tag members.now ∷ self.now) }
+        ensures full { IsErrOf result NameError.DepthUsedUp ↔ (length self.now ≡ 8) }
+    {
+        self.room()?;
+        let members = members.copy(alloc)?;
+        Ok(self.extended(alloc, Step::Gathering { tag, members })?)
+    }
+
+    /// The name without its newest step; the world has no parent.
+    pub fn parent(&self, alloc: Global) -> Result<Option<Name>, OutOfMemory>
+        ensures { IfOk result (λ parent. parent ≡ parent_of self.now) }
+    {
+        match self.steps.split_last() {
+            None => Ok(None),
+            Some((_, earlier)) => Ok(Some(Name {
+                steps: copied(alloc, earlier)?,
+            })),
+        }
+    }
+
+    /// How many steps it has.
+    pub fn depth(&self) -> usize
+        ensures depth { result ≡ length self.now }
+        ensures name { IsName self.now }
+    {
+        self.steps.len()
+    }
+
+    /// Whether its newest step is a gathering.
+    pub fn is_gathering(&self) -> bool
+        ensures { result ≡ is_gathering self.now }
+    {
+        matches!(self.steps.last(), Some(Step::Gathering { .. }))
+    }
+
+    /// Step i from 0, the oldest first; none from the depth on.
+    pub fn step(&self, i: usize) -> Option<&Step>
+        ensures step { option_copied result ≡ slice_get (reverse self.now) i }
+        ensures fits { IfSome result (λ step. IsStep step.now) }
+    {
+        self.steps.get(i)
+    }
+
+    fn room(&self) -> Result<(), NameError>
+        ensures full { IsErrOf result NameError.DepthUsedUp ↔ (length self.now ≡ 8) }
+        ensures only_full { IsOkUnless result NameError.DepthUsedUp }
+        ensures room { OnOk result (length self.now < 8) }
+    {
+        if self.depth() == DEPTH {
+            return Err(NameError::DepthUsedUp);
+        }
+        Ok(())
+    }
+
+    fn extended(&self, alloc: Global, step: Step) -> Result<Name, OutOfMemory>
+        requires room { length self.now < 8 }
+        requires fits { IsStep step }
+        ensures { IfOk result (λ name. name ≡ step ∷ self.now) }
+    {
+        let mut steps = copied(alloc, &self.steps)?;
+        steps.push(step)?;
+        Ok(Name { steps })
+    }
+}
+
+fn copied(alloc: Global, steps: &[Step]) -> Result<Vec<Step>, OutOfMemory>
+    ensures { IfOk result (λ made. made.items ≡ steps.now) }
+{
+    let mut made = Vec::new(alloc);
+    for step in steps {
+        made.push(step.copy(alloc)?)?;
+    }
+    Ok(made)
+}
+
+impl Ord for Name {
+    ghost cmp = { name_cmp };
+
+    ghost total = { name_total };
+
+    ghost matches_partial_cmp = { λ a b. refl };
+
+    ghost matches_eq = { λ a b. refl };
+
+    fn cmp(&self, other: &Name) -> Ordering {
+        self.steps.cmp(&other.steps)
+    }
+}
+
+impl PartialOrd for Name {
+    ghost partial_cmp = { as_partial_cmp name_cmp };
+
+    ghost laws = { partial_order_from_total name_total };
+
+    fn partial_cmp(&self, other: &Name) -> Option<Ordering> {
+        Some(self.cmp(other))
+    }
+}
+
+impl PartialEq for Name {
+    ghost eq = { eq_by_cmp name_cmp };
+
+    ghost laws = { partial_equiv_from_equiv (eq_by_cmp_equiv name_total) };
+
+    fn eq(&self, other: &Name) -> bool {
+        self.cmp(other) == Ordering::Equal
+    }
+}
+
+impl Eq for Name {
+    ghost laws = { eq_by_cmp_equiv name_total };
+}
+
+impl Exact for Name {
+    ghost View = { List Step };
+
+    ghost view = { λ n. n };
+
+    ghost equal = { eq_by_cmp name_cmp };
+
+    ghost joining = { never_joined };
+
+    fn same(&self, other: &Name) -> bool {
+        *self == *other
+    }
+
+    fn copy(&self, alloc: Global) -> Result<Name, OutOfMemory> {
+        let steps = copied(alloc, &self.steps)?;
+        Ok(Name { steps })
+    }
+
+    ghost equality = { name_equality };
+}
+
+impl Key for Name {
+    ghost one_form = { λ a b e. e };
+
+    ghost exact_order = { name_exact };
+}
+
+/// Names stand in a strict total order, in which equal means the same steps and a name comes before its
+/// extensions.
+pub fn name_order()
+    ensures total { IsTotalOrder name_cmp }
+    ensures exact { IsAntisymmetric name_cmp }
+    ensures extension { (name : List Step) (step : Step) → name_cmp name (step ∷ name) ≡ Less }
+{}
+
+#[cfg(test)]
+mod tests {
+    use super::*;
+    use mpx_group::Proc;
+    use std::test::Fail;
+
+    #[test]
+    fn names_strictly_rise(rt: HostRuntime) -> Result<(), Fail> {
+        let alloc = rt.alloc();
+        let world = Name::world(alloc);
+        let pair = Group::new(vec![in alloc; Proc::new(0), Proc::new(1)]?)?;
+        let lone = Group::new(vec![in alloc; Proc::new(0)]?)?;
+        let first = world.child(alloc, 0, 0)?;
+        let rising = vec![in alloc;
+            first.child(alloc, 5, 0)?,
+            world.child(alloc, 0, 1)?,
+            world.child(alloc, 1, 0)?,
+            world.gathering(alloc, 0, &lone)?,
+            world.gathering(alloc, 0, &pair)?,
+            world.gathering(alloc, 1, &lone)?,
+        ]?;
+        assert!(rt; world < first);
+        let mut last = first;
+        for name in rising {
+            assert!(rt; last < name && name > last && last != name);
+            assert!(rt; name.same(&name) && name.copy(alloc)? == name);
+            last = name;
+        }
+        Ok(())
+    }
+
+    #[test]
+    fn goes_down_eight_steps(rt: HostRuntime) -> Result<(), Fail> {
+        let alloc = rt.alloc();
+        let pair = Group::new(vec![in alloc; Proc::new(3), Proc::new(1)]?)?;
+        let mut name = Name::world(alloc).gathering(alloc, 9, &pair)?;
+        assert!(rt; name.is_gathering());
+        for call in 1..8 {
+            name = name.child(alloc, call, 2)?;
+        }
+        assert_eq!(rt; name.depth(), 8);
+        assert_eq!(rt; name.child(alloc, 0, 0).err(), Some(NameError::DepthUsedUp));
+        assert_eq!(rt;
+            name.gathering(alloc, 0, &pair).err(),
+            Some(NameError::DepthUsedUp)
+        );
+        let parent = name.parent(alloc)?.ok_or("no parent")?;
+        assert_eq!(rt; parent.depth(), 7);
+        assert!(rt; parent.child(alloc, 7, 2)? == name && !parent.is_gathering());
+        assert!(rt; Name::world(alloc).parent(alloc)?.is_none());
+        assert!(rt; matches!(name.step(0), Some(Step::Gathering { tag: 9, .. })));
+        assert!(rt; matches!(name.step(7), Some(Step::Child { call: 7, colour: 2 })));
+        assert!(rt; name.step(8).is_none());
+        Ok(())
+    }
+}

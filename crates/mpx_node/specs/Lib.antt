@@ -1,0 +1,5 @@
+pub mod Values
+pub mod Histories
+pub mod Nodes
+pub mod Shown
+pub mod Harvests

@@ -1,0 +1,6 @@
+pub mod Types
+pub mod Wrapping
+pub mod Operations
+pub mod ItemList
+pub mod Text
+pub mod Laws

@@ -1,0 +1,4 @@
+pub mod Births
+pub mod Posts
+pub mod Drafts
+pub mod Rows

@@ -1,0 +1,55 @@
+ghost use Rattle.std.specs.Prelude.{◌≡◌, ◌<◌, ◌≤◌, IfOk, length};
+ghost use Rattle.mpx_post.specs.Births.{upto, is_among};
+
+use join_core::OutOfMemory;
+use mpx_group::Proc;
+use std::alloc::Global;
+use std::marker::Model;
+
+/// How a communicator came to be: its members, 1 to 64, in rank order (MPI 4.1 section 7.2).
+#[derive(Debug, Drop)]
+pub struct Birth {
+    members: Vec<Proc>,
+}
+
+impl Model for Birth {
+    ghost use Rattle.std.specs.Prelude.{◌<◌, ◌≤◌, length};
+    ghost use Rattle.mpx_post.specs.Births.{BirthView};
+
+    ghost Value = { BirthView };
+
+    ghost view = { λ b. record { members = b.members.items } };
+
+    ghost invariant = { λ b. (0 < length b.members.items) × (length b.members.items ≤ 64) };
+}
+
+impl Birth {
+    /// The communicator `world`, whose members are the processes below `ranks`.
+    pub fn world(alloc: Global, ranks: u8) -> Result<Birth, OutOfMemory>
+        requires some { 0 < ranks }
+        requires few { ranks ≤ 64 }
+        ensures { IfOk result (λ birth. birth ≡ record { members = upto ranks }) }
+    {
+        let mut members = Vec::new(alloc);
+        for rank in 0..ranks {
+            members.push(Proc::new(rank))?;
+        }
+        Ok(Birth { members })
+    }
+
+    /// The members, 1 to 64, in rank order.
+    pub fn members(&self) -> &[Proc]
+        ensures value { result.now ≡ self.now.members }
+        ensures some { 0 < length result.now }
+        ensures small { length result.now ≤ 64 }
+    {
+        self.members.as_slice()
+    }
+
+    /// Whether the process is a member.
+    pub fn has(&self, process: Proc) -> bool
+        ensures { result ≡ is_among process self.now.members }
+    {
+        self.members.contains(&process)
+    }
+}

@@ -1,0 +1,49 @@
+ghost use Rattle.std.specs.Prelude.{◌≡◌, ◌<◌, ◌≤◌, Some, map, length, slice_get};
+
+use crate::Post;
+use std::marker::Model;
+
+/// The posts of all members to one call, in rank order, each lent.
+#[derive(Drop)]
+pub struct Row<'a> {
+    posts: Vec<&'a Post>,
+}
+
+impl<'a> Model for Row<'a> {
+    ghost use Rattle.std.specs.Prelude.{◌<◌, ◌≤◌, map, length};
+    ghost use Rattle.mpx_post.specs.Rows.{RowView};
+
+    ghost Value = { RowView };
+
+    ghost view = { λ r. map (λ p. p.now) r.posts.items };
+
+    ghost invariant = { λ r. (0 < length r.posts.items) × (length r.posts.items ≤ 64) };
+}
+
+impl<'a> Row<'a> {
+    /// The row of these posts, of which there are 1 to 64.
+    pub fn new(posts: Vec<&'a Post>) -> Row<'a>
+        requires some { 0 < length posts.items }
+        requires small { length posts.items ≤ 64 }
+        ensures { result ≡ map (λ p. p.now) posts.entry.items }
+    {
+        Row { posts }
+    }
+
+    /// How many members there are, 1 to 64.
+    pub fn len(&self) -> usize
+        ensures count { result ≡ length self.now }
+        ensures some { 0 < result }
+        ensures small { result ≤ 64 }
+    {
+        self.posts.len()
+    }
+
+    /// The post of the member with this rank.
+    pub fn post(&self, rank: usize) -> &'a Post
+        requires { rank < length self.now }
+        ensures { slice_get self.now rank ≡ Some result.now }
+    {
+        self.posts[rank]
+    }
+}

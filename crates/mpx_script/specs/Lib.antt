@@ -1,0 +1,12 @@
+pub mod Faults
+pub mod Words
+pub mod Grammar
+pub mod ScriptView
+pub mod Reading
+pub mod Line
+pub mod Draft
+pub mod Answer
+pub mod Ranks
+pub mod Evaluation
+pub mod Told
+pub mod Transcripts

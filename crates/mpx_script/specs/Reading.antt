@@ -1,0 +1,119 @@
+-- What the text of a script says, or the least line that is refused, with its first refusal.
+use Rattle.std.specs.Prelude.{ℕ, ◌+◌, nat_lt, Bool, false, not, ◌==◌, ◌||◌, ◌&&◌, List, [], ◌∷◌, length, take, map, slice_index_or, Option, Some, None, is_none, unwrap_or, sum_by, Result, Ok, Err, if◌then◌else◌}
+use Rattle.std.specs.List.{filter_map, range_with_len}
+use Rattle.std.specs.Option.{option_map, option_map_or}
+use Rattle.mpx_script.specs.Words.{words, counts, counting, is_ascii, is_over_limit, script_lines}
+use Rattle.mpx_script.specs.Grammar.{LineParts, parts_of, statements_in, ranks_in, given_to, lacks_ranks, has_ranks_out_of_range, has_rank_out_of_range, is_unknown, has_wrong_words, has_bad_number, has_bad_name, has_unknown_name}
+use Rattle.mpx_script.specs.ScriptView.{ScriptView}
+use Rattle.mpx_script.specs.declared.faults.ScriptFault.{ScriptFault}
+use Rattle.mpx_script.specs.declared.faults.ScriptFault.TheVariants.{NotAscii, TooLarge, NoRanksLine, RanksOutOfRange, RankOutOfRange, UnknownStatement, WrongWords, BadNumber, BadName, NameUnknown}
+use Rattle.mpx_script.specs.declared.faults.ScriptError.{ScriptError}
+
+-- how many statements a script may have
+abbrev pub statements_limit : ℕ
+statements_limit = 65536
+
+-- a line, with what the lines before it settle
+pub record Place : Type 0 where
+  pub line : List ℕ
+  -- the script passes its limit of bytes in this line
+  pub is_cut : Bool
+  -- it is the first line of a script within that limit in which no line counts
+  pub is_bare : Bool
+  -- the number of ranks, once a line has told it
+  pub ranks : Option ℕ
+  -- how many statements there are so far
+  pub statements : ℕ
+
+-- the first line that counts
+abbrev pub on_opening : Place → (List (List ℕ) → Bool) → Bool
+on_opening p test = counts (words p.line) && is_none p.ranks && test (words p.line)
+
+-- a further line that counts, in a script of so many ranks
+abbrev pub on_further : Place → (ℕ → LineParts → Bool) → Bool
+on_further p test = counts (words p.line) && option_map_or (λ ranks. test ranks (parts_of (words p.line))) p.ranks false
+
+-- what the line may be refused for, in the order in which that is asked
+abbrev pub refusals : Place → List (ScriptFault × Bool)
+refusals p =
+    (NotAscii, not (is_ascii p.line))
+    ∷ (TooLarge, p.is_cut || on_further p (λ ranks parts. nat_lt statements_limit (p.statements + statements_in ranks parts)))
+    ∷ (NoRanksLine, p.is_bare || on_opening p lacks_ranks)
+    ∷ (RanksOutOfRange, on_opening p has_ranks_out_of_range)
+    ∷ (RankOutOfRange, on_further p has_rank_out_of_range)
+    ∷ (UnknownStatement, on_further p (λ ranks parts. is_unknown parts))
+    ∷ (WrongWords, on_further p (λ ranks parts. has_wrong_words parts))
+    ∷ (BadNumber, on_further p (λ ranks parts. has_bad_number parts))
+    ∷ (BadName, on_further p (λ ranks parts. has_bad_name parts))
+    ∷ (NameUnknown, on_further p (λ ranks parts. has_unknown_name parts))
+    ∷ []
+
+-- the first of these that holds
+abbrev pub first_holding : List (ScriptFault × Bool) → Option ScriptFault
+first_holding [] = None
+first_holding (asked ∷ more) = if asked.1 then Some asked.0 else first_holding more
+
+abbrev pub refusal : Place → Option ScriptFault
+refusal p = first_holding (refusals p)
+
+-- a line of a script that isn't bare
+abbrev pub bounded_place : List ℕ → Bool → Option ℕ → ℕ → Place
+bounded_place line is_cut ranks statements = record { line = line; is_cut = is_cut; is_bare = false; ranks = ranks; statements = statements }
+
+-- a line in which the limit of bytes isn't passed either
+abbrev pub plain_place : List ℕ → Option ℕ → ℕ → Place
+plain_place line ranks statements = bounded_place line false ranks statements
+
+-- the number of ranks that the first line that counts tells
+abbrev pub ranks_told : List (List ℕ) → ℕ
+ranks_told opening = unwrap_or (ranks_in opening) 0
+
+abbrev pub ranks_settled : List (List (List ℕ)) → Option ℕ
+ranks_settled [] = None
+ranks_settled (opening ∷ further) = Some (ranks_told opening)
+
+-- how many statements the lines that count have
+abbrev pub statements_settled : List (List (List ℕ)) → ℕ
+statements_settled [] = 0
+statements_settled (opening ∷ further) = sum_by (λ words. statements_in (ranks_told opening) (parts_of words)) further
+
+-- the ranks, and what the further lines give each of them, in the order of the lines
+abbrev pub script_of : List (List (List ℕ)) → ScriptView
+script_of [] = record { ranks = 0; statements = [] }
+script_of (opening ∷ further) = record {
+  ranks = ranks_told opening;
+  statements = map (λ rank. filter_map (λ words. given_to rank (parts_of words)) further) (range_with_len 0 (ranks_told opening));
+}
+
+-- no line of the script counts, though it is within its limit of bytes
+abbrev pub is_bare_script : List ℕ → Bool
+is_bare_script text = not (is_over_limit text) && (length (counting (script_lines text)) == 0)
+
+-- the line at a place from 0 on
+abbrev pub place_at : List ℕ → ℕ → Place
+place_at text i =
+    let all = script_lines text in
+    let before = counting (take i all) in
+    record {
+      line = slice_index_or all i [];
+      is_cut = is_over_limit text && (i + 1 == length all);
+      is_bare = (i == 0) && is_bare_script text;
+      ranks = ranks_settled before;
+      statements = statements_settled before;
+    }
+
+-- the refusal of the line at a place, with the line's number from 1 on
+abbrev pub error_at : List ℕ → ℕ → Option ScriptError
+error_at text i = option_map (λ what. record { line = i + 1; what = what }) (refusal (place_at text i))
+
+-- the lines that are refused
+abbrev pub errors : List ℕ → List ScriptError
+errors text = filter_map (error_at text) (range_with_len 0 (length (script_lines text)))
+
+-- the first error, or what the script says
+abbrev pub read_as : List ScriptError → ScriptView → Result ScriptView ScriptError
+read_as [] script = Ok script
+read_as (first ∷ more) script = Err first
+
+unfoldable pub reading : List ℕ → Result ScriptView ScriptError
+reading text = read_as (errors text) (script_of (counting (script_lines text)))

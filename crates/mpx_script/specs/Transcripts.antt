@@ -1,0 +1,48 @@
+-- The text of a transcript.
+use Rattle.std.specs.Prelude.{ℕ, zero, suc, ℤ, pos, List, [], ◌∷◌, ◌++◌, codes}
+use Rattle.mpx_num.specs.Text.{number_text}
+use Rattle.mpx_post.specs.declared.draft.PostError.{PostError}
+use Rattle.mpx_post.specs.declared.draft.PostError.TheVariants as R
+use Rattle.mpx_node.specs.declared.outcome.FaultKind.{FaultKind}
+use Rattle.mpx_node.specs.declared.outcome.FaultKind.TheVariants as F
+use Rattle.mpx_node.specs.declared.outcome.Outcome.{Outcome}
+use Rattle.mpx_node.specs.declared.outcome.Outcome.TheVariants as O
+use Rattle.mpx_script.specs.Ranks.{Line, Told, Refused}
+
+-- each number with a space before it
+abbrev pub spaced : List ℤ → List ℕ
+spaced [] = []
+spaced (x ∷ xs) = (32 ∷ number_text x) ++ spaced xs
+
+-- numbers with one space between them
+abbrev pub numbers_text : List ℤ → List ℕ
+numbers_text [] = codes "empty"
+numbers_text (x ∷ xs) = number_text x ++ spaced xs
+
+abbrev pub fault_name : FaultKind → List ℕ
+fault_name F.Amount = codes "Amount"
+
+abbrev pub refusal_name : PostError → List ℕ
+refusal_name R.NotMember = codes "NotMember"
+refusal_name R.ItemOutOfRange = codes "ItemOutOfRange"
+refusal_name R.TooManyItems = codes "TooManyItems"
+refusal_name R.CallsUsedUp = codes "CallsUsedUp"
+refusal_name R.OutOfMemory = codes "OutOfMemory"
+
+abbrev pub outcome_text : Outcome → List ℕ
+outcome_text (O.Items items) = numbers_text items.nums
+outcome_text (O.Fault fault) = codes "fault " ++ fault_name fault.what ++ codes " at " ++ number_text (pos fault.rank)
+
+abbrev pub line_text : Line → List ℕ
+line_text (Told outcome) = outcome_text outcome
+line_text (Refused refusal) = codes "refused " ++ refusal_name refusal
+
+-- each line of a rank as `RANK: LINE`
+abbrev pub rank_text : ℕ → List (List ℕ) → List ℕ
+rank_text p [] = []
+rank_text p (l ∷ ls) = number_text (pos p) ++ codes ": " ++ l ++ 10 ∷ rank_text p ls
+
+-- the lines of the first n ranks, rank by rank
+abbrev pub text_upto : ((rank : ℕ) → List (List ℕ)) → ℕ → List ℕ
+text_upto lines zero = []
+text_upto lines (suc n) = text_upto lines n ++ rank_text n (lines n)

@@ -1,0 +1,129 @@
+ghost use Rattle.std.specs.Prelude.{◌≡◌, Some};
+ghost use Rattle.mpx_script.specs.Faults.{fault_name, error_text};
+ghost use Rattle.mpx_script.specs.declared.faults.ReadScriptError.TheVariants.{OutOfMemory};
+ghost use Rattle.mpx_script.specs.declared.faults.LineError.TheVariants.{OutOfMemory as NoMemory};
+
+use std::alloc::{AllocError, AllocFailed};
+use std::fmt;
+use thiserror::Error;
+
+/// Why a line of a script is refused. A line is asked in this order, and the first that holds is told.
+#[derive(Clone, Copy, PartialEq, Eq, Debug)]
+pub enum ScriptFault {
+    /// A byte of the line isn't ASCII.
+    NotAscii,
+    /// The script passes 1,048,576 bytes or 65,536 statements in the line.
+    TooLarge,
+    /// The first line that counts isn't `ranks N`, or no line counts.
+    NoRanksLine,
+    /// The number of ranks isn't from 1 to 64.
+    RanksOutOfRange,
+    /// The line is for a rank that isn't there.
+    RankOutOfRange,
+    /// There is no such statement, operation or type, or the line isn't of the form `R: STATEMENT`.
+    UnknownStatement,
+    /// The statement has too few words.
+    WrongWords,
+    /// A word in a number's place is no number.
+    BadNumber,
+    /// A word in a name's place is no name.
+    BadName,
+    /// The name isn't bound.
+    NameUnknown,
+}
+
+impl ScriptFault {
+    fn name(self) -> &'static str
+        ensures { result.now ≡ fault_name self }
+    {
+        match self {
+            ScriptFault::NotAscii => "NotAscii",
+            ScriptFault::TooLarge => "TooLarge",
+            ScriptFault::NoRanksLine => "NoRanksLine",
+            ScriptFault::RanksOutOfRange => "RanksOutOfRange",
+            ScriptFault::RankOutOfRange => "RankOutOfRange",
+            ScriptFault::UnknownStatement => "UnknownStatement",
+            ScriptFault::WrongWords => "WrongWords",
+            ScriptFault::BadNumber => "BadNumber",
+            ScriptFault::BadName => "BadName",
+            ScriptFault::NameUnknown => "NameUnknown",
+        }
+    }
+}
+
+impl fmt::Display for ScriptFault {
+    ghost output = { λ fault. Some (fault_name fault) };
+
+    fn fmt<W: fmt::Write>(&self, f: &mut fmt::Formatter<W>) -> fmt::Result {
+        let name = self.name();
+        write!(f, "{name}")
+    }
+}
+
+/// The refusal of a script. It prints as `script line N: WHAT`.
+#[derive(Clone, Copy, PartialEq, Eq, Debug)]
+pub struct ScriptError {
+    /// The line, from 1 on.
+    pub line: u32,
+    pub what: ScriptFault,
+}
+
+impl fmt::Display for ScriptError {
+    ghost output = { λ error. Some (error_text error) };
+
+    fn fmt<W: fmt::Write>(&self, f: &mut fmt::Formatter<W>) -> fmt::Result {
+        let line = self.line;
+        let what = self.what;
+        write!(f, "script line {line}: {what}")
+    }
+}
+
+impl std::error::Error for ScriptError {}
+
+/// Why [`read_script`](crate::read_script) gives no script.
+#[derive(Debug, Drop, Error)]
+pub enum ReadScriptError {
+    #[error("{0}")]
+    Refused(ScriptError),
+    #[error("out of memory")]
+    OutOfMemory,
+}
+
+impl From<AllocError> for ReadScriptError {
+    ghost from_gives = { λ _ e. e ≡ OutOfMemory };
+
+    fn from(_e: AllocError) -> ReadScriptError {
+        ReadScriptError::OutOfMemory
+    }
+}
+
+impl<T: Drop> From<AllocFailed<T>> for ReadScriptError {
+    ghost from_gives = { λ _ e. e ≡ OutOfMemory };
+
+    fn from(_e: AllocFailed<T>) -> ReadScriptError {
+        ReadScriptError::OutOfMemory
+    }
+}
+
+/// Why a line says nothing.
+#[derive(Drop)]
+pub enum LineError {
+    Fault(ScriptFault),
+    OutOfMemory,
+}
+
+impl From<AllocError> for LineError {
+    ghost from_gives = { λ _ e. e ≡ NoMemory };
+
+    fn from(_e: AllocError) -> LineError {
+        LineError::OutOfMemory
+    }
+}
+
+impl<T: Drop> From<AllocFailed<T>> for LineError {
+    ghost from_gives = { λ _ e. e ≡ NoMemory };
+
+    fn from(_e: AllocFailed<T>) -> LineError {
+        LineError::OutOfMemory
+    }
+}

@@ -1,0 +1,33 @@
+//! Scripts: what each rank of a job is to call, read from text line by line.
+//!
+//! [`read_script`] gives a [`Script`], which contracts see as the number of ranks and the list of each rank's
+//! [`Statement`]s, or a [`ReadScriptError`]: want of memory, or the [`ScriptError`] of the least line that is refused,
+//! with the first [`ScriptFault`] that holds of it. The grammar stands in `specs/Grammar.antt`, line by line, and what a
+//! whole text is read as in `specs/Reading.antt`.
+//!
+//! What a script's ranks print is its evaluation (`specs/Evaluation.antt`), whose laws are [`every_script_has_an_evaluation`],
+//! [`evaluations_are_one`], [`whatever_is_reached_is_a_beginning`] and [`lines_tell_the_sums_of_all_posts`]; [`line`] and
+//! [`refused_line`] write a line of it.
+#![tactic(auto)]
+
+mod evaluation;
+mod faults;
+mod grammar;
+mod parts;
+mod reader;
+mod script;
+mod script_line;
+mod statement;
+mod told;
+mod transcript;
+mod words;
+
+pub use evaluation::{
+    evaluations_are_one, every_script_has_an_evaluation, whatever_is_reached_is_a_beginning,
+};
+pub use faults::{ReadScriptError, ScriptError, ScriptFault};
+pub use reader::read_script;
+pub use script::Script;
+pub use statement::Statement;
+pub use told::lines_tell_the_sums_of_all_posts;
+pub use transcript::{line, refused_line};

@@ -1,0 +1,174 @@
+ghost use Rattle.std.specs.Prelude.{◌≡◌, ◌+◌, ◌++◌, ◌∷◌, [], ◌<◌, ◌≤◌, ◌==◌, ◌&&◌, if◌then◌else◌, not, true, List, ℕ, length, slice_index_or, take, false, None, IfOk, OnOk, IfErr, IfSome, Some};
+ghost use Rattle.std.specs.List.{filter};
+ghost use Rattle.std.specs.Str.Lines.{lines};
+ghost use Rattle.mpx_script.specs.Words.{bytes_limit, words, counts, counting, is_ascii, is_over_limit, with_first_line};
+ghost use Rattle.mpx_script.specs.Reading.{refusal, bounded_place, is_bare_script, reading};
+ghost use Rattle.mpx_script.specs.Line.{IsRefusal};
+ghost use Rattle.mpx_script.specs.Draft.{ranks_of, IsSettled};
+ghost use Rattle.mpx_script.specs.Answer.{Answers, at_line};
+
+use crate::faults::{LineError, ReadScriptError, ScriptError, ScriptFault};
+use crate::script::Script;
+use crate::script_line::{Line, STATEMENTS, read_line};
+use crate::words::{counts, first_line, is_ascii};
+use std::alloc::Global;
+
+/// How many bytes a script may have.
+const BYTES: usize = 1_048_576;
+
+/// The script as far as it is read.
+#[derive(Drop)]
+struct Draft {
+    /// None before the number of ranks is told.
+    script: Option<Script>,
+    statements: u32,
+}
+
+/// The draft after one more line.
+fn with_line(alloc: Global, draft: Draft, line: &[u8], cut: bool) -> Result<Draft, LineError>
+    requires { draft.statements ≤ STATEMENTS }
+    ensures few { IfOk result (λ after. after.statements ≤ STATEMENTS) }
+    ensures accepted { OnOk result (refusal (bounded_place line.now cut (ranks_of draft) draft.statements) ≡ None) }
+    ensures settled { IfOk result (λ after. (before : List (List (List ℕ))) → IsSettled before draft
+        → IsSettled (before ++ filter counts (words line.now ∷ [])) after) }
+    ensures refused { IfErr result (IsRefusal (refusal (bounded_place line.now cut (ranks_of draft) draft.statements))) }
+{
+    let Draft { script, statements } = draft;
+    let ranks = match &script {
+        Some(script) => Some(script.ranks()),
+        None => None,
+    };
+    match (read_line(alloc, line, cut, ranks, statements)?, script) {
+        (Line::Passed, script) => Ok(Draft { script, statements }),
+        (Line::Opening(ranks), _) => {
+            let script = Script::new(alloc, ranks)?;
+            Ok(Draft {
+                script: Some(script),
+                statements,
+            })
+        }
+        (Line::Further(given), Some(mut script)) => {
+            let statements = statements + u32::from(given.to - given.from);
+            script.add(alloc, given)?;
+            Ok(Draft {
+                script: Some(script),
+                statements,
+            })
+        }
+        (Line::Further(_), None) => unreachable!(),
+    }
+}
+
+/// The text up to the byte that passes the limit.
+fn seen_part(text: &[u8]) -> &[u8]
+    ensures { result.now ≡ take (bytes_limit + 1) text.now }
+{
+    if text.len() > BYTES {
+        text.split_at(BYTES + 1).0
+    } else {
+        text
+    }
+}
+
+/// Whether a line of the text counts.
+fn has_counting_line(text: &[u8]) -> bool
+    ensures { result ≡ not (length (counting (lines text.now)) == 0) }
+{
+    let mut rest = text;
+    while !rest.is_empty() {
+        let (line, after) = first_line(rest);
+        if counts(line) {
+            return true;
+        }
+        rest = after;
+    }
+    false
+}
+
+/// Whether the script is within its limit and no line of it counts.
+fn is_bare(text: &[u8]) -> bool
+    ensures { result ≡ is_bare_script text.now }
+{
+    if text.len() > BYTES {
+        return false;
+    }
+    !has_counting_line(text)
+}
+
+/// Why such a script is refused, at its first line.
+#[tactic(auto, unfolding(crate::specs::Words::is_ascii))]
+fn bare_fault(text: &[u8]) -> ScriptFault
+    ensures { result ≡ (if is_ascii (slice_index_or (with_first_line (lines text.now)) 0 [])
+        then ScriptFault.NoRanksLine else ScriptFault.NotAscii) }
+{
+    if text.is_empty() {
+        return ScriptFault::NoRanksLine;
+    }
+    if !is_ascii(first_line(text).0) {
+        return ScriptFault::NotAscii;
+    }
+    ScriptFault::NoRanksLine
+}
+
+/// Whether the text passes its limit in the line before the rest that is still to be read.
+fn passes_limit(text: &[u8], rest: &[u8]) -> bool
+    ensures { result ≡ (is_over_limit text.now && (length rest.now == 0)) }
+{
+    text.len() > BYTES && rest.is_empty()
+}
+
+/// The error of a line as that of the script.
+fn at_line(e: LineError, line: u32) -> ReadScriptError
+    ensures { result ≡ at_line line e }
+{
+    match e {
+        LineError::Fault(what) => ReadScriptError::Refused(ScriptError { line, what }),
+        LineError::OutOfMemory => ReadScriptError::OutOfMemory,
+    }
+}
+
+/// Reads the lines one after the other.
+fn read_lines(alloc: Global, text: &[u8]) -> Result<Script, ReadScriptError>
+    requires { is_bare_script text.now ≡ false }
+    ensures { Answers result (reading text.now) }
+{
+    let mut draft = Draft {
+        script: None,
+        statements: 0,
+    };
+    let mut number: u32 = 0;
+    let mut rest = seen_part(text);
+    while !rest.is_empty() {
+        let (line, after) = first_line(rest);
+        let cut = passes_limit(text, after);
+        number += 1;
+        draft = match with_line(alloc, draft, line, cut) {
+            Ok(draft) => draft,
+            Err(e) => return Err(at_line(e, number)),
+        };
+        rest = after;
+    }
+    let Draft { script, .. } = draft;
+    match script {
+        Some(script) => Ok(script),
+        None => unreachable!(),
+    }
+}
+
+/// Reads a script: at most 1,048,576 bytes of ASCII, line by line. Empty lines and lines whose first word begins with
+/// `#` are passed over; the first other line is `ranks N`, and each further line `R: STATEMENT`, or `*: STATEMENT` for
+/// every rank. The statement is `allreduce world sum i64 ITEMS` with any number of items.
+///
+/// The refusal is that of the least line that has one, and the first of [`ScriptFault`] that holds of it.
+pub fn read_script(alloc: Global, text: &[u8]) -> Result<Script, ReadScriptError>
+    ensures { Answers result (reading text.now) }
+{
+    if is_bare(text) {
+        let what = bare_fault(text);
+        return Err(ReadScriptError::Refused(ScriptError { line: 1, what }));
+    }
+    read_lines(alloc, text)
+}
+
+#[cfg(test)]
+mod tests;

@@ -1,0 +1,109 @@
+ghost use Rattle.std.specs.Prelude.{◌≡◌, ◌<◌, ◌≤◌, [], ◌∷◌, ◌++◌, length, map, slice_get, slice_index_or, slice_set, Some, IfOk, OnOk, vec_len};
+ghost use Rattle.std.specs.List.{range_with_len};
+ghost use Rattle.mpx_script.specs.ScriptView.{lists, Adds};
+
+use crate::script_line::Given;
+use crate::statement::Statement;
+use std::alloc::{AllocError, Global};
+use std::marker::Model;
+
+/// A script: how many ranks there are, and each rank's statements. It is made by
+/// [`read_script`](crate::read_script) alone.
+#[derive(Debug, Drop)]
+pub struct Script {
+    ranks: u8,
+    statements: Vec<Vec<Statement>>,
+}
+
+impl Model for Script {
+    ghost use Rattle.std.specs.Prelude.{◌≡◌, ◌≤◌, vec_len};
+    ghost use Rattle.mpx_script.specs.ScriptView.{ScriptView, lists};
+
+    ghost Value = { ScriptView };
+
+    ghost view = { λ s. record { ranks = s.ranks; statements = lists s.statements.items } };
+
+    ghost invariant = { λ s. (1 ≤ s.ranks) × (s.ranks ≤ 64) × (vec_len s.statements ≡ s.ranks) };
+}
+
+impl Script {
+    /// How many ranks there are: 1 to 64.
+    pub fn ranks(&self) -> u8
+        ensures ranks { result ≡ self.now.ranks }
+        ensures within { (1 ≤ result) × (result ≤ 64) }
+        ensures each_rank { length self.now.statements ≡ result }
+    {
+        self.ranks
+    }
+
+    /// The rank's statements, in the order of the file.
+    pub fn statements(&self, rank: u8) -> &[Statement]
+        requires { rank < self.now.ranks }
+        ensures { slice_get self.now.statements rank ≡ Some result.now }
+    {
+        self.statements[rank as usize].as_slice()
+    }
+
+    /// A script without statements.
+    pub(crate) fn new(alloc: Global, ranks: u8) -> Result<Script, AllocError>
+        requires some { 1 ≤ ranks }
+        requires few { ranks ≤ 64 }
+        ensures { IfOk result (λ s. s ≡ record {
+          ranks = ranks;
+          statements = map (λ rank. []) (range_with_len 0 ranks);
+        }) }
+    {
+        let mut statements = Vec::new(alloc);
+        for _ in 0..ranks {
+            statements.push(Vec::new(alloc))?;
+        }
+        Ok(Script { ranks, statements })
+    }
+
+    /// Adds a statement for its ranks. Where memory runs out, some of them may have it.
+    pub(crate) fn add(&mut self, alloc: Global, given: Given) -> Result<(), AllocError>
+        requires some { given.from < given.to }
+        requires within { given.to ≤ self.old.ranks }
+        ensures ranks { self.new.ranks ≡ self.old.ranks }
+        ensures added { OnOk result (Adds given.from given.to given.statement
+            self.old.statements self.new.statements) }
+    {
+        give(alloc, &mut self.statements, given)
+    }
+}
+
+/// Adds a statement at the end of a rank's.
+fn push_to(
+    statements: &mut Vec<Vec<Statement>>,
+    rank: u8,
+    statement: Statement,
+) -> Result<(), AllocError>
+    requires { rank < vec_len statements.old }
+    ensures len { vec_len statements.new ≡ vec_len statements.old }
+    ensures pushed { OnOk result (lists statements.new.items
+        ≡ slice_set (lists statements.old.items) rank (slice_index_or (lists statements.old.items) rank [] ++ statement ∷ [])) }
+{
+    statements[rank as usize].push(statement)?;
+    Ok(())
+}
+
+/// Adds a statement for its ranks, a copy of its own for each.
+fn give(alloc: Global, statements: &mut Vec<Vec<Statement>>, given: Given) -> Result<(), AllocError>
+    requires some { given.from < given.to }
+    requires within { given.to ≤ vec_len statements.old }
+    ensures len { vec_len statements.new ≡ vec_len statements.old }
+    ensures added { OnOk result (Adds given.from given.to given.statement
+        (lists statements.old.items) (lists statements.new.items)) }
+{
+    let Given {
+        from,
+        to,
+        statement,
+    } = given;
+    for rank in from..to - 1 {
+        let copied = statement.copy(alloc)?;
+        push_to(statements, rank, copied)?;
+    }
+    push_to(statements, to - 1, statement)?;
+    Ok(())
+}

@@ -1,0 +1,97 @@
+ghost use Rattle.std.specs.Prelude.{◌≡◌, ◌++◌, IfOk, pos, codes, string_bytes};
+ghost use Rattle.mpx_num.specs.Text.{number_text};
+ghost use Rattle.mpx_script.specs.Ranks.{draft_of, Told, Refused};
+ghost use Rattle.mpx_script.specs.Transcripts.{fault_name, line_text, numbers_text, refusal_name};
+
+use crate::Statement;
+use join_core::OutOfMemory;
+use mpx_node::{FaultKind, Outcome};
+use mpx_num::push_number;
+use mpx_post::{Draft, PostError};
+use std::alloc::Global;
+
+impl Statement {
+    /// The draft that the statement posts.
+    pub fn draft(&self, alloc: Global) -> Result<Draft, OutOfMemory>
+        ensures { IfOk result (λ draft. draft ≡ draft_of self.now) }
+    {
+        match self {
+            Statement::Allreduce { op, ty, items } => {
+                let items = items.copy(alloc)?;
+                Ok(Draft::Allreduce {
+                    op: *op,
+                    ty: *ty,
+                    items,
+                })
+            }
+        }
+    }
+}
+
+/// The line of a transcript that tells an outcome: the numbers with one space between them, `empty` where there are
+/// none, or `fault NAME at RANK`.
+pub fn line(alloc: Global, outcome: &Outcome) -> Result<String, OutOfMemory>
+    ensures { IfOk result (λ text. string_bytes text ≡ line_text (Told outcome.now)) }
+{
+    match outcome {
+        Outcome::Items(items) => numbers_line(alloc, items.nums()),
+        Outcome::Fault(fault) => fault_line(alloc, fault.what, fault.rank),
+    }
+}
+
+/// The line of a transcript that tells why a post was refused: `refused NAME`.
+pub fn refused_line(alloc: Global, refusal: PostError) -> Result<String, OutOfMemory>
+    ensures { IfOk result (λ text. string_bytes text ≡ line_text (Refused refusal)) }
+{
+    let mut text = String::from_str(alloc, "refused ")?;
+    text.push_str(name_of_refusal(refusal))?;
+    Ok(text)
+}
+
+fn numbers_line(alloc: Global, numbers: &[i128]) -> Result<String, OutOfMemory>
+    ensures { IfOk result (λ text. string_bytes text ≡ numbers_text numbers.now) }
+{
+    let Some((first, rest)) = numbers.split_first() else {
+        return Ok(String::from_str(alloc, "empty")?);
+    };
+    let mut text = String::new(alloc);
+    push_number(&mut text, *first)?;
+    for number in rest {
+        text.push_str(" ")?;
+        push_number(&mut text, *number)?;
+    }
+    Ok(text)
+}
+
+fn fault_line(alloc: Global, what: FaultKind, rank: u8) -> Result<String, OutOfMemory>
+    ensures { IfOk result (λ text. string_bytes text ≡ codes "fault " ++ fault_name what ++ codes " at " ++ number_text (pos rank)) }
+{
+    let mut text = String::from_str(alloc, "fault ")?;
+    text.push_str(name_of_fault(what))?;
+    text.push_str(" at ")?;
+    push_number(&mut text, i128::from(rank))?;
+    Ok(text)
+}
+
+fn name_of_fault(what: FaultKind) -> &'static str
+    ensures { result.now ≡ fault_name what }
+{
+    match what {
+        FaultKind::Amount => "Amount",
+    }
+}
+
+fn name_of_refusal(refusal: PostError) -> &'static str
+    ensures { result.now ≡ refusal_name refusal }
+{
+    match refusal {
+        PostError::NotMember => "NotMember",
+        PostError::ItemOutOfRange => "ItemOutOfRange",
+        PostError::TooManyItems => "TooManyItems",
+        PostError::CallsUsedUp => "CallsUsedUp",
+        PostError::OutOfMemory => "OutOfMemory",
+    }
+}
+
+#[cfg(test)]
+mod tests;
