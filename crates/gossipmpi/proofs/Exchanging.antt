@@ -1,24 +1,29 @@
 -- Every board is joined into every other.
-use Rattle.std.proofs.Common.{◌≡◌, ℕ, zero, suc, ◌+◌, ◌<◌, ◌≤◌, Bool, true, false, List, [], ◌∷◌, ◌++◌, length, map, take, drop, set, get_or, Option, Some, None, refl, sym, ap, ◌∙◌, subst, inl, inr, arith, add-one}
-use Rattle.std.specs.Prelude.{◌⊎◌, slice_get, option_and_then}
+use Rattle.std.proofs.Common.{◌≡◌, ℕ, zero, suc, ◌+◌, ◌<◌, ◌≤◌, Bool, true, false, cond, max, min, List, [], ◌∷◌, ◌++◌, length, map, take, drop, set, get_or, Option, Some, None, refl, sym, ap, ◌∙◌, subst, inl, inr, arith, add-one}
+use Rattle.std.specs.Prelude.{◌⊎◌, Result, Ok, Err, nat_le, slice_get, option_and_then}
+use Rattle.std.specs.Option.{option_map}
 use Rattle.std.specs.List.{fold, AllByRecursion}
 use Rattle.std.proofs.Math.Nat.{eq-or-lt_of_le}
-use Rattle.std.proofs.lemmas.Option.{same_Some}
+use Rattle.std.proofs.lemmas.Option.{same_Some, slice_get_within, slice_get-map}
+use Rattle.std.proofs.lemmas.Bool.Decides.{nat_tests}
 use Rattle.std.proofs.lemmas.List.{take_more, map-append, length-map}
 use Rattle.join_core.specs.Flat.{FlatView, unknown, known, clash, flat_join}
 use Rattle.mpx_post.specs.declared.post.Given.{Given}
 use Rattle.mpx_post.specs.Posts.{same_given, given_equality}
-use Rattle.mpx_post.specs.Births.{BirthView, upto}
+use Rattle.mpx_post.specs.Births.{BirthView, upto, same_birth, birth_equality}
 use Rattle.mpx_post.specs.Rows.{RowView, all_of}
-use Rattle.mpx_board.specs.Boards.{Look, empty, join, told, row_on}
+use Rattle.mpx_board.specs.Boards.{Look, Context, about, nothing, empty, join, minimum, floor_on, told}
 use Rattle.mpx_node.specs.Values.{value}
 use Rattle.mpx_node.specs.Histories.{History, Results}
-use Rattle.mpx_script.specs.Ranks.{step}
+use Rattle.mpx_script.specs.declared.statement.Statement.{Statement}
+use Rattle.mpx_post.specs.Drafts.{checked}
+use Rattle.mpx_post.specs.declared.draft.PostError.{PostError}
+use Rattle.mpx_script.specs.Ranks.{Local, Todo, Await, step, step_by, next_of, posts_or_refuses, draft_of, doing}
 use Rattle.mpx_script.specs.Evaluation.{State, world_of, history, known as knows, moves, IsMaximal}
-use Rattle.gossipmpi.specs.Running.{RankView, told_by, left_of, Stands}
-use Rattle.gossipmpi.specs.Turns.{Agrees, TellsTruth, Shows, IsFull, total_left, IsStuckAt, GoesRound, Turns, Ends, all_joined, learns}
-use Rattle.gossipmpi.proofs.Moving.{some_within, step_ends}
-use Rattle.gossipmpi.proofs.Turning.{agrees_join, known_stays, moves-append}
+use Rattle.gossipmpi.specs.Running.{RankView, told_by, todo_of, left_of, of_world, harvested_by, Stands}
+use Rattle.gossipmpi.specs.Turns.{Agrees, TellsTruth, IsHarvested, Shows, IsFull, total_left, IsStuckAt, GoesRound, Turns, Ends, all_joined, learns, drops, prunes, catches_up}
+use Rattle.gossipmpi.proofs.Moving.{some_within, step_ends, nothing_new, learns_birth, learns_dropped, learns_fronts, learns_posts}
+use Rattle.gossipmpi.proofs.Turning.{agrees_join, agrees_cut, learns_truth, known_stays, last, born_is, rows_of, moves-append}
 
 -- THE JOIN OF ALL BOARDS
 
@@ -51,6 +56,32 @@ known_comes (known more) w given e a =
     rw (e, alike) (ap known (sym same))
 known_comes clash w given e a = absurd a
 
+-- at or above both dropped fronts a join tells what both tell together
+join_from : (a b : Look) (k q : ℕ) → max (of_world a).dropped (of_world b).dropped ≤ k → (of_world (join a b)).posts k q ≡ flat_join same_given ((of_world a).posts k q) ((of_world b).posts k q)
+join_from a b k q l =
+    let above : nat_le (max (of_world a).dropped (of_world b).dropped) k ≡ true = grind (arith, nat_tests, l) in
+    ap (λ t. cond t (flat_join same_given ((of_world a).posts k q) ((of_world b).posts k q)) unknown) above
+
+join_truth : (a b : Look) (k q : ℕ) (o : Option Given) → Agrees ((of_world a).posts k q) o → Agrees ((of_world b).posts k q) o → Agrees ((of_world (join a b)).posts k q) o
+join_truth a b k q o t u = agrees_cut _ _ o (agrees_join _ _ o t u)
+
+-- what is said of a birth: nothing, or this
+abbrev SaysBorn : BirthView → FlatView BirthView → Type 0
+SaysBorn w v = (v ≡ unknown) ⊎ (v ≡ known w)
+
+known_birth : (w : BirthView) (v : FlatView BirthView) → SaysBorn w v → flat_join same_birth (known w) v ≡ known w
+known_birth w v (inl e) = ap (flat_join same_birth (known w)) e
+known_birth w v (inr e) =
+    let alike : same_birth w w ≡ true = birth_equality.reflexive w in
+    ap (flat_join same_birth (known w)) e ∙ ap (λ t. cond t (known w) clash) alike
+
+says_join : (w : BirthView) (u v : FlatView BirthView) → SaysBorn w u → SaysBorn w v → SaysBorn w (flat_join same_birth u v)
+says_join w u v (inl e) says = subst (SaysBorn w) (ap (λ x. flat_join same_birth x v) (sym e)) says
+says_join w u v (inr e) says = inr (ap (λ x. flat_join same_birth x v) e ∙ known_birth w v says)
+
+abbrev joins : Look → List RankView → Look
+joins b rs = fold (λ a (r : RankView). join a r.node.board) b rs
+
 module _ (h : History) where
   AllTrue : List RankView → Type 0
   AllTrue rs = (p : ℕ) (r : RankView) → slice_get rs p ≡ Some r → TellsTruth r.node.board h
@@ -59,76 +90,271 @@ module _ (h : History) where
   unfolding AllTrue
   tail r rs truth p x e = truth (suc p) x e
 
-  joined_truth : (rs : List RankView) (b : Look) → TellsTruth b h → AllTrue rs → TellsTruth (fold (λ a (r : RankView). join a r.node.board) b rs) h
+  joined_truth : (rs : List RankView) (b : Look) → TellsTruth b h → AllTrue rs → TellsTruth (joins b rs) h
   unfolding AllTrue
   joined_truth [] b t truth = t
-  joined_truth (r ∷ rs) b t truth = joined_truth rs (join b r.node.board) (λ k q. agrees_join _ _ (h k q) (t k q) (truth 0 r refl k q)) (tail r rs truth)
+  joined_truth (r ∷ rs) b t truth = joined_truth rs (join b r.node.board) (λ k q. join_truth b r.node.board k q (h k q) (t k q) (truth 0 r refl k q)) (tail r rs truth)
 
-  joined_keeps : (rs : List RankView) (b : Look) (k q : ℕ) (given : Given) → h k q ≡ Some given → AllTrue rs → b.posts k q ≡ known given → (fold (λ a (r : RankView). join a r.node.board) b rs).posts k q ≡ known given
-  unfolding AllTrue
-  joined_keeps [] b k q given e truth has = has
-  joined_keeps (r ∷ rs) b k q given e truth has =
-      joined_keeps rs (join b r.node.board) k q given e (tail r rs truth) (known_stays (b.posts k q) (r.node.board.posts k q) given has (subst (Agrees (r.node.board.posts k q)) e (truth 0 r refl k q)))
+-- each front that was joined is at most the last one
+joined_above : (rs : List RankView) (b : Look) (k : ℕ) → (of_world (joins b rs)).dropped ≤ k → ((of_world b).dropped ≤ k) × ((p : ℕ) (r : RankView) → slice_get rs p ≡ Some r → (of_world r.node.board).dropped ≤ k)
+joined_above [] b k l = (l, λ p r e. cc e)
+joined_above (x ∷ rs) b k l =
+    let rest = joined_above rs (join b x.node.board) k l in
+    (omega (arith, rest.0), λ p r e. at p r e rest)
+  where
+    at : (p : ℕ) (r : RankView) → slice_get (x ∷ rs) p ≡ Some r → ((of_world (join b x.node.board)).dropped ≤ k) × ((p : ℕ) (r : RankView) → slice_get rs p ≡ Some r → (of_world r.node.board).dropped ≤ k) → (of_world r.node.board).dropped ≤ k
+    at zero r e rest = let same : x ≡ r = cc e in subst (λ (y : RankView). (of_world y.node.board).dropped ≤ k) same (omega (arith, rest.0))
+    at (suc p) r e rest = rest.1 p r e
 
-  joined_has : (rs : List RankView) (b : Look) (p : ℕ) (r : RankView) (k q : ℕ) (given : Given) → h k q ≡ Some given → TellsTruth b h → AllTrue rs → slice_get rs p ≡ Some r → r.node.board.posts k q ≡ known given → (fold (λ a (x : RankView). join a x.node.board) b rs).posts k q ≡ known given
+joined_born : (w : BirthView) (rs : List RankView) (b : Look) → SaysBorn w (of_world b).birth → ((p : ℕ) (r : RankView) → slice_get rs p ≡ Some r → (of_world r.node.board).birth ≡ known w) → SaysBorn w (of_world (joins b rs)).birth
+joined_born w [] b says each = says
+joined_born w (r ∷ rs) b says each = joined_born w rs (join b r.node.board) (says_join w _ _ says (inr (each 0 r refl))) (λ p x e. each (suc p) x e)
+
+joined_harvested : (ranks rs : List RankView) (b : Look) → IsHarvested ranks b → ((p : ℕ) (r : RankView) → slice_get rs p ≡ Some r → IsHarvested ranks r.node.board) → IsHarvested ranks (joins b rs)
+joined_harvested ranks [] b h each = h
+joined_harvested ranks (r ∷ rs) b h each = joined_harvested ranks rs (join b r.node.board) (both ranks b r.node.board h (each 0 r refl)) (λ p x e. each (suc p) x e) where
+  both : (ranks : List RankView) (a b : Look) → IsHarvested ranks a → IsHarvested ranks b → IsHarvested ranks (join a b)
+  both ranks a b f g q x e =
+      let one = f q x e in
+      let other = g q x e in
+      (omega (arith, one.0, other.0), omega (arith, one.1, other.1))
+
+module _ (h : History) where
+  joined_keeps : (rs : List RankView) (b : Look) (k q : ℕ) (given : Given) → h k q ≡ Some given → AllTrue h rs → (of_world (joins b rs)).dropped ≤ k → (of_world b).posts k q ≡ known given → (of_world (joins b rs)).posts k q ≡ known given
   unfolding AllTrue
-  joined_has [] b p r k q given e t truth at has = cc at
-  joined_has (x ∷ rs) b zero r k q given e t truth at has =
+  joined_keeps [] b k q given e truth l has = has
+  joined_keeps (r ∷ rs) b k q given e truth l has =
+      joined_keeps rs (join b r.node.board) k q given e (tail h r rs truth) l
+      (join_from b r.node.board k q (joined_above rs (join b r.node.board) k l).0 ∙ known_stays ((of_world b).posts k q) ((of_world r.node.board).posts k q) given has (subst (Agrees ((of_world r.node.board).posts k q)) e (truth 0 r refl k q)))
+
+  joined_has : (rs : List RankView) (b : Look) (p : ℕ) (r : RankView) (k q : ℕ) (given : Given) → h k q ≡ Some given → TellsTruth b h → AllTrue h rs → slice_get rs p ≡ Some r → (of_world (joins b rs)).dropped ≤ k → (of_world r.node.board).posts k q ≡ known given → (of_world (joins b rs)).posts k q ≡ known given
+  unfolding AllTrue
+  joined_has [] b p r k q given e t truth at l has = cc at
+  joined_has (x ∷ rs) b zero r k q given e t truth at l has =
       let same : r ≡ x = cc at in
-      let there : x.node.board.posts k q ≡ known given = subst (λ (y : RankView). y.node.board.posts k q ≡ known given) same has in
-      joined_keeps rs (join b x.node.board) k q given e (tail x rs truth) (known_comes (b.posts k q) (x.node.board.posts k q) given there (subst (Agrees (b.posts k q)) e (t k q)))
-  joined_has (x ∷ rs) b (suc p) r k q given e t truth at has =
-      joined_has rs (join b x.node.board) p r k q given e (λ j i. agrees_join _ _ (h j i) (t j i) (truth 0 x refl j i)) (tail x rs truth) at has
+      let there : (of_world x.node.board).posts k q ≡ known given = subst (λ (y : RankView). (of_world y.node.board).posts k q ≡ known given) same has in
+      joined_keeps rs (join b x.node.board) k q given e (tail h x rs truth) l
+      (join_from b x.node.board k q (joined_above rs (join b x.node.board) k l).0 ∙ known_comes ((of_world b).posts k q) ((of_world x.node.board).posts k q) given there (subst (Agrees ((of_world b).posts k q)) e (t k q)))
+  joined_has (x ∷ rs) b (suc p) r k q given e t truth at l has =
+      joined_has rs (join b x.node.board) p r k q given e (λ j i. join_truth b x.node.board j i (h j i) (t j i) (truth 0 x refl j i)) (tail h x rs truth) at l has
 
--- AFTER THE EXCHANGE
+-- EVERY BOARD LEARNS WHAT ALL KNOW
 
 mapped : {A B : Type 0} (f : A → B) (xs : List A) (p : ℕ) (y : B) → slice_get (map f xs) p ≡ Some y → (x : A) × (slice_get xs p ≡ Some x) × (f x ≡ y)
 mapped f [] p y e = cc e
 mapped f (x ∷ xs) zero y e = (x, refl, same_Some (f x) y e)
 mapped f (x ∷ xs) (suc p) y e = mapped f xs p y e
 
+-- what no rank has harvested less of stays so where harvests stay
+harvested_mapped : (f : RankView → RankView) → ((r : RankView) → harvested_by (f r) ≡ harvested_by r) → (ranks : List RankView) (b : Look) → IsHarvested ranks b → IsHarvested (map f ranks) b
+harvested_mapped f same ranks b h q x e =
+    let from = mapped f ranks q x e in
+    let before = h q from.0 from.1 in
+    let kept : harvested_by x ≡ harvested_by from.0 = ap harvested_by (sym from.2) ∙ same from.0 in
+    (omega (arith, before.0, kept), omega (arith, before.1, kept))
+
 module _ (n : ℕ) (ranks : List RankView) (s : State) (shows : Shows n ranks s) where
   all_truth : TellsTruth (all_joined ranks) (history s)
   unfolding AllTrue
   all_truth = joined_truth (history s) ranks empty (λ k q. tt) shows.truth
 
-  learned_stands : (r : RankView) (p : ℕ) → Stands r (s p) → TellsTruth r.node.board (history s) → Stands (learns (all_joined ranks) r) (s p)
-  learned_stands r p h truth = record {
-    me = h.me;
-    world = h.world;
-    todo = h.todo;
-    posted = h.posted;
-    harvested = h.harvested;
-    own = λ k given e. known_stays (r.node.board.posts k (s p).me) ((all_joined ranks).posts k (s p).me) given (h.own k given e)
-        (subst (Agrees ((all_joined ranks).posts k (s p).me)) (ap (history s k) (shows.me p) ∙ e) (all_truth k (s p).me));
-    lines = h.lines;
-  }
+  all_harvested : IsHarvested ranks (all_joined ranks)
+  all_harvested = joined_harvested ranks ranks empty (λ q x e. (omega arith, omega arith)) shows.fronts
 
-  pub exchanged_shows : Shows n (map (learns (all_joined ranks)) ranks) s
-  exchanged_shows = record {
+  all_born : SaysBorn (world_of n) (of_world (all_joined ranks)).birth
+  all_born = joined_born (world_of n) ranks empty (inl refl) (λ p r e. born_is n ranks s shows p r e)
+
+  learned_harvested : (r : RankView) → IsHarvested ranks r.node.board → IsHarvested ranks (join r.node.board (all_joined ranks))
+  learned_harvested r h q x e =
+      let one = h q x e in
+      let all = all_harvested q x e in
+      (omega (arith, one.0, all.0), omega (arith, one.1, all.1))
+
+  learned_stands : (r : RankView) (p : ℕ) → slice_get ranks p ≡ Some r → Stands (learns (all_joined ranks) r) (s p)
+  learned_stands r p at =
+      let h = shows.each p r at in
+      let world = shows.world p in
+      record {
+        me = h.me;
+        opened = h.opened;
+        born = ap (λ v. flat_join same_birth v (of_world (all_joined ranks)).birth) (born_is n ranks s shows p r at) ∙ known_birth (world_of n) _ all_born ∙ sym (ap known world);
+        todo = h.todo;
+        posted = h.posted;
+        harvested = h.harvested;
+        kept = (learned_harvested r (shows.fronts p r at) p r at).1;
+        own = λ k given l e. join_from r.node.board (all_joined ranks) k (s p).me l ∙ known_stays ((of_world r.node.board).posts k (s p).me) ((of_world (all_joined ranks)).posts k (s p).me) given (h.own k given (omega (arith, l)) e)
+            (subst (Agrees ((of_world (all_joined ranks)).posts k (s p).me)) (ap (history s k) (shows.me p) ∙ e) (all_truth k (s p).me));
+        lines = h.lines;
+      }
+
+  pub learned_shows : Shows n (map (learns (all_joined ranks)) ranks) s
+  learned_shows = record {
     count = simp length-map shows.count;
     each = λ p r e. let from = mapped (learns (all_joined ranks)) ranks p r e in
-        subst (λ (x : RankView). Stands x (s p)) from.2 (learned_stands from.0 p (shows.each p from.0 from.1) (shows.truth p from.0 from.1));
+        subst (λ (x : RankView). Stands x (s p)) from.2 (learned_stands from.0 p from.1);
     truth = λ p r e. let from = mapped (learns (all_joined ranks)) ranks p r e in
-        subst (λ (x : RankView). TellsTruth x.node.board (history s)) from.2 (λ k q. agrees_join _ _ (history s k q) (shows.truth p from.0 from.1 k q) (all_truth k q));
+        subst (λ (x : RankView). TellsTruth x.node.board (history s)) from.2 (λ k q. join_truth from.0.node.board (all_joined ranks) k q (history s k q) (shows.truth p from.0 from.1 k q) (all_truth k q));
+    fronts = λ p r e. let from = mapped (learns (all_joined ranks)) ranks p r e in
+        subst (λ (x : RankView). IsHarvested (map (learns (all_joined ranks)) ranks) x.node.board) from.2
+        (harvested_mapped (learns (all_joined ranks)) (λ x. refl) ranks (join from.0.node.board (all_joined ranks)) (learned_harvested from.0 (shows.fronts p from.0 from.1)));
     me = shows.me;
     world = shows.world;
     quiet = shows.quiet;
   }
 
-  pub exchanged_full : IsFull n (map (learns (all_joined ranks)) ranks) s
+  pub learned_full : IsFull n (map (learns (all_joined ranks)) ranks) s
   unfolding AllTrue
-  exchanged_full p r e k q given l f =
+  learned_full p r e k q given l above f =
       let from = mapped (learns (all_joined ranks)) ranks p r e in
+      let dropped : max (of_world from.0.node.board).dropped (of_world (all_joined ranks)).dropped ≤ k = subst (λ (x : RankView). (of_world x.node.board).dropped ≤ k) (sym from.2) above in
       let owner = some_within ranks q (omega (arith, shows.count, l)) in
-      let own : owner.0.node.board.posts k q ≡ known given = ap (owner.0.node.board.posts k) (sym (shows.me q)) ∙ (shows.each q owner.0 owner.1).own k given f in
-      let all : (all_joined ranks).posts k q ≡ known given = joined_has (history s) ranks empty q owner.0 k q given f (λ j i. tt) shows.truth owner.1 own in
-      subst (λ (x : RankView). x.node.board.posts k q ≡ known given) from.2
-      (known_comes (from.0.node.board.posts k q) ((all_joined ranks).posts k q) given all (subst (Agrees (from.0.node.board.posts k q)) f (shows.truth p from.0 from.1 k q)))
+      let below = (joined_above ranks empty k (omega (arith, dropped))).1 q owner.0 owner.1 in
+      let own : (of_world owner.0.node.board).posts k q ≡ known given = ap ((of_world owner.0.node.board).posts k) (sym (shows.me q)) ∙ (shows.each q owner.0 owner.1).own k given below f in
+      let all : (of_world (all_joined ranks)).posts k q ≡ known given = joined_has (history s) ranks empty q owner.0 k q given f (λ j i. tt) shows.truth owner.1 (omega (arith, dropped)) own in
+      subst (λ (x : RankView). (of_world x.node.board).posts k q ≡ known given) from.2
+      (join_from from.0.node.board (all_joined ranks) k q dropped ∙ known_comes ((of_world from.0.node.board).posts k q) ((of_world (all_joined ranks)).posts k q) given all (subst (Agrees ((of_world from.0.node.board).posts k q)) f (shows.truth p from.0 from.1 k q)))
 
-pub left_learned : (part : Look) (ranks : List RankView) → total_left (map (learns part) ranks) ≡ total_left ranks
-left_learned part [] = refl
-left_learned part (r ∷ ranks) = ap (λ m. left_of r + m) (left_learned part ranks)
+-- EVERY RANK PRUNES
+
+append_get : {A : Type 0} (xs ys : List A) (i : ℕ) (x : A) → slice_get xs i ≡ Some x → slice_get (xs ++ ys) i ≡ Some x
+append_get [] ys i x e = cc e
+append_get (z ∷ xs) ys zero x e = e
+append_get (z ∷ xs) ys (suc i) x e = append_get xs ys i x e
+
+upto_has : (n q : ℕ) → q < n → (i : ℕ) × (slice_get (upto n) i ≡ Some q)
+upto_has zero q l = absurd (omega (arith, l))
+upto_has (suc n) q l = elim (eq-or-lt_of_le below) [
+  | inl here ↦ (length (upto n), last (upto n) n ∙ ap Some (sym here))
+  | inr before ↦ let at = upto_has n q before in (at.0, append_get (upto n) (n ∷ []) at.0 q at.1)
+] where
+  below : q ≤ n
+  below = omega (arith, l)
+
+fold_min : (m : ℕ) (ns : List ℕ) → fold min m ns ≤ m
+fold_min m [] = omega arith
+fold_min m (n ∷ ns) = let rest = fold_min (min m n) ns in omega (arith, rest)
+
+fold_min_each : (m : ℕ) (ns : List ℕ) (i x : ℕ) → slice_get ns i ≡ Some x → fold min m ns ≤ x
+fold_min_each m [] i x e = cc e
+fold_min_each m (n ∷ ns) zero x e = let same : n ≡ x = cc e in let rest = fold_min (min m n) ns in omega (arith, rest, same)
+fold_min_each m (n ∷ ns) (suc i) x e = fold_min_each (min m n) ns i x e
+
+minimum_below : (f : ℕ → ℕ) (ps : List ℕ) (i q : ℕ) → slice_get ps i ≡ Some q → minimum (map f ps) ≤ f q
+minimum_below f [] i q e = cc e
+minimum_below f (p ∷ ps) zero q e = let same : p ≡ q = cc e in let first = fold_min (f p) (map f ps) in subst (λ x. fold min (f p) (map f ps) ≤ f x) same first
+minimum_below f (p ∷ ps) (suc i) q e = fold_min_each (f p) (map f ps) i (f q) (slice_get-map f ps i ∙ ap (option_map f) e)
+
+-- a rank that drops keeps all but its board
+drops_harvested : (o : Option ℕ) (r : RankView) → harvested_by (drops o r) ≡ harvested_by r
+drops_harvested None r = refl
+drops_harvested (Some floor) r = refl
+
+drops_left : (o : Option ℕ) (r : RankView) → left_of (drops o r) ≡ left_of r
+drops_left None r = refl
+drops_left (Some floor) r = refl
+
+module _ (n : ℕ) (ranks : List RankView) (s : State) (shows : Shows n ranks s) (p : ℕ) (r : RankView) (at : slice_get ranks p ≡ Some r) where
+  floor : ℕ
+  floor = minimum (map (of_world r.node.board).fronts (upto n))
+
+  what_drops : Context
+  what_drops = record nothing { dropped = floor }
+
+  prunes_is : prunes r ≡ learns (about [] what_drops) r
+  unfolding floor what_drops
+  prunes_is = ap (λ v. drops (option_map (λ (birth : BirthView). minimum (map (of_world r.node.board).fronts birth.members)) (told v)) r) (born_is n ranks s shows p r at)
+
+  -- every rank has harvested as many calls
+  floor_harvested : (q : ℕ) (x : RankView) → slice_get ranks q ≡ Some x → floor ≤ harvested_by x
+  unfolding floor
+  floor_harvested q x e =
+      let here = upto_has n q (omega (arith, slice_get_within ranks q x e, shows.count)) in
+      let below : floor ≤ (of_world r.node.board).fronts q = minimum_below (of_world r.node.board).fronts (upto n) here.0 q here.1 in
+      omega (arith, below, (shows.fronts p r at q x e).0)
+
+  pruned : Look
+  pruned = join r.node.board (about [] what_drops)
+
+  pruned_dropped : (of_world pruned).dropped ≡ max (of_world r.node.board).dropped floor
+  unfolding pruned what_drops
+  pruned_dropped = learns_dropped r.node.board what_drops
+
+  pruned_posts : (k q : ℕ) → (of_world pruned).dropped ≤ k → (of_world pruned).posts k q ≡ (of_world r.node.board).posts k q
+  unfolding pruned what_drops
+  pruned_posts k q l =
+      let above : nat_le (max (of_world r.node.board).dropped floor) k ≡ true = grind (arith, nat_tests, pruned_dropped, l) in
+      learns_posts r.node.board what_drops k q ∙ ap (λ t. cond t (flat_join same_given ((of_world r.node.board).posts k q) unknown) unknown) above ∙ nothing_new same_given ((of_world r.node.board).posts k q)
+
+  pruned_truth : TellsTruth pruned (history s)
+  unfolding pruned what_drops
+  pruned_truth k q = learns_truth r.node.board what_drops k q (history s k q) (shows.truth p r at k q) tt
+
+  pruned_harvested : IsHarvested ranks pruned
+  unfolding pruned what_drops
+  pruned_harvested q x e =
+      let before = shows.fronts p r at q x e in
+      let fronts = learns_fronts r.node.board what_drops q in
+      let lowest = floor_harvested q x e in
+      (omega (arith, fronts, before.0), omega (arith, pruned_dropped, before.1, lowest))
+
+  pruned_stands : Stands (prunes r) (s p)
+  unfolding pruned what_drops
+  pruned_stands =
+      let h = shows.each p r at in
+      subst (λ (x : RankView). Stands x (s p)) (sym prunes_is) (record {
+        me = h.me;
+        opened = h.opened;
+        born = learns_birth r.node.board what_drops refl ∙ h.born;
+        todo = h.todo;
+        posted = h.posted;
+        harvested = h.harvested;
+        kept = (pruned_harvested p r at).1;
+        own = λ k given l e. pruned_posts k (s p).me l ∙ h.own k given (omega (arith, pruned_dropped, l)) e;
+        lines = h.lines;
+      })
+
+module _ (n : ℕ) (ranks : List RankView) (s : State) (shows : Shows n ranks s) where
+  pub pruned_shows : Shows n (map prunes ranks) s
+  unfolding pruned what_drops
+  pruned_shows = record {
+    count = simp length-map shows.count;
+    each = λ p r e. let from = mapped prunes ranks p r e in
+        subst (λ (x : RankView). Stands x (s p)) from.2 (pruned_stands n ranks s shows p from.0 from.1);
+    truth = λ p r e. let from = mapped prunes ranks p r e in
+        subst (λ (x : RankView). TellsTruth x.node.board (history s)) (sym (prunes_is n ranks s shows p from.0 from.1) ∙ from.2) (pruned_truth n ranks s shows p from.0 from.1);
+    fronts = λ p r e. let from = mapped prunes ranks p r e in
+        subst (λ (x : RankView). IsHarvested (map prunes ranks) x.node.board) (sym (prunes_is n ranks s shows p from.0 from.1) ∙ from.2)
+        (harvested_mapped prunes (λ x. drops_harvested (floor_on x.node.board []) x) ranks (pruned n ranks s shows p from.0 from.1) (pruned_harvested n ranks s shows p from.0 from.1));
+    me = shows.me;
+    world = shows.world;
+    quiet = shows.quiet;
+  }
+
+  pub pruned_full : IsFull n ranks s → IsFull n (map prunes ranks) s
+  unfolding pruned what_drops
+  pruned_full full p r e k q given l above f =
+      let from = mapped prunes ranks p r e in
+      let is = prunes_is n ranks s shows p from.0 from.1 in
+      let dropped : (of_world (pruned n ranks s shows p from.0 from.1)).dropped ≤ k = subst (λ (x : RankView). (of_world x.node.board).dropped ≤ k) (sym from.2 ∙ is) above in
+      subst (λ (x : RankView). (of_world x.node.board).posts k q ≡ known given) (sym is ∙ from.2)
+      (pruned_posts n ranks s shows p from.0 from.1 k q dropped ∙ full p from.0 from.1 k q given l (omega (arith, pruned_dropped n ranks s shows p from.0 from.1, dropped)) f)
+
+-- AFTER THE EXCHANGE
+
+both_maps : (part : Look) (ranks : List RankView) → map prunes (map (learns part) ranks) ≡ map (catches_up part) ranks
+both_maps part [] = refl
+both_maps part (r ∷ ranks) = ap (λ rs. catches_up part r ∷ rs) (both_maps part ranks)
+
+module _ (n : ℕ) (ranks : List RankView) (s : State) (shows : Shows n ranks s) where
+  pub exchanged_shows : Shows n (map (catches_up (all_joined ranks)) ranks) s
+  exchanged_shows = subst (λ rs. Shows n rs s) (both_maps (all_joined ranks) ranks) (pruned_shows n (map (learns (all_joined ranks)) ranks) s (learned_shows n ranks s shows))
+
+  pub exchanged_full : IsFull n (map (catches_up (all_joined ranks)) ranks) s
+  exchanged_full = subst (λ rs. IsFull n rs s) (both_maps (all_joined ranks) ranks) (pruned_full n (map (learns (all_joined ranks)) ranks) s (learned_shows n ranks s shows) (learned_full n ranks s shows))
+
+pub left_caught_up : (part : Look) (ranks : List RankView) → total_left (map (catches_up part) ranks) ≡ total_left ranks
+left_caught_up part [] = refl
+left_caught_up part (r ∷ ranks) = λ i. drops_left (floor_on (learns part r).node.board []) (learns part r) i + left_caught_up part ranks i
 
 -- A TURN
 
@@ -158,20 +384,38 @@ tells_all v None a full = ap told (nothing v a) where
   nothing clash b = absurd b
 tells_all v (Some given) a full = ap told (full given refl)
 
+-- a step asks for the outcome that is awaited, and for no other
+same_steps : (f g : Results) (s : Local) (waits : Bool) (call : ℕ) (todo : List Statement) → s.todo ≡ todo_of waits call todo → f call ≡ g call → step f s ≡ step g s
+same_steps f g s waits call todo e same = ap (λ t. step_by f s (next_of s t)) e ∙ by_todo waits todo ∙ ap (λ t. step_by g s (next_of s t)) (sym e) where
+  by_answer : (rest : List Todo) (answer : Result Given PostError) → step_by f s (posts_or_refuses s rest answer) ≡ step_by g s (posts_or_refuses s rest answer)
+  by_answer rest (Ok given) = refl
+  by_answer rest (Err refusal) = refl
+
+  by_todo : (waits : Bool) (todo : List Statement) → step_by f s (next_of s (todo_of waits call todo)) ≡ step_by g s (next_of s (todo_of waits call todo))
+  by_todo true todo = ap (λ o. step_by (λ j. o) s (next_of s (Await call ∷ doing todo))) same
+  by_todo false [] = refl
+  by_todo false (x ∷ todo) = by_answer (doing todo) (checked s.world s.me (record { call = length s.posts }) (draft_of x))
+
 module _ (n : ℕ) (ranks : List RankView) (s : State) (shows : Shows n ranks s) (full : IsFull n ranks s) where
-  knows_all : (p : ℕ) (r : RankView) → slice_get ranks p ≡ Some r → (k : ℕ) → told_by r k ≡ knows n s k
-  knows_all p r at k =
-      let world : r.node.world ≡ world_of n = (shows.each p r at).world ∙ shows.world p in
-      ap (λ (w : BirthView). option_and_then (λ (row : RowView). Some (value row)) (row_on r.node.board w k)) world
-      ∙ ap (option_and_then (λ (row : RowView). Some (value row))) (all_of-same (λ q. told (r.node.board.posts k q)) (history s k) (upto n)
-      (all_below (λ q. told (r.node.board.posts k q) ≡ history s k q) n (λ q l. tells_all (r.node.board.posts k q) (history s k q) (shows.truth p r at k q) (λ given e. full p r at k q given l e))))
+  -- from its dropped front on a rank knows all that is known
+  knows_all : (p : ℕ) (r : RankView) → slice_get ranks p ≡ Some r → (k : ℕ) → (of_world r.node.board).dropped ≤ k → told_by r k ≡ knows n s k
+  knows_all p r at k above =
+      ap (option_and_then (λ (row : RowView). Some (value row))) (rows_of r.node.board n (born_is n ranks s shows p r at) k
+      ∙ all_of-same (λ q. told ((of_world r.node.board).posts k q)) (history s k) (upto n)
+      (all_below (λ q. told ((of_world r.node.board).posts k q) ≡ history s k q) n (λ q l. tells_all ((of_world r.node.board).posts k q) (history s k q) (shows.truth p r at k q) (λ given e. full p r at k q given l above e))))
+
+  -- a rank asks for no call below its dropped front
+  step_same : (p : ℕ) (r : RankView) → slice_get ranks p ≡ Some r → step (knows n s) (s p) ≡ step (told_by r) (s p)
+  step_same p r at =
+      let h = shows.each p r at in
+      same_steps (knows n s) (told_by r) (s p) r.waits (harvested_by r) r.todo h.todo (sym (knows_all p r at (harvested_by r) h.kept))
 
   -- where no rank can move by its board, none can move
   pub stuck_is_maximal : ((p : ℕ) → p < n → IsStuckAt ranks s p) → IsMaximal n s
   stuck_is_maximal stuck p = elim (lt_or_ge p n) [
     | inl l ↦
         let at = some_within ranks p (omega (arith, shows.count, l)) in
-        ap (λ (r : Results). step r (s p)) (λ i k. sym (knows_all p at.0 at.1 k) i) ∙ stuck p l at.0 at.1
+        step_same p at.0 at.1 ∙ stuck p l at.0 at.1
     | inr g ↦ step_ends (knows n s) (s p) (shows.quiet.from p g)
   ]
 
@@ -187,7 +431,7 @@ turn_ends n old new s round full =
     }
 
 -- somebody moved, and the boards were exchanged
-pub turn_goes_on : (n : ℕ) (old middle new : List RankView) (s : State) → GoesRound n old middle s n true → new ≡ map (learns (all_joined middle)) middle → Turns n old new s true
+pub turn_goes_on : (n : ℕ) (old middle new : List RankView) (s : State) → GoesRound n old middle s n true → new ≡ map (catches_up (all_joined middle)) middle → Turns n old new s true
 turn_goes_on n old middle new s round e = subst (λ (rs : List RankView). Turns n old rs s true) (sym e) (record {
   reaches = record {
     to = round.reaches.to;

@@ -2,15 +2,22 @@
 use Rattle.std.proofs.Common.{◌≡◌, ℕ, zero, suc, ◌+◌, ◌<◌, Bool, true, false, cond, List, [], ◌∷◌, ◌++◌, length, map, take, drop, Option, Some, refl, sym, ap, ◌∙◌, arith, pos, codes, subst}
 use Rattle.std.proofs.Common.{Result, Ok, Err, IfOk}
 use Rattle.std.proofs.lemmas.List.{map-append}
-use Rattle.std.specs.Prelude.{slice_get, ◌||◌, unwrap_or}
+use Rattle.std.specs.Prelude.{slice_get, ◌||◌, ◌&&◌, None, is_some, nat_lt, unwrap_or}
+use Rattle.std.proofs.lemmas.Option.{slice_get_within}
+use Rattle.std.proofs.lemmas.Bool.Decides.{nat_tests}
+use Rattle.join_core.specs.Flat.{known, unknown}
+use Rattle.mpx_name.specs.Order.{name_equality}
+use Rattle.mpx_board.specs.Boards.{Context, nothing}
+use Rattle.mpx_node.specs.Nodes.{opened_at_start, start_node, posted_by as opened_posted, results_by}
 use Rattle.mpx_num.specs.Text.{number_text}
 use Rattle.mpx_script.specs.declared.statement.Statement.{Statement}
 use Rattle.mpx_script.specs.Ranks.{doing}
-use Rattle.mpx_script.specs.Evaluation.{State, start, history}
+use Rattle.mpx_script.specs.Evaluation.{State, start, history, world_of}
 use Rattle.mpx_script.specs.Transcripts.{rank_text, text_upto}
 use Rattle.mpx_script.proofs.Ends.{start_quiet}
-use Rattle.gossipmpi.specs.Running.{RankView, Stands, todo_of}
-use Rattle.gossipmpi.specs.Turns.{Agrees, TellsTruth, Shows, IsFull, Ends}
+use Rattle.gossipmpi.specs.Running.{RankView, Stands, todo_of, of_world, harvested_by}
+use Rattle.gossipmpi.specs.Turns.{Agrees, TellsTruth, IsHarvested, Shows, IsFull, Ends}
+use Rattle.gossipmpi.proofs.Moving.{world_about}
 use Rattle.gossipmpi.specs.Views.{start_rank, starts_from, lines_of, has_statements, is_waiting}
 use Rattle.mpx_script.specs.ScriptView.{ScriptView}
 use Rattle.gossipmpi.specs.declared.end.End.{End}
@@ -66,36 +73,64 @@ module _ (n : ℕ) (todos : List (List Statement)) (few : length todos ≡ n) wh
       let at = start_at n 0 p todos r e in
       record { list = at.list; is = at.is; rank = at.rank ∙ ap (λ q. start_rank n q at.list) here }
 
+  opened_first : (p : ℕ) → p < n → opened_at_start p n [] ≡ Some (record { posted = 0; results = [] })
+  opened_first p l =
+      let below : nat_lt p n ≡ true = grind (arith, nat_tests, l) in
+      λ i. cond (name_equality.reflexive [] i && below i) (Some (record { posted = 0; results = [] })) None
+
+  stands_start : (p : ℕ) (list : List Statement) → p < n → slice_get todos p ≡ Some list → Stands (start_rank n p list) (start todos n p)
+  stands_start p list l e =
+      let opened = opened_first p l in
+      let born = world_about (record nothing { birth = known (world_of n) }) in
+      let dropped : (of_world (start_node p n).board).dropped ≡ 0 = ap (λ (c : Context). c.dropped) born in
+      record {
+        me = refl;
+        opened = ap is_some opened;
+        born = ap (λ (c : Context). c.birth) born;
+        todo = ap (λ o. doing (unwrap_or o [])) e;
+        posted = ap opened_posted opened;
+        harvested = ap opened_posted opened ∙ sym (ap (λ o. length (results_by o) + 0) opened);
+        kept = omega (arith, dropped);
+        own = λ k given m f. cc f;
+        lines = refl;
+      }
+
+  within : (p : ℕ) (r : RankView) → slice_get (starts_from n 0 todos) p ≡ Some r → p < n
+  within p r e = omega (arith, slice_get_within (starts_from n 0 todos) p r e, length-starts n 0 todos, few)
+
   stands_first : (p : ℕ) (r : RankView) → slice_get (starts_from n 0 todos) p ≡ Some r → Stands r (start todos n p)
   stands_first p r e =
       let at = first_at p r e in
-      record {
-        me = ap (λ (x : RankView). x.node.me) at.rank;
-        world = ap (λ (x : RankView). x.node.world) at.rank;
-        todo = ap (λ o. doing (unwrap_or o [])) at.is ∙ sym (ap (λ (x : RankView). todo_of x.waits (length x.node.results) x.todo) at.rank);
-        posted = ap (λ (x : RankView). x.node.posted) at.rank;
-        harvested = ap (λ (x : RankView). x.node.posted) at.rank ∙ sym (ap (λ (x : RankView). length x.node.results + cond x.waits 1 0) at.rank);
-        own = λ k given f. cc f;
-        lines = ap (λ (x : RankView). x.lines) at.rank;
-      }
+      subst (λ (x : RankView). Stands x (start todos n p)) (sym at.rank) (stands_start p at.list (within p r e) at.is)
 
   tells_nothing : (p : ℕ) (r : RankView) → slice_get (starts_from n 0 todos) p ≡ Some r → TellsTruth r.node.board (history (start todos n))
   tells_nothing p r e k q =
       let at = first_at p r e in
-      subst (λ (b : RankView). Agrees (b.node.board.posts k q) (history (start todos n) k q)) (sym at.rank) tt
+      let born = world_about (record nothing { birth = known (world_of n) }) in
+      let none : (of_world (start_node p n).board).posts k q ≡ unknown = ap (λ (c : Context). c.posts k q) born in
+      subst (λ (b : RankView). Agrees ((of_world b.node.board).posts k q) (history (start todos n) k q)) (sym at.rank) (subst (λ v. Agrees v (history (start todos n) k q)) (sym none) tt)
+
+  nothing_harvested : (p : ℕ) (r : RankView) → slice_get (starts_from n 0 todos) p ≡ Some r → IsHarvested (starts_from n 0 todos) r.node.board
+  nothing_harvested p r e q x f =
+      let at = first_at p r e in
+      let born = world_about (record nothing { birth = known (world_of n) }) in
+      let fronts : (of_world r.node.board).fronts q ≡ 0 = ap (λ (b : RankView). (of_world b.node.board).fronts q) at.rank ∙ ap (λ (c : Context). c.fronts q) born in
+      let dropped : (of_world r.node.board).dropped ≡ 0 = ap (λ (b : RankView). (of_world b.node.board).dropped) at.rank ∙ ap (λ (c : Context). c.dropped) born in
+      (omega (arith, fronts), omega (arith, dropped))
 
   pub shows_start : Shows n (starts_from n 0 todos) (start todos n)
   shows_start = record {
     count = length-starts n 0 todos ∙ few;
     each = stands_first;
     truth = tells_nothing;
+    fronts = nothing_harvested;
     me = λ p. refl;
     world = λ p. refl;
     quiet = start_quiet todos n (omega (arith, few));
   }
 
   pub full_start : IsFull n (starts_from n 0 todos) (start todos n)
-  full_start p r e k q given l f = cc f
+  full_start p r e k q given l above f = cc f
 
 -- THE END
 
@@ -131,7 +166,7 @@ module _ (n : ℕ) (ranks : List RankView) (s : State) (shows : Shows n ranks s)
   waits_at p l =
       let found = some_at ranks p (omega (arith, l, shows.count)) in
       let r : RankView = found.0 in
-      ap is_waiting found.1 ∙ left_todo r.waits (length r.node.results) r.todo ∙ ap is_left (sym (shows.each p r found.1).todo)
+      ap is_waiting found.1 ∙ left_todo r.waits (harvested_by r) r.todo ∙ ap is_left (sym (shows.each p r found.1).todo)
 
   pub text_shown : text_upto (λ p. lines_of (slice_get ranks p)) n ≡ text_upto (lines_in s) n
   text_shown = text_same (λ p. lines_of (slice_get ranks p)) (lines_in s) n line_of

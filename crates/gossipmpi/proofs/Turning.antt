@@ -1,5 +1,5 @@
 -- One rank of a run moves.
-use Rattle.std.proofs.Common.{◌≡◌, ℕ, zero, suc, ◌+◌, ◌<◌, ◌≤◌, ◌==◌, ◌&&◌, Bool, true, false, cond, List, [], ◌∷◌, ◌++◌, length, Option, Some, None, refl, sym, ap, ◌∙◌, subst, inl, inr, arith, set, map, get_or}
+use Rattle.std.proofs.Common.{◌≡◌, ℕ, zero, suc, ◌+◌, ◌<◌, ◌≤◌, ◌==◌, ◌&&◌, Bool, true, false, cond, List, [], ◌∷◌, ◌++◌, length, Option, Some, None, refl, sym, ap, ◌∙◌, subst, inl, inr, arith, set, map, get_or, max}
 use Rattle.std.specs.Prelude.{◌⊎◌, ◌||◌, slice_get, option_and_then}
 use Rattle.std.proofs.lemmas.Option.{option_and_then_some, same_Some, slice_get_within, slice_get-map, slice_get-get_or}
 use Rattle.std.proofs.Math.Nat.{eq-or-lt_of_le}
@@ -10,7 +10,7 @@ use Rattle.mpx_post.specs.declared.post.Given.{Given}
 use Rattle.mpx_post.specs.Posts.{same_given, given_equality}
 use Rattle.mpx_post.specs.Births.{BirthView}
 use Rattle.mpx_post.specs.Rows.{RowView, all_of}
-use Rattle.mpx_board.specs.Boards.{Look, told, row_on}
+use Rattle.mpx_board.specs.Boards.{Look, Context, about, nothing, join, told, row_on}
 use Rattle.mpx_node.specs.declared.outcome.Outcome.{Outcome}
 use Rattle.mpx_node.specs.Values.{value}
 use Rattle.mpx_node.specs.Histories.{History, Results, Within}
@@ -21,8 +21,9 @@ use Rattle.mpx_script.proofs.Fronts.{prefix_get, prefix_itself}
 use Rattle.mpx_script.proofs.Ways.{step-grows, step_by-adds}
 use Rattle.mpx_script.proofs.Ahead.{goes_on_cases}
 use Rattle.mpx_script.proofs.Ends.{goes_on-at, move-quiet}
-use Rattle.gossipmpi.specs.Running.{RankView, told_by, left_of, Stands, IsFresh, Gains, GoesOn, Moves}
-use Rattle.gossipmpi.specs.Turns.{Agrees, TellsTruth, Shows, total_left, Reaches, IsStuckAt, Exhausts, GoesRound}
+use Rattle.gossipmpi.specs.Running.{RankView, told_by, left_of, of_world, harvested_by, Stands, IsFresh, Gains, tells_nothing, tells_post, tells_front, GoesOn, Moves}
+use Rattle.gossipmpi.proofs.Moving.{learns_posts, learns_fronts, learns_dropped}
+use Rattle.gossipmpi.specs.Turns.{Agrees, TellsTruth, IsHarvested, Shows, total_left, Reaches, IsStuckAt, Exhausts, GoesRound}
 
 -- WHAT BOARDS TELL
 
@@ -61,26 +62,30 @@ told_agrees unknown o x a e = cc e
 told_agrees (known given) o x a e = a ∙ e
 told_agrees clash o x a e = absurd a
 
+-- the row of the world on a board that knows its birth
+pub rows_of : (b : Look) (n : ℕ) → (of_world b).birth ≡ known (world_of n) → (k : ℕ) → row_on b [] k ≡ all_of (λ p. told ((of_world b).posts k p)) (world_of n).members
+rows_of b n born k = ap (λ v. option_and_then (λ (birth : BirthView). all_of (λ p. told ((of_world b).posts k p)) birth.members) (told v)) born
+
 -- a truthful board tells no more than there is
-told_within : (b : Look) (h : History) (birth : BirthView) → TellsTruth b h → (k : ℕ) (outcome : Outcome) → option_and_then (λ (row : RowView). Some (value row)) (row_on b birth k) ≡ Some outcome → option_and_then (λ (row : RowView). Some (value row)) (all_of (h k) birth.members) ≡ Some outcome
-told_within b h birth truth k outcome e =
-    option_and_then_some _ (row_on b birth k) outcome e (λ row f g.
-    ap (option_and_then (λ (x : RowView). Some (value x))) (all_of-grows (λ p. told (b.posts k p)) (h k) (λ p x t. told_agrees (b.posts k p) (h k p) x (truth k p) t) birth.members row f) ∙ g)
+told_within : (b : Look) (h : History) (n : ℕ) → (of_world b).birth ≡ known (world_of n) → TellsTruth b h → (k : ℕ) (outcome : Outcome) → option_and_then (λ (row : RowView). Some (value row)) (row_on b [] k) ≡ Some outcome → option_and_then (λ (row : RowView). Some (value row)) (all_of (h k) (world_of n).members) ≡ Some outcome
+told_within b h n born truth k outcome e =
+    option_and_then_some _ (row_on b [] k) outcome e (λ row f g.
+    let row_is : all_of (λ p. told ((of_world b).posts k p)) (world_of n).members ≡ Some row = sym (rows_of b n born k) ∙ f in
+    ap (option_and_then (λ (x : RowView). Some (value x))) (all_of-grows (λ p. told ((of_world b).posts k p)) (h k) (λ p x t. told_agrees ((of_world b).posts k p) (h k p) x (truth k p) t) (world_of n).members row row_is) ∙ g)
 
 module _ (n : ℕ) (ranks : List RankView) (s : State) (shows : Shows n ranks s) (p : ℕ) (r : RankView) (at : slice_get ranks p ≡ Some r) where
-  world_is : r.node.world ≡ world_of n
-  world_is = (shows.each p r at).world ∙ shows.world p
+  pub born_is : (of_world r.node.board).birth ≡ known (world_of n)
+  born_is = (shows.each p r at).born ∙ ap known (shows.world p)
 
   pub knows_more : Within (told_by r) (knows n s)
-  knows_more k outcome e =
-      told_within r.node.board (history s) (world_of n) (shows.truth p r at) k outcome (ap (λ (w : BirthView). option_and_then (λ (row : RowView). Some (value row)) (row_on r.node.board w k)) (sym world_is) ∙ e)
+  knows_more k outcome e = told_within r.node.board (history s) n born_is (shows.truth p r at) k outcome e
 
   past_end : {A : Type 0} (xs : List A) → slice_get xs (length xs) ≡ None
   past_end [] = refl
   past_end (x ∷ xs) = past_end xs
 
   pub is_fresh : IsFresh r (s p)
-  is_fresh = ap (r.node.board.posts (length (s p).posts)) (shows.me p) ∙ nothing_told _ (agrees_grows _ _ None (λ x e. sym (past_end (s p).posts) ∙ e) (shows.truth p r at (length (s p).posts) p))
+  is_fresh = ap ((of_world r.node.board).posts (length (s p).posts)) (shows.me p) ∙ nothing_told _ (agrees_grows _ _ None (λ x e. sym (past_end (s p).posts) ∙ e) (shows.truth p r at (length (s p).posts) p))
 
 -- A MOVE
 
@@ -91,6 +96,9 @@ step_keeps r s (Asks calls act) t e =
     let same : t ≡ done s (act outcomes) = sym (same_Some (done s (act outcomes)) t f) in
     (ap (λ (u : Local). u.me) same, ap (λ (u : Local). u.world) same))
 
+le_of_same : (m n : ℕ) → m ≡ n → m ≤ n
+le_of_same m n e = omega (arith, e)
+
 -- where a list was written, it has the new value; elsewhere what it had
 pub set_cases : {A : Type 0} (xs : List A) (i p : ℕ) (y x : A) (P : A → Type 0) → slice_get (set xs i y) p ≡ Some x → (p ≡ i → P y) → (slice_get xs p ≡ Some x → (p ≡ i → ⊥) → P x) → P x
 set_cases [] i p y x P e f g = cc e
@@ -99,16 +107,28 @@ set_cases (z ∷ xs) zero (suc p) y x P e f g = g e (λ q. omega (arith, q))
 set_cases (z ∷ xs) (suc i) zero y x P e f g = g e (λ q. omega (arith, q))
 set_cases (z ∷ xs) (suc i) (suc p) y x P e f g = set_cases xs i p y x P e (λ q. f (ap suc q)) (λ s q. g s (λ r. q (omega (arith, r))))
 
--- a board that gains the post that was made tells the truth
-gains_truth : (old new : Look) (s t : Local) (h later : History) → Gains old new s t → (k j : ℕ) → Agrees (old.posts k j) (later k j) → ((k : ℕ) (given : Given) → slice_get t.posts k ≡ Some given → later k s.me ≡ Some given) → Agrees (new.posts k j) (later k j)
-gains_truth old new s t h later (inl same) k j a grows = subst (λ (b : Look). Agrees (b.posts k j) (later k j)) (sym same.0) a
-gains_truth old new s t h later (inr (given, joins, added)) k j a grows =
-    subst (λ (b : Look). Agrees (b.posts k j) (later k j)) (sym joins) (agrees_join (old.posts k j) _ (later k j) a (by_place (k == length s.posts) (j == s.me) refl refl))
-  where
-    last : {A : Type 0} (xs : List A) (x : A) → slice_get (xs ++ x ∷ []) (length xs) ≡ Some x
-    last [] x = refl
-    last (y ∷ xs) x = last xs x
+-- what is cut off tells the truth
+pub agrees_cut : (t : Bool) (v : FlatView Given) (o : Option Given) → Agrees v o → Agrees (cond t v unknown) o
+agrees_cut true v o a = a
+agrees_cut false v o a = tt
 
+pub last : {A : Type 0} (xs : List A) (x : A) → slice_get (xs ++ x ∷ []) (length xs) ≡ Some x
+last [] x = refl
+last (y ∷ xs) x = last xs x
+
+-- a board that learns what is true of a context tells the truth
+pub learns_truth : (b : Look) (more : Context) (k j : ℕ) (o : Option Given) → Agrees ((of_world b).posts k j) o → Agrees (more.posts k j) o → Agrees ((of_world (join b (about [] more))).posts k j) o
+learns_truth b more k j o a m = subst (λ v. Agrees v o) (sym (learns_posts b more k j)) (agrees_cut _ _ o (agrees_join _ _ o a m))
+
+-- a board that gains what a move tells it tells the truth
+gains_truth : (old new : RankView) (s t : Local) (h later : History) → Gains old new s t → (k j : ℕ) → Agrees ((of_world old.node.board).posts k j) (later k j) → ((k : ℕ) (given : Given) → slice_get t.posts k ≡ Some given → later k s.me ≡ Some given) → Agrees ((of_world new.node.board).posts k j) (later k j)
+gains_truth old new s t h later (tells_nothing same kept) k j a grows = subst (λ (b : Look). Agrees ((of_world b).posts k j) (later k j)) (sym same) a
+gains_truth old new s t h later (tells_front joins kept) k j a grows =
+    subst (λ (b : Look). Agrees ((of_world b).posts k j) (later k j)) (sym joins) (learns_truth old.node.board (record nothing { fronts = λ q. cond (q == s.me) (harvested_by new) 0 }) k j (later k j) a tt)
+gains_truth old new s t h later (tells_post given joins added) k j a grows =
+    subst (λ (b : Look). Agrees ((of_world b).posts k j) (later k j)) (sym joins)
+    (learns_truth old.node.board (record nothing { posts = λ i q. cond ((i == length s.posts) && (q == s.me)) (known given) unknown }) k j (later k j) a (by_place (k == length s.posts) (j == s.me) refl refl))
+  where
     by_place : (c d : Bool) → (k == length s.posts) ≡ c → (j == s.me) ≡ d → Agrees (cond (c && d) (known given) unknown) (later k j)
     by_place true true e f =
         let here : k ≡ length s.posts = (Decides-eqb k (length s.posts)).0 e in
@@ -117,6 +137,22 @@ gains_truth old new s t h later (inr (given, joins, added)) k j a grows =
         ap (later k) mine ∙ grows k given made
     by_place true false e f = tt
     by_place false d e f = tt
+
+-- what a board says of fronts after a move: of the others what it said, and of the own one no more than there is
+gains_fronts : (old new : RankView) (s t : Local) → Gains old new s t → (q : ℕ) → (((of_world new.node.board).fronts q ≤ (of_world old.node.board).fronts q) ⊎ ((q ≡ s.me) × ((of_world new.node.board).fronts q ≤ max ((of_world old.node.board).fronts q) (harvested_by new)))) × ((of_world new.node.board).dropped ≡ (of_world old.node.board).dropped)
+gains_fronts old new s t (tells_nothing same kept) q = (inl (le_of_same _ _ (ap (λ (b : Look). (of_world b).fronts q) same)), ap (λ (b : Look). (of_world b).dropped) same)
+gains_fronts old new s t (tells_post given joins added) q =
+    let more : Context = record nothing { posts = λ i p. cond ((i == length s.posts) && (p == s.me)) (known given) unknown } in
+    let fronts : (of_world new.node.board).fronts q ≡ (of_world old.node.board).fronts q = ap (λ (b : Look). (of_world b).fronts q) joins ∙ learns_fronts old.node.board more q ∙ omega arith in
+    (inl (le_of_same _ _ fronts), ap (λ (b : Look). (of_world b).dropped) joins ∙ learns_dropped old.node.board more ∙ omega arith)
+gains_fronts old new s t (tells_front joins kept) q =
+    let more : Context = record nothing { fronts = λ p. cond (p == s.me) (harvested_by new) 0 } in
+    let fronts : (of_world new.node.board).fronts q ≡ max ((of_world old.node.board).fronts q) (cond (q == s.me) (harvested_by new) 0) = ap (λ (b : Look). (of_world b).fronts q) joins ∙ learns_fronts old.node.board more q in
+    (by_place (q == s.me) refl fronts, ap (λ (b : Look). (of_world b).dropped) joins ∙ learns_dropped old.node.board more ∙ omega arith)
+  where
+    by_place : (c : Bool) → (q == s.me) ≡ c → (of_world new.node.board).fronts q ≡ max ((of_world old.node.board).fronts q) (cond c (harvested_by new) 0) → ((of_world new.node.board).fronts q ≤ (of_world old.node.board).fronts q) ⊎ ((q ≡ s.me) × ((of_world new.node.board).fronts q ≤ max ((of_world old.node.board).fronts q) (harvested_by new)))
+    by_place true e f = inr ((Decides-eqb q s.me).0 e, le_of_same _ _ f)
+    by_place false e f = inl (omega (arith, f))
 
 module _ (n : ℕ) (ranks : List RankView) (s : State) (shows : Shows n ranks s) (p : ℕ) (old new : RankView) (at : slice_get ranks p ≡ Some old) (goes : GoesOn old new (s p)) where
   within : p < n
@@ -141,11 +177,35 @@ module _ (n : ℕ) (ranks : List RankView) (s : State) (shows : Shows n ranks s)
   grown k q given e = prefix_get (s q).posts (move n s p q).posts (posts_kept q) k given e
 
   still_true : (b : Look) → TellsTruth b (history s) → TellsTruth b (history (move n s p))
-  still_true b truth k q = agrees_grows (b.posts k q) _ _ (grown k q) (truth k q)
+  still_true b truth k q = agrees_grows ((of_world b).posts k q) _ _ (grown k q) (truth k q)
 
   own_truth : TellsTruth new.node.board (history (move n s p))
-  own_truth k q = gains_truth old.node.board new.node.board (s p) goes.to (history s) (history (move n s p)) goes.board k q (still_true old.node.board (shows.truth p old at) k q)
+  own_truth k q = gains_truth old new (s p) goes.to (history s) (history (move n s p)) goes.gains k q (still_true old.node.board (shows.truth p old at) k q)
       (λ j given e. ap (history (move n s p) j) (shows.me p) ∙ ap (λ (t : Local). slice_get t.posts j) arrives ∙ e)
+
+  still_harvested : (b : Look) → IsHarvested ranks b → IsHarvested (set ranks p new) b
+  still_harvested b h q x e = set_cases ranks p q new x (λ (y : RankView). ((of_world b).fronts q ≤ harvested_by y) × ((of_world b).dropped ≤ harvested_by y)) e
+      (λ same.
+      let before = h q old (ap (slice_get ranks) same ∙ at) in
+      (omega (arith, before.0, goes.no_less), omega (arith, before.1, goes.no_less)))
+      (λ there other. h q x there)
+
+  own_harvested : IsHarvested (set ranks p new) new.node.board
+  own_harvested q x e =
+      let before = still_harvested old.node.board (shows.fronts p old at) q x e in
+      let gained = gains_fronts old new (s p) goes.to goes.gains q in (
+        elim gained.0 [
+          | inl less ↦ omega (arith, less, before.0)
+          | inr own ↦
+              let mine : x ≡ new = own_one q x e (own.0 ∙ shows.me p) in
+              let at_most : harvested_by new ≤ harvested_by x = le_of_same _ _ (ap harvested_by (sym mine)) in
+              omega (arith, own.1, before.0, at_most)
+        ],
+        omega (arith, gained.1, before.1),
+      )
+    where
+      own_one : (q : ℕ) (x : RankView) → slice_get (set ranks p new) q ≡ Some x → q ≡ p → x ≡ new
+      own_one q x e same = set_cases ranks p q new x (λ (y : RankView). y ≡ new) e (λ here. refl) (λ there other. absurd (other same))
 
   keeps : (q : ℕ) → ((move n s p q).me ≡ (s q).me) × ((move n s p q).world ≡ (s q).world)
   keeps = goes_on_cases (λ q t. (t.me ≡ (s q).me) × (t.world ≡ (s q).world)) s p (knows n s) (λ q. (refl, refl)) (λ t e. step_keeps (knows n s) (s p) (next (s p)) t e)
@@ -164,6 +224,9 @@ module _ (n : ℕ) (ranks : List RankView) (s : State) (shows : Shows n ranks s)
     truth = λ q r e. set_cases ranks p q new r (λ (x : RankView). TellsTruth x.node.board (history (move n s p))) e
         (λ same. own_truth)
         (λ there other. still_true r.node.board (shows.truth q r there));
+    fronts = λ q r e. set_cases ranks p q new r (λ (x : RankView). IsHarvested (set ranks p new) x.node.board) e
+        (λ same. own_harvested)
+        (λ there other. still_harvested r.node.board (shows.fronts q r there));
     me = λ q. (keeps q).0 ∙ shows.me q;
     world = λ q. (keeps q).1 ∙ shows.world q;
     quiet = move-quiet n s p within goes.to moves_on shows.quiet;

@@ -1,11 +1,11 @@
 -- A rank of a run, and what it shows of where the rank stands in its script.
-use Rattle.std.specs.Prelude.{◌≡◌, ℕ, ◌+◌, ◌*◌, Bool, true, false, cond, List, [], ◌∷◌, ◌++◌, length, map, slice_get, Some, None, option_and_then, ◌⊎◌}
+use Rattle.std.specs.Prelude.{◌≡◌, ℕ, ◌+◌, ◌*◌, Bool, true, false, cond, List, [], ◌∷◌, ◌++◌, length, map, ◌≤◌, slice_get, is_some, Some, None, option_and_then}
 use Rattle.join_core.specs.Flat.{known, unknown}
 use Rattle.mpx_post.specs.declared.post.Given.{Given}
-use Rattle.mpx_board.specs.Boards.{Look, join, only, row_on}
+use Rattle.mpx_board.specs.Boards.{Look, Context, Held, Front, join, only, row_on}
 use Rattle.mpx_node.specs.Values.{value}
 use Rattle.mpx_node.specs.Histories.{Results}
-use Rattle.mpx_node.specs.Nodes.{NodeView}
+use Rattle.mpx_node.specs.Nodes.{NodeView, posted_on, front_on}
 use Rattle.mpx_script.specs.declared.statement.Statement.{Statement}
 use Rattle.mpx_script.specs.Ranks.{Local, Todo, Await, step, doing}
 use Rattle.mpx_script.specs.Transcripts.{line_text}
@@ -17,9 +17,21 @@ pub record RankView : Type 0 where
   pub waits : Bool
   pub lines : List (List ℕ)
 
+-- what a board knows of the world
+abbrev pub of_world : Look → Context
+of_world b = b.contexts []
+
+-- how many calls it has posted on the world
+abbrev pub posted_by : RankView → ℕ
+posted_by r = posted_on r.node []
+
+-- how many calls it has harvested on the world
+abbrev pub harvested_by : RankView → ℕ
+harvested_by r = front_on r.node []
+
 -- the outcomes of the rows that are whole on its board
 abbrev pub told_by : RankView → Results
-told_by r k = option_and_then (λ row. Some (value row)) (row_on r.node.board r.node.world k)
+told_by r k = option_and_then (λ row. Some (value row)) (row_on r.node.board [] k)
 
 -- what is left to do, where it waits for this call or for none
 abbrev pub todo_of : Bool → ℕ → List Statement → List Todo
@@ -33,27 +45,32 @@ left_of r = 2 * length r.todo + cond r.waits 1 0
 -- the rank stands there in its script
 pub record Stands (r : RankView) (s : Local) : Type 0 where
   pub me : r.node.me ≡ s.me
-  pub world : r.node.world ≡ s.world
-  pub todo : s.todo ≡ todo_of r.waits (length r.node.results) r.todo
-  pub posted : r.node.posted ≡ length s.posts
-  pub harvested : r.node.posted ≡ length r.node.results + cond r.waits 1 0
-  pub own : (k : ℕ) (given : Given) → slice_get s.posts k ≡ Some given → r.node.board.posts k s.me ≡ known given
+  pub opened : is_some (r.node.opened []) ≡ true
+  pub born : (of_world r.node.board).birth ≡ known s.world
+  pub todo : s.todo ≡ todo_of r.waits (harvested_by r) r.todo
+  pub posted : posted_by r ≡ length s.posts
+  pub harvested : posted_by r ≡ harvested_by r + cond r.waits 1 0
+  pub kept : (of_world r.node.board).dropped ≤ harvested_by r
+  pub own : (k : ℕ) (given : Given) → (of_world r.node.board).dropped ≤ k → slice_get s.posts k ≡ Some given → (of_world r.node.board).posts k s.me ≡ known given
   pub lines : r.lines ≡ map line_text s.lines
 
 -- its board tells nothing yet of its next post
 abbrev pub IsFresh : RankView → Local → Type 0
-IsFresh r s = r.node.board.posts (length s.posts) s.me ≡ unknown
+IsFresh r s = (of_world r.node.board).posts (length s.posts) s.me ≡ unknown
 
--- a board gains the post that a rank makes, where it makes one
-abbrev pub Gains : Look → Look → Local → Local → Type 0
-Gains old new s t = ((new ≡ old) × (t.posts ≡ s.posts)) ⊎ ((given : Given) × (new ≡ join old (only (length s.posts) s.me (known given))) × (t.posts ≡ s.posts ++ given ∷ []))
+-- what a move tells the board of the rank: nothing, the post that it makes, or how many calls it has harvested
+pub data Gains (old new : RankView) (s t : Local) : Type 0 where
+  tells_nothing : new.node.board ≡ old.node.board → t.posts ≡ s.posts → Gains old new s t
+  tells_post : (given : Given) → new.node.board ≡ join old.node.board (only (Held [] (length s.posts) s.me (known given))) → t.posts ≡ s.posts ++ given ∷ [] → Gains old new s t
+  tells_front : new.node.board ≡ join old.node.board (only (Front [] s.me (harvested_by new))) → t.posts ≡ s.posts → Gains old new s t
 
 -- a move of the rank by what its board tells
 pub record GoesOn (old new : RankView) (s : Local) : Type 0 where
   pub to : Local
   pub step : step (told_by old) s ≡ Some to
   pub stands : Stands new to
-  pub board : Gains old.node.board new.node.board s to
+  pub gains : Gains old new s to
+  pub no_less : harvested_by old ≤ harvested_by new
 
 -- it moves, or can't by what its board tells
 abbrev pub Moves : Bool → RankView → RankView → Local → Type 0

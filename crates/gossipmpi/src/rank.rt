@@ -3,6 +3,7 @@ ghost use Rattle.std.specs.Prelude.{◌≡◌, ◌<◌, ◌≤◌, ◌↔◌, If
 use join_core::OutOfMemory;
 use mpx_board::Board;
 use mpx_group::Proc;
+use mpx_name::Name;
 use mpx_node::{Harvest, Node};
 use mpx_post::PostError;
 use mpx_script::{Statement, line, refused_line};
@@ -23,7 +24,7 @@ impl<'a> Rank<'a> {
     ghost use Rattle.mpx_node.specs.Nodes.{start_node};
     ghost use Rattle.mpx_script.specs.Ranks.{Local};
     ghost use Rattle.gossipmpi.specs.Running.{Stands};
-    ghost use Rattle.gossipmpi.specs.Turns.{learns};
+    ghost use Rattle.gossipmpi.specs.Turns.{learns, prunes};
     ghost use Rattle.gossipmpi.specs.Views.{is_waiting};
     ghost use Rattle.mpx_board.specs.Looks.{look};
 
@@ -38,7 +39,7 @@ impl<'a> Rank<'a> {
         requires few { ranks ≤ 64 }
         ensures { IfOk result (λ rank. rank_of rank ≡ record { node = start_node me ranks; todo = todo.now; waits = false; lines = [] }) }
     {
-        let node = Node::new(alloc, Proc::new(me), ranks)?;
+        let node = Node::new(alloc, Proc::new(me), ranks, ranks)?;
         Ok(Rank {
             node,
             todo,
@@ -89,6 +90,19 @@ impl<'a> Rank<'a> {
         self.node.take(alloc, part)
     }
 
+    /// Drops the posts that every rank has harvested, by what its board knows of that.
+    pub fn prune(&mut self, alloc: Global)
+        ensures { rank_of self.new ≡ prunes (rank_of self.old) }
+    {
+        let world = Name::world(alloc);
+        if let Some(floor) = self.node.board().floor(&world) {
+            match self.node.prune(&world, floor) {
+                Ok(()) => {}
+                Err(_) => {}
+            }
+        }
+    }
+
     // Waits for the outcome of the last post.
     fn hear(&mut self, alloc: Global) -> Result<bool, OutOfMemory>
         requires { IsTrue (rank_of self.old).waits }
@@ -96,10 +110,12 @@ impl<'a> Rank<'a> {
         ensures stays { IfOk result (λ moved. moved ≡ false → rank_of self.new ≡ rank_of self.old) }
         ensures less { IfOk result (λ moved. IsTrue moved → left_of (rank_of self.new) < left_of (rank_of self.old)) }
     {
-        match self.node.harvest(alloc)? {
+        let world = Name::world(alloc);
+        match self.node.harvest(alloc, &world)? {
             Harvest::NotYet => Ok(false),
+            Harvest::NotOpened => Ok(false),
             Harvest::Done(call) => {
-                let finished = self.node.result(call).unwrap();
+                let finished = self.node.result(&world, call).unwrap();
                 let text = line(alloc, &finished.outcome)?;
                 self.lines.push(text)?;
                 self.waits = false;
@@ -119,7 +135,7 @@ impl<'a> Rank<'a> {
             return Ok(false);
         };
         let draft = statement.draft(alloc)?;
-        match self.node.post(alloc, draft) {
+        match self.node.post(alloc, &Name::world(alloc), draft) {
             Ok(_) => {
                 self.todo = rest;
                 self.waits = true;

@@ -2,10 +2,10 @@ ghost use Rattle.std.specs.Prelude.{◌≡◌, ◌<◌, ◌≤◌, IfOk, OnOk, I
 ghost use Rattle.mpx_script.specs.Evaluation.{State};
 ghost use Rattle.mpx_board.specs.Looks.{look};
 ghost use Rattle.gossipmpi.specs.Shown.{rank_of};
-ghost use Rattle.gossipmpi.specs.Turns.{Ends, Exhausts, GoesRound, Shows, IsFull, Turns, all_joined, learns, total_left};
+ghost use Rattle.gossipmpi.specs.Turns.{Ends, Exhausts, GoesRound, Shows, IsFull, Turns, all_joined, catches_up, total_left};
 
 use crate::rank::Rank;
-use join_core::{Join, OutOfMemory};
+use join_core::OutOfMemory;
 use mpx_board::Board;
 use std::alloc::Global;
 
@@ -49,23 +49,24 @@ fn joined_boards(alloc: Global, ranks: &[Rank<'_>]) -> Result<Board, OutOfMemory
 {
     let mut joined = Board::new(alloc);
     for rank in ranks {
-        joined = joined.joined(alloc, rank.board())?;
+        joined.take(alloc, rank.board())?;
     }
     Ok(joined)
 }
 
-// Every board is joined into every other.
+// Every board is joined into every other, and each rank drops the posts that every rank has harvested.
 fn exchange(alloc: Global, ranks: &mut [Rank<'_>]) -> Result<(), OutOfMemory>
-    ensures { OnOk result (map rank_of ranks.new ≡ map (learns (all_joined (map rank_of ranks.old))) (map rank_of ranks.old)) }
+    ensures { OnOk result (map rank_of ranks.new ≡ map (catches_up (all_joined (map rank_of ranks.old))) (map rank_of ranks.old)) }
 {
     let joined = joined_boards(alloc, ranks)?;
     for rank in ranks.iter_mut() {
         rank.take(alloc, &joined)?;
+        rank.prune(alloc);
     }
     Ok(())
 }
 
-// A turn: every rank in order goes on until it must wait, and then every board is joined into every other. It answers
+// A turn: every rank in order goes on until it must wait, and then boards are exchanged. It answers
 // whether any rank moved; where none did, none can.
 fn turn(alloc: Global, ranks: &mut [Rank<'_>]) -> Result<bool, OutOfMemory>
     ensures goes { IfOk result (λ moved. (s : State) → Shows (length ranks.old) (map rank_of ranks.old) s

@@ -152,4 +152,5 @@ module _ {V : Type 0} {equal : V → V → Bool} (e : IsEquality equal) where
     leq_complete = leq_complete;
     delta_serves = λ a b. delta_serves a b (flat_leq equal a b) refl;
     delta_below = λ a b. delta_below a (flat_leq equal a b);
+    delta_empty = λ a known b t. ap (λ l. flat_leq equal (cond l unknown a) b) t;
   }

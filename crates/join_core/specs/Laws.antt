@@ -35,3 +35,5 @@ pub record JoinLaws {V : Type 0} (j : Joining V) : Type 0 where
   -- known is as well served by the delta as by the whole
   pub delta_serves : (a known : V) → j.join known (j.delta a known) ≡ j.join known a
   pub delta_below : (a known : V) → IsBelow j (j.delta a known) a
+  -- where known has all of it the delta tells nothing: it is below every value
+  pub delta_empty : (a known b : V) → IsTrue (j.leq a known) → IsTrue (j.leq (j.delta a known) b)

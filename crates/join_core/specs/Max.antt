@@ -23,4 +23,5 @@ max_laws = record {
   leq_complete = λ a b e. grind (arith, nat_tests);
   delta_serves = λ a known. grind (arith, nat_tests);
   delta_below = λ a known. grind (arith, nat_tests);
+  delta_empty = λ a known b e. grind (arith, nat_tests);
 }

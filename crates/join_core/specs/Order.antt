@@ -15,11 +15,13 @@ pub record IsLeastUpperBound {V : Type 0} (j : Joining V) : Type 0 where
   pub above_second : (a b : V) → IsTrue (j.leq b (j.join a b))
   pub below_bounds : (a b c : V) → IsTrue (j.leq a c) → IsTrue (j.leq b c) → IsTrue (j.leq (j.join a b) c)
 
--- a delta serves in place of the value, tells no more than it, and nothing where all is known
+-- a delta serves in place of the value, and tells no more than it; where all is known it tells nothing, so is below every value
 pub record DeltaServes {V : Type 0} (j : Joining V) : Type 0 where
   pub serves : (a known : V) → j.join known (j.delta a known) ≡ j.join known a
   pub tells_no_more : (a known : V) → IsTrue (j.leq (j.delta a known) a)
   pub adds_nothing : (a known : V) → IsTrue (j.leq a known) → j.join known (j.delta a known) ≡ known
+  pub is_empty : (a known b : V) → IsTrue (j.leq a known) → IsTrue (j.leq (j.delta a known) b)
+  pub is_empty_against_itself : (a b : V) → IsTrue (j.leq (j.delta a a) b)
 
 module _ {V : Type 0} {j : Joining V} (p : JoinLaws j) where
   -- a join of what is below stays below
@@ -49,4 +51,6 @@ module _ {V : Type 0} {j : Joining V} (p : JoinLaws j) where
     serves = p.delta_serves;
     tells_no_more = λ a known. p.leq_complete (j.delta a known) a (p.delta_below a known);
     adds_nothing = λ a known t. p.delta_serves a known ∙ p.commutative known a ∙ p.leq_sound a known t;
+    is_empty = p.delta_empty;
+    is_empty_against_itself = λ a b. p.delta_empty a a b (p.leq_complete a a (p.idempotent a));
   }

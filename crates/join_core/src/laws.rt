@@ -24,7 +24,8 @@ pub fn joined_laws<J: Join>()
     ensures { IsLeastUpperBound J.joining }
 {}
 
-/// `delta` serves in place of the whole, is below it, and adds nothing to what is known.
+/// `delta` serves in place of the whole, is below it, and adds nothing to what is known; where all is known, as against
+/// itself, it is empty: below every value.
 pub fn delta_laws<J: Join>()
     ensures { DeltaServes J.joining }
 {}

@@ -15,7 +15,8 @@ fn laws_hold<J: Join>(alloc: Global, a: &J, b: &J) -> Result<bool, OutOfMemory> 
             && joined.same(&copy)
             && a.leq(&joined)
             && b.leq(&joined)
-            && a.delta(alloc, b)?.leq(a),
+            && a.delta(alloc, b)?.leq(a)
+            && a.delta(alloc, a)?.leq(b),
     )
 }
 

@@ -1,5 +1,5 @@
 -- Calls at or above a front.
-use Rattle.std.proofs.Common.{◌≡◌, ℕ, zero, suc, max, nat_le, ◌<◌, ◌≤◌, Bool, true, false, cond, ◌&&◌, List, [], ◌∷◌, length, get_or, drop, Option, None, Result, Ok, Err, OnOk, OnErr, inl, inr, ◌⊎◌, refl, sym, ap, ◌∙◌, arith}
+use Rattle.std.proofs.Common.{◌≡◌, ℕ, zero, suc, max, nat_le, ◌<◌, ◌≤◌, Bool, true, false, cond, is_some, ◌&&◌, List, [], ◌∷◌, length, get_or, drop, Option, None, Result, Ok, Err, OnOk, OnErr, inl, inr, ◌⊎◌, refl, sym, ap, ◌∙◌, arith}
 use Rattle.std.proofs.lemmas.Bool.Decides.{nat_tests}
 use Rattle.std.proofs.lemmas.Bool.{cases_lt}
 use Rattle.std.proofs.lemmas.Cmp.{ranked}
@@ -10,13 +10,14 @@ use Rattle.std.specs.Cmp.{nat_cmp_total}
 use Rattle.std.specs.FinMap.{find, is_sorted, FinMap, from_sorted, put, get, same_map, nat_cmp-IsAntisymmetric}
 use Rattle.std.specs.FinMap.Entries.{by_order, where_key, is_sorted-where_key, find-where_key}
 use Rattle.join_core.specs.Laws.{Joining}
+use Rattle.join_core.specs.Max.{greater_only}
 use Rattle.join_nest.specs.Optional.{option_join, option_delta}
 use Rattle.join_nest.specs.Entries.{first_true, second_true, both_true, merge, entries_delta, entries_leq, sorted_merge, find_merge, sorted_delta, find_delta, yes, no, answer}
 use Rattle.join_nest.specs.Keyed.{keyed_joining, get_join}
 use Rattle.join_nest.specs.Seen.{seen, keyed_view}
 use Rattle.join_nest.specs.Place.{IsAt, IsGap, IsFront}
 use Rattle.join_nest.specs.TruncSeen.{trunc_view, is_from_seen}
-use Rattle.join_nest.specs.Trunc.{is_from, trunc_of, cut, trunc_joining, same_trunc, same_calls, find_dropped, get_cut, from_finds}
+use Rattle.join_nest.specs.Trunc.{is_from, trunc_of, cut, trunc_joining, same_trunc, same_calls, find_dropped, get_cut, from_finds, drop_below}
 use Rattle.join_nest.proofs.Places.{holds, holding, rises}
 use Rattle.join_nest.proofs.Views.{seen_sorted, get_view, sorted_made, leq_view, joined_view, delta_view}
 use Rattle.join_nest.proofs.Steps.{find_seen}
@@ -30,12 +31,22 @@ greater_than x y e = ranked x y Greater (sym e)
 equal_to : (x y : ℕ) → nat_cmp x y ≡ Equal → x ≡ y
 equal_to x y e = ranked x y Equal (sym e)
 
+alike : (d q x : ℕ) → nat_cmp q x ≡ Equal → nat_le d x ≡ nat_le d q
+alike d q x e = ap (nat_le d) (sym (nat_cmp-IsAntisymmetric q x e))
+
 module _ {J : Type 0} where
   keep_all : (d : ℕ) (es : List (ℕ × J)) → ((k : ℕ) (e : ℕ × J) → k < length es → d ≤ (get_or es k e).0) → where_key nat_cmp (nat_le d) es ≡ es
   keep_all d [] h = refl
   keep_all d (e ∷ es) h =
       let here : nat_le d e.0 ≡ true = let le : d ≤ e.0 = h 0 e (omega arith) in grind (arith, nat_tests) in
       rw here (ap (λ l. e ∷ l) (keep_all d es (λ k f lt. h (suc k) f (omega arith))))
+
+  -- calls above a front are above a lower one
+  from_lower : (low d : ℕ) (es : List (ℕ × J)) → low ≤ d → is_from d es ≡ true → is_from low es ≡ true
+  from_lower low d [] le f = refl
+  from_lower low d (e ∷ es) le f =
+      let here : nat_le d e.0 ≡ true = first_true (nat_le d e.0) (is_from d es) f in
+      both_true (nat_le low e.0) (is_from low es) (grind (arith, nat_tests)) (from_lower low d es le (second_true (nat_le d e.0) (is_from d es) f))
 
   front_in_tail : (d : ℕ) (e : ℕ × J) (es : List (ℕ × J)) (i : ℕ) → IsFront (e ∷ es) d (suc i) → IsFront es d i
   front_in_tail d e es i f = record {
@@ -83,8 +94,9 @@ module _ {J : Type 0} where
   pub kept_sorted : (d : ℕ) (es kept : List (ℕ × J)) → is_sorted nat_cmp es ≡ true → kept ≡ where_key nat_cmp (nat_le d) es → is_sorted nat_cmp kept ≡ true
   kept_sorted d es kept h e = ap (is_sorted nat_cmp) e ∙ sorted_kept d es h
 
-alike : (d q x : ℕ) → nat_cmp q x ≡ Equal → nat_le d x ≡ nat_le d q
-alike d q x e = ap (nat_le d) (sym (nat_cmp-IsAntisymmetric q x e))
+  pub kept_from : (d : ℕ) (es kept : List (ℕ × J)) → is_sorted nat_cmp es ≡ true → kept ≡ where_key nat_cmp (nat_le d) es → is_from d kept ≡ true
+  kept_from d es kept h e = ap (is_from d) e ∙ holding _ (from_finds d (where_key nat_cmp (nat_le d) es) (holds _ (sorted_kept d es h)) (λ q n.
+      find-where_key nat_cmp (nat_le d) q (alike d q) es ∙ ap (λ b. cond b (find nat_cmp q es) None) n))
 
 module _ {J V : Type 0} (view : J → V) where
   mapped : (b : Bool) (o : Option J) → option_map view (cond b o None) ≡ cond b (option_map view o) None
@@ -110,6 +122,18 @@ module _ {J V : Type 0} (view : J → V) where
   -- the view is the front with all its calls
   pub view_is_cut : (d : ℕ) (es : List (ℕ × J)) (h : is_sorted nat_cmp es ≡ true) (f : is_from d es ≡ true) → trunc_view view d es h f ≡ trunc_of d (keyed_view nat_cmp view es)
   view_is_cut d es h f = same_calls _ _ refl (sym (cut_view d es h f))
+
+  -- a front raised, with what is at or above it
+  pub raised_view : (a d : ℕ) (es made : List (ℕ × J)) (h : is_sorted nat_cmp es ≡ true) (f : is_from a es ≡ true) (hm : is_sorted nat_cmp made ≡ true) (fm : is_from d made ≡ true) → a < d → made ≡ where_key nat_cmp (nat_le d) es → trunc_view view d made hm fm ≡ drop_below d (trunc_view view a es h f)
+  raised_view a d es made h f hm fm lt told =
+      let front : d ≡ max a d = omega arith in
+      same_calls _ _ front (ap (keyed_view nat_cmp view) told ∙ view_kept d es h ∙ ap (λ n. cut n (keyed_view nat_cmp view es)) front)
+
+  -- a lower front drops nothing
+  pub same_front : (a d : ℕ) (es : List (ℕ × J)) (h : is_sorted nat_cmp es ≡ true) (f : is_from a es ≡ true) → d ≤ a → trunc_view view a es h f ≡ drop_below d (trunc_view view a es h f)
+  same_front a d es h f le =
+      let front : a ≡ max a d = omega arith in
+      view_is_cut a es h f ∙ ap (λ n. trunc_of n (keyed_view nat_cmp view es)) front
 
   pub copied_view : (d : ℕ) (es made : List (ℕ × J)) (h : is_sorted nat_cmp es ≡ true) (f : is_from d es ≡ true) (hm : is_sorted nat_cmp made ≡ true) (fm : is_from d made ≡ true) → seen view made ≡ seen view es → trunc_view view d made hm fm ≡ trunc_view view d es h f
   copied_view d es made h f hm fm e = same_calls _ _ refl (ap from_sorted e)
@@ -145,12 +169,12 @@ module _ {J V : Type 0} (view : J → V) (j : Joining V) where
         leq_view nat_cmp view j (where_key nat_cmp (nat_le b) xs) ys (sorted_kept b xs hx) hy
         ∙ λ i. sym t i && (keyed_joining j).leq (view_kept view b xs hx i) (keyed_view nat_cmp view ys)
 
-    pub trunc_lacking : (a b : ℕ) (fx : is_from a xs ≡ true) (fy : is_from b ys ≡ true) (made : List (ℕ × J)) (hm : is_sorted nat_cmp made ≡ true) (fm : is_from a made ≡ true) → seen view made ≡ entries_delta nat_cmp j (seen view (where_key nat_cmp (nat_le b) xs)) (seen view ys)
-        → trunc_view view a made hm fm ≡ (trunc_joining j).delta (trunc_view view a xs hx fx) (trunc_view view b ys hy fy)
-    trunc_lacking a b fx fy made hm fm told =
-        view_is_cut view a made hm fm
-        ∙ ap (trunc_of a) (delta_view nat_cmp view j (where_key nat_cmp (nat_le b) xs) ys made (sorted_kept b xs hx) hy told
-        ∙ λ i. (keyed_joining j).delta (view_kept view b xs hx i) (keyed_view nat_cmp view ys))
+    pub trunc_lacking : (a b : ℕ) (fx : is_from a xs ≡ true) (fy : is_from b ys ≡ true) (d : ℕ) (made : List (ℕ × J)) (hm : is_sorted nat_cmp made ≡ true) (fm : is_from d made ≡ true) → d ≡ greater_only a b → seen view made ≡ entries_delta nat_cmp j (seen view (where_key nat_cmp (nat_le b) xs)) (seen view ys)
+        → trunc_view view d made hm fm ≡ (trunc_joining j).delta (trunc_view view a xs hx fx) (trunc_view view b ys hy fy)
+    trunc_lacking a b fx fy d made hm fm e told =
+        view_is_cut view d made hm fm
+        ∙ λ i. trunc_of (e i) ((delta_view nat_cmp view j (where_key nat_cmp (nat_le b) xs) ys made (sorted_kept b xs hx) hy told
+        ∙ λ t. (keyed_joining j).delta (view_kept view b xs hx t) (keyed_view nat_cmp view ys)) i)
 
   pub made_sorted : (d : ℕ) (xs ys made : List (ℕ × J)) → is_sorted nat_cmp xs ≡ true → is_sorted nat_cmp ys ≡ true → seen view made ≡ merge nat_cmp j.join (seen view (where_key nat_cmp (nat_le d) xs)) (seen view (where_key nat_cmp (nat_le d) ys)) → is_sorted nat_cmp made ≡ true
   made_sorted d xs ys made hx hy told = sorted_made nat_cmp view made _ told (sorted_merge nat_cmp_total j (seen view (where_key nat_cmp (nat_le d) xs)) (seen view (where_key nat_cmp (nat_le d) ys)) (seen_sorted nat_cmp view (where_key nat_cmp (nat_le d) xs) (sorted_kept d xs hx)) (seen_sorted nat_cmp view (where_key nat_cmp (nat_le d) ys) (sorted_kept d ys hy)))
@@ -175,11 +199,14 @@ module _ {J V : Type 0} (view : J → V) (j : Joining V) where
   pub lacking_sorted : (d : ℕ) (xs ys made : List (ℕ × J)) → is_sorted nat_cmp xs ≡ true → seen view made ≡ entries_delta nat_cmp j (seen view (where_key nat_cmp (nat_le d) xs)) (seen view ys) → is_sorted nat_cmp made ≡ true
   lacking_sorted d xs ys made hx told = sorted_made nat_cmp view made _ told (sorted_delta nat_cmp_total j (seen view (where_key nat_cmp (nat_le d) xs)) (seen view ys) (seen_sorted nat_cmp view (where_key nat_cmp (nat_le d) xs) (sorted_kept d xs hx)))
 
-  pub lacking_from : (a d : ℕ) (xs ys made : List (ℕ × J)) → is_sorted nat_cmp xs ≡ true → is_from a xs ≡ true → seen view made ≡ entries_delta nat_cmp j (seen view (where_key nat_cmp (nat_le d) xs)) (seen view ys) → is_from a made ≡ true
-  lacking_from a d xs ys made hx fx told =
+  lacking_above : (a d : ℕ) (xs ys made : List (ℕ × J)) → is_sorted nat_cmp xs ≡ true → is_from a xs ≡ true → seen view made ≡ entries_delta nat_cmp j (seen view (where_key nat_cmp (nat_le d) xs)) (seen view ys) → is_from a made ≡ true
+  lacking_above a d xs ys made hx fx told =
       let sx = seen_sorted nat_cmp view (where_key nat_cmp (nat_le d) xs) (sorted_kept d xs hx) in
       sym (is_from_seen view a made) ∙ ap (is_from a) told ∙ holding _ (from_finds a (entries_delta nat_cmp j (seen view (where_key nat_cmp (nat_le d) xs)) (seen view ys)) (sorted_delta nat_cmp_total j (seen view (where_key nat_cmp (nat_le d) xs)) (seen view ys) sx) (λ q n.
       find_delta nat_cmp_total j q (seen view (where_key nat_cmp (nat_le d) xs)) (seen view ys) sx ∙ ap (λ o. option_delta j o (find nat_cmp q (seen view ys))) (none_kept a d q xs fx n)))
+
+  pub lacking_from : (a d f : ℕ) (xs ys made : List (ℕ × J)) → is_sorted nat_cmp xs ≡ true → is_from a xs ≡ true → f ≡ greater_only a d → seen view made ≡ entries_delta nat_cmp j (seen view (where_key nat_cmp (nat_le d) xs)) (seen view ys) → is_from f made ≡ true
+  lacking_from a d f xs ys made hx fx e told = from_lower f a made (let low : greater_only a d ≤ a = grind (arith, nat_tests) in omega arith) (lacking_above a d xs ys made hx fx told)
 
 module _ {J : Type 0} where
   -- a call at or above the front keeps all there
@@ -199,3 +226,9 @@ module _ {J : Type 0} where
   pub put_same : {V E : Type 0} (view : J → V) (r : Result (Unit {0}) E) (d : ℕ) (es made : List (ℕ × J)) (h : is_sorted nat_cmp es ≡ true) (f : is_from d es ≡ true) (hm : is_sorted nat_cmp made ≡ true) (fm : is_from d made ≡ true) → OnErr r (made ≡ es) → OnErr r (trunc_view view d made hm fm ≡ trunc_view view d es h f)
   put_same view (Ok _) d es made h f hm fm err = tt
   put_same view (Err _) d es made h f hm fm err = same_calls _ _ refl (ap (keyed_view nat_cmp view) err)
+
+  pub replace_above : (d q : ℕ) (v : J) (es made : List (ℕ × J)) → is_from d es ≡ true → made ≡ cond (is_some (find nat_cmp q es)) (put nat_cmp q v es) es → is_from d made ≡ true
+  replace_above d q v es made f e = ap (is_from d) e ∙ elim (answer (nat_le d q)) [
+    | yes t ↦ elim (is_some (find nat_cmp q es)) as (λ b. is_from d (cond b (put nat_cmp q v es) es) ≡ true) [ true ↦ put_from d q v es t f | false ↦ f ]
+    | no n ↦ rw (find_dropped d q es (holds _ f) n) f
+  ]

@@ -1,5 +1,5 @@
 -- What a place in entries whose keys strictly rise says of the entry there.
-use Rattle.std.proofs.Common.{◌≡◌, ℕ, zero, suc, ◌+◌, ◌<◌, Bool, true, false, T, List, [], ◌∷◌, length, get_or, set, Some, None, Result, Ok, Err, IfOk, IfErr, refl, sym, ap, ◌∙◌, subst, arith}
+use Rattle.std.proofs.Common.{◌≡◌, ℕ, zero, suc, ◌+◌, ◌<◌, Bool, true, false, cond, is_some, T, List, [], ◌∷◌, length, get_or, set, Some, None, Result, Ok, Err, IfOk, IfErr, refl, sym, ap, ◌∙◌, subst, arith}
 use Rattle.std.specs.declared.cmp.Ordering.{Ordering}
 use Rattle.std.specs.declared.cmp.Ordering.TheVariants.{Less, Equal}
 use Rattle.std.specs.Ordering.{is_lt, ordering_index, ordering_reverse}
@@ -89,3 +89,18 @@ module _ {K J : Type 0} {R : K → K → Ordering} (o : IsTotalOrder R) where
   insert_is_put q v [] (suc i) gap = absurd (omega (arith, gap.in_range))
   insert_is_put q v (e ∷ es) zero gap = rw (o.antisymm q e.0, gap.greater_after 0 e (omega arith) (omega arith)) refl
   insert_is_put q v (e ∷ es) (suc i) gap = rw (o.antisymm q e.0, gap.smaller_before 0 e (omega arith)) (ap (λ l. e ∷ l) (insert_is_put q v es i (later_gap_in_tail q e es i gap)))
+
+  -- the entry at the key's place is the one that is found
+  pub taken_at : (q : K) (es : List (K × J)) (i : ℕ) (e : K × J) → T (is_sorted R es) → IsAt R es q i → e ≡ get_or es i e → Some e.1 ≡ find R q es
+  taken_at q es i e h there is = ap (λ x. Some x.1) is ∙ sym (find_at q es i e h there.in_range (there.has_key e))
+
+  -- a value in place of the one at the key's place
+  pub set_is_replaced : IsAntisymmetric R → (q : K) (v : J) (es : List (K × J)) (i : ℕ) (e : K × J) → T (is_sorted R es) → IsAt R es q i → e ≡ get_or es i e → set es i (e.0, v) ≡ cond (is_some (find R q es)) (put R q v es) es
+  set_is_replaced exact q v es i e h there is =
+      let same : e.0 ≡ q = exact e.0 q (ap (λ x. R x.0 q) is ∙ there.has_key e) in
+      ap (λ k. set es i (k, v)) same
+      ∙ set_is_put exact q v es i h there
+      ∙ ap (λ f. cond (is_some f) (put R q v es) es) (taken_at q es i e h there is)
+
+  pub kept_in_gap : (q : K) (v : J) (es : List (K × J)) (i : ℕ) → IsGap R es q i → es ≡ cond (is_some (find R q es)) (put R q v es) es
+  kept_in_gap q v es i gap = ap (λ f. cond (is_some f) (put R q v es) es) (sym (find_in_gap q es i gap))

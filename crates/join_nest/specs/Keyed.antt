@@ -1,9 +1,10 @@
 -- Finite maps joined key by key.
-use Rattle.std.specs.Prelude.{◌≡◌, Bool, true}
-use Rattle.std.proofs.Common.{sym, ap, ◌∙◌}
+use Rattle.std.specs.Prelude.{◌≡◌, Bool, true, false, ◌&&◌, is_some, Some, refl}
+use Rattle.std.proofs.Common.{sym, ap, ◌∙◌, cond}
 use Rattle.std.specs.declared.cmp.Ordering.{Ordering}
+use Rattle.std.specs.Ordering.{eq_by_cmp}
 use Rattle.std.specs.Cmp.{IsTotalOrder}
-use Rattle.std.specs.FinMap.{FinMap, entries, entries_sorted, from_sorted, get, get-entries, get-from_sorted, same_map, same_entries_map, IsAntisymmetric}
+use Rattle.std.specs.FinMap.{FinMap, entries, entries_sorted, from_sorted, get, insert, get-entries, get-from_sorted, get-insert, same_map, same_entries_map, IsAntisymmetric}
 use Rattle.join_core.specs.Laws.{Joining, JoinLaws, IsEquality}
 use Rattle.join_nest.specs.Optional.{option_join, option_leq, option_delta, option_laws}
 use Rattle.join_nest.specs.Entries.{merge, entries_leq, entries_delta, entries_equal, sorted_merge, find_merge, sorted_delta, find_delta, leq_at, leq_from, equal_itself, equal_sound}
@@ -18,6 +19,21 @@ module _ {K V : Type 0} {R : K → K → Ordering} where
     leq = λ m n. entries_leq R j (entries m) (entries n);
     delta = λ m n. from_sorted (entries_delta R j (entries m) (entries n));
   }
+
+  -- the map with another value at the key, where the key has one
+  abbrev pub replaced : FinMap R V → K → V → FinMap R V
+  replaced m q v = cond (is_some (get m q)) (insert m q v) m
+
+module _ {K V : Type 0} {R : K → K → Ordering} (o : IsTotalOrder R) where
+  -- another value at the key, where the key has one; the other keys keep theirs
+  pub get_replaced : (m : FinMap R V) (k : K) (v : V) (q : K) → get (replaced m k v) q ≡ cond (eq_by_cmp R q k && is_some (get m k)) (Some v) (get m q)
+  get_replaced m k v q = chosen (is_some (get m k)) (eq_by_cmp R q k) (get-insert o m k v q)
+    where
+      chosen : (there same : Bool) → get (insert m k v) q ≡ cond same (Some v) (get m q) → get (cond there (insert m k v) m) q ≡ cond (same && there) (Some v) (get m q)
+      chosen true true e = e
+      chosen true false e = e
+      chosen false true e = refl
+      chosen false false e = refl
 
 module _ {K V : Type 0} {R : K → K → Ordering} (o : IsTotalOrder R) (exact : IsAntisymmetric R) where
   pub keyed_equality : {equal : V → V → Bool} → IsEquality equal → IsEquality (keyed_equal {R = R} equal)
@@ -74,6 +90,11 @@ module _ {K V : Type 0} {R : K → K → Ordering} (o : IsTotalOrder R) (exact :
   delta_below a b = same_map o exact _ _ (λ q.
       get_join o j _ a q ∙ ap (λ x. option_join j x (get a q)) (get_delta o j a b q) ∙ (option_laws p).delta_below (get a q) (get b q))
 
+  delta_empty : (a known b : FinMap R V) → (keyed_joining j).leq a known ≡ true → (keyed_joining j).leq ((keyed_joining j).delta a known) b ≡ true
+  delta_empty a known b t = gets_leq o j _ b (λ q.
+      ap (λ x. option_leq j x (get b q)) (get_delta o j a known q)
+      ∙ (option_laws p).delta_empty (get a q) (get known q) (get b q) (leq_gets o j a known t q))
+
   pub keyed_laws : JoinLaws (keyed_joining {R = R} j)
   keyed_laws = record {
     commutative = commute;
@@ -83,4 +104,5 @@ module _ {K V : Type 0} {R : K → K → Ordering} (o : IsTotalOrder R) (exact :
     leq_complete = leq_complete;
     delta_serves = delta_serves;
     delta_below = delta_below;
+    delta_empty = delta_empty;
   }

@@ -9,7 +9,8 @@ use Rattle.std.specs.Cmp.{nat_cmp_total}
 use Rattle.std.specs.FinMap.{FinMap, find, is_sorted, entries, entries_sorted, from_sorted, get, get-entries, get-from_sorted, same_map, nat_cmp-IsAntisymmetric}
 use Rattle.std.specs.FinMap.Entries.{where_key, is_sorted-where_key, find-where_key}
 use Rattle.join_core.specs.Laws.{Joining, JoinLaws, IsEquality}
-use Rattle.join_nest.specs.Optional.{option_join, option_delta, option_laws}
+use Rattle.join_core.specs.Max.{greater_only, max_laws}
+use Rattle.join_nest.specs.Optional.{option_join, option_leq, option_delta, option_laws}
 use Rattle.join_nest.specs.Entries.{first, second, both, is_tied, first_true, second_true, both_true, find_first, yes, no, answer}
 use Rattle.join_nest.specs.Keyed.{keyed_equal, keyed_joining, keyed_equality, get_join, get_delta, leq_gets, gets_leq}
 
@@ -72,6 +73,10 @@ module _ {V : Type 0} where
   abbrev pub trunc_of : ℕ → FinMap nat_cmp V → TruncView V
   trunc_of d m = record { dropped = d; calls = cut d m; above = above_cut d m }
 
+  -- what stands below the front is dropped too
+  abbrev pub drop_below : ℕ → TruncView V → TruncView V
+  drop_below front t = trunc_of (max t.dropped front) t.calls
+
   abbrev pub trunc_equal : (V → V → Bool) → TruncView V → TruncView V → Bool
   trunc_equal equal a b = nat_eq a.dropped b.dropped && keyed_equal equal a.calls b.calls
 
@@ -80,7 +85,7 @@ module _ {V : Type 0} where
   trunc_joining j = record {
     join = λ a b. trunc_of (max a.dropped b.dropped) ((keyed_joining j).join a.calls b.calls);
     leq = λ a b. nat_le a.dropped b.dropped && (keyed_joining j).leq (cut b.dropped a.calls) b.calls;
-    delta = λ a known. trunc_of a.dropped ((keyed_joining j).delta (cut known.dropped a.calls) known.calls);
+    delta = λ a known. trunc_of (greater_only a.dropped known.dropped) ((keyed_joining j).delta (cut known.dropped a.calls) known.calls);
   }
 
 module _ {V : Type 0} {equal : V → V → Bool} (e : IsEquality equal) where
@@ -96,12 +101,31 @@ module _ {V : Type 0} {equal : V → V → Bool} (e : IsEquality equal) where
 max_from : (a b q : ℕ) → nat_le (max a b) q ≡ (nat_le a q && nat_le b q)
 max_from a b q = grind (arith, nat_tests)
 
+greater_from : (a b q : ℕ) → nat_le a q ≡ true → nat_le (greater_only a b) q ≡ true
+greater_from a b q t = grind (arith, nat_tests)
+
+-- where known's front cuts, the delta's front cuts as self's does
+greater_after : (a b q : ℕ) → (nat_le b q && nat_le (greater_only a b) q) ≡ (nat_le b q && nat_le a q)
+greater_after a b q = grind (arith, nat_tests)
+
 module _ {V : Type 0} (j : Joining V) where
   pub get_trunc_join : (a b : TruncView V) (q : ℕ) → get ((trunc_joining j).join a b).calls q ≡ cond (nat_le a.dropped q && nat_le b.dropped q) (option_join j (get a.calls q) (get b.calls q)) None
   get_trunc_join a b q = get_cut (max a.dropped b.dropped) _ q ∙ λ i. cond (max_from a.dropped b.dropped q i) (get_join nat_cmp_total j a.calls b.calls q i) None
 
-  pub get_trunc_delta : (a k : TruncView V) (q : ℕ) → get ((trunc_joining j).delta a k).calls q ≡ cond (nat_le a.dropped q) (option_delta j (cond (nat_le k.dropped q) (get a.calls q) None) (get k.calls q)) None
-  get_trunc_delta a k q = get_cut a.dropped _ q ∙ ap (λ o. cond (nat_le a.dropped q) o None) (get_delta nat_cmp_total j (cut k.dropped a.calls) k.calls q ∙ ap (λ o. option_delta j o (get k.calls q)) (get_cut k.dropped a.calls q))
+  nothing_lacking : (s t : Bool) (x y : Option V) → x ≡ None → cond s (option_delta j (cond t x None) y) None ≡ option_delta j (cond t x None) y
+  nothing_lacking true t x y e = refl
+  nothing_lacking false true x y e = rw e refl
+  nothing_lacking false false x y e = refl
+
+  -- a front of the delta cuts nothing: self has no call below it
+  pub get_trunc_delta : (a k : TruncView V) (q : ℕ) → get ((trunc_joining j).delta a k).calls q ≡ option_delta j (cond (nat_le k.dropped q) (get a.calls q) None) (get k.calls q)
+  get_trunc_delta a k q =
+      get_cut (greater_only a.dropped k.dropped) _ q
+      ∙ ap (λ o. cond (nat_le (greater_only a.dropped k.dropped) q) o None) (get_delta nat_cmp_total j (cut k.dropped a.calls) k.calls q ∙ ap (λ o. option_delta j o (get k.calls q)) (get_cut k.dropped a.calls q))
+      ∙ elim (answer (nat_le a.dropped q)) [
+        | yes t ↦ ap (λ b. cond b (option_delta j (cond (nat_le k.dropped q) (get a.calls q) None) (get k.calls q)) None) (greater_from a.dropped k.dropped q t)
+        | no n ↦ nothing_lacking _ (nat_le k.dropped q) (get a.calls q) (get k.calls q) (get_dropped a q n)
+      ]
 
 module _ {V : Type 0} {j : Joining V} (p : JoinLaws j) where
   swap : (s t : Bool) (x y : Option V) → cond (s && t) (option_join j x y) None ≡ cond (t && s) (option_join j y x) None
@@ -133,6 +157,9 @@ module _ {V : Type 0} {j : Joining V} (p : JoinLaws j) where
     | no n ↦ rw n (sym (get_dropped a q n))
   ])
 
+  no_call : (a b : TruncView V) (q : ℕ) → nat_le b.dropped q ≡ false → cond (nat_le a.dropped q && nat_le b.dropped q) (option_join j (get a.calls q) (get b.calls q)) None ≡ None
+  no_call a b q n = rw n (elim (nat_le a.dropped q) as (λ s. cond (s && false) (option_join j (get a.calls q) (get b.calls q)) None ≡ None) [ true ↦ refl | false ↦ refl ])
+
   leq_sound : (a b : TruncView V) → (trunc_joining j).leq a b ≡ true → (trunc_joining j).join a b ≡ b
   leq_sound a b l =
       let front : nat_le a.dropped b.dropped ≡ true = first_true _ _ l in
@@ -143,9 +170,6 @@ module _ {V : Type 0} {j : Joining V} (p : JoinLaws j) where
             rw (t, both_from) ((option_laws p).leq_sound (get a.calls q) (get b.calls q) (rw here at (leq_gets nat_cmp_total j (cut b.dropped a.calls) b.calls (second_true _ _ l) q)))
         | no n ↦ no_call a b q n ∙ sym (get_dropped b q n)
       ])
-    where
-      no_call : (a b : TruncView V) (q : ℕ) → nat_le b.dropped q ≡ false → cond (nat_le a.dropped q && nat_le b.dropped q) (option_join j (get a.calls q) (get b.calls q)) None ≡ None
-      no_call a b q n = rw n (elim (nat_le a.dropped q) as (λ s. cond (s && false) (option_join j (get a.calls q) (get b.calls q)) None ≡ None) [ true ↦ refl | false ↦ refl ])
 
   leq_complete : (a b : TruncView V) → (trunc_joining j).join a b ≡ b → (trunc_joining j).leq a b ≡ true
   leq_complete a b e =
@@ -158,16 +182,16 @@ module _ {V : Type 0} {j : Joining V} (p : JoinLaws j) where
         | no n ↦ rw n refl
       ])))
 
-  serve : (s t : Bool) (x y : Option V) → cond (t && s) (option_join j y (cond s (option_delta j (cond t x None) y) None)) None ≡ cond (t && s) (option_join j y x) None
+  serve : (s t : Bool) (x y : Option V) → cond (t && s) (option_join j y (option_delta j (cond t x None) y)) None ≡ cond (t && s) (option_join j y x) None
   serve true true x y = (option_laws p).delta_serves x y
   serve true false x y = refl
   serve false true x y = refl
   serve false false x y = refl
 
   delta_serves : (a k : TruncView V) → (trunc_joining j).join k ((trunc_joining j).delta a k) ≡ (trunc_joining j).join k a
-  delta_serves a k = same_trunc _ _ refl (λ q.
+  delta_serves a k = same_trunc _ _ (max_laws.delta_serves a.dropped k.dropped) (λ q.
       get_trunc_join j k ((trunc_joining j).delta a k) q
-      ∙ ap (λ o. cond (nat_le k.dropped q && nat_le a.dropped q) (option_join j (get k.calls q) o) None) (get_trunc_delta j a k q)
+      ∙ (λ i. cond (greater_after a.dropped k.dropped q i) (option_join j (get k.calls q) (get_trunc_delta j a k q i)) None)
       ∙ serve (nat_le a.dropped q) (nat_le k.dropped q) (get a.calls q) (get k.calls q)
       ∙ sym (get_trunc_join j k a q))
 
@@ -176,13 +200,33 @@ module _ {V : Type 0} {j : Joining V} (p : JoinLaws j) where
   below false x y = refl
 
   delta_below : (a k : TruncView V) → (trunc_joining j).join ((trunc_joining j).delta a k) a ≡ a
-  delta_below a k = same_trunc _ _ (omega arith) (λ q.
+  delta_below a k = same_trunc _ _ (max_laws.delta_below a.dropped k.dropped) (λ q.
       get_trunc_join j ((trunc_joining j).delta a k) a q
-      ∙ ap (λ o. cond (nat_le a.dropped q && nat_le a.dropped q) (option_join j o (get a.calls q)) None) (get_trunc_delta j a k q)
       ∙ elim (answer (nat_le a.dropped q)) [
-        | yes t ↦ rw t (below (nat_le k.dropped q) (get a.calls q) (get k.calls q))
-        | no n ↦ rw n (sym (get_dropped a q n))
+        | yes t ↦ rw (greater_from a.dropped k.dropped q t, t) (ap (λ o. option_join j o (get a.calls q)) (get_trunc_delta j a k q) ∙ below (nat_le k.dropped q) (get a.calls q) (get k.calls q))
+        | no n ↦ no_call ((trunc_joining j).delta a k) a q n ∙ sym (get_dropped a q n)
       ])
 
+  delta_empty : (a k b : TruncView V) → (trunc_joining j).leq a k ≡ true → (trunc_joining j).leq ((trunc_joining j).delta a k) b ≡ true
+  delta_empty a k b l =
+      let made = (trunc_joining j).delta a k in
+      both_true _ _ (max_laws.delta_empty a.dropped k.dropped b.dropped (first_true _ _ l)) (gets_leq nat_cmp_total j (cut b.dropped made.calls) b.calls (λ q.
+      let there : get made.calls q ≡ option_delta j (get (cut k.dropped a.calls) q) (get k.calls q) = get_trunc_delta j a k q ∙ ap (λ o. option_delta j o (get k.calls q)) (sym (get_cut k.dropped a.calls q)) in
+      ap (λ o. option_leq j o (get b.calls q)) (get_cut b.dropped made.calls q ∙ ap (λ o. cond (nat_le b.dropped q) o None) there)
+      ∙ empty (nat_le b.dropped q) (get (cut k.dropped a.calls) q) (get k.calls q) (get b.calls q) (leq_gets nat_cmp_total j (cut k.dropped a.calls) k.calls (second_true _ _ l) q)))
+    where
+      empty : (t : Bool) (x y z : Option V) → option_leq j x y ≡ true → option_leq j (cond t (option_delta j x y) None) z ≡ true
+      empty true x y z h = (option_laws p).delta_empty x y z h
+      empty false x y z h = refl
+
   pub trunc_laws : JoinLaws (trunc_joining j)
-  trunc_laws = record { commutative = commute; associative = associate; idempotent = idempotent; leq_sound = leq_sound; leq_complete = leq_complete; delta_serves = delta_serves; delta_below = delta_below }
+  trunc_laws = record {
+    commutative = commute;
+    associative = associate;
+    idempotent = idempotent;
+    leq_sound = leq_sound;
+    leq_complete = leq_complete;
+    delta_serves = delta_serves;
+    delta_below = delta_below;
+    delta_empty = delta_empty;
+  }

@@ -1,5 +1,5 @@
 // Slices of entries whose keys strictly rise.
-ghost use Rattle.std.specs.Prelude.{◌≡◌, IsTrue, IfOk, IfErr, OnOk, OnErr, ◌++◌, ◌∷◌, []};
+ghost use Rattle.std.specs.Prelude.{◌≡◌, cond, is_some, IsTrue, IfOk, IfErr, OnOk, OnErr, ◌++◌, ◌∷◌, []};
 ghost use Rattle.std.specs.FinMap.{find, is_sorted, put};
 ghost use Rattle.std.specs.Option.{option_copied, option_map};
 ghost use Rattle.join_nest.specs.Entries.{merge, entries_leq, entries_delta, entries_equal, with_key};
@@ -10,6 +10,7 @@ ghost use Rattle.join_nest.specs.Place.{IsAt, IsGap};
 use join_core::{Exact, Join, Key, OutOfMemory};
 use std::alloc::Global;
 use std::cmp::Ordering;
+use std::mem;
 
 // Where the key is, or where it would go.
 pub fn place<K: Ord, J>(entries: &[(K, J)], key: &K) -> Result<usize, usize>
@@ -238,5 +239,17 @@ pub fn put_entry<K: Key, J: Drop>(
             entries.insert(at, (key, value))?;
             Ok(())
         }
+    }
+}
+
+// Puts the value in place of the one at the key, which it gives back, where the key has one.
+pub fn replace_entry<K: Key, J: Drop>(entries: &mut Vec<(K, J)>, key: &K, value: J) -> Option<J>
+    requires { IsTrue (is_sorted K.cmp entries.old.items) }
+    ensures old { result ≡ find K.cmp key.now entries.old.items }
+    ensures new { entries.new.items ≡ cond (is_some (find K.cmp key.now entries.old.items)) (put K.cmp key.now value entries.old.items) entries.old.items }
+{
+    match place(entries, key) {
+        Ok(at) => Some(mem::replace(&mut entries[at].1, value)),
+        Err(_) => None,
     }
 }

@@ -1,10 +1,12 @@
 ghost use Rattle.std.specs.Prelude.{◌≡◌, nat_eq, IsTrue, IfOk, OnOk, OnErr};
 ghost use Rattle.std.specs.FinMap.{FinMap, is_sorted, empty, get, entries, len, insert};
 ghost use Rattle.std.specs.Option.{option_map, option_copied};
-ghost use Rattle.join_nest.specs.Keyed.{keyed_equal, keyed_joining, keyed_equality, keyed_laws};
+ghost use Rattle.join_nest.specs.Keyed.{keyed_equal, keyed_joining, keyed_equality, keyed_laws, replaced};
 ghost use Rattle.join_nest.specs.Seen.{keyed_view, seen};
 
-use crate::entries::{all_below, lacking, lookup, merged, push_copies, put_entry, same_entries};
+use crate::entries::{
+    all_below, lacking, lookup, merged, push_copies, put_entry, replace_entry, same_entries,
+};
 use join_core::{Exact, Join, Key, OutOfMemory};
 use std::alloc::Global;
 
@@ -101,5 +103,20 @@ impl<K: Key, J: Exact> Keyed<K, J> {
         ensures err { OnErr result (⟦<Keyed<K, J> as Exact>⟧.view self.new ≡ ⟦<Keyed<K, J> as Exact>⟧.view self.old) }
     {
         put_entry(&mut self.entries, key, value)
+    }
+
+    /// What its memory comes from.
+    pub fn allocator(&self) -> Global {
+        *self.entries.allocator()
+    }
+
+    /// Puts the value in place of the one at the key, which it gives back. A key without an entry stays so, and the answer
+    /// is none. It takes no memory.
+    pub fn replace(&mut self, key: &K, value: J) -> Option<J>
+        ensures old { option_map J.view result ≡ get (⟦<Keyed<K, J> as Exact>⟧.view self.old) key.now }
+        ensures new { ⟦<Keyed<K, J> as Exact>⟧.view self.new
+            ≡ replaced (⟦<Keyed<K, J> as Exact>⟧.view self.old) key.now (J.view value) }
+    {
+        replace_entry(&mut self.entries, key, value)
     }
 }

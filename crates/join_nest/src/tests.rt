@@ -16,7 +16,8 @@ fn laws_hold<J: Join>(alloc: Global, a: &J, b: &J) -> Result<bool, OutOfMemory> 
             && joined.same(&copy)
             && a.leq(&joined)
             && b.leq(&joined)
-            && a.delta(alloc, b)?.leq(a),
+            && a.delta(alloc, b)?.leq(a)
+            && a.delta(alloc, a)?.leq(b),
     )
 }
 
@@ -72,5 +73,52 @@ fn dropped_calls_stay_dropped(rt: HostRuntime) -> Result<(), Fail> {
     assert!(rt; joined.get(&3).is_none());
     assert!(rt; joined.get(&6).is_some());
     assert_eq!(rt; joined.entries().len(), 1);
+    Ok(())
+}
+
+#[test]
+fn a_value_is_replaced_at_a_present_key_only(rt: HostRuntime) -> Result<(), Fail> {
+    let alloc = rt.alloc();
+    let mut map = map_of(alloc, &[(1, 3), (5, 9)])?;
+    assert_eq!(rt; map.replace(&5, Max(2)).map_or(0, |n| n.0), 9);
+    assert!(rt; map.replace(&4, Max(7)).is_none());
+    assert!(rt; map.same(&map_of(alloc, &[(1, 3), (5, 2)])?));
+    let mut board = Trunc::new(alloc, 2);
+    board.put(3, Max(6))?;
+    assert_eq!(rt; board.replace(&3, Max(1)).map_or(0, |n| n.0), 6);
+    assert!(rt; board.replace(&1, Max(7)).is_none());
+    assert_eq!(rt; board.get(&3).map_or(0, |n| n.0), 1);
+    assert_eq!(rt; board.dropped(), 2);
+    assert_eq!(rt; board.entries().len(), 1);
+    Ok(())
+}
+
+#[test]
+fn calls_below_a_front_are_dropped(rt: HostRuntime) -> Result<(), Fail> {
+    let alloc = rt.alloc();
+    let mut board = Trunc::new(alloc, 1);
+    board.put(2, Max(6))?;
+    board.put(3, Max(7))?;
+    board.put(4, Max(8))?;
+    board.put(6, Max(9))?;
+    board.drop_below(4);
+    assert_eq!(rt; board.dropped(), 4);
+    assert!(rt; board.get(&3).is_none());
+    assert!(rt; board.get(&4).is_some());
+    let copy = board.copy(alloc)?;
+    board.drop_below(2);
+    assert!(rt; board.same(&copy));
+    assert_eq!(rt; board.entries().len(), 2);
+    Ok(())
+}
+
+#[test]
+fn a_delta_against_itself_is_empty(rt: HostRuntime) -> Result<(), Fail> {
+    let alloc = rt.alloc();
+    let mut board = Trunc::new(alloc, 5);
+    board.put(6, Max(8))?;
+    let none = Trunc::new(alloc, 0);
+    assert!(rt; board.delta(alloc, &board)?.same(&none));
+    assert_eq!(rt; board.delta(alloc, &none)?.dropped(), 5);
     Ok(())
 }

@@ -3,13 +3,14 @@ ghost use Rattle.std.specs.Ordering.{nat_cmp};
 ghost use Rattle.std.specs.FinMap.{is_sorted, empty, get, entries, insert};
 ghost use Rattle.std.specs.FinMap.Entries.{where_key};
 ghost use Rattle.std.specs.Option.{option_map, option_copied};
-ghost use Rattle.join_nest.specs.Trunc.{TruncView, is_from, trunc_equal, trunc_joining, trunc_equality, trunc_laws};
+ghost use Rattle.join_nest.specs.Trunc.{TruncView, is_from, trunc_equal, trunc_joining, trunc_equality, trunc_laws, drop_below};
+ghost use Rattle.join_nest.specs.Keyed.{replaced};
 ghost use Rattle.join_nest.specs.TruncSeen.{trunc_view};
 ghost use Rattle.join_nest.specs.Seen.{seen};
 ghost use Rattle.join_nest.specs.Place.{IsFront};
 
 use crate::entries::{
-    all_below, lacking, lookup, merged, place, push_copies, put_entry, same_entries,
+    all_below, lacking, lookup, merged, place, push_copies, put_entry, replace_entry, same_entries,
 };
 use join_core::{Exact, Join, OutOfMemory};
 use std::alloc::Global;
@@ -86,12 +87,14 @@ impl<J: Join> Join for Trunc<J> {
     }
 
     fn delta(&self, alloc: Global, known: &Trunc<J>) -> Result<Trunc<J>, OutOfMemory> {
+        let dropped = if self.dropped <= known.dropped {
+            0
+        } else {
+            self.dropped
+        };
         let mine = kept(&self.calls, known.dropped);
         let calls = lacking(alloc, mine, &known.calls)?;
-        Ok(Trunc {
-            dropped: self.dropped,
-            calls,
-        })
+        Ok(Trunc { dropped, calls })
     }
 
     ghost laws = { trunc_laws J.laws };
@@ -140,5 +143,27 @@ impl<J: Exact> Trunc<J> {
         ensures err { OnErr result (⟦<Trunc<J> as Exact>⟧.view self.new ≡ ⟦<Trunc<J> as Exact>⟧.view self.old) }
     {
         put_entry(&mut self.calls, call, value)
+    }
+
+    /// Puts the value in place of the one at the call, which it gives back. A call without a value stays so, and the answer
+    /// is none. It takes no memory.
+    pub fn replace(&mut self, call: &u32, value: J) -> Option<J>
+        ensures old { option_map J.view result ≡ get (⟦<Trunc<J> as Exact>⟧.view self.old).calls call.now }
+        ensures dropped { (⟦<Trunc<J> as Exact>⟧.view self.new).dropped ≡ (⟦<Trunc<J> as Exact>⟧.view self.old).dropped }
+        ensures new { (⟦<Trunc<J> as Exact>⟧.view self.new).calls
+            ≡ replaced (⟦<Trunc<J> as Exact>⟧.view self.old).calls call.now (J.view value) }
+    {
+        replace_entry(&mut self.calls, call, value)
+    }
+
+    /// Drops the calls below the front, and raises the dropped front to it where that is lower. It takes no memory.
+    pub fn drop_below(&mut self, front: u32)
+        ensures { ⟦<Trunc<J> as Exact>⟧.view self.new ≡ drop_below front (⟦<Trunc<J> as Exact>⟧.view self.old) }
+    {
+        if self.dropped < front {
+            let at = first_kept(&self.calls, front);
+            self.calls.drain(..at);
+            self.dropped = front;
+        }
     }
 }

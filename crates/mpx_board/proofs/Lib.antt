@@ -1,2 +1,7 @@
+pub mod Entries
+pub mod Shown
+pub mod Tidiness
 pub mod Looking
+pub mod Telling
 pub mod Facts
+pub mod Order

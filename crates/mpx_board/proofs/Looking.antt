@@ -1,77 +1,130 @@
 -- What the calls on maps do to look-ups.
-use Rattle.std.proofs.Common.{◌≡◌, ℕ, ◌==◌, ◌&&◌, Bool, true, false, cond, Option, Some, None, refl, sym, ap, ◌∙◌, subst}
-use Rattle.std.specs.Prelude.{Result, Ok, Err, OnOk}
-use Rattle.std.specs.Bool.{Decides}
-use Rattle.std.specs.Ordering.{eq_by_cmp}
-use Rattle.std.specs.FinMap.{get, insert, empty as no_entry, get-empty, get-insert}
-use Rattle.std.proofs.lemmas.Bool.Decides.{Decides-eqb, same_from_decides}
+use Rattle.std.proofs.Common.{◌≡◌, ℕ, ◌&&◌, max, Bool, true, false, cond, Option, Some, None, refl, sym, ap, ◌∙◌, arith}
+use Rattle.std.specs.Prelude.{nat_le}
+use Rattle.std.specs.Ordering.{nat_cmp}
+use Rattle.std.specs.Cmp.{nat_cmp_total}
+use Rattle.std.specs.FinMap.{get, empty as no_entry, get-empty}
+use Rattle.std.proofs.lemmas.Bool.Decides.{nat_tests}
 use Rattle.join_core.specs.Flat.{FlatView, unknown, known, clash, flat_join, flat_joining}
+use Rattle.join_core.specs.Max.{max_joining}
 use Rattle.join_nest.specs.Optional.{option_join}
 use Rattle.join_nest.specs.Keyed.{get_join}
+use Rattle.join_nest.specs.Trunc.{get_trunc_join, get_dropped}
+use Rattle.mpx_name.specs.Order.{name_cmp, name_total}
 use Rattle.mpx_post.specs.declared.post.Given.{Given}
 use Rattle.mpx_post.specs.Posts.{same_given}
-use Rattle.mpx_board.specs.declared.place.Place.{Place}
-use Rattle.mpx_board.specs.Places.{place, place_cmp, place_total, place_equality}
-use Rattle.mpx_board.specs.Boards.{empty, join, only}
-use Rattle.mpx_board.specs.Maps.{Map, map_joining, or_unknown, look_of}
+use Rattle.mpx_post.specs.Births.{same_birth}
+use Rattle.mpx_board.specs.Boards.{Name, nothing, empty, join, join_contexts}
+use Rattle.mpx_board.specs.Parts.{OfProcesses, CallView, EntryView, AcksView, PartsView, numbers_joining, call_joining, entry_joining, acks_joining, parts_joining}
+use Rattle.mpx_board.specs.Contexts.{or_zero, or_unknown, post_in, context_of, or_nothing, number_in, ack_in, look_of}
 
--- two places are one where call and process are
-same_place : (a b : Place) → eq_by_cmp place_cmp a b ≡ ((a.call == b.call) && (a.process == b.process))
-same_place a b = same_from_decides _ _ by_order by_parts where
-  by_order : Decides (eq_by_cmp place_cmp a b) (a ≡ b)
-  by_order = (place_equality.sound a b, λ e. subst (λ c. eq_by_cmp place_cmp a c ≡ true) e (place_equality.reflexive a))
-
-  both : (s t : Bool) → (s && t) ≡ true → (s ≡ true) × (t ≡ true)
-  both true t h = (refl, h)
-  both false t h = cc h
-
-  by_parts : Decides ((a.call == b.call) && (a.process == b.process)) (a ≡ b)
-  by_parts = (
-    λ h.
-        let parts = both _ _ h in
-        let calls = (Decides-eqb a.call b.call).0 parts.0 in
-        let processes = (Decides-eqb a.process b.process).0 parts.1 in
-        λ i. record { call = calls i; process = processes i },
-    λ e. rw ((Decides-eqb a.call b.call).1 (ap (λ (p : Place). p.call) e), (Decides-eqb a.process b.process).1 (ap (λ (p : Place). p.process) e)),
-  )
-
-nothing_new : (v : FlatView Given) → flat_join same_given v unknown ≡ v
-nothing_new unknown = refl
-nothing_new (known given) = refl
-nothing_new clash = refl
-
-join_at : (o p : Option (FlatView Given)) → or_unknown (option_join (flat_joining same_given) o p) ≡ flat_join same_given (or_unknown o) (or_unknown p)
-join_at None p = refl
-join_at (Some v) None = sym (nothing_new v)
-join_at (Some v) (Some w) = refl
-
-pub look-empty : look_of no_entry ≡ empty
+pub look-empty : look_of (no_entry, no_entry) ≡ empty
 unfolding look_of
-look-empty i = record { posts = λ k p. or_unknown (get-empty place_cmp (place k p) i) }
+look-empty i = record { contexts = λ name. or_nothing (get-empty name_cmp name i); acks = λ q name p. ack_in name p (get-empty nat_cmp q i) }
 
-pub look-join : (a b : Map) → look_of (map_joining.join a b) ≡ join (look_of a) (look_of b)
+-- JOINS OF NUMBERS
+
+greatest : (x y : Option ℕ) → or_zero (option_join max_joining x y) ≡ max (or_zero x) (or_zero y)
+greatest None y = omega arith
+greatest (Some n) None = omega arith
+greatest (Some n) (Some m) = refl
+
+pub numbers_join : (a b : OfProcesses ℕ) (p : ℕ) → or_zero (get (numbers_joining.join a b) p) ≡ max (or_zero (get a p)) (or_zero (get b p))
+numbers_join a b p = ap or_zero (get_join nat_cmp_total max_joining a b p) ∙ greatest (get a p) (get b p)
+
+number_join : (p : ℕ) (x y : Option (OfProcesses ℕ)) → number_in p (option_join numbers_joining x y) ≡ max (number_in p x) (number_in p y)
+number_join p None y = omega arith
+number_join p (Some a) None = omega arith
+number_join p (Some a) (Some b) = numbers_join a b p
+
+ack_join : (name : Name) (p : ℕ) (x y : Option AcksView) → ack_in name p (option_join acks_joining x y) ≡ max (ack_in name p x) (ack_in name p y)
+ack_join name p None y = omega arith
+ack_join name p (Some a) None = omega arith
+ack_join name p (Some a) (Some b) = ap (number_in p) (get_join name_total numbers_joining a b name) ∙ number_join p (get a name) (get b name)
+
+-- JOINS OF POSTS
+
+nothing_new : {A : Type 0} (same : A → A → Bool) (v : FlatView A) → v ≡ flat_join same v unknown
+nothing_new same unknown = refl
+nothing_new same (known x) = refl
+nothing_new same clash = refl
+
+never_told : {A : Type 0} (t : Bool) → ◌≡◌ {A = FlatView A} unknown (cond t unknown unknown)
+never_told true = refl
+never_told false = refl
+
+told_join : (x y : Option (FlatView Given)) → or_unknown (option_join (flat_joining same_given) x y) ≡ flat_join same_given (or_unknown x) (or_unknown y)
+told_join None y = refl
+told_join (Some v) None = nothing_new same_given v
+told_join (Some v) (Some w) = refl
+
+pub post_join : (p : ℕ) (x y : Option CallView) → post_in p (option_join call_joining x y) ≡ flat_join same_given (post_in p x) (post_in p y)
+post_join p None y = refl
+post_join p (Some a) None = nothing_new same_given (or_unknown (get a p))
+post_join p (Some a) (Some b) = ap or_unknown (get_join nat_cmp_total (flat_joining same_given) a b p) ∙ told_join (get a p) (get b p)
+
+-- JOINS OF ENTRIES
+
+from_greater : (a b k : ℕ) → nat_le (max a b) k ≡ (nat_le a k && nat_le b k)
+from_greater a b k = grind (arith, nat_tests)
+
+at_least : (t : Bool) (p : ℕ) (x : Option CallView) (v : FlatView Given) → post_in p x ≡ v → post_in p (cond t x None) ≡ cond t v unknown
+at_least true p x v e = e
+at_least false p x v e = refl
+
+entry_posts : (e f : EntryView) (k p : ℕ) → post_in p (get (entry_joining.join e f).1.1.calls k) ≡ (join_contexts (context_of e) (context_of f)).posts k p
+entry_posts e f k p =
+    ap (post_in p) (get_trunc_join call_joining e.1.1 f.1.1 k)
+    ∙ at_least (nat_le e.1.1.dropped k && nat_le f.1.1.dropped k) p _ _ (post_join p (get e.1.1.calls k) (get f.1.1.calls k))
+    ∙ ap (λ t. cond t (flat_join same_given (post_in p (get e.1.1.calls k)) (post_in p (get f.1.1.calls k))) unknown) (sym (from_greater e.1.1.dropped f.1.1.dropped k))
+
+pub entry_join : (e f : EntryView) → context_of (entry_joining.join e f) ≡ join_contexts (context_of e) (context_of f)
+entry_join e f i = record {
+  birth = (join_contexts (context_of e) (context_of f)).birth;
+  fronts = λ p. numbers_join e.1.0 f.1.0 p i;
+  dropped = max e.1.1.dropped f.1.1.dropped;
+  posts = λ k p. entry_posts e f k p i;
+}
+
+-- nothing below the front is kept, so nothing is known there
+no_call : (t : Bool) (p : ℕ) (x : Option CallView) → (t ≡ false → x ≡ None) → post_in p x ≡ cond t (post_in p x) unknown
+no_call true p x h = refl
+no_call false p x h = ap (post_in p) (h refl)
+
+nothing_first : (e : EntryView) → context_of e ≡ join_contexts nothing (context_of e)
+nothing_first e i = record {
+  birth = e.0;
+  fronts = λ p. zero_first (or_zero (get e.1.0 p)) i;
+  dropped = zero_first e.1.1.dropped i;
+  posts = λ k p. (no_call (nat_le e.1.1.dropped k) p (get e.1.1.calls k) (get_dropped e.1.1 k) ∙ ap (λ d. cond (nat_le d k) (post_in p (get e.1.1.calls k)) unknown) (zero_first e.1.1.dropped)) i;
+} where
+  zero_first : (n : ℕ) → n ≡ max 0 n
+  zero_first n = omega arith
+
+nothing_second : (e : EntryView) → context_of e ≡ join_contexts (context_of e) nothing
+nothing_second e i = record {
+  birth = nothing_new same_birth e.0 i;
+  fronts = λ p. zero_second (or_zero (get e.1.0 p)) i;
+  dropped = zero_second e.1.1.dropped i;
+  posts = λ k p. (no_call (nat_le e.1.1.dropped k) p (get e.1.1.calls k) (get_dropped e.1.1 k) ∙ (λ j. cond (nat_le (zero_second e.1.1.dropped j) k) (nothing_new same_given (post_in p (get e.1.1.calls k)) j) unknown)) i;
+} where
+  zero_second : (n : ℕ) → n ≡ max n 0
+  zero_second n = omega arith
+
+nothing_twice : nothing ≡ join_contexts nothing nothing
+nothing_twice i = record { birth = unknown; fronts = λ p. 0; dropped = 0; posts = λ k p. never_told (nat_le 0 k) i }
+
+context_join : (x y : Option EntryView) → or_nothing (option_join entry_joining x y) ≡ join_contexts (or_nothing x) (or_nothing y)
+context_join None None = nothing_twice
+context_join None (Some f) = nothing_first f
+context_join (Some e) None = nothing_second e
+context_join (Some e) (Some f) = entry_join e f
+
+-- JOINS OF BOARDS
+
+pub look-join : (a b : PartsView) → look_of (parts_joining.join a b) ≡ join (look_of a) (look_of b)
 unfolding look_of
-look-join a b i = record { posts = λ k p. (ap or_unknown (get_join place_total (flat_joining same_given) a b (place k p)) ∙ join_at (get a (place k p)) (get b (place k p))) i }
-
-put_at : (here : Bool) (there now : FlatView Given) (o : Option (FlatView Given)) → (here ≡ true → now ≡ flat_join same_given (or_unknown o) there) → or_unknown (cond here (Some now) o) ≡ flat_join same_given (or_unknown o) (cond here there unknown)
-put_at true there now o e = e refl
-put_at false there now o e = sym (nothing_new (or_unknown o))
-
--- a value that joins what was there with a fact
-look-put : (m : Map) (k p : ℕ) (there now : FlatView Given) → now ≡ flat_join same_given (or_unknown (get m (place k p))) there → look_of (insert m (place k p) now) ≡ join (look_of m) (only k p there)
-unfolding look_of
-look-put m k p there now e i = record { posts = λ j q. at j q i } where
-  one : (j q : ℕ) → ((j == k) && (q == p)) ≡ true → now ≡ flat_join same_given (or_unknown (get m (place j q))) there
-  one j q t =
-      let same : place j q ≡ place k p = place_equality.sound (place j q) (place k p) (same_place (place j q) (place k p) ∙ t) in
-      e ∙ ap (λ (x : Place). flat_join same_given (or_unknown (get m x)) there) (sym same)
-
-  at : (j q : ℕ) → or_unknown (get (insert m (place k p) now) (place j q)) ≡ flat_join same_given (or_unknown (get m (place j q))) (cond ((j == k) && (q == p)) there unknown)
-  at j q =
-      ap or_unknown (get-insert place_total m (place k p) now (place j q) ∙ ap (λ b. cond b (Some now) (get m (place j q))) (same_place (place j q) (place k p)))
-      ∙ put_at ((j == k) && (q == p)) there now (get m (place j q)) (one j q)
-
--- a put of what joins a fact
-pub put_shown : {E : Type 0} (r : Result (Unit {0}) E) (m after : Map) (k p : ℕ) (there now : FlatView Given) (o : Option (FlatView Given)) → OnOk r (after ≡ insert m (place k p) now) → o ≡ get m (place k p) → now ≡ flat_join same_given (or_unknown o) there → OnOk r (look_of after ≡ join (look_of m) (only k p there))
-put_shown (Ok _) m after k p there now o e f g = ap look_of e ∙ look-put m k p there now (g ∙ ap (λ x. flat_join same_given (or_unknown x) there) f)
-put_shown (Err _) m after k p there now o e f g = tt
+look-join a b i = record {
+  contexts = λ name. (ap or_nothing (get_join name_total entry_joining a.0 b.0 name) ∙ context_join (get a.0 name) (get b.0 name)) i;
+  acks = λ q name p. (ap (ack_in name p) (get_join nat_cmp_total acks_joining a.1 b.1 q) ∙ ack_join name p (get a.1 q) (get b.1 q)) i;
+}

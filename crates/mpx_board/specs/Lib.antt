@@ -1,4 +1,7 @@
-pub mod Places
 pub mod Boards
-pub mod Maps
+pub mod Parts
+pub mod Contexts
+pub mod Tidy
+pub mod Told
 pub mod Looks
+pub mod Changes

@@ -1,99 +1,168 @@
-ghost use Rattle.std.specs.Prelude.{◌≡◌, IfOk, OnOk, OnErr};
+ghost use Rattle.std.specs.Prelude.{◌≡◌, ◌↔◌, ◌<◌, true, false, not, map, IfOk, OnOk, OnErr, IsErrOf, MatchOption, IsTrue};
 ghost use Rattle.std.specs.Option.{option_copied, option_map};
-ghost use Rattle.join_core.specs.Flat.{known, flat_join};
-ghost use Rattle.mpx_post.specs.Posts.{same_given};
-ghost use Rattle.mpx_board.specs.Maps.{or_unknown, what_is_known};
-ghost use Rattle.mpx_board.specs.Boards.{empty, join, only, told, row_on};
+ghost use Rattle.join_core.specs.Flat.{known as knows};
+ghost use Rattle.mpx_board.specs.declared.errors.AddPostError.TheVariants as A;
+ghost use Rattle.mpx_board.specs.Boards.{empty, join, join_all, minimum, only, told, row_on, floor_on, Born, Front, Held, Dropped};
+ghost use Rattle.mpx_board.specs.Changes.{is_posted, pruned, cut_to};
+ghost use Rattle.mpx_board.specs.Contexts.{context_of, post_in};
+ghost use Rattle.mpx_post.specs.Drafts.{most_calls};
+ghost use Rattle.mpx_board.specs.Tidy.{is_tidy, is_unknown};
 
-use crate::Place;
-use join_core::{Exact, Flat, Join, OutOfMemory};
+use crate::errors::{AddPostError, PruneError};
+use crate::parts::{Call, Entry, Parts, is_tidy_board, known, number_of};
+use crate::told::{Told, drop_posts, tell};
+use join_core::{Exact, Flat, Join, OutOfMemory, Pair};
 use join_nest::Keyed;
 use mpx_group::Proc;
+use mpx_name::Name;
 use mpx_post::{Birth, Post, Row};
 use std::alloc::Global;
 
-/// What is known of the posts of all: of each call and process nothing, its post, or that two different ones were
-/// told.
+/// What a process knows of all contexts: births, how many calls each process has harvested, and the posts of calls at or
+/// above a dropped front; and what each process says that it has of the posts of others.
+///
+/// No part of a board says nothing: there is no empty entry, no unknown post, and no number 0. So two boards that know
+/// the same are equal.
 #[derive(Debug, Drop)]
 pub struct Board {
-    posts: Keyed<Place, Flat<Post>>,
+    inside: Parts,
+    ghost tidy: { IsTrue (is_tidy (⟦<Parts as Exact>⟧.view inside)) },
 }
 
 impl Exact for Board {
-    ghost use Rattle.mpx_board.specs.Maps.{Map, map_equal, map_joining, map_equality};
-    ghost use Rattle.mpx_board.specs.Looks.{map_of};
+    ghost use Rattle.mpx_board.specs.Parts.{PartsView, same_parts, parts_joining, parts_equality};
+    ghost use Rattle.mpx_board.specs.Looks.{parts_of};
 
-    ghost View = { Map };
+    ghost View = { PartsView };
 
-    ghost view = { map_of };
+    ghost view = { parts_of };
 
-    ghost equal = { map_equal };
+    ghost equal = { same_parts };
 
-    ghost joining = { map_joining };
+    ghost joining = { parts_joining };
 
     fn same(&self, other: &Board) -> bool {
-        self.posts.same(&other.posts)
+        self.inside.same(&other.inside)
     }
 
     fn copy(&self, alloc: Global) -> Result<Board, OutOfMemory> {
-        let posts = self.posts.copy(alloc)?;
-        Ok(Board { posts })
+        let inside = self.inside.copy(alloc)?;
+        Ok(Board { inside })
     }
 
-    ghost equality = { map_equality };
+    ghost equality = { parts_equality };
 }
 
 impl Join for Board {
-    ghost use Rattle.mpx_board.specs.Maps.{map_laws};
+    ghost use Rattle.mpx_board.specs.Parts.{parts_laws};
 
     fn leq(&self, other: &Board) -> bool {
-        self.posts.leq(&other.posts)
+        self.inside.leq(&other.inside)
     }
 
     fn joined(&self, alloc: Global, other: &Board) -> Result<Board, OutOfMemory> {
-        let posts = self.posts.joined(alloc, &other.posts)?;
-        Ok(Board { posts })
+        let inside = self.inside.joined(alloc, &other.inside)?;
+        Ok(Board { inside })
     }
 
     fn delta(&self, alloc: Global, known: &Board) -> Result<Board, OutOfMemory> {
-        let posts = self.posts.delta(alloc, &known.posts)?;
-        Ok(Board { posts })
+        let inside = self.inside.delta(alloc, &known.inside)?;
+        Ok(Board { inside })
     }
 
-    ghost laws = { map_laws };
+    ghost laws = { parts_laws };
 }
 
 impl Board {
-    ghost use Rattle.mpx_board.specs.Looks.{look};
+    ghost use Rattle.mpx_board.specs.Looks.{look, parts_of};
 
-    /// The board that knows of no post.
+    /// The board that knows nothing.
     pub fn new(alloc: Global) -> Board
         ensures { look result ≡ empty }
     {
         Board {
-            posts: Keyed::new(alloc),
+            inside: Pair {
+                first: Keyed::new(alloc),
+                second: Keyed::new(alloc),
+            },
+        }
+    }
+
+    /// The board with these parts; none where a part of them says nothing or there is a call 4,294,967,295. It takes no
+    /// memory.
+    pub fn of(parts: Parts) -> Option<Board>
+        ensures { MatchOption result
+            (is_tidy (⟦<Parts as Exact>⟧.view parts) ≡ false)
+            (λ board. (is_tidy (⟦<Parts as Exact>⟧.view parts) ≡ true) × (parts_of board ≡ ⟦<Parts as Exact>⟧.view parts)) }
+    {
+        if is_tidy_board(&parts) {
+            Some(Board { inside: parts })
+        } else {
+            None
+        }
+    }
+
+    /// What stands inside: the entries of contexts by name, and the acknowledgements by process.
+    pub fn pair(&self) -> &Parts
+        ensures value { ⟦<Parts as Exact>⟧.view result.now ≡ parts_of self.now }
+        ensures tidy { IsTrue (is_tidy (parts_of self.now)) }
+    {
+        &self.inside
+    }
+
+    /// How the context came to be, where that is known.
+    pub fn birth(&self, name: &Name) -> Option<&Birth>
+        ensures { option_copied result ≡ told ((look self.now).contexts name.now).birth }
+    {
+        match self.inside.first.get(name) {
+            None => None,
+            Some(entry) => known(&entry.first),
+        }
+    }
+
+    /// How many calls the process has harvested, as far as is known.
+    pub fn front(&self, name: &Name, process: Proc) -> u32
+        ensures { result ≡ ((look self.now).contexts name.now).fronts process }
+    {
+        match self.inside.first.get(name) {
+            None => 0,
+            Some(entry) => number_of(&entry.second.first, process),
+        }
+    }
+
+    /// Posts of calls below this are dropped.
+    pub fn dropped(&self, name: &Name) -> u32
+        ensures { result ≡ ((look self.now).contexts name.now).dropped }
+    {
+        match self.inside.first.get(name) {
+            None => 0,
+            Some(entry) => entry.second.second.dropped(),
         }
     }
 
     /// The post that the process made as this call, where it is known.
-    pub fn holds(&self, call: u32, process: Proc) -> Option<&Post>
-        ensures { option_copied result ≡ told ((look self.now).posts call process) }
+    pub fn holds(&self, name: &Name, call: u32, process: Proc) -> Option<&Post>
+        ensures { option_copied result ≡ told (((look self.now).contexts name.now).posts call process) }
     {
-        known_post(self.posts.get(&Place { call, process }))
+        match self.inside.first.get(name) {
+            None => None,
+            Some(entry) => post_of(entry, call, process),
+        }
     }
 
-    /// The posts of all members to this call, where all are known.
-    pub fn row(
-        &self,
-        alloc: Global,
-        birth: &Birth,
-        call: u32,
-    ) -> Result<Option<Row<'_>>, OutOfMemory>
-        ensures { IfOk result (λ row. row ≡ row_on (look self.now) birth.now call) }
+    /// The posts of all members to this call in rank order, where the birth and all of them are known.
+    pub fn row(&self, alloc: Global, name: &Name, call: u32) -> Result<Option<Row<'_>>, OutOfMemory>
+        ensures { IfOk result (λ row. row ≡ row_on (look self.now) name.now call) }
     {
+        let Some(entry) = self.inside.first.get(name) else {
+            return Ok(None);
+        };
+        let Some(birth) = known(&entry.first) else {
+            return Ok(None);
+        };
         let mut posts = Vec::new(alloc);
         for member in birth.members() {
-            match self.holds(call, *member) {
+            match post_of(entry, call, *member) {
                 Some(post) => posts.push(post)?,
                 None => return Ok(None),
             }
@@ -101,48 +170,201 @@ impl Board {
         Ok(Some(Row::new(posts)))
     }
 
+    /// The least number of calls that a member has harvested, as far as is known; none where the members aren't known.
+    pub fn floor(&self, name: &Name) -> Option<u32>
+        ensures { result ≡ floor_on (look self.now) name.now }
+    {
+        match self.inside.first.get(name) {
+            None => None,
+            Some(entry) => match known(&entry.first) {
+                None => None,
+                Some(birth) => Some(least_front(birth, entry)),
+            },
+        }
+    }
+
+    /// Joins a part to the board. An `Err` changes nothing.
+    pub fn take(&mut self, alloc: Global, part: &Board) -> Result<(), OutOfMemory>
+        ensures ok { OnOk result (look self.new ≡ join (look self.old) (look part.now)) }
+        ensures err { OnErr result (look self.new ≡ look self.old) }
+    {
+        *self = self.joined(alloc, part)?;
+        Ok(())
+    }
+
     /// Joins to the board that the process made this post as this call. An `Err` changes nothing.
     pub fn join_post(
         &mut self,
         alloc: Global,
+        name: &Name,
         call: u32,
         process: Proc,
         post: Post,
     ) -> Result<(), OutOfMemory>
-        ensures ok { OnOk result (look self.new ≡ join (look self.old) (only call process (known post))) }
+        requires { call < most_calls }
+        ensures ok { OnOk result (look self.new ≡ join (look self.old) (only (Held name.now call process (knows post)))) }
         ensures err { OnErr result (look self.new ≡ look self.old) }
     {
-        let place = Place { call, process };
-        let value = with_post(alloc, self.posts.get(&place), post)?;
-        self.posts.put(place, value)
+        tell(
+            alloc,
+            &mut self.inside.first,
+            name,
+            Told::Post {
+                call,
+                process,
+                post,
+            },
+        )
+    }
+
+    /// Joins to the board that the process made this post as this call, where nothing is told of that yet. An `Err`
+    /// changes nothing.
+    pub fn add_post(
+        &mut self,
+        alloc: Global,
+        name: &Name,
+        call: u32,
+        process: Proc,
+        post: Post,
+    ) -> Result<(), AddPostError>
+        requires { call < most_calls }
+        ensures posted { IsErrOf result A.AlreadyPosted ↔ (is_posted ((look self.old).contexts name.now) call process ≡ true) }
+        ensures ok { OnOk result (look self.new ≡ join (look self.old) (only (Held name.now call process (knows post)))) }
+        ensures err { OnErr result (look self.new ≡ look self.old) }
+    {
+        if self.is_posted(name, call, process) {
+            return Err(AddPostError::AlreadyPosted);
+        }
+        Ok(self.join_post(alloc, name, call, process, post)?)
+    }
+
+    /// Joins to the board how the context came to be. An `Err` changes nothing.
+    pub fn add_birth(&mut self, alloc: Global, name: &Name, birth: Birth) -> Result<(), OutOfMemory>
+        ensures ok { OnOk result (look self.new ≡ join (look self.old) (only (Born name.now (knows birth)))) }
+        ensures err { OnErr result (look self.new ≡ look self.old) }
+    {
+        tell(alloc, &mut self.inside.first, name, Told::Birth(birth))
+    }
+
+    /// Joins to the board that the process has harvested so many calls. An `Err` changes nothing.
+    pub fn raise_front(
+        &mut self,
+        alloc: Global,
+        name: &Name,
+        process: Proc,
+        number: u32,
+    ) -> Result<(), OutOfMemory>
+        ensures ok { OnOk result (look self.new ≡ join (look self.old) (only (Front name.now process number))) }
+        ensures err { OnErr result (look self.new ≡ look self.old) }
+    {
+        if number == 0 {
+            return Ok(());
+        }
+        tell(
+            alloc,
+            &mut self.inside.first,
+            name,
+            Told::Front { process, number },
+        )
+    }
+
+    /// Drops the posts of calls below the number, which is at most the floor: what every member has harvested nobody
+    /// needs. At or below the dropped front it changes nothing. It takes no memory.
+    pub fn prune(&mut self, name: &Name, number: u32) -> Result<(), PruneError>
+        ensures answer { result ≡ pruned (floor_on (look self.old) name.now) number }
+        ensures ok { OnOk result (look self.new ≡ join (look self.old) (only (Dropped name.now number))) }
+        ensures err { OnErr result (look self.new ≡ look self.old) }
+    {
+        match self.floor(name) {
+            None => return Err(PruneError::NoBirth),
+            Some(floor) => {
+                if floor < number {
+                    return Err(PruneError::AboveFloor(floor));
+                }
+            }
+        }
+        drop_posts(&mut self.inside.first, name, number);
+        Ok(())
+    }
+
+    /// What is known of these contexts, and nothing else; acknowledgements are left out.
+    pub fn cut(&self, alloc: Global, names: &[Name]) -> Result<Board, OutOfMemory>
+        ensures { IfOk result (λ made. look made ≡ cut_to names.now (look self.now)) }
+    {
+        let mut first = Keyed::new(alloc);
+        for name in names {
+            if let Some(entry) = self.inside.first.get(name) {
+                first.put(name.copy(alloc)?, entry.copy(alloc)?)?;
+            }
+        }
+        Ok(Board {
+            inside: Pair {
+                first,
+                second: Keyed::new(alloc),
+            },
+        })
+    }
+
+    /// The least board above all of these.
+    pub fn take_all(alloc: Global, boards: &[Board]) -> Result<Board, OutOfMemory>
+        ensures { IfOk result (λ made. look made ≡ join_all (map look boards.now)) }
+    {
+        let mut made = Board::new(alloc);
+        for board in boards {
+            made.take(alloc, board)?;
+        }
+        Ok(made)
+    }
+
+    // Whether something is told of the process's post of the call, or that is dropped.
+    fn is_posted(&self, name: &Name, call: u32, process: Proc) -> bool
+        ensures { result ≡ is_posted ((look self.now).contexts name.now) call process }
+    {
+        match self.inside.first.get(name) {
+            None => false,
+            Some(entry) => {
+                let posts = &entry.second.second;
+                call < posts.dropped() || is_told(posts.get(&call), process)
+            }
+        }
     }
 }
 
-// The post that is known at a place.
-fn known_post(value: Option<&Flat<Post>>) -> Option<&Post>
-    ensures { option_copied result ≡ told (or_unknown (option_map what_is_known (option_copied value.entry))) }
+// The post that the process made as this call, where it is known.
+fn post_of(entry: &Entry, call: u32, process: Proc) -> Option<&Post>
+    ensures { option_copied result ≡ told ((context_of (⟦<Entry as Exact>⟧.view entry.now)).posts call process) }
 {
-    match value {
+    match entry.second.second.get(&call) {
         None => None,
-        Some(value) => match value {
-            Flat::Unknown => None,
-            Flat::Known(post) => Some(post),
-            Flat::Clash => None,
+        Some(posts) => match posts.get(&process) {
+            None => None,
+            Some(post) => known(post),
         },
     }
 }
 
-// What is known at a place, once this post is told.
-fn with_post(
-    alloc: Global,
-    before: Option<&Flat<Post>>,
-    post: Post,
-) -> Result<Flat<Post>, OutOfMemory>
-    ensures { IfOk result (λ made. what_is_known made
-        ≡ flat_join same_given (or_unknown (option_map what_is_known (option_copied before.entry))) (known post)) }
+// Whether something is told of the post of the process.
+fn is_told(posts: Option<&Call>, process: Proc) -> bool
+    ensures { result ≡ not (is_unknown (post_in process (option_map ⟦<Call as Exact>⟧.view (option_copied posts.entry)))) }
 {
-    match before {
-        None => Ok(Flat::Known(post)),
-        Some(before) => before.joined(alloc, &Flat::Known(post)),
+    match posts {
+        None => false,
+        Some(posts) => match posts.get(&process) {
+            None => false,
+            Some(post) => !matches!(post, Flat::Unknown),
+        },
     }
+}
+
+// The least front of all members.
+fn least_front(birth: &Birth, entry: &Entry) -> u32
+    ensures { result ≡ minimum (map (context_of (⟦<Entry as Exact>⟧.view entry.now)).fronts birth.now.members) }
+{
+    let fronts = &entry.second.first;
+    let members = birth.members();
+    let mut least = number_of(fronts, members[0]);
+    for member in &members[1..] {
+        least = least.min(number_of(fronts, *member));
+    }
+    least
 }

@@ -1,13 +1,21 @@
-//! The board of posts, of which every process keeps a replica.
+//! The board, of which every process keeps a replica: what it knows of each context, joined as state-based replicated
+//! values are.
 //!
-//! In the order of reading: [`Place`], where a post stands, and [`Board`], one map from places to what is known of the
-//! posts there. Contracts see a board by look-ups (`specs/Looks.antt`); two boards are the same where their maps are.
+//! In the order of reading: [`Board`] with its calls, [`Parts`], the maps inside it, and the laws
+//! [`joining_boards_is_a_semilattice`], [`boards_are_joined_by_their_facts`] and [`boards_are_their_facts`]. Contracts see
+//! a board by look-ups (`specs/Boards.antt`, `specs/Looks.antt`).
 #![tactic(auto)]
 
 mod board;
+mod errors;
 mod laws;
-mod place;
+mod parts;
+mod told;
 
 pub use board::Board;
-pub use laws::{boards_are_joined_by_their_facts, joining_boards_is_a_semilattice};
-pub use place::Place;
+pub use errors::{AddPostError, PruneError};
+pub use laws::{
+    boards_are_joined_by_their_facts, boards_are_their_facts, boards_stay_tidy,
+    joining_boards_is_a_semilattice,
+};
+pub use parts::{Acks, Call, Entry, Numbers, Parts};

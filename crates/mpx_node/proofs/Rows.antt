@@ -1,5 +1,5 @@
 -- Rows, post by post: the least rank that differs, and the reduction so far.
-use Rattle.std.proofs.Common.{◌≡◌, ℕ, zero, suc, ◌+◌, ◌<◌, ◌==◌, Bool, true, false, not, List, [], ◌∷◌, length, map, Option, Some, None, refl, sym, ap, ◌∙◌, cond, arith, ℤ, ◌++◌, take, get_or}
+use Rattle.std.proofs.Common.{◌≡◌, ℕ, zero, suc, ◌+◌, ◌<◌, ◌==◌, Bool, true, false, not, List, [], ◌∷◌, length, Option, Some, None, refl, sym, ap, ◌∙◌, cond, arith, ℤ, ◌++◌, take, get_or}
 use Rattle.std.specs.Prelude.{slice_get, ◌≤◌}
 use Rattle.std.proofs.Common.{inl, inr}
 use Rattle.std.proofs.Math.Nat.{eq-or-lt_of_le}

@@ -1,15 +1,23 @@
 -- What a harvest comes to.
-use Rattle.std.specs.Prelude.{◌≡◌, length, Option, Some, None, Result, Ok, Err}
+use Rattle.std.specs.Prelude.{◌≡◌, Bool, true, false, Option, Some, None, Result, Ok, Err}
 use Rattle.join_core.specs.declared.memory.OutOfMemory.{OutOfMemory}
+use Rattle.mpx_board.specs.Boards.{Name}
 use Rattle.mpx_node.specs.declared.node.Harvest.{Harvest}
-use Rattle.mpx_node.specs.declared.node.Harvest.TheVariants.{Done, NotYet}
+use Rattle.mpx_node.specs.declared.node.Harvest.TheVariants.{Done, NotYet, NotOpened}
 use Rattle.mpx_node.specs.declared.outcome.Finished.{Finished}
-use Rattle.mpx_node.specs.Nodes.{NodeView, add_result}
+use Rattle.mpx_node.specs.Nodes.{NodeView, add_result, front_on}
 
 -- done where there is a next result, and not yet only where there is none; want of memory changes nothing
-abbrev pub Harvests : Option Finished → Result Harvest OutOfMemory → NodeView → NodeView → Type 0
-Harvests (Some finished) (Ok (Done call)) old new = (call ≡ length old.results) × (new ≡ add_result finished old)
-Harvests (Some finished) (Ok NotYet) old new = ⊥
-Harvests None (Ok (Done call)) old new = ⊥
-Harvests None (Ok NotYet) old new = new ≡ old
-Harvests next (Err e) old new = new ≡ old
+abbrev pub HarvestsOpened : Name → Option Finished → Result Harvest OutOfMemory → NodeView → NodeView → Type 0
+HarvestsOpened name (Some finished) (Ok (Done call)) old new = (call ≡ front_on old name) × (new ≡ add_result name finished old)
+HarvestsOpened name (Some finished) (Ok NotYet) old new = ⊥
+HarvestsOpened name (Some finished) (Ok NotOpened) old new = ⊥
+HarvestsOpened name None (Ok (Done call)) old new = ⊥
+HarvestsOpened name None (Ok NotYet) old new = new ≡ old
+HarvestsOpened name None (Ok NotOpened) old new = ⊥
+HarvestsOpened name next (Err e) old new = new ≡ old
+
+-- on a context that isn't opened, just that is answered
+abbrev pub Harvests : (is_opened : Bool) → Name → Option Finished → Result Harvest OutOfMemory → NodeView → NodeView → Type 0
+Harvests false name next result old new = (result ≡ Ok NotOpened) × (new ≡ old)
+Harvests true name next result old new = HarvestsOpened name next result old new

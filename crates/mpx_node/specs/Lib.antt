@@ -1,5 +1,6 @@
 pub mod Values
 pub mod Histories
 pub mod Nodes
+pub mod Opened
 pub mod Shown
 pub mod Harvests

@@ -1,13 +1,11 @@
 -- What a call gives its members (MPI 4.1 section 6.9).
-use Rattle.mpx_node.specs.declared.outcome.Fault.{Fault}
-use Rattle.mpx_node.specs.declared.outcome.FaultKind.{FaultKind}
 use Rattle.mpx_node.specs.declared.outcome.FaultKind.TheVariants.{Amount}
 use Rattle.mpx_node.specs.declared.outcome.Outcome.{Outcome}
 use Rattle.mpx_node.specs.declared.outcome.Outcome.TheVariants as O
-use Rattle.std.specs.Prelude.{ℕ, ℤ, ◌==◌, Bool, not, List, [], ◌∷◌, length, map, Option, Some, None, cond, suc}
+use Rattle.std.specs.Prelude.{ℕ, ℤ, ◌==◌, Bool, not, List, [], ◌∷◌, map, Option, Some, None, cond, suc}
 use Rattle.std.specs.Option.{option_map}
 use Rattle.mpx_num.specs.declared.types.Ty.TheVariants.{I64}
-use Rattle.mpx_num.specs.ItemList.{ItemList, item_count}
+use Rattle.mpx_num.specs.ItemList.{item_count}
 use Rattle.mpx_num.specs.Operations.{fold_items}
 use Rattle.mpx_post.specs.Posts.{operation_of, items_of}
 use Rattle.mpx_post.specs.Rows.{RowView}

@@ -4,12 +4,10 @@
 #![tactic(auto)]
 
 mod node;
+mod opened;
 mod outcome;
 mod value;
 
 pub use node::{Harvest, Node};
 pub use outcome::{Fault, FaultKind, Finished, Outcome};
 pub use value::value_of;
-
-#[cfg(test)]
-mod tests;

@@ -1,25 +1,32 @@
-ghost use Rattle.std.specs.Prelude.{◌≡◌, ◌<◌, ◌≤◌, Some, None, OnOk, OnErr, IfOk, slice_get, length};
+ghost use Rattle.std.specs.Prelude.{◌≡◌, ◌<◌, ◌≤◌, ℕ, Some, None, OnOk, OnErr, IfOk, slice_get, is_some, length};
 ghost use Rattle.std.specs.Option.{option_copied};
-ghost use Rattle.mpx_post.specs.Drafts.{checked};
+ghost use Rattle.mpx_post.specs.Drafts.{checked, most_calls};
+ghost use Rattle.std.specs.Option.{option_map};
+ghost use Rattle.std.specs.BTreeMap.{get};
+ghost use Rattle.mpx_name.specs.Order.{name_cmp};
+ghost use Rattle.mpx_board.specs.Boards.{Name as NameView, only, floor_on, Dropped};
+ghost use Rattle.mpx_board.specs.Changes.{pruned};
 ghost use Rattle.mpx_board.specs.Looks.{look};
-ghost use Rattle.mpx_node.specs.Nodes.{result_of};
+ghost use Rattle.mpx_node.specs.Nodes.{opened_at_start, result_of};
+ghost use Rattle.mpx_node.specs.Opened.{opened_of};
 
+use crate::opened::Opened;
 use crate::outcome::Finished;
 use crate::value::value_of;
-use join_core::{Exact, Join, OutOfMemory};
-use mpx_board::Board;
+use join_core::{Exact, OutOfMemory};
+use mpx_board::{Board, PruneError};
 use mpx_group::Proc;
+use mpx_name::Name;
 use mpx_post::{At, Birth, Draft, Post, PostError};
 use std::alloc::Global;
+use std::collections::BTreeMap;
 
 /// One process. The first `ranks` processes are the members of `world`, the others relays, which only carry boards.
 #[derive(Debug, Drop)]
 pub struct Node {
     me: Proc,
-    world: Birth,
     board: Board,
-    posted: u32,
-    results: Vec<Finished>,
+    opened: BTreeMap<Name, Opened>,
 }
 
 /// What a harvest came to.
@@ -29,63 +36,85 @@ pub enum Harvest {
     Done(u32),
     /// The next call isn't posted here, or a member's post of it isn't on the board.
     NotYet,
+    /// The process has not opened the context.
+    NotOpened,
 }
 
 impl Node {
-    ghost use Rattle.mpx_node.specs.Nodes.{Posts, start_node, learn, next_result, add_result};
+    ghost use Rattle.mpx_node.specs.Nodes.{Posts, start_node, learn, checked_on, next_result, posted_on, results_on, front_on};
     ghost use Rattle.mpx_node.specs.Shown.{node_of};
     ghost use Rattle.mpx_node.specs.Harvests.{Harvests};
 
-    /// The process `me` of so many, before any post: its board is empty.
-    pub fn new(alloc: Global, me: Proc, ranks: u8) -> Result<Node, OutOfMemory>
+    /// The process `me` of so many, of which the first are ranks, before any post: its board has just the birth of the
+    /// world, which a rank has opened.
+    pub fn new(alloc: Global, me: Proc, ranks: u8, processes: u8) -> Result<Node, OutOfMemory>
         requires some { 0 < ranks }
-        requires few { ranks ≤ 64 }
+        requires ranks { ranks ≤ processes }
+        requires few { processes ≤ 64 }
+        requires me { me < processes }
         ensures { IfOk result (λ node. node_of node ≡ start_node me ranks) }
     {
-        let world = Birth::world(alloc, ranks)?;
-        Ok(Node {
-            me,
-            world,
-            board: Board::new(alloc),
-            posted: 0,
-            results: Vec::new(alloc),
-        })
+        let world = Name::world(alloc);
+        let mut board = Board::new(alloc);
+        board.add_birth(alloc, &world, Birth::world(alloc, ranks)?)?;
+        let opened = opened_at_start(alloc, me, ranks)?;
+        Ok(Node { me, board, opened })
     }
 
-    /// Posts the draft as the next call and gives its number. Refusals are those of [`Draft::check`], before anything
-    /// else; an `Err` changes nothing.
-    pub fn post(&mut self, alloc: Global, draft: Draft) -> Result<u32, PostError>
-        ensures { Posts (checked (node_of self.old).world (node_of self.old).me (record { call = (node_of self.old).posted }) draft)
-            result (node_of self.old) (node_of self.new) }
+    /// Posts the draft as the next call on a context and gives its number. A context that isn't opened here, or whose birth
+    /// isn't known, is refused as `NotMember`; then the refusals are those of [`Draft::check`], before anything else. An
+    /// `Err` changes nothing.
+    pub fn post(&mut self, alloc: Global, name: &Name, draft: Draft) -> Result<u32, PostError>
+        ensures { Posts name.now (checked_on (node_of self.old) name.now draft) result (node_of self.old) (node_of self.new) }
     {
-        let call = self.posted;
-        let post = draft.check(&self.world, self.me, &At { call })?;
-        match self.board.join_post(alloc, call, self.me, post) {
+        let Some(opened) = self.opened.get_mut(name) else {
+            return Err(PostError::NotMember);
+        };
+        let Some(birth) = self.board.birth(name) else {
+            return Err(PostError::NotMember);
+        };
+        let call = opened.posted;
+        let post = checked(birth, self.me, call, draft)?;
+        match self.board.join_post(alloc, name, call, self.me, post) {
             Ok(()) => {
-                self.posted = call + 1;
+                opened.posted = call + 1;
                 Ok(call)
             }
             Err(_) => Err(PostError::OutOfMemory),
         }
     }
 
-    /// Stores the result of the next call, where that is posted here and all members' posts of it are on the board.
-    /// An `Err` changes nothing.
-    pub fn harvest(&mut self, alloc: Global) -> Result<Harvest, OutOfMemory>
-        ensures { Harvests (next_result (node_of self.old)) result (node_of self.old) (node_of self.new) }
+    /// Stores the result of the next call on a context and raises the own front, where that call is posted here and the
+    /// birth and all members' posts of it are on the board. An `Err` changes nothing.
+    pub fn harvest(&mut self, alloc: Global, name: &Name) -> Result<Harvest, OutOfMemory>
+        ensures { Harvests (is_some ((node_of self.old).opened name.now)) name.now (next_result (node_of self.old) name.now)
+            result (node_of self.old) (node_of self.new) }
     {
-        let call = self.results.len();
-        if call >= self.posted as usize {
+        let Some(opened) = self.opened.get_mut(name) else {
+            return Ok(Harvest::NotOpened);
+        };
+        let call = opened.front();
+        if call >= opened.posted {
             return Ok(Harvest::NotYet);
         }
-        let call = call as u32;
-        match finished(alloc, &self.board, &self.world, self.me, call)? {
+        match finished(alloc, &self.board, name, self.me, call)? {
             None => Ok(Harvest::NotYet),
             Some(finished) => {
-                self.results.push(finished)?;
+                opened.results.reserve(1)?;
+                self.board.raise_front(alloc, name, self.me, call + 1)?;
+                opened.results.push_reserved(finished);
                 Ok(Harvest::Done(call))
             }
         }
+    }
+
+    /// Drops the posts of calls below the number on a context, which is at most the floor. It takes no memory.
+    pub fn prune(&mut self, name: &Name, number: u32) -> Result<(), PruneError>
+        ensures answer { result ≡ pruned (floor_on (node_of self.old).board name.now) number }
+        ensures ok { OnOk result (node_of self.new ≡ learn (only (Dropped name.now number)) (node_of self.old)) }
+        ensures err { OnErr result (node_of self.new ≡ node_of self.old) }
+    {
+        self.board.prune(name, number)
     }
 
     /// Joins a part to the board. An `Err` changes nothing.
@@ -93,22 +122,37 @@ impl Node {
         ensures ok { OnOk result (node_of self.new ≡ learn (look part.now) (node_of self.old)) }
         ensures err { OnErr result (node_of self.new ≡ node_of self.old) }
     {
-        self.board = self.board.joined(alloc, part)?;
-        Ok(())
+        self.board.take(alloc, part)
     }
 
-    /// The result of a call that was harvested, kept for good.
-    pub fn result(&self, call: u32) -> Option<&Finished>
-        ensures { option_copied result ≡ slice_get (node_of self.now).results call }
+    /// The result of a call on a context that was harvested, kept for good.
+    pub fn result(&self, name: &Name, call: u32) -> Option<&Finished>
+        ensures { option_copied result ≡ slice_get (results_on (node_of self.now) name.now) call }
     {
-        self.results.get(call as usize)
+        match self.opened.get(name) {
+            None => None,
+            Some(opened) => opened.results.get(call as usize),
+        }
     }
 
-    /// How many calls the process has posted.
-    pub fn posted(&self) -> u32
-        ensures { result ≡ (node_of self.now).posted }
+    /// How many calls the process has posted on a context: 0 where it hasn't opened it.
+    pub fn posted(&self, name: &Name) -> u32
+        ensures { result ≡ posted_on (node_of self.now) name.now }
     {
-        self.posted
+        match self.opened.get(name) {
+            None => 0,
+            Some(opened) => opened.posted,
+        }
+    }
+
+    /// How many calls the process has harvested on a context: 0 where it hasn't opened it.
+    pub fn front(&self, name: &Name) -> u32
+        ensures { result ≡ front_on (node_of self.now) name.now }
+    {
+        match self.opened.get(name) {
+            None => 0,
+            Some(opened) => opened.front(),
+        }
     }
 
     /// The process's board.
@@ -119,24 +163,48 @@ impl Node {
     }
 }
 
-// The result of a call, where the board has the posts of all members.
+// The world, where the process is a rank.
+fn opened_at_start(
+    alloc: Global,
+    me: Proc,
+    ranks: u8,
+) -> Result<BTreeMap<Name, Opened>, OutOfMemory>
+    ensures { IfOk result (λ m. (name : NameView) → option_map opened_of (get name_cmp m name) ≡ opened_at_start me ranks name) }
+{
+    let mut opened = BTreeMap::new(alloc);
+    if me.number() >= ranks {
+        return Ok(opened);
+    }
+    opened.insert(Name::world(alloc), Opened::new(alloc))?;
+    Ok(opened)
+}
+
+// The result of a call on a context, where the board has the birth and the posts of all members.
 fn finished(
     alloc: Global,
     board: &Board,
-    world: &Birth,
+    name: &Name,
     me: Proc,
     call: u32,
 ) -> Result<Option<Finished>, OutOfMemory>
-    ensures { IfOk result (λ o. o ≡ result_of (look board.now) world.now me call) }
+    ensures { IfOk result (λ o. o ≡ result_of (look board.now) name.now me call) }
 {
-    let row = match board.row(alloc, world, call)? {
+    let row = match board.row(alloc, name, call)? {
         Some(row) => row,
         None => return Ok(None),
     };
-    let mine = match board.holds(call, me) {
+    let mine = match board.holds(name, call, me) {
         Some(post) => post.copy(alloc)?,
         None => return Ok(None),
     };
     let outcome = value_of(alloc, &row)?;
     Ok(Some(Finished { mine, outcome }))
+}
+
+// The post of the draft as this call, of which there is none past the last.
+fn checked(birth: &Birth, me: Proc, call: u32, draft: Draft) -> Result<Post, PostError>
+    ensures value { result ≡ checked birth.now me (record { call = call }) draft }
+    ensures room { OnOk result (call < most_calls) }
+{
+    draft.check(birth, me, &At { call })
 }

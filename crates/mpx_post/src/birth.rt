@@ -1,7 +1,7 @@
 ghost use Rattle.std.specs.Prelude.{◌≡◌, ◌<◌, ◌≤◌, IfOk, length};
 ghost use Rattle.mpx_post.specs.Births.{upto, is_among};
 
-use join_core::OutOfMemory;
+use join_core::{Exact, OutOfMemory};
 use mpx_group::Proc;
 use std::alloc::Global;
 use std::marker::Model;
@@ -21,6 +21,30 @@ impl Model for Birth {
     ghost view = { λ b. record { members = b.members.items } };
 
     ghost invariant = { λ b. (0 < length b.members.items) × (length b.members.items ≤ 64) };
+}
+
+impl Exact for Birth {
+    ghost use Rattle.join_core.specs.Laws.{never_joined};
+    ghost use Rattle.mpx_post.specs.Births.{BirthView, same_birth, birth_equality};
+
+    ghost View = { BirthView };
+
+    ghost view = { λ b. b };
+
+    ghost equal = { same_birth };
+
+    ghost joining = { never_joined };
+
+    fn same(&self, other: &Birth) -> bool {
+        self.members() == other.members()
+    }
+
+    fn copy(&self, alloc: Global) -> Result<Birth, OutOfMemory> {
+        let members = Vec::from_slice(alloc, &self.members)?;
+        Ok(Birth { members })
+    }
+
+    ghost equality = { birth_equality };
 }
 
 impl Birth {

@@ -1,8 +1,8 @@
-use Rattle.std.proofs.Common.{◌≡◌, sym, map, get_or, Some, ◌∙◌, arith}
+use Rattle.std.proofs.Common.{◌≡◌, sym, ap, map, get_or, Some, ◌∙◌, arith}
 use Rattle.std.specs.Prelude.{slice_get}
 use Rattle.mpx_board.specs.Looks.{look}
 use Rattle.gossipmpi.specs.Shown.{rank_of}
-use Rattle.gossipmpi.specs.Turns.{learns}
+use Rattle.gossipmpi.specs.Turns.{prunes, catches_up}
 use Rattle.gossipmpi.proofs.Turning.{written, element}
 use Rattle.gossipmpi.proofs.Exchanging.{learned_more}
 use Rattle.gossipmpi.proofs.turns.exchange.Goals as goal
@@ -13,5 +13,6 @@ loop-rank-preserved c =
     let i = c.loop-rank.rank-index in
     let old = rank_of (get_or xs i c.rank-item.result) in
     let at : slice_get (map rank_of xs) i ≡ Some old = element rank_of xs i c.rank-item.result (omega arith) in
-    sym (written rank_of xs i c.take.new.self)
-    ∙ learned_more (learns (look c.in_ok-joined.joined)) (map rank_of c.args.ranks.now) (map rank_of xs) i old (rank_of c.take.new.self) c.loop-rank.invariant at c.in_ok-take.ensures
+    let caught : rank_of c.prune.new.self ≡ catches_up (look c.in_ok-joined.joined) old = c.prune.ensures ∙ ap prunes c.in_ok-take.ensures in
+    sym (written rank_of xs i c.prune.new.self)
+    ∙ learned_more (catches_up (look c.in_ok-joined.joined)) (map rank_of c.args.ranks.now) (map rank_of xs) i old (rank_of c.prune.new.self) c.loop-rank.invariant at caught

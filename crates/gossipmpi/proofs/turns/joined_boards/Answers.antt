@@ -1,13 +1,11 @@
-use Rattle.std.proofs.Common.{ap, sym, ◌∙◌}
+use Rattle.std.proofs.Common.{sym, ◌∙◌}
 use Rattle.mpx_board.specs.Boards.{join}
-use Rattle.mpx_board.specs.Maps.{look_of}
-use Rattle.mpx_board.proofs.Looking.{look-join}
 use Rattle.gossipmpi.specs.Shown.{rank_of}
 use Rattle.gossipmpi.proofs.Exchanging.{joined_more}
 use Rattle.gossipmpi.proofs.turns.joined_boards.Goals as goal
 
 pub loop-rank-preserved : goal.loop-rank-preserved
 loop-rank-preserved c =
-    ap look_of c.in_ok-joined.ensures ∙ look-join _ _
+    c.in_ok-take.ensures.ok
     ∙ (λ i. join (c.loop-rank.invariant i) (c.board.ensures i))
     ∙ sym (joined_more rank_of c.args.ranks.now c.loop-rank.rank-index c.rank-item.result c.loop-rank-test.true c.rank-item.is)

@@ -1,7 +1,7 @@
 use Rattle.std.proofs.Common.{◌≡◌, length, map, ap, subst, ◌∙◌, arith}
 use Rattle.gossipmpi.specs.Shown.{rank_of}
 use Rattle.gossipmpi.specs.Turns.{GoesRound, total_left, all_joined}
-use Rattle.gossipmpi.proofs.Exchanging.{turn_ends, turn_goes_on, left_learned}
+use Rattle.gossipmpi.proofs.Exchanging.{turn_ends, turn_goes_on, left_caught_up}
 use Rattle.gossipmpi.proofs.turns.turn.Goals as goal
 
 pub returns-then-not-branch-clause-goes : goal.returns-then-not-branch-clause-goes
@@ -19,6 +19,6 @@ returns-clause-goes c s shows full =
 pub returns-clause-less : goal.returns-clause-less
 returns-clause-less c did =
     let kept : total_left (map rank_of c.exchange.new.ranks) ≡ total_left (map rank_of c.go_round.new.ranks) =
-    ap total_left c.in_ok-exchange.ensures ∙ left_learned (all_joined (map rank_of c.go_round.new.ranks)) (map rank_of c.go_round.new.ranks) in
+    ap total_left c.in_ok-exchange.ensures ∙ left_caught_up (all_joined (map rank_of c.go_round.new.ranks)) (map rank_of c.go_round.new.ranks) in
     let less = c.in_ok-go_round.ensures.less c.if-not-branch.false in
     omega (arith, kept, less)

@@ -1,8 +1,8 @@
-use Rattle.std.proofs.Common.{◌≡◌, ℕ, ◌<◌, ◌∙◌, sym, ap, length, take, arith}
+use Rattle.std.proofs.Common.{◌≡◌, ℕ, ◌∙◌, sym, ap, length, take, arith}
 use Rattle.mpx_num.specs.ItemList.{ItemList}
 use Rattle.mpx_num.specs.Operations.{elementwise, fold_items}
 use Rattle.mpx_node.specs.Values.{count_of, contributions}
-use Rattle.mpx_node.proofs.Rows.{fine_counts, fold_more_posts, length-combined, whole_value}
+use Rattle.mpx_node.proofs.Rows.{fine_counts, fold_more_posts, length-combined}
 use Rattle.mpx_node.proofs.value.reduction.Goals as goal
 
 abbrev size : ItemList → ℕ

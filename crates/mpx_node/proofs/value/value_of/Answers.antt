@@ -1,5 +1,4 @@
-use Rattle.std.proofs.Common.{ap, sym, ◌∙◌}
-use Rattle.std.proofs.Common.{None}
+use Rattle.std.proofs.Common.{ap, ◌∙◌}
 use Rattle.mpx_node.specs.Values.{value, or_fault, fine_value}
 use Rattle.mpx_node.proofs.value.value_of.Goals as goal
 

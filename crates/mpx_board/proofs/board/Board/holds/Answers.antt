@@ -1,8 +1,12 @@
 use Rattle.std.proofs.Common.{ap, ◌∙◌}
 use Rattle.mpx_board.specs.Boards.{told}
-use Rattle.mpx_board.specs.Maps.{or_unknown, look_of}
+use Rattle.mpx_board.specs.Contexts.{or_nothing, look_of}
 use Rattle.mpx_board.proofs.board.Board.holds.Goals as goal
 
-pub returns : goal.returns
+pub returns-in-None : goal.returns-in-None
 unfolding look_of
-returns c = c.known_post.ensures ∙ ap (λ o. told (or_unknown o)) c.get.ensures
+returns-in-None c = ap (λ o. told ((or_nothing o).posts c.args.call c.args.process)) c.in-None.ensures
+
+pub returns-in-Some : goal.returns-in-Some
+unfolding look_of
+returns-in-Some c = c.post_of.ensures ∙ ap (λ o. told ((or_nothing o).posts c.args.call c.args.process)) c.in-Some.ensures

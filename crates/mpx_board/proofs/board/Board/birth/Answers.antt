@@ -1,0 +1,12 @@
+use Rattle.std.proofs.Common.{ap, ◌∙◌}
+use Rattle.mpx_board.specs.Boards.{told}
+use Rattle.mpx_board.specs.Contexts.{or_nothing, look_of}
+use Rattle.mpx_board.proofs.board.Board.birth.Goals as goal
+
+pub returns-in-None : goal.returns-in-None
+unfolding look_of
+returns-in-None c = ap (λ o. told (or_nothing o).birth) c.in-None.ensures
+
+pub returns-in-Some : goal.returns-in-Some
+unfolding look_of
+returns-in-Some c = c.known.ensures ∙ ap (λ o. told (or_nothing o).birth) c.in-Some.ensures

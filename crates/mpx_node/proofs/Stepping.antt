@@ -1,0 +1,138 @@
+-- What a write through the map of opened contexts does, and what the answers of a post and a harvest come to.
+use Rattle.std.proofs.Common.{◌≡◌, ℕ, Bool, true, false, cond, Option, Some, None, refl, sym, ap, ◌∙◌, subst}
+use Rattle.std.specs.Prelude.{Result, Ok, Err, is_some, IsSome, nat_le}
+use Rattle.std.specs.Option.{option_map}
+use Rattle.std.specs.Ordering.{is_eq, ordering_reverse}
+use Rattle.std.specs.declared.cmp.Ordering.{Ordering}
+use Rattle.std.specs.declared.cmp.Ordering.TheVariants.{Less, Equal, Greater}
+use Rattle.std.specs.BTreeMap.{BTreeMap, get, get_by, is_at, WritesThrough}
+use Rattle.join_core.specs.declared.memory.OutOfMemory.{OutOfMemory}
+use Rattle.join_core.specs.Flat.{known, unknown}
+use Rattle.mpx_name.specs.Order.{name_cmp, name_total, name_exact}
+use Rattle.mpx_post.specs.declared.post.Given.{Given}
+use Rattle.mpx_post.specs.declared.draft.PostError.{PostError}
+use Rattle.mpx_post.specs.declared.draft.PostError.TheVariants as R
+use Rattle.mpx_post.specs.Births.{BirthView}
+use Rattle.mpx_board.specs.Boards.{Name, Born, same_name, only, join, join_contexts, empty, nothing}
+use Rattle.mpx_node.specs.declared.opened.Opened.{Opened}
+use Rattle.mpx_node.specs.declared.node.Harvest.{Harvest}
+use Rattle.mpx_node.specs.declared.node.Harvest.TheVariants as H
+use Rattle.mpx_node.specs.declared.outcome.Finished.{Finished}
+use Rattle.mpx_node.specs.Nodes.{NodeView, OpenedView, posted_on, front_on, post_at, Posts, next_of, next_result, add_result}
+use Rattle.mpx_node.specs.Harvests.{Harvests, HarvestsOpened}
+use Rattle.mpx_node.specs.Opened.{opened_of}
+
+same_either : {A : Type 0} (b : Bool) (x : A) → cond b x x ≡ x
+same_either true x = refl
+same_either false x = refl
+
+-- NAMES
+
+tied_either : (r s : Ordering) → s ≡ ordering_reverse r → is_eq s ≡ is_eq r
+tied_either Less s e = ap is_eq e
+tied_either Equal s e = ap is_eq e
+tied_either Greater s e = ap is_eq e
+
+-- either order of two names
+either : (n name : Name) → same_name n name ≡ is_at (name_cmp name) n
+either n name = tied_either (name_cmp name n) (name_cmp n name) (name_total.antisymm n name)
+
+is_tied : (r : Ordering) → is_eq r ≡ true → r ≡ Equal
+is_tied Less e = cc e
+is_tied Equal e = refl
+is_tied Greater e = cc e
+
+same_is : (n name : Name) → is_at (name_cmp name) n ≡ true → n ≡ name
+same_is n name t = sym (name_exact name n (is_tied _ t))
+
+-- A WRITE
+
+pub data Answer (b : Bool) : Type 0 where
+  yes : b ≡ true → Answer b
+  no : b ≡ false → Answer b
+
+answer : (b : Bool) → Answer b
+answer true = yes refl
+answer false = no refl
+
+abbrev pub Contexts : Type 0
+Contexts = Name → Option OpenedView
+
+abbrev pub seen : BTreeMap Name Opened → Contexts
+seen m name = option_map opened_of (get name_cmp m name)
+
+map_cond : {A B : Type 0} (f : A → B) (b : Bool) (x : A) (o : Option A) → option_map f (cond b (Some x) o) ≡ cond b (Some (f x)) (option_map f o)
+map_cond f true x o = refl
+map_cond f false x o = refl
+
+is_there : {A : Type 0} (o : Option A) (x : A) → Some x ≡ o → IsSome o
+is_there o x e = subst IsSome e refl
+
+module _ (m n : BTreeMap Name Opened) (name : Name) (o w : Opened) (value : Some o ≡ get_by (name_cmp name) m) (holds : WritesThrough name_cmp (name_cmp name) m w n) where
+  pub has : seen m name ≡ Some (opened_of o)
+  has = ap (option_map opened_of) (sym value)
+
+  lent : (q : Name) → seen n q ≡ cond (is_at (name_cmp name) q) (Some (opened_of w)) (seen m q)
+  lent q = ap (option_map opened_of) ((holds.3 (is_there _ o value)).0 q) ∙ map_cond opened_of (is_at (name_cmp name) q) w (get name_cmp m q)
+
+  here : (q : Name) → is_at (name_cmp name) q ≡ true → seen m q ≡ Some (opened_of o)
+  here q t = ap (seen m) (same_is q name t) ∙ has
+
+  pub stays : opened_of w ≡ opened_of o → seen n ≡ seen m
+  stays e i q = at q i where
+    at : (q : Name) → seen n q ≡ seen m q
+    at q = elim (answer (is_at (name_cmp name) q)) [
+      | yes t ↦ lent q ∙ ap (λ b. cond b (Some (opened_of w)) (seen m q)) t ∙ ap Some e ∙ sym (here q t)
+      | no f ↦ lent q ∙ ap (λ b. cond b (Some (opened_of w)) (seen m q)) f
+    ]
+
+  pub does : (f : OpenedView → OpenedView) → opened_of w ≡ f (opened_of o) → seen n ≡ (λ q. cond (same_name q name) (option_map f (seen m q)) (seen m q))
+  does f e i q = at q i where
+    at : (q : Name) → seen n q ≡ cond (same_name q name) (option_map f (seen m q)) (seen m q)
+    at q = elim (answer (is_at (name_cmp name) q)) [
+      | yes t ↦ lent q ∙ ap (λ b. cond b (Some (opened_of w)) (seen m q)) t ∙ ap Some e ∙ sym (ap (option_map f) (here q t)) ∙ ap (λ b. cond b (option_map f (seen m q)) (seen m q)) (sym (either q name ∙ t))
+      | no g ↦ lent q ∙ ap (λ b. cond b (Some (opened_of w)) (seen m q)) g ∙ ap (λ b. cond b (option_map f (seen m q)) (seen m q)) (sym (either q name ∙ g))
+    ]
+
+-- POSTS
+
+module _ (name : Name) (old new : NodeView) where
+  pub posts_refused : (r : Result Given PostError) (e : PostError) → r ≡ Err e → new ≡ old → Posts name r (Err e) old new
+  posts_refused r e re same = subst (λ x. Posts name x (Err e) old new) (sym re) (refl, same)
+
+  pub posts_turned_down : (r : Result Given PostError) (result : Result ℕ PostError) (e : PostError) → r ≡ Err e → result ≡ Err e → new ≡ old → Posts name r result old new
+  posts_turned_down r result e re is same = subst (λ x. Posts name r x old new) (sym is) (posts_refused r e re same)
+
+  pub posts_made : (r : Result Given PostError) (given : Given) (call : ℕ) → r ≡ Ok given → call ≡ posted_on old name → new ≡ post_at name given old → Posts name r (Ok call) old new
+  posts_made r given call rg k made = subst (λ x. Posts name x (Ok call) old new) (sym rg) (k, made)
+
+  pub posts_wants : (r : Result Given PostError) (given : Given) → r ≡ Ok given → new ≡ old → Posts name r (Err R.OutOfMemory) old new
+  posts_wants r given rg same = subst (λ x. Posts name x (Err R.OutOfMemory) old new) (sym rg) (refl, same)
+
+-- HARVESTS
+
+module _ (name : Name) (old new : NodeView) (o : OpenedView) (has : old.opened name ≡ Some o) where
+  opened_here : (result : Result Harvest OutOfMemory) → HarvestsOpened name (next_of (Some o) old.board name old.me) result old new → Harvests (is_some (old.opened name)) name (next_result old name) result old new
+  opened_here result h = subst (λ x. Harvests (is_some x) name (next_of x old.board name old.me) result old new) (sym has) h
+
+  pub harvests_done : (finished : Finished) (call : ℕ) → next_of (Some o) old.board name old.me ≡ Some finished → call ≡ front_on old name → new ≡ add_result name finished old → Harvests (is_some (old.opened name)) name (next_result old name) (Ok (H.Done call)) old new
+  harvests_done finished call e k made = opened_here (Ok (H.Done call)) (subst (λ x. HarvestsOpened name x (Ok (H.Done call)) old new) (sym e) (k, made))
+
+  pub harvests_none : next_of (Some o) old.board name old.me ≡ None → new ≡ old → Harvests (is_some (old.opened name)) name (next_result old name) (Ok H.NotYet) old new
+  harvests_none e same = opened_here (Ok H.NotYet) (subst (λ x. HarvestsOpened name x (Ok H.NotYet) old new) (sym e) same)
+
+  wants : (next : Option Finished) (e : OutOfMemory) → new ≡ old → HarvestsOpened name next (Err e) old new
+  wants None e same = same
+  wants (Some finished) e same = same
+
+  pub harvests_wants : (result : Result Harvest OutOfMemory) (e : OutOfMemory) → result ≡ Err e → new ≡ old → Harvests (is_some (old.opened name)) name (next_result old name) result old new
+  harvests_wants result e re same = subst (λ x. Harvests (is_some (old.opened name)) name (next_result old name) x old new) (sym re) (opened_here (Err e) (wants (next_of (Some o) old.board name old.me) e same))
+
+-- AT THE START
+
+-- a board that knows nothing learns a birth
+pub first_birth : (name : Name) (birth : BirthView) → join empty (only (Born name (known birth))) ≡ only (Born name (known birth))
+first_birth name birth i = record { contexts = λ n. at (same_name n name) i; acks = λ q n p. 0 } where
+  at : (b : Bool) → join_contexts nothing (cond b (record nothing { birth = known birth }) nothing) ≡ cond b (record nothing { birth = known birth }) nothing
+  at true i = record { birth = known birth; fronts = λ p. 0; dropped = 0; posts = λ k p. same_either (nat_le 0 k) unknown i }
+  at false i = record { birth = unknown; fronts = λ p. 0; dropped = 0; posts = λ k p. same_either (nat_le 0 k) unknown i }
