@@ -8,13 +8,13 @@ use Rattle.std.proofs.lemmas.Option.{same_Some, slice_get_within, slice_get-map}
 use Rattle.std.proofs.lemmas.Bool.Decides.{nat_tests}
 use Rattle.std.proofs.lemmas.List.{take_more, map-append, length-map}
 use Rattle.join_core.specs.Flat.{FlatView, unknown, known, clash, flat_join}
-use Rattle.mpx_post.specs.declared.post.Given.{Given}
-use Rattle.mpx_post.specs.Posts.{same_given, given_equality}
+use Rattle.mpx_post.specs.Posts.{Given}
+use Rattle.mpx_post.specs.Equality.{same_given, given_equality}
 use Rattle.mpx_post.specs.Births.{BirthView, upto, same_birth, birth_equality}
-use Rattle.mpx_post.specs.Rows.{RowView, all_of}
+use Rattle.mpx_post.specs.Rows.{all_of}
 use Rattle.mpx_board.specs.Boards.{Look, Context, about, nothing, empty, join, minimum, floor_on, told}
-use Rattle.mpx_node.specs.Values.{value}
-use Rattle.mpx_node.specs.Histories.{History, Results}
+use Rattle.mpx_value.specs.Histories.{History, Results, value_for}
+use Rattle.mpx_node.specs.Nodes.{outcome_on}
 use Rattle.mpx_script.specs.declared.statement.Statement.{Statement}
 use Rattle.mpx_post.specs.Drafts.{checked}
 use Rattle.mpx_post.specs.declared.draft.PostError.{PostError}
@@ -23,7 +23,7 @@ use Rattle.mpx_script.specs.Evaluation.{State, world_of, history, known as knows
 use Rattle.gossipmpi.specs.Running.{RankView, told_by, todo_of, left_of, of_world, harvested_by, Stands}
 use Rattle.gossipmpi.specs.Turns.{Agrees, TellsTruth, IsHarvested, Shows, IsFull, total_left, IsStuckAt, GoesRound, Turns, Ends, all_joined, learns, drops, prunes, catches_up}
 use Rattle.gossipmpi.proofs.Moving.{some_within, step_ends, nothing_new, learns_birth, learns_dropped, learns_fronts, learns_posts}
-use Rattle.gossipmpi.proofs.Turning.{agrees_join, agrees_cut, learns_truth, known_stays, last, born_is, rows_of, moves-append}
+use Rattle.gossipmpi.proofs.Turning.{agrees_join, agrees_cut, learns_truth, known_stays, last, born_is, me_is, outcomes_of, moves-append}
 
 -- THE JOIN OF ALL BOARDS
 
@@ -398,17 +398,18 @@ same_steps f g s waits call todo e same = ap (λ t. step_by f s (next_of s t)) e
 
 module _ (n : ℕ) (ranks : List RankView) (s : State) (shows : Shows n ranks s) (full : IsFull n ranks s) where
   -- from its dropped front on a rank knows all that is known
-  knows_all : (p : ℕ) (r : RankView) → slice_get ranks p ≡ Some r → (k : ℕ) → (of_world r.node.board).dropped ≤ k → told_by r k ≡ knows n s k
+  knows_all : (p : ℕ) (r : RankView) → slice_get ranks p ≡ Some r → (k : ℕ) → (of_world r.node.board).dropped ≤ k → told_by r k ≡ knows n s p k
   knows_all p r at k above =
-      ap (option_and_then (λ (row : RowView). Some (value row))) (rows_of r.node.board n (born_is n ranks s shows p r at) k
-      ∙ all_of-same (λ q. told ((of_world r.node.board).posts k q)) (history s k) (upto n)
+      ap (λ me. outcome_on r.node.board [] me k) (me_is n ranks s shows p r at)
+      ∙ outcomes_of r.node.board n p (born_is n ranks s shows p r at) k
+      ∙ ap (option_and_then (value_for (world_of n) p)) (all_of-same (λ q. told ((of_world r.node.board).posts k q)) (history s k) (upto n)
       (all_below (λ q. told ((of_world r.node.board).posts k q) ≡ history s k q) n (λ q l. tells_all ((of_world r.node.board).posts k q) (history s k q) (shows.truth p r at k q) (λ given e. full p r at k q given l above e))))
 
   -- a rank asks for no call below its dropped front
-  step_same : (p : ℕ) (r : RankView) → slice_get ranks p ≡ Some r → step (knows n s) (s p) ≡ step (told_by r) (s p)
+  step_same : (p : ℕ) (r : RankView) → slice_get ranks p ≡ Some r → step (knows n s p) (s p) ≡ step (told_by r) (s p)
   step_same p r at =
       let h = shows.each p r at in
-      same_steps (knows n s) (told_by r) (s p) r.waits (harvested_by r) r.todo h.todo (sym (knows_all p r at (harvested_by r) h.kept))
+      same_steps (knows n s p) (told_by r) (s p) r.waits (harvested_by r) r.todo h.todo (sym (knows_all p r at (harvested_by r) h.kept))
 
   -- where no rank can move by its board, none can move
   pub stuck_is_maximal : ((p : ℕ) → p < n → IsStuckAt ranks s p) → IsMaximal n s
@@ -416,7 +417,7 @@ module _ (n : ℕ) (ranks : List RankView) (s : State) (shows : Shows n ranks s)
     | inl l ↦
         let at = some_within ranks p (omega (arith, shows.count, l)) in
         step_same p at.0 at.1 ∙ stuck p l at.0 at.1
-    | inr g ↦ step_ends (knows n s) (s p) (shows.quiet.from p g)
+    | inr g ↦ step_ends (knows n s p) (s p) (shows.quiet.from p g)
   ]
 
 -- nobody moved

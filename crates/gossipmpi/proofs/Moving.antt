@@ -7,20 +7,18 @@ use Rattle.std.proofs.lemmas.List.{map-append}
 use Rattle.std.proofs.lemmas.Bool.Decides.{nat_tests, Decides-eqb}
 use Rattle.join_core.specs.Flat.{FlatView, unknown, known, clash, flat_join}
 use Rattle.mpx_name.specs.Order.{name_equality}
-use Rattle.mpx_post.specs.declared.post.Given.{Given}
+use Rattle.mpx_post.specs.Posts.{Given}
 use Rattle.mpx_post.specs.declared.draft.PostError.{PostError}
 use Rattle.mpx_post.specs.declared.draft.PostError.TheVariants as R
 use Rattle.mpx_post.specs.Births.{BirthView, same_birth}
-use Rattle.mpx_post.specs.Posts.{same_given}
-use Rattle.mpx_post.specs.Rows.{RowView}
+use Rattle.mpx_post.specs.Equality.{same_given}
 use Rattle.mpx_post.specs.Drafts.{checked}
-use Rattle.mpx_board.specs.Boards.{Look, Context, Held, Front, about, nothing, join, join_contexts, only, told, row_on}
-use Rattle.mpx_node.specs.declared.outcome.Finished.{Finished}
-use Rattle.mpx_node.specs.declared.outcome.Outcome.{Outcome}
+use Rattle.mpx_board.specs.Boards.{Look, Context, Held, Front, about, nothing, join, join_contexts, only, told}
+use Rattle.mpx_node.specs.declared.finished.Finished.{Finished}
+use Rattle.mpx_value.specs.declared.outcomes.Outcome.{Outcome}
 use Rattle.mpx_node.specs.declared.node.Harvest.TheVariants as H
-use Rattle.mpx_node.specs.Values.{value}
-use Rattle.mpx_node.specs.Histories.{Results}
-use Rattle.mpx_node.specs.Nodes.{NodeView, OpenedView, Posts, does_on, posted_by as opened_posted, results_by, front_on, post_at, checked_on, checked_by, result_of, next_of as next_by, next_result, add_result}
+use Rattle.mpx_value.specs.Histories.{Results}
+use Rattle.mpx_node.specs.Nodes.{NodeView, OpenedView, Posts, does_on, posted_by as opened_posted, results_by, front_on, post_at, checked_on, checked_by, result_of, next_of as next_by, next_result, add_result, outcome_on}
 use Rattle.mpx_node.specs.Harvests.{Harvests}
 use Rattle.mpx_script.specs.declared.statement.Statement.{Statement}
 use Rattle.mpx_script.specs.Ranks.{Local, Act, Todo, Do, Await, Told, Refused, step, step_by, next_of, posts_or_refuses, done, draft_of, doing}
@@ -52,16 +50,16 @@ cond_some : {A : Type 0} (b : Bool) (o : Option A) (x : A) → cond b o None ≡
 cond_some true o x e = e
 cond_some false o x e = cc e
 
--- a result is the value of a whole row
-row_of_result : (board : Look) (me k : ℕ) (finished : Finished) → result_of board [] me k ≡ Some finished → (row : RowView) × (row_on board [] k ≡ Some row) × (finished.outcome ≡ value row)
-row_of_result board me k finished e = by_row (row_on board [] k) refl e where
-  by_mine : (row : RowView) (o : Option Given) → option_and_then (λ (mine : Given). let made : Finished = record { mine = mine; outcome = value row } in Some made) o ≡ Some finished → finished.outcome ≡ value row
-  by_mine row None h = cc h
-  by_mine row (Some mine) h = let made : Finished = record { mine = mine; outcome = value row } in ap (λ (f : Finished). f.outcome) (sym (same_Some made finished h))
+-- a result is what the call gives the process
+told_result : (board : Look) (me k : ℕ) (finished : Finished) → result_of board [] me k ≡ Some finished → outcome_on board [] me k ≡ Some finished.outcome
+told_result board me k finished e = by_mine (told ((of_world board).posts k me)) e where
+  by_outcome : (mine : Given) (o : Option Outcome) → option_map (λ outcome. let made : Finished = record { mine = mine; outcome = outcome } in made) o ≡ Some finished → o ≡ Some finished.outcome
+  by_outcome mine None h = cc h
+  by_outcome mine (Some outcome) h = let made : Finished = record { mine = mine; outcome = outcome } in ap (λ (f : Finished). Some f.outcome) (same_Some made finished h)
 
-  by_row : (o : Option RowView) → row_on board [] k ≡ o → option_and_then (λ (row : RowView). option_and_then (λ (mine : Given). let made : Finished = record { mine = mine; outcome = value row } in Some made) (told ((of_world board).posts k me))) o ≡ Some finished → (row : RowView) × (row_on board [] k ≡ Some row) × (finished.outcome ≡ value row)
-  by_row None f h = cc h
-  by_row (Some row) f h = (row, f, by_mine row (told ((of_world board).posts k me)) h)
+  by_mine : (o : Option Given) → option_and_then (λ (mine : Given). option_map (λ outcome. let made : Finished = record { mine = mine; outcome = outcome } in made) (outcome_on board [] me k)) o ≡ Some finished → outcome_on board [] me k ≡ Some finished.outcome
+  by_mine None h = cc h
+  by_mine (Some mine) h = by_outcome mine (outcome_on board [] me k) h
 
 next_some : (o : Option OpenedView) (board : Look) (me : ℕ) (finished : Finished) → next_by o board [] me ≡ Some finished → result_of board [] me (length (results_by o)) ≡ Some finished
 next_some None board me finished e = cc e
@@ -208,9 +206,8 @@ hears old finished text w e t s h =
     let o = old.node.opened [] in
     let b = old.node.board in
     let more : Context = record nothing { fronts = λ q. cond (q == old.node.me) (k + 1) 0 } in
-    let row = row_of_result b old.node.me k finished (next_some o b old.node.me finished e) in
     let todo : s.todo ≡ Await k ∷ doing old.todo = h.todo ∙ ap (λ x. todo_of x k old.todo) w in
-    let heard_it : told_by old k ≡ Some finished.outcome = ap (option_and_then (λ (x : RowView). Some (value x))) row.1 ∙ ap Some (sym row.2) in
+    let heard_it : told_by old k ≡ Some finished.outcome = told_result b old.node.me k finished (next_some o b old.node.me finished e) in
     let same : s.posts ++ [] ≡ s.posts = append-nil s.posts in
     let waiting : posted_by old ≡ k + 1 = h.harvested ∙ ap (λ x. k + cond x 1 0) w in
     let opened = at_world (one_more finished) old.node in
@@ -243,11 +240,11 @@ some_within (x ∷ xs) zero l = (x, refl)
 some_within (x ∷ xs) (suc k) l = some_within xs k (omega arith)
 
 -- nothing to hear yet
-no_result : (board : Look) (me k : ℕ) (given : Given) → (of_world board).posts k me ≡ known given → result_of board [] me k ≡ None → row_on board [] k ≡ None
-no_result board me k given own e = by_row (row_on board [] k) refl e where
-  by_row : (o : Option RowView) → row_on board [] k ≡ o → option_and_then (λ (row : RowView). option_and_then (λ (mine : Given). let made : Finished = record { mine = mine; outcome = value row } in Some made) (told ((of_world board).posts k me))) o ≡ None → row_on board [] k ≡ None
-  by_row None f h = f
-  by_row (Some row) f h = let bad : option_and_then (λ (mine : Given). let made : Finished = record { mine = mine; outcome = value row } in Some made) (told (known given)) ≡ None = rw own at h in cc bad
+no_outcome : (board : Look) (me k : ℕ) (given : Given) → (of_world board).posts k me ≡ known given → result_of board [] me k ≡ None → outcome_on board [] me k ≡ None
+no_outcome board me k given own e = by_outcome (outcome_on board [] me k) (rw own at e) where
+  by_outcome : (o : Option Outcome) → option_map (λ outcome. let made : Finished = record { mine = given; outcome = outcome } in made) o ≡ None → o ≡ None
+  by_outcome None h = refl
+  by_outcome (Some outcome) h = cc h
 
 pub waits_on : (old : RankView) → old.waits ≡ true → next_result old.node [] ≡ None → (s : Local) → Stands old s → step (told_by old) s ≡ None
 waits_on old w e s h =
@@ -258,8 +255,7 @@ waits_on old w e s h =
     let none : result_of b [] old.node.me k ≡ None = next_none (old.node.opened []) b old.node.me h.opened more e in
     let mine = some_within s.posts k (omega (arith, h.posted, waiting)) in
     let own : (of_world b).posts k old.node.me ≡ known mine.0 = ap ((of_world b).posts k) h.me ∙ h.own k mine.0 h.kept mine.1 in
-    let row : row_on b [] k ≡ None = no_result b old.node.me k mine.0 own none in
-    step_waits (told_by old) s k (doing old.todo) (h.todo ∙ ap (λ x. todo_of x k old.todo) w) (ap (option_and_then (λ (x : RowView). Some (value x))) row)
+    step_waits (told_by old) s k (doing old.todo) (h.todo ∙ ap (λ x. todo_of x k old.todo) w) (no_outcome b old.node.me k mine.0 own none)
 
 -- the last of a longer list is the new one
 split_push : {A : Type 0} (xs : List A) (y : A) (k : ℕ) (x : A) → slice_get (xs ++ y ∷ []) k ≡ Some x → ((k < length xs) × (slice_get xs k ≡ Some x)) ⊎ ((k ≡ length xs) × (x ≡ y))

@@ -6,14 +6,13 @@ use Rattle.std.proofs.Math.Nat.{eq-or-lt_of_le}
 use Rattle.std.specs.Option.{option_map}
 use Rattle.std.proofs.lemmas.Bool.Decides.{nat_tests, Decides-eqb}
 use Rattle.join_core.specs.Flat.{FlatView, unknown, known, clash, flat_join}
-use Rattle.mpx_post.specs.declared.post.Given.{Given}
-use Rattle.mpx_post.specs.Posts.{same_given, given_equality}
+use Rattle.mpx_post.specs.Posts.{Given}
+use Rattle.mpx_post.specs.Equality.{same_given, given_equality}
 use Rattle.mpx_post.specs.Births.{BirthView}
-use Rattle.mpx_post.specs.Rows.{RowView, all_of}
+use Rattle.mpx_post.specs.Rows.{all_of}
 use Rattle.mpx_board.specs.Boards.{Look, Context, about, nothing, join, told, row_on}
-use Rattle.mpx_node.specs.declared.outcome.Outcome.{Outcome}
-use Rattle.mpx_node.specs.Values.{value}
-use Rattle.mpx_node.specs.Histories.{History, Results, Within}
+use Rattle.mpx_value.specs.Histories.{History, Results, Within, value_for, results_of}
+use Rattle.mpx_node.specs.Nodes.{outcome_on}
 use Rattle.mpx_script.specs.Ranks.{Local, Next, End, Asks, step, step_by, next, done}
 use Rattle.mpx_script.specs.Evaluation.{State, world_of, history, known as knows, or_stay, move, moves, IsPrefixOf}
 use Rattle.mpx_script.proofs.Growth.{all_of-grows}
@@ -66,19 +65,27 @@ told_agrees clash o x a e = absurd a
 pub rows_of : (b : Look) (n : ℕ) → (of_world b).birth ≡ known (world_of n) → (k : ℕ) → row_on b [] k ≡ all_of (λ p. told ((of_world b).posts k p)) (world_of n).members
 rows_of b n born k = ap (λ v. option_and_then (λ (birth : BirthView). all_of (λ p. told ((of_world b).posts k p)) birth.members) (told v)) born
 
+-- what a call gives a process by a board that knows the world's birth
+pub outcomes_of : (b : Look) (n me : ℕ) → (of_world b).birth ≡ known (world_of n) → (k : ℕ) → outcome_on b [] me k ≡ option_and_then (value_for (world_of n) me) (all_of (λ p. told ((of_world b).posts k p)) (world_of n).members)
+outcomes_of b n me born k =
+    ap (λ v. option_and_then (λ (birth : BirthView). option_and_then (value_for birth me) (row_on b [] k)) (told v)) born
+    ∙ ap (option_and_then (value_for (world_of n) me)) (rows_of b n born k)
+
 -- a truthful board tells no more than there is
-told_within : (b : Look) (h : History) (n : ℕ) → (of_world b).birth ≡ known (world_of n) → TellsTruth b h → (k : ℕ) (outcome : Outcome) → option_and_then (λ (row : RowView). Some (value row)) (row_on b [] k) ≡ Some outcome → option_and_then (λ (row : RowView). Some (value row)) (all_of (h k) (world_of n).members) ≡ Some outcome
-told_within b h n born truth k outcome e =
-    option_and_then_some _ (row_on b [] k) outcome e (λ row f g.
-    let row_is : all_of (λ p. told ((of_world b).posts k p)) (world_of n).members ≡ Some row = sym (rows_of b n born k) ∙ f in
-    ap (option_and_then (λ (x : RowView). Some (value x))) (all_of-grows (λ p. told ((of_world b).posts k p)) (h k) (λ p x t. told_agrees ((of_world b).posts k p) (h k p) x (truth k p) t) (world_of n).members row row_is) ∙ g)
+told_within : (b : Look) (h : History) (n me : ℕ) → (of_world b).birth ≡ known (world_of n) → TellsTruth b h → Within (outcome_on b [] me) (results_of h (world_of n) me)
+told_within b h n me born truth k outcome e =
+    option_and_then_some (value_for (world_of n) me) (all_of (λ p. told ((of_world b).posts k p)) (world_of n).members) outcome (sym (outcomes_of b n me born k) ∙ e) (λ row f g.
+    ap (option_and_then (value_for (world_of n) me)) (all_of-grows (λ p. told ((of_world b).posts k p)) (h k) (λ p x t. told_agrees ((of_world b).posts k p) (h k p) x (truth k p) t) (world_of n).members row f) ∙ g)
 
 module _ (n : ℕ) (ranks : List RankView) (s : State) (shows : Shows n ranks s) (p : ℕ) (r : RankView) (at : slice_get ranks p ≡ Some r) where
   pub born_is : (of_world r.node.board).birth ≡ known (world_of n)
   born_is = (shows.each p r at).born ∙ ap known (shows.world p)
 
-  pub knows_more : Within (told_by r) (knows n s)
-  knows_more k outcome e = told_within r.node.board (history s) n born_is (shows.truth p r at) k outcome e
+  pub me_is : r.node.me ≡ p
+  me_is = (shows.each p r at).me ∙ shows.me p
+
+  pub knows_more : Within (told_by r) (knows n s p)
+  knows_more k outcome e = told_within r.node.board (history s) n p born_is (shows.truth p r at) k outcome (ap (λ me. outcome_on r.node.board [] me k) (sym me_is) ∙ e)
 
   past_end : {A : Type 0} (xs : List A) → slice_get xs (length xs) ≡ None
   past_end [] = refl
@@ -159,19 +166,19 @@ module _ (n : ℕ) (ranks : List RankView) (s : State) (shows : Shows n ranks s)
   within = omega (arith, slice_get_within ranks p old at, shows.count)
 
   -- it is a move of the evaluation
-  moves_on : step (knows n s) (s p) ≡ Some goes.to
-  moves_on = step-grows (told_by old) (knows n s) (knows_more n ranks s shows p old at) (s p) goes.to goes.step
+  moves_on : step (knows n s p) (s p) ≡ Some goes.to
+  moves_on = step-grows (told_by old) (knows n s p) (knows_more n ranks s shows p old at) (s p) goes.to goes.step
 
   arrives : move n s p p ≡ goes.to
-  arrives = goes_on-at s p (knows n s) goes.to moves_on
+  arrives = goes_on-at s p (knows n s p) goes.to moves_on
 
   elsewhere : (q : ℕ) → (q ≡ p → ⊥) → move n s p q ≡ s q
   elsewhere q other =
       let no : (q == p) ≡ false = grind (arith, nat_tests, other) in
-      ap (λ b. cond b (or_stay (s q) (step (knows n s) (s q))) (s q)) no
+      ap (λ b. cond b (or_stay (s q) (step (knows n s p) (s q))) (s q)) no
 
   posts_kept : (q : ℕ) → IsPrefixOf (s q).posts (move n s p q).posts
-  posts_kept = goes_on_cases (λ q t. IsPrefixOf (s q).posts t.posts) s p (knows n s) (λ q. prefix_itself (s q).posts) (λ t e. (step_by-adds (knows n s) (s p) (next (s p)) t e).0)
+  posts_kept = goes_on_cases (λ q t. IsPrefixOf (s q).posts t.posts) s p (knows n s p) (λ q. prefix_itself (s q).posts) (λ t e. (step_by-adds (knows n s p) (s p) (next (s p)) t e).0)
 
   grown : (k q : ℕ) (given : Given) → history s k q ≡ Some given → history (move n s p) k q ≡ Some given
   grown k q given e = prefix_get (s q).posts (move n s p q).posts (posts_kept q) k given e
@@ -208,7 +215,7 @@ module _ (n : ℕ) (ranks : List RankView) (s : State) (shows : Shows n ranks s)
       own_one q x e same = set_cases ranks p q new x (λ (y : RankView). y ≡ new) e (λ here. refl) (λ there other. absurd (other same))
 
   keeps : (q : ℕ) → ((move n s p q).me ≡ (s q).me) × ((move n s p q).world ≡ (s q).world)
-  keeps = goes_on_cases (λ q t. (t.me ≡ (s q).me) × (t.world ≡ (s q).world)) s p (knows n s) (λ q. (refl, refl)) (λ t e. step_keeps (knows n s) (s p) (next (s p)) t e)
+  keeps = goes_on_cases (λ q t. (t.me ≡ (s q).me) × (t.world ≡ (s q).world)) s p (knows n s p) (λ q. (refl, refl)) (λ t e. step_keeps (knows n s p) (s p) (next (s p)) t e)
 
   length_set : {A : Type 0} (xs : List A) (i : ℕ) (y : A) → length (set xs i y) ≡ length xs
   length_set [] i y = refl

@@ -1,11 +1,10 @@
 -- A rank of a run, and what it shows of where the rank stands in its script.
-use Rattle.std.specs.Prelude.{◌≡◌, ℕ, ◌+◌, ◌*◌, Bool, true, false, cond, List, [], ◌∷◌, ◌++◌, length, map, ◌≤◌, slice_get, is_some, Some, None, option_and_then}
+use Rattle.std.specs.Prelude.{◌≡◌, ℕ, ◌+◌, ◌*◌, Bool, true, false, cond, List, [], ◌∷◌, ◌++◌, length, map, ◌≤◌, slice_get, is_some, Some, None}
 use Rattle.join_core.specs.Flat.{known, unknown}
-use Rattle.mpx_post.specs.declared.post.Given.{Given}
-use Rattle.mpx_board.specs.Boards.{Look, Context, Held, Front, join, only, row_on}
-use Rattle.mpx_node.specs.Values.{value}
-use Rattle.mpx_node.specs.Histories.{Results}
-use Rattle.mpx_node.specs.Nodes.{NodeView, posted_on, front_on}
+use Rattle.mpx_post.specs.Posts.{Given}
+use Rattle.mpx_board.specs.Boards.{Look, Context, Held, Front, join, only}
+use Rattle.mpx_value.specs.Histories.{Results}
+use Rattle.mpx_node.specs.Nodes.{NodeView, posted_on, front_on, outcome_on}
 use Rattle.mpx_script.specs.declared.statement.Statement.{Statement}
 use Rattle.mpx_script.specs.Ranks.{Local, Todo, Await, step, doing}
 use Rattle.mpx_script.specs.Transcripts.{line_text}
@@ -29,9 +28,9 @@ posted_by r = posted_on r.node []
 abbrev pub harvested_by : RankView → ℕ
 harvested_by r = front_on r.node []
 
--- the outcomes of the rows that are whole on its board
+-- what the rows that are whole on its board give it
 abbrev pub told_by : RankView → Results
-told_by r k = option_and_then (λ row. Some (value row)) (row_on r.node.board [] k)
+told_by r k = outcome_on r.node.board [] r.node.me k
 
 -- what is left to do, where it waits for this call or for none
 abbrev pub todo_of : Bool → ℕ → List Statement → List Todo

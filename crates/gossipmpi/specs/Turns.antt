@@ -2,10 +2,10 @@
 use Rattle.std.specs.Prelude.{◌≡◌, ℕ, ◌<◌, ◌≤◌, ◌+◌, Bool, false, List, [], ◌∷◌, length, slice_get, Option, Some, None}
 use Rattle.std.specs.List.{fold}
 use Rattle.join_core.specs.Flat.{FlatView, unknown, known, clash}
-use Rattle.mpx_post.specs.declared.post.Given.{Given}
+use Rattle.mpx_post.specs.Posts.{Given}
 use Rattle.mpx_board.specs.Boards.{Look, empty, join, only, floor_on, Dropped}
 use Rattle.mpx_node.specs.Nodes.{learn}
-use Rattle.mpx_node.specs.Histories.{History}
+use Rattle.mpx_value.specs.Histories.{History}
 use Rattle.mpx_script.specs.Evaluation.{State, world_of, history, moves, IsMaximal, IsQuiet}
 use Rattle.mpx_script.specs.Ranks.{step}
 use Rattle.gossipmpi.specs.Running.{RankView, Stands, told_by, left_of, of_world, harvested_by}

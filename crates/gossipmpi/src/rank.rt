@@ -160,6 +160,10 @@ fn is_want_of_memory(refusal: PostError) -> bool
     match refusal {
         PostError::OutOfMemory => true,
         PostError::NotMember => false,
+        PostError::RootOutOfRange => false,
+        PostError::OpNotForType => false,
+        PostError::CountsLength => false,
+        PostError::ItemsLength => false,
         PostError::ItemOutOfRange => false,
         PostError::TooManyItems => false,
         PostError::CallsUsedUp => false,

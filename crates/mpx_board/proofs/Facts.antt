@@ -7,8 +7,8 @@ use Rattle.std.proofs.lemmas.Bool.Decides.{nat_tests}
 use Rattle.join_core.specs.Flat.{FlatView, unknown, known, clash, flat_join, flat_leq, flat_joining, flat_laws}
 use Rattle.join_core.specs.Order.{IsOrder, IsLeastUpperBound, order_laws, bound_laws}
 use Rattle.join_nest.specs.Entries.{yes, no, answer}
-use Rattle.mpx_post.specs.declared.post.Given.{Given}
-use Rattle.mpx_post.specs.Posts.{same_given, given_equality}
+use Rattle.mpx_post.specs.Posts.{Given}
+use Rattle.mpx_post.specs.Equality.{same_given, given_equality}
 use Rattle.mpx_post.specs.Births.{same_birth, birth_equality}
 use Rattle.mpx_board.specs.Boards.{Name, Context, Look, join, join_contexts, Born, Held, Front, Dropped, Acknowledged, IsBelow, IsLeastAbove, IsLeastAboveAll, empty, join_all}
 

@@ -11,8 +11,8 @@ use Rattle.join_nest.specs.Optional.{option_join}
 use Rattle.join_nest.specs.Keyed.{get_join}
 use Rattle.join_nest.specs.Trunc.{get_trunc_join, get_dropped}
 use Rattle.mpx_name.specs.Order.{name_cmp, name_total}
-use Rattle.mpx_post.specs.declared.post.Given.{Given}
-use Rattle.mpx_post.specs.Posts.{same_given}
+use Rattle.mpx_post.specs.Posts.{Given}
+use Rattle.mpx_post.specs.Equality.{same_given}
 use Rattle.mpx_post.specs.Births.{same_birth}
 use Rattle.mpx_board.specs.Boards.{Name, nothing, empty, join, join_contexts}
 use Rattle.mpx_board.specs.Parts.{OfProcesses, CallView, EntryView, AcksView, PartsView, numbers_joining, call_joining, entry_joining, acks_joining, parts_joining}

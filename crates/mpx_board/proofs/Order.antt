@@ -13,8 +13,8 @@ use Rattle.join_nest.specs.Optional.{option_leq}
 use Rattle.join_nest.specs.Keyed.{keyed_joining, leq_gets, gets_leq}
 use Rattle.join_nest.specs.Trunc.{trunc_joining, cut, get_cut}
 use Rattle.mpx_name.specs.Order.{name_total, name_exact}
-use Rattle.mpx_post.specs.declared.post.Given.{Given}
-use Rattle.mpx_post.specs.Posts.{same_given}
+use Rattle.mpx_post.specs.Posts.{Given}
+use Rattle.mpx_post.specs.Equality.{same_given}
 use Rattle.mpx_post.specs.Births.{same_birth}
 use Rattle.mpx_board.specs.Boards.{Name, nothing, IsBelow}
 use Rattle.mpx_board.specs.Parts.{OfProcesses, CallView, EntryView, AcksView, PartsView, numbers_joining, call_joining, entry_joining, acks_joining, parts_joining, parts_laws}

@@ -10,8 +10,8 @@ use Rattle.join_core.specs.Flat.{FlatView, unknown, known, clash, flat_join}
 use Rattle.join_nest.specs.Entries.{answer, yes, no, is_tied, both_true, first_true, second_true}
 use Rattle.join_nest.specs.Keyed.{replaced, get_replaced}
 use Rattle.join_nest.specs.Trunc.{TruncView, get_dropped, same_trunc, drop_below, get_cut}
-use Rattle.mpx_post.specs.declared.post.Given.{Given}
-use Rattle.mpx_post.specs.Posts.{same_given}
+use Rattle.mpx_post.specs.Posts.{Given}
+use Rattle.mpx_post.specs.Equality.{same_given}
 use Rattle.mpx_post.specs.Births.{BirthView, same_birth}
 use Rattle.mpx_name.specs.Order.{name_cmp, name_total, name_exact}
 use Rattle.mpx_board.specs.Boards.{Name, same_name, Context, nothing, join_contexts, join, about, only, Front, told, floor_on, minimum}

@@ -15,7 +15,7 @@ use Rattle.join_nest.specs.Entries.{answer, yes, no, both_true, first_true, seco
 use Rattle.join_nest.specs.Keyed.{keyed_joining, keyed_laws, get_join, get_delta, leq_gets, gets_leq}
 use Rattle.join_nest.specs.Trunc.{TruncView, cut, trunc_of, get_cut, trunc_joining, get_trunc_join, get_trunc_delta}
 use Rattle.mpx_name.specs.Order.{name_total, name_exact}
-use Rattle.mpx_post.specs.Posts.{same_given, given_equality}
+use Rattle.mpx_post.specs.Equality.{same_given, given_equality}
 use Rattle.mpx_post.specs.Births.{same_birth}
 use Rattle.mpx_board.specs.Parts.{PartsView, parts_joining, entry_joining, entry_laws, numbers_joining, numbers_laws, call_joining, acks_joining}
 use Rattle.mpx_post.specs.Drafts.{most_calls}

@@ -11,8 +11,8 @@ use Rattle.join_core.specs.Pair.{pair_equal, pair_joining, pair_equality, pair_l
 use Rattle.join_nest.specs.Keyed.{keyed_equal, keyed_joining, keyed_equality, keyed_laws}
 use Rattle.join_nest.specs.Trunc.{TruncView, trunc_equal, trunc_joining, trunc_equality, trunc_laws}
 use Rattle.mpx_name.specs.Order.{name_cmp, name_total, name_exact}
-use Rattle.mpx_post.specs.declared.post.Given.{Given}
-use Rattle.mpx_post.specs.Posts.{same_given, given_equality}
+use Rattle.mpx_post.specs.Posts.{Given}
+use Rattle.mpx_post.specs.Equality.{same_given, given_equality}
 use Rattle.mpx_post.specs.Births.{BirthView, same_birth, birth_equality}
 
 -- TYPES

@@ -4,7 +4,7 @@ ghost use Rattle.std.specs.Option.{option_copied, option_map};
 ghost use Rattle.std.specs.FinMap.{get};
 ghost use Rattle.join_core.specs.Flat.{flat_join, known, unknown};
 ghost use Rattle.join_core.specs.FlatSeen.{flat_view};
-ghost use Rattle.mpx_post.specs.Posts.{same_given};
+ghost use Rattle.mpx_post.specs.Equality.{same_given};
 ghost use Rattle.mpx_board.specs.Boards.{Name as NameView, join_contexts, nothing};
 ghost use Rattle.mpx_board.specs.Contexts.{context_of, or_nothing, or_unknown, or_zero, post_in};
 ghost use Rattle.mpx_post.specs.Drafts.{most_calls};

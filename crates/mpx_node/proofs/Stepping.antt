@@ -9,15 +9,16 @@ use Rattle.std.specs.BTreeMap.{BTreeMap, get, get_by, is_at, WritesThrough}
 use Rattle.join_core.specs.declared.memory.OutOfMemory.{OutOfMemory}
 use Rattle.join_core.specs.Flat.{known, unknown}
 use Rattle.mpx_name.specs.Order.{name_cmp, name_total, name_exact}
-use Rattle.mpx_post.specs.declared.post.Given.{Given}
+use Rattle.mpx_post.specs.Posts.{Given}
 use Rattle.mpx_post.specs.declared.draft.PostError.{PostError}
 use Rattle.mpx_post.specs.declared.draft.PostError.TheVariants as R
 use Rattle.mpx_post.specs.Births.{BirthView}
+use Rattle.mpx_post.specs.Drafts.{Checks}
 use Rattle.mpx_board.specs.Boards.{Name, Born, same_name, only, join, join_contexts, empty, nothing}
 use Rattle.mpx_node.specs.declared.opened.Opened.{Opened}
 use Rattle.mpx_node.specs.declared.node.Harvest.{Harvest}
 use Rattle.mpx_node.specs.declared.node.Harvest.TheVariants as H
-use Rattle.mpx_node.specs.declared.outcome.Finished.{Finished}
+use Rattle.mpx_node.specs.declared.finished.Finished.{Finished}
 use Rattle.mpx_node.specs.Nodes.{NodeView, OpenedView, posted_on, front_on, post_at, Posts, next_of, next_result, add_result}
 use Rattle.mpx_node.specs.Harvests.{Harvests, HarvestsOpened}
 use Rattle.mpx_node.specs.Opened.{opened_of}
@@ -96,12 +97,20 @@ module _ (m n : BTreeMap Name Opened) (name : Name) (o w : Opened) (value : Some
 
 -- POSTS
 
+pub checks_post : (r : Result Given PostError) (given : Given) → Checks r (Ok given) → r ≡ Ok given
+checks_post (Err refusal) given answered = cc answered
+checks_post (Ok expected) given answered = ap Ok (sym answered)
+
 module _ (name : Name) (old new : NodeView) where
   pub posts_refused : (r : Result Given PostError) (e : PostError) → r ≡ Err e → new ≡ old → Posts name r (Err e) old new
   posts_refused r e re same = subst (λ x. Posts name x (Err e) old new) (sym re) (refl, same)
 
-  pub posts_turned_down : (r : Result Given PostError) (result : Result ℕ PostError) (e : PostError) → r ≡ Err e → result ≡ Err e → new ≡ old → Posts name r result old new
-  posts_turned_down r result e re is same = subst (λ x. Posts name r x old new) (sym is) (posts_refused r e re same)
+  turned_down : (r : Result Given PostError) (e : PostError) → Checks r (Err e) → new ≡ old → Posts name r (Err e) old new
+  turned_down (Err refusal) e answered same = (cc answered, same)
+  turned_down (Ok given) e answered same = (answered, same)
+
+  pub posts_turned_down : (r : Result Given PostError) (result : Result ℕ PostError) (e : PostError) → Checks r (Err e) → result ≡ Err e → new ≡ old → Posts name r result old new
+  posts_turned_down r result e answered is same = subst (λ x. Posts name r x old new) (sym is) (turned_down r e answered same)
 
   pub posts_made : (r : Result Given PostError) (given : Given) (call : ℕ) → r ≡ Ok given → call ≡ posted_on old name → new ≡ post_at name given old → Posts name r (Ok call) old new
   posts_made r given call rg k made = subst (λ x. Posts name x (Ok call) old new) (sym rg) (k, made)

@@ -4,7 +4,7 @@ use Rattle.join_core.specs.declared.memory.OutOfMemory.{OutOfMemory}
 use Rattle.mpx_board.specs.Boards.{Name}
 use Rattle.mpx_node.specs.declared.node.Harvest.{Harvest}
 use Rattle.mpx_node.specs.declared.node.Harvest.TheVariants.{Done, NotYet, NotOpened}
-use Rattle.mpx_node.specs.declared.outcome.Finished.{Finished}
+use Rattle.mpx_node.specs.declared.finished.Finished.{Finished}
 use Rattle.mpx_node.specs.Nodes.{NodeView, add_result, front_on}
 
 -- done where there is a next result, and not yet only where there is none; want of memory changes nothing

@@ -1,5 +1,3 @@
-pub mod Values
-pub mod Histories
 pub mod Nodes
 pub mod Opened
 pub mod Shown

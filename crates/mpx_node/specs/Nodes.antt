@@ -2,15 +2,16 @@
 use Rattle.std.specs.Prelude.{◌≡◌, ℕ, ◌+◌, ◌&&◌, cond, nat_lt, List, [], ◌∷◌, ◌++◌, length, Option, Some, None, option_and_then, Result, Ok, Err}
 use Rattle.std.specs.Option.{option_map}
 use Rattle.join_core.specs.Flat.{known}
-use Rattle.mpx_post.specs.declared.post.Given.{Given}
+use Rattle.mpx_post.specs.Posts.{Given}
 use Rattle.mpx_post.specs.declared.draft.Draft.{Draft}
 use Rattle.mpx_post.specs.declared.draft.PostError.{PostError}
 use Rattle.mpx_post.specs.declared.draft.PostError.TheVariants.{NotMember, OutOfMemory}
 use Rattle.mpx_post.specs.Births.{BirthView, upto}
 use Rattle.mpx_post.specs.Drafts.{checked}
 use Rattle.mpx_board.specs.Boards.{Name, Look, join, only, told, row_on, Born, Held, Front, same_name}
-use Rattle.mpx_node.specs.declared.outcome.Finished.{Finished}
-use Rattle.mpx_node.specs.Values.{value}
+use Rattle.mpx_node.specs.declared.finished.Finished.{Finished}
+use Rattle.mpx_value.specs.declared.outcomes.Outcome.{Outcome}
+use Rattle.mpx_value.specs.Histories.{value_for}
 
 -- what a process has done on a context: how many calls it has posted, and the results of those that it has harvested
 pub record OpenedView : Type 0 where
@@ -82,9 +83,13 @@ Posts name (Err refusal) result old new = (result ≡ Err refusal) × (new ≡ o
 Posts name (Ok given) (Ok call) old new = (call ≡ posted_on old name) × (new ≡ post_at name given old)
 Posts name (Ok given) (Err e) old new = (e ≡ OutOfMemory) × (new ≡ old)
 
--- the result of a call, where the board has the birth and the posts of all members, the own one among them
+-- what a call gives the process, where the board has the birth and the posts of all members
+abbrev pub outcome_on : Look → Name → (me call : ℕ) → Option Outcome
+outcome_on board name me k = option_and_then (λ birth. option_and_then (value_for birth me) (row_on board name k)) (told (board.contexts name).birth)
+
+-- the result of a call: what it gives the process, beside the own post
 abbrev pub result_of : Look → Name → (me call : ℕ) → Option Finished
-result_of board name me k = option_and_then (λ row. option_and_then (λ mine. Some (record { mine = mine; outcome = value row })) (told ((board.contexts name).posts k me))) (row_on board name k)
+result_of board name me k = option_and_then (λ mine. option_map (λ outcome. record { mine = mine; outcome = outcome }) (outcome_on board name me k)) (told ((board.contexts name).posts k me))
 
 abbrev pub next_of : Option OpenedView → Look → Name → ℕ → Option Finished
 next_of None board name me = None

@@ -1,23 +1,23 @@
 ghost use Rattle.std.specs.Prelude.{◌≡◌, ◌<◌, ◌≤◌, ℕ, Some, None, OnOk, OnErr, IfOk, slice_get, is_some, length};
 ghost use Rattle.std.specs.Option.{option_copied};
-ghost use Rattle.mpx_post.specs.Drafts.{checked, most_calls};
+ghost use Rattle.mpx_post.specs.Drafts.{Checks, checked, most_calls};
 ghost use Rattle.std.specs.Option.{option_map};
 ghost use Rattle.std.specs.BTreeMap.{get};
 ghost use Rattle.mpx_name.specs.Order.{name_cmp};
 ghost use Rattle.mpx_board.specs.Boards.{Name as NameView, only, floor_on, Dropped};
 ghost use Rattle.mpx_board.specs.Changes.{pruned};
 ghost use Rattle.mpx_board.specs.Looks.{look};
-ghost use Rattle.mpx_node.specs.Nodes.{opened_at_start, result_of};
+ghost use Rattle.mpx_node.specs.Nodes.{opened_at_start, outcome_on, result_of};
 ghost use Rattle.mpx_node.specs.Opened.{opened_of};
 
+use crate::finished::Finished;
 use crate::opened::Opened;
-use crate::outcome::Finished;
-use crate::value::value_of;
 use join_core::{Exact, OutOfMemory};
 use mpx_board::{Board, PruneError};
 use mpx_group::Proc;
 use mpx_name::Name;
 use mpx_post::{At, Birth, Draft, Post, PostError};
+use mpx_value::{Outcome, outcome};
 use std::alloc::Global;
 use std::collections::BTreeMap;
 
@@ -74,7 +74,7 @@ impl Node {
             return Err(PostError::NotMember);
         };
         let call = opened.posted;
-        let post = checked(birth, self.me, call, draft)?;
+        let post = checked(alloc, birth, self.me, call, draft)?;
         match self.board.join_post(alloc, name, call, self.me, post) {
             Ok(()) => {
                 opened.posted = call + 1;
@@ -189,22 +189,50 @@ fn finished(
 ) -> Result<Option<Finished>, OutOfMemory>
     ensures { IfOk result (λ o. o ≡ result_of (look board.now) name.now me call) }
 {
-    let row = match board.row(alloc, name, call)? {
-        Some(row) => row,
-        None => return Ok(None),
-    };
     let mine = match board.holds(name, call, me) {
         Some(post) => post.copy(alloc)?,
         None => return Ok(None),
     };
-    let outcome = value_of(alloc, &row)?;
-    Ok(Some(Finished { mine, outcome }))
+    match outcome_on(alloc, board, name, me, call)? {
+        Some(outcome) => Ok(Some(Finished { mine, outcome })),
+        None => Ok(None),
+    }
+}
+
+// What a call gives the process, where the board has the birth and the posts of all members, and it is one.
+fn outcome_on(
+    alloc: Global,
+    board: &Board,
+    name: &Name,
+    me: Proc,
+    call: u32,
+) -> Result<Option<Outcome>, OutOfMemory>
+    ensures { IfOk result (λ o. o ≡ outcome_on (look board.now) name.now me call) }
+{
+    let row = match board.row(alloc, name, call)? {
+        Some(row) => row,
+        None => return Ok(None),
+    };
+    let rank = match board.birth(name) {
+        Some(birth) => birth.rank_of(me),
+        None => None,
+    };
+    match rank {
+        Some(rank) => Ok(Some(outcome(alloc, &row, rank)?)),
+        None => Ok(None),
+    }
 }
 
 // The post of the draft as this call, of which there is none past the last.
-fn checked(birth: &Birth, me: Proc, call: u32, draft: Draft) -> Result<Post, PostError>
-    ensures value { result ≡ checked birth.now me (record { call = call }) draft }
+fn checked(
+    alloc: Global,
+    birth: &Birth,
+    me: Proc,
+    call: u32,
+    draft: Draft,
+) -> Result<Post, PostError>
+    ensures value { Checks (checked birth.now me (record { call = call }) draft) result }
     ensures room { OnOk result (call < most_calls) }
 {
-    draft.check(birth, me, &At { call })
+    draft.check(alloc, birth, me, &At { call })
 }

@@ -1,6 +1,6 @@
 ghost use Rattle.std.specs.Prelude.{◌≡◌, length, nat_le, true, []};
 
-use crate::outcome::Finished;
+use crate::finished::Finished;
 use std::alloc::Global;
 
 // What a process has done on a context that it has opened: how many calls it has posted, and the results of those that it

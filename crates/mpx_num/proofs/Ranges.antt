@@ -4,23 +4,35 @@ use mir.Syntax.{w128}
 use Rattle.std.proofs.lemmas.Int.{ints}
 use Rattle.std.proofs.lemmas.Nat.{pow-add, pow_pos, mod_below, and_mask}
 use Rattle.std.proofs.Math.Pow.{mod-mod-pow}
+use Rattle.std.proofs.Math.Nat.{pow-le-pow_right}
 use Rattle.mpx_num.specs.declared.types.Ty.{Ty}
-use Rattle.mpx_num.specs.declared.types.Ty.TheVariants.{I64}
+use Rattle.mpx_num.specs.declared.types.Ty.TheVariants.{I8, I16, I32, I64, U8, U16, U32, U64, TwoInt}
 use Rattle.mpx_num.specs.Types.{width, depth, least, IsInRange}
 use Rattle.mpx_num.specs.Wrapping.{DifferByMultiple, wrapped, into_range}
 use Rattle.mpx_num.proofs.Wraps.{IsWrapped, wrapped-is, wrapped-holds, wrapped-unique, differ_plus}
 
--- every type has at most 64 bits, and zero among its numbers
+-- every type has at most 64 bits, and 0 and 1 among its numbers
 pub record IsNarrow (ty : Ty) : Type 0 where
   pub width_small : width ty ≤ 64
-  pub depth_small : depth ty < 2 ^ width ty
+  pub depth_small : depth ty + 1 < 2 ^ width ty
 
 pub is_narrow : (ty : Ty) → IsNarrow ty
+is_narrow I8 = record { width_small = omega arith; depth_small = omega arith }
+is_narrow I16 = record { width_small = omega arith; depth_small = omega arith }
+is_narrow I32 = record { width_small = omega arith; depth_small = omega arith }
 is_narrow I64 = record { width_small = omega arith; depth_small = omega arith }
+is_narrow U8 = record { width_small = omega arith; depth_small = omega arith }
+is_narrow U16 = record { width_small = omega arith; depth_small = omega arith }
+is_narrow U32 = record { width_small = omega arith; depth_small = omega arith }
+is_narrow U64 = record { width_small = omega arith; depth_small = omega arith }
+is_narrow TwoInt = record { width_small = omega arith; depth_small = omega arith }
+
+span_small : (ty : Ty) → 2 ^ width ty ≤ 2 ^ 64
+span_small ty = pow-le-pow_right (omega arith) (is_narrow ty).width_small
 
 pub in_range_from_wrapped : (ty : Ty) (z r : ℤ) → IsWrapped (least ty) (2 ^ width ty) z r → IsInRange ty r
 in_range_from_wrapped ty z r w =
-    let narrow : depth ty < 2 ^ width ty = (is_narrow ty).depth_small in
+    let narrow : depth ty + 1 < 2 ^ width ty = (is_narrow ty).depth_small in
     record { low = w.above; high = let below : r <ℤ (neg_ℤ (pos (depth ty)) +ℤ pos (2 ^ width ty)) = w.below in omega (arith, ints) }
 
 -- what is brought into the range is in it
@@ -32,7 +44,7 @@ into_range-in_range ty z = in_range_from_wrapped ty z _ (wrapped-holds (least ty
 abbrev low_bits : ℕ → ℕ → ℤ → ℕ
 low_bits k d z = bit_and ((of_z w128 z + d) % 2 ^ 128) (2 ^ k - 1)
 
-bits_reach : (d j k : ℕ) (z : ℤ) → j + k ≡ 128 → FitsSigned w128 z → (a : ℕ) × ((z -ℤ neg_ℤ (pos d)) +ℤ pos (a * 2 ^ k) ≡ pos (of_z w128 z + d))
+pub bits_reach : (d j k : ℕ) (z : ℤ) → j + k ≡ 128 → FitsSigned w128 z → (a : ℕ) × ((z -ℤ neg_ℤ (pos d)) +ℤ pos (a * 2 ^ k) ≡ pos (of_z w128 z + d))
 bits_reach d j k (pos n) e f = (0, omega (arith, ints))
 bits_reach d j k (negsuc n) e f =
     let whole : 2 ^ j * 2 ^ k ≡ 2 ^ 128 = sym (pow-add 2 j k) ∙ ap (λ (i : ℕ). 2 ^ i) e in
@@ -55,21 +67,22 @@ wrapped_by_bits d j k z e f =
 -- and its result as the code has it, in 128 bits
 pub into_range-by_bits : (ty : Ty) (z : ℤ) → FitsSigned w128 z → to_z w128 (of_z w128 (to_z w128 (low_bits (width ty) (depth ty) z) -ℤ to_z w128 (depth ty))) ≡ into_range ty z
 unfolding into_range
-into_range-by_bits I64 z f =
-    let same : neg_ℤ (pos (2 ^ 63)) +ℤ pos (low_bits 64 (2 ^ 63) z) ≡ wrapped (neg_ℤ (pos (2 ^ 63))) (2 ^ 64) z = wrapped_by_bits (2 ^ 63) 64 64 z refl f in
-    let is : low_bits 64 (2 ^ 63) z ≡ (of_z w128 z + 2 ^ 63) % 2 ^ 64 = low_bits-is (2 ^ 63) 64 64 z refl in
-    let small : (of_z w128 z + 2 ^ 63) % 2 ^ 64 < 2 ^ 64 = mod_below (of_z w128 z + 2 ^ 63) (2 ^ 64) (omega arith) in
+into_range-by_bits ty z f =
+    let k : ℕ = width ty in
+    let d : ℕ = depth ty in
+    let fill : (128 - k) + k ≡ 128 = omega (arith, (is_narrow ty).width_small) in
+    let same : neg_ℤ (pos d) +ℤ pos (low_bits k d z) ≡ wrapped (neg_ℤ (pos d)) (2 ^ k) z = wrapped_by_bits d (128 - k) k z fill f in
+    let is : low_bits k d z ≡ (of_z w128 z + d) % 2 ^ k = low_bits-is d (128 - k) k z fill in
+    let small : (of_z w128 z + d) % 2 ^ k < 2 ^ k = mod_below (of_z w128 z + d) (2 ^ k) (pow_pos k) in
+    let low : d + 1 < 2 ^ k = (is_narrow ty).depth_small in
+    let most : 2 ^ k ≤ 2 ^ 64 = span_small ty in
     omega (arith, ints)
-
--- two numbers of a type have a sum of 128 bits
-pub plus_fits : (ty : Ty) (x y : ℤ) → IsInRange ty x → IsInRange ty y → FitsSigned w128 (x +ℤ y)
-plus_fits I64 x y h k = omega (arith, ints)
 
 -- a number of the type is its own place in the range
 pub into_range-same : (ty : Ty) (z : ℤ) → IsInRange ty z → into_range ty z ≡ z
 unfolding into_range
 into_range-same ty z h =
-    let narrow : depth ty < 2 ^ width ty = (is_narrow ty).depth_small in
+    let narrow : depth ty + 1 < 2 ^ width ty = (is_narrow ty).depth_small in
     let low : neg_ℤ (pos (depth ty)) ≤ℤ z = h.low in
     let high : z ≤ℤ pos (2 ^ width ty - 1 - depth ty) = h.high in
     sym (wrapped-unique (least ty) z z (2 ^ width ty) (record { above = low; below = omega (arith, ints); same = (0, 0, refl) }))
@@ -82,7 +95,7 @@ into_range-differs ty z = (wrapped-holds (least ty) z (2 ^ width ty) (pow_pos (w
 pub into_range-unique : (ty : Ty) (z r : ℤ) → IsInRange ty r → DifferByMultiple (2 ^ width ty) z r → r ≡ into_range ty z
 unfolding into_range
 into_range-unique ty z r h same =
-    let narrow : depth ty < 2 ^ width ty = (is_narrow ty).depth_small in
+    let narrow : depth ty + 1 < 2 ^ width ty = (is_narrow ty).depth_small in
     let low : neg_ℤ (pos (depth ty)) ≤ℤ r = h.low in
     let high : r ≤ℤ pos (2 ^ width ty - 1 - depth ty) = h.high in
     wrapped-unique (least ty) z r (2 ^ width ty) (record { above = low; below = omega (arith, ints); same = same })

@@ -16,7 +16,7 @@ total (x ∷ xs) = x +ℤ total xs
 abbrev pub column : ℕ → List (List ℤ) → List ℤ
 column i lists = map (λ xs. slice_index_or xs i (pos 0)) lists
 
--- n numbers of the type in each list
+-- each list has n numbers, and they are items of the type
 abbrev pub AreContributions : Ty → ℕ → List (List ℤ) → Type 0
 AreContributions ty n lists = AllByRecursion (λ xs. (length xs ≡ n) × AreItems ty xs) lists
 

@@ -1,9 +1,9 @@
-ghost use Rattle.std.specs.Prelude.{◌≡◌, ◌<◌, ◌≤◌, ◌↔◌, ℕ, IsTrue, IsOk, IfOk, length};
+ghost use Rattle.std.specs.Prelude.{◌≡◌, ◌+◌, ◌*◌, ◌<◌, ◌≤◌, ◌↔◌, ◌++◌, ℕ, IsTrue, IsOk, IfOk, OnOk, OnErr, [], length, take, drop, true, false};
 ghost use Rattle.std.specs.Bool.{OnTrue, OnFalse};
 ghost use Rattle.std.specs.Result.{IsErrOf};
-ghost use Rattle.std.specs.List.{Any};
-ghost use Rattle.mpx_num.specs.Types.{IsInRange, IsOutOfRange};
-ghost use Rattle.mpx_num.specs.ItemList.{AreItems, item_count};
+ghost use Rattle.std.specs.List.{All, Any};
+ghost use Rattle.mpx_num.specs.Types.{IsInRange, IsOutOfRange, item_len};
+ghost use Rattle.mpx_num.specs.ItemList.{AreItems, is_whole, item_count};
 ghost use Rattle.mpx_num.specs.Operations.{elementwise, fits};
 
 use crate::numbers::Numbers;
@@ -16,7 +16,7 @@ use std::marker::Model;
 /// The greatest number of items of one contribution.
 pub const MOST_ITEMS: usize = 4096;
 
-/// Numbers of one type, each in the type's range.
+/// Items of one type: numbers, each in the type's range, as many as whole items have.
 #[derive(Debug, Drop)]
 pub struct Items {
     ty: Ty,
@@ -36,6 +36,8 @@ impl Model for Items {
 /// Why numbers are no items of a type.
 #[derive(Clone, Copy, PartialEq, Eq, Debug, thiserror::Error)]
 pub enum ItemsError {
+    #[error("an odd number of numbers for pairs")]
+    ItemsLength,
     #[error("a number is out of the range of its type")]
     ItemOutOfRange,
     #[error("more than 4096 items")]
@@ -46,20 +48,34 @@ impl Items {
     /// The numbers as items of the type. It takes no memory.
     pub fn new(ty: Ty, nums: Numbers) -> Result<Self, ItemsError>
         ensures items { IfOk result (λ items. items ≡ record { ty = ty; nums = nums }) }
-        ensures ok { IsOk result ↔ (AreItems ty nums × (item_count ty nums ≤ MOST_ITEMS)) }
+        ensures ok { IsOk result ↔ (AreItems ty nums × (length nums ≤ MOST_ITEMS * item_len ty)) }
 
-        // A number out of range is reported as such, however many there are.
-        ensures out_of_range { IsErrOf result ItemsError.ItemOutOfRange ↔ Any (IsOutOfRange ty) nums }
-        ensures too_many { IsErrOf result ItemsError.TooManyItems ↔ (AreItems ty nums × (MOST_ITEMS < item_count ty nums)) }
+        // The length is asked first, then the range of each number, and last how many there are.
+        ensures length { IsErrOf result ItemsError.ItemsLength ↔ (is_whole ty nums ≡ false) }
+        ensures out_of_range { IsErrOf result ItemsError.ItemOutOfRange ↔ ((is_whole ty nums ≡ true) × Any (IsOutOfRange ty) nums) }
+        ensures too_many { IsErrOf result ItemsError.TooManyItems ↔ (AreItems ty nums × (MOST_ITEMS * item_len ty < length nums)) }
     {
         let nums = nums.into_vec();
+        if !are_whole(ty, nums.as_slice()) {
+            return Err(ItemsError::ItemsLength);
+        }
         if !are_in_range(ty, nums.as_slice()) {
             return Err(ItemsError::ItemOutOfRange);
         }
-        if nums.len() > MOST_ITEMS {
+        if nums.len() > MOST_ITEMS * ty.item_len() {
             return Err(ItemsError::TooManyItems);
         }
         Ok(Items { ty, nums })
+    }
+
+    /// No items of the type. It takes no memory.
+    pub fn empty(alloc: Global, ty: Ty) -> Self
+        ensures { result ≡ record { ty = ty; nums = [] } }
+    {
+        Items {
+            ty,
+            nums: Vec::new(alloc),
+        }
     }
 
     /// The type of the items.
@@ -79,9 +95,10 @@ impl Items {
 
     /// How many items there are.
     pub fn count(&self) -> usize
-        ensures { result ≡ item_count self.now.ty self.now.nums }
+        ensures value { result ≡ item_count self.now.ty self.now.nums }
+        ensures whole { result * item_len self.now.ty ≡ length self.now.nums }
     {
-        self.nums.len()
+        self.nums.len() / self.ty.item_len()
     }
 
     /// Whether the items are equal in type and numbers.
@@ -98,10 +115,39 @@ impl Items {
         let nums = Vec::from_slice(alloc, self.nums.as_slice())?;
         Ok(Items { ty: self.ty, nums })
     }
+
+    /// Appends so many items of another list of the same type, from a place on.
+    pub fn extend(&mut self, from: &Items, first: usize, count: usize) -> Result<(), AllocError>
+        requires ty { self.old.ty ≡ from.now.ty }
+        requires within { (first + count) * item_len from.now.ty ≤ length from.now.nums }
+        ensures ok { OnOk result (self.new ≡ record { ty = self.old.ty; nums = self.old.nums ++ take (count * item_len self.old.ty) (drop (first * item_len self.old.ty) from.now.nums) }) }
+        ensures err { OnErr result (self.new ≡ self.old) }
+    {
+        self.nums.extend_from_slice(from.part(first, count))
+    }
+
+    // The numbers of so many items, from a place on.
+    fn part(&self, first: usize, count: usize) -> &[i128]
+        requires { (first + count) * item_len self.now.ty ≤ length self.now.nums }
+        ensures value { result.now ≡ take (count * item_len self.now.ty) (drop (first * item_len self.now.ty) self.now.nums) }
+        ensures items { AreItems self.now.ty result.now }
+    {
+        let nums = self.nums();
+        let item_len = self.ty.item_len();
+        let start = first * item_len;
+        &nums[start..start + count * item_len]
+    }
+}
+
+fn are_whole(ty: Ty, nums: &[i128]) -> bool
+    ensures { result ≡ is_whole ty nums.now }
+{
+    let item_len = ty.item_len();
+    nums.len() / item_len * item_len == nums.len()
 }
 
 fn are_in_range(ty: Ty, nums: &[i128]) -> bool
-    ensures yes { OnTrue result (AreItems ty nums.now) }
+    ensures yes { OnTrue result (All (IsInRange ty) nums.now) }
     ensures no { OnFalse result (Any (IsOutOfRange ty) nums.now) }
 {
     for &number in nums {
@@ -113,13 +159,14 @@ fn are_in_range(ty: Ty, nums: &[i128]) -> bool
 }
 
 /// Combines items with others of the same type, item by item and in place: the first become `op` of the first and the
-/// second (MPI 4.1, section 6.9.2). It takes no memory.
+/// second (MPI 4.1, sections 6.9.2 and 6.9.4). It takes no memory.
 pub fn apply(op: Op, ty: Ty, left: &mut Items, right: &Items)
     requires fit { IsTrue (fits op ty) }
     requires left_ty { left.old.ty ≡ ty }
     requires right_ty { right.now.ty ≡ ty }
     requires same_len { length left.old.nums ≡ length right.now.nums }
-    ensures { left.new ≡ record { ty = ty; nums = elementwise op ty left.old.nums right.now.nums } }
+    ensures value { left.new ≡ record { ty = ty; nums = elementwise op ty left.old.nums right.now.nums } }
+    ensures same_len { length left.new.nums ≡ length left.old.nums }
 {
     combine(op, ty, left.nums.as_mut_slice(), right.nums.as_slice());
 }

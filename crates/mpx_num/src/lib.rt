@@ -2,8 +2,8 @@
 //! numbers as text.
 //!
 //! A number is an `i128` in the code and an integer in the contracts. [`Items`] are numbers of one type, each within the
-//! type's range; [`apply`] combines two lists of items in place, item by item; [`parse_number`] and [`print_number`]
-//! lead from decimal text to numbers and back.
+//! type's range, and for [`Ty::TwoInt`] two for each item; [`apply`] combines two lists of items in place, item by item;
+//! [`parse_number`] and [`print_number`] lead from decimal text to numbers and back.
 #![tactic(auto)]
 
 mod items;

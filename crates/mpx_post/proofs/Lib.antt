@@ -1,2 +1,6 @@
-pub mod Fields
+pub mod Agreement
+pub mod Equality
 pub mod Refusals
+pub mod Sums
+pub mod Blocks
+pub mod Contributions

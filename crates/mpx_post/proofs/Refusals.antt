@@ -1,39 +1,81 @@
--- What the outcome of checking numbers says of the refusals of a draft.
-use Rattle.std.proofs.Common.{◌≡◌, ℕ, ℤ, ◌<◌, ◌≤◌, ◌==◌, true, false, List, [], ◌∷◌, ◌++◌, nat_lt, Ok, Err, arith}
-use Rattle.std.specs.Prelude.{int_le}
-use Rattle.std.specs.List.{list_all}
+-- What each part of a draft's check says of its refusals.
+use Rattle.std.proofs.Common.{◌≡◌, ◌∙◌, inl, inr, ◌≤◌, ◌<◌, ◌*◌, ◌||◌, cond, is_some, Bool, true, false, not, List, [], ◌∷◌, ℤ, length, Option, Ok, Err, nat_lt, refl, ap, arith}
+use Rattle.std.specs.Prelude.{int_le, ◌≤ℤ◌, ◌<ℤ◌, ◌&&◌, ◌⊎◌}
+use Rattle.std.specs.List.{Any, list_all}
 use Rattle.std.proofs.lemmas.Bool.Decides.{nat_tests}
+use Rattle.std.proofs.Math.Bool.{and-false}
 use Rattle.std.proofs.lemmas.Int.{ints}
+use Rattle.std.proofs.lemmas.List.Folds.{list_all_at}
 use Rattle.std.proofs.lemmas.List.Sums.{list_all-from_AllPass}
 use Rattle.mpx_num.specs.declared.types.Ty.{Ty}
-use Rattle.mpx_num.specs.Types.{IsInRange, least, greatest}
-use Rattle.mpx_num.specs.ItemList.{AreItems, item_count}
-use Rattle.mpx_post.specs.declared.draft.PostError.TheVariants.{TooManyItems, CallsUsedUp}
-use Rattle.mpx_post.specs.Posts.{most_items}
-use Rattle.mpx_post.specs.Drafts.{is_of, first_that_holds, most_calls, refusals_of_items, unless}
+use Rattle.mpx_num.specs.Types.{item_len, least, greatest, IsInRange, IsOutOfRange}
+use Rattle.mpx_num.specs.ItemList.{AreItems, is_whole}
+use Rattle.mpx_post.specs.declared.draft.PostError.{PostError}
+use Rattle.mpx_post.specs.declared.draft.PostError.TheVariants.{ItemsLength, ItemOutOfRange, TooManyItems, CallsUsedUp}
+use Rattle.mpx_post.specs.Posts.{Given, few_items, most_items}
+use Rattle.mpx_post.specs.Drafts.{Checks, first_that_holds, is_of, unless, where_had}
 
-is_of-holds : (ty : Ty) (z : ℤ) → IsInRange ty z → is_of ty z ≡ true
-is_of-holds ty z h =
-    let low : int_le (least ty) z ≡ true = grind (arith, ints, h.low) in
-    let high : int_le z (greatest ty) ≡ true = grind (arith, ints, h.high) in
-    rw (low, high)
+-- ITEMS
+
+is_between : (low high z : ℤ) → low ≤ℤ z → z ≤ℤ high → (int_le low z && int_le z high) ≡ true
+is_between low high z above below =
+    let l : int_le low z ≡ true = grind (arith, ints, above) in
+    let h : int_le z high ≡ true = grind (arith, ints, below) in
+    rw (l, h) refl
 
 all_are : (ty : Ty) (nums : List ℤ) → AreItems ty nums → list_all (is_of ty) nums ≡ true
-all_are ty nums h = list_all-from_AllPass (is_of ty) nums (λ k d l. is_of-holds ty _ (h k d l))
+all_are ty nums items = list_all-from_AllPass (is_of ty) nums (λ k d l. let range : IsInRange ty _ = items.in_range k d l in is_between (least ty) (greatest ty) _ range.low range.high)
 
--- what is checked after the items, once they are in range
-module _ {A : Type 0} (ty : Ty) (nums : List ℤ) (call : ℕ) (x : A) where
-  pub too_many : AreItems ty nums → most_items < item_count ty nums → Err TooManyItems ≡ unless (first_that_holds (refusals_of_items ty nums ++ (call == most_calls, CallsUsedUp) ∷ [])) x
-  too_many h l = let many : nat_lt most_items (item_count ty nums) ≡ true = grind (arith, nat_tests) in rw (all_are ty nums h, many)
+-- a number out of range is no number of the type
+is_beyond : (low high z : ℤ) → (z <ℤ low) ⊎ (high <ℤ z) → (int_le low z && int_le z high) ≡ false
+is_beyond low high z (inl below) = let l : int_le low z ≡ false = grind (arith, ints, below) in rw l refl
+is_beyond low high z (inr above) = let h : int_le z high ≡ false = grind (arith, ints, above) in rw h (and-false (int_le low z))
 
-  pub used_up : AreItems ty nums → item_count ty nums ≤ most_items → call ≡ most_calls → Err CallsUsedUp ≡ unless (first_that_holds (refusals_of_items ty nums ++ (call == most_calls, CallsUsedUp) ∷ [])) x
-  used_up h l e =
-      let few : nat_lt most_items (item_count ty nums) ≡ false = grind (arith, nat_tests) in
-      let all : (call == most_calls) ≡ true = grind (arith, nat_tests) in
-      rw (all_are ty nums h, few, all)
+one_is_none : (ty : Ty) (nums : List ℤ) → Any (IsOutOfRange ty) nums → list_all (is_of ty) nums ≡ false
+one_is_none ty nums strange = list_all_at (is_of ty) nums strange.0 strange.1 strange.2 (ap (is_of ty) strange.3 ∙ is_beyond (least ty) (greatest ty) strange.1 strange.4)
 
-  pub posted : AreItems ty nums → item_count ty nums ≤ most_items → (call ≡ most_calls → ⊥) → (y : A) → y ≡ x → Ok y ≡ unless (first_that_holds (refusals_of_items ty nums ++ (call == most_calls, CallsUsedUp) ∷ [])) x
-  posted h l e y same =
-      let few : nat_lt most_items (item_count ty nums) ≡ false = grind (arith, nat_tests) in
-      let more : (call == most_calls) ≡ false = grind (arith, nat_tests) in
-      rw (all_are ty nums h, few, more, same)
+-- why numbers are no items
+abbrev pub items_refusal : Ty → List ℤ → Option PostError
+items_refusal ty nums = first_that_holds ((not (is_whole ty nums), ItemsLength) ∷ (not (list_all (is_of ty) nums), ItemOutOfRange) ∷ (nat_lt (most_items * item_len ty) (length nums), TooManyItems) ∷ [])
+
+module _ {A : Type 0} (ty : Ty) (nums : List ℤ) (x : A) (items : AreItems ty nums) where
+  pub few_are_items : length nums ≤ most_items * item_len ty → Ok x ≡ unless (items_refusal ty nums) x
+  few_are_items l =
+      let few : nat_lt (most_items * item_len ty) (length nums) ≡ false = grind (arith, nat_tests) in
+      rw (items.whole, all_are ty nums items, few) refl
+
+  pub many_are_refused : most_items * item_len ty < length nums → Err TooManyItems ≡ unless (items_refusal ty nums) x
+  many_are_refused l =
+      let many : nat_lt (most_items * item_len ty) (length nums) ≡ true = grind (arith, nat_tests) in
+      rw (items.whole, all_are ty nums items, many) refl
+
+pub strange_are_refused : {A : Type 0} (ty : Ty) (nums : List ℤ) (x : A) → is_whole ty nums ≡ true → Any (IsOutOfRange ty) nums → Err ItemOutOfRange ≡ unless (items_refusal ty nums) x
+strange_are_refused ty nums x whole strange = rw (whole, one_is_none ty nums strange) refl
+
+-- AFTER THE COUNTS: w whether an item is cut, r whether a number is out of range, t whether there are too many items
+
+abbrev pub three : (w r t : Bool) → Option PostError
+three w r t = first_that_holds ((w, ItemsLength) ∷ (r, ItemOutOfRange) ∷ (t, TooManyItems) ∷ [])
+
+-- what refuses the items refuses the draft, where c is whether a count is none, u whether the calls are used up
+pub items_refused : {A : Type 0} (w r t c u : Bool) (x : A) (e : PostError) (given : Given) → Err e ≡ unless (three w r t) x → Checks (unless (first_that_holds ((w || false, ItemsLength) ∷ (r, ItemOutOfRange) ∷ (t || c, TooManyItems) ∷ (u, CallsUsedUp) ∷ [])) given) (Err e)
+items_refused true r t c u x e given h = let same : e ≡ ItemsLength = cc in ap Err same
+items_refused false true t c u x e given h = let same : e ≡ ItemOutOfRange = cc in ap Err same
+items_refused false false true c u x e given h = let same : e ≡ TooManyItems = cc in ap Err same
+items_refused false false false c u x e given h = cc
+
+pub items_passed : {A : Type 0} (w r t : Bool) (x y : A) → Ok y ≡ unless (three w r t) x → (w ≡ false) × (r ≡ false) × (t ≡ false) × (y ≡ x)
+items_passed true r t x y h = cc
+items_passed false true t x y h = cc
+items_passed false false true x y h = cc
+items_passed false false false x y h = (refl, refl, refl, cc)
+
+-- PARTS OF A POST
+
+pub is_some-where_had : {A : Type 0} (had : Bool) (x : A) → is_some (where_had had x) ≡ had
+is_some-where_had true x = refl
+is_some-where_had false x = refl
+
+pub few_given : (had : Bool) (ty : Ty) (nums : List ℤ) → nat_lt (most_items * item_len ty) (length (cond had nums [])) ≡ false → few_items (where_had had (record { ty = ty; nums = nums }))
+few_given true ty nums few = grind (arith, nat_tests)
+few_given false ty nums few = tt

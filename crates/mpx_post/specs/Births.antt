@@ -1,7 +1,7 @@
 -- The members of a communicator (MPI 4.1 section 7.2).
-use Rattle.std.specs.Prelude.{◌≡◌, ℕ, zero, suc, ◌==◌, nat_eq, Bool, List, [], ◌∷◌, ◌++◌, refl}
+use Rattle.std.specs.Prelude.{◌≡◌, ℕ, zero, suc, ◌==◌, nat_eq, Bool, List, [], ◌∷◌, ◌++◌, Option, refl}
 use Rattle.std.specs.Bool.{Decides}
-use Rattle.std.specs.List.{list_any}
+use Rattle.std.specs.List.{position}
 use Rattle.std.proofs.lemmas.Bool.Decides.{Decides-eqb}
 use Rattle.std.proofs.lemmas.Slice.Eq.{slice_eq-Decides}
 use lib.Pointwise.{pointwise}
@@ -16,9 +16,9 @@ abbrev pub upto : ℕ → List ℕ
 upto zero = []
 upto (suc n) = upto n ++ n ∷ []
 
--- whether the process is one of these
-abbrev pub is_among : ℕ → List ℕ → Bool
-is_among p ps = list_any (λ q. q == p) ps
+-- the place of a process in such a list: its rank
+abbrev pub rank_in : ℕ → List ℕ → Option ℕ
+rank_in p ps = position (λ q. q == p) ps
 
 -- the same members in the same order
 abbrev pub same_birth : BirthView → BirthView → Bool

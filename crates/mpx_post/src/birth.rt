@@ -1,5 +1,5 @@
 ghost use Rattle.std.specs.Prelude.{◌≡◌, ◌<◌, ◌≤◌, IfOk, length};
-ghost use Rattle.mpx_post.specs.Births.{upto, is_among};
+ghost use Rattle.mpx_post.specs.Births.{upto, rank_in};
 
 use join_core::{Exact, OutOfMemory};
 use mpx_group::Proc;
@@ -70,10 +70,11 @@ impl Birth {
         self.members.as_slice()
     }
 
-    /// Whether the process is a member.
-    pub fn has(&self, process: Proc) -> bool
-        ensures { result ≡ is_among process self.now.members }
+    /// The rank of the process, where it is a member.
+    pub fn rank_of(&self, process: Proc) -> Option<u8>
+        ensures { result ≡ rank_in process self.now.members }
     {
-        self.members.contains(&process)
+        let place = self.members.iter().position(|member| *member == process)?;
+        Some(place as u8)
     }
 }

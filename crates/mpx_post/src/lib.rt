@@ -1,18 +1,29 @@
 //! What a process gives to a call: drafts, posts and the rows that they make.
 //!
-//! A post is seen by contracts as its kind with its fields (`specs/Posts.antt`), a row as the list of its posts in rank
-//! order (`specs/Rows.antt`), a communicator as the list of its members (`specs/Births.antt`), and a draft is accepted or
-//! refused by one list of conditions in the order in which they are told (`specs/Drafts.antt`).
+//! A [`Kind`] of call has one row in a table (`specs/Kinds.antt`): which fields its posts have, how many counts, and how
+//! their items are cut into blocks. A post is seen by contracts as the record of its fields (`specs/Posts.antt`), a row as
+//! the list of its posts in rank order (`specs/Rows.antt`), and a communicator as the list of its members
+//! (`specs/Births.antt`). A draft is accepted or refused by one list of conditions in the order in which they are told
+//! (`specs/Drafts.antt`), and a row is fine where none of its faults names a rank (`specs/Agreement.antt`).
 //!
-//! In the order of reading: [`Birth`], [`Draft`] with [`Draft::check`], [`Post`], [`Row`].
+//! In the order of reading: [`Birth`], [`Kind`], [`Draft`] with [`Draft::check`], [`Post`], [`Row`], [`Value`].
 #![tactic(auto)]
 
 mod birth;
+mod counts;
 mod draft;
+mod kinds;
+mod parts;
 mod post;
 mod row;
+#[cfg(test)]
+mod tests;
+mod value;
 
 pub use birth::Birth;
+pub use counts::Counts;
 pub use draft::{At, Draft, PostError};
-pub use post::{Given, Post};
+pub use kinds::{Fields, Kind, Mode, Number, Sent};
+pub use post::Post;
 pub use row::Row;
+pub use value::Value;

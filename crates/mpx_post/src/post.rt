@@ -1,43 +1,43 @@
-ghost use Rattle.std.specs.Prelude.{◌≡◌, ◌≤◌, IsTrue, IfOk, length};
+ghost use Rattle.std.specs.Prelude.{◌≡◌, ◌≤◌, ◌*◌, is_some, IfOk, OnOk, length};
+ghost use Rattle.std.specs.Option.{option_copied};
 ghost use Rattle.mpx_num.specs.ItemList.{ItemList};
-ghost use Rattle.mpx_post.specs.Posts.{is_small, most_items, operation_of, items_of};
+ghost use Rattle.mpx_post.specs.Kinds.{fields_of};
+ghost use Rattle.mpx_post.specs.Posts.{Given, IsPost, count_of, few_items};
+ghost use Rattle.mpx_post.specs.Equality.{same_option, same_items};
 
+use crate::counts::Counts;
+use crate::kinds::{Kind, Mode};
 use join_core::{Exact, OutOfMemory};
 use mpx_num::{Items, Op};
 use std::alloc::Global;
 use std::marker::Model;
 
-/// What one member gives to one call, by its kind.
-#[derive(Debug, Drop)]
-pub enum Given {
-    /// `MPI_ALLREDUCE` (MPI 4.1 section 6.9.6): each member gives as many items, and all get their
-    /// reduction.
-    Allreduce { op: Op, items: Items },
-}
-
 /// What one member posts to one call: its kind with the fields of that kind, within the limits of a post.
 #[derive(Debug, Drop)]
 pub struct Post {
-    given: Given,
+    kind: Kind,
+    mode: Mode,
+    root: Option<u8>,
+    op: Option<Op>,
+    scounts: Counts,
+    rcounts: Counts,
+    items: Option<Items>,
 }
 
 impl Model for Post {
-    ghost use Rattle.std.specs.Prelude.{◌≡◌, true};
-    ghost use Rattle.mpx_post.specs.declared.post.Given.{Given};
+    ghost use Rattle.mpx_post.specs.Posts.{Given, IsPost};
 
     ghost Value = { Given };
 
-    ghost use Rattle.mpx_post.specs.Posts.{is_small};
+    ghost view = { λ p. record { kind = p.kind; mode = p.mode; root = p.root; op = p.op; scounts = p.scounts; rcounts = p.rcounts; items = p.items } };
 
-    ghost view = { λ p. p.given };
-
-    ghost invariant = { λ p. is_small p.given ≡ true };
+    ghost invariant = { λ p. IsPost (record { kind = p.kind; mode = p.mode; root = p.root; op = p.op; scounts = p.scounts; rcounts = p.rcounts; items = p.items }) };
 }
 
 impl Exact for Post {
     ghost use Rattle.join_core.specs.Laws.{never_joined};
-    ghost use Rattle.mpx_post.specs.declared.post.Given.{Given};
-    ghost use Rattle.mpx_post.specs.Posts.{same_given, given_equality};
+    ghost use Rattle.mpx_post.specs.Posts.{Given};
+    ghost use Rattle.mpx_post.specs.Equality.{same_given, given_equality};
 
     ghost View = { Given };
 
@@ -48,16 +48,27 @@ impl Exact for Post {
     ghost joining = { never_joined };
 
     fn same(&self, other: &Post) -> bool {
-        self.op() == other.op() && self.items().same(other.items())
+        (self.kind == other.kind)
+            & (self.mode == other.mode)
+            & (self.root == other.root)
+            & (self.op == other.op)
+            & (self.scounts.as_slice() == other.scounts.as_slice())
+            & (self.rcounts.as_slice() == other.rcounts.as_slice())
+            & are_same(&self.items, &other.items)
     }
 
     fn copy(&self, alloc: Global) -> Result<Post, OutOfMemory> {
-        let items = self.items().copy(alloc)?;
+        let scounts = self.scounts.copy(alloc)?;
+        let rcounts = self.rcounts.copy(alloc)?;
+        let items = copied(alloc, &self.items)?;
         Ok(Post {
-            given: Given::Allreduce {
-                op: self.op(),
-                items,
-            },
+            kind: self.kind,
+            mode: self.mode,
+            root: self.root,
+            op: self.op,
+            scounts,
+            rcounts,
+            items,
         })
     }
 
@@ -65,36 +76,112 @@ impl Exact for Post {
 }
 
 impl Post {
-    pub(crate) fn new(given: Given) -> Post
-        requires { IsTrue (is_small given) }
-        ensures { result ≡ given }
+    /// The post of these fields, which are those of its kind.
+    pub(crate) fn new(
+        kind: Kind,
+        mode: Mode,
+        root: Option<u8>,
+        op: Option<Op>,
+        scounts: Counts,
+        rcounts: Counts,
+        items: Option<Items>,
+    ) -> Post
+        requires { IsPost (record { kind = kind; mode = mode; root = root; op = op; scounts = scounts; rcounts = rcounts; items = items }) }
+        ensures { result ≡ record { kind = kind; mode = mode; root = root; op = op; scounts = scounts; rcounts = rcounts; items = items } }
     {
-        Post { given }
-    }
-
-    /// The kind and its fields.
-    pub fn given(&self) -> &Given
-        ensures { result.now ≡ self.now }
-    {
-        &self.given
-    }
-
-    /// The operation of a reduction.
-    pub fn op(&self) -> Op
-        ensures { result ≡ operation_of self.now }
-    {
-        match &self.given {
-            Given::Allreduce { op, .. } => *op,
+        Post {
+            kind,
+            mode,
+            root,
+            op,
+            scounts,
+            rcounts,
+            items,
         }
     }
 
-    /// The items that it gives.
-    pub fn items(&self) -> &Items
-        ensures value { result.now ≡ items_of self.now }
-        ensures small { length result.now.nums ≤ most_items }
+    /// The kind.
+    pub fn kind(&self) -> Kind
+        ensures { result ≡ self.now.kind }
     {
-        match &self.given {
-            Given::Allreduce { items, .. } => items,
+        self.kind
+    }
+
+    /// Whether the call blocks.
+    pub fn mode(&self) -> Mode
+        ensures { result ≡ self.now.mode }
+    {
+        self.mode
+    }
+
+    /// The rank of the root, where the kind has one.
+    pub fn root(&self) -> Option<u8>
+        ensures value { result ≡ self.now.root }
+        ensures there { is_some result ≡ (fields_of self.now.kind).root }
+    {
+        self.root
+    }
+
+    /// The operation, where the kind has one.
+    pub fn op(&self) -> Option<Op>
+        ensures value { result ≡ self.now.op }
+        ensures there { is_some result ≡ (fields_of self.now.kind).op }
+    {
+        self.op
+    }
+
+    /// How many items each block that it sends has, where the kind has send counts.
+    pub fn scounts(&self) -> &Counts
+        ensures { result.now ≡ self.now.scounts }
+    {
+        &self.scounts
+    }
+
+    /// How many items each block that it gets has, where the kind has receive counts.
+    pub fn rcounts(&self) -> &Counts
+        ensures { result.now ≡ self.now.rcounts }
+    {
+        &self.rcounts
+    }
+
+    /// The items that it gives, at most 4,096, where the kind has items.
+    pub fn items(&self) -> Option<&Items>
+        ensures value { option_copied result ≡ self.now.items }
+        ensures there { is_some result ≡ (fields_of self.now.kind).items }
+        ensures few { few_items (option_copied result) }
+    {
+        self.items.as_ref()
+    }
+
+    /// How many items it gives.
+    pub fn count(&self) -> usize
+        ensures { result ≡ count_of self.now }
+    {
+        match &self.items {
+            None => 0,
+            Some(items) => items.count(),
         }
+    }
+}
+
+// Whether both have none, or the same items.
+fn are_same(left: &Option<Items>, right: &Option<Items>) -> bool
+    ensures { result ≡ same_option same_items left.now right.now }
+{
+    match (left, right) {
+        (None, None) => true,
+        (None, Some(_)) => false,
+        (Some(_), None) => false,
+        (Some(left), Some(right)) => left.same(right),
+    }
+}
+
+// The same items once more, where there are some.
+fn copied(alloc: Global, items: &Option<Items>) -> Result<Option<Items>, OutOfMemory>
+    ensures { IfOk result (λ copied. copied ≡ items.now) }
+{
+    match items {
+        None => Ok(None),
+        Some(items) => Ok(Some(items.copy(alloc)?)),
     }
 }

@@ -1,6 +1,7 @@
 ghost use Rattle.std.specs.Prelude.{◌≡◌, ◌<◌, ◌≤◌, Some, map, length, slice_get};
+ghost use Rattle.mpx_post.specs.Agreement.{post_at};
 
-use crate::Post;
+use crate::post::Post;
 use std::marker::Model;
 
 /// The posts of all members to one call, in rank order, each lent.
@@ -42,7 +43,8 @@ impl<'a> Row<'a> {
     /// The post of the member with this rank.
     pub fn post(&self, rank: usize) -> &'a Post
         requires { rank < length self.now }
-        ensures { slice_get self.now rank ≡ Some result.now }
+        ensures there { slice_get self.now rank ≡ Some result.now }
+        ensures value { result.now ≡ post_at self.now rank }
     {
         self.posts[rank]
     }

@@ -2,7 +2,7 @@
 use Rattle.std.proofs.Common.{◌≡◌, ℕ, Bool, true, false, cond, ◌==◌, List, [], ◌∷◌, Option, Some, None, refl, sym, ap, subst}
 use Rattle.std.proofs.lemmas.Bool.Decides.{Decides-eqb}
 use Rattle.mpx_script.specs.declared.statement.Statement.{Statement}
-use Rattle.mpx_node.specs.Histories.{Results, Within}
+use Rattle.mpx_value.specs.Histories.{Results, Within}
 use Rattle.mpx_script.specs.Ranks.{Local, next, next_of, step_by, step}
 use Rattle.mpx_script.specs.Evaluation.{State, start, world_of, history, known, or_stay, goes_on, move, moves, IsMaximal, IsPrefixOf, IsReached, IsEvaluation}
 use Rattle.mpx_script.proofs.Growth.{results-grow}
@@ -11,14 +11,14 @@ use Rattle.mpx_script.proofs.Ways.{Way, here, on, step-grows, step_by-adds, way-
 
 -- each rank of s has a way to where it stands in end, by what end knows
 pub record IsOnWay (ranks : ℕ) (end s : State) : Type 0 where
-  pub each : (p : ℕ) → Way (known ranks end) (s p) (end p)
+  pub each : (p : ℕ) → Way (known ranks end p) (s p) (end p)
 
 -- whose posts are beginnings of the others' has no other results
-knows_less : (ranks : ℕ) (s end : State) → ((p : ℕ) → IsPrefixOf (s p).posts (end p).posts) → Within (known ranks s) (known ranks end)
-knows_less ranks s end less = results-grow (history s) (history end) (world_of ranks) (λ k p given e. prefix_get (s p).posts (end p).posts (less p) k given e)
+knows_less : (ranks : ℕ) (s end : State) → ((p : ℕ) → IsPrefixOf (s p).posts (end p).posts) → (me : ℕ) → Within (known ranks s me) (known ranks end me)
+knows_less ranks s end less me = results-grow (history s) (history end) (world_of ranks) me (λ k p given e. prefix_get (s p).posts (end p).posts (less p) k given e)
 
-on_way-knows : (ranks : ℕ) (end s : State) → IsOnWay ranks end s → Within (known ranks s) (known ranks end)
-on_way-knows ranks end s w = knows_less ranks s end (λ p. (way-adds (known ranks end) (s p) (end p) (w.each p)).0)
+on_way-knows : (ranks : ℕ) (end s : State) → IsOnWay ranks end s → (me : ℕ) → Within (known ranks s me) (known ranks end me)
+on_way-knows ranks end s w = knows_less ranks s end (λ p. (way-adds (known ranks end p) (s p) (end p) (w.each p)).0)
 
 cond_cases : {A : Type 0} (P : A → Type 0) (b : Bool) (x y : A) → (b ≡ true → P x) → (b ≡ false → P y) → P (cond b x y)
 cond_cases P true x y f g = f refl
@@ -39,9 +39,9 @@ goes_on_cases P s p told stays steps q = cond_cases (P q) (q == p) (or_stay (s q
 -- a move keeps each rank on its way
 on_way-next : (ranks : ℕ) (end s : State) → IsMaximal ranks end → IsOnWay ranks end s → (p : ℕ) → IsOnWay ranks end (move ranks s p)
 on_way-next ranks end s stuck w p = record {
-  each = goes_on_cases (λ q t. Way (known ranks end) t (end q)) s p (known ranks s) w.each
-      (λ t e. way-step (known ranks end) (s p) t (end p) (w.each p) (stuck p)
-      (step-grows (known ranks s) (known ranks end) (on_way-knows ranks end s w) (s p) t e));
+  each = goes_on_cases (λ q t. Way (known ranks end q) t (end q)) s p (known ranks s p) w.each
+      (λ t e. way-step (known ranks end p) (s p) t (end p) (w.each p) (stuck p)
+      (step-grows (known ranks s p) (known ranks end p) (on_way-knows ranks end s w p) (s p) t e));
 }
 
 on_way-moved : (ranks : ℕ) (end : State) → IsMaximal ranks end → (order : List ℕ) (s : State) → IsOnWay ranks end s → IsOnWay ranks end (moves ranks order s)
@@ -52,12 +52,12 @@ goes_on-adds : (s : State) (p : ℕ) (told : Results) (q : ℕ) → IsPrefixOf (
 goes_on-adds s p told = goes_on_cases (λ q t. IsPrefixOf (s q).posts t.posts) s p told (λ q. prefix_itself (s q).posts) (λ t e. (step_by-adds told (s p) (next (s p)) t e).0)
 
 -- one move before the way
-back : (ranks : ℕ) (end s : State) (p : ℕ) → IsOnWay ranks end (move ranks s p) → (q : ℕ) → Way (known ranks end) (s q) (end q)
+back : (ranks : ℕ) (end s : State) (p : ℕ) → IsOnWay ranks end (move ranks s p) → (q : ℕ) → Way (known ranks end q) (s q) (end q)
 back ranks end s p w q =
-    let less : (j : ℕ) → IsPrefixOf (s j).posts (end j).posts = λ j. prefix_trans (s j).posts (move ranks s p j).posts (end j).posts (goes_on-adds s p (known ranks s) j) (way-adds (known ranks end) (move ranks s p j) (end j) (w.each j)).0 in
-    goes_on_cases (λ j t. Way (known ranks end) t (end j) → Way (known ranks end) (s j) (end j)) s p (known ranks s)
+    let less : (j : ℕ) → IsPrefixOf (s j).posts (end j).posts = λ j. prefix_trans (s j).posts (move ranks s p j).posts (end j).posts (goes_on-adds s p (known ranks s p) j) (way-adds (known ranks end j) (move ranks s p j) (end j) (w.each j)).0 in
+    goes_on_cases (λ j t. Way (known ranks end j) t (end j) → Way (known ranks end j) (s j) (end j)) s p (known ranks s p)
     (λ j v. v)
-    (λ t e v. on (step-grows (known ranks s) (known ranks end) (knows_less ranks s end less) (s p) t e) v)
+    (λ t e v. on (step-grows (known ranks s p) (known ranks end p) (knows_less ranks s end less p) (s p) t e) v)
     q (w.each q)
 
 -- where moves lead is where each rank was on its way to
@@ -73,10 +73,10 @@ on_way-reached script ranks end s e r = subst (IsOnWay ranks end) r.reached (on_
 
 -- an end that is on its way to another is that
 one_end : (ranks : ℕ) (a b : State) → IsMaximal ranks a → IsOnWay ranks b a → IsOnWay ranks a b → (p : ℕ) → a p ≡ b p
-one_end ranks a b stuck to_b to_a p = way-stuck (known ranks b) (a p) (b p) (to_b.each p) (no_step (step (known ranks b) (a p)) refl) where
-  no_step : (o : Option Local) → step (known ranks b) (a p) ≡ o → step (known ranks b) (a p) ≡ None
+one_end ranks a b stuck to_b to_a p = way-stuck (known ranks b p) (a p) (b p) (to_b.each p) (no_step (step (known ranks b p) (a p)) refl) where
+  no_step : (o : Option Local) → step (known ranks b p) (a p) ≡ o → step (known ranks b p) (a p) ≡ None
   no_step None e = e
-  no_step (Some t) e = let f : step (known ranks a) (a p) ≡ Some t = step-grows (known ranks b) (known ranks a) (on_way-knows ranks a b to_a) (a p) t e in cc (f, stuck p)
+  no_step (Some t) e = let f : step (known ranks a p) (a p) ≡ Some t = step-grows (known ranks b p) (known ranks a p) (on_way-knows ranks a b to_a p) (a p) t e in cc (f, stuck p)
 
 pub confluent : (script : List (List Statement)) (ranks : ℕ) (a b : State) → IsEvaluation script ranks a → IsEvaluation script ranks b → a ≡ b
 confluent script ranks a b ea eb =

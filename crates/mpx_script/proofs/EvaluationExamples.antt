@@ -4,44 +4,78 @@ use Rattle.mpx_num.specs.declared.types.Ty.TheVariants.{I64}
 use Rattle.mpx_num.specs.declared.operations.Op.TheVariants.{Sum}
 use Rattle.mpx_num.specs.Wrapping.{into_range}
 use Rattle.mpx_num.specs.Operations.{combined, elementwise}
-use Rattle.mpx_node.specs.declared.outcome.Outcome.TheVariants as O
-use Rattle.mpx_node.specs.declared.outcome.FaultKind.TheVariants.{Amount}
-use Rattle.mpx_node.specs.Values.{value}
-use Rattle.mpx_post.specs.declared.draft.PostError.TheVariants.{ItemOutOfRange}
+use Rattle.mpx_post.specs.declared.kinds.Kind.{Kind}
+use Rattle.mpx_post.specs.declared.kinds.Kind.TheVariants as K
+use Rattle.mpx_post.specs.declared.kinds.Mode.TheVariants.{Blocking}
+use Rattle.mpx_post.specs.declared.draft.PostError.TheVariants.{RootOutOfRange, ItemOutOfRange}
+use Rattle.mpx_post.specs.Drafts.{checked}
+use Rattle.mpx_match.specs.declared.verdicts.FaultKind.{FaultKind}
+use Rattle.mpx_match.specs.declared.verdicts.FaultKind.TheVariants as F
+use Rattle.mpx_match.specs.Verdicts.{verdict}
+use Rattle.mpx_fold.specs.Folds.{fold_value}
+use Rattle.mpx_move.specs.Moves.{move_value}
+use Rattle.mpx_value.specs.declared.outcomes.Outcome.TheVariants as O
+use Rattle.mpx_value.specs.Values.{value}
 use Rattle.mpx_script.specs.declared.statement.Statement.{Statement}
-use Rattle.mpx_script.specs.declared.statement.Statement.TheVariants.{Allreduce}
+use Rattle.mpx_script.specs.declared.statement.Statement.TheVariants.{Call}
 use Rattle.mpx_script.specs.Ranks.{Line, Told, Refused}
 use Rattle.mpx_script.specs.Evaluation.{start, moves}
 
+-- a blocking call of 64-bit numbers
+abbrev call : Kind → (root : ℤ) → (rcounts items : List ℤ) → Statement
+call kind root rcounts items = Call (record { kind = kind; mode = Blocking; root = root; op = Sum; ty = I64; scounts = []; rcounts = rcounts; items = items })
+
 abbrev sum : List ℤ → Statement
-sum nums = Allreduce Sum I64 nums
+sum items = call K.Allreduce (pos 0) [] items
+
+abbrev barrier : Statement
+barrier = call K.Barrier (pos 0) [] []
 
 abbrev tells_items : List ℤ → Line
 tells_items nums = Told (O.Items (record { ty = I64; nums = nums }))
 
--- the lines of two ranks, after moves in this order
-lines_after : List ℕ → List (List Statement) → List (List Line)
-lines_after order script = (moves 2 order (start script 2) 0).lines ∷ (moves 2 order (start script 2) 1).lines ∷ []
+abbrev tells_fault : FaultKind → ℕ → Line
+tells_fault what rank = Told (O.Fault (record { what = what; rank = rank }))
 
--- 1 and 2 make 3, and the greatest number and 1 make the least
-sums : lines_after (0 ∷ 1 ∷ 1 ∷ 0 ∷ []) ((sum (pos 1 ∷ pos (2 ^ 63 - 1) ∷ []) ∷ []) ∷ (sum (pos 2 ∷ pos 1 ∷ []) ∷ []) ∷ [])
-    ≡ (tells_items (pos 3 ∷ negsuc (2 ^ 63 - 1) ∷ []) ∷ []) ∷ (tells_items (pos 3 ∷ negsuc (2 ^ 63 - 1) ∷ []) ∷ []) ∷ []
-unfolding lines_after value elementwise combined into_range
-sums = refl
+-- the lines of two ranks with these statements, after moves in this order
+lines_after : List ℕ → (first second : List Statement) → List (List Line)
+lines_after order first second =
+    let script : List (List Statement) = first ∷ second ∷ [] in
+    (moves 2 order (start script 2) 0).lines ∷ (moves 2 order (start script 2) 1).lines ∷ []
 
--- a rank that is alone with its post waits
-alone : lines_after (0 ∷ 0 ∷ 0 ∷ []) ((sum (pos 1 ∷ []) ∷ []) ∷ (sum (pos 2 ∷ []) ∷ []) ∷ []) ≡ [] ∷ [] ∷ []
-unfolding lines_after value elementwise combined into_range
-alone = refl
+record Examples : Type 0 where
+  -- 1 and 2 make 3, and the greatest number and 1 make the least
+  sums : lines_after (0 ∷ 1 ∷ 1 ∷ 0 ∷ []) (sum (pos 1 ∷ pos (2 ^ 63 - 1) ∷ []) ∷ []) (sum (pos 2 ∷ pos 1 ∷ []) ∷ [])
+      ≡ (tells_items (pos 3 ∷ negsuc (2 ^ 63 - 1) ∷ []) ∷ []) ∷ (tells_items (pos 3 ∷ negsuc (2 ^ 63 - 1) ∷ []) ∷ []) ∷ []
+  -- a rank that is alone with its post waits
+  alone : lines_after (0 ∷ 0 ∷ 0 ∷ []) (sum (pos 1 ∷ []) ∷ []) (sum (pos 2 ∷ []) ∷ []) ≡ [] ∷ [] ∷ []
+  -- where one gives two items and the other one, both are told so
+  amounts : lines_after (0 ∷ 1 ∷ 0 ∷ 1 ∷ []) (sum (pos 1 ∷ pos 5 ∷ []) ∷ []) (sum (pos 2 ∷ []) ∷ [])
+      ≡ (tells_fault F.Amount 1 ∷ []) ∷ (tells_fault F.Amount 1 ∷ []) ∷ []
+  -- a post that is refused is no call
+  refused : lines_after (0 ∷ 0 ∷ 1 ∷ 0 ∷ 1 ∷ []) (sum (pos (2 ^ 63) ∷ []) ∷ sum (pos 1 ∷ []) ∷ []) (sum (pos 2 ∷ []) ∷ [])
+      ≡ (Refused ItemOutOfRange ∷ tells_items (pos 3 ∷ []) ∷ []) ∷ (tells_items (pos 3 ∷ []) ∷ []) ∷ []
+  -- a barrier gives nothing, and the last rank of a scan that leaves out its own items gets those of the first
+  nothing : lines_after (0 ∷ 1 ∷ 0 ∷ 1 ∷ 0 ∷ 1 ∷ 0 ∷ 1 ∷ []) (barrier ∷ call K.Exscan (pos 0) [] (pos 7 ∷ []) ∷ []) (barrier ∷ call K.Exscan (pos 0) [] (pos 8 ∷ []) ∷ [])
+      ≡ (Told O.Nothing ∷ Told O.Absent ∷ []) ∷ (Told O.Nothing ∷ tells_items (pos 7 ∷ []) ∷ []) ∷ []
+  -- all get what the root gives, and rank 2 isn't one of two
+  roots : lines_after (0 ∷ 0 ∷ 1 ∷ 0 ∷ 1 ∷ []) (call K.Bcast (pos 2) (pos 1 ∷ []) [] ∷ call K.Bcast (pos 1) (pos 2 ∷ []) [] ∷ []) (call K.Bcast (pos 1) (pos 2 ∷ []) (pos 4 ∷ pos 5 ∷ []) ∷ [])
+      ≡ (Refused RootOutOfRange ∷ tells_items (pos 4 ∷ pos 5 ∷ []) ∷ []) ∷ (tells_items (pos 4 ∷ pos 5 ∷ []) ∷ []) ∷ []
+  -- each gets its own row of blocks
+  blocks : lines_after (0 ∷ 1 ∷ 0 ∷ 1 ∷ []) (call K.Alltoall (pos 0) (pos 1 ∷ []) (pos 1 ∷ pos 2 ∷ []) ∷ []) (call K.Alltoall (pos 0) (pos 1 ∷ []) (pos 3 ∷ pos 4 ∷ []) ∷ [])
+      ≡ (tells_items (pos 1 ∷ pos 3 ∷ []) ∷ []) ∷ (tells_items (pos 2 ∷ pos 4 ∷ []) ∷ []) ∷ []
+  -- a barrier and a sum don't match
+  kinds : lines_after (0 ∷ 1 ∷ 1 ∷ 0 ∷ []) (barrier ∷ []) (sum [] ∷ []) ≡ (tells_fault F.Kind 1 ∷ []) ∷ (tells_fault F.Kind 1 ∷ []) ∷ []
 
--- where one gives two items and the other one, both are told so
-fault : lines_after (0 ∷ 1 ∷ 0 ∷ 1 ∷ []) ((sum (pos 1 ∷ pos 5 ∷ []) ∷ []) ∷ (sum (pos 2 ∷ []) ∷ []) ∷ [])
-    ≡ (Told (O.Fault (record { what = Amount; rank = 1 })) ∷ []) ∷ (Told (O.Fault (record { what = Amount; rank = 1 })) ∷ []) ∷ []
-unfolding lines_after value elementwise combined into_range
-fault = refl
-
--- a post that is refused is no call
-refused : lines_after (0 ∷ 0 ∷ 1 ∷ 0 ∷ 1 ∷ []) ((sum (pos (2 ^ 63) ∷ []) ∷ sum (pos 1 ∷ []) ∷ []) ∷ (sum (pos 2 ∷ []) ∷ []) ∷ [])
-    ≡ (Refused ItemOutOfRange ∷ tells_items (pos 3 ∷ []) ∷ []) ∷ (tells_items (pos 3 ∷ []) ∷ []) ∷ []
-unfolding lines_after value elementwise combined into_range
-refused = refl
+examples : Examples
+unfolding lines_after checked value verdict fold_value move_value elementwise combined into_range
+examples = record {
+  sums = refl;
+  alone = refl;
+  amounts = refl;
+  refused = refl;
+  nothing = refl;
+  roots = refl;
+  blocks = refl;
+  kinds = refl;
+}

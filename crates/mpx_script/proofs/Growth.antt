@@ -1,10 +1,10 @@
 -- Who sees a longer history sees more rows whole, and no other values.
-use Rattle.std.proofs.Common.{◌≡◌, List, [], ◌∷◌, Option, Some, ap, ◌∙◌}
+use Rattle.std.proofs.Common.{◌≡◌, ℕ, List, [], ◌∷◌, Option, Some, ap, ◌∙◌}
 use Rattle.std.specs.Option.{option_and_then}
 use Rattle.std.proofs.lemmas.Option.{option_and_then_some}
 use Rattle.mpx_post.specs.Births.{BirthView}
 use Rattle.mpx_post.specs.Rows.{all_of}
-use Rattle.mpx_node.specs.Histories.{History, Grows, Within, results_of}
+use Rattle.mpx_value.specs.Histories.{History, Grows, Within, results_of}
 
 -- where the first part has an answer, the rest goes by that
 pub then_some : {A B : Type 0} (f : A → Option B) (o : Option A) (x : A) (y : B) → o ≡ Some x → f x ≡ Some y → option_and_then f o ≡ Some y
@@ -17,7 +17,7 @@ all_of-grows f g grows (p ∷ ps) xs h =
     option_and_then_some _ (all_of f ps) xs r (λ ys es s.
     then_some _ (g p) x xs (grows p x e) (then_some _ (all_of g ps) ys xs (all_of-grows f g grows ps ys es) s)))
 
-pub results-grow : (h later : History) (birth : BirthView) → Grows h later → Within (results_of h birth) (results_of later birth)
-results-grow h later birth grows k outcome e =
+pub results-grow : (h later : History) (birth : BirthView) (me : ℕ) → Grows h later → Within (results_of h birth me) (results_of later birth me)
+results-grow h later birth me grows k outcome e =
     option_and_then_some _ (all_of (h k) birth.members) outcome e (λ row er s.
     then_some _ (all_of (later k) birth.members) row outcome (all_of-grows (h k) (later k) (grows k) birth.members row er) s)

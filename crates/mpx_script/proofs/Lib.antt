@@ -1,15 +1,16 @@
 pub mod Splits
 pub mod Places
+pub mod Accepted
 pub mod Added
 pub mod Settling
 pub mod Progress
-pub mod Examples
 pub mod Growth
 pub mod Fronts
 pub mod Ways
 pub mod Ahead
 pub mod Lowers
 pub mod Ends
-pub mod Sums
+pub mod Worlds
 pub mod Tells
+mod Examples
 mod EvaluationExamples

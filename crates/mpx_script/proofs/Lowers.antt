@@ -2,12 +2,12 @@
 use Rattle.std.proofs.Common.{◌≡◌, ℕ, ◌+◌, ◌<◌, List, [], ◌∷◌, Some, ap, subst, arith}
 use Rattle.std.specs.Prelude.{Result, Ok, Err}
 use Rattle.std.proofs.lemmas.Option.{option_and_then_some, same_Some}
-use Rattle.mpx_post.specs.declared.post.Given.{Given}
+use Rattle.mpx_post.specs.Posts.{Given}
 use Rattle.mpx_post.specs.declared.draft.PostError.{PostError}
 use Rattle.mpx_post.specs.Drafts.{checked}
-use Rattle.mpx_node.specs.declared.outcome.Outcome.{Outcome}
+use Rattle.mpx_value.specs.declared.outcomes.Outcome.{Outcome}
 use Rattle.mpx_post.specs.Rows.{all_of}
-use Rattle.mpx_node.specs.Histories.{Results}
+use Rattle.mpx_value.specs.Histories.{Results}
 use Rattle.mpx_script.specs.Ranks.{Todo, Do, Await, Local, Next, End, Asks, done, draft_of, posts_or_refuses, next_of, next, step_by, step, weights}
 
 -- whatever the outcomes, less is left than n

@@ -1,47 +1,83 @@
 -- The refusal of a line whose bytes are in order.
-use Rattle.std.proofs.Common.{◌≡◌, ℕ, ◌+◌, Bool, true, false, ◌||◌, cond, is_some, is_none, ◌⊎◌, inl, inr, nat_lt, ◌∙◌, List, Option, Some, None, refl}
-use Rattle.std.proofs.lemmas.Bool.{not-false}
+use Rattle.std.proofs.Common.{◌≡◌, ℕ, ◌+◌, Bool, true, false, not, cond, is_some, is_none, ◌⊎◌, inl, inr, nat_lt, ◌∙◌, List, Option, Some, None, refl}
+use Rattle.std.specs.Prelude.{option_and_then}
+use Rattle.std.specs.Option.{option_map}
+use Rattle.mpx_post.specs.declared.kinds.Kind.{Kind}
+use Rattle.mpx_post.specs.Kinds.{fields_of}
 use Rattle.mpx_script.specs.Words.{words, counts, is_ascii}
-use Rattle.mpx_script.specs.Grammar.{LineParts, parts_of, label_in, ranks_meant, statements_in, has_rank_out_of_range, fails, is_statement_word, operation_of, type_of, is_past, is_unknown, has_wrong_words, has_bad_number, has_bad_name, has_unknown_name}
+use Rattle.mpx_script.specs.Grammar.{LineParts, Places, parts_of, places_of, kind_named, kind_in, label_in, ranks_meant, statements_in, statement_in, is_name, is_communicator, has_rank_out_of_range, is_past, is_unknown, has_unknown_word, has_wrong_words, has_wrong_count, has_bad_number, has_bad_list, has_bad_name, has_unknown_name}
 use Rattle.mpx_script.specs.Reading.{refusal, plain_place, statements_limit}
-use Rattle.mpx_script.specs.Line.{IsRefusal}
+use Rattle.mpx_script.specs.Line.{IsRefusal, statement_refusal, call_refusal, draft_refusal}
+use Rattle.mpx_script.specs.declared.statement.Statement.{Statement}
 use Rattle.mpx_script.specs.declared.faults.LineError.{LineError}
-use Rattle.mpx_script.specs.declared.faults.LineError.TheVariants.{Fault}
+use Rattle.mpx_script.specs.declared.faults.LineError.TheVariants.{Fault, OutOfMemory}
 use Rattle.mpx_script.specs.declared.faults.ScriptFault.{ScriptFault}
-use Rattle.mpx_script.specs.declared.faults.ScriptFault.TheVariants.{TooLarge, RankOutOfRange, UnknownStatement, WrongWords, BadNumber, BadName, NameUnknown}
+use Rattle.mpx_script.specs.declared.faults.ScriptFault.TheVariants.{TooLarge, RankOutOfRange, UnknownStatement, BadNumber, BadList, BadName, NameUnknown}
+
+-- a statement that is known is refused as its call
+pub refusal_of_kind : (p : LineParts) (kind : Kind) (communicator : Option (List ℕ)) (places : Places) → is_none (label_in p) ≡ false → kind_in p ≡ Some kind → communicator ≡ p.communicator → places ≡ places_of (fields_of kind) p.behind → statement_refusal p ≡ call_refusal kind communicator places
+unfolding statement_refusal is_unknown has_wrong_words has_bad_number has_bad_list has_bad_name has_unknown_name
+refusal_of_kind p kind communicator places label known there split = rw (label, known, there, split)
+
+pub refusal_of_no_kind : (p : LineParts) → is_none (label_in p) ≡ false → kind_in p ≡ None → statement_refusal p ≡ Some UnknownStatement
+unfolding statement_refusal is_unknown
+refusal_of_no_kind p label unknown = rw (label, unknown)
+
+first_of_two : (number list : Bool) (more : Option ScriptFault) (what : ScriptFault) → cond number (Some BadNumber) (cond list (Some BadList) None) ≡ Some what → cond number (Some BadNumber) (cond list (Some BadList) more) ≡ Some what
+first_of_two true list more what h = h
+first_of_two false true more what h = h
+first_of_two false false more what h = cc
+
+-- a call whose words are as many as its kind asks for is refused as its draft
+pub refusal_of_draft : (kind : Kind) (word : List ℕ) (places : Places) (e : LineError) → has_unknown_word places ≡ false → has_wrong_count (fields_of kind) places ≡ false → IsRefusal (draft_refusal kind places) e → IsRefusal (call_refusal kind (Some word) places) e
+refusal_of_draft kind word places OutOfMemory known full h = tt
+refusal_of_draft kind word places (Fault what) known full h = rw (known, full) (first_of_two _ _ _ what h)
+
+none_of_two : (number list : Bool) (more : Option ScriptFault) → cond number (Some BadNumber) (cond list (Some BadList) None) ≡ None → cond number (Some BadNumber) (cond list (Some BadList) more) ≡ more
+none_of_two true list more h = cc
+none_of_two false true more h = cc
+none_of_two false false more h = refl
+
+-- and one with a fine draft as its name
+pub refusal_of_name : (kind : Kind) (word : List ℕ) (places : Places) → has_unknown_word places ≡ false → has_wrong_count (fields_of kind) places ≡ false → draft_refusal kind places ≡ None → call_refusal kind (Some word) places ≡ cond (is_name word) (cond (is_communicator word) None (Some NameUnknown)) (Some BadName)
+refusal_of_name kind word places known full fine = rw (known, full) (none_of_two _ _ _ fine ∙ named (is_name word) (is_communicator word)) where
+  named : (name bound : Bool) → cond (not name) (Some BadName) (cond (not bound) (Some NameUnknown) None) ≡ cond name (cond bound None (Some NameUnknown)) (Some BadName)
+  named true true = refl
+  named true false = refl
+  named false bound = refl
 
 -- what a further line is asked
-abbrev pub further_refusal : LineParts → ℕ → ℕ → Option ScriptFault
+abbrev further_refusal : LineParts → ℕ → ℕ → Option ScriptFault
 further_refusal p n k =
     cond (nat_lt statements_limit (k + statements_in n p)) (Some TooLarge)
-    (cond (has_rank_out_of_range n p) (Some RankOutOfRange)
-    (cond (is_unknown p) (Some UnknownStatement)
-    (cond (has_wrong_words p) (Some WrongWords)
-    (cond (has_bad_number p) (Some BadNumber)
-    (cond (has_bad_name p) (Some BadName)
-    (cond (has_unknown_name p) (Some NameUnknown) None))))))
+    (cond (has_rank_out_of_range n p) (Some RankOutOfRange) (statement_refusal p))
 
-pub refusal_of_further : (line : List ℕ) (n k : ℕ) → is_ascii line ≡ true → counts (words line) ≡ true → refusal (plain_place line (Some n) k) ≡ further_refusal (parts_of (words line)) n k
+refusal_of_further : (line : List ℕ) (n k : ℕ) → is_ascii line ≡ true → counts (words line) ≡ true → refusal (plain_place line (Some n) k) ≡ further_refusal (parts_of (words line)) n k
+unfolding statement_refusal
 refusal_of_further line n k ascii counted = rw (ascii, counted)
 
-left_fails : (a b : Bool) → (a || b) ≡ false → a ≡ false
-left_fails true b h = h
-left_fails false b h = refl
+module _ (line : List ℕ) (n k : ℕ) (ascii : is_ascii line ≡ true) (counted : counts (words line) ≡ true) where
+  pub refusal_of_many : nat_lt statements_limit (k + statements_in n (parts_of (words line))) ≡ true → refusal (plain_place line (Some n) k) ≡ Some TooLarge
+  refusal_of_many many = refusal_of_further line n k ascii counted ∙ rw many
 
-right_fails : (a b : Bool) → (a || b) ≡ false → b ≡ false
-right_fails true b h = cc
-right_fails false b h = h
+  module _ (few : nat_lt statements_limit (k + statements_in n (parts_of (words line))) ≡ false) where
+    -- no rank, or no label
+    pub refusal_of_label : (e : LineError) → ((e ≡ Fault RankOutOfRange) × (is_past n (label_in (parts_of (words line))) ≡ true)) ⊎ ((e ≡ Fault UnknownStatement) × (label_in (parts_of (words line)) ≡ None)) → IsRefusal (refusal (plain_place line (Some n) k)) e
+    unfolding has_rank_out_of_range statement_refusal is_unknown
+    refusal_of_label e (inl h) = rw h.0 (refusal_of_further line n k ascii counted ∙ rw (few, h.1))
+    refusal_of_label e (inr h) = rw h.0 (refusal_of_further line n k ascii counted ∙ rw (few, h.1))
 
--- a known line has a word behind its label
-pub count_of_known : (n : ℕ) (p : LineParts) → is_unknown p ≡ false → statements_in n p ≡ ranks_meant n (label_in p)
-unfolding is_unknown statements_in
-count_of_known n p h =
-    let known : is_none (label_in p) || is_none p.statement || fails is_statement_word p.statement || fails (λ word. is_some (operation_of word)) p.operation || fails (λ word. is_some (type_of word)) p.ty ≡ false = h in
-    let there : is_some p.statement ≡ true = not-false (is_some p.statement) (right_fails (is_none (label_in p)) _ (left_fails _ (fails is_statement_word p.statement) (left_fails _ (fails (λ word. is_some (operation_of word)) p.operation) (left_fails _ (fails (λ word. is_some (type_of word)) p.ty) known)))) in
+    pub refusal_of_statement : is_past n (label_in (parts_of (words line))) ≡ false → refusal (plain_place line (Some n) k) ≡ statement_refusal (parts_of (words line))
+    unfolding has_rank_out_of_range
+    refusal_of_statement there = refusal_of_further line n k ascii counted ∙ rw (few, there)
+
+has_word : (word : Option (List ℕ)) (means : Kind → Statement) (statement : Statement) → option_map means (option_and_then kind_named word) ≡ Some statement → is_some word ≡ true
+has_word None means statement h = cc
+has_word (Some word) means statement h = refl
+
+-- a line that says a statement has a word behind its label
+pub count_of_statement : (n : ℕ) (p : LineParts) (statement : Statement) → statement_in p ≡ Some statement → statements_in n p ≡ ranks_meant n (label_in p)
+unfolding statement_in statements_in
+count_of_statement n p statement h =
+    let there : is_some p.statement ≡ true = has_word p.statement _ statement h in
     rw there
-
--- no rank, or no label
-pub refusal_of_label : (line : List ℕ) (n k : ℕ) (e : LineError) → is_ascii line ≡ true → counts (words line) ≡ true → nat_lt statements_limit (k + statements_in n (parts_of (words line))) ≡ false → ((e ≡ Fault RankOutOfRange) × (is_past n (label_in (parts_of (words line))) ≡ true)) ⊎ ((e ≡ Fault UnknownStatement) × (label_in (parts_of (words line)) ≡ None)) → IsRefusal (refusal (plain_place line (Some n) k)) e
-unfolding has_rank_out_of_range is_unknown
-refusal_of_label line n k e ascii counted few (inl h) = rw h.0 (refusal_of_further line n k ascii counted ∙ rw (few, h.1))
-refusal_of_label line n k e ascii counted few (inr h) = rw h.0 (refusal_of_further line n k ascii counted ∙ rw (few, h.1))

@@ -1,26 +1,25 @@
 -- What the lines of ranks tell, in whatever state moves reach.
-use Rattle.std.proofs.Common.{◌≡◌, ℕ, zero, suc, ◌+◌, List, [], ◌∷◌, ◌++◌, length, take, Option, Some, refl, sym, ap, ◌∙◌, subst, arith, length-append}
+use Rattle.std.proofs.Common.{◌≡◌, ℕ, zero, suc, ◌+◌, List, [], ◌∷◌, ◌++◌, length, take, Some, refl, sym, ap, ◌∙◌, subst, arith, length-append}
 use Rattle.std.specs.Prelude.{cond, count_by, slice_get, unwrap_or, Result, Ok, Err}
-use Rattle.std.specs.List.{All}
-use Rattle.std.proofs.lemmas.List.Elements.{All-nil, All-cons, All-append}
 use Rattle.std.proofs.lemmas.List.Sums.{sum_by-append, sum_by-cons}
-use Rattle.std.proofs.lemmas.Option.{option_and_then_some, same_Some, slice_get_within, get_or_from_slice_get}
+use Rattle.std.proofs.lemmas.Option.{option_and_then_some, same_Some}
 use Rattle.mpx_post.specs.declared.draft.PostError.{PostError}
-use Rattle.mpx_post.specs.declared.post.Given.{Given}
+use Rattle.mpx_post.specs.Posts.{Given}
 use Rattle.mpx_post.specs.Drafts.{checked}
-use Rattle.mpx_post.specs.Rows.{all_of}
-use Rattle.mpx_node.specs.declared.outcome.Outcome.{Outcome}
-use Rattle.mpx_node.specs.Histories.{Results, Within, row_of}
-use Rattle.mpx_node.specs.Values.{value}
+use Rattle.mpx_post.specs.Births.{upto, rank_in}
+use Rattle.mpx_post.specs.Rows.{RowView, all_of}
+use Rattle.mpx_value.specs.declared.outcomes.Outcome.{Outcome}
+use Rattle.mpx_value.specs.Histories.{Results, Within, row_of, value_for}
+use Rattle.mpx_value.specs.Values.{value}
 use Rattle.mpx_script.specs.declared.statement.Statement.{Statement}
 use Rattle.mpx_script.specs.Ranks.{Line, Told, Refused, Todo, Do, Await, Local, Act, Next, End, Asks, done, draft_of, posts_or_refuses, next_of, next, step_by, step, doing}
 use Rattle.mpx_script.specs.Evaluation.{State, start, world_of, history, known, move, moves, IsReached, IsPrefixOf}
 use Rattle.mpx_script.specs.Told.{tells, call_at, IsToldOf}
 use Rattle.mpx_script.proofs.Growth.{results-grow}
 use Rattle.mpx_script.proofs.Fronts.{prefix_itself, prefix_get}
+use Rattle.mpx_script.proofs.Worlds.{rank_in-upto}
 use Rattle.mpx_script.proofs.Ways.{step_by-adds}
 use Rattle.mpx_script.proofs.Ahead.{goes_on_cases}
-use Rattle.mpx_script.proofs.Sums.{HasItems, checked-items, value-is_outcome}
 
 -- LINES
 
@@ -88,13 +87,11 @@ doing_statements (statement ∷ rest) = doing_statements rest
 -- what holds of a rank, where these results are known
 record IsSound (r : Results) (s : Local) : Type 0 where
   turn : IsInTurn (count_by tells s.lines) (length s.posts) s.todo
-  items : All HasItems s.posts
   lines : Tell r 0 s.lines
 
 -- and of an act after so many outcomes and posts
 record Keeps (r : Results) (told posts : ℕ) (a : Act) : Type 0 where
   turn : IsInTurn (told + count_by tells a.lines) (posts + length a.posts) a.todo
-  items : All HasItems a.posts
   lines : Tell r told a.lines
 
 done-sound : (r : Results) (s : Local) (a : Act) → IsSound r s → Keeps r (count_by tells s.lines) (length s.posts) a → IsSound r (done s a)
@@ -102,7 +99,6 @@ done-sound r s a h k =
     let from_none : count_by tells s.lines ≡ 0 + count_by tells s.lines = omega arith in
     record {
       turn = rw (tells-append s.lines a.lines, length-append s.posts a.posts) k.turn;
-      items = All-append HasItems s.posts a.posts h.items k.items;
       lines = tell-append r 0 s.lines a.lines h.lines (subst (λ m. Tell r m a.lines) from_none k.lines);
     }
 
@@ -111,10 +107,10 @@ NextKeeps : Results → ℕ → ℕ → Next → Type 0
 NextKeeps r told posts End = Unit {0}
 NextKeeps r told posts (Asks calls act) = (outcomes : List Outcome) → all_of r calls ≡ Some outcomes → Keeps r told posts (act outcomes)
 
-post-keeps : (r : Results) (s : Local) (rest : List Todo) (told : ℕ) (x : Result Given PostError) → ((given : Given) → x ≡ Ok given → HasItems given) → length s.posts ≡ told → AreStatements rest → NextKeeps r told (length s.posts) (posts_or_refuses s rest x)
+post-keeps : (r : Results) (s : Local) (rest : List Todo) (told : ℕ) (x : Result Given PostError) → length s.posts ≡ told → AreStatements rest → NextKeeps r told (length s.posts) (posts_or_refuses s rest x)
 unfolding NextKeeps
-post-keeps r s rest told (Ok given) items e h = λ outcomes eo. record { turn = (omega arith, omega arith, h); items = All-cons HasItems given [] (items given refl) (All-nil HasItems); lines = tt }
-post-keeps r s rest told (Err refusal) items e h = λ outcomes eo. record { turn = turn_on _ _ rest (omega arith) h; items = All-nil HasItems; lines = tt }
+post-keeps r s rest told (Ok given) e h = λ outcomes eo. record { turn = (omega arith, omega arith, h); lines = tt }
+post-keeps r s rest told (Err refusal) e h = λ outcomes eo. record { turn = turn_on _ _ rest (omega arith) h; lines = tt }
 
 await-keeps : (r : Results) (s : Local) (call : ℕ) (rest : List Todo) (told posts : ℕ) → call ≡ told → posts ≡ told + 1 → AreStatements rest → NextKeeps r told posts (next_of s (Await call ∷ rest))
 unfolding NextKeeps
@@ -122,11 +118,11 @@ await-keeps r s call rest told posts c e h [] eo = option_and_then_some _ (r cal
 await-keeps r s call rest told posts c e h (outcome ∷ more) eo =
     option_and_then_some _ (r call) (outcome ∷ more) eo (λ x f g.
     let same : x ≡ outcome = cc g in
-    record { turn = turn_on _ _ rest (omega arith) h; items = All-nil HasItems; lines = (ap r (sym c) ∙ f ∙ ap Some same, tt) })
+    record { turn = turn_on _ _ rest (omega arith) h; lines = (ap r (sym c) ∙ f ∙ ap Some same, tt) })
 
 next-keeps : (r : Results) (s : Local) (told : ℕ) (todo : List Todo) → IsInTurn told (length s.posts) todo → NextKeeps r told (length s.posts) (next_of s todo)
 next-keeps r s told [] h = unfold NextKeeps in tt
-next-keeps r s told (Do statement ∷ rest) h = post-keeps r s rest told (checked s.world s.me _ (draft_of statement)) (checked-items s.world s.me _ (draft_of statement)) h.0 h.1
+next-keeps r s told (Do statement ∷ rest) h = post-keeps r s rest told (checked s.world s.me _ (draft_of statement)) h.0 h.1
 next-keeps r s told (Await call ∷ rest) h = await-keeps r s call rest told (length s.posts) h.0 h.1 h.2
 
 step_by-sound : (r : Results) (s : Local) (n : Next) (t : Local) → IsSound r s → NextKeeps r (count_by tells s.lines) (length s.posts) n → step_by r s n ≡ Some t → IsSound r t
@@ -140,54 +136,48 @@ step-sound : (r : Results) (s t : Local) → IsSound r s → step r s ≡ Some t
 step-sound r s t h e = step_by-sound r s (next s) t h (next-keeps r s _ s.todo h.turn) e
 
 sound-grows : (r more : Results) → Within r more → (s : Local) → IsSound r s → IsSound more s
-sound-grows r more w s h = record { turn = h.turn; items = h.items; lines = tell-grows r more w 0 s.lines h.lines }
+sound-grows r more w s h = record { turn = h.turn; lines = tell-grows r more w 0 s.lines h.lines }
 
 -- STATES
 
 -- it holds of all ranks
 record AllAreSound (ranks : ℕ) (s : State) : Type 0 where
-  each : (p : ℕ) → IsSound (known ranks s) (s p)
+  each : (p : ℕ) → IsSound (known ranks s p) (s p)
 
-move-within : (ranks : ℕ) (s : State) (p : ℕ) → Within (known ranks s) (known ranks (move ranks s p))
-move-within ranks s p = results-grow (history s) (history (move ranks s p)) (world_of ranks) (λ k q given e. prefix_get (s q).posts (move ranks s p q).posts (adds q) k given e) where
+move-within : (ranks : ℕ) (s : State) (p me : ℕ) → Within (known ranks s me) (known ranks (move ranks s p) me)
+move-within ranks s p me = results-grow (history s) (history (move ranks s p)) (world_of ranks) me (λ k q given e. prefix_get (s q).posts (move ranks s p q).posts (adds q) k given e) where
   adds : (q : ℕ) → IsPrefixOf (s q).posts (move ranks s p q).posts
-  adds = goes_on_cases (λ q t. IsPrefixOf (s q).posts t.posts) s p (known ranks s) (λ q. prefix_itself (s q).posts) (λ t e. (step_by-adds (known ranks s) (s p) (next (s p)) t e).0)
+  adds = goes_on_cases (λ q t. IsPrefixOf (s q).posts t.posts) s p (known ranks s p) (λ q. prefix_itself (s q).posts) (λ t e. (step_by-adds (known ranks s p) (s p) (next (s p)) t e).0)
 
 moved-sound : (ranks : ℕ) (order : List ℕ) (s : State) → AllAreSound ranks s → AllAreSound ranks (moves ranks order s)
 moved-sound ranks [] s h = h
 moved-sound ranks (p ∷ order) s h = moved-sound ranks order (move ranks s p) (record {
-  each = λ q. sound-grows (known ranks s) (known ranks (move ranks s p)) (move-within ranks s p) (move ranks s p q)
-      (goes_on_cases (λ j t. IsSound (known ranks s) t) s p (known ranks s) h.each (λ t e. step-sound (known ranks s) (s p) t (h.each p) e) q);
+  each = λ q. sound-grows (known ranks s q) (known ranks (move ranks s p) q) (move-within ranks s p q) (move ranks s p q)
+      (goes_on_cases (λ j t. IsSound (known ranks s j) t) s p (known ranks s p) h.each (λ t e. step-sound (known ranks s p) (s p) t (h.each p) e) q);
 })
 
 start-sound : (script : List (List Statement)) (ranks : ℕ) → AllAreSound ranks (start script ranks)
-start-sound script ranks = record { each = λ p. record { turn = turn_on 0 0 _ refl (doing_statements (unwrap_or (slice_get script p) [])); items = All-nil HasItems; lines = tt } }
+start-sound script ranks = record { each = λ p. record { turn = turn_on 0 0 _ refl (doing_statements (unwrap_or (slice_get script p) [])); lines = tt } }
 
 reached-sound : (script : List (List Statement)) (ranks : ℕ) (s : State) → IsReached script ranks s → AllAreSound ranks s
 reached-sound script ranks s r = subst (AllAreSound ranks) r.reached (moved-sound ranks r.order (start script ranks) (start-sound script ranks))
 
 -- WHAT THEY TELL
 
-All-all_of : {A B : Type 0} (P : A → Type 0) (f : B → Option A) → ((p : B) (x : A) → f p ≡ Some x → P x) → (ps : List B) (xs : List A) → all_of f ps ≡ Some xs → All P xs
-All-all_of P f h [] xs e = subst (All P) (same_Some [] xs e) (All-nil P)
-All-all_of P f h (p ∷ ps) xs e =
-    option_and_then_some _ (f p) xs e (λ x ex r.
-    option_and_then_some _ (all_of f ps) xs r (λ ys ey g.
-    subst (All P) (same_Some (x ∷ ys) xs g) (All-cons P x ys (h p x ex) (All-all_of P f h ps ys ey))))
+-- a member of the world has its own number as its rank
+value_for-own : (ranks p : ℕ) (row : RowView) (outcome : Outcome) → value_for (world_of ranks) p row ≡ Some outcome → outcome ≡ value row p
+value_for-own ranks p row outcome e =
+    option_and_then_some _ (rank_in p (upto ranks)) outcome e (λ rank there is.
+    sym (same_Some (value row rank) outcome is) ∙ ap (value row) (rank_in-upto ranks p rank there))
 
-pub lines_tell : (script : List (List Statement)) (ranks : ℕ) (s : State) → IsReached script ranks s → (p i : ℕ) (outcome : Outcome) → slice_get (s p).lines i ≡ Some (Told outcome) → IsToldOf ranks s (call_at (s p).lines i) outcome
+pub lines_tell : (script : List (List Statement)) (ranks : ℕ) (s : State) → IsReached script ranks s → (p i : ℕ) (outcome : Outcome) → slice_get (s p).lines i ≡ Some (Told outcome) → IsToldOf ranks s p (call_at (s p).lines i) outcome
 lines_tell script ranks s reached p i outcome e =
-    option_and_then_some _ (row_of (history s) (world_of ranks) call) outcome result (λ row whole is.
-    let gives : outcome ≡ value row = sym (same_Some (value row) outcome is) in
-    record { row = row; whole = whole; is = gives; by_posts = value-is_outcome row outcome gives (All-all_of HasItems (history s call) posted _ row whole) }) where
-      all : AllAreSound ranks s
-      all = reached-sound script ranks s reached
-
+    option_and_then_some _ (row_of (history s) (world_of ranks) call) outcome result (λ row whole given.
+    record { row = row; whole = whole; is = value_for-own ranks p row outcome given }) where
       call : ℕ
       call = call_at (s p).lines i
 
-      result : known ranks s call ≡ Some outcome
-      result = let from_none : call_at (s p).lines i ≡ 0 + call_at (s p).lines i = omega arith in ap (known ranks s) from_none ∙ tell-at (known ranks s) 0 (s p).lines (all.each p).lines i outcome e
-
-      posted : (q : ℕ) (given : Given) → history s call q ≡ Some given → HasItems given
-      posted q given f = subst HasItems (get_or_from_slice_get (s q).posts call given given f) ((all.each q).items call given (slice_get_within (s q).posts call given f))
+      result : known ranks s p call ≡ Some outcome
+      result =
+          let from_none : call_at (s p).lines i ≡ 0 + call_at (s p).lines i = omega arith in
+          ap (known ranks s p) from_none ∙ tell-at (known ranks s p) 0 (s p).lines ((reached-sound script ranks s reached).each p).lines i outcome e

@@ -2,7 +2,7 @@
 use Rattle.std.proofs.Common.{◌≡◌, Some, None, refl, sym, ap, ◌∙◌, subst}
 use Rattle.std.proofs.lemmas.Option.{option_and_then_some, same_Some}
 use Rattle.mpx_post.specs.Rows.{all_of}
-use Rattle.mpx_node.specs.Histories.{Results, Within}
+use Rattle.mpx_value.specs.Histories.{Results, Within}
 use Rattle.mpx_script.specs.Ranks.{Local, Next, End, Asks, done, next, step_by, step}
 use Rattle.mpx_script.specs.Evaluation.{IsPrefixOf}
 use Rattle.mpx_script.proofs.Growth.{all_of-grows, then_some}

@@ -1,7 +1,7 @@
 -- The evaluation of a script: what stands after any list of moves that no move extends.
 use Rattle.std.specs.Prelude.{◌≡◌, ℕ, zero, suc, ◌+◌, ◌==◌, ◌≤◌, cond, List, [], ◌∷◌, ◌++◌, Option, Some, None, slice_get, unwrap_or}
 use Rattle.mpx_post.specs.Births.{BirthView, upto}
-use Rattle.mpx_node.specs.Histories.{History, Results, results_of}
+use Rattle.mpx_value.specs.Histories.{History, Results, results_of}
 use Rattle.mpx_script.specs.declared.statement.Statement.{Statement}
 use Rattle.mpx_script.specs.Ranks.{Local, step, doing, weights}
 
@@ -19,9 +19,9 @@ start script ranks p = record { me = p; world = world_of ranks; todo = doing (un
 abbrev pub history : State → History
 history s k p = slice_get (s p).posts k
 
--- the values of the rows that are whole
-abbrev pub known : ℕ → State → Results
-known ranks s = results_of (history s) (world_of ranks)
+-- what the rows that are whole give a rank
+abbrev pub known : ℕ → State → ℕ → Results
+known ranks s p = results_of (history s) (world_of ranks) p
 
 abbrev pub or_stay : Local → Option Local → Local
 or_stay s None = s
@@ -35,7 +35,7 @@ goes_on s p r q = cond (q == p) (or_stay (s q) (step r (s q))) (s q)
 
 -- any one rank moves
 abbrev pub move : ℕ → State → ℕ → State
-move ranks s p = goes_on s p (known ranks s)
+move ranks s p = goes_on s p (known ranks s p)
 
 abbrev pub moves : ℕ → List ℕ → State → State
 moves ranks [] s = s
@@ -48,7 +48,7 @@ pub record IsReached (script : List (List Statement)) (ranks : ℕ) (s : State) 
 
 -- no rank can move
 abbrev pub IsMaximal : ℕ → State → Type 0
-IsMaximal ranks s = (p : ℕ) → step (known ranks s) (s p) ≡ None
+IsMaximal ranks s = (p : ℕ) → step (known ranks s p) (s p) ≡ None
 
 -- what stands after a list of moves that no move extends
 pub record IsEvaluation (script : List (List Statement)) (ranks : ℕ) (end : State) : Type 0 where

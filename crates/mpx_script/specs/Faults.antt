@@ -2,7 +2,7 @@
 use Rattle.std.specs.Prelude.{ℕ, List, ◌++◌, codes}
 use Rattle.std.specs.Fmt.{decimal}
 use Rattle.mpx_script.specs.declared.faults.ScriptFault.{ScriptFault}
-use Rattle.mpx_script.specs.declared.faults.ScriptFault.TheVariants.{NotAscii, TooLarge, NoRanksLine, RanksOutOfRange, RankOutOfRange, UnknownStatement, WrongWords, BadNumber, BadName, NameUnknown}
+use Rattle.mpx_script.specs.declared.faults.ScriptFault.TheVariants.{NotAscii, TooLarge, NoRanksLine, RanksOutOfRange, RankOutOfRange, UnknownStatement, WrongWords, BadNumber, BadList, BadName, NameUnknown}
 use Rattle.mpx_script.specs.declared.faults.ScriptError.{ScriptError}
 
 abbrev pub fault_name : ScriptFault → List ℕ
@@ -14,6 +14,7 @@ fault_name RankOutOfRange = codes "RankOutOfRange"
 fault_name UnknownStatement = codes "UnknownStatement"
 fault_name WrongWords = codes "WrongWords"
 fault_name BadNumber = codes "BadNumber"
+fault_name BadList = codes "BadList"
 fault_name BadName = codes "BadName"
 fault_name NameUnknown = codes "NameUnknown"
 

@@ -1,16 +1,25 @@
 -- The grammar of a script, line by line.
-use Rattle.std.specs.Prelude.{ℕ, ◌-◌, nat_lt, nat_le, Bool, true, false, not, ◌==◌, ◌||◌, ◌&&◌, List, [], ◌∷◌, length, take, drop, slice_index, slice_get, codes, bytes_eq, Option, Some, None, is_some, is_none, option_and_then, ℤ, pos, negsuc, if◌then◌else◌}
-use Rattle.std.specs.List.{filter_map, list_all, list_any}
+use Rattle.std.specs.Prelude.{ℕ, ◌-◌, nat_lt, nat_le, Bool, true, false, not, ◌==◌, ◌||◌, ◌&&◌, cond, List, [], ◌∷◌, length, take, drop, slice_index, slice_get, codes, bytes_eq, Option, Some, None, is_some, is_none, unwrap_or, option_and_then, ℤ, pos, negsuc, if◌then◌else◌}
+use Rattle.std.specs.List.{filter_map, list_all, list_any, slice_split}
 use Rattle.std.specs.Option.{option_map}
 use Rattle.mpx_num.specs.Text.{number_of}
 use Rattle.mpx_num.specs.declared.types.Ty.{Ty}
-use Rattle.mpx_num.specs.declared.types.Ty.TheVariants.{I64}
+use Rattle.mpx_num.specs.declared.types.Ty.TheVariants as T
 use Rattle.mpx_num.specs.declared.operations.Op.{Op}
-use Rattle.mpx_num.specs.declared.operations.Op.TheVariants.{Sum}
+use Rattle.mpx_num.specs.declared.operations.Op.TheVariants as O
+use Rattle.mpx_post.specs.declared.kinds.Kind.{Kind}
+use Rattle.mpx_post.specs.declared.kinds.Kind.TheVariants as K
+use Rattle.mpx_post.specs.declared.kinds.Mode.TheVariants.{Blocking}
+use Rattle.mpx_post.specs.declared.kinds.Number.{Number}
+use Rattle.mpx_post.specs.declared.kinds.Number.TheVariants.{Zero, One, OneAtRoot, Members, MembersAtRoot}
+use Rattle.mpx_post.specs.declared.kinds.Fields.{Fields}
+use Rattle.mpx_post.specs.declared.draft.Draft.{Draft}
+use Rattle.mpx_post.specs.Kinds.{fields_of, is_had}
+use Rattle.mpx_post.specs.Rows.{all_of}
 use Rattle.mpx_script.specs.declared.grammar.Label.{Label}
 use Rattle.mpx_script.specs.declared.grammar.Label.TheVariants.{Every, Numbered}
 use Rattle.mpx_script.specs.declared.statement.Statement.{Statement}
-use Rattle.mpx_script.specs.declared.statement.Statement.TheVariants.{Allreduce}
+use Rattle.mpx_script.specs.declared.statement.Statement.TheVariants.{Call}
 
 infixl 10 ◌>>=◌
 abbrev pub ◌>>=◌ : {A B : Type 0} → Option A → (A → Option B) → Option B
@@ -38,17 +47,116 @@ ranks_number words = do
   number ← slice_get words 1
   if bytes_eq head (codes "ranks") && is_none (slice_get words 2) then number_of number else None
 
--- the words of a further line by their places
+-- what a table has for a word
+abbrev pub named : {A : Type 0} → List (List ℕ × A) → List ℕ → Option A
+named [] word = None
+named (entry ∷ more) word = if bytes_eq word entry.0 then Some entry.1 else named more word
+
+-- STATEMENTS: a word for each kind of call. The places of a statement's words are the fields of its kind, in the order
+-- `STATEMENT COMMUNICATOR ROOT OPERATION TYPE SCOUNTS RCOUNTS ITEMS`, without those that the kind hasn't.
+
+unfoldable pub kind_named : List ℕ → Option Kind
+kind_named word = named (
+    (codes "barrier", K.Barrier)
+    ∷ (codes "bcast", K.Bcast)
+    ∷ (codes "gather", K.Gather)
+    ∷ (codes "gatherv", K.Gatherv)
+    ∷ (codes "scatter", K.Scatter)
+    ∷ (codes "scatterv", K.Scatterv)
+    ∷ (codes "allgather", K.Allgather)
+    ∷ (codes "allgatherv", K.Allgatherv)
+    ∷ (codes "alltoall", K.Alltoall)
+    ∷ (codes "alltoallv", K.Alltoallv)
+    ∷ (codes "reduce", K.Reduce)
+    ∷ (codes "allreduce", K.Allreduce)
+    ∷ (codes "reduce_scatter_block", K.ReduceScatterBlock)
+    ∷ (codes "reduce_scatter", K.ReduceScatter)
+    ∷ (codes "scan", K.Scan)
+    ∷ (codes "exscan", K.Exscan)
+    ∷ []) word
+
+unfoldable pub operation_named : List ℕ → Option Op
+operation_named word = named (
+    (codes "max", O.Max)
+    ∷ (codes "min", O.Min)
+    ∷ (codes "sum", O.Sum)
+    ∷ (codes "prod", O.Prod)
+    ∷ (codes "land", O.Land)
+    ∷ (codes "lor", O.Lor)
+    ∷ (codes "lxor", O.Lxor)
+    ∷ (codes "band", O.Band)
+    ∷ (codes "bor", O.Bor)
+    ∷ (codes "bxor", O.Bxor)
+    ∷ (codes "maxloc", O.Maxloc)
+    ∷ (codes "minloc", O.Minloc)
+    ∷ []) word
+
+unfoldable pub type_named : List ℕ → Option Ty
+type_named word = named (
+    (codes "i8", T.I8)
+    ∷ (codes "i16", T.I16)
+    ∷ (codes "i32", T.I32)
+    ∷ (codes "i64", T.I64)
+    ∷ (codes "u8", T.U8)
+    ∷ (codes "u16", T.U16)
+    ∷ (codes "u32", T.U32)
+    ∷ (codes "u64", T.U64)
+    ∷ (codes "2int", T.TwoInt)
+    ∷ []) word
+
+-- the words of a call's places, where its kind has them
+pub record Places : Type 0 where
+  pub root : Option (List ℕ)
+  pub operation : Option (List ℕ)
+  pub ty : Option (List ℕ)
+  pub scounts : Option (List ℕ)
+  pub rcounts : Option (List ℕ)
+  pub items : List (List ℕ)
+
+-- the next word, where it is asked for
+abbrev pub next_word : Bool → List (List ℕ) → Option (List ℕ)
+next_word asked words = cond asked (slice_get words 0) None
+
+-- the words after it
+abbrev pub words_after : Bool → List (List ℕ) → List (List ℕ)
+words_after asked words = cond asked (drop 1 words) words
+
+-- the words behind the communicator by their places
+unfoldable pub places_of : Fields → List (List ℕ) → Places
+places_of fields words =
+    let at_operation : List (List ℕ) = words_after fields.root words in
+    let at_type : List (List ℕ) = words_after fields.op at_operation in
+    let at_scounts : List (List ℕ) = words_after fields.items at_type in
+    let at_rcounts : List (List ℕ) = words_after (is_had fields.scounts) at_scounts in
+    record {
+      root = next_word fields.root words;
+      operation = next_word fields.op at_operation;
+      ty = next_word fields.items at_type;
+      scounts = next_word (is_had fields.scounts) at_scounts;
+      rcounts = next_word (is_had fields.rcounts) at_rcounts;
+      items = words_after (is_had fields.rcounts) at_rcounts;
+    }
+
+-- the words of a further line: its label, its statement, the communicator, and those behind it
 pub record LineParts : Type 0 where
   pub label : Option (List ℕ)
   pub statement : Option (List ℕ)
   pub communicator : Option (List ℕ)
-  pub operation : Option (List ℕ)
-  pub ty : Option (List ℕ)
-  pub items : List (List ℕ)
+  pub behind : List (List ℕ)
 
 abbrev pub parts_of : List (List ℕ) → LineParts
-parts_of words = record { label = slice_get words 0; statement = slice_get words 1; communicator = slice_get words 2; operation = slice_get words 3; ty = slice_get words 4; items = drop 5 words }
+parts_of words = record { label = slice_get words 0; statement = slice_get words 1; communicator = slice_get words 2; behind = drop 3 words }
+
+-- the kind of call of a line
+abbrev pub kind_in : LineParts → Option Kind
+kind_in parts = option_and_then kind_named parts.statement
+
+-- what the posts of its kind have. A statement that isn't known asks for no words
+abbrev pub fields_in : LineParts → Fields
+fields_in parts = fields_of (unwrap_or (kind_in parts) K.Barrier)
+
+abbrev pub places_in : LineParts → Places
+places_in parts = places_of (fields_in parts) parts.behind
 
 -- `*` for every rank, or a number
 abbrev pub label_named : List ℕ → Option Label
@@ -70,14 +178,21 @@ ranks_meant ranks (Some (Numbered z)) = 1
 unfoldable pub statements_in : ℕ → LineParts → ℕ
 statements_in ranks parts = if is_some parts.statement then ranks_meant ranks (label_in parts) else 0
 
-unfoldable pub is_statement_word : List ℕ → Bool
-is_statement_word word = bytes_eq word (codes "allreduce")
+-- just one count
+abbrev pub is_one : Number → Bool
+is_one Zero = false
+is_one One = true
+is_one OneAtRoot = false
+is_one Members = false
+is_one MembersAtRoot = false
 
-unfoldable pub operation_of : List ℕ → Option Op
-operation_of word = if bytes_eq word (codes "sum") then Some Sum else None
+-- numbers with commas (44) between them, or `-` for none
+unfoldable pub list_named : List ℕ → Option (List ℤ)
+list_named word = if bytes_eq word (codes "-") then Some [] else all_of number_of (slice_split (λ byte. byte == 44) word)
 
-unfoldable pub type_of : List ℕ → Option Ty
-type_of word = if bytes_eq word (codes "i64") then Some I64 else None
+-- a count, where the kind has just one, or a list of counts
+abbrev pub rcounts_named : Number → List ℕ → Option (List ℤ)
+rcounts_named number word = if is_one number then option_map (λ count. count ∷ []) (number_of word) else list_named word
 
 -- a to z
 abbrev pub is_small_letter : ℕ → Bool
@@ -115,17 +230,54 @@ is_past ranks (Some (Numbered z)) = is_none (below ranks z)
 unfoldable pub has_rank_out_of_range : ℕ → LineParts → Bool
 has_rank_out_of_range ranks parts = is_past ranks (label_in parts)
 
+-- another operation or type
+abbrev pub has_unknown_word : Places → Bool
+has_unknown_word places = fails (λ word. is_some (operation_named word)) places.operation || fails (λ word. is_some (type_named word)) places.ty
+
 -- no `R: STATEMENT`, or another statement, operation or type
 unfoldable pub is_unknown : LineParts → Bool
-is_unknown parts = is_none (label_in parts) || is_none parts.statement || fails is_statement_word parts.statement
-    || fails (λ word. is_some (operation_of word)) parts.operation || fails (λ word. is_some (type_of word)) parts.ty
+is_unknown parts = is_none (label_in parts) || is_none (kind_in parts) || has_unknown_word (places_in parts)
 
--- words are missing
+-- a word is asked for and isn't there
+abbrev pub lacks : Bool → Option (List ℕ) → Bool
+lacks asked word = asked && is_none word
+
+-- words are missing, or there are more than there are places for
+abbrev pub has_wrong_count : Fields → Places → Bool
+has_wrong_count fields places = lacks fields.root places.root
+    || lacks fields.op places.operation
+    || lacks fields.items places.ty
+    || lacks (is_had fields.scounts) places.scounts
+    || lacks (is_had fields.rcounts) places.rcounts
+    || (not fields.items && not (length places.items == 0))
+
+-- there is no communicator, or the words behind it aren't as many as the kind asks for
 unfoldable pub has_wrong_words : LineParts → Bool
-has_wrong_words parts = is_none parts.communicator || is_none parts.operation || is_none parts.ty
+has_wrong_words parts = is_none parts.communicator || has_wrong_count (fields_in parts) (places_in parts)
+
+-- whether a word is a number
+abbrev pub is_number : List ℕ → Bool
+is_number word = is_some (number_of word)
+
+-- a root, a single count or an item is no number
+abbrev pub has_strange_number : Fields → Places → Bool
+has_strange_number fields places = fails is_number places.root
+    || (is_one fields.rcounts && fails is_number places.rcounts)
+    || list_any (λ word. not (is_number word)) places.items
 
 unfoldable pub has_bad_number : LineParts → Bool
-has_bad_number parts = list_any (λ word. is_none (number_of word)) parts.items
+has_bad_number parts = has_strange_number (fields_in parts) (places_in parts)
+
+-- whether a word is a list
+abbrev pub is_list : List ℕ → Bool
+is_list word = is_some (list_named word)
+
+-- send counts or receive counts are no list
+abbrev pub has_strange_list : Fields → Places → Bool
+has_strange_list fields places = fails is_list places.scounts || (not (is_one fields.rcounts) && fails is_list places.rcounts)
+
+unfoldable pub has_bad_list : LineParts → Bool
+has_bad_list parts = has_strange_list (fields_in parts) (places_in parts)
 
 unfoldable pub has_bad_name : LineParts → Bool
 has_bad_name parts = fails is_name parts.communicator
@@ -145,11 +297,25 @@ is_meant rank (Some (Numbered (negsuc n))) = false
 unfoldable pub names_rank : ℕ → LineParts → Bool
 names_rank rank parts = is_meant rank (label_in parts)
 
+-- what a place says, where the kind has it
+abbrev pub said : {A : Type 0} → (List ℕ → Option A) → A → Option (List ℕ) → A
+said meaning other word = unwrap_or (option_and_then meaning word) other
+
+-- the draft of a blocking call; a field that the kind hasn't is 0, sum, i8 or no counts
+abbrev pub draft_in : Kind → Places → Draft
+draft_in kind places = record {
+  kind = kind;
+  mode = Blocking;
+  root = said number_of (pos 0) places.root;
+  op = said operation_named O.Sum places.operation;
+  ty = said type_named T.I8 places.ty;
+  scounts = said list_named [] places.scounts;
+  rcounts = said (rcounts_named (fields_of kind).rcounts) [] places.rcounts;
+  items = filter_map number_of places.items;
+}
+
 unfoldable pub statement_in : LineParts → Option Statement
-statement_in parts = do
-  operation ← option_and_then operation_of parts.operation
-  ty ← option_and_then type_of parts.ty
-  Some (Allreduce operation ty (filter_map number_of parts.items))
+statement_in parts = option_map (λ kind. Call (draft_in kind (places_in parts))) (kind_in parts)
 
 -- what the line gives the rank
 abbrev pub given_to : ℕ → LineParts → Option Statement

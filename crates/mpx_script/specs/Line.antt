@@ -1,9 +1,12 @@
 -- What the reader learns from one line.
-use Rattle.std.specs.Prelude.{◌≡◌, ℕ, ◌+◌, ◌-◌, ◌<◌, ◌≤◌, true, false, ◌&&◌, List, nat_le, nat_lt, Option, Some, None, IsSomeAnd}
+use Rattle.std.specs.Prelude.{◌≡◌, ℕ, ◌+◌, ◌-◌, ◌<◌, ◌≤◌, true, false, ◌&&◌, List, [], ◌∷◌, ◌||◌, is_none, nat_le, nat_lt, Option, Some, None, IsSomeAnd}
+use Rattle.mpx_post.specs.declared.kinds.Kind.{Kind}
+use Rattle.mpx_post.specs.Kinds.{fields_of}
 use Rattle.mpx_script.specs.Words.{counts}
-use Rattle.mpx_script.specs.Grammar.{LineParts, parts_of, ranks_in, statements_in, names_rank, statement_in}
-use Rattle.mpx_script.specs.Reading.{statements_limit}
+use Rattle.mpx_script.specs.Grammar.{LineParts, Places, parts_of, ranks_in, statements_in, names_rank, statement_in, is_unknown, has_wrong_words, has_bad_number, has_bad_list, has_bad_name, has_unknown_name, has_unknown_word, has_wrong_count, has_strange_number, has_strange_list, fails, is_name, is_communicator}
+use Rattle.mpx_script.specs.Reading.{statements_limit, first_holding}
 use Rattle.mpx_script.specs.declared.faults.ScriptFault.{ScriptFault}
+use Rattle.mpx_script.specs.declared.faults.ScriptFault.TheVariants.{UnknownStatement, WrongWords, BadNumber, BadList, BadName, NameUnknown}
 use Rattle.mpx_script.specs.declared.script_line.Given.{Given}
 use Rattle.mpx_script.specs.declared.script_line.Line.{Line}
 use Rattle.mpx_script.specs.declared.script_line.Line.TheVariants.{Passed, Opening, Further}
@@ -28,3 +31,37 @@ Says ranks statements ws (Further given) = (counts ws ≡ true) × (statements +
 abbrev pub IsRefusal : Option ScriptFault → LineError → Type 0
 IsRefusal found OutOfMemory = Unit {0}
 IsRefusal found (Fault what) = found ≡ Some what
+
+-- what the words behind the label are refused for
+unfoldable pub statement_refusal : LineParts → Option ScriptFault
+statement_refusal parts = first_holding (
+    (UnknownStatement, is_unknown parts)
+    ∷ (WrongWords, has_wrong_words parts)
+    ∷ (BadNumber, has_bad_number parts)
+    ∷ (BadList, has_bad_list parts)
+    ∷ (BadName, has_bad_name parts)
+    ∷ (NameUnknown, has_unknown_name parts)
+    ∷ [])
+
+-- what the numbers and lists of a call are refused for
+abbrev pub draft_refusal : Kind → Places → Option ScriptFault
+draft_refusal kind places = first_holding (
+    (BadNumber, has_strange_number (fields_of kind) places)
+    ∷ (BadList, has_strange_list (fields_of kind) places)
+    ∷ [])
+
+-- what a statement of this kind is refused for, with this communicator and these words behind it
+abbrev pub call_refusal : Kind → Option (List ℕ) → Places → Option ScriptFault
+call_refusal kind communicator places = first_holding (
+    (UnknownStatement, has_unknown_word places)
+    ∷ (WrongWords, is_none communicator || has_wrong_count (fields_of kind) places)
+    ∷ (BadNumber, has_strange_number (fields_of kind) places)
+    ∷ (BadList, has_strange_list (fields_of kind) places)
+    ∷ (BadName, fails is_name communicator)
+    ∷ (NameUnknown, fails is_communicator communicator)
+    ∷ [])
+
+-- what a place says: the other value where it has no word, and None where its word says nothing
+abbrev pub read_at : {A : Type 0} → (List ℕ → Option A) → A → Option (List ℕ) → Option A
+read_at meaning other None = Some other
+read_at meaning other (Some word) = meaning word

@@ -1,16 +1,15 @@
 -- One rank of a script, as an automaton over the outcomes that it asks for.
 use Rattle.std.specs.Prelude.{ℕ, ◌+◌, List, [], ◌∷◌, ◌++◌, length, Option, Some, None, option_and_then, Result, Ok, Err}
-use Rattle.mpx_post.specs.declared.post.Given.{Given}
+use Rattle.mpx_post.specs.Posts.{Given}
 use Rattle.mpx_post.specs.declared.draft.Draft.{Draft}
-use Rattle.mpx_post.specs.declared.draft.Draft.TheVariants as D
 use Rattle.mpx_post.specs.declared.draft.PostError.{PostError}
 use Rattle.mpx_post.specs.Births.{BirthView}
 use Rattle.mpx_post.specs.Drafts.{checked}
-use Rattle.mpx_node.specs.declared.outcome.Outcome.{Outcome}
+use Rattle.mpx_value.specs.declared.outcomes.Outcome.{Outcome}
 use Rattle.mpx_post.specs.Rows.{all_of}
-use Rattle.mpx_node.specs.Histories.{Results}
+use Rattle.mpx_value.specs.Histories.{Results}
 use Rattle.mpx_script.specs.declared.statement.Statement.{Statement}
-use Rattle.mpx_script.specs.declared.statement.Statement.TheVariants.{Allreduce}
+use Rattle.mpx_script.specs.declared.statement.Statement.TheVariants.{Call}
 
 -- a line of a transcript: what a call gave, or why a post was refused
 pub data Line : Type 0 where
@@ -48,7 +47,7 @@ pub data Next : Type 0 where
 
 -- the draft that a statement posts
 abbrev pub draft_of : Statement → Draft
-draft_of (Allreduce op ty items) = D.Allreduce op ty items
+draft_of (Call draft) = draft
 
 -- no outcome is asked for
 abbrev pub at_once : Act → Next

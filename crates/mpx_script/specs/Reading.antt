@@ -3,10 +3,10 @@ use Rattle.std.specs.Prelude.{ℕ, ◌+◌, nat_lt, Bool, false, not, ◌==◌, 
 use Rattle.std.specs.List.{filter_map, range_with_len}
 use Rattle.std.specs.Option.{option_map, option_map_or}
 use Rattle.mpx_script.specs.Words.{words, counts, counting, is_ascii, is_over_limit, script_lines}
-use Rattle.mpx_script.specs.Grammar.{LineParts, parts_of, statements_in, ranks_in, given_to, lacks_ranks, has_ranks_out_of_range, has_rank_out_of_range, is_unknown, has_wrong_words, has_bad_number, has_bad_name, has_unknown_name}
+use Rattle.mpx_script.specs.Grammar.{LineParts, parts_of, statements_in, ranks_in, given_to, lacks_ranks, has_ranks_out_of_range, has_rank_out_of_range, is_unknown, has_wrong_words, has_bad_number, has_bad_list, has_bad_name, has_unknown_name}
 use Rattle.mpx_script.specs.ScriptView.{ScriptView}
 use Rattle.mpx_script.specs.declared.faults.ScriptFault.{ScriptFault}
-use Rattle.mpx_script.specs.declared.faults.ScriptFault.TheVariants.{NotAscii, TooLarge, NoRanksLine, RanksOutOfRange, RankOutOfRange, UnknownStatement, WrongWords, BadNumber, BadName, NameUnknown}
+use Rattle.mpx_script.specs.declared.faults.ScriptFault.TheVariants.{NotAscii, TooLarge, NoRanksLine, RanksOutOfRange, RankOutOfRange, UnknownStatement, WrongWords, BadNumber, BadList, BadName, NameUnknown}
 use Rattle.mpx_script.specs.declared.faults.ScriptError.{ScriptError}
 
 -- how many statements a script may have
@@ -44,6 +44,7 @@ refusals p =
     ∷ (UnknownStatement, on_further p (λ ranks parts. is_unknown parts))
     ∷ (WrongWords, on_further p (λ ranks parts. has_wrong_words parts))
     ∷ (BadNumber, on_further p (λ ranks parts. has_bad_number parts))
+    ∷ (BadList, on_further p (λ ranks parts. has_bad_list parts))
     ∷ (BadName, on_further p (λ ranks parts. has_bad_name parts))
     ∷ (NameUnknown, on_further p (λ ranks parts. has_unknown_name parts))
     ∷ []

@@ -3,10 +3,10 @@ use Rattle.std.specs.Prelude.{ℕ, zero, suc, ℤ, pos, List, [], ◌∷◌, ◌
 use Rattle.mpx_num.specs.Text.{number_text}
 use Rattle.mpx_post.specs.declared.draft.PostError.{PostError}
 use Rattle.mpx_post.specs.declared.draft.PostError.TheVariants as R
-use Rattle.mpx_node.specs.declared.outcome.FaultKind.{FaultKind}
-use Rattle.mpx_node.specs.declared.outcome.FaultKind.TheVariants as F
-use Rattle.mpx_node.specs.declared.outcome.Outcome.{Outcome}
-use Rattle.mpx_node.specs.declared.outcome.Outcome.TheVariants as O
+use Rattle.mpx_match.specs.declared.verdicts.FaultKind.{FaultKind}
+use Rattle.mpx_match.specs.declared.verdicts.FaultKind.TheVariants as F
+use Rattle.mpx_value.specs.declared.outcomes.Outcome.{Outcome}
+use Rattle.mpx_value.specs.declared.outcomes.Outcome.TheVariants as O
 use Rattle.mpx_script.specs.Ranks.{Line, Told, Refused}
 
 -- each number with a space before it
@@ -20,16 +20,27 @@ numbers_text [] = codes "empty"
 numbers_text (x ∷ xs) = number_text x ++ spaced xs
 
 abbrev pub fault_name : FaultKind → List ℕ
+fault_name F.Kind = codes "Kind"
+fault_name F.Mode = codes "Mode"
+fault_name F.Root = codes "Root"
+fault_name F.Op = codes "Op"
+fault_name F.ItemType = codes "ItemType"
 fault_name F.Amount = codes "Amount"
 
 abbrev pub refusal_name : PostError → List ℕ
 refusal_name R.NotMember = codes "NotMember"
+refusal_name R.RootOutOfRange = codes "RootOutOfRange"
+refusal_name R.OpNotForType = codes "OpNotForType"
+refusal_name R.CountsLength = codes "CountsLength"
+refusal_name R.ItemsLength = codes "ItemsLength"
 refusal_name R.ItemOutOfRange = codes "ItemOutOfRange"
 refusal_name R.TooManyItems = codes "TooManyItems"
 refusal_name R.CallsUsedUp = codes "CallsUsedUp"
 refusal_name R.OutOfMemory = codes "OutOfMemory"
 
 abbrev pub outcome_text : Outcome → List ℕ
+outcome_text O.Nothing = codes "ok"
+outcome_text O.Absent = codes "none"
 outcome_text (O.Items items) = numbers_text items.nums
 outcome_text (O.Fault fault) = codes "fault " ++ fault_name fault.what ++ codes " at " ++ number_text (pos fault.rank)
 

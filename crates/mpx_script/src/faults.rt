@@ -3,6 +3,7 @@ ghost use Rattle.mpx_script.specs.Faults.{fault_name, error_text};
 ghost use Rattle.mpx_script.specs.declared.faults.ReadScriptError.TheVariants.{OutOfMemory};
 ghost use Rattle.mpx_script.specs.declared.faults.LineError.TheVariants.{OutOfMemory as NoMemory};
 
+use join_core::OutOfMemory;
 use std::alloc::{AllocError, AllocFailed};
 use std::fmt;
 use thiserror::Error;
@@ -22,11 +23,13 @@ pub enum ScriptFault {
     RankOutOfRange,
     /// There is no such statement, operation or type, or the line isn't of the form `R: STATEMENT`.
     UnknownStatement,
-    /// The statement has too few words.
+    /// The statement has too few words, or too many.
     WrongWords,
-    /// A word in a number's place is no number.
+    /// The word of a root, of a single count or of an item is no number.
     BadNumber,
-    /// A word in a name's place is no name.
+    /// The word of a list is no list of numbers.
+    BadList,
+    /// The communicator's word is no name.
     BadName,
     /// The name isn't bound.
     NameUnknown,
@@ -45,6 +48,7 @@ impl ScriptFault {
             ScriptFault::UnknownStatement => "UnknownStatement",
             ScriptFault::WrongWords => "WrongWords",
             ScriptFault::BadNumber => "BadNumber",
+            ScriptFault::BadList => "BadList",
             ScriptFault::BadName => "BadName",
             ScriptFault::NameUnknown => "NameUnknown",
         }
@@ -105,6 +109,14 @@ impl<T: Drop> From<AllocFailed<T>> for ReadScriptError {
     }
 }
 
+impl From<OutOfMemory> for ReadScriptError {
+    ghost from_gives = { λ _ e. e ≡ OutOfMemory };
+
+    fn from(_e: OutOfMemory) -> ReadScriptError {
+        ReadScriptError::OutOfMemory
+    }
+}
+
 /// Why a line says nothing.
 #[derive(Drop)]
 pub enum LineError {
@@ -124,6 +136,14 @@ impl<T: Drop> From<AllocFailed<T>> for LineError {
     ghost from_gives = { λ _ e. e ≡ NoMemory };
 
     fn from(_e: AllocFailed<T>) -> LineError {
+        LineError::OutOfMemory
+    }
+}
+
+impl From<OutOfMemory> for LineError {
+    ghost from_gives = { λ _ e. e ≡ NoMemory };
+
+    fn from(_e: OutOfMemory) -> LineError {
         LineError::OutOfMemory
     }
 }

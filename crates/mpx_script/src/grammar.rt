@@ -1,10 +1,12 @@
-ghost use Rattle.std.specs.Prelude.{◌≡◌};
-ghost use Rattle.mpx_script.specs.Grammar.{below, rank_count, ranks_number, label_of, is_statement_word, operation_of, type_of, is_small_letter, is_name_byte, is_name, is_communicator};
+ghost use Rattle.std.specs.Prelude.{◌≡◌, map, IfOk};
+ghost use Rattle.mpx_script.specs.Grammar.{below, rank_count, ranks_number, label_of, named, kind_named, operation_named, type_named, list_named, is_one, is_small_letter, is_name_byte, is_name, is_communicator};
 ghost use Rattle.mpx_script.specs.Words.{words};
 ghost use Rattle.std.specs.List.{list_all};
 
 use crate::words::first_word;
-use mpx_num::{Op, Ty, parse_number};
+use mpx_num::{Numbers, Op, Ty, parse_number};
+use mpx_post::{Kind, Number};
+use std::alloc::{AllocError, Global};
 
 /// Which ranks a further line is for.
 #[derive(Clone, Copy, Debug)]
@@ -70,33 +72,114 @@ pub fn label_of(word: &[u8]) -> Option<Label>
     Some(Label::Numbered(number))
 }
 
-#[tactic(auto, unfolding(crate::specs::Grammar::is_statement_word))]
-pub fn is_statement_word(word: &[u8]) -> bool
-    ensures { result ≡ is_statement_word word.now }
+/// What a table has for a word.
+fn named<T: Copy>(table: &[(&[u8], T)], word: &[u8]) -> Option<T>
+    ensures { result ≡ named (map (λ entry. (entry.0.now, entry.1)) table.now) word.now }
 {
-    word == b"allreduce".as_slice()
+    for (name, meaning) in table {
+        if word == *name {
+            return Some(*meaning);
+        }
+    }
+    None
 }
 
-#[tactic(auto, unfolding(crate::specs::Grammar::operation_of))]
+/// The kind of call of a statement's word.
+#[tactic(auto, unfolding(crate::specs::Grammar::kind_named))]
+pub fn kind_of(word: &[u8]) -> Option<Kind>
+    ensures { result ≡ kind_named word.now }
+{
+    named(
+        &[
+            (b"barrier".as_slice(), Kind::Barrier),
+            (b"bcast".as_slice(), Kind::Bcast),
+            (b"gather".as_slice(), Kind::Gather),
+            (b"gatherv".as_slice(), Kind::Gatherv),
+            (b"scatter".as_slice(), Kind::Scatter),
+            (b"scatterv".as_slice(), Kind::Scatterv),
+            (b"allgather".as_slice(), Kind::Allgather),
+            (b"allgatherv".as_slice(), Kind::Allgatherv),
+            (b"alltoall".as_slice(), Kind::Alltoall),
+            (b"alltoallv".as_slice(), Kind::Alltoallv),
+            (b"reduce".as_slice(), Kind::Reduce),
+            (b"allreduce".as_slice(), Kind::Allreduce),
+            (b"reduce_scatter_block".as_slice(), Kind::ReduceScatterBlock),
+            (b"reduce_scatter".as_slice(), Kind::ReduceScatter),
+            (b"scan".as_slice(), Kind::Scan),
+            (b"exscan".as_slice(), Kind::Exscan),
+        ],
+        word,
+    )
+}
+
+/// The operation of a word.
+#[tactic(auto, unfolding(crate::specs::Grammar::operation_named))]
 pub fn operation_of(word: &[u8]) -> Option<Op>
-    ensures { result ≡ operation_of word.now }
+    ensures { result ≡ operation_named word.now }
 {
-    if word == b"sum".as_slice() {
-        Some(Op::Sum)
-    } else {
-        None
-    }
+    named(
+        &[
+            (b"max".as_slice(), Op::Max),
+            (b"min".as_slice(), Op::Min),
+            (b"sum".as_slice(), Op::Sum),
+            (b"prod".as_slice(), Op::Prod),
+            (b"land".as_slice(), Op::Land),
+            (b"lor".as_slice(), Op::Lor),
+            (b"lxor".as_slice(), Op::Lxor),
+            (b"band".as_slice(), Op::Band),
+            (b"bor".as_slice(), Op::Bor),
+            (b"bxor".as_slice(), Op::Bxor),
+            (b"maxloc".as_slice(), Op::Maxloc),
+            (b"minloc".as_slice(), Op::Minloc),
+        ],
+        word,
+    )
 }
 
-#[tactic(auto, unfolding(crate::specs::Grammar::type_of))]
+/// The type of a word.
+#[tactic(auto, unfolding(crate::specs::Grammar::type_named))]
 pub fn type_of(word: &[u8]) -> Option<Ty>
-    ensures { result ≡ type_of word.now }
+    ensures { result ≡ type_named word.now }
 {
-    if word == b"i64".as_slice() {
-        Some(Ty::I64)
-    } else {
-        None
+    named(
+        &[
+            (b"i8".as_slice(), Ty::I8),
+            (b"i16".as_slice(), Ty::I16),
+            (b"i32".as_slice(), Ty::I32),
+            (b"i64".as_slice(), Ty::I64),
+            (b"u8".as_slice(), Ty::U8),
+            (b"u16".as_slice(), Ty::U16),
+            (b"u32".as_slice(), Ty::U32),
+            (b"u64".as_slice(), Ty::U64),
+            (b"2int".as_slice(), Ty::TwoInt),
+        ],
+        word,
+    )
+}
+
+/// The numbers of a list: numbers with commas between them, or `-` for none.
+#[tactic(auto, unfolding(crate::specs::Grammar::list_named))]
+pub fn list_of(alloc: Global, word: &[u8]) -> Result<Option<Numbers>, AllocError>
+    ensures { IfOk result (λ found. found ≡ list_named word.now) }
+{
+    let mut numbers = Vec::new(alloc);
+    if word == b"-".as_slice() {
+        return Ok(Some(Numbers::new(numbers)));
     }
+    for part in word.split(|byte| *byte == b',') {
+        let Some(number) = parse_number(part) else {
+            return Ok(None);
+        };
+        numbers.push(number)?;
+    }
+    Ok(Some(Numbers::new(numbers)))
+}
+
+/// Whether a kind with so many counts has just one.
+pub fn is_one(number: Number) -> bool
+    ensures { result ≡ is_one number }
+{
+    number == Number::One
 }
 
 fn is_small_letter(byte: u8) -> bool

@@ -6,10 +6,11 @@
 //! whole text is read as in `specs/Reading.antt`.
 //!
 //! What a script's ranks print is its evaluation (`specs/Evaluation.antt`), whose laws are [`every_script_has_an_evaluation`],
-//! [`evaluations_are_one`], [`whatever_is_reached_is_a_beginning`] and [`lines_tell_the_sums_of_all_posts`]; [`line`] and
+//! [`evaluations_are_one`], [`whatever_is_reached_is_a_beginning`] and [`lines_tell_the_values_of_all_posts`]; [`line`] and
 //! [`refused_line`] write a line of it.
 #![tactic(auto)]
 
+mod calls;
 mod evaluation;
 mod faults;
 mod grammar;
@@ -29,5 +30,5 @@ pub use faults::{ReadScriptError, ScriptError, ScriptFault};
 pub use reader::read_script;
 pub use script::Script;
 pub use statement::Statement;
-pub use told::lines_tell_the_sums_of_all_posts;
+pub use told::lines_tell_the_values_of_all_posts;
 pub use transcript::{line, refused_line};

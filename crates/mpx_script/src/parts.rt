@@ -1,26 +1,22 @@
-ghost use Rattle.std.specs.Prelude.{◌≡◌, ◌+◌, ◌-◌, ◌<◌, ◌≤◌, ℕ, ◌&&◌, ◌⊎◌, true, false, None, Some, IfSome, IfOk, IfErr, MatchOption, option_and_then, nat_le, nat_lt, is_none, vec_len};
-ghost use Rattle.std.specs.List.{filter_map, list_any};
-ghost use Rattle.mpx_num.specs.Text.{number_of};
+ghost use Rattle.std.specs.Prelude.{◌≡◌, ◌==◌, ◌+◌, ◌-◌, ◌<◌, ◌≤◌, ℕ, ◌&&◌, ◌⊎◌, true, false, not, None, Some, IfOk, IfErr, nat_le, nat_lt, is_none, length};
+ghost use Rattle.std.specs.Option.{option_copied};
 ghost use Rattle.mpx_script.specs.Words.{words};
-ghost use Rattle.mpx_script.specs.Grammar.{parts_of, label_of, label_in, ranks_meant, statements_in, is_past, is_meant, operation_of, type_of, is_unknown, has_wrong_words};
+ghost use Rattle.mpx_script.specs.Grammar.{parts_of, kind_in, label_in, places_of, ranks_meant, statements_in, is_past, is_meant, lacks, has_unknown_word, has_wrong_count};
 
 use crate::faults::{LineError, ScriptFault};
-use crate::grammar::{Label, below, is_statement_word, label_of, operation_of, type_of};
-use crate::words::first_word;
-use mpx_num::{Op, Ty, parse_number};
-use std::alloc::{AllocError, Global};
+use crate::grammar::{Label, below, kind_of, label_of, operation_of, type_of};
+use crate::words::{first_word, next_word};
+use mpx_post::{Fields, Kind};
 use std::marker::Model;
 
-/// The words of a further line by their places: `LABEL STATEMENT COMMUNICATOR OPERATION TYPE ITEMS`.
+/// The first words of a further line: `LABEL STATEMENT COMMUNICATOR`.
 #[derive(Drop)]
 pub struct Parts<'a> {
     pub label: Option<&'a [u8]>,
     pub statement: Option<&'a [u8]>,
     pub communicator: Option<&'a [u8]>,
-    pub operation: Option<&'a [u8]>,
-    pub ty: Option<&'a [u8]>,
-    /// The line behind its fifth word.
-    pub items: &'a [u8],
+    /// The line behind its third word.
+    pub behind: &'a [u8],
 }
 
 impl<'a> Model for Parts<'a> {
@@ -34,9 +30,7 @@ impl<'a> Model for Parts<'a> {
       label = option_copied p.label;
       statement = option_copied p.statement;
       communicator = option_copied p.communicator;
-      operation = option_copied p.operation;
-      ty = option_copied p.ty;
-      items = words p.items.now;
+      behind = words p.behind.now;
     } };
 }
 
@@ -46,16 +40,12 @@ pub fn parts_of(line: &[u8]) -> Parts<'_>
 {
     let (label, rest) = first_word(line);
     let (statement, rest) = first_word(rest);
-    let (communicator, rest) = first_word(rest);
-    let (operation, rest) = first_word(rest);
-    let (ty, items) = first_word(rest);
+    let (communicator, behind) = first_word(rest);
     Parts {
         label,
         statement,
         communicator,
-        operation,
-        ty,
-        items,
+        behind,
     }
 }
 
@@ -84,52 +74,101 @@ impl Parts<'_> {
         }
     }
 
-    pub fn operation(&self) -> Option<Op>
-        ensures { result ≡ option_and_then operation_of self.now.operation }
+    pub fn kind(&self) -> Option<Kind>
+        ensures { result ≡ kind_in self.now }
     {
-        match self.operation {
-            Some(word) => operation_of(word),
+        match self.statement {
+            Some(word) => kind_of(word),
             None => None,
         }
     }
+}
 
-    pub fn ty(&self) -> Option<Ty>
-        ensures { result ≡ option_and_then type_of self.now.ty }
+/// The words behind the communicator by their places, `ROOT OPERATION TYPE SCOUNTS RCOUNTS ITEMS`, where the kind has them.
+#[derive(Drop)]
+pub struct Places<'a> {
+    pub root: Option<&'a [u8]>,
+    pub operation: Option<&'a [u8]>,
+    pub ty: Option<&'a [u8]>,
+    pub scounts: Option<&'a [u8]>,
+    pub rcounts: Option<&'a [u8]>,
+    /// The line behind these words.
+    pub items: &'a [u8],
+}
+
+impl<'a> Model for Places<'a> {
+    ghost use Rattle.std.specs.Option.{option_copied};
+    ghost use Rattle.mpx_script.specs.Words.{words};
+    ghost use Rattle.mpx_script.specs.Grammar.{Places as PlacesView};
+
+    ghost Value = { PlacesView };
+
+    ghost view = { λ p. record {
+      root = option_copied p.root;
+      operation = option_copied p.operation;
+      ty = option_copied p.ty;
+      scounts = option_copied p.scounts;
+      rcounts = option_copied p.rcounts;
+      items = words p.items.now;
+    } };
+}
+
+/// The places of a line behind its communicator.
+#[tactic(auto, unfolding(crate::specs::Grammar::places_of))]
+pub fn places_of(fields: Fields, line: &[u8]) -> Places<'_>
+    ensures { result ≡ places_of fields (words line.now) }
+{
+    let (root, rest) = next_word(fields.root, line);
+    let (operation, rest) = next_word(fields.op, rest);
+    let (ty, rest) = next_word(fields.items, rest);
+    let (scounts, rest) = next_word(fields.scounts.is_had(), rest);
+    let (rcounts, items) = next_word(fields.rcounts.is_had(), rest);
+    Places {
+        root,
+        operation,
+        ty,
+        scounts,
+        rcounts,
+        items,
+    }
+}
+
+impl Places<'_> {
+    /// Whether the operation or the type is another word.
+    pub fn has_unknown_word(&self) -> bool
+        ensures { result ≡ has_unknown_word self.now }
     {
-        match self.ty {
-            Some(word) => type_of(word),
-            None => None,
-        }
+        let operation = self
+            .operation
+            .is_some_and(|word| operation_of(word).is_none());
+        let ty = self.ty.is_some_and(|word| type_of(word).is_none());
+        operation || ty
     }
 
-    /// Whether the line isn't of the form `R: STATEMENT`, or one of its words is another statement, operation or type.
-    #[tactic(auto, unfolding(crate::specs::Grammar::is_unknown))]
-    pub fn is_unknown(&self) -> bool
-        ensures { result ≡ is_unknown self.now }
+    /// Whether words are missing, or there are more than there are places for.
+    pub fn has_wrong_count(&self, fields: Fields) -> bool
+        ensures { result ≡ has_wrong_count fields self.now }
     {
-        let Some(statement) = self.statement else {
-            return true;
-        };
-        self.label().is_none()
-            || !is_statement_word(statement)
-            || (self.operation.is_some() && self.operation().is_none())
-            || (self.ty.is_some() && self.ty().is_none())
+        lacks(fields.root, self.root)
+            || lacks(fields.op, self.operation)
+            || lacks(fields.items, self.ty)
+            || lacks(fields.scounts.is_had(), self.scounts)
+            || lacks(fields.rcounts.is_had(), self.rcounts)
+            || (!fields.items && has_words(self.items))
     }
+}
 
-    /// The communicator's word, the operation and the type, or None where a word is missing.
-    #[tactic(auto, unfolding(crate::specs::Grammar::is_unknown, crate::specs::Grammar::has_wrong_words))]
-    pub fn head(&self) -> Option<(&[u8], Op, Ty)>
-        requires { is_unknown self.now ≡ false }
-        ensures whole { is_none result ≡ has_wrong_words self.now }
-        ensures communicator { IfSome result (λ head. self.now.communicator ≡ Some head.0.now) }
-        ensures operation { IfSome result (λ head. option_and_then operation_of self.now.operation ≡ Some head.1) }
-        ensures ty { IfSome result (λ head. option_and_then type_of self.now.ty ≡ Some head.2) }
-    {
-        let communicator = self.communicator?;
-        let operation = self.operation()?;
-        let ty = self.ty()?;
-        Some((communicator, operation, ty))
-    }
+/// Whether a word is asked for and isn't there.
+fn lacks(asked: bool, word: Option<&[u8]>) -> bool
+    ensures { result ≡ lacks asked (option_copied word.entry) }
+{
+    asked && word.is_none()
+}
+
+fn has_words(line: &[u8]) -> bool
+    ensures { result ≡ not (length (words line.now) == 0) }
+{
+    first_word(line).0.is_some()
 }
 
 /// The ranks that a label names: those from the first number on and below the second.
@@ -151,23 +190,4 @@ pub fn ranks_named(label: Option<Label>, ranks: u8) -> Result<(u8, u8), LineErro
             None => Err(LineError::Fault(ScriptFault::RankOutOfRange)),
         },
     }
-}
-
-/// The numbers that a line's words stand for, or None where a word is no number.
-pub fn numbers_in(alloc: Global, line: &[u8]) -> Result<Option<Vec<i128>>, AllocError>
-    ensures { IfOk result (λ found. MatchOption found
-        (list_any (λ word. is_none (number_of word)) (words line.now) ≡ true)
-        (λ numbers. (list_any (λ word. is_none (number_of word)) (words line.now) ≡ false)
-        × (numbers.items ≡ filter_map number_of (words line.now)))) }
-{
-    let mut numbers = Vec::new(alloc);
-    let mut rest = line;
-    while let (Some(word), after) = first_word(rest) {
-        let Some(number) = parse_number(word) else {
-            return Ok(None);
-        };
-        numbers.push(number)?;
-        rest = after;
-    }
-    Ok(Some(numbers))
 }

@@ -157,7 +157,8 @@ fn read_lines(alloc: Global, text: &[u8]) -> Result<Script, ReadScriptError>
 
 /// Reads a script: at most 1,048,576 bytes of ASCII, line by line. Empty lines and lines whose first word begins with
 /// `#` are passed over; the first other line is `ranks N`, and each further line `R: STATEMENT`, or `*: STATEMENT` for
-/// every rank. The statement is `allreduce world sum i64 ITEMS` with any number of items.
+/// every rank. A statement is `KIND world ROOT OPERATION TYPE SCOUNTS RCOUNTS ITEMS` without the words that calls of its
+/// kind don't have: see `specs/Grammar.antt`.
 ///
 /// The refusal is that of the least line that has one, and the first of [`ScriptFault`] that holds of it.
 pub fn read_script(alloc: Global, text: &[u8]) -> Result<Script, ReadScriptError>

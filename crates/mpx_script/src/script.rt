@@ -4,6 +4,7 @@ ghost use Rattle.mpx_script.specs.ScriptView.{lists, Adds};
 
 use crate::script_line::Given;
 use crate::statement::Statement;
+use join_core::OutOfMemory;
 use std::alloc::{AllocError, Global};
 use std::marker::Model;
 
@@ -61,7 +62,7 @@ impl Script {
     }
 
     /// Adds a statement for its ranks. Where memory runs out, some of them may have it.
-    pub(crate) fn add(&mut self, alloc: Global, given: Given) -> Result<(), AllocError>
+    pub(crate) fn add(&mut self, alloc: Global, given: Given) -> Result<(), OutOfMemory>
         requires some { given.from < given.to }
         requires within { given.to ≤ self.old.ranks }
         ensures ranks { self.new.ranks ≡ self.old.ranks }
@@ -77,7 +78,7 @@ fn push_to(
     statements: &mut Vec<Vec<Statement>>,
     rank: u8,
     statement: Statement,
-) -> Result<(), AllocError>
+) -> Result<(), OutOfMemory>
     requires { rank < vec_len statements.old }
     ensures len { vec_len statements.new ≡ vec_len statements.old }
     ensures pushed { OnOk result (lists statements.new.items
@@ -88,7 +89,11 @@ fn push_to(
 }
 
 /// Adds a statement for its ranks, a copy of its own for each.
-fn give(alloc: Global, statements: &mut Vec<Vec<Statement>>, given: Given) -> Result<(), AllocError>
+fn give(
+    alloc: Global,
+    statements: &mut Vec<Vec<Statement>>,
+    given: Given,
+) -> Result<(), OutOfMemory>
     requires some { given.from < given.to }
     requires within { given.to ≤ vec_len statements.old }
     ensures len { vec_len statements.new ≡ vec_len statements.old }

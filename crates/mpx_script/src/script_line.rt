@@ -1,15 +1,17 @@
-ghost use Rattle.std.specs.Prelude.{◌≡◌, ◌+◌, ◌-◌, ◌<◌, ◌≤◌, true, false, None, Some, IfOk, OnOk, IfErr, IfSome};
+ghost use Rattle.std.specs.Prelude.{◌≡◌, ◌+◌, ◌-◌, ◌<◌, ◌≤◌, true, false, is_none, None, Some, IfOk, OnOk, IfErr, IfSome};
+ghost use Rattle.std.specs.Option.{option_copied};
 ghost use Rattle.mpx_script.specs.Words.{words, counts, is_ascii};
-ghost use Rattle.mpx_script.specs.Grammar.{parts_of, ranks_in};
+ghost use Rattle.mpx_script.specs.Grammar.{parts_of, label_in, ranks_in, statement_in, draft_in};
 ghost use Rattle.mpx_script.specs.Reading.{refusal, plain_place, bounded_place};
-ghost use Rattle.mpx_script.specs.Line.{IsGiven, Says, IsRefusal};
+ghost use Rattle.mpx_script.specs.Line.{IsGiven, Says, IsRefusal, statement_refusal, call_refusal};
 
+use crate::calls::draft_of;
 use crate::faults::{LineError, ScriptFault};
 use crate::grammar::{is_communicator, is_name, rank_count, ranks_number};
-use crate::parts::{numbers_in, parts_of, ranks_named};
+use crate::parts::{Parts, Places, parts_of, places_of, ranks_named};
 use crate::statement::Statement;
 use crate::words::{counts, is_ascii};
-use mpx_num::Numbers;
+use mpx_post::Kind;
 use std::alloc::Global;
 
 /// How many statements a script may have.
@@ -51,8 +53,57 @@ fn opening_line(line: &[u8]) -> Result<u8, LineError>
     Ok(ranks)
 }
 
+/// The call of a kind by its words.
+#[tactic(auto, using(crate::proofs::Places::refusal_of_draft, crate::proofs::Places::refusal_of_name))]
+fn call_of(
+    alloc: Global,
+    kind: Kind,
+    communicator: Option<&[u8]>,
+    places: &Places<'_>,
+) -> Result<Statement, LineError>
+    ensures accepted { OnOk result (call_refusal kind (option_copied communicator.entry) places.now ≡ None) }
+    ensures call { IfOk result (λ statement. statement ≡ Statement.Call (draft_in kind places.now)) }
+    ensures refused { IfErr result (IsRefusal (call_refusal kind (option_copied communicator.entry) places.now)) }
+{
+    if places.has_unknown_word() {
+        return Err(LineError::Fault(ScriptFault::UnknownStatement));
+    }
+    let Some(communicator) = communicator else {
+        return Err(LineError::Fault(ScriptFault::WrongWords));
+    };
+    if places.has_wrong_count(kind.fields()) {
+        return Err(LineError::Fault(ScriptFault::WrongWords));
+    }
+    let draft = match draft_of(alloc, kind, places) {
+        Ok(draft) => draft,
+        Err(e) => return Err(e),
+    };
+    if !is_name(communicator) {
+        return Err(LineError::Fault(ScriptFault::BadName));
+    }
+    if !is_communicator(communicator) {
+        return Err(LineError::Fault(ScriptFault::NameUnknown));
+    }
+    Ok(Statement::Call(draft))
+}
+
+/// The statement behind a label.
+#[tactic(auto, using(crate::proofs::Places::refusal_of_kind, crate::proofs::Places::refusal_of_no_kind), unfolding(crate::specs::Grammar::statement_in))]
+fn statement_of(alloc: Global, parts: &Parts<'_>) -> Result<Statement, LineError>
+    requires { is_none (label_in parts.now) ≡ false }
+    ensures accepted { OnOk result (statement_refusal parts.now ≡ None) }
+    ensures statement { IfOk result (λ statement. statement_in parts.now ≡ Some statement) }
+    ensures refused { IfErr result (IsRefusal (statement_refusal parts.now)) }
+{
+    let Some(kind) = parts.kind() else {
+        return Err(LineError::Fault(ScriptFault::UnknownStatement));
+    };
+    let places = places_of(kind.fields(), parts.behind);
+    call_of(alloc, kind, parts.communicator, &places)
+}
+
 /// The statement of a further line.
-#[tactic(auto, using(crate::proofs::Places::refusal_of_further), unfolding(crate::specs::Grammar::has_rank_out_of_range, crate::specs::Grammar::has_wrong_words, crate::specs::Grammar::has_bad_number, crate::specs::Grammar::has_bad_name, crate::specs::Grammar::has_unknown_name, crate::specs::Grammar::names_rank, crate::specs::Grammar::statement_in))]
+#[tactic(auto, using(crate::proofs::Places::refusal_of_many, crate::proofs::Places::count_of_statement), unfolding(crate::specs::Grammar::names_rank))]
 fn further_line(alloc: Global, line: &[u8], ranks: u8, statements: u32) -> Result<Given, LineError>
     requires ascii { is_ascii line.now ≡ true }
     requires counts { counts (words line.now) ≡ true }
@@ -67,28 +118,18 @@ fn further_line(alloc: Global, line: &[u8], ranks: u8, statements: u32) -> Resul
     if statements + u32::from(parts.statements(ranks)) > STATEMENTS {
         return Err(LineError::Fault(ScriptFault::TooLarge));
     }
-    let (from, to) = ranks_named(parts.label(), ranks)?;
-    if parts.is_unknown() {
-        return Err(LineError::Fault(ScriptFault::UnknownStatement));
-    }
-    let Some((communicator, op, ty)) = parts.head() else {
-        return Err(LineError::Fault(ScriptFault::WrongWords));
+    let (from, to) = match ranks_named(parts.label(), ranks) {
+        Ok(named) => named,
+        Err(e) => return Err(e),
     };
-    let Some(items) = numbers_in(alloc, parts.items)? else {
-        return Err(LineError::Fault(ScriptFault::BadNumber));
-    };
-    if !is_name(communicator) {
-        return Err(LineError::Fault(ScriptFault::BadName));
+    match statement_of(alloc, &parts) {
+        Ok(statement) => Ok(Given {
+            from,
+            to,
+            statement,
+        }),
+        Err(e) => Err(e),
     }
-    if !is_communicator(communicator) {
-        return Err(LineError::Fault(ScriptFault::NameUnknown));
-    }
-    let items = Numbers::new(items);
-    Ok(Given {
-        from,
-        to,
-        statement: Statement::Allreduce { op, ty, items },
-    })
 }
 
 /// What a line says, or why it is refused. With `cut` the script passes its limit of bytes in the line. `ranks` is

@@ -1,26 +1,32 @@
 ghost use Rattle.std.specs.Prelude.{◌≡◌, IfOk};
 
-use mpx_num::{Numbers, Op, Ty};
-use std::alloc::{AllocError, Global};
+use join_core::OutOfMemory;
+use mpx_post::Draft;
+use std::alloc::Global;
 
-/// A statement of a script. Its communicator is `world`.
+/// A statement of a script.
 #[derive(Debug, Drop)]
 pub enum Statement {
-    /// The reduction of all ranks' items, item by item, which every rank gets (MPI 4.1, section 6.9.6).
-    Allreduce { op: Op, ty: Ty, items: Numbers },
+    /// A blocking call on `world`.
+    Call(Draft),
 }
 
 impl Statement {
-    /// The same statement once more.
-    pub(crate) fn copy(&self, alloc: Global) -> Result<Statement, AllocError>
-        ensures { IfOk result (λ copied. copied ≡ self.now) }
+    ghost use Rattle.mpx_script.specs.Ranks.{draft_of};
+
+    /// The draft that the statement posts.
+    pub fn draft(&self, alloc: Global) -> Result<Draft, OutOfMemory>
+        ensures { IfOk result (λ draft. draft ≡ draft_of self.now) }
     {
         match self {
-            Statement::Allreduce { op, ty, items } => Ok(Statement::Allreduce {
-                op: *op,
-                ty: *ty,
-                items: items.copy(alloc)?,
-            }),
+            Statement::Call(draft) => draft.copy(alloc),
         }
+    }
+
+    /// The same statement once more.
+    pub(crate) fn copy(&self, alloc: Global) -> Result<Statement, OutOfMemory>
+        ensures { IfOk result (λ copied. copied ≡ self.now) }
+    {
+        Ok(Statement::Call(self.draft(alloc)?))
     }
 }

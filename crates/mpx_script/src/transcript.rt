@@ -1,39 +1,22 @@
 ghost use Rattle.std.specs.Prelude.{◌≡◌, ◌++◌, IfOk, pos, codes, string_bytes};
 ghost use Rattle.mpx_num.specs.Text.{number_text};
-ghost use Rattle.mpx_script.specs.Ranks.{draft_of, Told, Refused};
+ghost use Rattle.mpx_script.specs.Ranks.{Told, Refused};
 ghost use Rattle.mpx_script.specs.Transcripts.{fault_name, line_text, numbers_text, refusal_name};
 
-use crate::Statement;
 use join_core::OutOfMemory;
-use mpx_node::{FaultKind, Outcome};
 use mpx_num::push_number;
-use mpx_post::{Draft, PostError};
+use mpx_post::PostError;
+use mpx_value::{FaultKind, Outcome};
 use std::alloc::Global;
 
-impl Statement {
-    /// The draft that the statement posts.
-    pub fn draft(&self, alloc: Global) -> Result<Draft, OutOfMemory>
-        ensures { IfOk result (λ draft. draft ≡ draft_of self.now) }
-    {
-        match self {
-            Statement::Allreduce { op, ty, items } => {
-                let items = items.copy(alloc)?;
-                Ok(Draft::Allreduce {
-                    op: *op,
-                    ty: *ty,
-                    items,
-                })
-            }
-        }
-    }
-}
-
 /// The line of a transcript that tells an outcome: the numbers with one space between them, `empty` where there are
-/// none, or `fault NAME at RANK`.
+/// none, `ok` where the call gives nothing, `none` where there is nothing to give, or `fault NAME at RANK`.
 pub fn line(alloc: Global, outcome: &Outcome) -> Result<String, OutOfMemory>
     ensures { IfOk result (λ text. string_bytes text ≡ line_text (Told outcome.now)) }
 {
     match outcome {
+        Outcome::Nothing => Ok(String::from_str(alloc, "ok")?),
+        Outcome::Absent => Ok(String::from_str(alloc, "none")?),
         Outcome::Items(items) => numbers_line(alloc, items.nums()),
         Outcome::Fault(fault) => fault_line(alloc, fault.what, fault.rank),
     }
@@ -77,6 +60,11 @@ fn name_of_fault(what: FaultKind) -> &'static str
     ensures { result.now ≡ fault_name what }
 {
     match what {
+        FaultKind::Kind => "Kind",
+        FaultKind::Mode => "Mode",
+        FaultKind::Root => "Root",
+        FaultKind::Op => "Op",
+        FaultKind::ItemType => "ItemType",
         FaultKind::Amount => "Amount",
     }
 }
@@ -86,6 +74,10 @@ fn name_of_refusal(refusal: PostError) -> &'static str
 {
     match refusal {
         PostError::NotMember => "NotMember",
+        PostError::RootOutOfRange => "RootOutOfRange",
+        PostError::OpNotForType => "OpNotForType",
+        PostError::CountsLength => "CountsLength",
+        PostError::ItemsLength => "ItemsLength",
         PostError::ItemOutOfRange => "ItemOutOfRange",
         PostError::TooManyItems => "TooManyItems",
         PostError::CallsUsedUp => "CallsUsedUp",

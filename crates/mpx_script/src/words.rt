@@ -3,6 +3,7 @@ ghost use Rattle.std.specs.List.{prefix_len, position_or_len};
 ghost use Rattle.std.specs.Option.{option_copied};
 ghost use Rattle.std.specs.Str.Lines.{lines, strip_carriage_return};
 ghost use Rattle.mpx_script.specs.Words.{is_ascii, is_blank, words, counts};
+ghost use Rattle.mpx_script.specs.Grammar.{next_word, words_after};
 
 /// How many bytes there are before the first newline.
 fn line_len(text: &[u8]) -> usize
@@ -69,6 +70,18 @@ pub fn first_word(line: &[u8]) -> (Option<&[u8]>, &[u8])
         (None, rest)
     } else {
         (Some(word), rest)
+    }
+}
+
+/// The first word of a line and the line after it, where a word is asked for.
+pub fn next_word(asked: bool, line: &[u8]) -> (Option<&[u8]>, &[u8])
+    ensures word { option_copied result.0 ≡ next_word asked (words line.now) }
+    ensures rest { words result.1.now ≡ words_after asked (words line.now) }
+{
+    if asked {
+        first_word(line)
+    } else {
+        (None, line)
     }
 }
 

@@ -4,15 +4,20 @@ use mpx_group::Proc;
 use mpx_name::Name;
 use mpx_node::Node;
 use mpx_num::{Numbers, Op, Ty};
-use mpx_post::{At, Birth, Draft, Post};
+use mpx_post::{At, Birth, Draft, Kind, Mode, Post};
 use std::alloc::Global;
 use std::process::Abort;
 use std::test::Fail;
 
 pub fn sum_of(alloc: Global, nums: &[i128]) -> Result<Draft, Fail> {
-    Ok(Draft::Allreduce {
+    Ok(Draft {
+        kind: Kind::Allreduce,
+        mode: Mode::Blocking,
+        root: 0,
         op: Op::Sum,
         ty: Ty::I64,
+        scounts: Numbers::new(Vec::new(alloc)),
+        rcounts: Numbers::new(Vec::new(alloc)),
         items: Numbers::new(Vec::from_slice(alloc, nums)?),
     })
 }
@@ -20,7 +25,7 @@ pub fn sum_of(alloc: Global, nums: &[i128]) -> Result<Draft, Fail> {
 // A post of these numbers.
 pub fn post_of(alloc: Global, nums: &[i128]) -> Result<Post, Fail> {
     let world = Birth::world(alloc, 1)?;
-    let made = sum_of(alloc, nums)?.check(&world, Proc::new(0), &At { call: 0 });
+    let made = sum_of(alloc, nums)?.check(alloc, &world, Proc::new(0), &At { call: 0 });
     Ok(made.ok().ok_or("refused")?)
 }
 

@@ -3,8 +3,9 @@ use join_core::{Exact, Join};
 use mpx_board::{Board, PruneError};
 use mpx_group::Proc;
 use mpx_name::Name;
-use mpx_node::{Fault, FaultKind, Harvest, Node, Outcome};
+use mpx_node::{Harvest, Node};
 use mpx_post::{At, Birth, PostError};
+use mpx_value::{Fault, FaultKind, Outcome};
 use std::alloc::Global;
 use std::process::Abort;
 use std::test::Fail;
@@ -17,7 +18,7 @@ fn reaches_the_sums(rt: &impl Abort, alloc: Global, node: &mut Node) -> Result<(
         match node.result(&world, call) {
             Some(finished) => match &finished.outcome {
                 Outcome::Items(items) => assert_eq!(rt; items.nums(), [sum].as_slice()),
-                Outcome::Fault(_) => assert!(rt; false),
+                _ => assert!(rt; false),
             },
             None => assert!(rt; false),
         }
@@ -110,7 +111,7 @@ fn different_posts_of_one_call_clash(rt: HostRuntime) -> Result<(), Fail> {
     match left.result(&world, 0) {
         Some(finished) => match &finished.outcome {
             Outcome::Fault(fault) => assert_eq!(rt; *fault, told),
-            Outcome::Items(_) => assert!(rt; false),
+            _ => assert!(rt; false),
         },
         None => assert!(rt; false),
     }
@@ -155,7 +156,7 @@ fn limits_of_a_post(rt: HostRuntime) -> Result<(), Fail> {
     ] {
         let nums = vec![in alloc; number; count]?;
         let draft = sum_of(alloc, nums.as_slice())?;
-        let checked = draft.check(&world, Proc::new(process), &At { call });
+        let checked = draft.check(alloc, &world, Proc::new(process), &At { call });
         assert_eq!(rt; checked.is_ok(), refusal.is_none());
         match checked {
             Ok(made) => assert!(rt; made.copy(alloc)?.same(&made)),

@@ -1,7 +1,7 @@
 use Rattle.std.proofs.Common.{◌∙◌, ap}
 use Rattle.std.proofs.lemmas.Result.{on_ok_weaker}
 use Rattle.join_core.specs.Flat.{flat_join, known}
-use Rattle.mpx_post.specs.Posts.{same_given}
+use Rattle.mpx_post.specs.Equality.{same_given}
 use Rattle.mpx_board.specs.Contexts.{or_unknown}
 use Rattle.mpx_board.proofs.Telling.{call_told, call_told_tidy}
 use Rattle.mpx_board.proofs.told.tell_call.Goals as goal

@@ -8,7 +8,7 @@ use Rattle.join_core.specs.FlatSeen.{flat_view}
 use Rattle.join_nest.specs.Seen.{keyed_view}
 use Rattle.join_nest.specs.Trunc.{TruncView, same_calls}
 use Rattle.join_nest.specs.TruncSeen.{trunc_view}
-use Rattle.mpx_post.specs.Posts.{same_given}
+use Rattle.mpx_post.specs.Equality.{same_given}
 use Rattle.mpx_board.specs.Parts.{CallView}
 use Rattle.mpx_board.specs.Contexts.{post_in}
 use Rattle.mpx_board.proofs.Telling.{replaced_absent, set_by_put, set_by_swap, set_not_bare, swap_undone, dropped_told, posts_told, posts_tidy, swapped_posts_tidy, first_told, first_told_tidy}

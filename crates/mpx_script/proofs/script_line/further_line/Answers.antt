@@ -1,29 +1,37 @@
-use Rattle.std.proofs.Common.{◌≡◌, ◌+◌, false, nat_lt, ap, ◌∙◌, arith, rules}
+use Rattle.std.proofs.Common.{◌≡◌, ◌+◌, false, nat_lt, None, sym, ap, subst, ◌∙◌, arith, rules}
 use Rattle.std.proofs.lemmas.Bool.Decides.{nat_tests}
-use Rattle.std.proofs.lemmas.Result.{err_from_is_err_and}
-use Rattle.mpx_script.specs.Grammar.{label_in, names_rank, parts_of, statement_in, statements_in}
+use Rattle.mpx_script.specs.Grammar.{names_rank, parts_of, statements_in}
 use Rattle.mpx_script.specs.Reading.{statements_limit}
 use Rattle.mpx_script.specs.Words.{words}
-use Rattle.mpx_script.proofs.Places.{count_of_known, refusal_of_label}
+use Rattle.mpx_script.specs.Line.{IsRefusal, statement_refusal}
+use Rattle.mpx_script.proofs.Places.{count_of_statement, refusal_of_label, refusal_of_statement}
 use Rattle.mpx_script.proofs.script_line.further_line.Goals as goal
+use Rattle.mpx_script.proofs.script_line.further_line.Goals.{After-ranks_named}
 
-pub returns-clause-given : goal.returns-clause-given
-unfolding names_rank statement_in
-returns-clause-given c = record {
+few_statements : (c : After-ranks_named) → nat_lt statements_limit (c.args.statements + statements_in c.args.ranks (parts_of (words c.args.line.now))) ≡ false
+few_statements c =
+    let count : c.statements.result ≡ statements_in c.args.ranks (parts_of (words c.args.line.now)) = c.statements.ensures ∙ ap (statements_in c.args.ranks) c.parts_of-parts.ensures in
+    rw (← count) (grind (arith, nat_tests))
+
+pub returns-in-Err-clause-refused : goal.returns-in-Err-clause-refused
+returns-in-Err-clause-refused c = refusal_of_label c.args.line.now c.args.ranks c.args.statements c.requires.ascii c.requires.counts (few_statements (goal.at.returns-in-Err-clause-refused c).After-ranks_named) c.in-Err.e (search rules)
+
+pub returns-in-Ok-statement_of-clause-given : goal.returns-in-Ok-statement_of-clause-given
+unfolding names_rank
+returns-in-Ok-statement_of-clause-given c = record {
   some = search rules;
   within = search rules;
   named = search rules;
-  count = grind (arith, count_of_known);
+  count = grind (arith, count_of_statement);
   statement = search rules;
 }
 
-pub returns-in_err-from-clause-refused : goal.returns-in_err-from-clause-refused
-returns-in_err-from-clause-refused c =
-    let exit = err_from_is_err_and c.from_residual.result c.from_residual.ensures.1 in
-    let label : c.label.result ≡ label_in (parts_of (words c.args.line.now)) = c.label.ensures ∙ ap label_in c.parts_of-parts.ensures in
-    let count : c.statements.result ≡ statements_in c.args.ranks (parts_of (words c.args.line.now)) = c.statements.ensures ∙ ap (statements_in c.args.ranks) c.parts_of-parts.ensures in
-    let few : nat_lt statements_limit (c.args.statements + statements_in c.args.ranks (parts_of (words c.args.line.now))) ≡ false = rw (← count) (grind (arith, nat_tests)) in
-    rw exit.1 (refusal_of_label c.args.line.now c.args.ranks c.args.statements exit.0 c.requires.ascii c.requires.counts few (rw exit.2 (rw label at c.in_err-from.ensures.err)))
+pub returns-in-Ok-statement_of-clause-accepted : goal.returns-in-Ok-statement_of-clause-accepted
+returns-in-Ok-statement_of-clause-accepted c =
+    let accepted : statement_refusal (parts_of (words c.args.line.now)) ≡ None = search rules in
+    refusal_of_statement c.args.line.now c.args.ranks c.args.statements c.requires.ascii c.requires.counts (few_statements (goal.at.returns-in-Ok-statement_of-clause-accepted c).After-ranks_named) (search rules) ∙ accepted
 
-pub returns-clause-few : goal.returns-clause-few
-returns-clause-few c = grind (arith, count_of_known)
+pub returns-in-Err-statement_of-clause-refused : goal.returns-in-Err-statement_of-clause-refused
+returns-in-Err-statement_of-clause-refused c =
+    let refused : IsRefusal (statement_refusal (parts_of (words c.args.line.now))) c.in-Err-statement_of.e = search rules in
+    subst (λ found. IsRefusal found c.in-Err-statement_of.e) (sym (refusal_of_statement c.args.line.now c.args.ranks c.args.statements c.requires.ascii c.requires.counts (few_statements (goal.at.returns-in-Err-statement_of-clause-refused c).After-ranks_named) (search rules))) refused

@@ -2,7 +2,7 @@ use Rattle.std.proofs.Common.{◌≡◌, ◌++◌, ◌∷◌, [], ap, sym, ◌�
 use Rattle.std.specs.Prelude.{Ok, is_some, Some, None, slice_get, IsSome}
 use Rattle.std.proofs.lemmas.Option.{same_Some}
 use Rattle.std.specs.Option.{option_copied}
-use Rattle.mpx_node.specs.declared.outcome.Finished.{Finished}
+use Rattle.mpx_node.specs.declared.finished.Finished.{Finished}
 use Rattle.mpx_node.specs.declared.node.Harvest.TheVariants as H
 use Rattle.mpx_node.specs.Harvests.{Harvests}
 use Rattle.mpx_node.specs.Nodes.{next_result, results_on, add_result}

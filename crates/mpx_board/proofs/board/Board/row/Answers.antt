@@ -1,7 +1,7 @@
 use Rattle.std.proofs.Common.{◌≡◌, ℕ, ◌+◌, ◌<◌, ◌≤◌, ◌++◌, List, ◌∷◌, length, drop, get_or, map, Option, Some, None, option_and_then, sym, ap, ◌∙◌}
 use Rattle.std.specs.Option.{option_map}
 use Rattle.std.proofs.lemmas.List.{append-nil, at_drop_more, at_drop_all}
-use Rattle.mpx_post.specs.declared.post.Given.{Given}
+use Rattle.mpx_post.specs.Posts.{Given}
 use Rattle.mpx_post.specs.Births.{BirthView}
 use Rattle.mpx_post.specs.Rows.{RowView, all_of}
 use Rattle.mpx_board.specs.Boards.{Context, told}

@@ -1,14 +1,12 @@
-use Rattle.std.proofs.Common.{◌≡◌, ◌↔◌, IsTrue, Bool, List, ℤ, refl, ap, rules}
+use Rattle.std.proofs.Common.{◌≡◌, ◌↔◌, IsTrue, Bool, List, ℤ, sym, ap, rules}
+use denote.Enum.Bare.{same_true}
 use Rattle.std.specs.Bool.{Decides}
 use Rattle.std.proofs.lemmas.Bool.Decides.{Decides-int_eq}
 use Rattle.std.proofs.lemmas.Slice.Eq.{slice_eq-Decides}
+use Rattle.mpx_num.specs.contracts.types.Ty.{the_type}
 use Rattle.mpx_num.specs.declared.types.Ty.{Ty}
-use Rattle.mpx_num.specs.declared.types.Ty.TheVariants.{I64}
 use Rattle.mpx_num.specs.ItemList.{ItemList}
 use Rattle.mpx_num.proofs.items.Items.same.Goals as goal
-
-one_type : (t u : Ty) → t ≡ u
-one_type I64 I64 = refl
 
 same_items : (t u : Ty) (xs ys : List ℤ) (r : Bool) → t ≡ u → Decides r (xs ≡ ys) →
     let left : ItemList = record { ty = t; nums = xs } in
@@ -25,4 +23,4 @@ pub returns-then-eq : goal.returns-then-eq
 returns-then-eq c =
     let lists : Decides c.eq-then-eq.result (c.as_slice.result.now ≡ c.as_slice-then-eq.result.now) = slice_eq-Decides Decides-int_eq _ _ _ c.eq-then-eq.ensures in
     let fields : Decides c.eq-then-eq.result (c.self.inside.nums.items ≡ c.other.inside.nums.items) = rw (c.as_slice.ensures.value, c.as_slice-then-eq.ensures.value) at lists in
-    rw (← c.self.view_is, ← c.other.view_is) (same_items c.self.inside.ty c.other.inside.ty _ _ _ (one_type _ _) fields)
+    rw (← c.self.view_is, ← c.other.view_is) (same_items c.self.inside.ty c.other.inside.ty _ _ _ (same_true the_type (search rules) _ _ (sym c.if-eq.ensures)) fields)

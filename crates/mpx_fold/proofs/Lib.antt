@@ -1,0 +1,3 @@
+pub mod Contributions
+pub mod Folding
+pub mod Places

@@ -1,0 +1,146 @@
+ghost use Rattle.std.specs.Prelude.{◌≡◌, ◌<◌, ◌≤◌, IfOk, length, true};
+ghost use Rattle.mpx_num.specs.ItemList.{AreItems};
+ghost use Rattle.mpx_post.specs.declared.kinds.Kind.TheVariants.{ReduceScatterBlock, ReduceScatter};
+ghost use Rattle.mpx_post.specs.Agreement.{IsFine, first_of, post_at};
+ghost use Rattle.mpx_post.specs.Blocks.{repeated};
+ghost use Rattle.mpx_post.specs.Posts.{numbers_of, type_of};
+ghost use Rattle.mpx_fold.specs.Folds.{all_folded, as_items, fold_value, folded, reduces};
+ghost use Rattle.mpx_fold.specs.Places.{IsBlock, IsWithin, part};
+
+use join_core::OutOfMemory;
+use mpx_num::{Items, apply};
+use mpx_post::{Kind, Row, Value};
+use std::alloc::Global;
+
+/// What a fine row of a reduction or a scan gives the member with this rank. A row of another kind gives nothing.
+pub fn fold_value(alloc: Global, row: &Row<'_>, rank: u8) -> Result<Value, OutOfMemory>
+    requires fine { IsFine row.now }
+    requires rank { rank < length row.now }
+    ensures { IfOk result (λ value. value ≡ fold_value row.now rank) }
+{
+    let place = usize::from(rank);
+    let first = row.post(0);
+    match first.kind() {
+        Kind::Reduce => {
+            if first.root() == Some(rank) {
+                folded_value(alloc, row, row.len())
+            } else {
+                Ok(Value::Nothing)
+            }
+        }
+        Kind::Allreduce => folded_value(alloc, row, row.len()),
+        Kind::ReduceScatterBlock => block_value(alloc, row, equal_block(row, rank)),
+        Kind::ReduceScatter => block_value(alloc, row, counted_block(row, rank)),
+        Kind::Scan => folded_value(alloc, row, place + 1),
+        Kind::Exscan => {
+            if rank == 0 {
+                Ok(Value::Absent)
+            } else {
+                folded_value(alloc, row, place)
+            }
+        }
+        Kind::Barrier
+        | Kind::Bcast
+        | Kind::Gather
+        | Kind::Gatherv
+        | Kind::Scatter
+        | Kind::Scatterv
+        | Kind::Allgather
+        | Kind::Allgatherv
+        | Kind::Alltoall
+        | Kind::Alltoallv => Ok(Value::Nothing),
+    }
+}
+
+// So many items, from a place on.
+#[derive(Clone, Copy)]
+struct Block {
+    first: usize,
+    count: usize,
+}
+
+// The block of this rank, where each has as many items.
+fn equal_block(row: &Row<'_>, rank: u8) -> Block
+    requires fine { IsFine row.now }
+    requires kind { (first_of row.now).kind ≡ ReduceScatterBlock }
+    requires rank { rank < length row.now }
+    ensures { IsBlock row.now (repeated (length row.now) (first_of row.now).rcounts) rank result }
+{
+    let count = usize::from(row.post(0).rcounts().as_slice()[0]);
+    Block {
+        first: usize::from(rank) * count,
+        count,
+    }
+}
+
+// The block of this rank, where each rank has a count.
+fn counted_block(row: &Row<'_>, rank: u8) -> Block
+    requires fine { IsFine row.now }
+    requires kind { (first_of row.now).kind ≡ ReduceScatter }
+    requires rank { rank < length row.now }
+    ensures { IsBlock row.now (first_of row.now).rcounts rank result }
+{
+    let counts = row.post(0).rcounts();
+    let place = usize::from(rank);
+    Block {
+        first: counts.sum_before(place),
+        count: usize::from(counts.as_slice()[place]),
+    }
+}
+
+// A block of what all give, combined.
+fn block_value(alloc: Global, row: &Row<'_>, block: Block) -> Result<Value, OutOfMemory>
+    requires fine { IsFine row.now }
+    requires reduces { reduces row.now ≡ true }
+    requires within { IsWithin row.now block }
+    ensures { IfOk result (λ value. value ≡ as_items row.now (part (type_of (first_of row.now)) block (all_folded row.now))) }
+{
+    let all = fold_upto(alloc, row, row.len())?;
+    let mut items = Items::empty(alloc, all.ty());
+    items.extend(&all, block.first, block.count)?;
+    Ok(Value::Items(items))
+}
+
+// What the first so many give, combined.
+fn folded_value(alloc: Global, row: &Row<'_>, ranks: usize) -> Result<Value, OutOfMemory>
+    requires fine { IsFine row.now }
+    requires reduces { reduces row.now ≡ true }
+    requires some { 0 < ranks }
+    requires few { ranks ≤ length row.now }
+    ensures { IfOk result (λ value. value ≡ as_items row.now (folded row.now ranks)) }
+{
+    Ok(Value::Items(fold_upto(alloc, row, ranks)?))
+}
+
+// What the first so many give, combined in rank order.
+fn fold_upto(alloc: Global, row: &Row<'_>, ranks: usize) -> Result<Items, OutOfMemory>
+    requires fine { IsFine row.now }
+    requires reduces { reduces row.now ≡ true }
+    requires some { 0 < ranks }
+    requires few { ranks ≤ length row.now }
+    ensures value { IfOk result (λ items. items ≡ record { ty = type_of (first_of row.now); nums = folded row.now ranks }) }
+    ensures len { IfOk result (λ items. length items.nums ≡ length (numbers_of (first_of row.now))) }
+{
+    let first = row.post(0);
+    let op = first.op().unwrap();
+    let mut folded = given(row, 0).copy(alloc)?;
+    let ty = folded.ty();
+    for rank in 1..ranks {
+        apply(op, ty, &mut folded, given(row, rank));
+    }
+    Ok(folded)
+}
+
+// What the member with this rank gives to a reduction.
+fn given<'a>(row: &Row<'a>, rank: usize) -> &'a Items
+    requires fine { IsFine row.now }
+    requires reduces { reduces row.now ≡ true }
+    requires rank { rank < length row.now }
+    ensures value { result.now ≡ record { ty = type_of (first_of row.now); nums = numbers_of (post_at row.now rank) } }
+    ensures whole { AreItems (type_of (first_of row.now)) (numbers_of (post_at row.now rank)) }
+{
+    let items = row.post(rank).items().unwrap();
+    // The numbers tell that no item is cut.
+    let _whole = items.nums();
+    items
+}

@@ -1,0 +1,80 @@
+ghost use Rattle.std.specs.Prelude.{◌≡◌, ◌≤◌, ◌*◌, ◌==◌, length};
+ghost use Rattle.mpx_num.specs.Types.{item_len};
+ghost use Rattle.mpx_post.specs.Posts.{numbers_of, type_of};
+ghost use Rattle.mpx_post.specs.Agreement.{blocks_of, fill, fits_root, fits_type, is_fit, is_root};
+
+use mpx_num::{Ty, op_fits};
+use mpx_post::{Post, Sent};
+
+/// Whether a post fits a communicator of this size, as the post of this rank.
+pub(crate) fn fits(size: usize, rank: usize, post: &Post) -> bool
+    requires { size ≤ 64 }
+    ensures { result ≡ is_fit size rank post.now }
+{
+    let fields = post.kind().fields();
+    let at_root = is_root(rank, post);
+    fits_root(size, post)
+        && fits_type(post)
+        && post.scounts().as_slice().len() == fields.scounts.of(size, at_root)
+        && post.rcounts().as_slice().len() == fields.rcounts.of(size, at_root)
+        && are_filled(size, rank, post)
+}
+
+fn is_root(rank: usize, post: &Post) -> bool
+    ensures { result ≡ is_root rank post.now }
+{
+    match post.root() {
+        None => false,
+        Some(root) => usize::from(root) == rank,
+    }
+}
+
+fn fits_root(size: usize, post: &Post) -> bool
+    ensures { result ≡ fits_root size post.now }
+{
+    match post.root() {
+        None => true,
+        Some(root) => usize::from(root) < size,
+    }
+}
+
+fn fits_type(post: &Post) -> bool
+    ensures { result ≡ fits_type post.now }
+{
+    match post.op() {
+        None => true,
+        Some(op) => op_fits(op, type_of(post)),
+    }
+}
+
+fn type_of(post: &Post) -> Ty
+    ensures { result ≡ type_of post.now }
+{
+    match post.items() {
+        None => Ty::I8,
+        Some(items) => items.ty(),
+    }
+}
+
+// As many items are given as the blocks have.
+fn are_filled(size: usize, rank: usize, post: &Post) -> bool
+    requires { size ≤ 64 }
+    ensures { result ≡ fill (blocks_of size rank post.now) post.now }
+{
+    let at_root = is_root(rank, post);
+    match post.kind().fields().sent {
+        Sent::Any => true,
+        Sent::Scounts(number) => gives(post, number.of(size, at_root) * post.scounts().sum()),
+        Sent::Rcounts(number) => gives(post, number.of(size, at_root) * post.rcounts().sum()),
+    }
+}
+
+// So many items are given.
+fn gives(post: &Post, count: usize) -> bool
+    ensures { result ≡ (count * item_len (type_of post.now) == length (numbers_of post.now)) }
+{
+    match post.items() {
+        None => count == 0,
+        Some(items) => count == items.count(),
+    }
+}

@@ -1,0 +1,170 @@
+ghost use Rattle.std.specs.Prelude.{◌≡◌, ◌<◌, ◌≤◌, ◌++◌, IfOk, OnOk, Some, ℕ, length, true};
+ghost use Rattle.mpx_post.specs.Agreement.{IsFine, count_at, first_of, post_at};
+ghost use Rattle.mpx_post.specs.Kinds.{fields_of};
+ghost use Rattle.mpx_post.specs.Posts.{most_items, numbers_of, type_of};
+ghost use Rattle.mpx_move.specs.Moves.{as_items, block_for, blocks_for, counts_sent, joined, move_value};
+ghost use Rattle.mpx_move.specs.Places.{IsBlock, IsSender};
+
+use join_core::OutOfMemory;
+use mpx_num::Items;
+use mpx_post::{Kind, Post, Row, Value};
+use std::alloc::Global;
+
+/// What a fine row of an exchange gives the member with this rank. A row of another kind gives nothing.
+pub fn move_value(alloc: Global, row: &Row<'_>, rank: u8) -> Result<Value, OutOfMemory>
+    requires fine { IsFine row.now }
+    requires rank { rank < length row.now }
+    ensures { IfOk result (λ value. value ≡ move_value row.now rank) }
+{
+    match row.post(0).kind() {
+        Kind::Bcast => {
+            let items = given(row, root(row)).copy(alloc)?;
+            Ok(Value::Items(items))
+        }
+        Kind::Gather | Kind::Gatherv => {
+            if root(row) == usize::from(rank) {
+                joined_value(alloc, row)
+            } else {
+                Ok(Value::Nothing)
+            }
+        }
+        Kind::Scatter | Kind::Scatterv => block_value(alloc, row, root(row), rank),
+        Kind::Allgather | Kind::Allgatherv => joined_value(alloc, row),
+        Kind::Alltoall | Kind::Alltoallv => blocks_value(alloc, row, rank),
+        Kind::Barrier
+        | Kind::Reduce
+        | Kind::Allreduce
+        | Kind::ReduceScatterBlock
+        | Kind::ReduceScatter
+        | Kind::Scan
+        | Kind::Exscan => Ok(Value::Nothing),
+    }
+}
+
+// All that is given.
+fn joined_value(alloc: Global, row: &Row<'_>) -> Result<Value, OutOfMemory>
+    requires fine { IsFine row.now }
+    requires items { (fields_of (first_of row.now).kind).items ≡ true }
+    requires some { 0 < length row.now }
+    ensures { IfOk result (λ value. value ≡ as_items row.now (joined row.now)) }
+{
+    let mut items = Items::empty(alloc, given(row, 0).ty());
+    for rank in 0..row.len() {
+        let all = given(row, rank);
+        items.extend(all, 0, all.count())?;
+    }
+    Ok(Value::Items(items))
+}
+
+// The blocks for the receiver of all senders.
+fn blocks_value(alloc: Global, row: &Row<'_>, receiver: u8) -> Result<Value, OutOfMemory>
+    requires fine { IsFine row.now }
+    requires senders { (sender : ℕ) → sender < length row.now → IsSender row.now sender }
+    requires receiver { receiver < length row.now }
+    ensures { IfOk result (λ value. value ≡ as_items row.now (blocks_for row.now receiver)) }
+{
+    let mut items = Items::empty(alloc, given(row, 0).ty());
+    for sender in 0..row.len() {
+        append_block(&mut items, row, sender, receiver)?;
+    }
+    Ok(Value::Items(items))
+}
+
+// The block for the receiver of one sender.
+fn block_value(
+    alloc: Global,
+    row: &Row<'_>,
+    sender: usize,
+    receiver: u8,
+) -> Result<Value, OutOfMemory>
+    requires fine { IsFine row.now }
+    requires sender { sender < length row.now }
+    requires sends { IsSender row.now sender }
+    requires receiver { receiver < length row.now }
+    ensures { IfOk result (λ value. value ≡ as_items row.now (block_for row.now receiver sender)) }
+{
+    let mut items = Items::empty(alloc, given(row, 0).ty());
+    append_block(&mut items, row, sender, receiver)?;
+    Ok(Value::Items(items))
+}
+
+// Appends the block for the receiver of what the sender sends.
+fn append_block(
+    items: &mut Items,
+    row: &Row<'_>,
+    sender: usize,
+    receiver: u8,
+) -> Result<(), OutOfMemory>
+    requires fine { IsFine row.now }
+    requires sender { sender < length row.now }
+    requires sends { IsSender row.now sender }
+    requires receiver { receiver < length row.now }
+    requires ty { items.old.ty ≡ type_of (first_of row.now) }
+    ensures { OnOk result (items.new ≡ record { ty = items.old.ty; nums = items.old.nums ++ block_for row.now receiver sender }) }
+{
+    let block = block_of(row, sender, receiver);
+    items.extend(given(row, sender), block.first, block.count)?;
+    Ok(())
+}
+
+// So many items, from a place on.
+#[derive(Clone, Copy)]
+struct Block {
+    first: usize,
+    count: usize,
+}
+
+// Where the block for the receiver stands in what the sender sends.
+fn block_of(row: &Row<'_>, sender: usize, receiver: u8) -> Block
+    requires fine { IsFine row.now }
+    requires sender { sender < length row.now }
+    requires sends { IsSender row.now sender }
+    requires receiver { receiver < length row.now }
+    ensures { IsBlock (post_at row.now sender) (counts_sent row.now sender) receiver result }
+{
+    let post = row.post(sender);
+    let place = usize::from(receiver);
+    if post.kind().fields().scounts.is_had() {
+        let counts = post.scounts();
+        Block {
+            first: counts.sum_before(place),
+            count: usize::from(counts.as_slice()[place]),
+        }
+    } else {
+        let count = received(post);
+        Block {
+            first: place * count,
+            count,
+        }
+    }
+}
+
+// The one receive count.
+fn received(post: &Post) -> usize
+    requires { length post.now.rcounts ≡ 1 }
+    ensures value { result ≡ count_at post.now.rcounts 0 }
+    ensures small { result ≤ most_items }
+{
+    usize::from(post.rcounts().as_slice()[0])
+}
+
+// The rank of the root.
+fn root(row: &Row<'_>) -> usize
+    requires fine { IsFine row.now }
+    requires rooted { (fields_of (first_of row.now).kind).root ≡ true }
+    requires some { 0 < length row.now }
+    ensures value { (first_of row.now).root ≡ Some result }
+    ensures rank { result < length row.now }
+{
+    usize::from(row.post(0).root().unwrap())
+}
+
+// What the member with this rank gives.
+fn given<'a>(row: &Row<'a>, rank: usize) -> &'a Items
+    requires fine { IsFine row.now }
+    requires items { (fields_of (first_of row.now).kind).items ≡ true }
+    requires rank { rank < length row.now }
+    ensures { result.now ≡ record { ty = type_of (first_of row.now); nums = numbers_of (post_at row.now rank) } }
+{
+    row.post(rank).items().unwrap()
+}

@@ -1,0 +1,221 @@
+-- When two posts give the same.
+use Rattle.std.specs.Prelude.{◌≡◌, ℕ, ◌==◌, ◌&&◌, nat_eq, Bool, true, false, cond, List, Option, Some, None, refl}
+use Rattle.std.proofs.Common.{ap, sym, ◌∙◌}
+use Rattle.std.specs.Bool.{Decides}
+use Rattle.std.specs.Ordering.{int_eq}
+use Rattle.std.proofs.lemmas.Bool.Decides.{Decides-and, Decides-eqb, Decides-int_eq, Decides-like}
+use Rattle.std.proofs.lemmas.Slice.Eq.{slice_eq-Decides}
+use lib.Pointwise.{pointwise}
+use Rattle.join_core.specs.Laws.{IsEquality}
+use Rattle.mpx_num.specs.declared.types.Ty.{Ty}
+use Rattle.mpx_num.specs.declared.types.Ty.TheVariants.{I8, I16, I32, I64, U8, U16, U32, U64, TwoInt}
+use Rattle.mpx_num.specs.declared.operations.Op.{Op}
+use Rattle.mpx_num.specs.declared.operations.Op.TheVariants.{Max, Min, Sum, Prod, Land, Lor, Lxor, Band, Bor, Bxor, Maxloc, Minloc}
+use Rattle.mpx_num.specs.ItemList.{ItemList}
+use Rattle.mpx_post.specs.declared.kinds.Kind.{Kind}
+use Rattle.mpx_post.specs.declared.kinds.Kind.TheVariants.{Barrier, Bcast, Gather, Gatherv, Scatter, Scatterv, Allgather, Allgatherv, Alltoall, Alltoallv, Reduce, Allreduce, ReduceScatterBlock, ReduceScatter, Scan, Exscan}
+use Rattle.mpx_post.specs.declared.kinds.Mode.{Mode}
+use Rattle.mpx_post.specs.declared.kinds.Mode.TheVariants.{Blocking, Nonblocking}
+use Rattle.mpx_post.specs.Posts.{Given}
+
+-- Each variant by its place in its list
+
+abbrev place_of_kind : Kind → ℕ
+place_of_kind Barrier = 0
+place_of_kind Bcast = 1
+place_of_kind Gather = 2
+place_of_kind Gatherv = 3
+place_of_kind Scatter = 4
+place_of_kind Scatterv = 5
+place_of_kind Allgather = 6
+place_of_kind Allgatherv = 7
+place_of_kind Alltoall = 8
+place_of_kind Alltoallv = 9
+place_of_kind Reduce = 10
+place_of_kind Allreduce = 11
+place_of_kind ReduceScatterBlock = 12
+place_of_kind ReduceScatter = 13
+place_of_kind Scan = 14
+place_of_kind Exscan = 15
+
+abbrev place_of_type : Ty → ℕ
+place_of_type I8 = 0
+place_of_type I16 = 1
+place_of_type I32 = 2
+place_of_type I64 = 3
+place_of_type U8 = 4
+place_of_type U16 = 5
+place_of_type U32 = 6
+place_of_type U64 = 7
+place_of_type TwoInt = 8
+
+abbrev place_of_operation : Op → ℕ
+place_of_operation Max = 0
+place_of_operation Min = 1
+place_of_operation Sum = 2
+place_of_operation Prod = 3
+place_of_operation Land = 4
+place_of_operation Lor = 5
+place_of_operation Lxor = 6
+place_of_operation Band = 7
+place_of_operation Bor = 8
+place_of_operation Bxor = 9
+place_of_operation Maxloc = 10
+place_of_operation Minloc = 11
+
+abbrev pub same_kind : Kind → Kind → Bool
+same_kind a b = place_of_kind a == place_of_kind b
+
+abbrev pub same_mode : Mode → Mode → Bool
+same_mode Blocking Blocking = true
+same_mode Blocking Nonblocking = false
+same_mode Nonblocking Blocking = false
+same_mode Nonblocking Nonblocking = true
+
+abbrev pub same_type : Ty → Ty → Bool
+same_type a b = place_of_type a == place_of_type b
+
+abbrev pub same_operation : Op → Op → Bool
+same_operation a b = place_of_operation a == place_of_operation b
+
+-- both have none, or both the same
+abbrev pub same_option : {A : Type 0} → (A → A → Bool) → Option A → Option A → Bool
+same_option same None None = true
+same_option same None (Some b) = false
+same_option same (Some a) None = false
+same_option same (Some a) (Some b) = same a b
+
+abbrev pub same_root : Option ℕ → Option ℕ → Bool
+same_root a b = same_option nat_eq a b
+
+abbrev pub same_operations : Option Op → Option Op → Bool
+same_operations a b = same_option same_operation a b
+
+-- items of one type, or none on both sides
+abbrev pub same_types : Option ItemList → Option ItemList → Bool
+same_types a b = same_option (λ (x y : ItemList). same_type x.ty y.ty) a b
+
+-- one type and the same numbers
+abbrev pub same_items : ItemList → ItemList → Bool
+same_items a b = same_type a.ty b.ty && pointwise int_eq a.nums b.nums
+
+-- the same kind with the same fields
+abbrev pub same_given : Given → Given → Bool
+same_given a b = same_kind a.kind b.kind
+    && (same_mode a.mode b.mode
+    && (same_root a.root b.root
+    && (same_operations a.op b.op
+    && (pointwise nat_eq a.scounts b.scounts
+    && (pointwise nat_eq a.rcounts b.rcounts
+    && same_option same_items a.items b.items)))))
+
+-- Each of these tests decides whether the two are equal
+
+decided_by_place : {A : Type 0} (place : A → ℕ) (at_place : ℕ → A) → ((a : A) → at_place (place a) ≡ a) → (a b : A) → Decides (place a == place b) (a ≡ b)
+decided_by_place place at_place back a b =
+    let places = Decides-eqb (place a) (place b) in
+    (λ t. sym (back a) ∙ ap at_place (places.0 t) ∙ back b, λ e. places.1 (ap place e))
+
+kind_at : ℕ → Kind
+kind_at n = cond (n == 0) Barrier (cond (n == 1) Bcast (cond (n == 2) Gather (cond (n == 3) Gatherv (cond (n == 4) Scatter (cond (n == 5) Scatterv (cond (n == 6) Allgather (cond (n == 7) Allgatherv (cond (n == 8) Alltoall (cond (n == 9) Alltoallv (cond (n == 10) Reduce (cond (n == 11) Allreduce (cond (n == 12) ReduceScatterBlock (cond (n == 13) ReduceScatter (cond (n == 14) Scan Exscan))))))))))))))
+
+kind_at-place : (kind : Kind) → kind_at (place_of_kind kind) ≡ kind
+unfolding kind_at
+kind_at-place Barrier = refl
+kind_at-place Bcast = refl
+kind_at-place Gather = refl
+kind_at-place Gatherv = refl
+kind_at-place Scatter = refl
+kind_at-place Scatterv = refl
+kind_at-place Allgather = refl
+kind_at-place Allgatherv = refl
+kind_at-place Alltoall = refl
+kind_at-place Alltoallv = refl
+kind_at-place Reduce = refl
+kind_at-place Allreduce = refl
+kind_at-place ReduceScatterBlock = refl
+kind_at-place ReduceScatter = refl
+kind_at-place Scan = refl
+kind_at-place Exscan = refl
+
+type_at : ℕ → Ty
+type_at n = cond (n == 0) I8 (cond (n == 1) I16 (cond (n == 2) I32 (cond (n == 3) I64 (cond (n == 4) U8 (cond (n == 5) U16 (cond (n == 6) U32 (cond (n == 7) U64 TwoInt)))))))
+
+type_at-place : (ty : Ty) → type_at (place_of_type ty) ≡ ty
+unfolding type_at
+type_at-place I8 = refl
+type_at-place I16 = refl
+type_at-place I32 = refl
+type_at-place I64 = refl
+type_at-place U8 = refl
+type_at-place U16 = refl
+type_at-place U32 = refl
+type_at-place U64 = refl
+type_at-place TwoInt = refl
+
+operation_at : ℕ → Op
+operation_at n = cond (n == 0) Max (cond (n == 1) Min (cond (n == 2) Sum (cond (n == 3) Prod (cond (n == 4) Land (cond (n == 5) Lor (cond (n == 6) Lxor (cond (n == 7) Band (cond (n == 8) Bor (cond (n == 9) Bxor (cond (n == 10) Maxloc Minloc))))))))))
+
+operation_at-place : (op : Op) → operation_at (place_of_operation op) ≡ op
+unfolding operation_at
+operation_at-place Max = refl
+operation_at-place Min = refl
+operation_at-place Sum = refl
+operation_at-place Prod = refl
+operation_at-place Land = refl
+operation_at-place Lor = refl
+operation_at-place Lxor = refl
+operation_at-place Band = refl
+operation_at-place Bor = refl
+operation_at-place Bxor = refl
+operation_at-place Maxloc = refl
+operation_at-place Minloc = refl
+
+pub kinds_decided : (a b : Kind) → Decides (same_kind a b) (a ≡ b)
+kinds_decided = decided_by_place place_of_kind kind_at kind_at-place
+
+pub modes_decided : (a b : Mode) → Decides (same_mode a b) (a ≡ b)
+modes_decided Blocking Blocking = (λ t. refl, λ e. refl)
+modes_decided Blocking Nonblocking = (λ t. cc, λ e. cc)
+modes_decided Nonblocking Blocking = (λ t. cc, λ e. cc)
+modes_decided Nonblocking Nonblocking = (λ t. refl, λ e. refl)
+
+pub operations_decided : (a b : Op) → Decides (same_operation a b) (a ≡ b)
+operations_decided = decided_by_place place_of_operation operation_at operation_at-place
+
+numbers_decided : (a b : List ℕ) → Decides (pointwise nat_eq a b) (a ≡ b)
+numbers_decided a b = slice_eq-Decides Decides-eqb a b (pointwise nat_eq a b) refl
+
+pub items_decided : (a b : ItemList) → Decides (same_items a b) (a ≡ b)
+items_decided a b =
+    let types = decided_by_place place_of_type type_at type_at-place a.ty b.ty in
+    let numbers = slice_eq-Decides Decides-int_eq a.nums b.nums (pointwise int_eq a.nums b.nums) refl in
+    Decides-like _
+    (λ e. λ i. record { ty = e.0 i; nums = e.1 i })
+    (λ e. (ap (λ (items : ItemList). items.ty) e, ap (λ (items : ItemList). items.nums) e))
+    (Decides-and _ _ types numbers)
+
+options_decided : {A : Type 0} (same : A → A → Bool) → ((a b : A) → Decides (same a b) (a ≡ b)) → (a b : Option A) → Decides (same_option same a b) (a ≡ b)
+options_decided same decided None None = (λ t. refl, λ e. refl)
+options_decided same decided None (Some b) = (λ t. cc, λ e. cc)
+options_decided same decided (Some a) None = (λ t. cc, λ e. cc)
+options_decided same decided (Some a) (Some b) = Decides-like _ (ap Some) (λ e. cc) (decided a b)
+
+pub given_decided : (a b : Given) → Decides (same_given a b) (a ≡ b)
+given_decided a b =
+    Decides-like _
+    (λ e. λ i. record { kind = e.0 i; mode = e.1.0 i; root = e.1.1.0 i; op = e.1.1.1.0 i; scounts = e.1.1.1.1.0 i; rcounts = e.1.1.1.1.1.0 i; items = e.1.1.1.1.1.1 i })
+    (λ e. (ap (λ (g : Given). g.kind) e, (ap (λ (g : Given). g.mode) e, (ap (λ (g : Given). g.root) e, (ap (λ (g : Given). g.op) e, (ap (λ (g : Given). g.scounts) e, (ap (λ (g : Given). g.rcounts) e, ap (λ (g : Given). g.items) e)))))))
+    (Decides-and _ _ (kinds_decided a.kind b.kind)
+    (Decides-and _ _ (modes_decided a.mode b.mode)
+    (Decides-and _ _ (options_decided nat_eq Decides-eqb a.root b.root)
+    (Decides-and _ _ (options_decided same_operation operations_decided a.op b.op)
+    (Decides-and _ _ (numbers_decided a.scounts b.scounts)
+    (Decides-and _ _ (numbers_decided a.rcounts b.rcounts)
+    (options_decided same_items items_decided a.items b.items)))))))
+
+pub given_equality : IsEquality same_given
+given_equality = record {
+  reflexive = λ a. (given_decided a a).1 refl;
+  sound = λ a b. (given_decided a b).0;
+}

@@ -1,0 +1,115 @@
+ghost use Rattle.std.specs.Prelude.{◌≡◌, ◌≤◌, ◌*◌, ℕ, IfOk, length, take, true};
+ghost use Rattle.std.specs.List.{All, list_all, sum};
+ghost use Rattle.mpx_post.specs.Drafts.{is_count, natural as natural_of, naturals};
+ghost use Rattle.mpx_post.specs.Posts.{most_counts, most_items};
+
+use join_core::OutOfMemory;
+use std::alloc::Global;
+use std::marker::Model;
+
+/// Numbers of items, each at most 4,096. There are at most 65,535 of them.
+#[derive(Debug, Drop)]
+pub struct Counts {
+    list: Vec<u16>,
+}
+
+impl Model for Counts {
+    ghost use Rattle.std.specs.Prelude.{List, ℕ};
+    ghost use Rattle.mpx_post.specs.Posts.{AreCounts};
+
+    ghost Value = { List ℕ };
+
+    ghost view = { λ c. c.list.items };
+
+    ghost invariant = { λ c. AreCounts c.list.items };
+}
+
+impl Counts {
+    /// These numbers, which are counts.
+    pub(crate) fn new(alloc: Global, numbers: &[i128]) -> Result<Counts, OutOfMemory>
+        requires counts { list_all is_count numbers.now ≡ true }
+        requires few { length numbers.now ≤ most_counts }
+        ensures { IfOk result (λ counts. counts ≡ naturals numbers.now) }
+    {
+        let mut list = Vec::new(alloc);
+        for &number in numbers {
+            list.push(natural(number))?;
+        }
+        Ok(Counts { list })
+    }
+
+    /// The counts.
+    pub fn as_slice(&self) -> &[u16]
+        ensures value { result.now ≡ self.now }
+        ensures small { All (λ count. count ≤ most_items) result.now }
+        ensures few { length result.now ≤ most_counts }
+    {
+        self.list.as_slice()
+    }
+
+    /// The sum of the first so many of them.
+    pub fn sum_before(&self, place: usize) -> usize
+        ensures value { result ≡ sum (take place self.now) }
+        ensures small { result ≤ most_counts * most_items }
+    {
+        sum_of(&self.list[..place.min(self.list.len())])
+    }
+
+    /// The sum of all of them.
+    pub fn sum(&self) -> usize
+        ensures value { result ≡ sum self.now }
+        ensures small { result ≤ most_counts * most_items }
+    {
+        self.sum_before(self.list.len())
+    }
+
+    /// The same counts once more.
+    pub fn copy(&self, alloc: Global) -> Result<Counts, OutOfMemory>
+        ensures { IfOk result (λ copied. copied ≡ self.now) }
+    {
+        let list = Vec::from_slice(alloc, &self.list)?;
+        Ok(Counts { list })
+    }
+}
+
+// The number, which is a count.
+fn natural(number: i128) -> u16
+    requires { is_count number ≡ true }
+    ensures value { result ≡ natural_of number }
+    ensures small { result ≤ most_items }
+{
+    number as u16
+}
+
+fn sum_of(counts: &[u16]) -> usize
+    requires small { All (λ count. count ≤ most_items) counts.now }
+    requires few { length counts.now ≤ most_counts }
+    ensures value { result ≡ sum counts.now }
+    ensures small { result ≤ length counts.now * most_items }
+{
+    let mut total: usize = 0;
+    for &count in counts {
+        total += count as usize;
+    }
+    total
+}
+
+pub(crate) fn are_counts(numbers: &[i128]) -> bool
+    ensures { result ≡ list_all is_count numbers.now }
+{
+    numbers.iter().all(|&number| 0 <= number && number <= 4096)
+}
+
+// The sum of numbers, which are counts.
+pub(crate) fn total(numbers: &[i128]) -> usize
+    requires counts { list_all is_count numbers.now ≡ true }
+    requires few { length numbers.now ≤ 64 }
+    ensures value { result ≡ sum (naturals numbers.now) }
+    ensures small { result ≤ 64 * most_items }
+{
+    let mut total: usize = 0;
+    for &number in numbers {
+        total += natural(number) as usize;
+    }
+    total
+}

@@ -1,0 +1,152 @@
+ghost use Rattle.std.specs.Prelude.{◌≡◌, ◌≤◌};
+ghost use Rattle.mpx_post.specs.Kinds.{fields_of, is_had, number_in};
+
+/// The kinds of calls (MPI 4.1 sections 6.3 to 6.12).
+#[derive(Clone, Copy, Debug, PartialEq, Eq)]
+pub enum Kind {
+    /// `MPI_BARRIER` (section 6.3).
+    Barrier,
+    /// `MPI_BCAST` (section 6.4).
+    Bcast,
+    /// `MPI_GATHER` (section 6.5).
+    Gather,
+    /// `MPI_GATHERV` (section 6.5).
+    Gatherv,
+    /// `MPI_SCATTER` (section 6.6).
+    Scatter,
+    /// `MPI_SCATTERV` (section 6.6).
+    Scatterv,
+    /// `MPI_ALLGATHER` (section 6.7).
+    Allgather,
+    /// `MPI_ALLGATHERV` (section 6.7).
+    Allgatherv,
+    /// `MPI_ALLTOALL` (section 6.8).
+    Alltoall,
+    /// `MPI_ALLTOALLV` (section 6.8).
+    Alltoallv,
+    /// `MPI_REDUCE` (section 6.9.1).
+    Reduce,
+    /// `MPI_ALLREDUCE` (section 6.9.6).
+    Allreduce,
+    /// `MPI_REDUCE_SCATTER_BLOCK` (section 6.10.1).
+    ReduceScatterBlock,
+    /// `MPI_REDUCE_SCATTER` (section 6.10.2).
+    ReduceScatter,
+    /// `MPI_SCAN` (section 6.11.1).
+    Scan,
+    /// `MPI_EXSCAN` (section 6.11.2).
+    Exscan,
+}
+
+/// Whether a call blocks. Blocking and nonblocking calls don't match (MPI 4.1 section 6.12).
+#[derive(Clone, Copy, Debug, PartialEq, Eq)]
+pub enum Mode {
+    Blocking,
+    Nonblocking,
+}
+
+/// A number that depends on the communicator's size and on who asks.
+#[derive(Clone, Copy, Debug, PartialEq, Eq)]
+pub enum Number {
+    Zero,
+    One,
+    /// 1 at the root, 0 elsewhere.
+    OneAtRoot,
+    /// The communicator's size.
+    Members,
+    /// The communicator's size at the root, 0 elsewhere.
+    MembersAtRoot,
+}
+
+/// How the items that a member sends are cut into blocks.
+#[derive(Clone, Copy, Debug, PartialEq, Eq)]
+pub enum Sent {
+    /// There may be any number of items.
+    Any,
+    /// The send counts, so often, are the blocks' numbers of items.
+    Scounts(Number),
+    /// The receive counts, so often, are the blocks' numbers of items.
+    Rcounts(Number),
+}
+
+/// What the posts of a kind have.
+#[derive(Clone, Copy, Debug, PartialEq, Eq)]
+pub struct Fields {
+    pub root: bool,
+    pub op: bool,
+    pub items: bool,
+    /// How many send counts there are.
+    pub scounts: Number,
+    /// How many receive counts there are.
+    pub rcounts: Number,
+    pub sent: Sent,
+}
+
+impl Kind {
+    /// What its posts have.
+    pub fn fields(self) -> Fields
+        ensures { result ≡ fields_of self }
+    {
+        use Number::{Members, MembersAtRoot, One, OneAtRoot, Zero};
+        use Sent::{Any, Rcounts, Scounts};
+        match self {
+            Kind::Barrier => having(false, false, false, Zero, Zero, Any),
+            Kind::Bcast => having(true, false, true, Zero, One, Rcounts(OneAtRoot)),
+            Kind::Gather => having(true, false, true, Zero, Zero, Any),
+            Kind::Gatherv => having(true, false, true, Zero, MembersAtRoot, Any),
+            Kind::Scatter => having(true, false, true, Zero, One, Rcounts(MembersAtRoot)),
+            Kind::Scatterv => having(true, false, true, MembersAtRoot, One, Scounts(OneAtRoot)),
+            Kind::Allgather => having(false, false, true, Zero, Zero, Any),
+            Kind::Allgatherv => having(false, false, true, Zero, Members, Any),
+            Kind::Alltoall => having(false, false, true, Zero, One, Rcounts(Members)),
+            Kind::Alltoallv => having(false, false, true, Members, Members, Scounts(One)),
+            Kind::Reduce => having(true, true, true, Zero, Zero, Any),
+            Kind::Allreduce => having(false, true, true, Zero, Zero, Any),
+            Kind::ReduceScatterBlock => having(false, true, true, Zero, One, Rcounts(Members)),
+            Kind::ReduceScatter => having(false, true, true, Zero, Members, Rcounts(One)),
+            Kind::Scan => having(false, true, true, Zero, Zero, Any),
+            Kind::Exscan => having(false, true, true, Zero, Zero, Any),
+        }
+    }
+}
+
+fn having(root: bool, op: bool, items: bool, scounts: Number, rcounts: Number, sent: Sent) -> Fields
+    ensures { result ≡ record { root = root; op = op; items = items; scounts = scounts; rcounts = rcounts; sent = sent } }
+{
+    Fields {
+        root,
+        op,
+        items,
+        scounts,
+        rcounts,
+        sent,
+    }
+}
+
+impl Number {
+    /// The number in a communicator of this size, at the root or elsewhere.
+    pub fn of(self, size: usize, at_root: bool) -> usize
+        ensures { result ≡ number_in self size at_root }
+    {
+        match self {
+            Number::Zero => 0,
+            Number::One => 1,
+            Number::OneAtRoot => { if at_root { 1 } else { 0 } }
+            Number::Members => size,
+            Number::MembersAtRoot => { if at_root { size } else { 0 } }
+        }
+    }
+
+    /// Whether a kind with so many counts has that list at all.
+    pub fn is_had(self) -> bool
+        ensures { result ≡ is_had self }
+    {
+        match self {
+            Number::Zero => false,
+            Number::One => true,
+            Number::OneAtRoot => true,
+            Number::Members => true,
+            Number::MembersAtRoot => true,
+        }
+    }
+}
