@@ -1,10 +1,14 @@
 #!/usr/bin/env python3
 """A second opinion on gossipmpi: evaluates a job script by MPI 4.1's text, without sharing any code with the program.
 
-reference.py < SCRIPT          prints the transcripts
-reference.py random SEED       prints a random script
+reference.py < SCRIPT               prints the transcripts
+reference.py random SEED            prints a random script
+reference.py compare MANY [SEED]    runs the built program on so many random scripts, and tells where it answers otherwise;
+                                    build it first: cd crates/gossipmpi && rt run -- run < ../../examples/bcast.job
 """
+import os
 import random
+import subprocess
 import sys
 
 TYPES = {"i8": (8, True), "i16": (16, True), "i32": (32, True), "i64": (64, True),
@@ -268,12 +272,32 @@ def random_script(seed):
     return "\n".join(out) + "\n"
 
 
+def answer(text):
+    """What the program should print, its status and its standard error."""
+    out, waiting = evaluate(text)
+    return out, 3 if waiting else 0, "waiting: %s\n" % " ".join(map(str, waiting)) if waiting else ""
+
+
+def compare(many, first):
+    program = os.path.join(os.path.dirname(os.path.abspath(__file__)), "../crates/gossipmpi/out/gossipmpi")
+    differ = 0
+    for seed in range(first, first + many):
+        text = random_script(seed)
+        run = subprocess.run([program, "run"], input=text, capture_output=True, text=True)
+        if (run.stdout, run.returncode, run.stderr) != answer(text):
+            print("they differ on seed %d" % seed)
+            differ += 1
+    print("%d scripts, %d differ" % (many, differ))
+    return 1 if differ else 0
+
+
 if __name__ == "__main__":
     if sys.argv[1:2] == ["random"]:
         sys.stdout.write(random_script(int(sys.argv[2])))
+    elif sys.argv[1:2] == ["compare"]:
+        sys.exit(compare(int(sys.argv[2]), int(sys.argv[3]) if sys.argv[3:] else 1))
     else:
-        text, waiting = evaluate(sys.stdin.read())
-        sys.stdout.write(text)
-        if waiting:
-            sys.stderr.write("waiting: %s\n" % " ".join(map(str, waiting)))
-            sys.exit(3)
+        out, status, error = answer(sys.stdin.read())
+        sys.stdout.write(out)
+        sys.stderr.write(error)
+        sys.exit(status)
