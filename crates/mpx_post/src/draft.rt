@@ -10,7 +10,7 @@ use crate::kinds::{Kind, Mode, Sent};
 use crate::parts::{
     given_counts, given_items, given_op, given_root, is_misfill, is_rank, where_had,
 };
-use crate::post::Post;
+use crate::post::{Post, owned};
 use join_core::OutOfMemory;
 use mpx_group::Proc;
 use mpx_num::{Numbers, Op, Ty, op_fits};
@@ -138,9 +138,12 @@ impl Draft {
             return Err(PostError::CallsUsedUp);
         }
         match given_counts(alloc, sent, received) {
-            Ok((scounts, rcounts)) => Ok(Post::new(
-                self.kind, self.mode, root, op, scounts, rcounts, items,
-            )),
+            Ok((scounts, rcounts)) => match owned(alloc, items) {
+                Ok(items) => Ok(Post::new(
+                    self.kind, self.mode, root, op, scounts, rcounts, items,
+                )),
+                Err(_) => Err(PostError::OutOfMemory),
+            },
             Err(_) => Err(PostError::OutOfMemory),
         }
     }
