@@ -10,7 +10,7 @@ use crate::kinds::{Kind, Mode, Sent};
 use crate::parts::{
     given_counts, given_items, given_op, given_root, is_misfill, is_rank, where_had,
 };
-use crate::post::{Post, owned};
+use crate::post::Post;
 use join_core::OutOfMemory;
 use mpx_group::Proc;
 use mpx_num::{Numbers, Op, Ty, op_fits};
@@ -74,8 +74,8 @@ pub enum PostError {
     OutOfMemory,
 }
 
-// So many calls may be made on a communicator.
-const MOST_CALLS: u32 = 4_294_967_295;
+/// So many calls may be made on a communicator.
+pub const MOST_CALLS: u32 = 4_294_967_295;
 
 impl Draft {
     /// The post of this draft, or the first reason why the process may not post it as its next call.
@@ -88,8 +88,8 @@ impl Draft {
         }
     }
 
-    /// The same draft once more.
-    pub fn copy(&self, alloc: Global) -> Result<Draft, OutOfMemory>
+    /// The same draft once more, which shares its numbers.
+    pub fn copy(&self) -> Result<Draft, OutOfMemory>
         ensures { IfOk result (λ copied. copied ≡ self.now) }
     {
         Ok(Draft {
@@ -98,9 +98,9 @@ impl Draft {
             root: self.root,
             op: self.op,
             ty: self.ty,
-            scounts: self.scounts.copy(alloc)?,
-            rcounts: self.rcounts.copy(alloc)?,
-            items: self.items.copy(alloc)?,
+            scounts: self.scounts.copy()?,
+            rcounts: self.rcounts.copy()?,
+            items: self.items.copy()?,
         })
     }
 
@@ -138,12 +138,9 @@ impl Draft {
             return Err(PostError::CallsUsedUp);
         }
         match given_counts(alloc, sent, received) {
-            Ok((scounts, rcounts)) => match owned(alloc, items) {
-                Ok(items) => Ok(Post::new(
-                    self.kind, self.mode, root, op, scounts, rcounts, items,
-                )),
-                Err(_) => Err(PostError::OutOfMemory),
-            },
+            Ok((scounts, rcounts)) => Ok(Post::new(
+                self.kind, self.mode, root, op, scounts, rcounts, items,
+            )),
             Err(_) => Err(PostError::OutOfMemory),
         }
     }

@@ -1,6 +1,5 @@
 ghost use Rattle.std.specs.Prelude.{◌≡◌, ◌≤◌, ◌*◌, is_some, IfOk, OnOk, length};
-ghost use Rattle.std.specs.Option.{option_copied, option_map};
-ghost use Rattle.std.specs.Arc.{arc_value};
+ghost use Rattle.std.specs.Option.{option_copied};
 ghost use Rattle.mpx_num.specs.ItemList.{ItemList};
 ghost use Rattle.mpx_post.specs.Kinds.{fields_of};
 ghost use Rattle.mpx_post.specs.Posts.{Given, IsPost, count_of, few_items};
@@ -12,7 +11,6 @@ use join_core::{Exact, OutOfMemory};
 use mpx_num::{Items, Op};
 use std::alloc::Global;
 use std::marker::Model;
-use std::sync::Arc;
 
 /// What one member posts to one call: its kind with the fields of that kind, within the limits of a post.
 #[derive(Debug, Drop)]
@@ -23,19 +21,17 @@ pub struct Post {
     op: Option<Op>,
     scounts: Counts,
     rcounts: Counts,
-    items: Option<Arc<Items>>,
+    items: Option<Items>,
 }
 
 impl Model for Post {
-    ghost use Rattle.std.specs.Arc.{arc_value};
-    ghost use Rattle.std.specs.Option.{option_map};
     ghost use Rattle.mpx_post.specs.Posts.{Given, IsPost};
 
     ghost Value = { Given };
 
-    ghost view = { λ p. record { kind = p.kind; mode = p.mode; root = p.root; op = p.op; scounts = p.scounts; rcounts = p.rcounts; items = option_map arc_value p.items } };
+    ghost view = { λ p. record { kind = p.kind; mode = p.mode; root = p.root; op = p.op; scounts = p.scounts; rcounts = p.rcounts; items = p.items } };
 
-    ghost invariant = { λ p. IsPost (record { kind = p.kind; mode = p.mode; root = p.root; op = p.op; scounts = p.scounts; rcounts = p.rcounts; items = option_map arc_value p.items }) };
+    ghost invariant = { λ p. IsPost (record { kind = p.kind; mode = p.mode; root = p.root; op = p.op; scounts = p.scounts; rcounts = p.rcounts; items = p.items }) };
 }
 
 impl Exact for Post {
@@ -64,7 +60,7 @@ impl Exact for Post {
     fn copy(&self, alloc: Global) -> Result<Post, OutOfMemory> {
         let scounts = self.scounts.copy(alloc)?;
         let rcounts = self.rcounts.copy(alloc)?;
-        let items = shared(&self.items)?;
+        let items = copied(&self.items)?;
         Ok(Post {
             kind: self.kind,
             mode: self.mode,
@@ -88,10 +84,10 @@ impl Post {
         op: Option<Op>,
         scounts: Counts,
         rcounts: Counts,
-        items: Option<Arc<Items>>,
+        items: Option<Items>,
     ) -> Post
-        requires { IsPost (record { kind = kind; mode = mode; root = root; op = op; scounts = scounts; rcounts = rcounts; items = option_map arc_value items }) }
-        ensures { result ≡ record { kind = kind; mode = mode; root = root; op = op; scounts = scounts; rcounts = rcounts; items = option_map arc_value items } }
+        requires { IsPost (record { kind = kind; mode = mode; root = root; op = op; scounts = scounts; rcounts = rcounts; items = items }) }
+        ensures { result ≡ record { kind = kind; mode = mode; root = root; op = op; scounts = scounts; rcounts = rcounts; items = items } }
     {
         Post {
             kind,
@@ -154,10 +150,7 @@ impl Post {
         ensures there { is_some result ≡ (fields_of self.now.kind).items }
         ensures few { few_items (option_copied result) }
     {
-        match &self.items {
-            None => None,
-            Some(items) => Some(items),
-        }
+        self.items.as_ref()
     }
 
     /// How many items it gives.
@@ -172,8 +165,8 @@ impl Post {
 }
 
 // Whether both have none, or the same items.
-fn are_same(left: &Option<Arc<Items>>, right: &Option<Arc<Items>>) -> bool
-    ensures { result ≡ same_option same_items (option_map arc_value left.now) (option_map arc_value right.now) }
+fn are_same(left: &Option<Items>, right: &Option<Items>) -> bool
+    ensures { result ≡ same_option same_items left.now right.now }
 {
     match (left, right) {
         (None, None) => true,
@@ -183,22 +176,12 @@ fn are_same(left: &Option<Arc<Items>>, right: &Option<Arc<Items>>) -> bool
     }
 }
 
-// The same items once more, shared.
-fn shared(items: &Option<Arc<Items>>) -> Result<Option<Arc<Items>>, OutOfMemory>
-    ensures { IfOk result (λ copied. option_map arc_value copied ≡ option_map arc_value items.now) }
+// The same items once more, shared, where there are some.
+fn copied(items: &Option<Items>) -> Result<Option<Items>, OutOfMemory>
+    ensures { IfOk result (λ copied. copied ≡ items.now) }
 {
     match items {
         None => Ok(None),
-        Some(items) => Ok(Some(Arc::try_clone(items)?)),
-    }
-}
-
-// The items, to be shared by copies.
-pub(crate) fn owned(alloc: Global, items: Option<Items>) -> Result<Option<Arc<Items>>, OutOfMemory>
-    ensures { IfOk result (λ made. option_map arc_value made ≡ items) }
-{
-    match items {
-        None => Ok(None),
-        Some(items) => Ok(Some(Arc::new(alloc, items)?)),
+        Some(items) => Ok(Some(items.copy()?)),
     }
 }

@@ -30,6 +30,6 @@ new-requires c =
     record {
       root = rw root (is_some-where_had fields.root _);
       op = rw op (is_some-where_had fields.op _);
-      items = rw (c.in-Ok-owned.ensures, items.3) (is_some-where_had fields.items _);
-      few = rw (c.in-Ok-owned.ensures, items.3) (few_given fields.items c.args.self.ty c.args.self.items items.2);
+      items = rw items.3 (is_some-where_had fields.items _);
+      few = rw items.3 (few_given fields.items c.args.self.ty c.args.self.items items.2);
     }
