@@ -134,7 +134,7 @@ impl<'a> Rank<'a> {
         let Some((statement, rest)) = self.todo.split_first() else {
             return Ok(false);
         };
-        let draft = statement.draft(alloc)?;
+        let draft = statement.draft()?;
         match self.node.post(alloc, &Name::world(alloc), draft) {
             Ok(_) => {
                 self.todo = rest;

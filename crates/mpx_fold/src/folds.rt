@@ -96,7 +96,7 @@ fn block_value(alloc: Global, row: &Row<'_>, block: Block) -> Result<Value, OutO
     ensures { IfOk result (λ value. value ≡ as_items row.now (part (type_of (first_of row.now)) block (all_folded row.now))) }
 {
     let all = fold_upto(alloc, row, row.len())?;
-    let mut items = Items::empty(alloc, all.ty());
+    let mut items = Items::empty(alloc, all.ty())?;
     items.extend(&all, block.first, block.count)?;
     Ok(Value::Items(items))
 }
@@ -123,10 +123,10 @@ fn fold_upto(alloc: Global, row: &Row<'_>, ranks: usize) -> Result<Items, OutOfM
 {
     let first = row.post(0);
     let op = first.op().unwrap();
-    let mut folded = given(row, 0).copy(alloc)?;
+    let mut folded = given(row, 0).copy()?;
     let ty = folded.ty();
     for rank in 1..ranks {
-        apply(op, ty, &mut folded, given(row, rank));
+        apply(op, ty, &mut folded, given(row, rank))?;
     }
     Ok(folded)
 }

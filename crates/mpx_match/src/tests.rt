@@ -40,7 +40,7 @@ const BCAST: Call = Call {
 };
 
 fn numbers(alloc: Global, list: &[i128]) -> Result<Numbers, Fail> {
-    Ok(Numbers::new(Vec::from_slice(alloc, list)?))
+    Ok(Numbers::new(alloc, Vec::from_slice(alloc, list)?)?)
 }
 
 fn post_of(alloc: Global, birth: &Birth, me: Proc, call: &Call) -> Result<Post, Fail> {
@@ -52,7 +52,7 @@ fn post_of(alloc: Global, birth: &Birth, me: Proc, call: &Call) -> Result<Post, 
         ty: call.ty,
         scounts: numbers(alloc, call.scounts)?,
         rcounts: numbers(alloc, call.rcounts)?,
-        items: Numbers::new(vec![in alloc; 7; call.items]?),
+        items: Numbers::new(alloc, vec![in alloc; 7; call.items]?)?,
     };
     Ok(draft.check(alloc, birth, me, &At { call: 0 })?)
 }

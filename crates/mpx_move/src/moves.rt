@@ -18,7 +18,7 @@ pub fn move_value(alloc: Global, row: &Row<'_>, rank: u8) -> Result<Value, OutOf
 {
     match row.post(0).kind() {
         Kind::Bcast => {
-            let items = given(row, root(row)).copy(alloc)?;
+            let items = given(row, root(row)).copy()?;
             Ok(Value::Items(items))
         }
         Kind::Gather | Kind::Gatherv => {
@@ -48,7 +48,7 @@ fn joined_value(alloc: Global, row: &Row<'_>) -> Result<Value, OutOfMemory>
     requires some { 0 < length row.now }
     ensures { IfOk result (λ value. value ≡ as_items row.now (joined row.now)) }
 {
-    let mut items = Items::empty(alloc, given(row, 0).ty());
+    let mut items = Items::empty(alloc, given(row, 0).ty())?;
     for rank in 0..row.len() {
         let all = given(row, rank);
         items.extend(all, 0, all.count())?;
@@ -63,7 +63,7 @@ fn blocks_value(alloc: Global, row: &Row<'_>, receiver: u8) -> Result<Value, Out
     requires receiver { receiver < length row.now }
     ensures { IfOk result (λ value. value ≡ as_items row.now (blocks_for row.now receiver)) }
 {
-    let mut items = Items::empty(alloc, given(row, 0).ty());
+    let mut items = Items::empty(alloc, given(row, 0).ty())?;
     for sender in 0..row.len() {
         append_block(&mut items, row, sender, receiver)?;
     }
@@ -83,7 +83,7 @@ fn block_value(
     requires receiver { receiver < length row.now }
     ensures { IfOk result (λ value. value ≡ as_items row.now (block_for row.now receiver sender)) }
 {
-    let mut items = Items::empty(alloc, given(row, 0).ty());
+    let mut items = Items::empty(alloc, given(row, 0).ty())?;
     append_block(&mut items, row, sender, receiver)?;
     Ok(Value::Items(items))
 }

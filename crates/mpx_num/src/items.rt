@@ -2,6 +2,7 @@ ghost use Rattle.std.specs.Prelude.{◌≡◌, ◌+◌, ◌*◌, ◌<◌, ◌≤
 ghost use Rattle.std.specs.Bool.{OnTrue, OnFalse};
 ghost use Rattle.std.specs.Result.{IsErrOf};
 ghost use Rattle.std.specs.List.{All, Any};
+ghost use Rattle.std.specs.Arc.{arc_value};
 ghost use Rattle.mpx_num.specs.Types.{IsInRange, IsOutOfRange, item_len};
 ghost use Rattle.mpx_num.specs.ItemList.{AreItems, is_whole, item_count};
 ghost use Rattle.mpx_num.specs.Operations.{elementwise, fits};
@@ -12,25 +13,27 @@ use crate::reduction::combine;
 use crate::types::{Ty, is_in_range};
 use std::alloc::{AllocError, Global};
 use std::marker::Model;
+use std::sync::Arc;
 
 /// The greatest number of items of one contribution.
 pub const MOST_ITEMS: usize = 4096;
 
-/// Items of one type: numbers, each in the type's range, as many as whole items have.
+/// Items of one type: numbers, each in the type's range, as many as whole items have. Copies share them.
 #[derive(Debug, Drop)]
 pub struct Items {
     ty: Ty,
-    nums: Vec<i128>,
+    nums: Arc<Vec<i128>>,
 }
 
 impl Model for Items {
+    ghost use Rattle.std.specs.Arc.{arc_value};
     ghost use Rattle.mpx_num.specs.ItemList.{ItemList, AreItems};
 
     ghost Value = { ItemList };
 
-    ghost view = { λ items. record { ty = items.ty; nums = items.nums.items } };
+    ghost view = { λ items. record { ty = items.ty; nums = (arc_value items.nums).items } };
 
-    ghost invariant = { λ items. AreItems items.ty items.nums.items };
+    ghost invariant = { λ items. AreItems items.ty (arc_value items.nums).items };
 }
 
 /// Why numbers are no items of a type.
@@ -55,7 +58,7 @@ impl Items {
         ensures out_of_range { IsErrOf result ItemsError.ItemOutOfRange ↔ ((is_whole ty nums ≡ true) × Any (IsOutOfRange ty) nums) }
         ensures too_many { IsErrOf result ItemsError.TooManyItems ↔ (AreItems ty nums × (MOST_ITEMS * item_len ty < length nums)) }
     {
-        let nums = nums.into_vec();
+        let nums = nums.into_shared();
         if !are_whole(ty, nums.as_slice()) {
             return Err(ItemsError::ItemsLength);
         }
@@ -68,14 +71,12 @@ impl Items {
         Ok(Items { ty, nums })
     }
 
-    /// No items of the type. It takes no memory.
-    pub fn empty(alloc: Global, ty: Ty) -> Self
-        ensures { result ≡ record { ty = ty; nums = [] } }
+    /// No items of the type.
+    pub fn empty(alloc: Global, ty: Ty) -> Result<Self, AllocError>
+        ensures { IfOk result (λ items. items ≡ record { ty = ty; nums = [] }) }
     {
-        Items {
-            ty,
-            nums: Vec::new(alloc),
-        }
+        let nums = Numbers::new(alloc, Vec::new(alloc))?.into_shared();
+        Ok(Items { ty, nums })
     }
 
     /// The type of the items.
@@ -108,11 +109,11 @@ impl Items {
         self.ty == other.ty && self.nums.as_slice() == other.nums.as_slice()
     }
 
-    /// The same items once more.
-    pub fn copy(&self, alloc: Global) -> Result<Self, AllocError>
+    /// The same items once more, shared.
+    pub fn copy(&self) -> Result<Self, AllocError>
         ensures { IfOk result (λ copied. copied ≡ self.now) }
     {
-        let nums = Vec::from_slice(alloc, self.nums.as_slice())?;
+        let nums = Arc::try_clone(&self.nums)?;
         Ok(Items { ty: self.ty, nums })
     }
 
@@ -123,7 +124,7 @@ impl Items {
         ensures ok { OnOk result (self.new ≡ record { ty = self.old.ty; nums = self.old.nums ++ take (count * item_len self.old.ty) (drop (first * item_len self.old.ty) from.now.nums) }) }
         ensures err { OnErr result (self.new ≡ self.old) }
     {
-        self.nums.extend_from_slice(from.part(first, count))
+        append(&mut self.nums, from.part(first, count))
     }
 
     // The numbers of so many items, from a place on.
@@ -159,14 +160,35 @@ fn are_in_range(ty: Ty, nums: &[i128]) -> bool
 }
 
 /// Combines items with others of the same type, item by item and in place: the first become `op` of the first and the
-/// second (MPI 4.1, sections 6.9.2 and 6.9.4). It takes no memory.
-pub fn apply(op: Op, ty: Ty, left: &mut Items, right: &Items)
+/// second (MPI 4.1, sections 6.9.2 and 6.9.4). It takes memory where copies share the first.
+pub fn apply(op: Op, ty: Ty, left: &mut Items, right: &Items) -> Result<(), AllocError>
     requires fit { IsTrue (fits op ty) }
     requires left_ty { left.old.ty ≡ ty }
     requires right_ty { right.now.ty ≡ ty }
     requires same_len { length left.old.nums ≡ length right.now.nums }
-    ensures value { left.new ≡ record { ty = ty; nums = elementwise op ty left.old.nums right.now.nums } }
+    ensures value { OnOk result (left.new ≡ record { ty = ty; nums = elementwise op ty left.old.nums right.now.nums }) }
     ensures same_len { length left.new.nums ≡ length left.old.nums }
+    ensures err { OnErr result (left.new ≡ left.old) }
 {
-    combine(op, ty, left.nums.as_mut_slice(), right.nums.as_slice());
+    combine_shared(op, ty, &mut left.nums, right.nums())
+}
+
+// Appends numbers, to a copy where others share the list.
+fn append(nums: &mut Arc<Vec<i128>>, part: &[i128]) -> Result<(), AllocError>
+    ensures ok { OnOk result ((arc_value nums.new).items ≡ (arc_value nums.old).items ++ part.now) }
+    ensures err { OnErr result ((arc_value nums.new).items ≡ (arc_value nums.old).items) }
+{
+    Arc::make_mut(nums)?.extend_from_slice(part)
+}
+
+// The operation item by item, on a copy where others share the list.
+fn combine_shared(op: Op, ty: Ty, left: &mut Arc<Vec<i128>>, right: &[i128]) -> Result<(), AllocError>
+    requires whole { IsTrue (is_whole ty (arc_value left.old).items) }
+    requires same_len { length (arc_value left.old).items ≡ length right.now }
+    ensures ok { OnOk result ((arc_value left.new).items ≡ elementwise op ty (arc_value left.old).items right.now) }
+    ensures same_len { length (arc_value left.new).items ≡ length (arc_value left.old).items }
+    ensures err { OnErr result ((arc_value left.new).items ≡ (arc_value left.old).items) }
+{
+    combine(op, ty, Arc::make_mut(left)?, right);
+    Ok(())
 }

@@ -20,6 +20,3 @@ pub use numbers::Numbers;
 pub use operations::{Op, op_fits};
 pub use text::{parse_number, print_number, push_number};
 pub use types::Ty;
-
-#[cfg(test)]
-mod tests;

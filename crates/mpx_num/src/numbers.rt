@@ -1,28 +1,34 @@
 ghost use Rattle.std.specs.Prelude.{◌≡◌, IfOk};
+ghost use Rattle.std.specs.Arc.{arc_value};
 
 use std::alloc::{AllocError, Global};
 use std::marker::Model;
+use std::sync::Arc;
 
-/// A list of whole numbers.
+/// A list of whole numbers, which copies of it share.
 #[derive(Debug, Drop)]
 pub struct Numbers {
-    list: Vec<i128>,
+    list: Arc<Vec<i128>>,
 }
 
 impl Model for Numbers {
     ghost use Rattle.std.specs.Prelude.{List, ℤ};
+    ghost use Rattle.std.specs.Arc.{arc_value};
 
     ghost Value = { List ℤ };
 
-    ghost view = { λ n. n.list.items };
+    ghost view = { λ n. (arc_value n.list).items };
 }
 
 impl Numbers {
     /// The numbers of a vector, which it takes over.
-    pub fn new(list: Vec<i128>) -> Self
-        ensures { result ≡ list.items }
+    pub fn new(alloc: Global, list: Vec<i128>) -> Result<Self, AllocError>
+        ensures { IfOk result (λ numbers. numbers ≡ list.items) }
     {
-        Numbers { list }
+        match Arc::new(alloc, list) {
+            Ok(list) => Ok(Numbers { list }),
+            Err(_) => Err(AllocError),
+        }
     }
 
     /// The numbers.
@@ -32,19 +38,19 @@ impl Numbers {
         self.list.as_slice()
     }
 
-    /// The vector of the numbers.
-    pub fn into_vec(self) -> Vec<i128>
-        ensures { result.items ≡ self }
-    {
-        self.list
-    }
-
-    /// The same numbers once more.
-    pub fn copy(&self, alloc: Global) -> Result<Self, AllocError>
+    /// The same numbers once more, shared.
+    pub fn copy(&self) -> Result<Self, AllocError>
         ensures { IfOk result (λ copied. copied ≡ self.now) }
     {
         Ok(Numbers {
-            list: Vec::from_slice(alloc, self.list.as_slice())?,
+            list: Arc::try_clone(&self.list)?,
         })
+    }
+
+    // The vector of the numbers.
+    pub(crate) fn into_shared(self) -> Arc<Vec<i128>>
+        ensures { (arc_value result).items ≡ self }
+    {
+        self.list
     }
 }

@@ -74,8 +74,8 @@ pub enum PostError {
     OutOfMemory,
 }
 
-// So many calls may be made on a communicator.
-const MOST_CALLS: u32 = 4_294_967_295;
+/// So many calls may be made on a communicator.
+pub const MOST_CALLS: u32 = 4_294_967_295;
 
 impl Draft {
     /// The post of this draft, or the first reason why the process may not post it as its next call.
@@ -88,8 +88,8 @@ impl Draft {
         }
     }
 
-    /// The same draft once more.
-    pub fn copy(&self, alloc: Global) -> Result<Draft, OutOfMemory>
+    /// The same draft once more, which shares its numbers.
+    pub fn copy(&self) -> Result<Draft, OutOfMemory>
         ensures { IfOk result (λ copied. copied ≡ self.now) }
     {
         Ok(Draft {
@@ -98,9 +98,9 @@ impl Draft {
             root: self.root,
             op: self.op,
             ty: self.ty,
-            scounts: self.scounts.copy(alloc)?,
-            rcounts: self.rcounts.copy(alloc)?,
-            items: self.items.copy(alloc)?,
+            scounts: self.scounts.copy()?,
+            rcounts: self.rcounts.copy()?,
+            items: self.items.copy()?,
         })
     }
 

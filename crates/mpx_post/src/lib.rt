@@ -16,13 +16,11 @@ mod kinds;
 mod parts;
 mod post;
 mod row;
-#[cfg(test)]
-mod tests;
 mod value;
 
 pub use birth::Birth;
 pub use counts::Counts;
-pub use draft::{At, Draft, PostError};
+pub use draft::{At, Draft, MOST_CALLS, PostError};
 pub use kinds::{Fields, Kind, Mode, Number, Sent};
 pub use post::Post;
 pub use row::Row;

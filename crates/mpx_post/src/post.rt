@@ -60,7 +60,7 @@ impl Exact for Post {
     fn copy(&self, alloc: Global) -> Result<Post, OutOfMemory> {
         let scounts = self.scounts.copy(alloc)?;
         let rcounts = self.rcounts.copy(alloc)?;
-        let items = copied(alloc, &self.items)?;
+        let items = copied(&self.items)?;
         Ok(Post {
             kind: self.kind,
             mode: self.mode,
@@ -176,12 +176,12 @@ fn are_same(left: &Option<Items>, right: &Option<Items>) -> bool
     }
 }
 
-// The same items once more, where there are some.
-fn copied(alloc: Global, items: &Option<Items>) -> Result<Option<Items>, OutOfMemory>
+// The same items once more, shared, where there are some.
+fn copied(items: &Option<Items>) -> Result<Option<Items>, OutOfMemory>
     ensures { IfOk result (λ copied. copied ≡ items.now) }
 {
     match items {
         None => Ok(None),
-        Some(items) => Ok(Some(items.copy(alloc)?)),
+        Some(items) => Ok(Some(items.copy()?)),
     }
 }

@@ -30,7 +30,7 @@ fn list_at(alloc: Global, place: Option<&[u8]>) -> Result<Option<Numbers>, Alloc
 {
     match place {
         Some(word) => list_of(alloc, word),
-        None => Ok(Some(Numbers::new(Vec::new(alloc)))),
+        None => Ok(Some(Numbers::new(alloc, Vec::new(alloc))?)),
     }
 }
 
@@ -45,7 +45,7 @@ fn rcounts_of(alloc: Global, number: Number, word: &[u8]) -> Result<Option<Numbe
         return Ok(None);
     };
     let counts = Vec::from_slice(alloc, [count].as_slice())?;
-    Ok(Some(Numbers::new(counts)))
+    Ok(Some(Numbers::new(alloc, counts)?))
 }
 
 /// The receive counts of a place, none where it has no word.
@@ -58,7 +58,7 @@ fn rcounts_at(
 {
     match place {
         Some(word) => rcounts_of(alloc, number, word),
-        None => Ok(Some(Numbers::new(Vec::new(alloc)))),
+        None => Ok(Some(Numbers::new(alloc, Vec::new(alloc))?)),
     }
 }
 
@@ -92,7 +92,7 @@ fn numbers_in(alloc: Global, line: &[u8]) -> Result<Option<Numbers>, AllocError>
         numbers.push(number)?;
         rest = after;
     }
-    Ok(Some(Numbers::new(numbers)))
+    Ok(Some(Numbers::new(alloc, numbers)?))
 }
 
 /// The draft of a blocking call by the words of its places.

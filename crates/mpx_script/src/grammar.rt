@@ -164,7 +164,7 @@ pub fn list_of(alloc: Global, word: &[u8]) -> Result<Option<Numbers>, AllocError
 {
     let mut numbers = Vec::new(alloc);
     if word == b"-".as_slice() {
-        return Ok(Some(Numbers::new(numbers)));
+        return Ok(Some(Numbers::new(alloc, numbers)?));
     }
     for part in word.split(|byte| *byte == b',') {
         let Some(number) = parse_number(part) else {
@@ -172,7 +172,7 @@ pub fn list_of(alloc: Global, word: &[u8]) -> Result<Option<Numbers>, AllocError
         };
         numbers.push(number)?;
     }
-    Ok(Some(Numbers::new(numbers)))
+    Ok(Some(Numbers::new(alloc, numbers)?))
 }
 
 /// Whether a kind with so many counts has just one.

@@ -49,7 +49,7 @@ fn with_line(alloc: Global, draft: Draft, line: &[u8], cut: bool) -> Result<Draf
         }
         (Line::Further(given), Some(mut script)) => {
             let statements = statements + u32::from(given.to - given.from);
-            script.add(alloc, given)?;
+            script.add(given)?;
             Ok(Draft {
                 script: Some(script),
                 statements,

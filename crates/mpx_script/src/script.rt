@@ -62,14 +62,14 @@ impl Script {
     }
 
     /// Adds a statement for its ranks. Where memory runs out, some of them may have it.
-    pub(crate) fn add(&mut self, alloc: Global, given: Given) -> Result<(), OutOfMemory>
+    pub(crate) fn add(&mut self, given: Given) -> Result<(), OutOfMemory>
         requires some { given.from < given.to }
         requires within { given.to ≤ self.old.ranks }
         ensures ranks { self.new.ranks ≡ self.old.ranks }
         ensures added { OnOk result (Adds given.from given.to given.statement
             self.old.statements self.new.statements) }
     {
-        give(alloc, &mut self.statements, given)
+        give(&mut self.statements, given)
     }
 }
 
@@ -89,11 +89,7 @@ fn push_to(
 }
 
 /// Adds a statement for its ranks, a copy of its own for each.
-fn give(
-    alloc: Global,
-    statements: &mut Vec<Vec<Statement>>,
-    given: Given,
-) -> Result<(), OutOfMemory>
+fn give(statements: &mut Vec<Vec<Statement>>, given: Given) -> Result<(), OutOfMemory>
     requires some { given.from < given.to }
     requires within { given.to ≤ vec_len statements.old }
     ensures len { vec_len statements.new ≡ vec_len statements.old }
@@ -106,7 +102,7 @@ fn give(
         statement,
     } = given;
     for rank in from..to - 1 {
-        let copied = statement.copy(alloc)?;
+        let copied = statement.copy()?;
         push_to(statements, rank, copied)?;
     }
     push_to(statements, to - 1, statement)?;

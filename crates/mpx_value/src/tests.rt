@@ -42,7 +42,7 @@ fn posted(kind: Kind, rcounts: &'static [i128], items: &'static [i128]) -> Call 
 }
 
 fn numbers(alloc: Global, list: &[i128]) -> Result<Numbers, Fail> {
-    Ok(Numbers::new(Vec::from_slice(alloc, list)?))
+    Ok(Numbers::new(alloc, Vec::from_slice(alloc, list)?)?)
 }
 
 fn post_of(alloc: Global, birth: &Birth, me: Proc, call: &Call) -> Result<Post, Fail> {

@@ -16,9 +16,9 @@ pub fn sum_of(alloc: Global, nums: &[i128]) -> Result<Draft, Fail> {
         root: 0,
         op: Op::Sum,
         ty: Ty::I64,
-        scounts: Numbers::new(Vec::new(alloc)),
-        rcounts: Numbers::new(Vec::new(alloc)),
-        items: Numbers::new(Vec::from_slice(alloc, nums)?),
+        scounts: Numbers::new(alloc, Vec::new(alloc))?,
+        rcounts: Numbers::new(alloc, Vec::new(alloc))?,
+        items: Numbers::new(alloc, Vec::from_slice(alloc, nums)?)?,
     })
 }
 

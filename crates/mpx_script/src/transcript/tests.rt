@@ -18,7 +18,7 @@ fn lines_of_items(rt: HostRuntime) -> Result<(), Fail> {
         ),
     ];
     for (numbers, wanted) in table {
-        let list = Numbers::new(Vec::from_slice(alloc, numbers)?);
+        let list = Numbers::new(alloc, Vec::from_slice(alloc, numbers)?)?;
         let outcome = Outcome::Items(Items::new(Ty::I64, list)?);
         assert_eq!(rt; line(alloc, &outcome)?.as_str(), wanted);
     }
@@ -76,11 +76,11 @@ fn draft_of_a_statement(rt: HostRuntime) -> Result<(), Fail> {
         root: 5,
         op: Op::Max,
         ty: Ty::U8,
-        scounts: Numbers::new(Vec::from_slice(alloc, [1].as_slice())?),
-        rcounts: Numbers::new(Vec::from_slice(alloc, [2, 3].as_slice())?),
-        items: Numbers::new(Vec::from_slice(alloc, [9, 12].as_slice())?),
+        scounts: Numbers::new(alloc, Vec::from_slice(alloc, [1].as_slice())?)?,
+        rcounts: Numbers::new(alloc, Vec::from_slice(alloc, [2, 3].as_slice())?)?,
+        items: Numbers::new(alloc, Vec::from_slice(alloc, [9, 12].as_slice())?)?,
     });
-    let draft = statement.draft(alloc)?;
+    let draft = statement.draft()?;
     assert_eq!(rt; draft.kind, Kind::ReduceScatter);
     assert_eq!(rt; draft.mode, Mode::Blocking);
     assert_eq!(rt; draft.root, 5);

@@ -43,7 +43,7 @@ loop-rank-preserved c =
     let op : c.unwrap-op.result ≡ operation_of (first_of row) = ap (λ o. unwrap_or o Sum) (sym c.unwrap-op.ensures ∙ c.op.ensures.value) ∙ ap operation_of c.post-first.ensures.value in
     let ty : c.ty-ty.result ≡ type_of (first_of row) = c.ty-ty.ensures ∙ ap type_in (c.in_ok-folded.ensures ∙ c.given.ensures.value) in
     record {
-      ty = ap type_in c.apply.ensures.value ∙ ty;
-      nums = ap numbers_in c.apply.ensures.value ∙ folded_step row c.loop-rank.rank _ _ _ _ (omega arith) (omega arith) op ty c.loop-rank.invariant.nums (ap numbers_in c.given-in-loop-rank.ensures.value);
+      ty = ap type_in c.in_ok-apply.ensures.value ∙ ty;
+      nums = ap numbers_in c.in_ok-apply.ensures.value ∙ folded_step row c.loop-rank.rank _ _ _ _ (omega arith) (omega arith) op ty c.loop-rank.invariant.nums (ap numbers_in c.given-in-loop-rank.ensures.value);
       len = c.apply.ensures.same_len ∙ c.loop-rank.invariant.len;
     }

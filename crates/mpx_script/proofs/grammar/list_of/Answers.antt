@@ -45,4 +45,4 @@ loop-part-preserved c =
 pub returns : goal.returns
 returns c =
     let end = YieldsList-end (YieldsList-at c.into_iter-part-iterator.ensures.into_iter_gives (YieldsList-from_slice_split _ (λ byte. byte == 44) c.args.word.now c.split-part-items.ensures.rest c.split-part-items.ensures.done c.split-part-items.ensures.closure (λ x r q k. search (rules, tests)))) c.loop-part.yielded _ c.loop-part.yielded_by _ _ c.in-None.is c.next.ensures.steps in
-    ap Some c.new-2.ensures ∙ sym c.loop-part.invariant ∙ ap (all_of number_of) end.0 ∙ sym (listed c.args.word.now (search rules))
+    ap Some c.in_ok-new-2.ensures ∙ sym c.loop-part.invariant ∙ ap (all_of number_of) end.0 ∙ sym (listed c.args.word.now (search rules))

@@ -27,9 +27,9 @@ fn draft(
         root,
         op,
         ty,
-        scounts: Numbers::new(Vec::from_slice(alloc, scounts)?),
-        rcounts: Numbers::new(Vec::from_slice(alloc, rcounts)?),
-        items: Numbers::new(Vec::from_slice(alloc, items)?),
+        scounts: Numbers::new(alloc, Vec::from_slice(alloc, scounts)?)?,
+        rcounts: Numbers::new(alloc, Vec::from_slice(alloc, rcounts)?)?,
+        items: Numbers::new(alloc, Vec::from_slice(alloc, items)?)?,
     })
 }
 
