@@ -9,7 +9,7 @@ use Rattle.mpx_board.specs.Parts.{EntryView}
 use Rattle.mpx_board.specs.Contexts.{context_of, or_nothing}
 use Rattle.mpx_board.specs.Tidy.{is_tidy_entry}
 use Rattle.mpx_board.proofs.Telling.{set_by_swap, told_by_name, swapped_entry_tidy, posts_dropped, dropped_tidy}
-use Rattle.mpx_board.proofs.told.drop_posts.Goals as goal
+use Rattle.mpx_board.proofs.fact.drop_posts.Goals as goal
 
 pub returns-in-Some-clause-ok : goal.returns-in-Some-clause-ok
 returns-in-Some-clause-ok c =

@@ -8,9 +8,9 @@ use Rattle.join_nest.specs.TruncSeen.{trunc_view}
 use Rattle.mpx_board.specs.Boards.{join_contexts}
 use Rattle.mpx_board.specs.Parts.{CallView, EntryView}
 use Rattle.mpx_board.specs.Contexts.{context_of}
-use Rattle.mpx_board.specs.Told.{context_told}
+use Rattle.mpx_board.specs.Fact.{context_told}
 use Rattle.mpx_board.proofs.Telling.{birth_told, front_told, post_told}
-use Rattle.mpx_board.proofs.told.tell_entry.Goals as goal
+use Rattle.mpx_board.proofs.fact.tell_entry.Goals as goal
 
 pub returns-in_ok-entry-in-Birth-clause-ok : goal.returns-in_ok-entry-in-Birth-clause-ok
 returns-in_ok-entry-in-Birth-clause-ok c =

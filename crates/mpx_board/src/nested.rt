@@ -1,3 +1,4 @@
+// The maps nested inside a board, and the test that no part of them says nothing.
 ghost use Rattle.std.specs.Prelude.{◌≡◌, true, not};
 ghost use Rattle.std.specs.Option.{option_copied};
 ghost use Rattle.std.specs.FinMap.{get};
@@ -5,6 +6,7 @@ ghost use Rattle.join_core.specs.FlatSeen.{flat_view};
 ghost use Rattle.mpx_board.specs.Boards.{nothing, told};
 ghost use Rattle.mpx_board.specs.Contexts.{context_of, or_zero};
 ghost use Rattle.mpx_board.specs.Tidy.{all_entries, are_tidy_posts, has_no_zero, is_neat_entry, is_tidy, is_tidy_acks, is_tidy_call, is_tidy_entry, is_tidy_numbers, is_unknown, says_nothing};
+ghost use Rattle.mpx_board.specs.Views.{view_of_acks, view_of_call, view_of_calls, view_of_entry, view_of_numbers, view_of_parts};
 
 use join_core::{Exact, Flat, Max, Pair};
 use join_nest::{Keyed, Trunc};
@@ -13,29 +15,26 @@ use mpx_name::Name;
 use mpx_post::{Birth, Post};
 use std::alloc::Global;
 
-/// A number of calls for each process.
-pub type Numbers = Keyed<Proc, Max>;
+/// A version vector: a number of calls for each process.
+pub type VersionVector = Keyed<Proc, Max>;
 
 /// The posts of one call, by process.
 pub type Call = Keyed<Proc, Flat<Post>>;
 
 /// What is known of one context: its birth, how many calls each process has harvested, and the posts by call, at or
 /// above the dropped front.
-pub type Entry = Pair<Flat<Birth>, Pair<Numbers, Trunc<Call>>>;
+pub type Entry = Pair<Flat<Birth>, Pair<VersionVector, Trunc<Call>>>;
 
 /// What one process says that it has: by context and member, how many calls it holds in order or has dropped.
-pub type Acks = Keyed<Name, Numbers>;
+pub type Acks = Keyed<Name, VersionVector>;
 
 /// What stands inside a board: what is known of each context, and what each process says that it has.
 pub type Parts = Pair<Keyed<Name, Entry>, Keyed<Proc, Acks>>;
 
-// The numbers of calls are below this one.
-const MOST_CALLS: u32 = 4_294_967_295;
-
 // Nothing about a context.
 pub fn new_entry(alloc: Global) -> Entry
-    ensures context { context_of (⟦<Entry as Exact>⟧.view result) ≡ nothing }
-    ensures neat { is_neat_entry (⟦<Entry as Exact>⟧.view result) ≡ true }
+    ensures context { context_of (view_of_entry result) ≡ nothing }
+    ensures neat { is_neat_entry (view_of_entry result) ≡ true }
 {
     Pair {
         first: Flat::Unknown,
@@ -58,8 +57,8 @@ pub fn known<T>(value: &Flat<T>) -> Option<&T>
 }
 
 // The number of the process: 0 where there is none.
-pub fn number_of(numbers: &Numbers, process: Proc) -> u32
-    ensures { result ≡ or_zero (get (⟦<Numbers as Exact>⟧.view numbers.now) process) }
+pub fn number_of(numbers: &VersionVector, process: Proc) -> u32
+    ensures { result ≡ or_zero (get (view_of_numbers numbers.now) process) }
 {
     match numbers.get(&process) {
         None => 0,
@@ -69,14 +68,14 @@ pub fn number_of(numbers: &Numbers, process: Proc) -> u32
 
 // Whether no part says nothing, and no call has a number past the last.
 pub fn is_tidy_board(parts: &Parts) -> bool
-    ensures { result ≡ is_tidy (⟦<Parts as Exact>⟧.view parts.now) }
+    ensures { result ≡ is_tidy (view_of_parts parts.now) }
 {
     parts.first.entries().iter().all(|e| is_tidy_entry(&e.1))
         && parts.second.entries().iter().all(|e| are_tidy_acks(&e.1))
 }
 
 fn is_tidy_entry(entry: &Entry) -> bool
-    ensures { result ≡ is_tidy_entry (⟦<Entry as Exact>⟧.view entry.now) }
+    ensures { result ≡ is_tidy_entry (view_of_entry entry.now) }
 {
     says_something(entry)
         && has_no_zero(&entry.second.first)
@@ -84,7 +83,7 @@ fn is_tidy_entry(entry: &Entry) -> bool
 }
 
 fn says_something(entry: &Entry) -> bool
-    ensures { result ≡ not (says_nothing (⟦<Entry as Exact>⟧.view entry.now)) }
+    ensures { result ≡ not (says_nothing (view_of_entry entry.now)) }
 {
     let posts = &entry.second.second;
     is_told(&entry.first)
@@ -100,34 +99,34 @@ fn is_told<T>(value: &Flat<T>) -> bool
 }
 
 fn are_tidy_calls(calls: &Trunc<Call>) -> bool
-    ensures { result ≡ all_entries is_tidy_call (⟦<Trunc<Call> as Exact>⟧.view calls.now).calls }
+    ensures { result ≡ all_entries is_tidy_call (view_of_calls calls.now).calls }
 {
     calls
         .entries()
         .iter()
-        .all(|e| e.0 < MOST_CALLS && is_tidy_call(&e.1))
+        .all(|e| e.0 < u32::MAX && is_tidy_call(&e.1))
 }
 
 fn is_tidy_call(posts: &Call) -> bool
-    ensures { result ≡ are_tidy_posts (⟦<Call as Exact>⟧.view posts.now) }
+    ensures { result ≡ are_tidy_posts (view_of_call posts.now) }
 {
     !posts.is_empty() && posts.entries().iter().all(|e| is_told(&e.1))
 }
 
 fn are_tidy_acks(acks: &Acks) -> bool
-    ensures { result ≡ is_tidy_acks (⟦<Acks as Exact>⟧.view acks.now) }
+    ensures { result ≡ is_tidy_acks (view_of_acks acks.now) }
 {
     !acks.is_empty() && acks.entries().iter().all(|e| is_tidy_numbers(&e.1))
 }
 
-fn is_tidy_numbers(numbers: &Numbers) -> bool
-    ensures { result ≡ is_tidy_numbers (⟦<Numbers as Exact>⟧.view numbers.now) }
+fn is_tidy_numbers(numbers: &VersionVector) -> bool
+    ensures { result ≡ is_tidy_numbers (view_of_numbers numbers.now) }
 {
     !numbers.is_empty() && has_no_zero(numbers)
 }
 
-fn has_no_zero(numbers: &Numbers) -> bool
-    ensures { result ≡ has_no_zero (⟦<Numbers as Exact>⟧.view numbers.now) }
+fn has_no_zero(numbers: &VersionVector) -> bool
+    ensures { result ≡ has_no_zero (view_of_numbers numbers.now) }
 {
     numbers.entries().iter().all(|e| e.1.0 != 0)
 }

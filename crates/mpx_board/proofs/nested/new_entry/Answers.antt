@@ -14,7 +14,7 @@ use Rattle.mpx_board.specs.Parts.{OfProcesses, CallView}
 use Rattle.mpx_board.specs.Contexts.{context_of, or_zero, post_in}
 use Rattle.mpx_board.specs.Tidy.{all_entries, has_no_zero, is_neat_entry, is_tidy_call}
 use Rattle.mpx_board.proofs.Entries.{all_empty}
-use Rattle.mpx_board.proofs.parts.new_entry.Goals as goal
+use Rattle.mpx_board.proofs.nested.new_entry.Goals as goal
 
 module _ (fronts : OfProcesses ℕ) (posts : TruncView CallView) (e : fronts ≡ empty) (d : posts.dropped ≡ 0) (f : posts.calls ≡ empty) where
   context_of_none : context_of (unknown, (fronts, posts)) ≡ nothing

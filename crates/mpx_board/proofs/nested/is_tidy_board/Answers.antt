@@ -3,7 +3,7 @@ use Rattle.std.proofs.Common.{◌≡◌, Bool, true, false, ◌&&◌, sym, ap, �
 use Rattle.std.proofs.lemmas.Iterator.{YieldsList-from_slice}
 use Rattle.mpx_board.specs.Tidy.{is_tidy_entry, is_tidy_acks}
 use Rattle.mpx_board.proofs.Shown.{all_shown}
-use Rattle.mpx_board.proofs.parts.is_tidy_board.Goals as goal
+use Rattle.mpx_board.proofs.nested.is_tidy_board.Goals as goal
 
 second_left : (first second r s : Bool) → r ≡ true → r ≡ first → s ≡ second → s ≡ (first && second)
 second_left first second r s t e f = f ∙ ap (λ b. b && second) (sym t ∙ e)

@@ -12,7 +12,7 @@ use Rattle.mpx_post.specs.Equality.{same_given}
 use Rattle.mpx_board.specs.Parts.{CallView}
 use Rattle.mpx_board.specs.Contexts.{post_in}
 use Rattle.mpx_board.proofs.Telling.{replaced_absent, set_by_put, set_by_swap, set_not_bare, swap_undone, dropped_told, posts_told, posts_tidy, swapped_posts_tidy, first_told, first_told_tidy}
-use Rattle.mpx_board.proofs.told.tell_post.Goals as goal
+use Rattle.mpx_board.proofs.fact.tell_post.Goals as goal
 
 pub returns-then-call-dropped-clause-ok : goal.returns-then-call-dropped-clause-ok
 returns-then-call-dropped-clause-ok c =
