@@ -4,9 +4,11 @@ use Rattle.std.specs.Prelude.{nat_le, slice_get}
 use Rattle.std.specs.List.{fold}
 use Rattle.std.proofs.lemmas.Option.{same_Some}
 use Rattle.std.proofs.lemmas.Bool.Decides.{nat_tests}
-use Rattle.join_core.specs.Flat.{FlatView, unknown, known, clash, flat_join, flat_leq, flat_joining, flat_laws}
-use Rattle.join_core.specs.Order.{IsOrder, IsLeastUpperBound, order_laws, bound_laws}
-use Rattle.join_nest.specs.Entries.{yes, no, answer}
+use Rattle.join_core.specs.Flat.{FlatView, unknown, known, clash, flat_join, flat_leq, flat_joining}
+use Rattle.join_core.specs.FlatLaws.{flat_laws}
+use Rattle.join_core.specs.Order.{IsOrder, IsLeastUpperBound}
+use Rattle.join_core.proofs.Orders.{order_laws, bound_laws}
+use Rattle.join_core.specs.Cases.{yes, no, answer}
 use Rattle.mpx_post.specs.Posts.{Given}
 use Rattle.mpx_post.specs.Equality.{same_given, given_equality}
 use Rattle.mpx_post.specs.Births.{same_birth, birth_equality}

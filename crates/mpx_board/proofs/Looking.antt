@@ -8,15 +8,16 @@ use Rattle.std.proofs.lemmas.Bool.Decides.{nat_tests}
 use Rattle.join_core.specs.Flat.{FlatView, unknown, known, clash, flat_join, flat_joining}
 use Rattle.join_core.specs.Max.{max_joining}
 use Rattle.join_nest.specs.Optional.{option_join}
-use Rattle.join_nest.specs.Keyed.{get_join}
-use Rattle.join_nest.specs.Trunc.{get_trunc_join, get_dropped}
+use Rattle.join_nest.specs.KeyedLaws.{get_join}
+use Rattle.join_nest.specs.TruncLaws.{get_trunc_join, get_dropped}
 use Rattle.mpx_name.specs.Order.{name_cmp, name_total}
 use Rattle.mpx_post.specs.Posts.{Given}
 use Rattle.mpx_post.specs.Equality.{same_given}
 use Rattle.mpx_post.specs.Births.{same_birth}
 use Rattle.mpx_board.specs.Boards.{Name, nothing, empty, join, join_contexts}
 use Rattle.mpx_board.specs.Parts.{OfProcesses, CallView, EntryView, AcksView, PartsView, numbers_joining, call_joining, entry_joining, acks_joining, parts_joining}
-use Rattle.mpx_board.proofs.Telling.{join_unknown, nothing_told}
+use Rattle.join_core.specs.FlatLaws.{join_unknown}
+use Rattle.mpx_board.proofs.Telling.{nothing_told}
 use Rattle.mpx_board.specs.Contexts.{or_zero, or_unknown, post_in, context_of, or_nothing, number_in, ack_in, look_of}
 
 pub look-empty : look_of (no_entry, no_entry) ≡ empty

@@ -6,10 +6,14 @@ use Rattle.std.specs.declared.cmp.Ordering.{Ordering}
 use Rattle.std.specs.Ordering.{eq_by_cmp, is_eq, nat_cmp}
 use Rattle.std.specs.Cmp.{IsTotalOrder, tied_itself, unsigned_tied, nat_cmp_total}
 use Rattle.std.specs.FinMap.{FinMap, empty, get, get-empty, get-insert, get_tied, insert, same_map, IsAntisymmetric, nat_cmp-IsAntisymmetric}
+use Rattle.join_core.specs.FlatLaws.{join_unknown}
 use Rattle.join_core.specs.Flat.{FlatView, unknown, known, clash, flat_join}
-use Rattle.join_nest.specs.Entries.{answer, yes, no, is_tied, both_true, first_true, second_true}
-use Rattle.join_nest.specs.Keyed.{replaced, get_replaced}
-use Rattle.join_nest.specs.Trunc.{TruncView, get_dropped, same_trunc, drop_below, get_cut}
+use Rattle.join_core.specs.Cases.{answer, yes, no, is_tied, both_true, first_true, second_true}
+use Rattle.join_nest.specs.Keyed.{replaced}
+use Rattle.join_nest.specs.KeyedLaws.{get_replaced}
+use Rattle.join_nest.specs.Trunc.{TruncView, drop_below}
+use Rattle.join_nest.specs.TruncLaws.{get_dropped, same_trunc}
+use Rattle.join_nest.specs.Cut.{get_cut}
 use Rattle.mpx_post.specs.Posts.{Given}
 use Rattle.mpx_post.specs.Equality.{same_given}
 use Rattle.mpx_post.specs.Births.{BirthView, same_birth}
@@ -110,11 +114,6 @@ module _ {K V : Type 0} {R : K → K → Ordering} (o : IsTotalOrder R) (exact :
 -- VALUES THAT ARE TOLD ONCE
 
 module _ {A : Type 0} (equal : A → A → Bool) where
-  pub join_unknown : (v : FlatView A) → flat_join equal v unknown ≡ v
-  join_unknown unknown = refl
-  join_unknown (known a) = refl
-  join_unknown clash = refl
-
   known_or_clash : (same : Bool) (a : A) → is_unknown (cond same (known a) clash) ≡ false
   known_or_clash true a = refl
   known_or_clash false a = refl

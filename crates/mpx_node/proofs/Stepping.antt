@@ -9,6 +9,7 @@ use Rattle.std.specs.declared.cmp.Ordering.{Ordering}
 use Rattle.std.specs.declared.cmp.Ordering.TheVariants.{Less, Equal, Greater}
 use Rattle.std.specs.BTreeMap.{BTreeMap, get, get_by, is_at, WritesThrough}
 use Rattle.join_core.specs.declared.memory.OutOfMemory.{OutOfMemory}
+use Rattle.join_core.specs.Cases.{yes, no, answer, is_tied}
 use Rattle.join_core.specs.Flat.{known, unknown}
 use Rattle.mpx_name.specs.Order.{name_cmp, name_total, name_exact}
 use Rattle.mpx_post.specs.Posts.{Given}
@@ -40,23 +41,10 @@ tied_either Greater s e = ap is_eq e
 either : (n name : Name) → same_name n name ≡ is_at (name_cmp name) n
 either n name = tied_either (name_cmp name n) (name_cmp n name) (name_total.antisymm n name)
 
-is_tied : (r : Ordering) → is_eq r ≡ true → r ≡ Equal
-is_tied Less e = cc e
-is_tied Equal e = refl
-is_tied Greater e = cc e
-
 same_is : (n name : Name) → is_at (name_cmp name) n ≡ true → n ≡ name
 same_is n name t = sym (name_exact name n (is_tied _ t))
 
 -- A WRITE
-
-pub data Answer (b : Bool) : Type 0 where
-  yes : b ≡ true → Answer b
-  no : b ≡ false → Answer b
-
-answer : (b : Bool) → Answer b
-answer true = yes refl
-answer false = no refl
 
 abbrev pub Contexts : Type 0
 Contexts = Name → Option OpenedView

@@ -6,7 +6,8 @@ use Rattle.std.proofs.lemmas.Result.{on_ok_weaker, on_err_weaker, MatchResult-fr
 use Rattle.join_core.specs.Flat.{flat_join, known, unknown}
 use Rattle.join_core.specs.FlatSeen.{flat_view}
 use Rattle.join_nest.specs.Seen.{keyed_view}
-use Rattle.join_nest.specs.Trunc.{TruncView, same_calls}
+use Rattle.join_nest.specs.Trunc.{TruncView}
+use Rattle.join_nest.specs.TruncLaws.{same_calls}
 use Rattle.join_nest.specs.TruncSeen.{trunc_view}
 use Rattle.mpx_post.specs.Equality.{same_given}
 use Rattle.mpx_board.specs.Parts.{CallView}

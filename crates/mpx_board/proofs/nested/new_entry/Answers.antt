@@ -7,7 +7,7 @@ use Rattle.join_core.specs.Flat.{unknown}
 use Rattle.join_core.specs.FlatSeen.{flat_view}
 use Rattle.join_nest.specs.Seen.{keyed_view}
 use Rattle.join_nest.specs.TruncSeen.{trunc_view}
-use Rattle.join_nest.specs.Entries.{both_true}
+use Rattle.join_core.specs.Cases.{both_true}
 use Rattle.join_nest.specs.Trunc.{TruncView}
 use Rattle.mpx_board.specs.Boards.{nothing}
 use Rattle.mpx_board.specs.Parts.{OfProcesses, CallView}

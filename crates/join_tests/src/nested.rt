@@ -1,25 +1,9 @@
-// Each join at a concrete type, through the bound.
-use crate::{Keyed, Trunc};
+// Joins made of joins.
+use crate::laws::laws_hold;
 use join_core::{Exact, Flat, Join, Max, OutOfMemory};
+use join_nest::{Keyed, Trunc};
 use std::alloc::Global;
 use std::test::Fail;
-
-// Whether the laws are seen to hold of these two values.
-fn laws_hold<J: Join>(alloc: Global, a: &J, b: &J) -> Result<bool, OutOfMemory> {
-    let joined = a.joined(alloc, b)?;
-    let turned = b.joined(alloc, a)?;
-    let served = b.joined(alloc, &a.delta(alloc, b)?)?;
-    let copy = joined.copy(alloc)?;
-    Ok(
-        joined.same(&turned)
-            && joined.same(&served)
-            && joined.same(&copy)
-            && a.leq(&joined)
-            && b.leq(&joined)
-            && a.delta(alloc, b)?.leq(a)
-            && a.delta(alloc, a)?.leq(b),
-    )
-}
 
 // The map of these entries.
 fn map_of(alloc: Global, entries: &[(u32, u32)]) -> Result<Keyed<u32, Max>, OutOfMemory> {

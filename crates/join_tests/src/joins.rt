@@ -1,24 +1,8 @@
-// Each join at a concrete type, through the bound.
-use crate::{Exact, Flat, Join, Key, Max, OutOfMemory, Pair};
+// The joins of one value and of two.
+use crate::laws::laws_hold;
+use join_core::{Exact, Flat, Join, Key, Max, OutOfMemory, Pair};
 use std::alloc::Global;
 use std::test::Fail;
-
-// Whether the laws are seen to hold of these two values.
-fn laws_hold<J: Join>(alloc: Global, a: &J, b: &J) -> Result<bool, OutOfMemory> {
-    let joined = a.joined(alloc, b)?;
-    let turned = b.joined(alloc, a)?;
-    let served = b.joined(alloc, &a.delta(alloc, b)?)?;
-    let copy = joined.copy(alloc)?;
-    Ok(
-        joined.same(&turned)
-            && joined.same(&served)
-            && joined.same(&copy)
-            && a.leq(&joined)
-            && b.leq(&joined)
-            && a.delta(alloc, b)?.leq(a)
-            && a.delta(alloc, a)?.leq(b),
-    )
-}
 
 // Whether a copy of the key is the key.
 fn copies<K: Key>(alloc: Global, key: &K) -> Result<bool, OutOfMemory> {
