@@ -4,3 +4,6 @@ pub mod Max
 pub mod Flat
 pub mod FlatSeen
 pub mod Pair
+pub mod Cases
+pub mod FlatLaws
+pub mod PairLaws

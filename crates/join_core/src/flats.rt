@@ -1,4 +1,5 @@
-ghost use Rattle.join_core.specs.Flat.{FlatView, flat_equal, flat_joining, flat_equality, flat_laws};
+ghost use Rattle.join_core.specs.Flat.{FlatView, flat_equal, flat_joining};
+ghost use Rattle.join_core.specs.FlatLaws.{flat_equality, flat_laws};
 ghost use Rattle.join_core.specs.FlatSeen.{flat_view};
 
 use crate::{Exact, Join, OutOfMemory};

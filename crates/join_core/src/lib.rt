@@ -20,6 +20,3 @@ pub use memory::OutOfMemory;
 pub use numbers::Max;
 pub use pairs::Pair;
 pub use values::{Exact, Join, Key};
-
-#[cfg(test)]
-mod tests;

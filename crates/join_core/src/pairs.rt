@@ -1,4 +1,5 @@
-ghost use Rattle.join_core.specs.Pair.{pair_equal, pair_joining, pair_equality, pair_laws};
+ghost use Rattle.join_core.specs.Pair.{pair_equal, pair_joining};
+ghost use Rattle.join_core.specs.PairLaws.{pair_equality, pair_laws};
 
 use crate::{Exact, Join, OutOfMemory};
 use std::alloc::Global;

@@ -12,12 +12,17 @@ use Rattle.std.specs.FinMap.Entries.{by_order, where_key, is_sorted-where_key, f
 use Rattle.join_core.specs.Laws.{Joining}
 use Rattle.join_core.specs.Max.{greater_only}
 use Rattle.join_nest.specs.Optional.{option_join, option_delta}
-use Rattle.join_nest.specs.Entries.{first_true, second_true, both_true, merge, entries_delta, entries_leq, sorted_merge, find_merge, sorted_delta, find_delta, yes, no, answer}
-use Rattle.join_nest.specs.Keyed.{keyed_joining, get_join}
+use Rattle.join_core.specs.Cases.{first_true, second_true, both_true, yes, no, answer}
+use Rattle.join_nest.specs.Entries.{merge, entries_delta, entries_leq}
+use Rattle.join_nest.specs.EntriesLaws.{sorted_merge, find_merge, sorted_delta, find_delta}
+use Rattle.join_nest.specs.Keyed.{keyed_joining}
+use Rattle.join_nest.specs.KeyedLaws.{get_join}
 use Rattle.join_nest.specs.Seen.{seen, keyed_view}
 use Rattle.join_nest.specs.Place.{IsAt, IsGap, IsFront}
 use Rattle.join_nest.specs.TruncSeen.{trunc_view, is_from_seen}
-use Rattle.join_nest.specs.Trunc.{is_from, trunc_of, cut, trunc_joining, same_trunc, same_calls, find_dropped, get_cut, from_finds, drop_below}
+use Rattle.join_nest.specs.Cut.{is_from, cut, get_cut, from_finds}
+use Rattle.join_nest.specs.Trunc.{trunc_of, trunc_joining, drop_below}
+use Rattle.join_nest.specs.TruncLaws.{same_trunc, same_calls, find_dropped}
 use Rattle.join_nest.proofs.Places.{holds, holding, rises}
 use Rattle.join_nest.proofs.Views.{seen_sorted, get_view, sorted_made, leq_view, joined_view, delta_view}
 use Rattle.join_nest.proofs.Steps.{find_seen}

@@ -5,3 +5,8 @@ pub mod Seen
 pub mod Place
 pub mod Trunc
 pub mod TruncSeen
+pub mod OptionalLaws
+pub mod EntriesLaws
+pub mod KeyedLaws
+pub mod Cut
+pub mod TruncLaws

@@ -11,6 +11,3 @@ mod truncs;
 
 pub use maps::Keyed;
 pub use truncs::Trunc;
-
-#[cfg(test)]
-mod tests;

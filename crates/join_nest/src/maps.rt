@@ -1,7 +1,8 @@
 ghost use Rattle.std.specs.Prelude.{◌≡◌, nat_eq, IsTrue, IfOk, OnOk, OnErr};
 ghost use Rattle.std.specs.FinMap.{FinMap, is_sorted, empty, get, entries, len, insert};
 ghost use Rattle.std.specs.Option.{option_map, option_copied};
-ghost use Rattle.join_nest.specs.Keyed.{keyed_equal, keyed_joining, keyed_equality, keyed_laws, replaced};
+ghost use Rattle.join_nest.specs.Keyed.{keyed_equal, keyed_joining, replaced};
+ghost use Rattle.join_nest.specs.KeyedLaws.{keyed_equality, keyed_laws};
 ghost use Rattle.join_nest.specs.Seen.{keyed_view, seen};
 
 use crate::entries::{

@@ -4,9 +4,11 @@ use Rattle.std.specs.Prelude.{nat_le, slice_get}
 use Rattle.std.specs.List.{fold}
 use Rattle.std.proofs.lemmas.Option.{same_Some}
 use Rattle.std.proofs.lemmas.Bool.Decides.{nat_tests}
-use Rattle.join_core.specs.Flat.{FlatView, unknown, known, clash, flat_join, flat_leq, flat_joining, flat_laws}
-use Rattle.join_core.specs.Order.{IsOrder, IsLeastUpperBound, order_laws, bound_laws}
-use Rattle.join_nest.specs.Entries.{yes, no, answer}
+use Rattle.join_core.specs.Flat.{FlatView, unknown, known, clash, flat_join, flat_leq, flat_joining}
+use Rattle.join_core.specs.FlatLaws.{flat_laws}
+use Rattle.join_core.specs.Order.{IsOrder, IsLeastUpperBound}
+use Rattle.join_core.proofs.Orders.{order_laws, bound_laws}
+use Rattle.join_core.specs.Cases.{yes, no, answer}
 use Rattle.mpx_post.specs.Posts.{Given}
 use Rattle.mpx_post.specs.Equality.{same_given, given_equality}
 use Rattle.mpx_post.specs.Births.{same_birth, birth_equality}
@@ -116,13 +118,13 @@ context_both x y z s t = record {
   posts = λ k p. join_under (nat_le (max x.dropped y.dropped) k) z.dropped k _ _ (z.posts k p) (s.posts k p) (t.posts k p);
 }
 
-under_first : (a b : Look) → IsUnder a (join a b)
+pub under_first : (a b : Look) → IsUnder a (join a b)
 under_first a b = record { contexts = λ name. context_first (a.contexts name) (b.contexts name); acks = λ q name p. omega arith }
 
-under_second : (a b : Look) → IsUnder b (join a b)
+pub under_second : (a b : Look) → IsUnder b (join a b)
 under_second a b = record { contexts = λ name. context_second (a.contexts name) (b.contexts name); acks = λ q name p. omega arith }
 
-under_both : (a b d : Look) → IsUnder a d → IsUnder b d → IsUnder (join a b) d
+pub under_both : (a b d : Look) → IsUnder a d → IsUnder b d → IsUnder (join a b) d
 under_both a b d s t = record {
   contexts = λ name. context_both (a.contexts name) (b.contexts name) (d.contexts name) (s.contexts name) (t.contexts name);
   acks = λ q name p. omega (arith, s.acks q name p, t.acks q name p);
@@ -143,7 +145,7 @@ births_order = order_laws (flat_laws birth_equality)
 posts_order : IsOrder (flat_joining same_given)
 posts_order = order_laws (flat_laws given_equality)
 
-under_itself : (a : Look) → IsUnder a a
+pub under_itself : (a : Look) → IsUnder a a
 under_itself a = record {
   contexts = λ name. record {
     birth = births_order.reflexive (a.contexts name).birth;
@@ -167,17 +169,21 @@ context_through x y z s t = record {
   posts = λ k p. post_through y.dropped z.dropped k (x.posts k p) (y.posts k p) (z.posts k p) t.dropped (s.posts k p) (t.posts k p);
 }
 
-under_through : (a b c : Look) → IsUnder a b → IsUnder b c → IsUnder a c
+pub under_through : (a b c : Look) → IsUnder a b → IsUnder b c → IsUnder a c
 under_through a b c s t = record {
   contexts = λ name. context_through (a.contexts name) (b.contexts name) (c.contexts name) (s.contexts name) (t.contexts name);
   acks = λ q name p. omega (arith, s.acks q name p, t.acks q name p);
 }
 
-fold_above : (bs : List Look) (a : Look) → IsUnder a (fold join a bs)
+-- what is below a board is below each one above that
+pub below_through : (a b c : Look) → IsBelow a b → IsBelow b c → IsBelow a c
+below_through a b c s t = facts_below a c (under_through a b c (looks_below a b s) (looks_below b c t))
+
+pub fold_above : (bs : List Look) (a : Look) → IsUnder a (fold join a bs)
 fold_above [] a = under_itself a
 fold_above (b ∷ bs) a = under_through a (join a b) (fold join (join a b) bs) (under_first a b) (fold_above bs (join a b))
 
-fold_above_each : (bs : List Look) (a : Look) (i : ℕ) (b : Look) → slice_get bs i ≡ Some b → IsUnder b (fold join a bs)
+pub fold_above_each : (bs : List Look) (a : Look) (i : ℕ) (b : Look) → slice_get bs i ≡ Some b → IsUnder b (fold join a bs)
 fold_above_each [] a i b e = cc e
 fold_above_each (x ∷ bs) a zero b e =
     let same : x ≡ b = same_Some x b e in
@@ -188,7 +194,7 @@ fold_under : (bs : List Look) (a d : Look) → IsUnder a d → ((i : ℕ) (b : L
 fold_under [] a d s h = s
 fold_under (x ∷ bs) a d s h = fold_under bs (join a x) d (under_both a x d s (h 0 x refl)) (λ i b e. h (suc i) b e)
 
-empty_under : (d : Look) → IsUnder empty d
+pub empty_under : (d : Look) → IsUnder empty d
 empty_under d = record { contexts = λ name. record { birth = refl; fronts = λ p. omega arith; dropped = omega arith; posts = λ k p. inr refl }; acks = λ q name p. omega arith }
 
 pub join_all_is_least : (bs : List Look) → IsLeastAboveAll bs (join_all bs)

@@ -8,14 +8,16 @@ use Rattle.std.proofs.lemmas.Bool.Decides.{nat_tests}
 use Rattle.join_core.specs.Flat.{FlatView, unknown, known, clash, flat_join, flat_joining}
 use Rattle.join_core.specs.Max.{max_joining}
 use Rattle.join_nest.specs.Optional.{option_join}
-use Rattle.join_nest.specs.Keyed.{get_join}
-use Rattle.join_nest.specs.Trunc.{get_trunc_join, get_dropped}
+use Rattle.join_nest.specs.KeyedLaws.{get_join}
+use Rattle.join_nest.specs.TruncLaws.{get_trunc_join, get_dropped}
 use Rattle.mpx_name.specs.Order.{name_cmp, name_total}
 use Rattle.mpx_post.specs.Posts.{Given}
 use Rattle.mpx_post.specs.Equality.{same_given}
 use Rattle.mpx_post.specs.Births.{same_birth}
 use Rattle.mpx_board.specs.Boards.{Name, nothing, empty, join, join_contexts}
 use Rattle.mpx_board.specs.Parts.{OfProcesses, CallView, EntryView, AcksView, PartsView, numbers_joining, call_joining, entry_joining, acks_joining, parts_joining}
+use Rattle.join_core.specs.FlatLaws.{join_unknown}
+use Rattle.mpx_board.proofs.Telling.{nothing_told}
 use Rattle.mpx_board.specs.Contexts.{or_zero, or_unknown, post_in, context_of, or_nothing, number_in, ack_in, look_of}
 
 pub look-empty : look_of (no_entry, no_entry) ≡ empty
@@ -44,23 +46,14 @@ ack_join name p (Some a) (Some b) = ap (number_in p) (get_join name_total number
 
 -- JOINS OF POSTS
 
-nothing_new : {A : Type 0} (same : A → A → Bool) (v : FlatView A) → v ≡ flat_join same v unknown
-nothing_new same unknown = refl
-nothing_new same (known x) = refl
-nothing_new same clash = refl
-
-never_told : {A : Type 0} (t : Bool) → ◌≡◌ {A = FlatView A} unknown (cond t unknown unknown)
-never_told true = refl
-never_told false = refl
-
 told_join : (x y : Option (FlatView Given)) → or_unknown (option_join (flat_joining same_given) x y) ≡ flat_join same_given (or_unknown x) (or_unknown y)
 told_join None y = refl
-told_join (Some v) None = nothing_new same_given v
+told_join (Some v) None = sym (join_unknown same_given v)
 told_join (Some v) (Some w) = refl
 
 pub post_join : (p : ℕ) (x y : Option CallView) → post_in p (option_join call_joining x y) ≡ flat_join same_given (post_in p x) (post_in p y)
 post_join p None y = refl
-post_join p (Some a) None = nothing_new same_given (or_unknown (get a p))
+post_join p (Some a) None = sym (join_unknown same_given (or_unknown (get a p)))
 post_join p (Some a) (Some b) = ap or_unknown (get_join nat_cmp_total (flat_joining same_given) a b p) ∙ told_join (get a p) (get b p)
 
 -- JOINS OF ENTRIES
@@ -101,23 +94,10 @@ nothing_first e i = record {
   zero_first : (n : ℕ) → n ≡ max 0 n
   zero_first n = omega arith
 
-nothing_second : (e : EntryView) → context_of e ≡ join_contexts (context_of e) nothing
-nothing_second e i = record {
-  birth = nothing_new same_birth e.0 i;
-  fronts = λ p. zero_second (or_zero (get e.1.0 p)) i;
-  dropped = zero_second e.1.1.dropped i;
-  posts = λ k p. (no_call (nat_le e.1.1.dropped k) p (get e.1.1.calls k) (get_dropped e.1.1 k) ∙ (λ j. cond (nat_le (zero_second e.1.1.dropped j) k) (nothing_new same_given (post_in p (get e.1.1.calls k)) j) unknown)) i;
-} where
-  zero_second : (n : ℕ) → n ≡ max n 0
-  zero_second n = omega arith
-
-nothing_twice : nothing ≡ join_contexts nothing nothing
-nothing_twice i = record { birth = unknown; fronts = λ p. 0; dropped = 0; posts = λ k p. never_told (nat_le 0 k) i }
-
 context_join : (x y : Option EntryView) → or_nothing (option_join entry_joining x y) ≡ join_contexts (or_nothing x) (or_nothing y)
-context_join None None = nothing_twice
+context_join None None = nothing_told None
 context_join None (Some f) = nothing_first f
-context_join (Some e) None = nothing_second e
+context_join (Some e) None = nothing_told (Some e)
 context_join (Some e) (Some f) = entry_join e f
 
 -- JOINS OF BOARDS
@@ -128,3 +108,13 @@ look-join a b i = record {
   contexts = λ name. (ap or_nothing (get_join name_total entry_joining a.0 b.0 name) ∙ context_join (get a.0 name) (get b.0 name)) i;
   acks = λ q name p. (ap (ack_in name p) (get_join nat_cmp_total acks_joining a.1 b.1 q) ∙ ack_join name p (get a.1 q) (get b.1 q)) i;
 }
+
+-- the board that knows nothing adds nothing
+pub join-empty : (a : PartsView) → join empty (look_of a) ≡ look_of a
+unfolding look_of
+join-empty a i = record {
+  contexts = λ name. sym (context_join None (get a.0 name)) i;
+  acks = λ q name p. no_ack (ack_in name p (get a.1 q)) i;
+} where
+  no_ack : (n : ℕ) → max 0 n ≡ n
+  no_ack n = omega arith

@@ -7,11 +7,14 @@ use Rattle.std.specs.FinMap.{FinMap, get, nat_cmp-IsAntisymmetric}
 use Rattle.std.proofs.lemmas.Bool.Decides.{nat_tests}
 use Rattle.join_core.specs.Flat.{FlatView, unknown, known, clash, flat_leq, flat_joining}
 use Rattle.join_core.specs.Max.{max_joining}
-use Rattle.join_core.specs.Order.{IsOrder, order_laws}
-use Rattle.join_nest.specs.Entries.{yes, no, answer, both_true, first_true, second_true}
+use Rattle.join_core.specs.Order.{IsOrder}
+use Rattle.join_core.proofs.Orders.{order_laws}
+use Rattle.join_core.specs.Cases.{yes, no, answer, both_true, first_true, second_true}
 use Rattle.join_nest.specs.Optional.{option_leq}
-use Rattle.join_nest.specs.Keyed.{keyed_joining, leq_gets, gets_leq}
-use Rattle.join_nest.specs.Trunc.{trunc_joining, cut, get_cut}
+use Rattle.join_nest.specs.Keyed.{keyed_joining}
+use Rattle.join_nest.specs.KeyedLaws.{leq_gets, gets_leq}
+use Rattle.join_nest.specs.Trunc.{trunc_joining}
+use Rattle.join_nest.specs.Cut.{cut, get_cut}
 use Rattle.mpx_name.specs.Order.{name_total, name_exact}
 use Rattle.mpx_post.specs.Posts.{Given}
 use Rattle.mpx_post.specs.Equality.{same_given}

@@ -1,25 +1,29 @@
 -- What is told of a context, by look-ups.
-use Rattle.std.proofs.Common.{◌≡◌, ℕ, ◌<◌, ◌≤◌, ◌==◌, ◌&&◌, Bool, true, false, not, cond, nat_le, nat_lt, is_some, max, map, Option, Some, None, refl, sym, ap, ◌∙◌, arith}
+use Rattle.std.proofs.Common.{◌≡◌, ℕ, ◌<◌, ◌≤◌, ◌==◌, ◌&&◌, Bool, true, false, not, cond, nat_le, nat_lt, is_some, max, map, Option, Some, None, refl, sym, ap, ◌∙◌, subst, arith}
 use Rattle.std.proofs.lemmas.Bool.Decides.{nat_tests}
 use Rattle.std.specs.Option.{option_map}
 use Rattle.std.specs.declared.cmp.Ordering.{Ordering}
 use Rattle.std.specs.Ordering.{eq_by_cmp, is_eq, nat_cmp}
 use Rattle.std.specs.Cmp.{IsTotalOrder, tied_itself, unsigned_tied, nat_cmp_total}
 use Rattle.std.specs.FinMap.{FinMap, empty, get, get-empty, get-insert, get_tied, insert, same_map, IsAntisymmetric, nat_cmp-IsAntisymmetric}
+use Rattle.join_core.specs.FlatLaws.{join_unknown}
 use Rattle.join_core.specs.Flat.{FlatView, unknown, known, clash, flat_join}
-use Rattle.join_nest.specs.Entries.{answer, yes, no, is_tied, both_true, first_true, second_true}
-use Rattle.join_nest.specs.Keyed.{replaced, get_replaced}
-use Rattle.join_nest.specs.Trunc.{TruncView, get_dropped, same_trunc, drop_below, get_cut}
+use Rattle.join_core.specs.Cases.{answer, yes, no, is_tied, both_true, first_true, second_true}
+use Rattle.join_nest.specs.Keyed.{replaced}
+use Rattle.join_nest.specs.KeyedLaws.{get_replaced}
+use Rattle.join_nest.specs.Trunc.{TruncView, drop_below}
+use Rattle.join_nest.specs.TruncLaws.{get_dropped, same_trunc}
+use Rattle.join_nest.specs.Cut.{get_cut}
 use Rattle.mpx_post.specs.Posts.{Given}
 use Rattle.mpx_post.specs.Equality.{same_given}
 use Rattle.mpx_post.specs.Births.{BirthView, same_birth}
 use Rattle.mpx_name.specs.Order.{name_cmp, name_total, name_exact}
-use Rattle.mpx_board.specs.Boards.{Name, same_name, Context, nothing, join_contexts, join, about, only, Front, told, floor_on, minimum}
+use Rattle.mpx_board.specs.Boards.{Name, same_name, Context, nothing, join_contexts, join, about, only, Front, Dropped, told, floor_on, minimum}
 use Rattle.mpx_board.specs.Parts.{OfProcesses, OfNames, CallView, EntryView, PartsView}
 use Rattle.mpx_board.specs.Contexts.{context_of, or_nothing, or_unknown, or_zero, post_in, ack_in, look_of}
 use Rattle.mpx_post.specs.Drafts.{most_calls}
 use Rattle.mpx_board.specs.Tidy.{all_entries, are_tidy_entries, are_tidy_posts, has_no_zero, is_bare, is_neat_entry, is_tidy_call, is_tidy_entry, is_tidy_numbers, is_unknown, says_nothing}
-use Rattle.mpx_board.specs.Told.{told_at}
+use Rattle.mpx_board.specs.Fact.{told_at}
 use Rattle.mpx_board.proofs.Entries.{entries_get, get_entries, get_not_bare, all_empty}
 
 -- A VALUE SET IN A MAP
@@ -110,11 +114,6 @@ module _ {K V : Type 0} {R : K → K → Ordering} (o : IsTotalOrder R) (exact :
 -- VALUES THAT ARE TOLD ONCE
 
 module _ {A : Type 0} (equal : A → A → Bool) where
-  join_unknown : (v : FlatView A) → flat_join equal v unknown ≡ v
-  join_unknown unknown = refl
-  join_unknown (known a) = refl
-  join_unknown clash = refl
-
   known_or_clash : (same : Bool) (a : A) → is_unknown (cond same (known a) clash) ≡ false
   known_or_clash true a = refl
   known_or_clash false a = refl
@@ -237,7 +236,7 @@ never_posted : (d k : ℕ) → ◌≡◌ {A = FlatView Given} unknown (cond (nat
 never_posted d k = elim (nat_le d k) as (λ b. ◌≡◌ {A = FlatView Given} unknown (cond b unknown unknown)) [ true ↦ refl | false ↦ refl ]
 
 -- nothing told changes nothing
-nothing_told : (o : Option EntryView) → or_nothing o ≡ join_contexts (or_nothing o) nothing
+pub nothing_told : (o : Option EntryView) → or_nothing o ≡ join_contexts (or_nothing o) nothing
 nothing_told None = same_context nothing (join_contexts nothing nothing) refl (λ p. max_none 0) (max_none 0) (λ k p. never_posted (max 0 0) k)
 nothing_told (Some e) = entry_stays e
 
@@ -277,14 +276,18 @@ posts_dropped e front = same_context (context_of (e.0, (e.1.0, drop_below front 
     refl
     (λ k p. ap (post_in p) (get_cut (max e.1.1.dropped front) e.1.1.calls k) ∙ posts_left (nat_le (max e.1.1.dropped front) k) (get e.1.1.calls k) p)
 
--- at front 0 nothing is dropped
-none_dropped : (t : TruncView CallView) (front : ℕ) → front ≡ 0 → drop_below front t ≡ t
-none_dropped t front none = same_trunc (drop_below front t) t (omega arith) (λ q.
+-- at a front that is no later nothing is dropped
+none_dropped : (t : TruncView CallView) (front : ℕ) → front ≤ t.dropped → drop_below front t ≡ t
+none_dropped t front no_later = same_trunc (drop_below front t) t (omega (arith, no_later)) (λ q.
     get_cut (max t.dropped front) t.calls q
     ∙ elim (answer (nat_le t.dropped q)) [
-      | yes h ↦ let kept : nat_le (max t.dropped front) q ≡ true = grind (arith, nat_tests) in rw kept refl
-      | no n ↦ let cut : nat_le (max t.dropped front) q ≡ false = grind (arith, nat_tests) in rw cut (sym (get_dropped t q n))
+      | yes h ↦ let kept : nat_le (max t.dropped front) q ≡ true = grind (arith, nat_tests, no_later) in rw kept refl
+      | no n ↦ let cut : nat_le (max t.dropped front) q ≡ false = grind (arith, nat_tests, no_later) in rw cut (sym (get_dropped t q n))
     ])
+
+dropped_stays : (o : Option EntryView) (front : ℕ) → front ≤ (or_nothing o).dropped → or_nothing o ≡ join_contexts (or_nothing o) (record nothing { dropped = front })
+dropped_stays None front no_later = let zero : front ≡ 0 = omega (arith, no_later) in nothing_told None ∙ ap (λ d. join_contexts nothing (record nothing { dropped = d })) (sym zero)
+dropped_stays (Some e) front no_later = ap (λ t. context_of (e.0, (e.1.0, t))) (sym (none_dropped e.1.1 front no_later)) ∙ posts_dropped e front
 
 calls_left_tidy : (t : TruncView CallView) (front : ℕ) → all_entries is_tidy_call t.calls ≡ true → all_entries is_tidy_call (drop_below front t).calls ≡ true
 calls_left_tidy t front neat = get_entries nat_cmp_total nat_cmp-IsAntisymmetric is_tidy_call (drop_below front t).calls each where
@@ -350,6 +353,17 @@ pub look_stays : (b : PartsView) (name : Name) (process number : ℕ) → number
 look_stays b name process number none = look_told b b.0 name (record nothing { fronts = λ p. cond (p == process) number 0 }) (λ n.
     nothing_told (get b.0 n)
     ∙ ap (join_contexts (or_nothing (get b.0 n))) (nothing_at (same_name n name) (record nothing { fronts = λ p. cond (p == process) number 0 }) (λ i. record nothing { fronts = λ p. no_front (p == process) number none i })))
+
+dropped_at : (entries : OfNames EntryView) (name : Name) (front : ℕ) → front ≤ (or_nothing (get entries name)).dropped → (n : Name) → or_nothing (get entries n) ≡ join_contexts (or_nothing (get entries n)) (told_at name (record nothing { dropped = front }) n)
+dropped_at entries name front no_later n = elim (answer (same_name n name)) [
+  | yes t ↦ rw t (dropped_stays (get entries n) front (subst (λ o. front ≤ (or_nothing o).dropped) (get_tied name_total entries n name (is_tied _ t)) no_later))
+  | no f ↦ rw f (nothing_told (get entries n))
+]
+
+-- that posts are dropped which are dropped already
+pub drop_stays : (b : PartsView) (name : Name) (front : ℕ) → front ≤ ((look_of b).contexts name).dropped → look_of b ≡ join (look_of b) (only (Dropped name front))
+unfolding look_of
+drop_stays b name front no_later = look_told b b.0 name (record nothing { dropped = front }) (dropped_at b.0 name front no_later)
 
 known_birth : (o : Option EntryView) (least : BirthView → ℕ) (floor : ℕ) → Some floor ≡ option_map least (told (or_nothing o).birth) → is_some o ≡ true
 known_birth None least floor is = cc

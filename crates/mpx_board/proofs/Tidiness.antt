@@ -6,14 +6,18 @@ use Rattle.std.specs.Ordering.{nat_cmp}
 use Rattle.std.specs.Cmp.{IsTotalOrder, nat_cmp_total}
 use Rattle.std.specs.FinMap.{get, get-empty, empty, nat_cmp-IsAntisymmetric, IsAntisymmetric}
 use Rattle.join_core.specs.Laws.{Joining, JoinLaws}
-use Rattle.join_core.specs.Order.{join_above, order_laws}
+use Rattle.join_core.proofs.Orders.{join_above, order_laws}
 use Rattle.join_core.specs.Max.{max_joining, max_laws}
-use Rattle.join_core.specs.Flat.{FlatView, unknown, known, clash, flat_join, flat_leq, flat_joining, flat_laws}
+use Rattle.join_core.specs.Flat.{FlatView, unknown, known, clash, flat_join, flat_leq, flat_joining}
+use Rattle.join_core.specs.FlatLaws.{flat_laws}
 use Rattle.join_core.specs.Pair.{pair_joining}
 use Rattle.join_nest.specs.Optional.{option_join, option_leq, option_delta}
-use Rattle.join_nest.specs.Entries.{answer, yes, no, both_true, first_true, second_true}
-use Rattle.join_nest.specs.Keyed.{keyed_joining, keyed_laws, get_join, get_delta, leq_gets, gets_leq}
-use Rattle.join_nest.specs.Trunc.{TruncView, cut, trunc_of, get_cut, trunc_joining, get_trunc_join, get_trunc_delta}
+use Rattle.join_core.specs.Cases.{answer, yes, no, both_true, first_true, second_true}
+use Rattle.join_nest.specs.Keyed.{keyed_joining}
+use Rattle.join_nest.specs.KeyedLaws.{keyed_laws, get_join, get_delta, leq_gets, gets_leq}
+use Rattle.join_nest.specs.Trunc.{TruncView, trunc_of, trunc_joining}
+use Rattle.join_nest.specs.Cut.{cut, get_cut}
+use Rattle.join_nest.specs.TruncLaws.{get_trunc_join, get_trunc_delta}
 use Rattle.mpx_name.specs.Order.{name_total, name_exact}
 use Rattle.mpx_post.specs.Equality.{same_given, given_equality}
 use Rattle.mpx_post.specs.Births.{same_birth}

@@ -6,10 +6,14 @@ use Rattle.join_core.specs.Laws.{IsEquality, Joining, JoinLaws}
 use Rattle.join_core.specs.Max.{nat_equality, max_joining, max_laws}
 use Rattle.std.specs.Cmp.{nat_cmp_total}
 use Rattle.std.specs.FinMap.{nat_cmp-IsAntisymmetric}
-use Rattle.join_core.specs.Flat.{FlatView, flat_equal, flat_joining, flat_equality, flat_laws}
-use Rattle.join_core.specs.Pair.{pair_equal, pair_joining, pair_equality, pair_laws}
-use Rattle.join_nest.specs.Keyed.{keyed_equal, keyed_joining, keyed_equality, keyed_laws}
-use Rattle.join_nest.specs.Trunc.{TruncView, trunc_equal, trunc_joining, trunc_equality, trunc_laws}
+use Rattle.join_core.specs.Flat.{FlatView, flat_equal, flat_joining}
+use Rattle.join_core.specs.FlatLaws.{flat_equality, flat_laws}
+use Rattle.join_core.specs.Pair.{pair_equal, pair_joining}
+use Rattle.join_core.specs.PairLaws.{pair_equality, pair_laws}
+use Rattle.join_nest.specs.Keyed.{keyed_equal, keyed_joining}
+use Rattle.join_nest.specs.KeyedLaws.{keyed_equality, keyed_laws}
+use Rattle.join_nest.specs.Trunc.{TruncView, trunc_equal, trunc_joining}
+use Rattle.join_nest.specs.TruncLaws.{trunc_equality, trunc_laws}
 use Rattle.mpx_name.specs.Order.{name_cmp, name_total, name_exact}
 use Rattle.mpx_post.specs.Posts.{Given}
 use Rattle.mpx_post.specs.Equality.{same_given, given_equality}

@@ -1,4 +1,4 @@
-ghost use Rattle.std.specs.Prelude.{◌≡◌, ◌↔◌, ◌<◌, true, false, not, map, IfOk, OnOk, OnErr, IsErrOf, MatchOption, IsTrue};
+ghost use Rattle.std.specs.Prelude.{◌≡◌, ◌↔◌, ◌<◌, ◌≤◌, true, false, not, map, IfOk, OnOk, OnErr, IsErrOf, MatchOption, IsTrue};
 ghost use Rattle.std.specs.Option.{option_copied, option_map};
 ghost use Rattle.join_core.specs.Flat.{known as knows};
 ghost use Rattle.mpx_board.specs.declared.errors.AddPostError.TheVariants as A;
@@ -7,10 +7,11 @@ ghost use Rattle.mpx_board.specs.Changes.{is_posted, pruned, cut_to};
 ghost use Rattle.mpx_board.specs.Contexts.{context_of, post_in};
 ghost use Rattle.mpx_post.specs.Drafts.{most_calls};
 ghost use Rattle.mpx_board.specs.Tidy.{is_tidy, is_unknown};
+ghost use Rattle.mpx_board.specs.Views.{view_of_call, view_of_entry, view_of_parts};
 
 use crate::errors::{AddPostError, PruneError};
-use crate::parts::{Call, Entry, Parts, is_tidy_board, known, number_of};
-use crate::told::{Told, drop_posts, tell};
+use crate::fact::{Fact, drop_posts, tell};
+use crate::nested::{Call, Entry, Parts, is_tidy_board, known, number_of};
 use join_core::{Exact, Flat, Join, OutOfMemory, Pair};
 use join_nest::Keyed;
 use mpx_group::Proc;
@@ -26,7 +27,7 @@ use std::alloc::Global;
 #[derive(Debug, Drop)]
 pub struct Board {
     inside: Parts,
-    ghost tidy: { IsTrue (is_tidy (⟦<Parts as Exact>⟧.view inside)) },
+    ghost tidy: { IsTrue (is_tidy (view_of_parts inside)) },
 }
 
 impl Exact for Board {
@@ -92,8 +93,8 @@ impl Board {
     /// memory.
     pub fn of(parts: Parts) -> Option<Board>
         ensures { MatchOption result
-            (is_tidy (⟦<Parts as Exact>⟧.view parts) ≡ false)
-            (λ board. (is_tidy (⟦<Parts as Exact>⟧.view parts) ≡ true) × (parts_of board ≡ ⟦<Parts as Exact>⟧.view parts)) }
+            (is_tidy (view_of_parts parts) ≡ false)
+            (λ board. (is_tidy (view_of_parts parts) ≡ true) × (parts_of board ≡ view_of_parts parts)) }
     {
         if is_tidy_board(&parts) {
             Some(Board { inside: parts })
@@ -104,7 +105,7 @@ impl Board {
 
     /// What stands inside: the entries of contexts by name, and the acknowledgements by process.
     pub fn pair(&self) -> &Parts
-        ensures value { ⟦<Parts as Exact>⟧.view result.now ≡ parts_of self.now }
+        ensures value { view_of_parts result.now ≡ parts_of self.now }
         ensures tidy { IsTrue (is_tidy (parts_of self.now)) }
     {
         &self.inside
@@ -209,7 +210,7 @@ impl Board {
             alloc,
             &mut self.inside.first,
             name,
-            Told::Post {
+            Fact::Post {
                 call,
                 process,
                 post,
@@ -243,7 +244,7 @@ impl Board {
         ensures ok { OnOk result (look self.new ≡ join (look self.old) (only (Born name.now (knows birth)))) }
         ensures err { OnErr result (look self.new ≡ look self.old) }
     {
-        tell(alloc, &mut self.inside.first, name, Told::Birth(birth))
+        tell(alloc, &mut self.inside.first, name, Fact::Birth(birth))
     }
 
     /// Joins to the board that the process has harvested so many calls. An `Err` changes nothing.
@@ -264,7 +265,7 @@ impl Board {
             alloc,
             &mut self.inside.first,
             name,
-            Told::Front { process, number },
+            Fact::Front { process, number },
         )
     }
 
@@ -273,6 +274,7 @@ impl Board {
     pub fn prune(&mut self, name: &Name, number: u32) -> Result<(), PruneError>
         ensures answer { result ≡ pruned (floor_on (look self.old) name.now) number }
         ensures ok { OnOk result (look self.new ≡ join (look self.old) (only (Dropped name.now number))) }
+        ensures dropped { number ≤ ((look self.old).contexts name.now).dropped → look self.new ≡ look self.old }
         ensures err { OnErr result (look self.new ≡ look self.old) }
     {
         match self.floor(name) {
@@ -332,7 +334,7 @@ impl Board {
 
 // The post that the process made as this call, where it is known.
 fn post_of(entry: &Entry, call: u32, process: Proc) -> Option<&Post>
-    ensures { option_copied result ≡ told ((context_of (⟦<Entry as Exact>⟧.view entry.now)).posts call process) }
+    ensures { option_copied result ≡ told ((context_of (view_of_entry entry.now)).posts call process) }
 {
     match entry.second.second.get(&call) {
         None => None,
@@ -345,7 +347,7 @@ fn post_of(entry: &Entry, call: u32, process: Proc) -> Option<&Post>
 
 // Whether something is told of the post of the process.
 fn is_told(posts: Option<&Call>, process: Proc) -> bool
-    ensures { result ≡ not (is_unknown (post_in process (option_map ⟦<Call as Exact>⟧.view (option_copied posts.entry)))) }
+    ensures { result ≡ not (is_unknown (post_in process (option_map view_of_call (option_copied posts.entry)))) }
 {
     match posts {
         None => false,
@@ -358,7 +360,7 @@ fn is_told(posts: Option<&Call>, process: Proc) -> bool
 
 // The least front of all members.
 fn least_front(birth: &Birth, entry: &Entry) -> u32
-    ensures { result ≡ minimum (map (context_of (⟦<Entry as Exact>⟧.view entry.now)).fronts birth.now.members) }
+    ensures { result ≡ minimum (map (context_of (view_of_entry entry.now)).fronts birth.now.members) }
 {
     let fronts = &entry.second.first;
     let members = birth.members();

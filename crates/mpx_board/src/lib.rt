@@ -8,9 +8,9 @@
 
 mod board;
 mod errors;
+mod fact;
 mod laws;
-mod parts;
-mod told;
+mod nested;
 
 pub use board::Board;
 pub use errors::{AddPostError, PruneError};
@@ -18,4 +18,4 @@ pub use laws::{
     boards_are_joined_by_their_facts, boards_are_their_facts, boards_stay_tidy,
     joining_boards_is_a_semilattice,
 };
-pub use parts::{Acks, Call, Entry, Numbers, Parts};
+pub use nested::{Acks, Call, Entry, Parts, VersionVector};

@@ -1,12 +1,15 @@
 -- What a write through the map of opened contexts does, and what the answers of a post and a harvest come to.
 use Rattle.std.proofs.Common.{◌≡◌, ℕ, Bool, true, false, cond, Option, Some, None, refl, sym, ap, ◌∙◌, subst}
-use Rattle.std.specs.Prelude.{Result, Ok, Err, is_some, IsSome, nat_le}
+use Rattle.std.specs.Prelude.{◌<◌, Result, Ok, Err, is_some, IsSome, length, nat_le, nat_lt}
+use Rattle.std.proofs.Common.{arith}
+use Rattle.std.proofs.lemmas.Bool.Decides.{nat_tests}
 use Rattle.std.specs.Option.{option_map}
 use Rattle.std.specs.Ordering.{is_eq, ordering_reverse}
 use Rattle.std.specs.declared.cmp.Ordering.{Ordering}
 use Rattle.std.specs.declared.cmp.Ordering.TheVariants.{Less, Equal, Greater}
 use Rattle.std.specs.BTreeMap.{BTreeMap, get, get_by, is_at, WritesThrough}
 use Rattle.join_core.specs.declared.memory.OutOfMemory.{OutOfMemory}
+use Rattle.join_core.specs.Cases.{yes, no, answer, is_tied}
 use Rattle.join_core.specs.Flat.{known, unknown}
 use Rattle.mpx_name.specs.Order.{name_cmp, name_total, name_exact}
 use Rattle.mpx_post.specs.Posts.{Given}
@@ -19,7 +22,7 @@ use Rattle.mpx_node.specs.declared.opened.Opened.{Opened}
 use Rattle.mpx_node.specs.declared.node.Harvest.{Harvest}
 use Rattle.mpx_node.specs.declared.node.Harvest.TheVariants as H
 use Rattle.mpx_node.specs.declared.finished.Finished.{Finished}
-use Rattle.mpx_node.specs.Nodes.{NodeView, OpenedView, posted_on, front_on, post_at, Posts, next_of, next_result, add_result}
+use Rattle.mpx_node.specs.Nodes.{NodeView, OpenedView, posted_on, front_on, post_at, Posts, next_of, next_result, add_result, result_of}
 use Rattle.mpx_node.specs.Harvests.{Harvests, HarvestsOpened}
 use Rattle.mpx_node.specs.Opened.{opened_of}
 
@@ -38,23 +41,10 @@ tied_either Greater s e = ap is_eq e
 either : (n name : Name) → same_name n name ≡ is_at (name_cmp name) n
 either n name = tied_either (name_cmp name n) (name_cmp n name) (name_total.antisymm n name)
 
-is_tied : (r : Ordering) → is_eq r ≡ true → r ≡ Equal
-is_tied Less e = cc e
-is_tied Equal e = refl
-is_tied Greater e = cc e
-
 same_is : (n name : Name) → is_at (name_cmp name) n ≡ true → n ≡ name
 same_is n name t = sym (name_exact name n (is_tied _ t))
 
 -- A WRITE
-
-pub data Answer (b : Bool) : Type 0 where
-  yes : b ≡ true → Answer b
-  no : b ≡ false → Answer b
-
-answer : (b : Bool) → Answer b
-answer true = yes refl
-answer false = no refl
 
 abbrev pub Contexts : Type 0
 Contexts = Name → Option OpenedView
@@ -130,12 +120,31 @@ module _ (name : Name) (old new : NodeView) (o : OpenedView) (has : old.opened n
   pub harvests_none : next_of (Some o) old.board name old.me ≡ None → new ≡ old → Harvests (is_some (old.opened name)) name (next_result old name) (Ok H.NotYet) old new
   harvests_none e same = opened_here (Ok H.NotYet) (subst (λ x. HarvestsOpened name x (Ok H.NotYet) old new) (sym e) same)
 
-  wants : (next : Option Finished) (e : OutOfMemory) → new ≡ old → HarvestsOpened name next (Err e) old new
-  wants None e same = same
-  wants (Some finished) e same = same
+  wants : (next : Option Finished) (e : OutOfMemory) → IsSome next → new ≡ old → HarvestsOpened name next (Err e) old new
+  wants None e some same = cc some
+  wants (Some finished) e some same = same
 
-  pub harvests_wants : (result : Result Harvest OutOfMemory) (e : OutOfMemory) → result ≡ Err e → new ≡ old → Harvests (is_some (old.opened name)) name (next_result old name) result old new
-  harvests_wants result e re same = subst (λ x. Harvests (is_some (old.opened name)) name (next_result old name) x old new) (sym re) (opened_here (Err e) (wants (next_of (Some o) old.board name old.me) e same))
+  pub harvests_wants : (result : Result Harvest OutOfMemory) (e : OutOfMemory) → IsSome (next_of (Some o) old.board name old.me) → result ≡ Err e → new ≡ old → Harvests (is_some (old.opened name)) name (next_result old name) result old new
+  harvests_wants result e some re same = subst (λ x. Harvests (is_some (old.opened name)) name (next_result old name) x old new) (sym re) (opened_here (Err e) (wants (next_of (Some o) old.board name old.me) e some same))
+
+none_there : {A : Type 0} (o : Option A) → false ≡ is_some o → o ≡ None
+none_there None e = refl
+none_there (Some x) e = cc e
+
+module _ (node : NodeView) (name : Name) (o : OpenedView) (call : ℕ) (front : call ≡ length o.results) where
+  -- the next call has no result
+  pub no_next : false ≡ is_some (result_of node.board name node.me call) → next_of (Some o) node.board name node.me ≡ None
+  no_next none =
+      ap (λ x. cond (nat_lt (length o.results) o.posted) x None) (ap (result_of node.board name node.me) (sym front) ∙ none_there _ none)
+      ∙ same_either (nat_lt (length o.results) o.posted) None
+
+  -- it has one, and is posted here
+  pub some_next : call < o.posted → true ≡ is_some (result_of node.board name node.me call) → IsSome (next_of (Some o) node.board name node.me)
+  some_next less some =
+      let posted : nat_lt (length o.results) o.posted ≡ true = grind (arith, nat_tests) in
+      ap (λ b. is_some (cond b (result_of node.board name node.me (length o.results)) None)) posted
+      ∙ ap (λ k. is_some (result_of node.board name node.me k)) (sym front)
+      ∙ sym some
 
 -- AT THE START
 

@@ -7,7 +7,8 @@ use Rattle.mpx_node.specs.declared.node.Harvest.TheVariants.{Done, NotYet, NotOp
 use Rattle.mpx_node.specs.declared.finished.Finished.{Finished}
 use Rattle.mpx_node.specs.Nodes.{NodeView, add_result, front_on}
 
--- done where there is a next result, and not yet only where there is none; want of memory changes nothing
+-- done where there is a next result, and not yet where there is none; memory can be wanting only where there is one, and
+-- changes nothing
 abbrev pub HarvestsOpened : Name → Option Finished → Result Harvest OutOfMemory → NodeView → NodeView → Type 0
 HarvestsOpened name (Some finished) (Ok (Done call)) old new = (call ≡ front_on old name) × (new ≡ add_result name finished old)
 HarvestsOpened name (Some finished) (Ok NotYet) old new = ⊥
@@ -15,7 +16,8 @@ HarvestsOpened name (Some finished) (Ok NotOpened) old new = ⊥
 HarvestsOpened name None (Ok (Done call)) old new = ⊥
 HarvestsOpened name None (Ok NotYet) old new = new ≡ old
 HarvestsOpened name None (Ok NotOpened) old new = ⊥
-HarvestsOpened name next (Err e) old new = new ≡ old
+HarvestsOpened name None (Err e) old new = ⊥
+HarvestsOpened name (Some finished) (Err e) old new = new ≡ old
 
 -- on a context that isn't opened, just that is answered
 abbrev pub Harvests : (is_opened : Bool) → Name → Option Finished → Result Harvest OutOfMemory → NodeView → NodeView → Type 0

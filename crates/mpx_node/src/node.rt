@@ -4,7 +4,8 @@ ghost use Rattle.mpx_post.specs.Drafts.{Checks, checked, most_calls};
 ghost use Rattle.std.specs.Option.{option_map};
 ghost use Rattle.std.specs.BTreeMap.{get};
 ghost use Rattle.mpx_name.specs.Order.{name_cmp};
-ghost use Rattle.mpx_board.specs.Boards.{Name as NameView, only, floor_on, Dropped};
+ghost use Rattle.mpx_board.specs.Boards.{Name as NameView, only, floor_on, told, Dropped};
+ghost use Rattle.mpx_post.specs.Rows.{all_of};
 ghost use Rattle.mpx_board.specs.Changes.{pruned};
 ghost use Rattle.mpx_board.specs.Looks.{look};
 ghost use Rattle.mpx_node.specs.Nodes.{opened_at_start, outcome_on, result_of};
@@ -85,7 +86,8 @@ impl Node {
     }
 
     /// Stores the result of the next call on a context and raises the own front, where that call is posted here and the
-    /// birth and all members' posts of it are on the board. An `Err` changes nothing.
+    /// birth and all members' posts of it are on the board. Elsewhere it answers [`Harvest::NotYet`] or
+    /// [`Harvest::NotOpened`], takes no memory and is no `Err`. An `Err` changes nothing.
     pub fn harvest(&mut self, alloc: Global, name: &Name) -> Result<Harvest, OutOfMemory>
         ensures { Harvests (is_some ((node_of self.old).opened name.now)) name.now (next_result (node_of self.old) name.now)
             result (node_of self.old) (node_of self.new) }
@@ -95,6 +97,9 @@ impl Node {
         };
         let call = opened.front();
         if call >= opened.posted {
+            return Ok(Harvest::NotYet);
+        }
+        if !has_result(&self.board, name, self.me, call) {
             return Ok(Harvest::NotYet);
         }
         match finished(alloc, &self.board, name, self.me, call)? {
@@ -177,6 +182,29 @@ fn opened_at_start(
     }
     opened.insert(Name::world(alloc), Opened::new(alloc))?;
     Ok(opened)
+}
+
+// Whether the board has the birth and the posts of all members to a call, of which the process is one.
+fn has_result(board: &Board, name: &Name, me: Proc, call: u32) -> bool
+    ensures { result ≡ is_some (result_of (look board.now) name.now me call) }
+{
+    match board.birth(name) {
+        None => false,
+        Some(birth) => {
+            board.holds(name, call, me).is_some()
+                && birth.rank_of(me).is_some()
+                && have_posted(board, name, call, birth.members())
+        }
+    }
+}
+
+// Whether the board has the posts of all of these to a call.
+fn have_posted(board: &Board, name: &Name, call: u32, members: &[Proc]) -> bool
+    ensures { result ≡ is_some (all_of (λ p. told (((look board.now).contexts name.now).posts call p)) members.now) }
+{
+    members
+        .iter()
+        .all(|member| board.holds(name, call, *member).is_some())
 }
 
 // The result of a call on a context, where the board has the birth and the posts of all members.

@@ -5,7 +5,7 @@ use Rattle.std.specs.Cmp.{nat_cmp_total}
 use Rattle.std.specs.FinMap.{get, insert, empty as no_entry, get-empty, get-insert, nat_cmp-IsAntisymmetric}
 use Rattle.std.proofs.lemmas.List.{take_all}
 use Rattle.std.proofs.lemmas.List.Folds.{list_any_more}
-use Rattle.join_nest.specs.Entries.{answer, yes, no, is_tied, both_true, first_true}
+use Rattle.join_core.specs.Cases.{answer, yes, no, is_tied, both_true, first_true}
 use Rattle.mpx_name.specs.Order.{name_cmp, name_total, name_exact}
 use Rattle.mpx_board.specs.Boards.{Name, same_name, nothing}
 use Rattle.mpx_board.specs.Changes.{cut_to}

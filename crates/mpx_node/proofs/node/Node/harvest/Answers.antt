@@ -9,7 +9,7 @@ use Rattle.mpx_node.specs.declared.opened.Opened.{Opened}
 use Rattle.mpx_node.specs.Nodes.{OpenedView, result_of, results_by}
 use Rattle.mpx_node.specs.Opened.{opened_of}
 use Rattle.mpx_node.specs.Shown.{node_of}
-use Rattle.mpx_node.proofs.Stepping.{Contexts, seen, has, stays, does, harvests_done, harvests_none, harvests_wants}
+use Rattle.mpx_node.proofs.Stepping.{Contexts, seen, has, stays, does, harvests_done, harvests_none, harvests_wants, no_next, some_next}
 use Rattle.mpx_node.proofs.node.Node.harvest.Goals as goal
 
 pub returns-then-call-opened : goal.returns-then-call-opened
@@ -23,6 +23,16 @@ returns-then-call-opened c =
     let whole : nat_lt (length o.results.items) o.posted ≡ false = grind (arith, nat_tests, c.front-call.ensures, c.if-call-opened.true) in
     harvests_none name old _ (opened_of o) here (ap (λ b. cond b (result_of old.board name old.me (length o.results.items)) None) whole) (ap (λ (x : Contexts). record old { opened = x }) same)
 
+pub returns-then-not-has_result : goal.returns-then-not-has_result
+returns-then-not-has_result c =
+    let name = c.args.name.now in
+    let old = node_of c.args.self.now in
+    let o = c.in-Some.opened.now in
+    let n = c.get_mut.follows.lender o in
+    let here : old.opened name ≡ Some (opened_of o) = has c.args.self.now.opened n name o o c.in-Some.ensures.value (c.get_mut.follows.holds o) in
+    let same : seen n ≡ seen c.args.self.now.opened = stays c.args.self.now.opened n name o o c.in-Some.ensures.value (c.get_mut.follows.holds o) refl in
+    harvests_none name old _ (opened_of o) here (no_next old name (opened_of o) _ c.front-call.ensures c.if-not-has_result.ensures) (ap (λ (x : Contexts). record old { opened = x }) same)
+
 pub returns-in_err-finished : goal.returns-in_err-finished
 returns-in_err-finished c =
     let name = c.args.name.now in
@@ -31,8 +41,9 @@ returns-in_err-finished c =
     let n = c.get_mut.follows.lender o in
     let here : old.opened name ≡ Some (opened_of o) = has c.args.self.now.opened n name o o c.in-Some.ensures.value (c.get_mut.follows.holds o) in
     let same : seen n ≡ seen c.args.self.now.opened = stays c.args.self.now.opened n name o o c.in-Some.ensures.value (c.get_mut.follows.holds o) refl in
+    let next = some_next old name (opened_of o) _ c.front-call.ensures c.if-call-opened.false c.if-not-has_result.ensures in
     let exit = err_from_is_err_and c.from_residual.result c.from_residual.ensures.1 in
-    harvests_wants name old _ (opened_of o) here c.from_residual.result exit.0 exit.1 (ap (λ (x : Contexts). record old { opened = x }) same)
+    harvests_wants name old _ (opened_of o) here c.from_residual.result exit.0 next exit.1 (ap (λ (x : Contexts). record old { opened = x }) same)
 
 pub returns-in_err-reserve-in-Some-2 : goal.returns-in_err-reserve-in-Some-2
 returns-in_err-reserve-in-Some-2 c =
@@ -43,8 +54,9 @@ returns-in_err-reserve-in-Some-2 c =
     let n = c.get_mut.follows.lender w in
     let here : old.opened name ≡ Some (opened_of o) = has c.args.self.now.opened n name o w c.in-Some.ensures.value (c.get_mut.follows.holds w) in
     let same : seen n ≡ seen c.args.self.now.opened = stays c.args.self.now.opened n name o w c.in-Some.ensures.value (c.get_mut.follows.holds w) (λ i. record { posted = o.posted; results = c.reserve.ensures.items i }) in
+    let next = some_next old name (opened_of o) _ c.front-call.ensures c.if-call-opened.false c.if-not-has_result.ensures in
     let exit = err_from_is_err_and c.from_residual-in_err-reserve-in-Some-2.result c.from_residual-in_err-reserve-in-Some-2.ensures.1 in
-    harvests_wants name old _ (opened_of o) here c.from_residual-in_err-reserve-in-Some-2.result exit.0 exit.1 (ap (λ (x : Contexts). record old { opened = x }) same)
+    harvests_wants name old _ (opened_of o) here c.from_residual-in_err-reserve-in-Some-2.result exit.0 next exit.1 (ap (λ (x : Contexts). record old { opened = x }) same)
 
 pub returns-in_err-raise_front-in-Some-2 : goal.returns-in_err-raise_front-in-Some-2
 returns-in_err-raise_front-in-Some-2 c =
@@ -55,8 +67,9 @@ returns-in_err-raise_front-in-Some-2 c =
     let n = c.get_mut.follows.lender w in
     let here : old.opened name ≡ Some (opened_of o) = has c.args.self.now.opened n name o w c.in-Some.ensures.value (c.get_mut.follows.holds w) in
     let same : seen n ≡ seen c.args.self.now.opened = stays c.args.self.now.opened n name o w c.in-Some.ensures.value (c.get_mut.follows.holds w) (λ i. record { posted = o.posted; results = c.reserve.ensures.items i }) in
+    let next = some_next old name (opened_of o) _ c.front-call.ensures c.if-call-opened.false c.if-not-has_result.ensures in
     let exit = err_from_is_err_and c.from_residual-in_err-raise_front-in-Some-2.result c.from_residual-in_err-raise_front-in-Some-2.ensures.1 in
-    harvests_wants name old _ (opened_of o) here c.from_residual-in_err-raise_front-in-Some-2.result exit.0 exit.1 (λ i. record { me = old.me; board = c.in_err-raise_front-in-Some-2.ensures.err i; opened = same i })
+    harvests_wants name old _ (opened_of o) here c.from_residual-in_err-raise_front-in-Some-2.result exit.0 next exit.1 (λ i. record { me = old.me; board = c.in_err-raise_front-in-Some-2.ensures.err i; opened = same i })
 
 pub returns-in-None : goal.returns-in-None
 returns-in-None c =

@@ -1,0 +1,41 @@
+// The joins of one value and of two.
+use crate::laws::laws_hold;
+use join_core::{Exact, Flat, Join, Key, Max, OutOfMemory, Pair};
+use std::alloc::Global;
+use std::test::Fail;
+
+// Whether a copy of the key is the key.
+fn copies<K: Key>(alloc: Global, key: &K) -> Result<bool, OutOfMemory> {
+    let copy = key.copy(alloc)?;
+    Ok(copy.same(key) && copy == *key)
+}
+
+#[test]
+fn joins_keep_their_laws(rt: HostRuntime) -> Result<(), Fail> {
+    let alloc = rt.alloc();
+    assert!(rt; laws_hold(alloc, &Max(3), &Max(5))?);
+    assert!(rt; laws_hold(alloc, &Max(5), &Max(3))?);
+    assert!(rt; laws_hold(alloc, &Flat::Known(3u32), &Flat::Unknown)?);
+    assert!(rt; laws_hold(alloc, &Flat::Known(3u32), &Flat::Known(3))?);
+    assert!(rt; laws_hold(alloc, &Flat::Known(3u32), &Flat::Known(4))?);
+    let left = Pair {
+        first: Max(3),
+        second: Flat::Known(7u32),
+    };
+    let right = Pair {
+        first: Max(2),
+        second: Flat::Clash,
+    };
+    assert!(rt; laws_hold(alloc, &left, &right)?);
+    assert!(rt; copies(alloc, &7u32)?);
+    Ok(())
+}
+
+#[test]
+fn two_values_clash(rt: HostRuntime) -> Result<(), Fail> {
+    let told = Flat::Known(3u32).joined(rt.alloc(), &Flat::Known(4))?;
+    assert!(rt; told.same(&Flat::Clash));
+    assert_eq!(rt; Max(3).joined(rt.alloc(), &Max(5))?, Max(5));
+    assert_eq!(rt; Max(3).delta(rt.alloc(), &Max(5))?, Max(0));
+    Ok(())
+}

@@ -1,0 +1,21 @@
+-- The code tests each entry of a context, and then what each process says that it has.
+use Rattle.std.proofs.Common.{◌≡◌, Bool, true, false, ◌&&◌, sym, ap, ◌∙◌, rules, tests}
+use Rattle.std.proofs.lemmas.Iterator.{YieldsList-from_slice}
+use Rattle.mpx_board.specs.Tidy.{is_tidy_entry, is_tidy_acks}
+use Rattle.mpx_board.proofs.Shown.{all_shown}
+use Rattle.mpx_board.proofs.nested.is_tidy_board.Goals as goal
+
+second_left : (first second r s : Bool) → r ≡ true → r ≡ first → s ≡ second → s ≡ (first && second)
+second_left first second r s t e f = f ∙ ap (λ b. b && second) (sym t ∙ e)
+
+first_fails : (first second r : Bool) → r ≡ false → r ≡ first → r ≡ (first && second)
+first_fails first second r t e = t ∙ ap (λ b. b && second) (sym t ∙ e)
+
+pub returns-then-all : goal.returns-then-all
+returns-then-all c = second_left _ _ _ _ c.if-all.true
+    (all_shown _ _ _ c.entries.ensures.entries (λ name e. is_tidy_entry e) _ _ _ c.all.ensures.ran (YieldsList-from_slice c.entries.result.now cc) (λ x b q k. search (rules, tests)))
+    (all_shown _ _ _ c.entries-then-all.ensures.entries (λ p a. is_tidy_acks a) _ _ _ c.all-then-all.ensures.ran (YieldsList-from_slice c.entries-then-all.result.now cc) (λ x b q k. search (rules, tests)))
+
+pub returns-else-all : goal.returns-else-all
+returns-else-all c = first_fails _ _ _ c.if-all.false
+    (all_shown _ _ _ c.entries.ensures.entries (λ name e. is_tidy_entry e) _ _ _ c.all.ensures.ran (YieldsList-from_slice c.entries.result.now cc) (λ x b q k. search (rules, tests)))
