@@ -1,5 +1,10 @@
 #!/usr/bin/env python3
-"""A second opinion on gossipmpi: evaluates a job script by MPI 4.1's text, without sharing any code with the program.
+"""A second opinion on gossipmpi: reads and evaluates a job script, without sharing any code with the program.
+
+It refuses what the program refuses, with the same line on the standard error and exit status 2, by the grammar and the order
+of refusals in docs/MODEL.md, limits of bytes and of statements included. It evaluates the calls by MPI 4.1's text, for all 16
+kinds, 9 types and 12 operations, with the refusals of posts and the faults of rows, and tells which ranks wait (exit status
+3). It knows nothing of usage, want of memory, and readers or writers that fail.
 
 reference.py < SCRIPT               prints the transcripts
 reference.py random SEED            prints a random script
@@ -8,6 +13,7 @@ reference.py compare MANY [SEED]    runs the built program on so many random scr
 """
 import os
 import random
+import re
 import subprocess
 import sys
 
@@ -51,12 +57,94 @@ def combine(op, ty, a, b):
     return (wrap(ty, r),)
 
 
+OPS = ["max", "min", "sum", "prod", "land", "lor", "lxor", "band", "bor", "bxor", "maxloc", "minloc"]
+BYTES, STATEMENTS = 1048576, 65536
+
+
+class Refused(Exception):
+    """The reader's refusal: a line from 1 on, and what for."""
+
+
+def is_number(word):
+    return re.fullmatch("-?[0-9]+", word) is not None and -2 ** 63 <= int(word) < 2 ** 64
+
+
+def is_list(word):
+    return word == "-" or all(map(is_number, word.split(",")))
+
+
 def numbers(word):
     return [] if word == "-" else [int(x) for x in word.split(",")]
 
 
-def parse(statement):
-    words = statement.split()
+def lines_of(seen):
+    """A line ends at LF, with one CR before it; what stands behind the last LF is a line where it has a byte."""
+    *ended, last = seen.split("\n")
+    return [l[:-1] if l.endswith("\r") else l for l in ended] + ([last] if last else [])
+
+
+def words_of(line):
+    return [w for w in re.split("[ \t]", line) if w]
+
+
+def counts(words):
+    return words and not words[0].startswith("#")
+
+
+def first(asked):
+    return next((what for what, holds in asked if holds), None)
+
+
+def statement_refusal(words):
+    """Why what stands behind the label is refused; each question is one about the whole line."""
+    kind = words[0] if words else None
+    if kind not in PLACES:
+        return "UnknownStatement"
+    names = [p for p in PLACES[kind] if p != "items"]
+    at = dict(zip(names, words[2:]))
+    behind = words[2 + len(names):]
+    name = words[1] if len(words) > 1 else None
+    wrong = lambda places, test: any(p in at and not test(at[p]) for p in places)
+    return first([
+        ("UnknownStatement", wrong(["op"], OPS.__contains__) or wrong(["ty"], TYPES.__contains__)),
+        ("WrongWords", name is None or len(at) < len(names) or (behind and "items" not in PLACES[kind])),
+        ("BadNumber", wrong(["root", "count"], is_number) or not all(map(is_number, behind))),
+        ("BadList", wrong(["scounts", "rcounts"], is_list)),
+        ("BadName", name is not None and not re.fullmatch("[a-z][a-z0-9_]{0,31}", name)),
+        ("NameUnknown", name != "world")])
+
+
+def read(data):
+    """Each rank's statements, as lists of words, or the first refusal of the least line that has one."""
+    seen, over = data[:BYTES + 1].decode("latin-1"), len(data) > BYTES
+    lines = lines_of(seen)
+    if not over and not any(counts(words_of(l)) for l in lines):
+        raise Refused(1, "NoRanksLine" if not lines or lines[0].isascii() else "NotAscii")
+    todo, made = None, 0
+    for number, text in enumerate(lines, 1):
+        words = words_of(text)
+        what = first([("NotAscii", not text.isascii()), ("TooLarge", over and number == len(lines))])
+        if what is None and counts(words) and todo is None:
+            told = len(words) == 2 and words[0] == "ranks" and is_number(words[1])
+            what = first([("NoRanksLine", not told), ("RanksOutOfRange", told and not 1 <= int(words[1]) <= 64)])
+            if what is None:
+                todo = [[] for _ in range(int(words[1]))]
+        elif what is None and counts(words):
+            label = words[0][:-1] if words[0].endswith(":") else ""
+            labelled = label == "*" or is_number(label)
+            ranks = range(len(todo)) if label == "*" else [int(label)] if labelled else []
+            made += len(ranks) if len(words) > 1 else 0
+            what = first([("TooLarge", made > STATEMENTS), ("RankOutOfRange", any(not 0 <= r < len(todo) for r in ranks)),
+                          ("UnknownStatement", not labelled)]) or statement_refusal(words[1:])
+            if what is None:
+                for rank in ranks:
+                    todo[rank].append(words[1:])
+        if what is not None:
+            raise Refused(number, what)
+    return todo
+
+
+def parse(words):
     call = {"kind": words[0], "root": None, "op": None, "ty": None, "scounts": [], "rcounts": [], "items": []}
     rest = words[2:]
     for place in PLACES[words[0]]:
@@ -195,14 +283,8 @@ def line(x):
     return " ".join(str(v) for item in x for v in item) or "empty"
 
 
-def evaluate(text):
-    lines = [l for l in text.splitlines() if l.split() and not l.split()[0].startswith("#")]
-    n = int(lines[0].split()[1])
-    todo = [[] for _ in range(n)]
-    for l in lines[1:]:
-        label, statement = l.split(":", 1)
-        for rank in range(n) if label == "*" else [int(label)]:
-            todo[rank].append(statement)
+def evaluate(todo):
+    n = len(todo)
     out, calls = [[] for _ in range(n)], [[] for _ in range(n)]
     place, waits = [0] * n, [False] * n
     moved = True
@@ -272,32 +354,104 @@ def random_script(seed):
     return "\n".join(out) + "\n"
 
 
-def answer(text):
+NUMBERS = ["", "-", "x", "+1", "1.5", "1,2", "1,", "-0", "007", "i32", "->", "1\r", "1\x00", "18446744073709551615", "18446744073709551616",
+           "-9223372036854775808", "-9223372036854775809", "--1", "1_0"]
+LISTS = ["-", "1,,2", "1,x", ",", "1,", ",1", "--", "1,-1", "0,00", "1", "x", "1,18446744073709551616", "1,\x0b2"]
+NAMES = ["Zz", "worlds", "a_1", "_a", "a" * 32, "a" * 33, "1a", "null", "world\r", "World", "w-1", "world:"]
+OTHERS = ["i33", "f64", "i32", "sum", "avg", "maxloc", "barrier", "ibcast", "Barrier", "ranks", "scan", "gatherv"]
+LABELS = ["*:", "9:", "-1:", "00:", "-0:", "0", "0:barrier", ":", "+0:", "99999999999999999999:", "#", "\xe9", "0::", "*"]
+LINES = ["", "# a", "#", "\t# \xff", "\r", "ranks 1", "0:", "*:", "9:", "x: y", "\x0b", "0: barrier", "0: barrier world 1", "0: barrier world "]
+OPENINGS = ["", "ranks", "ranks 0", "ranks 65", "ranks 64", "ranks -1", "ranks 2 3", "ranks x", "Ranks 2", "\tranks  3 ", "ranks 3\r"]
+
+
+def other_word(rng, place, word):
+    if rng.random() < 0.1:
+        return rng.choice(NUMBERS + LISTS + NAMES + OTHERS + LABELS)
+    like = LABELS if place == 0 else NAMES if place == 2 else LISTS if "," in word or word == "-" else OTHERS if word[:1].isalpha() else NUMBERS
+    return rng.choice(like)
+
+
+def damaged(rng, text):
+    """The script with one to three changes after which mostly a line of it is refused."""
+    lines = text.split("\n")[:-1]
+    for _ in range(rng.choice([1, 1, 1, 2, 3])):
+        at = rng.randrange(min(1, len(lines) - 1), len(lines))
+        words = lines[at].split(" ")
+        place = rng.choice([rng.randrange(len(words)), rng.randrange(min(len(words), 7))])
+        change = rng.randrange(10)
+        if change <= 4:
+            words[place] = other_word(rng, place, words[place])
+        elif change == 5:
+            words.insert(place, other_word(rng, place, words[place]))
+        elif change == 6:
+            words = words[:max(1, place)]
+        lines[at] = rng.choice([" ", " ", " ", "\t", " \t "]).join(words) + rng.choice(["", "", "", "", "\r", "\r\r", " "])
+        if change == 7:
+            lines.insert(at, rng.choice(LINES))
+        elif change == 8:
+            lines[0] = rng.choice(OPENINGS)
+        elif change == 9:
+            lines.insert(0, rng.choice(LINES))
+    return "\n".join(lines) + rng.choice(["\n", "\n", "", "\r", "\r\n"])
+
+
+def too_large(rng, text):
+    """The script or a full one, filled up to about one of its limits."""
+    if rng.random() < 0.5:
+        last = rng.choice(["0: barrier world", "*: barrier world", "99: x", "99:", "x: x", "0: \xff", "*:", "0: barrier"])
+        return "ranks 64\n" + "*: barrier world\n" * 1024 + last + "\nx"
+    head = rng.choice(["", "", text + rng.choice(["", "# \xff\n", "x\n"])])
+    fill = BYTES - len(head) + rng.choice([-1, 0, 1, 2])
+    back = rng.choice(["", "\n", "\n0", "\xff", "#", "\r\n", "\r"])
+    return head + "#" * fill + back
+
+
+def random_bytes(seed):
+    """A random script; of three one is damaged, and of fifty one is about as large as a script may be."""
+    text, rng = random_script(seed), random.Random("reader %d" % seed)
+    if rng.random() < 0.02:
+        text = too_large(rng, text)
+    elif rng.random() < 0.33:
+        text = damaged(rng, text)
+    return text.encode("latin-1")
+
+
+def answer(data):
     """What the program should print, its status and its standard error."""
-    out, waiting = evaluate(text)
+    try:
+        todo = read(data)
+    except Refused as e:
+        return "", 2, "script line %d: %s\n" % e.args
+    out, waiting = evaluate(todo)
     return out, 3 if waiting else 0, "waiting: %s\n" % " ".join(map(str, waiting)) if waiting else ""
 
 
 def compare(many, first):
     program = os.path.join(os.path.dirname(os.path.abspath(__file__)), "../crates/gossipmpi/out/gossipmpi")
-    differ = 0
+    differ, statuses, refusals = 0, {}, {}
     for seed in range(first, first + many):
-        text = random_script(seed)
-        run = subprocess.run([program, "run"], input=text, capture_output=True, text=True)
-        if (run.stdout, run.returncode, run.stderr) != answer(text):
+        data = random_bytes(seed)
+        out, status, error = wanted = answer(data)
+        statuses[status] = statuses.get(status, 0) + 1
+        if status == 2:
+            refusals[error.split()[-1]] = refusals.get(error.split()[-1], 0) + 1
+        run = subprocess.run([program, "run"], input=data, capture_output=True)
+        if (run.stdout.decode(), run.returncode, run.stderr.decode()) != wanted:
             print("they differ on seed %d" % seed)
             differ += 1
     print("%d scripts, %d differ" % (many, differ))
+    print("by exit status: %s" % ", ".join("%d: %d" % x for x in sorted(statuses.items())))
+    print("refused for: %s" % ", ".join("%s %d" % x for x in sorted(refusals.items())))
     return 1 if differ else 0
 
 
 if __name__ == "__main__":
     if sys.argv[1:2] == ["random"]:
-        sys.stdout.write(random_script(int(sys.argv[2])))
+        sys.stdout.buffer.write(random_bytes(int(sys.argv[2])))
     elif sys.argv[1:2] == ["compare"]:
         sys.exit(compare(int(sys.argv[2]), int(sys.argv[3]) if sys.argv[3:] else 1))
     else:
-        out, status, error = answer(sys.stdin.read())
+        out, status, error = answer(sys.stdin.buffer.read())
         sys.stdout.write(out)
         sys.stderr.write(error)
         sys.exit(status)

@@ -8,7 +8,7 @@ use Rattle.mpx_post.specs.declared.kinds.Kind.TheVariants.{Barrier, Bcast, Gathe
 use Rattle.mpx_post.specs.declared.kinds.Mode.TheVariants.{Blocking}
 use Rattle.mpx_post.specs.declared.draft.Draft.{Draft}
 use Rattle.mpx_script.specs.Words.{words, counts, is_ascii}
-use Rattle.mpx_script.specs.Grammar.{ranks_number, kind_named, operation_named, type_named, list_named, places_of, label_of, statements_in, is_name, is_communicator, lacks_ranks, has_ranks_out_of_range, has_rank_out_of_range, is_unknown, has_wrong_words, has_bad_number, has_bad_list, has_bad_name, has_unknown_name, names_rank, statement_in}
+use Rattle.mpx_script.specs.Grammar.{ranks_number, kind_named, operation_named, type_named, list_named, call_in, label_of, statements_in, is_name, is_communicator, lacks_ranks, has_ranks_out_of_range, has_rank_out_of_range, is_unknown, has_wrong_words, has_bad_number, has_bad_list, has_bad_name, has_unknown_name, names_rank, statement_in}
 use Rattle.mpx_script.specs.ScriptView.{ScriptView}
 use Rattle.mpx_script.specs.Reading.{reading}
 use Rattle.mpx_script.specs.declared.statement.Statement.{Statement}
@@ -69,7 +69,7 @@ record Examples : Type 0 where
   not_bound : reading (script (codes "ranks 1" ∷ codes "-0: allreduce a_1 sum i64" ∷ codes "x" ∷ [])) ≡ refused_at 2 NameUnknown
 
 examples : Examples
-unfolding script alone refused_at sum_of says number_of magnitude words counts is_ascii ranks_number kind_named operation_named type_named list_named places_of label_of statements_in is_name is_communicator lacks_ranks has_ranks_out_of_range has_rank_out_of_range is_unknown has_wrong_words has_bad_number has_bad_list has_bad_name has_unknown_name names_rank statement_in reading
+unfolding script alone refused_at sum_of says number_of magnitude words counts is_ascii ranks_number kind_named operation_named type_named list_named call_in label_of statements_in is_name is_communicator lacks_ranks has_ranks_out_of_range has_rank_out_of_range is_unknown has_wrong_words has_bad_number has_bad_list has_bad_name has_unknown_name names_rank statement_in reading
 examples = record {
   three_ranks = refl;
   every_rank = refl;

@@ -1,5 +1,5 @@
 pub mod Splits
-pub mod Places
+pub mod Refusals
 pub mod Accepted
 pub mod Added
 pub mod Settling

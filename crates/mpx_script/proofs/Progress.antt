@@ -9,13 +9,13 @@ use Rattle.std.proofs.lemmas.List.{take_all, take_more, drop-drop, get_or-drop, 
 use Rattle.std.proofs.lemmas.List.Elements.{filter-append}
 use Rattle.mpx_script.specs.Words.{words, counts, counting, is_ascii, is_over_limit, script_lines, with_first_line, bytes_limit}
 use Rattle.mpx_script.specs.ScriptView.{ScriptView}
-use Rattle.mpx_script.specs.Reading.{Place, refusal, bounded_place, place_at, error_at, errors, read_as, reading, script_of, ranks_settled, statements_settled, is_bare_script}
-use Rattle.mpx_script.specs.Draft.{IsSettled, script_settled, ranks_of}
-use Rattle.mpx_script.specs.Line.{IsRefusal}
+use Rattle.mpx_script.specs.Reading.{LineContext, refusal, bounded_context, context_at, error_at, errors, read_as, reading, script_of, ranks_settled, statements_settled, is_bare_script}
+use Rattle.mpx_script.specs.PartialScripts.{IsSettled, script_settled, ranks_of}
+use Rattle.mpx_script.specs.Sentences.{IsRefusal}
 use Rattle.mpx_script.specs.Answer.{Answers, at_line}
 use Rattle.mpx_script.specs.declared.faults.LineError.{LineError}
 use Rattle.mpx_script.specs.declared.faults.LineError.TheVariants.{Fault, OutOfMemory}
-use Rattle.mpx_script.specs.declared.reader.Draft.{Draft}
+use Rattle.mpx_script.specs.declared.reader.PartialScript.{PartialScript}
 use Rattle.mpx_script.specs.declared.faults.ScriptFault.{ScriptFault}
 use Rattle.mpx_script.specs.declared.faults.ScriptFault.TheVariants.{NotAscii, TooLarge, NoRanksLine}
 use Rattle.mpx_script.specs.declared.faults.ScriptError.{ScriptError}
@@ -65,8 +65,8 @@ has_first : (ls : List (List ℕ)) → (first : List ℕ) × (more : List (List 
 has_first [] = ([], [], refl)
 has_first (l ∷ ls) = (l, ls, refl)
 
-bare_place : (text : List ℕ) → is_bare_script text ≡ true → place_at text 0 ≡ record { line = get_or (script_lines text) 0 []; is_cut = false; is_bare = true; ranks = None; statements = 0 }
-bare_place text bare =
+bare_context : (text : List ℕ) → is_bare_script text ≡ true → context_at text 0 ≡ record { line = get_or (script_lines text) 0 []; is_cut = false; is_bare = true; ranks = None; statements = 0 }
+bare_context text bare =
     let within : is_over_limit text ≡ false = not-true (is_over_limit text) (and_parts (not (is_over_limit text)) (length (counting (script_lines text)) == 0) bare).0 in
     let cut : (is_over_limit text && (1 == length (script_lines text))) ≡ false = rw within refl in
     λ i. record { line = get_or (script_lines text) 0 []; is_cut = cut i; is_bare = bare i; ranks = None; statements = 0 }
@@ -77,16 +77,16 @@ unfolding reading
 bare_reading text bare =
     let first : (line : List ℕ) × (more : List (List ℕ)) × (script_lines text ≡ line ∷ more) = has_first (lines (take (bytes_limit + 1) text)) in
     let line : List ℕ = get_or (script_lines text) 0 [] in
-    let refused : refusal (place_at text 0) ≡ Some (cond (is_ascii line) NoRanksLine NotAscii) = ap refusal (bare_place text bare) ∙ bare_refusal line (is_ascii line) (counts (words line)) refl refl in
+    let refused : refusal (context_at text 0) ≡ Some (cond (is_ascii line) NoRanksLine NotAscii) = ap refusal (bare_context text bare) ∙ bare_refusal line (is_ascii line) (counts (words line)) refl refl in
     first_error (error_at text) 0 (length (script_lines text)) 0 (record { line = 1; what = cond (is_ascii line) NoRanksLine NotAscii }) (script_of (counting (script_lines text))) (λ j low high. absurd (omega arith)) (ap (option_map (λ what. record { line = 1; what = what })) refused) (omega (arith, ap length first.2))
 
 -- Line by line
 
 -- a script of which this rest is left after so many lines, none of which is refused
-pub record Progress (text rest : List ℕ) (number : ℕ) (draft : Draft) : Type 0 where
+pub record Progress (text rest : List ℕ) (number : ℕ) (partial : PartialScript) : Type 0 where
   pub left : lines rest ≡ drop number (script_lines text)
-  pub clean : (i : ℕ) → i < number → refusal (place_at text i) ≡ None
-  pub settled : IsSettled (counting (take number (script_lines text))) draft
+  pub clean : (i : ℕ) → i < number → refusal (context_at text i) ≡ None
+  pub settled : IsSettled (counting (take number (script_lines text))) partial
 
 lines_are : (ls : List (List ℕ)) → (length (counting ls) == 0) ≡ false → with_first_line ls ≡ ls
 lines_are [] h = cc
@@ -115,8 +115,8 @@ script_lines_are text h = elim (counts_some (is_over_limit text) (length (counti
   | inr some ↦ lines_are (lines (take (bytes_limit + 1) text)) (rw (← counting_first (lines (take (bytes_limit + 1) text))) some)
 ]
 
-pub progress_none : (text : List ℕ) (draft : Draft) → is_bare_script text ≡ false → draft.script ≡ None → draft.statements ≡ 0 → Progress text (take (bytes_limit + 1) text) 0 draft
-progress_none text draft bare script statements = record {
+pub progress_none : (text : List ℕ) (partial : PartialScript) → is_bare_script text ≡ false → partial.script ≡ None → partial.statements ≡ 0 → Progress text (take (bytes_limit + 1) text) 0 partial
+progress_none text partial bare script statements = record {
   left = sym (script_lines_are text bare);
   clean = λ i h. absurd (omega arith);
   settled = record { script = script; statements = statements };
@@ -131,14 +131,14 @@ is_last [] n number more e f = let none : 0 ≡ length more = ap length e in gri
 is_last (b ∷ bs) n number more e f = let some : length (lines (b ∷ bs)) ≡ length more = ap length e in let filled : 0 < length (lines (b ∷ bs)) = some_line b bs in grind (arith, nat_tests)
 
 -- the next line, and what follows
-record Next (text line after : List ℕ) (number : ℕ) : Type 0 where
+record NextLine (text line after : List ℕ) (number : ℕ) : Type 0 where
   within : number < length (script_lines text)
   line_is : get_or (script_lines text) number [] ≡ line
   rest : lines after ≡ drop (number + 1) (script_lines text)
   last : (length after == 0) ≡ (number + 1 == length (script_lines text))
 
-next_of : (text rest line after : List ℕ) (number : ℕ) → lines rest ≡ drop number (script_lines text) → lines rest ≡ line ∷ lines after → Next text line after number
-next_of text rest line after number left split =
+next_line_of : (text rest line after : List ℕ) (number : ℕ) → lines rest ≡ drop number (script_lines text) → lines rest ≡ line ∷ lines after → NextLine text line after number
+next_line_of text rest line after number left split =
     let all : List (List ℕ) = script_lines text in
     let cut : drop number all ≡ line ∷ lines after = sym left ∙ split in
     let long : length all - number ≡ length (lines after) + 1 = sym (length-drop number all) ∙ ap length cut ∙ omega arith in
@@ -151,60 +151,60 @@ next_of text rest line after number left split =
     }
 
 -- that line, as the reader asks it
-place_is : (text line after : List ℕ) (number : ℕ) (draft : Draft) (cut : Bool) → is_bare_script text ≡ false → IsSettled (counting (take number (script_lines text))) draft → Next text line after number → cut ≡ (is_over_limit text && (length after == 0)) → place_at text number ≡ bounded_place line cut (ranks_of draft) draft.statements
-place_is text line after number draft cut bare settled next cut_is =
+context_is : (text line after : List ℕ) (number : ℕ) (partial : PartialScript) (cut : Bool) → is_bare_script text ≡ false → IsSettled (counting (take number (script_lines text))) partial → NextLine text line after number → cut ≡ (is_over_limit text && (length after == 0)) → context_at text number ≡ bounded_context line cut (ranks_of partial) partial.statements
+context_is text line after number partial cut bare settled next cut_is =
     let before : List (List (List ℕ)) = counting (take number (script_lines text)) in
     let is_cut : (is_over_limit text && (number + 1 == length (script_lines text))) ≡ cut = ap (λ b. is_over_limit text && b) (sym next.last) ∙ sym cut_is in
     let is_bare : ((number == 0) && is_bare_script text) ≡ false = and_right (number == 0) (is_bare_script text) bare in
-    let ranks : ranks_settled before ≡ ranks_of draft = sym (ranks_same before) ∙ ap (option_map (λ s. s.ranks)) (sym settled.script) in
-    let statements : statements_settled before ≡ draft.statements = sym settled.statements in
+    let ranks : ranks_settled before ≡ ranks_of partial = sym (ranks_same before) ∙ ap (option_map (λ s. s.ranks)) (sym settled.script) in
+    let statements : statements_settled before ≡ partial.statements = sym settled.statements in
     let line_is : get_or (script_lines text) number [] ≡ line = next.line_is in
     λ i. record { line = line_is i; is_cut = is_cut i; is_bare = is_bare i; ranks = ranks i; statements = statements i }
 
 -- the next line isn't refused
-pub progress_more : (text rest line after : List ℕ) (number : ℕ) (draft then : Draft) (cut : Bool) → is_bare_script text ≡ false → Progress text rest number draft → lines rest ≡ line ∷ lines after → cut ≡ (is_over_limit text && (length after == 0)) → refusal (bounded_place line cut (ranks_of draft) draft.statements) ≡ None → ((before : List (List (List ℕ))) → IsSettled before draft → IsSettled (before ++ filter counts (words line ∷ [])) then) → Progress text after (number + 1) then
-progress_more text rest line after number draft then cut bare p split cut_is accepted settles =
-    let next : Next text line after number = next_of text rest line after number p.left split in
+pub progress_more : (text rest line after : List ℕ) (number : ℕ) (partial then : PartialScript) (cut : Bool) → is_bare_script text ≡ false → Progress text rest number partial → lines rest ≡ line ∷ lines after → cut ≡ (is_over_limit text && (length after == 0)) → refusal (bounded_context line cut (ranks_of partial) partial.statements) ≡ None → ((before : List (List (List ℕ))) → IsSettled before partial → IsSettled (before ++ filter counts (words line ∷ [])) then) → Progress text after (number + 1) then
+progress_more text rest line after number partial then cut bare p split cut_is accepted settles =
+    let next : NextLine text line after number = next_line_of text rest line after number p.left split in
     let all : List (List ℕ) = script_lines text in
-    let here : refusal (place_at text number) ≡ None = ap refusal (place_is text line after number draft cut bare p.settled next cut_is) ∙ accepted in
+    let here : refusal (context_at text number) ≡ None = ap refusal (context_is text line after number partial cut bare p.settled next cut_is) ∙ accepted in
     let lines_more : take (number + 1) all ≡ take number all ++ line ∷ [] = take_more all number [] next.within ∙ ap (λ l. take number all ++ l ∷ []) next.line_is in
     let counting_more : counting (take number all) ++ filter counts (words line ∷ []) ≡ counting (take (number + 1) all) =
     sym (filter-append counts (map words (take number all)) (words line ∷ [])) ∙ ap (filter counts) (sym (map_push words (take number all) line)) ∙ ap counting (sym lines_more) in
     record {
       left = next.rest;
-      clean = below_more (λ i. refusal (place_at text i) ≡ None) number p.clean here;
+      clean = below_more (λ i. refusal (context_at text i) ≡ None) number p.clean here;
       settled = subst (λ ls. IsSettled ls then) counting_more (settles (counting (take number all)) p.settled);
     }
 
 -- the next line is refused
-progress_refused : (text rest line after : List ℕ) (number : ℕ) (draft : Draft) (cut : Bool) (what : ScriptFault) → is_bare_script text ≡ false → Progress text rest number draft → lines rest ≡ line ∷ lines after → cut ≡ (is_over_limit text && (length after == 0)) → refusal (bounded_place line cut (ranks_of draft) draft.statements) ≡ Some what → reading text ≡ Err (record { line = number + 1; what = what })
+progress_refused : (text rest line after : List ℕ) (number : ℕ) (partial : PartialScript) (cut : Bool) (what : ScriptFault) → is_bare_script text ≡ false → Progress text rest number partial → lines rest ≡ line ∷ lines after → cut ≡ (is_over_limit text && (length after == 0)) → refusal (bounded_context line cut (ranks_of partial) partial.statements) ≡ Some what → reading text ≡ Err (record { line = number + 1; what = what })
 unfolding reading
-progress_refused text rest line after number draft cut what bare p split cut_is refused =
-    let next : Next text line after number = next_of text rest line after number p.left split in
-    let here : refusal (place_at text number) ≡ Some what = ap refusal (place_is text line after number draft cut bare p.settled next cut_is) ∙ refused in
+progress_refused text rest line after number partial cut what bare p split cut_is refused =
+    let next : NextLine text line after number = next_line_of text rest line after number p.left split in
+    let here : refusal (context_at text number) ≡ Some what = ap refusal (context_is text line after number partial cut bare p.settled next cut_is) ∙ refused in
     let shift : 0 + number ≡ number = omega arith in
     first_error (error_at text) 0 (length (script_lines text)) number (record { line = number + 1; what = what }) (script_of (counting (script_lines text)))
     (λ j low high. ap (option_map (λ w. record { line = j + 1; what = w })) (p.clean j (omega arith)))
     (ap (error_at text) shift ∙ ap (option_map (λ w. record { line = number + 1; what = w })) here)
     next.within
 
-pub progress_fault : (text rest line after : List ℕ) (number : ℕ) (draft : Draft) (cut : Bool) (e : LineError) → is_bare_script text ≡ false → Progress text rest number draft → lines rest ≡ line ∷ lines after → cut ≡ (is_over_limit text && (length after == 0)) → IsRefusal (refusal (bounded_place line cut (ranks_of draft) draft.statements)) e → Answers (Err (at_line (number + 1) e)) (reading text)
-progress_fault text rest line after number draft cut OutOfMemory bare p split cut_is refused = tt
-progress_fault text rest line after number draft cut (Fault what) bare p split cut_is refused = progress_refused text rest line after number draft cut what bare p split cut_is refused
+pub progress_fault : (text rest line after : List ℕ) (number : ℕ) (partial : PartialScript) (cut : Bool) (e : LineError) → is_bare_script text ≡ false → Progress text rest number partial → lines rest ≡ line ∷ lines after → cut ≡ (is_over_limit text && (length after == 0)) → IsRefusal (refusal (bounded_context line cut (ranks_of partial) partial.statements)) e → Answers (Err (at_line (number + 1) e)) (reading text)
+progress_fault text rest line after number partial cut OutOfMemory bare p split cut_is refused = tt
+progress_fault text rest line after number partial cut (Fault what) bare p split cut_is refused = progress_refused text rest line after number partial cut what bare p split cut_is refused
 
-all_done : (text : List ℕ) (number : ℕ) (draft : Draft) → Progress text [] number draft → length (script_lines text) ≤ number
-all_done text number draft p = omega (arith, length-drop number (script_lines text), ap length p.left)
+all_done : (text : List ℕ) (number : ℕ) (partial : PartialScript) → Progress text [] number partial → length (script_lines text) ≤ number
+all_done text number partial p = omega (arith, length-drop number (script_lines text), ap length p.left)
 
 script_is : (ls : List (List (List ℕ))) (script : ScriptView) → Some script ≡ script_settled ls → script ≡ script_of ls
 script_is [] script h = cc
 script_is (opening ∷ further) script h = cc
 
 -- no line is left
-pub progress_done : (text : List ℕ) (number : ℕ) (draft : Draft) (script : ScriptView) → Progress text [] number draft → draft.script ≡ Some script → reading text ≡ Ok script
+pub progress_done : (text : List ℕ) (number : ℕ) (partial : PartialScript) (script : ScriptView) → Progress text [] number partial → partial.script ≡ Some script → reading text ≡ Ok script
 unfolding reading
-progress_done text number draft script p there =
+progress_done text number partial script p there =
     let all : List (List ℕ) = script_lines text in
-    let end : length all ≤ number = all_done text number draft p in
+    let end : length all ≤ number = all_done text number partial p in
     let none : errors text ≡ [] = no_errors (error_at text) 0 (length all) (λ i low high. ap (option_map (λ w. record { line = i + 1; what = w })) (p.clean i (omega arith))) in
     let whole : counting (take number all) ≡ counting all = ap counting (take_all number all end) in
     let is : script ≡ script_of (counting all) = script_is (counting all) script (sym there ∙ p.settled.script ∙ ap script_settled whole) in
@@ -214,7 +214,7 @@ none_settled : (ls : List (List (List ℕ))) → None ≡ script_settled ls → 
 none_settled [] h = refl
 none_settled (opening ∷ further) h = cc
 
-cut_is_refused : (p : Place) (a : Bool) → is_ascii p.line ≡ a → p.is_cut ≡ true → refusal p ≡ None → ⊥
+cut_is_refused : (p : LineContext) (a : Bool) → is_ascii p.line ≡ a → p.is_cut ≡ true → refusal p ≡ None → ⊥
 cut_is_refused p true e cut h = let refused : refusal p ≡ Some TooLarge = rw (e, cut) in cc
 cut_is_refused p false e cut h = let refused : refusal p ≡ Some NotAscii = rw e in cc
 
@@ -225,10 +225,10 @@ last_place : (n : ℕ) → 0 < n → (n - 1 + 1 == n) ≡ true
 last_place n h = grind (arith, nat_tests)
 
 -- then there is a script
-pub progress_some : (text : List ℕ) (number : ℕ) (draft : Draft) → is_bare_script text ≡ false → Progress text [] number draft → draft.script ≡ None → ⊥
-progress_some text number draft bare p none =
+pub progress_some : (text : List ℕ) (number : ℕ) (partial : PartialScript) → is_bare_script text ≡ false → Progress text [] number partial → partial.script ≡ None → ⊥
+progress_some text number partial bare p none =
     let all : List (List ℕ) = script_lines text in
-    let end : length all ≤ number = all_done text number draft p in
+    let end : length all ≤ number = all_done text number partial p in
     let whole : counting (take number all) ≡ counting all = ap counting (take_all number all end) in
     let empty : length (counting all) ≡ 0 = none_settled (counting all) (sym none ∙ p.settled.script ∙ ap script_settled whole) in
     let first : (line : List ℕ) × (more : List (List ℕ)) × (all ≡ line ∷ more) = has_first (lines (take (bytes_limit + 1) text)) in
@@ -236,7 +236,7 @@ progress_some text number draft bare p none =
     elim (counts_some (is_over_limit text) (length (counting all)) bare) [
       | inl over ↦
           let last : (length all - 1 + 1 == length all) ≡ true = last_place (length all) some in
-          cut_is_refused (place_at text (length all - 1)) (is_ascii (place_at text (length all - 1)).line) refl (rw (over, last)) (p.clean (length all - 1) (omega arith))
+          cut_is_refused (context_at text (length all - 1)) (is_ascii (context_at text (length all - 1)).line) refl (rw (over, last)) (p.clean (length all - 1) (omega arith))
       | inr filled ↦ zero_tested (length (counting all)) empty filled
     ]
 

@@ -52,7 +52,7 @@ abbrev pub named : {A : Type 0} → List (List ℕ × A) → List ℕ → Option
 named [] word = None
 named (entry ∷ more) word = if bytes_eq word entry.0 then Some entry.1 else named more word
 
--- STATEMENTS: a word for each kind of call. The places of a statement's words are the fields of its kind, in the order
+-- STATEMENTS: a word for each kind of call. The words of a statement are the fields of its kind, in the order
 -- `STATEMENT COMMUNICATOR ROOT OPERATION TYPE SCOUNTS RCOUNTS ITEMS`, without those that the kind hasn't.
 
 unfoldable pub kind_named : List ℕ → Option Kind
@@ -104,8 +104,8 @@ type_named word = named (
     ∷ (codes "2int", T.TwoInt)
     ∷ []) word
 
--- the words of a call's places, where its kind has them
-pub record Places : Type 0 where
+-- a call as words: its fields, where its kind has them
+pub record CallSyntax : Type 0 where
   pub root : Option (List ℕ)
   pub operation : Option (List ℕ)
   pub ty : Option (List ℕ)
@@ -121,9 +121,9 @@ next_word asked words = cond asked (slice_get words 0) None
 abbrev pub words_after : Bool → List (List ℕ) → List (List ℕ)
 words_after asked words = cond asked (drop 1 words) words
 
--- the words behind the communicator by their places
-unfoldable pub places_of : Fields → List (List ℕ) → Places
-places_of fields words =
+-- the words behind the communicator as those of a call with these fields
+unfoldable pub call_in : Fields → List (List ℕ) → CallSyntax
+call_in fields words =
     let at_operation : List (List ℕ) = words_after fields.root words in
     let at_type : List (List ℕ) = words_after fields.op at_operation in
     let at_scounts : List (List ℕ) = words_after fields.items at_type in
@@ -137,26 +137,26 @@ places_of fields words =
       items = words_after (is_had fields.rcounts) at_rcounts;
     }
 
--- the words of a further line: its label, its statement, the communicator, and those behind it
-pub record LineParts : Type 0 where
+-- a further line as words: its label, its statement, the communicator, and those behind it
+pub record DirectiveSyntax : Type 0 where
   pub label : Option (List ℕ)
   pub statement : Option (List ℕ)
   pub communicator : Option (List ℕ)
   pub behind : List (List ℕ)
 
-abbrev pub parts_of : List (List ℕ) → LineParts
-parts_of words = record { label = slice_get words 0; statement = slice_get words 1; communicator = slice_get words 2; behind = drop 3 words }
+abbrev pub directive_in : List (List ℕ) → DirectiveSyntax
+directive_in words = record { label = slice_get words 0; statement = slice_get words 1; communicator = slice_get words 2; behind = drop 3 words }
 
 -- the kind of call of a line
-abbrev pub kind_in : LineParts → Option Kind
-kind_in parts = option_and_then kind_named parts.statement
+abbrev pub kind_in : DirectiveSyntax → Option Kind
+kind_in directive = option_and_then kind_named directive.statement
 
 -- what the posts of its kind have. A statement that isn't known asks for no words
-abbrev pub fields_in : LineParts → Fields
-fields_in parts = fields_of (unwrap_or (kind_in parts) K.Barrier)
+abbrev pub fields_in : DirectiveSyntax → Fields
+fields_in directive = fields_of (unwrap_or (kind_in directive) K.Barrier)
 
-abbrev pub places_in : LineParts → Places
-places_in parts = places_of (fields_in parts) parts.behind
+abbrev pub call_syntax_in : DirectiveSyntax → CallSyntax
+call_syntax_in directive = call_in (fields_in directive) directive.behind
 
 -- `*` for every rank, or a number
 abbrev pub label_named : List ℕ → Option Label
@@ -166,8 +166,8 @@ label_named word = if bytes_eq word (codes "*") then Some Every else option_map 
 unfoldable pub label_of : List ℕ → Option Label
 label_of word = if slice_index word (length word - 1) == 58 then label_named (take (length word - 1) word) else None
 
-abbrev pub label_in : LineParts → Option Label
-label_in parts = option_and_then label_of parts.label
+abbrev pub label_in : DirectiveSyntax → Option Label
+label_in directive = option_and_then label_of directive.label
 
 abbrev pub ranks_meant : ℕ → Option Label → ℕ
 ranks_meant ranks None = 0
@@ -175,8 +175,8 @@ ranks_meant ranks (Some Every) = ranks
 ranks_meant ranks (Some (Numbered z)) = 1
 
 -- how many statements a further line has: with a word behind its label one for each rank that it is for
-unfoldable pub statements_in : ℕ → LineParts → ℕ
-statements_in ranks parts = if is_some parts.statement then ranks_meant ranks (label_in parts) else 0
+unfoldable pub statements_in : ℕ → DirectiveSyntax → ℕ
+statements_in ranks directive = if is_some directive.statement then ranks_meant ranks (label_in directive) else 0
 
 -- just one count
 abbrev pub is_one : Number → Bool
@@ -227,63 +227,63 @@ is_past ranks None = false
 is_past ranks (Some Every) = false
 is_past ranks (Some (Numbered z)) = is_none (below ranks z)
 
-unfoldable pub has_rank_out_of_range : ℕ → LineParts → Bool
-has_rank_out_of_range ranks parts = is_past ranks (label_in parts)
+unfoldable pub has_rank_out_of_range : ℕ → DirectiveSyntax → Bool
+has_rank_out_of_range ranks directive = is_past ranks (label_in directive)
 
 -- another operation or type
-abbrev pub has_unknown_word : Places → Bool
-has_unknown_word places = fails (λ word. is_some (operation_named word)) places.operation || fails (λ word. is_some (type_named word)) places.ty
+abbrev pub has_unknown_word : CallSyntax → Bool
+has_unknown_word call = fails (λ word. is_some (operation_named word)) call.operation || fails (λ word. is_some (type_named word)) call.ty
 
 -- no `R: STATEMENT`, or another statement, operation or type
-unfoldable pub is_unknown : LineParts → Bool
-is_unknown parts = is_none (label_in parts) || is_none (kind_in parts) || has_unknown_word (places_in parts)
+unfoldable pub is_unknown : DirectiveSyntax → Bool
+is_unknown directive = is_none (label_in directive) || is_none (kind_in directive) || has_unknown_word (call_syntax_in directive)
 
 -- a word is asked for and isn't there
 abbrev pub lacks : Bool → Option (List ℕ) → Bool
 lacks asked word = asked && is_none word
 
--- words are missing, or there are more than there are places for
-abbrev pub has_wrong_count : Fields → Places → Bool
-has_wrong_count fields places = lacks fields.root places.root
-    || lacks fields.op places.operation
-    || lacks fields.items places.ty
-    || lacks (is_had fields.scounts) places.scounts
-    || lacks (is_had fields.rcounts) places.rcounts
-    || (not fields.items && not (length places.items == 0))
+-- words are missing, or there are more than the call has fields
+abbrev pub has_wrong_count : Fields → CallSyntax → Bool
+has_wrong_count fields call = lacks fields.root call.root
+    || lacks fields.op call.operation
+    || lacks fields.items call.ty
+    || lacks (is_had fields.scounts) call.scounts
+    || lacks (is_had fields.rcounts) call.rcounts
+    || (not fields.items && not (length call.items == 0))
 
 -- there is no communicator, or the words behind it aren't as many as the kind asks for
-unfoldable pub has_wrong_words : LineParts → Bool
-has_wrong_words parts = is_none parts.communicator || has_wrong_count (fields_in parts) (places_in parts)
+unfoldable pub has_wrong_words : DirectiveSyntax → Bool
+has_wrong_words directive = is_none directive.communicator || has_wrong_count (fields_in directive) (call_syntax_in directive)
 
 -- whether a word is a number
 abbrev pub is_number : List ℕ → Bool
 is_number word = is_some (number_of word)
 
 -- a root, a single count or an item is no number
-abbrev pub has_strange_number : Fields → Places → Bool
-has_strange_number fields places = fails is_number places.root
-    || (is_one fields.rcounts && fails is_number places.rcounts)
-    || list_any (λ word. not (is_number word)) places.items
+abbrev pub has_strange_number : Fields → CallSyntax → Bool
+has_strange_number fields call = fails is_number call.root
+    || (is_one fields.rcounts && fails is_number call.rcounts)
+    || list_any (λ word. not (is_number word)) call.items
 
-unfoldable pub has_bad_number : LineParts → Bool
-has_bad_number parts = has_strange_number (fields_in parts) (places_in parts)
+unfoldable pub has_bad_number : DirectiveSyntax → Bool
+has_bad_number directive = has_strange_number (fields_in directive) (call_syntax_in directive)
 
 -- whether a word is a list
 abbrev pub is_list : List ℕ → Bool
 is_list word = is_some (list_named word)
 
 -- send counts or receive counts are no list
-abbrev pub has_strange_list : Fields → Places → Bool
-has_strange_list fields places = fails is_list places.scounts || (not (is_one fields.rcounts) && fails is_list places.rcounts)
+abbrev pub has_strange_list : Fields → CallSyntax → Bool
+has_strange_list fields call = fails is_list call.scounts || (not (is_one fields.rcounts) && fails is_list call.rcounts)
 
-unfoldable pub has_bad_list : LineParts → Bool
-has_bad_list parts = has_strange_list (fields_in parts) (places_in parts)
+unfoldable pub has_bad_list : DirectiveSyntax → Bool
+has_bad_list directive = has_strange_list (fields_in directive) (call_syntax_in directive)
 
-unfoldable pub has_bad_name : LineParts → Bool
-has_bad_name parts = fails is_name parts.communicator
+unfoldable pub has_bad_name : DirectiveSyntax → Bool
+has_bad_name directive = fails is_name directive.communicator
 
-unfoldable pub has_unknown_name : LineParts → Bool
-has_unknown_name parts = fails is_communicator parts.communicator
+unfoldable pub has_unknown_name : DirectiveSyntax → Bool
+has_unknown_name directive = fails is_communicator directive.communicator
 
 -- What a line that isn't refused says
 
@@ -294,29 +294,29 @@ is_meant rank (Some (Numbered (pos n))) = n == rank
 is_meant rank (Some (Numbered (negsuc n))) = false
 
 -- the line is for the rank
-unfoldable pub names_rank : ℕ → LineParts → Bool
-names_rank rank parts = is_meant rank (label_in parts)
+unfoldable pub names_rank : ℕ → DirectiveSyntax → Bool
+names_rank rank directive = is_meant rank (label_in directive)
 
--- what a place says, where the kind has it
+-- what a word says, where the kind has that field
 abbrev pub said : {A : Type 0} → (List ℕ → Option A) → A → Option (List ℕ) → A
 said meaning other word = unwrap_or (option_and_then meaning word) other
 
 -- the draft of a blocking call; a field that the kind hasn't is 0, sum, i8 or no counts
-abbrev pub draft_in : Kind → Places → Draft
-draft_in kind places = record {
+abbrev pub draft_in : Kind → CallSyntax → Draft
+draft_in kind call = record {
   kind = kind;
   mode = Blocking;
-  root = said number_of (pos 0) places.root;
-  op = said operation_named O.Sum places.operation;
-  ty = said type_named T.I8 places.ty;
-  scounts = said list_named [] places.scounts;
-  rcounts = said (rcounts_named (fields_of kind).rcounts) [] places.rcounts;
-  items = filter_map number_of places.items;
+  root = said number_of (pos 0) call.root;
+  op = said operation_named O.Sum call.operation;
+  ty = said type_named T.I8 call.ty;
+  scounts = said list_named [] call.scounts;
+  rcounts = said (rcounts_named (fields_of kind).rcounts) [] call.rcounts;
+  items = filter_map number_of call.items;
 }
 
-unfoldable pub statement_in : LineParts → Option Statement
-statement_in parts = option_map (λ kind. Call (draft_in kind (places_in parts))) (kind_in parts)
+unfoldable pub statement_in : DirectiveSyntax → Option Statement
+statement_in directive = option_map (λ kind. Call (draft_in kind (call_syntax_in directive))) (kind_in directive)
 
 -- what the line gives the rank
-abbrev pub given_to : ℕ → LineParts → Option Statement
-given_to rank parts = if names_rank rank parts then statement_in parts else None
+abbrev pub given_to : ℕ → DirectiveSyntax → Option Statement
+given_to rank directive = if names_rank rank directive then statement_in directive else None

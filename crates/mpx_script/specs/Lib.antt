@@ -3,8 +3,8 @@ pub mod Words
 pub mod Grammar
 pub mod ScriptView
 pub mod Reading
-pub mod Line
-pub mod Draft
+pub mod Sentences
+pub mod PartialScripts
 pub mod Answer
 pub mod Ranks
 pub mod Evaluation

@@ -3,7 +3,7 @@ use Rattle.std.specs.Prelude.{ℕ, ◌+◌, nat_lt, Bool, false, not, ◌==◌, 
 use Rattle.std.specs.List.{filter_map, range_with_len}
 use Rattle.std.specs.Option.{option_map, option_map_or}
 use Rattle.mpx_script.specs.Words.{words, counts, counting, is_ascii, is_over_limit, script_lines}
-use Rattle.mpx_script.specs.Grammar.{LineParts, parts_of, statements_in, ranks_in, given_to, lacks_ranks, has_ranks_out_of_range, has_rank_out_of_range, is_unknown, has_wrong_words, has_bad_number, has_bad_list, has_bad_name, has_unknown_name}
+use Rattle.mpx_script.specs.Grammar.{DirectiveSyntax, directive_in, statements_in, ranks_in, given_to, lacks_ranks, has_ranks_out_of_range, has_rank_out_of_range, is_unknown, has_wrong_words, has_bad_number, has_bad_list, has_bad_name, has_unknown_name}
 use Rattle.mpx_script.specs.ScriptView.{ScriptView}
 use Rattle.mpx_script.specs.declared.faults.ScriptFault.{ScriptFault}
 use Rattle.mpx_script.specs.declared.faults.ScriptFault.TheVariants.{NotAscii, TooLarge, NoRanksLine, RanksOutOfRange, RankOutOfRange, UnknownStatement, WrongWords, BadNumber, BadList, BadName, NameUnknown}
@@ -14,7 +14,7 @@ abbrev pub statements_limit : ℕ
 statements_limit = 65536
 
 -- a line, with what the lines before it settle
-pub record Place : Type 0 where
+pub record LineContext : Type 0 where
   pub line : List ℕ
   -- the script passes its limit of bytes in this line
   pub is_cut : Bool
@@ -26,27 +26,27 @@ pub record Place : Type 0 where
   pub statements : ℕ
 
 -- the first line that counts
-abbrev pub on_opening : Place → (List (List ℕ) → Bool) → Bool
+abbrev pub on_opening : LineContext → (List (List ℕ) → Bool) → Bool
 on_opening p test = counts (words p.line) && is_none p.ranks && test (words p.line)
 
 -- a further line that counts, in a script of so many ranks
-abbrev pub on_further : Place → (ℕ → LineParts → Bool) → Bool
-on_further p test = counts (words p.line) && option_map_or (λ ranks. test ranks (parts_of (words p.line))) p.ranks false
+abbrev pub on_further : LineContext → (ℕ → DirectiveSyntax → Bool) → Bool
+on_further p test = counts (words p.line) && option_map_or (λ ranks. test ranks (directive_in (words p.line))) p.ranks false
 
 -- what the line may be refused for, in the order in which that is asked
-abbrev pub refusals : Place → List (ScriptFault × Bool)
+abbrev pub refusals : LineContext → List (ScriptFault × Bool)
 refusals p =
     (NotAscii, not (is_ascii p.line))
-    ∷ (TooLarge, p.is_cut || on_further p (λ ranks parts. nat_lt statements_limit (p.statements + statements_in ranks parts)))
+    ∷ (TooLarge, p.is_cut || on_further p (λ ranks directive. nat_lt statements_limit (p.statements + statements_in ranks directive)))
     ∷ (NoRanksLine, p.is_bare || on_opening p lacks_ranks)
     ∷ (RanksOutOfRange, on_opening p has_ranks_out_of_range)
     ∷ (RankOutOfRange, on_further p has_rank_out_of_range)
-    ∷ (UnknownStatement, on_further p (λ ranks parts. is_unknown parts))
-    ∷ (WrongWords, on_further p (λ ranks parts. has_wrong_words parts))
-    ∷ (BadNumber, on_further p (λ ranks parts. has_bad_number parts))
-    ∷ (BadList, on_further p (λ ranks parts. has_bad_list parts))
-    ∷ (BadName, on_further p (λ ranks parts. has_bad_name parts))
-    ∷ (NameUnknown, on_further p (λ ranks parts. has_unknown_name parts))
+    ∷ (UnknownStatement, on_further p (λ ranks directive. is_unknown directive))
+    ∷ (WrongWords, on_further p (λ ranks directive. has_wrong_words directive))
+    ∷ (BadNumber, on_further p (λ ranks directive. has_bad_number directive))
+    ∷ (BadList, on_further p (λ ranks directive. has_bad_list directive))
+    ∷ (BadName, on_further p (λ ranks directive. has_bad_name directive))
+    ∷ (NameUnknown, on_further p (λ ranks directive. has_unknown_name directive))
     ∷ []
 
 -- the first of these that holds
@@ -54,16 +54,16 @@ abbrev pub first_holding : List (ScriptFault × Bool) → Option ScriptFault
 first_holding [] = None
 first_holding (asked ∷ more) = if asked.1 then Some asked.0 else first_holding more
 
-abbrev pub refusal : Place → Option ScriptFault
+abbrev pub refusal : LineContext → Option ScriptFault
 refusal p = first_holding (refusals p)
 
 -- a line of a script that isn't bare
-abbrev pub bounded_place : List ℕ → Bool → Option ℕ → ℕ → Place
-bounded_place line is_cut ranks statements = record { line = line; is_cut = is_cut; is_bare = false; ranks = ranks; statements = statements }
+abbrev pub bounded_context : List ℕ → Bool → Option ℕ → ℕ → LineContext
+bounded_context line is_cut ranks statements = record { line = line; is_cut = is_cut; is_bare = false; ranks = ranks; statements = statements }
 
 -- a line in which the limit of bytes isn't passed either
-abbrev pub plain_place : List ℕ → Option ℕ → ℕ → Place
-plain_place line ranks statements = bounded_place line false ranks statements
+abbrev pub plain_context : List ℕ → Option ℕ → ℕ → LineContext
+plain_context line ranks statements = bounded_context line false ranks statements
 
 -- the number of ranks that the first line that counts tells
 abbrev pub ranks_told : List (List ℕ) → ℕ
@@ -76,14 +76,14 @@ ranks_settled (opening ∷ further) = Some (ranks_told opening)
 -- how many statements the lines that count have
 abbrev pub statements_settled : List (List (List ℕ)) → ℕ
 statements_settled [] = 0
-statements_settled (opening ∷ further) = sum_by (λ words. statements_in (ranks_told opening) (parts_of words)) further
+statements_settled (opening ∷ further) = sum_by (λ words. statements_in (ranks_told opening) (directive_in words)) further
 
 -- the ranks, and what the further lines give each of them, in the order of the lines
 abbrev pub script_of : List (List (List ℕ)) → ScriptView
 script_of [] = record { ranks = 0; statements = [] }
 script_of (opening ∷ further) = record {
   ranks = ranks_told opening;
-  statements = map (λ rank. filter_map (λ words. given_to rank (parts_of words)) further) (range_with_len 0 (ranks_told opening));
+  statements = map (λ rank. filter_map (λ words. given_to rank (directive_in words)) further) (range_with_len 0 (ranks_told opening));
 }
 
 -- no line of the script counts, though it is within its limit of bytes
@@ -91,8 +91,8 @@ abbrev pub is_bare_script : List ℕ → Bool
 is_bare_script text = not (is_over_limit text) && (length (counting (script_lines text)) == 0)
 
 -- the line at a place from 0 on
-abbrev pub place_at : List ℕ → ℕ → Place
-place_at text i =
+abbrev pub context_at : List ℕ → ℕ → LineContext
+context_at text i =
     let all = script_lines text in
     let before = counting (take i all) in
     record {
@@ -105,7 +105,7 @@ place_at text i =
 
 -- the refusal of the line at a place, with the line's number from 1 on
 abbrev pub error_at : List ℕ → ℕ → Option ScriptError
-error_at text i = option_map (λ what. record { line = i + 1; what = what }) (refusal (place_at text i))
+error_at text i = option_map (λ what. record { line = i + 1; what = what }) (refusal (context_at text i))
 
 -- the lines that are refused
 abbrev pub errors : List ℕ → List ScriptError

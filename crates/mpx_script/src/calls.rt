@@ -1,45 +1,46 @@
+// The draft that the words of a call say.
 ghost use Rattle.std.specs.Prelude.{◌≡◌, [], true, false, not, pos, if◌then◌else◌, None, Some, IfOk, OnOk, IfErr, MatchOption};
 ghost use Rattle.std.specs.List.{filter_map, list_any};
 ghost use Rattle.std.specs.Option.{option_copied};
 ghost use Rattle.mpx_num.specs.Text.{number_of};
 ghost use Rattle.mpx_script.specs.Words.{words};
 ghost use Rattle.mpx_script.specs.Grammar.{is_number, is_one, list_named, rcounts_named, operation_named, type_named, said, draft_in};
-ghost use Rattle.mpx_script.specs.Line.{IsRefusal, draft_refusal, read_at};
+ghost use Rattle.mpx_script.specs.Sentences.{IsRefusal, draft_refusal, read_at};
 
 use crate::faults::{LineError, ScriptFault};
-use crate::grammar::{is_one, list_of, operation_of, type_of};
-use crate::parts::Places;
+use crate::grammar::{is_one, list_named, operation_named, type_named};
+use crate::syntax::CallSyntax;
 use crate::words::first_word;
 use mpx_num::{Numbers, Op, Ty, parse_number};
 use mpx_post::{Draft, Kind, Mode, Number};
 use std::alloc::{AllocError, Global};
 
-/// The number of a place, 0 where it has no word, or None where the word is no number.
-fn number_at(place: Option<&[u8]>) -> Option<i128>
-    ensures { result ≡ read_at number_of (pos 0) (option_copied place.entry) }
+/// The number of a word, 0 where there is none, or None where the word is no number.
+fn number_at(word: Option<&[u8]>) -> Option<i128>
+    ensures { result ≡ read_at number_of (pos 0) (option_copied word.entry) }
 {
-    match place {
+    match word {
         Some(word) => parse_number(word),
         None => Some(0),
     }
 }
 
-/// The numbers of a place, none where it has no word, or None where the word is no list.
-fn list_at(alloc: Global, place: Option<&[u8]>) -> Result<Option<Numbers>, AllocError>
-    ensures { IfOk result (λ found. found ≡ read_at list_named [] (option_copied place.entry)) }
+/// The numbers of a list, none where there is no word, or None where the word is no list.
+fn list_at(alloc: Global, word: Option<&[u8]>) -> Result<Option<Numbers>, AllocError>
+    ensures { IfOk result (λ found. found ≡ read_at list_named [] (option_copied word.entry)) }
 {
-    match place {
-        Some(word) => list_of(alloc, word),
+    match word {
+        Some(word) => list_named(alloc, word),
         None => Ok(Some(Numbers::new(alloc, Vec::new(alloc))?)),
     }
 }
 
 /// The receive counts of a word: one number, where the kind has just one, or a list.
-fn rcounts_of(alloc: Global, number: Number, word: &[u8]) -> Result<Option<Numbers>, AllocError>
+fn rcounts_named(alloc: Global, number: Number, word: &[u8]) -> Result<Option<Numbers>, AllocError>
     ensures { IfOk result (λ found. found ≡ rcounts_named number word.now) }
 {
     if !is_one(number) {
-        return list_of(alloc, word);
+        return list_named(alloc, word);
     }
     let Some(count) = parse_number(word) else {
         return Ok(None);
@@ -48,32 +49,33 @@ fn rcounts_of(alloc: Global, number: Number, word: &[u8]) -> Result<Option<Numbe
     Ok(Some(Numbers::new(alloc, counts)?))
 }
 
-/// The receive counts of a place, none where it has no word.
+/// The receive counts of a word, none where there is no word.
 fn rcounts_at(
     alloc: Global,
     number: Number,
-    place: Option<&[u8]>,
+    word: Option<&[u8]>,
 ) -> Result<Option<Numbers>, AllocError>
-    ensures { IfOk result (λ found. found ≡ read_at (rcounts_named number) [] (option_copied place.entry)) }
+    ensures { IfOk result (λ found. found ≡ read_at (rcounts_named number) [] (option_copied word.entry)) }
 {
-    match place {
-        Some(word) => rcounts_of(alloc, number, word),
+    match word {
+        Some(word) => rcounts_named(alloc, number, word),
         None => Ok(Some(Numbers::new(alloc, Vec::new(alloc))?)),
     }
 }
 
-/// The operation of a place, the sum where it has none.
-fn operation_at(place: Option<&[u8]>) -> Op
-    ensures { result ≡ said operation_named Op.Sum (option_copied place.entry) }
+/// The operation of a word, the sum where there is none.
+fn operation_at(word: Option<&[u8]>) -> Op
+    ensures { result ≡ said operation_named Op.Sum (option_copied word.entry) }
 {
-    place.and_then(|word| operation_of(word)).unwrap_or(Op::Sum)
+    word.and_then(|word| operation_named(word))
+        .unwrap_or(Op::Sum)
 }
 
-/// The type of a place, `i8` where it has none.
-fn type_at(place: Option<&[u8]>) -> Ty
-    ensures { result ≡ said type_named Ty.I8 (option_copied place.entry) }
+/// The type of a word, `i8` where there is none.
+fn type_at(word: Option<&[u8]>) -> Ty
+    ensures { result ≡ said type_named Ty.I8 (option_copied word.entry) }
 {
-    place.and_then(|word| type_of(word)).unwrap_or(Ty::I8)
+    word.and_then(|word| type_named(word)).unwrap_or(Ty::I8)
 }
 
 /// The numbers that a line's words stand for, or None where a word is no number.
@@ -95,31 +97,31 @@ fn numbers_in(alloc: Global, line: &[u8]) -> Result<Option<Numbers>, AllocError>
     Ok(Some(Numbers::new(alloc, numbers)?))
 }
 
-/// The draft of a blocking call by the words of its places.
-pub fn draft_of(alloc: Global, kind: Kind, places: &Places<'_>) -> Result<Draft, LineError>
-    ensures accepted { OnOk result (draft_refusal kind places.now ≡ None) }
-    ensures draft { IfOk result (λ draft. draft ≡ draft_in kind places.now) }
-    ensures refused { IfErr result (IsRefusal (draft_refusal kind places.now)) }
+/// The draft of a blocking call by the words of its fields.
+pub fn draft_in(alloc: Global, kind: Kind, call: &CallSyntax<'_>) -> Result<Draft, LineError>
+    ensures accepted { OnOk result (draft_refusal kind call.now ≡ None) }
+    ensures draft { IfOk result (λ draft. draft ≡ draft_in kind call.now) }
+    ensures refused { IfErr result (IsRefusal (draft_refusal kind call.now)) }
 {
     let number = kind.fields().rcounts;
-    let Some(root) = number_at(places.root) else {
+    let Some(root) = number_at(call.root) else {
         return Err(LineError::Fault(ScriptFault::BadNumber));
     };
-    let Some(items) = numbers_in(alloc, places.items)? else {
+    let Some(items) = numbers_in(alloc, call.items)? else {
         return Err(LineError::Fault(ScriptFault::BadNumber));
     };
-    let Some(rcounts) = rcounts_at(alloc, number, places.rcounts)? else {
+    let Some(rcounts) = rcounts_at(alloc, number, call.rcounts)? else {
         return Err(LineError::Fault(rcounts_fault(number)));
     };
-    let Some(scounts) = list_at(alloc, places.scounts)? else {
+    let Some(scounts) = list_at(alloc, call.scounts)? else {
         return Err(LineError::Fault(ScriptFault::BadList));
     };
     Ok(Draft {
         kind,
         mode: Mode::Blocking,
         root,
-        op: operation_at(places.operation),
-        ty: type_at(places.ty),
+        op: operation_at(call.operation),
+        ty: type_at(call.ty),
         scounts,
         rcounts,
         items,

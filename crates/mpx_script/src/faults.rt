@@ -1,5 +1,6 @@
+// Why a script is refused.
 ghost use Rattle.std.specs.Prelude.{◌≡◌, Some};
-ghost use Rattle.mpx_script.specs.Faults.{fault_name, error_text};
+ghost use Rattle.mpx_script.specs.Faults.{script_fault_name, error_text};
 ghost use Rattle.mpx_script.specs.declared.faults.ReadScriptError.TheVariants.{OutOfMemory};
 ghost use Rattle.mpx_script.specs.declared.faults.LineError.TheVariants.{OutOfMemory as NoMemory};
 
@@ -37,7 +38,7 @@ pub enum ScriptFault {
 
 impl ScriptFault {
     fn name(self) -> &'static str
-        ensures { result.now ≡ fault_name self }
+        ensures { result.now ≡ script_fault_name self }
     {
         match self {
             ScriptFault::NotAscii => "NotAscii",
@@ -56,7 +57,7 @@ impl ScriptFault {
 }
 
 impl fmt::Display for ScriptFault {
-    ghost output = { λ fault. Some (fault_name fault) };
+    ghost output = { λ fault. Some (script_fault_name fault) };
 
     fn fmt<W: fmt::Write>(&self, f: &mut fmt::Formatter<W>) -> fmt::Result {
         let name = self.name();

@@ -1,3 +1,4 @@
+// What a single word of a script means.
 ghost use Rattle.std.specs.Prelude.{◌≡◌, map, IfOk};
 ghost use Rattle.mpx_script.specs.Grammar.{below, rank_count, ranks_number, label_of, named, kind_named, operation_named, type_named, list_named, is_one, is_small_letter, is_name_byte, is_name, is_communicator};
 ghost use Rattle.mpx_script.specs.Words.{words};
@@ -86,7 +87,7 @@ fn named<T: Copy>(table: &[(&[u8], T)], word: &[u8]) -> Option<T>
 
 /// The kind of call of a statement's word.
 #[tactic(auto, unfolding(crate::specs::Grammar::kind_named))]
-pub fn kind_of(word: &[u8]) -> Option<Kind>
+pub fn kind_named(word: &[u8]) -> Option<Kind>
     ensures { result ≡ kind_named word.now }
 {
     named(
@@ -114,7 +115,7 @@ pub fn kind_of(word: &[u8]) -> Option<Kind>
 
 /// The operation of a word.
 #[tactic(auto, unfolding(crate::specs::Grammar::operation_named))]
-pub fn operation_of(word: &[u8]) -> Option<Op>
+pub fn operation_named(word: &[u8]) -> Option<Op>
     ensures { result ≡ operation_named word.now }
 {
     named(
@@ -138,7 +139,7 @@ pub fn operation_of(word: &[u8]) -> Option<Op>
 
 /// The type of a word.
 #[tactic(auto, unfolding(crate::specs::Grammar::type_named))]
-pub fn type_of(word: &[u8]) -> Option<Ty>
+pub fn type_named(word: &[u8]) -> Option<Ty>
     ensures { result ≡ type_named word.now }
 {
     named(
@@ -159,7 +160,7 @@ pub fn type_of(word: &[u8]) -> Option<Ty>
 
 /// The numbers of a list: numbers with commas between them, or `-` for none.
 #[tactic(auto, unfolding(crate::specs::Grammar::list_named))]
-pub fn list_of(alloc: Global, word: &[u8]) -> Result<Option<Numbers>, AllocError>
+pub fn list_named(alloc: Global, word: &[u8]) -> Result<Option<Numbers>, AllocError>
     ensures { IfOk result (λ found. found ≡ list_named word.now) }
 {
     let mut numbers = Vec::new(alloc);

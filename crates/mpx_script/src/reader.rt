@@ -1,15 +1,16 @@
+// The script that a whole text says, or the first line that is refused.
 ghost use Rattle.std.specs.Prelude.{◌≡◌, ◌+◌, ◌++◌, ◌∷◌, [], ◌<◌, ◌≤◌, ◌==◌, ◌&&◌, if◌then◌else◌, not, true, List, ℕ, length, slice_index_or, take, false, None, IfOk, OnOk, IfErr, IfSome, Some};
 ghost use Rattle.std.specs.List.{filter};
 ghost use Rattle.std.specs.Str.Lines.{lines};
 ghost use Rattle.mpx_script.specs.Words.{bytes_limit, words, counts, counting, is_ascii, is_over_limit, with_first_line};
-ghost use Rattle.mpx_script.specs.Reading.{refusal, bounded_place, is_bare_script, reading};
-ghost use Rattle.mpx_script.specs.Line.{IsRefusal};
-ghost use Rattle.mpx_script.specs.Draft.{ranks_of, IsSettled};
+ghost use Rattle.mpx_script.specs.Reading.{refusal, bounded_context, is_bare_script, reading};
+ghost use Rattle.mpx_script.specs.Sentences.{IsRefusal};
+ghost use Rattle.mpx_script.specs.PartialScripts.{ranks_of, IsSettled};
 ghost use Rattle.mpx_script.specs.Answer.{Answers, at_line};
 
 use crate::faults::{LineError, ReadScriptError, ScriptError, ScriptFault};
 use crate::script::Script;
-use crate::script_line::{Line, STATEMENTS, read_line};
+use crate::script_line::{STATEMENTS, Sentence, read_line};
 use crate::words::{counts, first_line, is_ascii};
 use std::alloc::Global;
 
@@ -18,44 +19,49 @@ const BYTES: usize = 1_048_576;
 
 /// The script as far as it is read.
 #[derive(Drop)]
-struct Draft {
+struct PartialScript {
     /// None before the number of ranks is told.
     script: Option<Script>,
     statements: u32,
 }
 
-/// The draft after one more line.
-fn with_line(alloc: Global, draft: Draft, line: &[u8], cut: bool) -> Result<Draft, LineError>
-    requires { draft.statements ≤ STATEMENTS }
+/// The script with one more line.
+fn with_line(
+    alloc: Global,
+    partial: PartialScript,
+    line: &[u8],
+    cut: bool,
+) -> Result<PartialScript, LineError>
+    requires { partial.statements ≤ STATEMENTS }
     ensures few { IfOk result (λ after. after.statements ≤ STATEMENTS) }
-    ensures accepted { OnOk result (refusal (bounded_place line.now cut (ranks_of draft) draft.statements) ≡ None) }
-    ensures settled { IfOk result (λ after. (before : List (List (List ℕ))) → IsSettled before draft
+    ensures accepted { OnOk result (refusal (bounded_context line.now cut (ranks_of partial) partial.statements) ≡ None) }
+    ensures settled { IfOk result (λ after. (before : List (List (List ℕ))) → IsSettled before partial
         → IsSettled (before ++ filter counts (words line.now ∷ [])) after) }
-    ensures refused { IfErr result (IsRefusal (refusal (bounded_place line.now cut (ranks_of draft) draft.statements))) }
+    ensures refused { IfErr result (IsRefusal (refusal (bounded_context line.now cut (ranks_of partial) partial.statements))) }
 {
-    let Draft { script, statements } = draft;
+    let PartialScript { script, statements } = partial;
     let ranks = match &script {
         Some(script) => Some(script.ranks()),
         None => None,
     };
     match (read_line(alloc, line, cut, ranks, statements)?, script) {
-        (Line::Passed, script) => Ok(Draft { script, statements }),
-        (Line::Opening(ranks), _) => {
+        (Sentence::Passed, script) => Ok(PartialScript { script, statements }),
+        (Sentence::Opening(ranks), _) => {
             let script = Script::new(alloc, ranks)?;
-            Ok(Draft {
+            Ok(PartialScript {
                 script: Some(script),
                 statements,
             })
         }
-        (Line::Further(given), Some(mut script)) => {
-            let statements = statements + u32::from(given.to - given.from);
-            script.add(given)?;
-            Ok(Draft {
+        (Sentence::Further(assignment), Some(mut script)) => {
+            let statements = statements + u32::from(assignment.to - assignment.from);
+            script.add(assignment)?;
+            Ok(PartialScript {
                 script: Some(script),
                 statements,
             })
         }
-        (Line::Further(_), None) => unreachable!(),
+        (Sentence::Further(_), None) => unreachable!(),
     }
 }
 
@@ -132,7 +138,7 @@ fn read_lines(alloc: Global, text: &[u8]) -> Result<Script, ReadScriptError>
     requires { is_bare_script text.now ≡ false }
     ensures { Answers result (reading text.now) }
 {
-    let mut draft = Draft {
+    let mut partial = PartialScript {
         script: None,
         statements: 0,
     };
@@ -142,13 +148,13 @@ fn read_lines(alloc: Global, text: &[u8]) -> Result<Script, ReadScriptError>
         let (line, after) = first_line(rest);
         let cut = passes_limit(text, after);
         number += 1;
-        draft = match with_line(alloc, draft, line, cut) {
-            Ok(draft) => draft,
+        partial = match with_line(alloc, partial, line, cut) {
+            Ok(partial) => partial,
             Err(e) => return Err(at_line(e, number)),
         };
         rest = after;
     }
-    let Draft { script, .. } = draft;
+    let PartialScript { script, .. } = partial;
     match script {
         Some(script) => Ok(script),
         None => unreachable!(),
@@ -170,6 +176,3 @@ pub fn read_script(alloc: Global, text: &[u8]) -> Result<Script, ReadScriptError
     }
     read_lines(alloc, text)
 }
-
-#[cfg(test)]
-mod tests;

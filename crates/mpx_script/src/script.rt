@@ -1,8 +1,8 @@
-ghost use Rattle.std.specs.Prelude.{◌≡◌, ◌<◌, ◌≤◌, [], ◌∷◌, ◌++◌, length, map, slice_get, slice_index_or, slice_set, Some, IfOk, OnOk, vec_len};
+ghost use Rattle.std.specs.Prelude.{◌≡◌, ◌<◌, ◌≤◌, [], ◌∷◌, ◌++◌, length, map, slice_index_or, slice_set, IfOk, OnOk, vec_len};
 ghost use Rattle.std.specs.List.{range_with_len};
 ghost use Rattle.mpx_script.specs.ScriptView.{lists, Adds};
 
-use crate::script_line::Given;
+use crate::script_line::Assignment;
 use crate::statement::Statement;
 use join_core::OutOfMemory;
 use std::alloc::{AllocError, Global};
@@ -37,12 +37,14 @@ impl Script {
         self.ranks
     }
 
-    /// The rank's statements, in the order of the file.
+    /// The rank's statements, in the order of the file; none where the script has no such rank.
     pub fn statements(&self, rank: u8) -> &[Statement]
-        requires { rank < self.now.ranks }
-        ensures { slice_get self.now.statements rank ≡ Some result.now }
+        ensures { result.now ≡ slice_index_or self.now.statements rank [] }
     {
-        self.statements[rank as usize].as_slice()
+        match self.statements.get(rank as usize) {
+            Some(statements) => statements.as_slice(),
+            None => &[],
+        }
     }
 
     /// A script without statements.
@@ -62,14 +64,14 @@ impl Script {
     }
 
     /// Adds a statement for its ranks. Where memory runs out, some of them may have it.
-    pub(crate) fn add(&mut self, given: Given) -> Result<(), OutOfMemory>
-        requires some { given.from < given.to }
-        requires within { given.to ≤ self.old.ranks }
+    pub(crate) fn add(&mut self, assignment: Assignment) -> Result<(), OutOfMemory>
+        requires some { assignment.from < assignment.to }
+        requires within { assignment.to ≤ self.old.ranks }
         ensures ranks { self.new.ranks ≡ self.old.ranks }
-        ensures added { OnOk result (Adds given.from given.to given.statement
+        ensures added { OnOk result (Adds assignment.from assignment.to assignment.statement
             self.old.statements self.new.statements) }
     {
-        give(&mut self.statements, given)
+        give(&mut self.statements, assignment)
     }
 }
 
@@ -89,18 +91,18 @@ fn push_to(
 }
 
 /// Adds a statement for its ranks, a copy of its own for each.
-fn give(statements: &mut Vec<Vec<Statement>>, given: Given) -> Result<(), OutOfMemory>
-    requires some { given.from < given.to }
-    requires within { given.to ≤ vec_len statements.old }
+fn give(statements: &mut Vec<Vec<Statement>>, assignment: Assignment) -> Result<(), OutOfMemory>
+    requires some { assignment.from < assignment.to }
+    requires within { assignment.to ≤ vec_len statements.old }
     ensures len { vec_len statements.new ≡ vec_len statements.old }
-    ensures added { OnOk result (Adds given.from given.to given.statement
+    ensures added { OnOk result (Adds assignment.from assignment.to assignment.statement
         (lists statements.old.items) (lists statements.new.items)) }
 {
-    let Given {
+    let Assignment {
         from,
         to,
         statement,
-    } = given;
+    } = assignment;
     for rank in from..to - 1 {
         let copied = statement.copy()?;
         push_to(statements, rank, copied)?;

@@ -1,3 +1,4 @@
+// The text of a line of a transcript.
 ghost use Rattle.std.specs.Prelude.{◌≡◌, ◌++◌, IfOk, pos, codes, string_bytes};
 ghost use Rattle.mpx_num.specs.Text.{number_text};
 ghost use Rattle.mpx_script.specs.Ranks.{Told, Refused};
@@ -84,6 +85,3 @@ fn name_of_refusal(refusal: PostError) -> &'static str
         PostError::OutOfMemory => "OutOfMemory",
     }
 }
-
-#[cfg(test)]
-mod tests;

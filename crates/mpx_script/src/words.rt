@@ -1,3 +1,4 @@
+// The lines of a text, and the words of a line.
 ghost use Rattle.std.specs.Prelude.{◌≡◌, ◌==◌, ◌<◌, ◌≤◌, not, ◌∷◌, length, drop, slice_get, slice_index, OnSome};
 ghost use Rattle.std.specs.List.{prefix_len, position_or_len};
 ghost use Rattle.std.specs.Option.{option_copied};

@@ -13,11 +13,11 @@ loop-rest-init c = record {
 
 pub returns-in-Err : goal.returns-in-Err
 returns-in-Err c =
-    rw c.at_line.ensures (progress_fault c.args.text.now c.loop-rest.rest.now c.first_line.result.0.now c.first_line.result.1.now c.loop-rest.number c.loop-rest.draft c.passes_limit-cut.result c.in-Err.e c.requires c.loop-rest.invariant.progress c.first_line.ensures.lines c.passes_limit-cut.ensures c.in-Err.ensures.refused)
+    rw c.at_line.ensures (progress_fault c.args.text.now c.loop-rest.rest.now c.first_line.result.0.now c.first_line.result.1.now c.loop-rest.number c.loop-rest.partial c.passes_limit-cut.result c.in-Err.e c.requires c.loop-rest.invariant.progress c.first_line.ensures.lines c.passes_limit-cut.ensures c.in-Err.ensures.refused)
 
 pub loop-rest-preserved : goal.loop-rest-preserved
 loop-rest-preserved c = record {
-  progress = progress_more c.args.text.now c.loop-rest.rest.now c.first_line.result.0.now c.first_line.result.1.now c.loop-rest.number c.loop-rest.draft c.in-Ok.draft c.passes_limit-cut.result c.requires c.loop-rest.invariant.progress c.first_line.ensures.lines c.passes_limit-cut.ensures c.in-Ok.ensures.accepted c.in-Ok.ensures.settled;
+  progress = progress_more c.args.text.now c.loop-rest.rest.now c.first_line.result.0.now c.first_line.result.1.now c.loop-rest.number c.loop-rest.partial c.in-Ok.partial c.passes_limit-cut.result c.requires c.loop-rest.invariant.progress c.first_line.ensures.lines c.passes_limit-cut.ensures c.in-Ok.ensures.accepted c.in-Ok.ensures.settled;
   few = search rules;
   bound = omega (arith, c.first_line.ensures.shorter, c.loop-rest.invariant.bound);
 }
@@ -25,9 +25,9 @@ loop-rest-preserved c = record {
 pub unreachable-requires : goal.unreachable-requires
 unreachable-requires c =
     let nothing : c.loop-rest.rest.now ≡ [] = nil_from_length c.loop-rest.rest.now (eqb-true (length c.loop-rest.rest.now) 0 (sym c.is_empty.ensures ∙ c.loop-rest-test.false)) in
-    progress_some c.args.text.now c.loop-rest.number c.loop-rest.draft c.requires (subst (λ rest. Progress c.args.text.now rest c.loop-rest.number c.loop-rest.draft) nothing c.loop-rest.invariant.progress) c.in-None.is
+    progress_some c.args.text.now c.loop-rest.number c.loop-rest.partial c.requires (subst (λ rest. Progress c.args.text.now rest c.loop-rest.number c.loop-rest.partial) nothing c.loop-rest.invariant.progress) c.in-None.is
 
 pub returns : goal.returns
 returns c =
     let nothing : c.loop-rest.rest.now ≡ [] = nil_from_length c.loop-rest.rest.now (eqb-true (length c.loop-rest.rest.now) 0 (sym c.is_empty.ensures ∙ c.loop-rest-test.false)) in
-    progress_done c.args.text.now c.loop-rest.number c.loop-rest.draft c.in-Some.script (subst (λ rest. Progress c.args.text.now rest c.loop-rest.number c.loop-rest.draft) nothing c.loop-rest.invariant.progress) c.in-Some.is
+    progress_done c.args.text.now c.loop-rest.number c.loop-rest.partial c.in-Some.script (subst (λ rest. Progress c.args.text.now rest c.loop-rest.number c.loop-rest.partial) nothing c.loop-rest.invariant.progress) c.in-Some.is

@@ -1,7 +1,7 @@
-//! What no clause says: that calls succeed where memory is there, and lines as a reader of a transcript sees them.
-use crate::{Statement, line, refused_line};
+//! Lines of transcripts as their readers see them, and the draft of a statement.
 use mpx_num::{Items, Numbers, Op, Ty};
 use mpx_post::{Draft, Kind, Mode, PostError};
+use mpx_script::{Statement, line, refused_line};
 use mpx_value::{Fault, FaultKind, Outcome};
 use std::test::Fail;
 

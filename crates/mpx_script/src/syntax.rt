@@ -1,17 +1,18 @@
+// The words of a further line by their places: its label, its statement, its communicator and the fields of its call.
 ghost use Rattle.std.specs.Prelude.{◌≡◌, ◌==◌, ◌+◌, ◌-◌, ◌<◌, ◌≤◌, ℕ, ◌&&◌, ◌⊎◌, true, false, not, None, Some, IfOk, IfErr, nat_le, nat_lt, is_none, length};
 ghost use Rattle.std.specs.Option.{option_copied};
 ghost use Rattle.mpx_script.specs.Words.{words};
-ghost use Rattle.mpx_script.specs.Grammar.{parts_of, kind_in, label_in, places_of, ranks_meant, statements_in, is_past, is_meant, lacks, has_unknown_word, has_wrong_count};
+ghost use Rattle.mpx_script.specs.Grammar.{directive_in, kind_in, label_in, call_in, ranks_meant, statements_in, is_past, is_meant, lacks, has_unknown_word, has_wrong_count};
 
 use crate::faults::{LineError, ScriptFault};
-use crate::grammar::{Label, below, kind_of, label_of, operation_of, type_of};
+use crate::grammar::{Label, below, kind_named, label_of, operation_named, type_named};
 use crate::words::{first_word, next_word};
 use mpx_post::{Fields, Kind};
 use std::marker::Model;
 
-/// The first words of a further line: `LABEL STATEMENT COMMUNICATOR`.
+/// A further line as words: `LABEL STATEMENT COMMUNICATOR`, and what stands behind them.
 #[derive(Drop)]
-pub struct Parts<'a> {
+pub struct DirectiveSyntax<'a> {
     pub label: Option<&'a [u8]>,
     pub statement: Option<&'a [u8]>,
     pub communicator: Option<&'a [u8]>,
@@ -19,12 +20,12 @@ pub struct Parts<'a> {
     pub behind: &'a [u8],
 }
 
-impl<'a> Model for Parts<'a> {
+impl<'a> Model for DirectiveSyntax<'a> {
     ghost use Rattle.std.specs.Option.{option_copied};
     ghost use Rattle.mpx_script.specs.Words.{words};
-    ghost use Rattle.mpx_script.specs.Grammar.{LineParts};
+    ghost use Rattle.mpx_script.specs.Grammar.{DirectiveSyntax as DirectiveSyntaxView};
 
-    ghost Value = { LineParts };
+    ghost Value = { DirectiveSyntaxView };
 
     ghost view = { λ p. record {
       label = option_copied p.label;
@@ -34,14 +35,14 @@ impl<'a> Model for Parts<'a> {
     } };
 }
 
-/// The parts of a line.
-pub fn parts_of(line: &[u8]) -> Parts<'_>
-    ensures { result ≡ parts_of (words line.now) }
+/// A line as the words of a further line.
+pub fn directive_in(line: &[u8]) -> DirectiveSyntax<'_>
+    ensures { result ≡ directive_in (words line.now) }
 {
     let (label, rest) = first_word(line);
     let (statement, rest) = first_word(rest);
     let (communicator, behind) = first_word(rest);
-    Parts {
+    DirectiveSyntax {
         label,
         statement,
         communicator,
@@ -49,7 +50,7 @@ pub fn parts_of(line: &[u8]) -> Parts<'_>
     }
 }
 
-impl Parts<'_> {
+impl DirectiveSyntax<'_> {
     pub fn label(&self) -> Option<Label>
         ensures { result ≡ label_in self.now }
     {
@@ -78,15 +79,15 @@ impl Parts<'_> {
         ensures { result ≡ kind_in self.now }
     {
         match self.statement {
-            Some(word) => kind_of(word),
+            Some(word) => kind_named(word),
             None => None,
         }
     }
 }
 
-/// The words behind the communicator by their places, `ROOT OPERATION TYPE SCOUNTS RCOUNTS ITEMS`, where the kind has them.
+/// The fields of a call as words: `ROOT OPERATION TYPE SCOUNTS RCOUNTS ITEMS`, where the kind has them.
 #[derive(Drop)]
-pub struct Places<'a> {
+pub struct CallSyntax<'a> {
     pub root: Option<&'a [u8]>,
     pub operation: Option<&'a [u8]>,
     pub ty: Option<&'a [u8]>,
@@ -96,12 +97,12 @@ pub struct Places<'a> {
     pub items: &'a [u8],
 }
 
-impl<'a> Model for Places<'a> {
+impl<'a> Model for CallSyntax<'a> {
     ghost use Rattle.std.specs.Option.{option_copied};
     ghost use Rattle.mpx_script.specs.Words.{words};
-    ghost use Rattle.mpx_script.specs.Grammar.{Places as PlacesView};
+    ghost use Rattle.mpx_script.specs.Grammar.{CallSyntax as CallSyntaxView};
 
-    ghost Value = { PlacesView };
+    ghost Value = { CallSyntaxView };
 
     ghost view = { λ p. record {
       root = option_copied p.root;
@@ -113,17 +114,17 @@ impl<'a> Model for Places<'a> {
     } };
 }
 
-/// The places of a line behind its communicator.
-#[tactic(auto, unfolding(crate::specs::Grammar::places_of))]
-pub fn places_of(fields: Fields, line: &[u8]) -> Places<'_>
-    ensures { result ≡ places_of fields (words line.now) }
+/// What stands behind the communicator as the words of a call's fields.
+#[tactic(auto, unfolding(crate::specs::Grammar::call_in))]
+pub fn call_in(fields: Fields, line: &[u8]) -> CallSyntax<'_>
+    ensures { result ≡ call_in fields (words line.now) }
 {
     let (root, rest) = next_word(fields.root, line);
     let (operation, rest) = next_word(fields.op, rest);
     let (ty, rest) = next_word(fields.items, rest);
     let (scounts, rest) = next_word(fields.scounts.is_had(), rest);
     let (rcounts, items) = next_word(fields.rcounts.is_had(), rest);
-    Places {
+    CallSyntax {
         root,
         operation,
         ty,
@@ -133,19 +134,19 @@ pub fn places_of(fields: Fields, line: &[u8]) -> Places<'_>
     }
 }
 
-impl Places<'_> {
+impl CallSyntax<'_> {
     /// Whether the operation or the type is another word.
     pub fn has_unknown_word(&self) -> bool
         ensures { result ≡ has_unknown_word self.now }
     {
         let operation = self
             .operation
-            .is_some_and(|word| operation_of(word).is_none());
-        let ty = self.ty.is_some_and(|word| type_of(word).is_none());
+            .is_some_and(|word| operation_named(word).is_none());
+        let ty = self.ty.is_some_and(|word| type_named(word).is_none());
         operation || ty
     }
 
-    /// Whether words are missing, or there are more than there are places for.
+    /// Whether words are missing, or there are more than the call has fields.
     pub fn has_wrong_count(&self, fields: Fields) -> bool
         ensures { result ≡ has_wrong_count fields self.now }
     {

@@ -3,18 +3,18 @@ use Rattle.std.specs.Prelude.{◌≡◌, ℕ, List, [], ◌∷◌, Option, Some,
 use Rattle.std.specs.Option.{option_map}
 use Rattle.mpx_script.specs.ScriptView.{ScriptView}
 use Rattle.mpx_script.specs.Reading.{script_of, statements_settled}
-use Rattle.mpx_script.specs.declared.reader.Draft.{Draft}
+use Rattle.mpx_script.specs.declared.reader.PartialScript.{PartialScript}
 
 -- the number of ranks, once a line has told it
-abbrev pub ranks_of : Draft → Option ℕ
-ranks_of draft = option_map (λ script. script.ranks) draft.script
+abbrev pub ranks_of : PartialScript → Option ℕ
+ranks_of partial = option_map (λ script. script.ranks) partial.script
 
 -- there is a script once a line counts
 abbrev pub script_settled : List (List (List ℕ)) → Option ScriptView
 script_settled [] = None
 script_settled (opening ∷ further) = Some (script_of (opening ∷ further))
 
--- the draft is what these lines that count say
-pub record IsSettled (lines : List (List (List ℕ))) (draft : Draft) : Type 0 where
-  pub script : draft.script ≡ script_settled lines
-  pub statements : draft.statements ≡ statements_settled lines
+-- the partial script is what these lines that count say
+pub record IsSettled (lines : List (List (List ℕ))) (partial : PartialScript) : Type 0 where
+  pub script : partial.script ≡ script_settled lines
+  pub statements : partial.statements ≡ statements_settled lines

@@ -8,7 +8,7 @@ use Rattle.std.specs.List.{slice_split}
 use Rattle.mpx_num.specs.Text.{number_of}
 use Rattle.mpx_post.specs.Rows.{all_of}
 use Rattle.mpx_script.specs.Grammar.{list_named}
-use Rattle.mpx_script.proofs.grammar.list_of.Goals as goal
+use Rattle.mpx_script.proofs.grammar.list_named.Goals as goal
 
 all_of_push : {A B : Type 0} (f : B → Option A) (ps : List B) (xs : List A) (p : B) (x : A) → all_of f ps ≡ Some xs → f p ≡ Some x → all_of f (ps ++ p ∷ []) ≡ Some (xs ++ x ∷ [])
 all_of_push f [] xs p x e g = rw g (ap (λ ys. Some (ys ++ x ∷ [])) (same_Some [] xs e))

@@ -1,0 +1,67 @@
+-- What the reader learns from one line.
+use Rattle.std.specs.Prelude.{◌≡◌, ℕ, ◌+◌, ◌-◌, ◌<◌, ◌≤◌, true, false, ◌&&◌, List, [], ◌∷◌, ◌||◌, is_none, nat_le, nat_lt, Option, Some, None, IsSomeAnd}
+use Rattle.mpx_post.specs.declared.kinds.Kind.{Kind}
+use Rattle.mpx_post.specs.Kinds.{fields_of}
+use Rattle.mpx_script.specs.Words.{counts}
+use Rattle.mpx_script.specs.Grammar.{DirectiveSyntax, CallSyntax, directive_in, ranks_in, statements_in, names_rank, statement_in, is_unknown, has_wrong_words, has_bad_number, has_bad_list, has_bad_name, has_unknown_name, has_unknown_word, has_wrong_count, has_strange_number, has_strange_list, fails, is_name, is_communicator}
+use Rattle.mpx_script.specs.Reading.{statements_limit, first_holding}
+use Rattle.mpx_script.specs.declared.faults.ScriptFault.{ScriptFault}
+use Rattle.mpx_script.specs.declared.faults.ScriptFault.TheVariants.{UnknownStatement, WrongWords, BadNumber, BadList, BadName, NameUnknown}
+use Rattle.mpx_script.specs.declared.script_line.Assignment.{Assignment}
+use Rattle.mpx_script.specs.declared.script_line.Sentence.{Sentence}
+use Rattle.mpx_script.specs.declared.script_line.Sentence.TheVariants.{Passed, Opening, Further}
+use Rattle.mpx_script.specs.declared.faults.LineError.{LineError}
+use Rattle.mpx_script.specs.declared.faults.LineError.TheVariants.{Fault, OutOfMemory}
+
+-- the ranks from the one and below the other get the statement of a line
+pub record IsAssignment (ranks : ℕ) (directive : DirectiveSyntax) (assignment : Assignment) : Type 0 where
+  pub some : assignment.from < assignment.to
+  pub within : assignment.to ≤ ranks
+  pub named : (rank : ℕ) → rank < ranks → names_rank rank directive ≡ (nat_le assignment.from rank && nat_lt rank assignment.to)
+  pub count : statements_in ranks directive ≡ assignment.to - assignment.from
+  pub statement : statement_in directive ≡ Some assignment.statement
+
+-- what a line says that isn't refused, with so many ranks and statements before it
+abbrev pub Says : Option ℕ → ℕ → List (List ℕ) → Sentence → Type 0
+Says ranks statements ws Passed = counts ws ≡ false
+Says ranks statements ws (Opening n) = (ranks ≡ None) × (counts ws ≡ true) × (ranks_in ws ≡ Some n) × (1 ≤ n) × (n ≤ 64)
+Says ranks statements ws (Further assignment) = (counts ws ≡ true) × (statements + (assignment.to - assignment.from) ≤ statements_limit) × IsSomeAnd ranks (λ n. IsAssignment n (directive_in ws) assignment)
+
+-- the line is refused for that, unless memory ran out
+abbrev pub IsRefusal : Option ScriptFault → LineError → Type 0
+IsRefusal found OutOfMemory = Unit {0}
+IsRefusal found (Fault what) = found ≡ Some what
+
+-- what the words behind the label are refused for
+unfoldable pub statement_refusal : DirectiveSyntax → Option ScriptFault
+statement_refusal directive = first_holding (
+    (UnknownStatement, is_unknown directive)
+    ∷ (WrongWords, has_wrong_words directive)
+    ∷ (BadNumber, has_bad_number directive)
+    ∷ (BadList, has_bad_list directive)
+    ∷ (BadName, has_bad_name directive)
+    ∷ (NameUnknown, has_unknown_name directive)
+    ∷ [])
+
+-- what the numbers and lists of a call are refused for
+abbrev pub draft_refusal : Kind → CallSyntax → Option ScriptFault
+draft_refusal kind call = first_holding (
+    (BadNumber, has_strange_number (fields_of kind) call)
+    ∷ (BadList, has_strange_list (fields_of kind) call)
+    ∷ [])
+
+-- what a statement of this kind is refused for, with this communicator and these words behind it
+abbrev pub call_refusal : Kind → Option (List ℕ) → CallSyntax → Option ScriptFault
+call_refusal kind communicator call = first_holding (
+    (UnknownStatement, has_unknown_word call)
+    ∷ (WrongWords, is_none communicator || has_wrong_count (fields_of kind) call)
+    ∷ (BadNumber, has_strange_number (fields_of kind) call)
+    ∷ (BadList, has_strange_list (fields_of kind) call)
+    ∷ (BadName, fails is_name communicator)
+    ∷ (NameUnknown, fails is_communicator communicator)
+    ∷ [])
+
+-- what a word says: the other value where there is no word, and None where the word says nothing
+abbrev pub read_at : {A : Type 0} → (List ℕ → Option A) → A → Option (List ℕ) → Option A
+read_at meaning other None = Some other
+read_at meaning other (Some word) = meaning word

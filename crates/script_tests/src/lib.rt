@@ -1,0 +1,10 @@
+//! Tests of the reader of scripts and of the lines of transcripts, by public calls alone. They stand in a crate of their
+//! own, so that the crate below is proved once.
+#![tactic(auto)]
+
+#[cfg(test)]
+mod lines;
+#[cfg(test)]
+mod reading;
+#[cfg(test)]
+mod refusing;
