@@ -2,4 +2,4 @@ pub mod Moving
 pub mod Turning
 pub mod Exchanging
 pub mod Reporting
-pub mod Bytes
+pub mod Pieces

@@ -1,3 +1,4 @@
+//! A rank of a run: what it posts, what it learns, and its lines.
 ghost use Rattle.std.specs.Prelude.{◌≡◌, ◌<◌, ◌≤◌, ◌↔◌, IfOk, OnOk, IsTrue, Some, [], false, map, string_bytes};
 
 use join_core::OutOfMemory;
@@ -56,7 +57,7 @@ impl<'a> Rank<'a> {
         ensures less { IfOk result (λ moved. IsTrue moved → left_of (rank_of self.new) < left_of (rank_of self.old)) }
     {
         if self.waits {
-            self.hear(alloc)
+            self.tell_outcome(alloc)
         } else {
             self.post_next(alloc)
         }
@@ -103,8 +104,8 @@ impl<'a> Rank<'a> {
         }
     }
 
-    // Waits for the outcome of the last post.
-    fn hear(&mut self, alloc: Global) -> Result<bool, OutOfMemory>
+    // The line of the last post's outcome, where its row is whole.
+    fn tell_outcome(&mut self, alloc: Global) -> Result<bool, OutOfMemory>
         requires { IsTrue (rank_of self.old).waits }
         ensures moves { IfOk result (λ moved. (s : Local) → Stands (rank_of self.old) s → IsFresh (rank_of self.old) s → Moves moved (rank_of self.old) (rank_of self.new) s) }
         ensures stays { IfOk result (λ moved. moved ≡ false → rank_of self.new ≡ rank_of self.old) }

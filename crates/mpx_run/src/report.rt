@@ -1,3 +1,4 @@
+//! The report of a run: its text, and who waits.
 ghost use Rattle.std.specs.Prelude.{◌≡◌, ◌++◌, ◌<◌, ◌≤◌, ◌∷◌, [], cond, IfOk, OnOk, length, map, slice_get, string_bytes};
 ghost use Rattle.mpx_script.specs.Transcripts.{rank_text, text_upto};
 ghost use Rattle.mpx_run.specs.Shown.{rank_of};

@@ -1,3 +1,4 @@
+//! The turns of a run.
 ghost use Rattle.std.specs.Prelude.{◌≡◌, ◌<◌, ◌≤◌, IfOk, OnOk, IsTrue, length, map};
 ghost use Rattle.mpx_script.specs.Evaluation.{State};
 ghost use Rattle.mpx_board.specs.Looks.{look};

@@ -11,7 +11,7 @@ use Rattle.mpx_script.specs.Transcripts.{outcome_text}
 use Rattle.mpx_run.specs.Running.{RankView, GoesOn}
 use Rattle.mpx_run.specs.Shown.{rank_of}
 use Rattle.mpx_run.proofs.Moving.{done_is, not_yet_is, newest_is, hears, waits_on, lines_push}
-use Rattle.mpx_run.proofs.rank.Rank.hear.Goals as goal
+use Rattle.mpx_run.proofs.rank.Rank.tell_outcome.Goals as goal
 
 pub returns-in-NotYet-clause-moves : goal.returns-in-NotYet-clause-moves
 returns-in-NotYet-clause-moves c s stands fresh =

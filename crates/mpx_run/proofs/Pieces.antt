@@ -2,16 +2,19 @@
 use Rattle.std.proofs.Common.{◌≡◌, ℕ, ◌+◌, ◌-◌, ◌≤◌, List, [], ◌++◌, length, take, drop, Option, Some, None, refl, sym, ap, ◌∙◌, ◌<◌, arith, subst}
 use Rattle.std.specs.Prelude.{IfSome}
 use Rattle.std.specs.Io.KnownBytes.{Appends, Keeps, Consumes, IsAtEnd}
-use Rattle.std.proofs.lemmas.List.{append-nil, append_assoc, take_all, length-drop, length-append, length-take-le, take-append-le}
+use Rattle.std.proofs.lemmas.List.{append-nil, append_assoc, take_all, length-drop, length-append, length-take, length-take-le, take-append-le}
 use Rattle.std.proofs.Math.Nat.{min-le_left, min-le_right, le-min}
-use Rattle.std.specs.Prelude.{min}
+use Rattle.std.specs.Prelude.{min, Result, Err, OnErr}
 use Rattle.std.proofs.Math.Seq.{take-add, take-append_seam}
 use Rattle.std.proofs.Common.{Ok}
 use Rattle.mpx_script.specs.ScriptView.{ScriptView}
 use Rattle.mpx_script.specs.Reading.{reading}
 use Rattle.mpx_run.specs.declared.end.End.{End}
 use Rattle.mpx_run.specs.Reports.{IsReport}
-use Rattle.mpx_run.specs.Texts.{IsInput, RunsTo}
+use Rattle.mpx_script.specs.Words.{bytes_limit}
+use Rattle.mpx_run.specs.Texts.{Prints, TakesInput, TakesPart, Runs}
+use Rattle.mpx_run.specs.declared.texts.RunError.{RunError}
+use Rattle.mpx_run.specs.declared.texts.RunError.TheVariants as E
 
 -- READING
 
@@ -65,6 +68,13 @@ module _ (size most : ℕ) (piece buf : List ℕ) (whole : length piece ≡ 8192
       let m : min (1048577 - size) 8192 ≤ 1048577 - size = min-le_left (1048577 - size) 8192 in
       omega (arith, all, part, m, is, room, l, at, h)
 
+  pub more_read : (count : ℕ) (items new : List ℕ) → new ≡ items ++ take count buf → count ≤ length buf → (count ≡ 0 → ⊥) → length items < 1048577 → 1048577 - length new < 1048577 - length items
+  more_read count items new e l some more =
+      let all : length new ≡ length items + length (take count buf) = ap length e ∙ length-append items (take count buf) in
+      let part : length (take count buf) ≡ count = length-take-le count buf l in
+      let one : 1 ≤ count = grind (arith, some) in
+      omega (arith, all, part, one, more)
+
   pub same_piece : length (buf ++ drop most piece) ≡ 8192
   same_piece =
       let all : length (buf ++ drop most piece) ≡ length buf + length (drop most piece) = length-append buf (drop most piece) in
@@ -116,7 +126,34 @@ pub keeps_same : (a : Option (List ℕ)) → Keeps a a
 keeps_same None = tt
 keeps_same (Some xs) = refl
 
--- RUNNING
+-- TAKING
 
-pub ran : (there : Option (List ℕ)) (bytes now : List ℕ) (script : ScriptView) (end : End) (text : List ℕ) → now ≡ bytes → IsInput there bytes → reading now ≡ Ok script → IsReport script end text → RunsTo there end text
-ran there bytes now script end text same input read report = record { text = bytes; input = input; script = script; read = ap reading (sym same) ∙ read; report = report }
+-- a read that gives none takes none
+pub stops : (a b c : Option (List ℕ)) (xs buf : List ℕ) (count : ℕ) → Consumes a b xs → Consumes b c (take count buf) → count ≡ 0 → Consumes a c xs
+stops a b c xs buf count f g e = consumes_more a b c xs [] xs f (subst (λ m. Consumes b c (take m buf)) e g) (sym (append-nil xs))
+
+pub on_err : {T E P : Type 0} (r : Result T E) → P → OnErr r P
+on_err (Ok x) p = tt
+on_err (Err e) p = p
+
+-- nothing more is taken
+pub consumes_keeps : (a b c : Option (List ℕ)) (xs : List ℕ) → Consumes a b xs → Keeps b c → Consumes a c xs
+consumes_keeps None b c xs f k = tt
+consumes_keeps (Some us) None c xs f k = absurd f
+consumes_keeps (Some us) (Some bs) None xs f k = absurd k
+consumes_keeps (Some us) (Some bs) (Some cs) xs f k = f ∙ ap (λ ts. xs ++ ts) (sym k)
+
+within_take : (n : ℕ) (xs : List ℕ) → length (take n xs) ≤ n
+within_take n xs = let e = length-take n xs in let l = min-le_left n (length xs) in omega (arith, e, l)
+
+takes_part : (there left : Option (List ℕ)) (text : List ℕ) → TakesInput there left text → TakesPart there left
+takes_part None left text t = ([], omega arith, tt)
+takes_part (Some all) left text t = (text, subst (λ xs. length xs ≤ bytes_limit + 1) (sym t.0) (within_take (bytes_limit + 1) all), t.1)
+
+-- the answer of a text's run is that of a reader which gives the text
+pub runs_input : (there left old new : Option (List ℕ)) (text now : List ℕ) (answer : Result End RunError) → TakesInput there left text → now ≡ text → Prints now old new answer → Runs there left old new answer
+runs_input there left old new text now (Ok end) t e p = record { text = text; taken = t; prints = subst (λ xs. Prints xs old new (Ok end)) e p }
+runs_input there left old new text now (Err (E.Script refusal)) t e p = record { text = text; taken = t; prints = subst (λ xs. Prints xs old new (Err (E.Script refusal))) e p }
+runs_input there left old new text now (Err E.Memory) t e p = (takes_part there left text t, p)
+runs_input there left old new text now (Err E.Read) t e p = absurd p
+runs_input there left old new text now (Err E.Write) t e p = record { text = text; taken = t; prints = subst (λ xs. Prints xs old new (Err E.Write)) e p }

@@ -1,5 +1,5 @@
-use Rattle.mpx_run.proofs.Bytes.{appends_rest, within_rest}
-use Rattle.mpx_run.proofs.texts.write_bytes.Goals as goal
+use Rattle.mpx_run.proofs.Pieces.{appends_rest, within_rest}
+use Rattle.mpx_run.proofs.bytes.write_bytes.Goals as goal
 
 pub loop-done-preserved : goal.loop-done-preserved
 loop-done-preserved g c = record {
