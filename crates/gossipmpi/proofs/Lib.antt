@@ -1,6 +1,1 @@
-pub mod Moving
-pub mod Turning
-pub mod Exchanging
-pub mod Reporting
-pub mod Bytes
 pub mod WordLemmas

@@ -1,8 +1,2 @@
-pub mod Running
-pub mod Shown
-pub mod Turns
-pub mod Views
-pub mod Reports
-pub mod Texts
 pub mod Status
 pub mod Words

@@ -2,10 +2,10 @@
 use Rattle.std.specs.Prelude.{ℕ, Result, Ok, Err}
 use Rattle.clap.specs.declared.error.kind.ErrorKind.{ErrorKind}
 use Rattle.clap.specs.declared.error.kind.ErrorKind.TheVariants as kind
-use Rattle.gossipmpi.specs.declared.end.End.{End}
-use Rattle.gossipmpi.specs.declared.end.End.TheVariants.{Finished, Waiting}
-use Rattle.gossipmpi.specs.declared.run_text.RunError.{RunError}
-use Rattle.gossipmpi.specs.declared.run_text.RunError.TheVariants.{Script, Memory, Read, Write}
+use Rattle.mpx_run.specs.declared.end.End.{End}
+use Rattle.mpx_run.specs.declared.end.End.TheVariants.{Finished, Waiting}
+use Rattle.mpx_run.specs.declared.texts.RunError.{RunError}
+use Rattle.mpx_run.specs.declared.texts.RunError.TheVariants.{Script, Memory, Read, Write}
 
 -- the status of a run
 abbrev pub status : Result End RunError → ℕ

@@ -3,16 +3,12 @@
 #![tactic(auto)]
 
 mod command;
-mod end;
-mod rank;
-mod report;
-mod run_text;
 mod status;
 #[cfg(test)]
 mod tests;
-mod turns;
 
 use command::Job;
+use mpx_run::run_text;
 use std::alloc::AllocError;
 use std::process::ExitCode;
 use std::{env, io};
@@ -33,7 +29,7 @@ fn asked_job(rt: &HostRuntime) -> Result<Job, clap::Error> {
 fn main(rt: HostRuntime) -> ExitCode {
     match asked_job(&rt) {
         Ok(Job::Run) => {
-            let answer = run_text::run_text(rt.alloc(), &mut rt.reader(), &mut io::writer(&rt));
+            let answer = run_text(rt.alloc(), &mut rt.reader(), &mut io::writer(&rt));
             let _ = status::write_message(&answer, &mut rt.stderr());
             ExitCode::from(status::status_of(&answer))
         }

@@ -3,9 +3,8 @@ ghost use Rattle.std.specs.Prelude.{◌≡◌};
 ghost use Rattle.clap.specs.Words.{kind_of};
 ghost use Rattle.gossipmpi.specs.Status.{refusal_status, status};
 
-use crate::end::End;
-use crate::run_text::RunError;
 use clap::error::ErrorKind;
+use mpx_run::{End, RunError};
 use std::io;
 use std::io::Write;
 
@@ -58,8 +57,7 @@ pub fn print_refusal<R: Print + Eprint>(rt: &R, refusal: &clap::Error) -> io::Re
 #[cfg(test)]
 mod tests {
     use super::write_message;
-    use crate::end::End;
-    use crate::run_text::RunError;
+    use mpx_run::{End, RunError};
     use std::test::Fail;
 
     #[test]

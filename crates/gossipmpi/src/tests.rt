@@ -1,6 +1,5 @@
-use crate::end::End;
-use crate::run_text::{RunError, run_text};
 use crate::status::status_of;
+use mpx_run::{End, RunError, run_text};
 use std::alloc::{AllocError, Global};
 use std::io::{self, ErrorKind, Read, Write};
 use std::process::Abort;

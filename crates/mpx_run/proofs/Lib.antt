@@ -1,0 +1,5 @@
+pub mod Moving
+pub mod Turning
+pub mod Exchanging
+pub mod Reporting
+pub mod Pieces
