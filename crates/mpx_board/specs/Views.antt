@@ -16,7 +16,7 @@ use Rattle.join_nest.specs.declared.truncs.Trunc.{Trunc}
 use Rattle.mpx_name.specs.Order.{name_cmp}
 use Rattle.mpx_post.specs.Births.{BirthView}
 use Rattle.mpx_post.specs.Posts.{Given}
-use Rattle.mpx_board.specs.Boards.{Name}
+use Rattle.mpx_name.specs.Name.{Name}
 use Rattle.mpx_board.specs.Parts.{OfProcesses, OfNames, CallView, EntryView, AcksView, PartsView}
 
 module _ {O : ord.Ghosts ℕ} {E : partial_eq.Ghosts ℕ} {P : partial_ord.Ghosts ℕ} where
