@@ -1,0 +1,13 @@
+//! Tests of boards with values from outside, and one run of each call that takes memory. They stand in a crate of their
+//! own, so that the crates below are proved once. Functions are short, and those with many exits own no board: each exit of a
+//! function walks the drop of all that it owns.
+#![tactic(auto)]
+
+#[cfg(test)]
+mod calls;
+#[cfg(test)]
+mod joins;
+#[cfg(test)]
+mod making;
+#[cfg(test)]
+mod parts;
