@@ -17,7 +17,7 @@ use Rattle.mpx_board.specs.Boards.{Look, Context, Held, Front, about, nothing, j
 use Rattle.mpx_node.specs.declared.finished.Finished.{Finished}
 use Rattle.mpx_value.specs.declared.outcomes.Outcome.{Outcome}
 use Rattle.mpx_node.specs.declared.node.Harvest.TheVariants as H
-use Rattle.mpx_value.specs.Histories.{Made, Results, posts_on}
+use Rattle.mpx_value.specs.Histories.{Made, posts_on}
 use Rattle.mpx_value.proofs.Growth.{posts_on-append}
 use Rattle.mpx_node.specs.Nodes.{NodeView, OpenedView, Posts, does_on, posted_by as opened_posted, results_by, front_on, post_at, checked_on, checked_by, result_of, next_of as next_by, next_result, add_result, outcome_on}
 use Rattle.mpx_node.specs.Harvests.{Harvests}
