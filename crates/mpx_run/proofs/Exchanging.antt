@@ -13,16 +13,16 @@ use Rattle.mpx_post.specs.Equality.{same_given, given_equality}
 use Rattle.mpx_post.specs.Births.{BirthView, upto, same_birth, birth_equality}
 use Rattle.mpx_post.specs.Rows.{all_of}
 use Rattle.mpx_board.specs.Boards.{Look, Context, about, nothing, empty, join, minimum, floor_on, told}
-use Rattle.mpx_value.specs.Histories.{History, Results, value_for}
+use Rattle.mpx_value.specs.Histories.{History, Made, Results, value_for}
 use Rattle.mpx_node.specs.Nodes.{outcome_on}
 use Rattle.mpx_script.specs.declared.statement.Statement.{Statement}
-use Rattle.mpx_post.specs.Drafts.{checked}
 use Rattle.mpx_post.specs.declared.draft.PostError.{PostError}
-use Rattle.mpx_script.specs.Ranks.{Local, Todo, Await, step, step_by, next_of, posts_or_refuses, draft_of, doing}
+use Rattle.mpx_script.specs.Ranks.{Local, Todo, Await, step, step_by, next_of, posts_or_refuses, attempt, doing}
 use Rattle.mpx_script.specs.Evaluation.{State, world_of, history, known as knows, moves, IsMaximal}
 use Rattle.mpx_run.specs.Running.{RankView, told_by, todo_of, left_of, of_world, harvested_by, Stands}
 use Rattle.mpx_run.specs.Turns.{Agrees, TellsTruth, IsHarvested, Shows, IsFull, total_left, IsStuckAt, GoesRound, Turns, Ends, all_joined, learns, drops, prunes, catches_up}
-use Rattle.mpx_run.proofs.Moving.{some_within, step_ends, nothing_new, learns_birth, learns_dropped, learns_fronts, learns_posts}
+use Rattle.mpx_script.proofs.Steps.{step_ends}
+use Rattle.mpx_run.proofs.Moving.{some_within, nothing_new, learns_birth, learns_dropped, learns_fronts, learns_posts}
 use Rattle.mpx_run.proofs.Turning.{agrees_join, agrees_cut, learns_truth, known_stays, last, born_is, me_is, outcomes_of, moves-append}
 
 -- THE JOIN OF ALL BOARDS
@@ -93,7 +93,7 @@ module _ (h : History) where
   joined_truth : (rs : List RankView) (b : Look) → TellsTruth b h → AllTrue rs → TellsTruth (joins b rs) h
   unfolding AllTrue
   joined_truth [] b t truth = t
-  joined_truth (r ∷ rs) b t truth = joined_truth rs (join b r.node.board) (λ k q. join_truth b r.node.board k q (h k q) (t k q) (truth 0 r refl k q)) (tail r rs truth)
+  joined_truth (r ∷ rs) b t truth = joined_truth rs (join b r.node.board) (λ k q. join_truth b r.node.board k q (h [] k q) (t k q) (truth 0 r refl k q)) (tail r rs truth)
 
 -- each front that was joined is at most the last one
 joined_above : (rs : List RankView) (b : Look) (k : ℕ) → (of_world (joins b rs)).dropped ≤ k → ((of_world b).dropped ≤ k) × ((p : ℕ) (r : RankView) → slice_get rs p ≡ Some r → (of_world r.node.board).dropped ≤ k)
@@ -120,14 +120,14 @@ joined_harvested ranks (r ∷ rs) b h each = joined_harvested ranks rs (join b r
       (omega (arith, one.0, other.0), omega (arith, one.1, other.1))
 
 module _ (h : History) where
-  joined_keeps : (rs : List RankView) (b : Look) (k q : ℕ) (given : Given) → h k q ≡ Some given → AllTrue h rs → (of_world (joins b rs)).dropped ≤ k → (of_world b).posts k q ≡ known given → (of_world (joins b rs)).posts k q ≡ known given
+  joined_keeps : (rs : List RankView) (b : Look) (k q : ℕ) (given : Given) → h [] k q ≡ Some given → AllTrue h rs → (of_world (joins b rs)).dropped ≤ k → (of_world b).posts k q ≡ known given → (of_world (joins b rs)).posts k q ≡ known given
   unfolding AllTrue
   joined_keeps [] b k q given e truth l has = has
   joined_keeps (r ∷ rs) b k q given e truth l has =
       joined_keeps rs (join b r.node.board) k q given e (tail h r rs truth) l
       (join_from b r.node.board k q (joined_above rs (join b r.node.board) k l).0 ∙ known_stays ((of_world b).posts k q) ((of_world r.node.board).posts k q) given has (subst (Agrees ((of_world r.node.board).posts k q)) e (truth 0 r refl k q)))
 
-  joined_has : (rs : List RankView) (b : Look) (p : ℕ) (r : RankView) (k q : ℕ) (given : Given) → h k q ≡ Some given → TellsTruth b h → AllTrue h rs → slice_get rs p ≡ Some r → (of_world (joins b rs)).dropped ≤ k → (of_world r.node.board).posts k q ≡ known given → (of_world (joins b rs)).posts k q ≡ known given
+  joined_has : (rs : List RankView) (b : Look) (p : ℕ) (r : RankView) (k q : ℕ) (given : Given) → h [] k q ≡ Some given → TellsTruth b h → AllTrue h rs → slice_get rs p ≡ Some r → (of_world (joins b rs)).dropped ≤ k → (of_world r.node.board).posts k q ≡ known given → (of_world (joins b rs)).posts k q ≡ known given
   unfolding AllTrue
   joined_has [] b p r k q given e t truth at l has = cc at
   joined_has (x ∷ rs) b zero r k q given e t truth at l has =
@@ -136,7 +136,7 @@ module _ (h : History) where
       joined_keeps rs (join b x.node.board) k q given e (tail h x rs truth) l
       (join_from b x.node.board k q (joined_above rs (join b x.node.board) k l).0 ∙ known_comes ((of_world b).posts k q) ((of_world x.node.board).posts k q) given there (subst (Agrees ((of_world b).posts k q)) e (t k q)))
   joined_has (x ∷ rs) b (suc p) r k q given e t truth at l has =
-      joined_has rs (join b x.node.board) p r k q given e (λ j i. join_truth b x.node.board j i (h j i) (t j i) (truth 0 x refl j i)) (tail h x rs truth) at l has
+      joined_has rs (join b x.node.board) p r k q given e (λ j i. join_truth b x.node.board j i (h [] j i) (t j i) (truth 0 x refl j i)) (tail h x rs truth) at l has
 
 -- EVERY BOARD LEARNS WHAT ALL KNOW
 
@@ -173,17 +173,18 @@ module _ (n : ℕ) (ranks : List RankView) (s : State) (shows : Shows n ranks s)
   learned_stands : (r : RankView) (p : ℕ) → slice_get ranks p ≡ Some r → Stands (learns (all_joined ranks) r) (s p)
   learned_stands r p at =
       let h = shows.each p r at in
-      let world = shows.world p in
       record {
         me = h.me;
         opened = h.opened;
-        born = ap (λ v. flat_join same_birth v (of_world (all_joined ranks)).birth) (born_is n ranks s shows p r at) ∙ known_birth (world_of n) _ all_born ∙ sym (ap known world);
+        ranks = n;
+        born = ap (λ v. flat_join same_birth v (of_world (all_joined ranks)).birth) (born_is n ranks s shows p r at) ∙ known_birth (world_of n) _ all_born;
+        bound = shows.bound p;
         todo = h.todo;
         posted = h.posted;
         harvested = h.harvested;
         kept = (learned_harvested r (shows.fronts p r at) p r at).1;
         own = λ k given l e. join_from r.node.board (all_joined ranks) k (s p).me l ∙ known_stays ((of_world r.node.board).posts k (s p).me) ((of_world (all_joined ranks)).posts k (s p).me) given (h.own k given (omega (arith, l)) e)
-            (subst (Agrees ((of_world (all_joined ranks)).posts k (s p).me)) (ap (history s k) (shows.me p) ∙ e) (all_truth k (s p).me));
+            (subst (Agrees ((of_world (all_joined ranks)).posts k (s p).me)) (ap (history s [] k) (shows.me p) ∙ e) (all_truth k (s p).me));
         lines = h.lines;
       }
 
@@ -193,12 +194,12 @@ module _ (n : ℕ) (ranks : List RankView) (s : State) (shows : Shows n ranks s)
     each = λ p r e. let from = mapped (learns (all_joined ranks)) ranks p r e in
         subst (λ (x : RankView). Stands x (s p)) from.2 (learned_stands from.0 p from.1);
     truth = λ p r e. let from = mapped (learns (all_joined ranks)) ranks p r e in
-        subst (λ (x : RankView). TellsTruth x.node.board (history s)) from.2 (λ k q. join_truth from.0.node.board (all_joined ranks) k q (history s k q) (shows.truth p from.0 from.1 k q) (all_truth k q));
+        subst (λ (x : RankView). TellsTruth x.node.board (history s)) from.2 (λ k q. join_truth from.0.node.board (all_joined ranks) k q (history s [] k q) (shows.truth p from.0 from.1 k q) (all_truth k q));
     fronts = λ p r e. let from = mapped (learns (all_joined ranks)) ranks p r e in
         subst (λ (x : RankView). IsHarvested (map (learns (all_joined ranks)) ranks) x.node.board) from.2
         (harvested_mapped (learns (all_joined ranks)) (λ x. refl) ranks (join from.0.node.board (all_joined ranks)) (learned_harvested from.0 (shows.fronts p from.0 from.1)));
     me = shows.me;
-    world = shows.world;
+    bound = shows.bound;
     quiet = shows.quiet;
   }
 
@@ -287,7 +288,7 @@ module _ (n : ℕ) (ranks : List RankView) (s : State) (shows : Shows n ranks s)
 
   pruned_truth : TellsTruth pruned (history s)
   unfolding pruned what_drops
-  pruned_truth k q = learns_truth r.node.board what_drops k q (history s k q) (shows.truth p r at k q) tt
+  pruned_truth k q = learns_truth r.node.board what_drops k q (history s [] k q) (shows.truth p r at k q) tt
 
   pruned_harvested : IsHarvested ranks pruned
   unfolding pruned what_drops
@@ -304,7 +305,9 @@ module _ (n : ℕ) (ranks : List RankView) (s : State) (shows : Shows n ranks s)
       subst (λ (x : RankView). Stands x (s p)) (sym prunes_is) (record {
         me = h.me;
         opened = h.opened;
+        ranks = h.ranks;
         born = learns_birth r.node.board what_drops refl ∙ h.born;
+        bound = h.bound;
         todo = h.todo;
         posted = h.posted;
         harvested = h.harvested;
@@ -326,7 +329,7 @@ module _ (n : ℕ) (ranks : List RankView) (s : State) (shows : Shows n ranks s)
         subst (λ (x : RankView). IsHarvested (map prunes ranks) x.node.board) (sym (prunes_is n ranks s shows p from.0 from.1) ∙ from.2)
         (harvested_mapped prunes (λ x. drops_harvested (floor_on x.node.board []) x) ranks (pruned n ranks s shows p from.0 from.1) (pruned_harvested n ranks s shows p from.0 from.1));
     me = shows.me;
-    world = shows.world;
+    bound = shows.bound;
     quiet = shows.quiet;
   }
 
@@ -385,25 +388,25 @@ tells_all v None a full = ap told (nothing v a) where
 tells_all v (Some given) a full = ap told (full given refl)
 
 -- a step asks for the outcome that is awaited, and for no other
-same_steps : (f g : Results) (s : Local) (waits : Bool) (call : ℕ) (todo : List Statement) → s.todo ≡ todo_of waits call todo → f call ≡ g call → step f s ≡ step g s
+same_steps : (f g : Results) (s : Local) (waits : Bool) (call : ℕ) (todo : List Statement) → s.todo ≡ todo_of waits call todo → f [] call ≡ g [] call → step f s ≡ step g s
 same_steps f g s waits call todo e same = ap (λ t. step_by f s (next_of s t)) e ∙ by_todo waits todo ∙ ap (λ t. step_by g s (next_of s t)) (sym e) where
-  by_answer : (rest : List Todo) (answer : Result Given PostError) → step_by f s (posts_or_refuses s rest answer) ≡ step_by g s (posts_or_refuses s rest answer)
+  by_answer : (rest : List Todo) (answer : Result Made PostError) → step_by f s (posts_or_refuses s rest answer) ≡ step_by g s (posts_or_refuses s rest answer)
   by_answer rest (Ok given) = refl
   by_answer rest (Err refusal) = refl
 
   by_todo : (waits : Bool) (todo : List Statement) → step_by f s (next_of s (todo_of waits call todo)) ≡ step_by g s (next_of s (todo_of waits call todo))
-  by_todo true todo = ap (λ o. step_by (λ j. o) s (next_of s (Await call ∷ doing todo))) same
+  by_todo true todo = ap (λ o. step_by (λ name j. o) s (next_of s (Await [] call ∷ doing todo))) same
   by_todo false [] = refl
-  by_todo false (x ∷ todo) = by_answer (doing todo) (checked s.world s.me (record { call = length s.posts }) (draft_of x))
+  by_todo false (x ∷ todo) = by_answer (doing todo) (attempt s.me s.bound s.made x)
 
 module _ (n : ℕ) (ranks : List RankView) (s : State) (shows : Shows n ranks s) (full : IsFull n ranks s) where
   -- from its dropped front on a rank knows all that is known
-  knows_all : (p : ℕ) (r : RankView) → slice_get ranks p ≡ Some r → (k : ℕ) → (of_world r.node.board).dropped ≤ k → told_by r k ≡ knows n s p k
+  knows_all : (p : ℕ) (r : RankView) → slice_get ranks p ≡ Some r → (k : ℕ) → (of_world r.node.board).dropped ≤ k → told_by r [] k ≡ knows n s p [] k
   knows_all p r at k above =
       ap (λ me. outcome_on r.node.board [] me k) (me_is n ranks s shows p r at)
       ∙ outcomes_of r.node.board n p (born_is n ranks s shows p r at) k
-      ∙ ap (option_and_then (value_for (world_of n) p)) (all_of-same (λ q. told ((of_world r.node.board).posts k q)) (history s k) (upto n)
-      (all_below (λ q. told ((of_world r.node.board).posts k q) ≡ history s k q) n (λ q l. tells_all ((of_world r.node.board).posts k q) (history s k q) (shows.truth p r at k q) (λ given e. full p r at k q given l above e))))
+      ∙ ap (option_and_then (value_for (world_of n) p)) (all_of-same (λ q. told ((of_world r.node.board).posts k q)) (history s [] k) (upto n)
+      (all_below (λ q. told ((of_world r.node.board).posts k q) ≡ history s [] k q) n (λ q l. tells_all ((of_world r.node.board).posts k q) (history s [] k q) (shows.truth p r at k q) (λ given e. full p r at k q given l above e))))
 
   -- a rank asks for no call below its dropped front
   step_same : (p : ℕ) (r : RankView) → slice_get ranks p ≡ Some r → step (knows n s p) (s p) ≡ step (told_by r) (s p)

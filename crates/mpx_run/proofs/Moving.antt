@@ -17,14 +17,18 @@ use Rattle.mpx_board.specs.Boards.{Look, Context, Held, Front, about, nothing, j
 use Rattle.mpx_node.specs.declared.finished.Finished.{Finished}
 use Rattle.mpx_value.specs.declared.outcomes.Outcome.{Outcome}
 use Rattle.mpx_node.specs.declared.node.Harvest.TheVariants as H
-use Rattle.mpx_value.specs.Histories.{Results}
+use Rattle.mpx_value.specs.Histories.{Made, posts_on}
+use Rattle.mpx_value.proofs.Growth.{posts_on-append}
 use Rattle.mpx_node.specs.Nodes.{NodeView, OpenedView, Posts, does_on, posted_by as opened_posted, results_by, front_on, post_at, checked_on, checked_by, result_of, next_of as next_by, next_result, add_result, outcome_on}
 use Rattle.mpx_node.specs.Harvests.{Harvests}
 use Rattle.mpx_script.specs.declared.statement.Statement.{Statement}
-use Rattle.mpx_script.specs.Ranks.{Local, Act, Todo, Do, Await, Told, Refused, step, step_by, next_of, posts_or_refuses, done, draft_of, doing}
-use Rattle.mpx_script.specs.Transcripts.{line_text}
+use Rattle.mpx_script.specs.declared.statement.Statement.TheVariants.{Call}
+use Rattle.mpx_script.specs.Ranks.{Local, Do, Await, Told, Refused, step, attempt, made_on, done, draft_of, doing}
+use Rattle.mpx_script.specs.Evaluation.{bound_at_start, world_of}
+use Rattle.mpx_script.specs.Transcripts.{line_text, outcome_text}
 use Rattle.mpx_script.proofs.Fronts.{append-nil}
-use Rattle.mpx_run.specs.Running.{RankView, told_by, todo_of, of_world, posted_by, harvested_by, Stands, IsFresh, tells_nothing, tells_post, tells_front, GoesOn}
+use Rattle.mpx_script.proofs.Steps.{heard, posted as makes, turned_down, step_ends, step_hears, step_waits, step_posts, step_refused}
+use Rattle.mpx_run.specs.Running.{RankView, world_posts, told_by, todo_of, of_world, posted_by, harvested_by, Stands, IsFresh, tells_nothing, tells_post, tells_front, GoesOn}
 
 -- WHAT THE NODE'S ANSWERS SAY
 
@@ -158,69 +162,55 @@ same_results (Some o) = refl
 
 -- STEPS
 
-abbrev heard : List Todo → Outcome → Act
-heard rest outcome = record { todo = rest; posts = []; lines = Told outcome ∷ [] }
+abbrev asked : ℕ → Local → Statement → Result Given PostError
+asked n s statement = checked (world_of n) s.me (record { call = length (world_posts s) }) (draft_of statement)
 
-step_hears : (r : Results) (s : Local) (k : ℕ) (rest : List Todo) (outcome : Outcome) → s.todo ≡ Await k ∷ rest → r k ≡ Some outcome → step r s ≡ Some (done s (heard rest outcome))
-step_hears r s k rest outcome e f = ap (λ todo. step_by r s (next_of s todo)) e ∙ rw f
+-- a statement comes to a post on the world
+attempt_is : (n : ℕ) (s : Local) (statement : Statement) → s.bound ≡ bound_at_start n → attempt s.me s.bound s.made statement ≡ made_on [] (asked n s statement)
+attempt_is n s (Call draft) e = ap (λ bound. attempt s.me bound s.made (Call draft)) e
 
-step_waits : (r : Results) (s : Local) (k : ℕ) (rest : List Todo) → s.todo ≡ Await k ∷ rest → r k ≡ None → step r s ≡ None
-step_waits r s k rest e f = ap (λ todo. step_by r s (next_of s todo)) e ∙ rw f
-
-pub step_ends : (r : Results) (s : Local) → s.todo ≡ [] → step r s ≡ None
-step_ends r s e = ap (λ todo. step_by r s (next_of s todo)) e
-
-abbrev asked : Local → Statement → Result Given PostError
-asked s statement = checked s.world s.me (record { call = length s.posts }) (draft_of statement)
-
-abbrev made : Local → List Todo → Given → Act
-made s rest given = record { todo = Await (length s.posts) ∷ rest; posts = given ∷ []; lines = [] }
-
-abbrev turned_down : List Todo → PostError → Act
-turned_down rest refusal = record { todo = rest; posts = []; lines = Refused refusal ∷ [] }
-
-step_posts : (r : Results) (s : Local) (statement : Statement) (rest : List Todo) (given : Given) → s.todo ≡ Do statement ∷ rest → asked s statement ≡ Ok given → step r s ≡ Some (done s (made s rest given))
-step_posts r s statement rest given e f = ap (λ todo. step_by r s (next_of s todo)) e ∙ ap (λ x. step_by r s (posts_or_refuses s rest x)) f
-
-step_refused : (r : Results) (s : Local) (statement : Statement) (rest : List Todo) (refusal : PostError) → s.todo ≡ Do statement ∷ rest → asked s statement ≡ Err refusal → step r s ≡ Some (done s (turned_down rest refusal))
-step_refused r s statement rest refusal e f = ap (λ todo. step_by r s (next_of s todo)) e ∙ ap (λ x. step_by r s (posts_or_refuses s rest x)) f
+-- one more post on the world
+world_push : (ms : List Made) (given : Given) → posts_on [] (ms ++ record { name = []; given = given } ∷ []) ≡ posts_on [] ms ++ given ∷ []
+world_push ms given = posts_on-append [] ms (record { name = []; given = given } ∷ []) ∙ ap (λ b. posts_on [] ms ++ cond b (given ∷ []) []) (name_equality.reflexive [])
 
 told_opened : (o : Option OpenedView) (birth : BirthView) (me : ℕ) (statement : Statement) → is_some o ≡ true → checked_by o (Some birth) me (draft_of statement) ≡ checked birth me (record { call = opened_posted o }) (draft_of statement)
 told_opened None birth me statement e = cc e
 told_opened (Some o) birth me statement e = refl
 
 -- what the rank asks is what its node asks
-asks_same : (r : RankView) (s : Local) (statement : Statement) → Stands r s → checked_on r.node [] (draft_of statement) ≡ asked s statement
+asks_same : (r : RankView) (s : Local) (statement : Statement) → (h : Stands r s) → checked_on r.node [] (draft_of statement) ≡ asked h.ranks s statement
 asks_same r s statement h =
     (λ i. checked_by (r.node.opened []) (told (h.born i)) (h.me i) (draft_of statement))
-    ∙ told_opened (r.node.opened []) s.world s.me statement h.opened
-    ∙ λ i. checked s.world s.me (record { call = h.posted i }) (draft_of statement)
+    ∙ told_opened (r.node.opened []) (world_of h.ranks) s.me statement h.opened
+    ∙ λ i. checked (world_of h.ranks) s.me (record { call = h.posted i }) (draft_of statement)
 
 -- MOVES
 
 -- the rank hears the outcome that it waits for
-pub hears : (old : RankView) (finished : Finished) (text : List ℕ) → old.waits ≡ true → next_result old.node [] ≡ Some finished → text ≡ line_text (Told finished.outcome) → (s : Local) → Stands old s → GoesOn old (record { node = add_result [] finished old.node; todo = old.todo; waits = false; lines = old.lines ++ text ∷ [] }) s
+pub hears : (old : RankView) (finished : Finished) (text : List ℕ) → old.waits ≡ true → next_result old.node [] ≡ Some finished → text ≡ outcome_text finished.outcome → (s : Local) → Stands old s → GoesOn old (record { node = add_result [] finished old.node; todo = old.todo; waits = false; lines = old.lines ++ text ∷ [] }) s
 unfolding one_more
 hears old finished text w e t s h =
     let k = harvested_by old in
     let o = old.node.opened [] in
     let b = old.node.board in
     let more : Context = record nothing { fronts = λ q. cond (q == old.node.me) (k + 1) 0 } in
-    let todo : s.todo ≡ Await k ∷ doing old.todo = h.todo ∙ ap (λ x. todo_of x k old.todo) w in
-    let heard_it : told_by old k ≡ Some finished.outcome = told_result b old.node.me k finished (next_some o b old.node.me finished e) in
-    let same : s.posts ++ [] ≡ s.posts = append-nil s.posts in
+    let todo : s.todo ≡ Await [] k ∷ doing old.todo = h.todo ∙ ap (λ x. todo_of x k old.todo) w in
+    let heard_it : told_by old [] k ≡ Some finished.outcome = told_result b old.node.me k finished (next_some o b old.node.me finished e) in
+    let same : posts_on [] (s.made ++ []) ≡ world_posts s = ap (posts_on []) (append-nil s.made) in
     let waiting : posted_by old ≡ k + 1 = h.harvested ∙ ap (λ x. k + cond x 1 0) w in
     let opened = at_world (one_more finished) old.node in
     let front : length (results_by ((does_on [] (one_more finished) old.node).opened [])) ≡ k + 1 = ap (λ x. length (results_by x)) opened ∙ more_results finished o h.opened in
     let posted : opened_posted ((does_on [] (one_more finished) old.node).opened []) ≡ posted_by old = ap opened_posted opened ∙ same_posted finished o in
     let dropped : (of_world (join b (about [] more))).dropped ≡ (of_world b).dropped = learns_dropped b more ∙ omega arith in
     record {
-      to = done s (heard (doing old.todo) finished.outcome);
-      step = step_hears (told_by old) s k (doing old.todo) finished.outcome todo heard_it;
+      to = done s (heard s [] k (doing old.todo) finished.outcome);
+      step = step_hears (told_by old) s [] k (doing old.todo) finished.outcome todo heard_it;
       stands = record {
         me = h.me;
         opened = ap is_some opened ∙ stays_some (one_more finished) o ∙ h.opened;
+        ranks = h.ranks;
         born = learns_birth b more refl ∙ h.born;
+        bound = h.bound;
         todo = refl;
         posted = posted ∙ h.posted ∙ ap length (sym same);
         harvested = posted ∙ waiting ∙ sym front ∙ omega arith;
@@ -228,7 +218,7 @@ hears old finished text w e t s h =
         own = λ j given l g.
             learns_post b more j s.me refl (omega (arith, dropped, l)) ∙ nothing_new same_given ((of_world b).posts j s.me)
             ∙ h.own j given (omega (arith, dropped, l)) (rw same at g);
-        lines = ap (λ ls. ls ++ text ∷ []) h.lines ∙ ap (λ x. map line_text s.lines ++ x ∷ []) t ∙ sym (map-append line_text s.lines (Told finished.outcome ∷ []));
+        lines = ap (λ ls. ls ++ text ∷ []) h.lines ∙ ap (λ x. map line_text s.lines ++ x ∷ []) t ∙ sym (map-append line_text s.lines (Told [] k finished.outcome ∷ []));
       };
       gains = tells_front (λ i. join b (only (Front [] (h.me i) (sym front i)))) same;
       no_less = omega (arith, front);
@@ -253,9 +243,9 @@ waits_on old w e s h =
     let waiting : posted_by old ≡ k + 1 = h.harvested ∙ ap (λ x. k + cond x 1 0) w in
     let more : nat_lt k (posted_by old) ≡ true = grind (arith, nat_tests, waiting) in
     let none : result_of b [] old.node.me k ≡ None = next_none (old.node.opened []) b old.node.me h.opened more e in
-    let mine = some_within s.posts k (omega (arith, h.posted, waiting)) in
+    let mine = some_within (world_posts s) k (omega (arith, h.posted, waiting)) in
     let own : (of_world b).posts k old.node.me ≡ known mine.0 = ap ((of_world b).posts k) h.me ∙ h.own k mine.0 h.kept mine.1 in
-    step_waits (told_by old) s k (doing old.todo) (h.todo ∙ ap (λ x. todo_of x k old.todo) w) (no_outcome b old.node.me k mine.0 own none)
+    step_waits (told_by old) s [] k (doing old.todo) (h.todo ∙ ap (λ x. todo_of x k old.todo) w) (no_outcome b old.node.me k mine.0 own none)
 
 -- the last of a longer list is the new one
 split_push : {A : Type 0} (xs : List A) (y : A) (k : ℕ) (x : A) → slice_get (xs ++ y ∷ []) k ≡ Some x → ((k < length xs) × (slice_get xs k ≡ Some x)) ⊎ ((k ≡ length xs) × (x ≡ y))
@@ -291,31 +281,34 @@ posts old statement rest given w t e s h fresh =
     let o = old.node.opened [] in
     let k = harvested_by old in
     let more : Context = record nothing { posts = λ j q. cond ((j == posted_by old) && (q == old.node.me)) (known given) unknown } in
-    let more_is : more ≡ record nothing { posts = λ j q. cond ((j == length s.posts) && (q == s.me)) (known given) unknown } = λ i. record nothing { posts = λ j q. cond ((j == h.posted i) && (q == h.me i)) (known given) unknown } in
+    let more_is : more ≡ record nothing { posts = λ j q. cond ((j == length (world_posts s)) && (q == s.me)) (known given) unknown } = λ i. record nothing { posts = λ j q. cond ((j == h.posted i) && (q == h.me i)) (known given) unknown } in
     let todo : s.todo ≡ Do statement ∷ doing rest = h.todo ∙ λ i. todo_of (w i) k (t i) in
+    let push = world_push s.made given in
     let idle : posted_by old ≡ k + 0 = h.harvested ∙ ap (λ x. k + cond x 1 0) w in
-    let call : length s.posts ≡ k = omega (arith, h.posted, idle) in
+    let call : length (world_posts s) ≡ k = omega (arith, h.posted, idle) in
     let opened = at_world call_more old.node in
     let posted : opened_posted ((does_on [] call_more old.node).opened []) ≡ posted_by old + 1 = ap opened_posted opened ∙ more_posted o h.opened in
     let front : length (results_by ((does_on [] call_more old.node).opened [])) ≡ k = ap (λ x. length (results_by x)) opened ∙ ap length (same_results o) in
     let dropped : (of_world (join b (about [] more))).dropped ≡ (of_world b).dropped = learns_dropped b more ∙ omega arith in
     record {
-      to = done s (made s (doing rest) given);
-      step = step_posts (told_by old) s statement (doing rest) given todo (sym (asks_same old s statement h) ∙ e);
+      to = done s (makes s (doing rest) (record { name = []; given = given }));
+      step = step_posts (told_by old) s statement (doing rest) (record { name = []; given = given }) todo (attempt_is h.ranks s statement h.bound ∙ ap (made_on []) (sym (asks_same old s statement h) ∙ e));
       stands = record {
         me = h.me;
         opened = ap is_some opened ∙ stays_some call_more o ∙ h.opened;
+        ranks = h.ranks;
         born = learns_birth b more refl ∙ h.born;
-        todo = ap (λ j. Await j ∷ doing rest) (call ∙ sym front);
-        posted = posted ∙ simp length-append (omega (arith, h.posted));
+        bound = h.bound;
+        todo = ap (λ j. Await [] j ∷ doing rest) (call ∙ sym front);
+        posted = posted ∙ ap (λ j. j + 1) h.posted ∙ sym (length-append (world_posts s) (given ∷ [])) ∙ ap length (sym push);
         harvested = omega (arith, posted, front, idle);
         kept = omega (arith, dropped, front, h.kept);
         own = λ j x l g.
             let above : (of_world b).dropped ≤ j = omega (arith, dropped, l) in
-            learns_post b more j s.me refl above ∙ own_more b s.me s.posts given more more_is h.own fresh j x above g;
+            learns_post b more j s.me refl above ∙ own_more b s.me (world_posts s) given more more_is h.own fresh j x above (ap (λ ps. slice_get ps j) (sym push) ∙ g);
         lines = h.lines ∙ ap (map line_text) (sym (append-nil s.lines));
       };
-      gains = tells_post given (λ i. join b (only (Held [] (h.posted i) (h.me i) (known given)))) refl;
+      gains = tells_post given (λ i. join b (only (Held [] (h.posted i) (h.me i) (known given)))) push;
       no_less = omega (arith, front);
     }
 
@@ -323,14 +316,16 @@ pub is_refused : (old : RankView) (statement : Statement) (rest : List Statement
 is_refused old statement rest refusal text w t e l s h =
     let todo : s.todo ≡ Do statement ∷ doing rest = h.todo ∙ λ i. todo_of (w i) (harvested_by old) (t i) in
     let idle : posted_by old ≡ harvested_by old + 0 = h.harvested ∙ ap (λ x. harvested_by old + cond x 1 0) w in
-    let same : s.posts ++ [] ≡ s.posts = append-nil s.posts in
+    let same : posts_on [] (s.made ++ []) ≡ world_posts s = ap (posts_on []) (append-nil s.made) in
     record {
-      to = done s (turned_down (doing rest) refusal);
-      step = step_refused (told_by old) s statement (doing rest) refusal todo (sym (asks_same old s statement h) ∙ e);
+      to = done s (turned_down s (doing rest) refusal);
+      step = step_refused (told_by old) s statement (doing rest) refusal todo (attempt_is h.ranks s statement h.bound ∙ ap (made_on []) (sym (asks_same old s statement h) ∙ e));
       stands = record {
         me = h.me;
         opened = h.opened;
+        ranks = h.ranks;
         born = h.born;
+        bound = h.bound;
         todo = refl;
         posted = h.posted ∙ ap length (sym same);
         harvested = idle;

@@ -86,7 +86,9 @@ module _ (n : ℕ) (todos : List (List Statement)) (few : length todos ≡ n) wh
       record {
         me = refl;
         opened = ap is_some opened;
+        ranks = n;
         born = ap (λ (c : Context). c.birth) born;
+        bound = refl;
         todo = ap (λ o. doing (unwrap_or o [])) e;
         posted = ap opened_posted opened;
         harvested = ap opened_posted opened ∙ sym (ap (λ o. length (results_by o) + 0) opened);
@@ -108,7 +110,7 @@ module _ (n : ℕ) (todos : List (List Statement)) (few : length todos ≡ n) wh
       let at = first_at p r e in
       let born = world_about (record nothing { birth = known (world_of n) }) in
       let none : (of_world (start_node p n).board).posts k q ≡ unknown = ap (λ (c : Context). c.posts k q) born in
-      subst (λ (b : RankView). Agrees ((of_world b.node.board).posts k q) (history (start todos n) k q)) (sym at.rank) (subst (λ v. Agrees v (history (start todos n) k q)) (sym none) tt)
+      subst (λ (b : RankView). Agrees ((of_world b.node.board).posts k q) (history (start todos n) [] k q)) (sym at.rank) (subst (λ v. Agrees v (history (start todos n) [] k q)) (sym none) tt)
 
   nothing_harvested : (p : ℕ) (r : RankView) → slice_get (starts_from n 0 todos) p ≡ Some r → IsHarvested (starts_from n 0 todos) r.node.board
   nothing_harvested p r e q x f =
@@ -125,7 +127,7 @@ module _ (n : ℕ) (todos : List (List Statement)) (few : length todos ≡ n) wh
     truth = tells_nothing;
     fronts = nothing_harvested;
     me = λ p. refl;
-    world = λ p. refl;
+    bound = λ p. refl;
     quiet = start_quiet todos n (omega (arith, few));
   }
 

@@ -11,16 +11,18 @@ use Rattle.mpx_post.specs.Equality.{same_given, given_equality}
 use Rattle.mpx_post.specs.Births.{BirthView}
 use Rattle.mpx_post.specs.Rows.{all_of}
 use Rattle.mpx_board.specs.Boards.{Look, Context, about, nothing, join, told, row_on}
-use Rattle.mpx_value.specs.Histories.{History, Results, Within, value_for, results_of}
+use Rattle.mpx_value.specs.declared.outcomes.Outcome.{Outcome}
+use Rattle.mpx_value.specs.Histories.{History, Within, value_for, results_by}
+use Rattle.mpx_value.proofs.Growth.{all_of-grows}
 use Rattle.mpx_node.specs.Nodes.{outcome_on}
-use Rattle.mpx_script.specs.Ranks.{Local, Next, End, Asks, step, step_by, next, done}
-use Rattle.mpx_script.specs.Evaluation.{State, world_of, history, known as knows, or_stay, move, moves, IsPrefixOf}
-use Rattle.mpx_script.proofs.Growth.{all_of-grows}
-use Rattle.mpx_script.proofs.Fronts.{prefix_get, prefix_itself}
+use Rattle.mpx_script.specs.Ranks.{Bindings, Bound, Communicator, Local, step, next}
+use Rattle.mpx_script.specs.Evaluation.{State, bound_at_start, world_of, history, known as knows, or_stay, move, moves, IsPrefixOf}
+use Rattle.mpx_script.proofs.Fronts.{prefix_itself, history-grows}
+use Rattle.mpx_script.proofs.Steps.{step-keeps}
 use Rattle.mpx_script.proofs.Ways.{step-grows, step_by-adds}
 use Rattle.mpx_script.proofs.Ahead.{goes_on_cases}
 use Rattle.mpx_script.proofs.Ends.{goes_on-at, move-quiet}
-use Rattle.mpx_run.specs.Running.{RankView, told_by, left_of, of_world, harvested_by, Stands, IsFresh, Gains, tells_nothing, tells_post, tells_front, GoesOn, Moves}
+use Rattle.mpx_run.specs.Running.{RankView, world_posts, told_by, left_of, of_world, harvested_by, Stands, IsFresh, Gains, tells_nothing, tells_post, tells_front, GoesOn, Moves}
 use Rattle.mpx_run.proofs.Moving.{learns_posts, learns_fronts, learns_dropped}
 use Rattle.mpx_run.specs.Turns.{Agrees, TellsTruth, IsHarvested, Shows, total_left, Reaches, IsStuckAt, Exhausts, GoesRound}
 
@@ -72,36 +74,35 @@ outcomes_of b n me born k =
     ∙ ap (option_and_then (value_for (world_of n) me)) (rows_of b n born k)
 
 -- a truthful board tells no more than there is
-told_within : (b : Look) (h : History) (n me : ℕ) → (of_world b).birth ≡ known (world_of n) → TellsTruth b h → Within (outcome_on b [] me) (results_of h (world_of n) me)
+told_within : (b : Look) (h : History) (n me : ℕ) → (of_world b).birth ≡ known (world_of n) → TellsTruth b h → (k : ℕ) (outcome : Outcome) → outcome_on b [] me k ≡ Some outcome → results_by h [] (world_of n) me k ≡ Some outcome
 told_within b h n me born truth k outcome e =
     option_and_then_some (value_for (world_of n) me) (all_of (λ p. told ((of_world b).posts k p)) (world_of n).members) outcome (sym (outcomes_of b n me born k) ∙ e) (λ row f g.
-    ap (option_and_then (value_for (world_of n) me)) (all_of-grows (λ p. told ((of_world b).posts k p)) (h k) (λ p x t. told_agrees ((of_world b).posts k p) (h k p) x (truth k p) t) (world_of n).members row f) ∙ g)
+    ap (option_and_then (value_for (world_of n) me)) (all_of-grows (λ p. told ((of_world b).posts k p)) (h [] k) (λ p x t. told_agrees ((of_world b).posts k p) (h [] k p) x (truth k p) t) (world_of n).members row f) ∙ g)
+
+same_world : (m n : ℕ) → bound_at_start m ≡ bound_at_start n → world_of m ≡ world_of n
+same_world m n e = of_tied (ap (λ (bound : Bindings). map (λ (b : List ℕ × Bound). b.1) bound) e) where
+  of_tied : Communicator [] (world_of m) ∷ [] ≡ Communicator [] (world_of n) ∷ [] → world_of m ≡ world_of n
+  of_tied f = cc f
 
 module _ (n : ℕ) (ranks : List RankView) (s : State) (shows : Shows n ranks s) (p : ℕ) (r : RankView) (at : slice_get ranks p ≡ Some r) where
   pub born_is : (of_world r.node.board).birth ≡ known (world_of n)
-  born_is = (shows.each p r at).born ∙ ap known (shows.world p)
+  born_is = let h = shows.each p r at in h.born ∙ ap known (same_world h.ranks n (sym h.bound ∙ shows.bound p))
 
   pub me_is : r.node.me ≡ p
   me_is = (shows.each p r at).me ∙ shows.me p
 
   pub knows_more : Within (told_by r) (knows n s p)
-  knows_more k outcome e = told_within r.node.board (history s) n p born_is (shows.truth p r at) k outcome (ap (λ me. outcome_on r.node.board [] me k) (sym me_is) ∙ e)
+  knows_more (step ∷ parent) k outcome e = cc e
+  knows_more [] k outcome e = told_within r.node.board (history s) n p born_is (shows.truth p r at) k outcome (ap (λ me. outcome_on r.node.board [] me k) (sym me_is) ∙ e)
 
   past_end : {A : Type 0} (xs : List A) → slice_get xs (length xs) ≡ None
   past_end [] = refl
   past_end (x ∷ xs) = past_end xs
 
   pub is_fresh : IsFresh r (s p)
-  is_fresh = ap ((of_world r.node.board).posts (length (s p).posts)) (shows.me p) ∙ nothing_told _ (agrees_grows _ _ None (λ x e. sym (past_end (s p).posts) ∙ e) (shows.truth p r at (length (s p).posts) p))
+  is_fresh = ap ((of_world r.node.board).posts (length (world_posts (s p)))) (shows.me p) ∙ nothing_told _ (agrees_grows _ _ None (λ x e. sym (past_end (world_posts (s p))) ∙ e) (shows.truth p r at (length (world_posts (s p))) p))
 
 -- A MOVE
-
-step_keeps : (r : Results) (s : Local) (x : Next) (t : Local) → step_by r s x ≡ Some t → (t.me ≡ s.me) × (t.world ≡ s.world)
-step_keeps r s End t e = cc e
-step_keeps r s (Asks calls act) t e =
-    option_and_then_some _ (all_of r calls) t e (λ outcomes eo f.
-    let same : t ≡ done s (act outcomes) = sym (same_Some (done s (act outcomes)) t f) in
-    (ap (λ (u : Local). u.me) same, ap (λ (u : Local). u.world) same))
 
 le_of_same : (m n : ℕ) → m ≡ n → m ≤ n
 le_of_same m n e = omega (arith, e)
@@ -128,20 +129,20 @@ pub learns_truth : (b : Look) (more : Context) (k j : ℕ) (o : Option Given) �
 learns_truth b more k j o a m = subst (λ v. Agrees v o) (sym (learns_posts b more k j)) (agrees_cut _ _ o (agrees_join _ _ o a m))
 
 -- a board that gains what a move tells it tells the truth
-gains_truth : (old new : RankView) (s t : Local) (h later : History) → Gains old new s t → (k j : ℕ) → Agrees ((of_world old.node.board).posts k j) (later k j) → ((k : ℕ) (given : Given) → slice_get t.posts k ≡ Some given → later k s.me ≡ Some given) → Agrees ((of_world new.node.board).posts k j) (later k j)
-gains_truth old new s t h later (tells_nothing same kept) k j a grows = subst (λ (b : Look). Agrees ((of_world b).posts k j) (later k j)) (sym same) a
+gains_truth : (old new : RankView) (s t : Local) (h later : History) → Gains old new s t → (k j : ℕ) → Agrees ((of_world old.node.board).posts k j) (later [] k j) → ((k : ℕ) (given : Given) → slice_get (world_posts t) k ≡ Some given → later [] k s.me ≡ Some given) → Agrees ((of_world new.node.board).posts k j) (later [] k j)
+gains_truth old new s t h later (tells_nothing same kept) k j a grows = subst (λ (b : Look). Agrees ((of_world b).posts k j) (later [] k j)) (sym same) a
 gains_truth old new s t h later (tells_front joins kept) k j a grows =
-    subst (λ (b : Look). Agrees ((of_world b).posts k j) (later k j)) (sym joins) (learns_truth old.node.board (record nothing { fronts = λ q. cond (q == s.me) (harvested_by new) 0 }) k j (later k j) a tt)
+    subst (λ (b : Look). Agrees ((of_world b).posts k j) (later [] k j)) (sym joins) (learns_truth old.node.board (record nothing { fronts = λ q. cond (q == s.me) (harvested_by new) 0 }) k j (later [] k j) a tt)
 gains_truth old new s t h later (tells_post given joins added) k j a grows =
-    subst (λ (b : Look). Agrees ((of_world b).posts k j) (later k j)) (sym joins)
-    (learns_truth old.node.board (record nothing { posts = λ i q. cond ((i == length s.posts) && (q == s.me)) (known given) unknown }) k j (later k j) a (by_place (k == length s.posts) (j == s.me) refl refl))
+    subst (λ (b : Look). Agrees ((of_world b).posts k j) (later [] k j)) (sym joins)
+    (learns_truth old.node.board (record nothing { posts = λ i q. cond ((i == length (world_posts s)) && (q == s.me)) (known given) unknown }) k j (later [] k j) a (by_place (k == length (world_posts s)) (j == s.me) refl refl))
   where
-    by_place : (c d : Bool) → (k == length s.posts) ≡ c → (j == s.me) ≡ d → Agrees (cond (c && d) (known given) unknown) (later k j)
+    by_place : (c d : Bool) → (k == length (world_posts s)) ≡ c → (j == s.me) ≡ d → Agrees (cond (c && d) (known given) unknown) (later [] k j)
     by_place true true e f =
-        let here : k ≡ length s.posts = (Decides-eqb k (length s.posts)).0 e in
+        let here : k ≡ length (world_posts s) = (Decides-eqb k (length (world_posts s))).0 e in
         let mine : j ≡ s.me = (Decides-eqb j s.me).0 f in
-        let made : slice_get t.posts k ≡ Some given = ap (λ ps. slice_get ps k) added ∙ ap (slice_get (s.posts ++ given ∷ [])) here ∙ last s.posts given in
-        ap (later k) mine ∙ grows k given made
+        let made : slice_get (world_posts t) k ≡ Some given = ap (λ ps. slice_get ps k) added ∙ ap (slice_get (world_posts s ++ given ∷ [])) here ∙ last (world_posts s) given in
+        ap (later [] k) mine ∙ grows k given made
     by_place true false e f = tt
     by_place false d e f = tt
 
@@ -149,7 +150,7 @@ gains_truth old new s t h later (tells_post given joins added) k j a grows =
 gains_fronts : (old new : RankView) (s t : Local) → Gains old new s t → (q : ℕ) → (((of_world new.node.board).fronts q ≤ (of_world old.node.board).fronts q) ⊎ ((q ≡ s.me) × ((of_world new.node.board).fronts q ≤ max ((of_world old.node.board).fronts q) (harvested_by new)))) × ((of_world new.node.board).dropped ≡ (of_world old.node.board).dropped)
 gains_fronts old new s t (tells_nothing same kept) q = (inl (le_of_same _ _ (ap (λ (b : Look). (of_world b).fronts q) same)), ap (λ (b : Look). (of_world b).dropped) same)
 gains_fronts old new s t (tells_post given joins added) q =
-    let more : Context = record nothing { posts = λ i p. cond ((i == length s.posts) && (p == s.me)) (known given) unknown } in
+    let more : Context = record nothing { posts = λ i p. cond ((i == length (world_posts s)) && (p == s.me)) (known given) unknown } in
     let fronts : (of_world new.node.board).fronts q ≡ (of_world old.node.board).fronts q = ap (λ (b : Look). (of_world b).fronts q) joins ∙ learns_fronts old.node.board more q ∙ omega arith in
     (inl (le_of_same _ _ fronts), ap (λ (b : Look). (of_world b).dropped) joins ∙ learns_dropped old.node.board more ∙ omega arith)
 gains_fronts old new s t (tells_front joins kept) q =
@@ -177,18 +178,18 @@ module _ (n : ℕ) (ranks : List RankView) (s : State) (shows : Shows n ranks s)
       let no : (q == p) ≡ false = grind (arith, nat_tests, other) in
       ap (λ b. cond b (or_stay (s q) (step (knows n s p) (s q))) (s q)) no
 
-  posts_kept : (q : ℕ) → IsPrefixOf (s q).posts (move n s p q).posts
-  posts_kept = goes_on_cases (λ q t. IsPrefixOf (s q).posts t.posts) s p (knows n s p) (λ q. prefix_itself (s q).posts) (λ t e. (step_by-adds (knows n s p) (s p) (next (s p)) t e).0)
+  posts_kept : (q : ℕ) → IsPrefixOf (s q).made (move n s p q).made
+  posts_kept = goes_on_cases (λ q t. IsPrefixOf (s q).made t.made) s p (knows n s p) (λ q. prefix_itself (s q).made) (λ t e. (step_by-adds (knows n s p) (s p) (next (s p)) t e).0)
 
-  grown : (k q : ℕ) (given : Given) → history s k q ≡ Some given → history (move n s p) k q ≡ Some given
-  grown k q given e = prefix_get (s q).posts (move n s p q).posts (posts_kept q) k given e
+  grown : (k q : ℕ) (given : Given) → history s [] k q ≡ Some given → history (move n s p) [] k q ≡ Some given
+  grown k q given e = history-grows s (move n s p) posts_kept [] k q given e
 
   still_true : (b : Look) → TellsTruth b (history s) → TellsTruth b (history (move n s p))
   still_true b truth k q = agrees_grows ((of_world b).posts k q) _ _ (grown k q) (truth k q)
 
   own_truth : TellsTruth new.node.board (history (move n s p))
   own_truth k q = gains_truth old new (s p) goes.to (history s) (history (move n s p)) goes.gains k q (still_true old.node.board (shows.truth p old at) k q)
-      (λ j given e. ap (history (move n s p) j) (shows.me p) ∙ ap (λ (t : Local). slice_get t.posts j) arrives ∙ e)
+      (λ j given e. ap (history (move n s p) [] j) (shows.me p) ∙ ap (λ (t : Local). slice_get (world_posts t) j) arrives ∙ e)
 
   still_harvested : (b : Look) → IsHarvested ranks b → IsHarvested (set ranks p new) b
   still_harvested b h q x e = set_cases ranks p q new x (λ (y : RankView). ((of_world b).fronts q ≤ harvested_by y) × ((of_world b).dropped ≤ harvested_by y)) e
@@ -214,8 +215,8 @@ module _ (n : ℕ) (ranks : List RankView) (s : State) (shows : Shows n ranks s)
       own_one : (q : ℕ) (x : RankView) → slice_get (set ranks p new) q ≡ Some x → q ≡ p → x ≡ new
       own_one q x e same = set_cases ranks p q new x (λ (y : RankView). y ≡ new) e (λ here. refl) (λ there other. absurd (other same))
 
-  keeps : (q : ℕ) → ((move n s p q).me ≡ (s q).me) × ((move n s p q).world ≡ (s q).world)
-  keeps = goes_on_cases (λ q t. (t.me ≡ (s q).me) × (t.world ≡ (s q).world)) s p (knows n s p) (λ q. (refl, refl)) (λ t e. step_keeps (knows n s p) (s p) (next (s p)) t e)
+  keeps : (q : ℕ) → ((move n s p q).me ≡ (s q).me) × ((move n s p q).bound ≡ (s q).bound)
+  keeps = goes_on_cases (λ q t. (t.me ≡ (s q).me) × (t.bound ≡ (s q).bound)) s p (knows n s p) (λ q. (refl, refl)) (λ t e. step-keeps (knows n s p) (s p) t e)
 
   length_set : {A : Type 0} (xs : List A) (i : ℕ) (y : A) → length (set xs i y) ≡ length xs
   length_set [] i y = refl
@@ -235,7 +236,7 @@ module _ (n : ℕ) (ranks : List RankView) (s : State) (shows : Shows n ranks s)
         (λ same. own_harvested)
         (λ there other. still_harvested r.node.board (shows.fronts q r there));
     me = λ q. (keeps q).0 ∙ shows.me q;
-    world = λ q. (keeps q).1 ∙ shows.world q;
+    bound = λ q. (keeps q).1 ∙ shows.bound q;
     quiet = move-quiet n s p within goes.to moves_on shows.quiet;
   }
 

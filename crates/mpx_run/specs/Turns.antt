@@ -6,7 +6,7 @@ use Rattle.mpx_post.specs.Posts.{Given}
 use Rattle.mpx_board.specs.Boards.{Look, empty, join, only, floor_on, Dropped}
 use Rattle.mpx_node.specs.Nodes.{learn}
 use Rattle.mpx_value.specs.Histories.{History}
-use Rattle.mpx_script.specs.Evaluation.{State, world_of, history, moves, IsMaximal, IsQuiet}
+use Rattle.mpx_script.specs.Evaluation.{State, bound_at_start, history, moves, IsMaximal, IsQuiet}
 use Rattle.mpx_script.specs.Ranks.{step}
 use Rattle.mpx_run.specs.Running.{RankView, Stands, told_by, left_of, of_world, harvested_by}
 
@@ -16,9 +16,9 @@ Agrees unknown o = Unit {0}
 Agrees (known given) o = o ≡ Some given
 Agrees clash o = ⊥
 
--- a board tells nothing but posts that were made
+-- a board tells nothing of the world but posts that were made
 abbrev pub TellsTruth : Look → History → Type 0
-TellsTruth b h = (k q : ℕ) → Agrees ((of_world b).posts k q) (h k q)
+TellsTruth b h = (k q : ℕ) → Agrees ((of_world b).posts k q) (h [] k q)
 
 -- a board says of no rank that it has harvested more calls than it has, and has dropped none that some rank hasn't
 abbrev pub IsHarvested : List RankView → Look → Type 0
@@ -31,12 +31,12 @@ pub record Shows (n : ℕ) (ranks : List RankView) (s : State) : Type 0 where
   pub truth : (p : ℕ) (r : RankView) → slice_get ranks p ≡ Some r → TellsTruth r.node.board (history s)
   pub fronts : (p : ℕ) (r : RankView) → slice_get ranks p ≡ Some r → IsHarvested ranks r.node.board
   pub me : (p : ℕ) → (s p).me ≡ p
-  pub world : (p : ℕ) → (s p).world ≡ world_of n
+  pub bound : (p : ℕ) → (s p).bound ≡ bound_at_start n
   pub quiet : IsQuiet n s
 
 -- every board has every rank's posts at or above its dropped front
 abbrev pub IsFull : ℕ → List RankView → State → Type 0
-IsFull n ranks s = (p : ℕ) (r : RankView) → slice_get ranks p ≡ Some r → (k q : ℕ) (given : Given) → q < n → (of_world r.node.board).dropped ≤ k → history s k q ≡ Some given → (of_world r.node.board).posts k q ≡ known given
+IsFull n ranks s = (p : ℕ) (r : RankView) → slice_get ranks p ≡ Some r → (k q : ℕ) (given : Given) → q < n → (of_world r.node.board).dropped ≤ k → history s [] k q ≡ Some given → (of_world r.node.board).posts k q ≡ known given
 
 -- so much is left for all of them
 abbrev pub total_left : List RankView → ℕ

@@ -30,3 +30,8 @@ loop-p-preserved c =
         | inr not ↦ let less = c.loop-p.invariant.less (sym not.1 ∙ e) in omega (arith, less, c.in_ok-exhaust.ensures.no_more)
       ];
     }
+
+pub returns-clause-goes : goal.returns-clause-goes
+returns-clause-goes c s shows =
+    let all : c.loop-p.p ≡ length c.args.ranks.now = omega arith in
+    subst (λ p. GoesRound (length c.args.ranks.now) (map rank_of c.args.ranks.now) (map rank_of c.loop-p.ranks) s p c.loop-p.moved) all (c.loop-p.invariant.goes s shows)
