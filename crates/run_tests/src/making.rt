@@ -4,7 +4,7 @@ use std::alloc::Global;
 use std::io::{self, ErrorKind, Read, Write};
 use std::process::Abort;
 
-/// Which end a run end_of to.
+/// Which end a run came to.
 #[derive(Clone, Copy, Debug, PartialEq, Eq)]
 pub enum Came {
     Finished,

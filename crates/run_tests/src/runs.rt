@@ -162,8 +162,8 @@ fn runs_a_long_script(rt: HostRuntime) -> Result<(), Fail> {
         writeln!(script, "*: allreduce world sum i64 {i}")?;
     }
     for rank in 0..2 {
-        for i in 0..4999 {
-            let sum = 2 * i;
+        for i in 0..4999u32 {
+            let sum = i.wrapping_mul(2);
             writeln!(wanted, "{rank}: {sum}")?;
         }
     }
@@ -172,5 +172,24 @@ fn runs_a_long_script(rt: HostRuntime) -> Result<(), Fail> {
     let answer = run_text(alloc, &mut reader, &mut out);
     assert_eq!(&rt; end_of(&answer), Came::Finished);
     assert_eq!(&rt; out.as_slice(), wanted.as_bytes());
+    Ok(())
+}
+
+#[test]
+fn names_sixty_three_waiting_ranks(rt: HostRuntime) -> Result<(), Fail> {
+    let alloc = rt.alloc();
+    let mut script = String::new(alloc);
+    let mut wanted = Vec::new(alloc);
+    script.push_str("ranks 64\n")?;
+    for rank in 0..63u8 {
+        writeln!(script, "{rank}: barrier world")?;
+        wanted.push(rank)?;
+    }
+    let mut reader = script.as_bytes();
+    let mut out = Vec::new(alloc);
+    match run_text(alloc, &mut reader, &mut out) {
+        Ok(End::Waiting(ranks)) => assert_eq!(&rt; ranks.as_slice(), wanted.as_slice()),
+        _ => panic!(&rt; "ranks 0 to 62 wait"),
+    }
     Ok(())
 }
