@@ -18,9 +18,9 @@ pub fn post_of(alloc: Global, nums: &[i128]) -> Result<Post, Fail> {
         root: 0,
         op: Op::Sum,
         ty: Ty::I64,
-        scounts: Numbers::new(Vec::new(alloc)),
-        rcounts: Numbers::new(Vec::new(alloc)),
-        items: Numbers::new(Vec::from_slice(alloc, nums)?),
+        scounts: Numbers::new(alloc, Vec::new(alloc))?,
+        rcounts: Numbers::new(alloc, Vec::new(alloc))?,
+        items: Numbers::new(alloc, Vec::from_slice(alloc, nums)?)?,
     };
     let made = draft.check(alloc, &world, Proc::new(0), &At { call: 0 });
     Ok(made.ok().ok_or("refused")?)

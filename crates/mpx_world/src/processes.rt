@@ -111,7 +111,7 @@ impl Processes {
         if at >= self.nodes.len() {
             return Ok(Reply::NoSuchProcess);
         }
-        let draft = draft.copy(alloc)?;
+        let draft = draft.copy()?;
         match self.nodes[at].post(alloc, name, draft) {
             Ok(call) => Ok(Reply::Posted(call)),
             Err(refusal) => {

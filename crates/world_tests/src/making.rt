@@ -26,9 +26,9 @@ pub fn post(alloc: Global, number: u8, item: i128) -> Result<Event, Fail> {
             root: 0,
             op: Op::Sum,
             ty: Ty::I32,
-            scounts: Numbers::new(Vec::new(alloc)),
-            rcounts: Numbers::new(Vec::new(alloc)),
-            items: Numbers::new(Vec::from_slice(alloc, &[item])?),
+            scounts: Numbers::new(alloc, Vec::new(alloc))?,
+            rcounts: Numbers::new(alloc, Vec::new(alloc))?,
+            items: Numbers::new(alloc, Vec::from_slice(alloc, &[item])?)?,
         },
     })
 }
