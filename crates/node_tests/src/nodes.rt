@@ -1,4 +1,6 @@
 // Nodes that take each other's boards, and harvest what these tell.
+ghost use Rattle.std.specs.Prelude.{◌<◌};
+
 use crate::making::post;
 use join_core::{Exact, Join, OutOfMemory};
 use mpx_board::{Board, PruneError};
@@ -101,7 +103,9 @@ fn two_processes_reach_the_sum(rt: HostRuntime) -> Result<(), Fail> {
 }
 
 // A rank of three with one post.
-fn posted(rt: &impl Abort, alloc: Global, me: Proc, nums: &[i128]) -> Result<Node, Fail> {
+fn posted(rt: &impl Abort, alloc: Global, me: Proc, nums: &[i128]) -> Result<Node, Fail>
+    requires { me < 3 }
+{
     let mut node = Node::new(alloc, me, 3, 3)?;
     post(rt, alloc, &mut node, 0, nums)?;
     Ok(node)
