@@ -1,7 +1,5 @@
 -- What the posts of a fine row of a reduction give: as many items of one type, for an operation that fits it.
-use Rattle.std.proofs.Common.{◌≡◌, ℕ, ◌*◌, ◌<◌, ◌==◌, Bool, true, false, not, List, [], ◌∷◌, length, Some, refl, sym, subst, ap, ◌∙◌, eqb-true, arith, sum}
-use Rattle.std.proofs.lemmas.Bool.Decides.{Decides-eqb, nat_tests}
-use Rattle.std.proofs.lemmas.Slice.Eq.{slice_eq-Decides}
+use Rattle.std.proofs.Common.{◌≡◌, ℕ, ◌*◌, ◌<◌, true, List, [], ◌∷◌, length, Some, refl, sym, subst, ap, ◌∙◌, eqb-true, arith, sum}
 use Rattle.mpx_num.specs.declared.types.Ty.{Ty}
 use Rattle.mpx_num.specs.declared.operations.Op.{Op}
 use Rattle.mpx_num.specs.Operations.{fits}
@@ -9,21 +7,18 @@ use Rattle.mpx_num.specs.Types.{item_len}
 use Rattle.mpx_num.specs.ItemList.{AreItems, is_whole}
 use Rattle.mpx_post.specs.declared.kinds.Kind.{Kind}
 use Rattle.mpx_post.specs.declared.kinds.Kind.TheVariants.{Barrier, Bcast, Gather, Gatherv, Scatter, Scatterv, Allgather, Allgatherv, Alltoall, Alltoallv, Reduce, Allreduce, ReduceScatterBlock, ReduceScatter, Scan, Exscan}
+use Rattle.mpx_post.specs.declared.kinds.Family.TheVariants as F
+use Rattle.mpx_post.specs.declared.kinds.Reduction.{Reduction}
+use Rattle.mpx_post.specs.declared.kinds.Reduction.TheVariants as R
 use Rattle.mpx_post.specs.Kinds.{fields_of}
+use Rattle.mpx_post.proofs.Families.{kind_in}
 use Rattle.mpx_post.specs.Posts.{Given, type_of, numbers_of, count_of}
 use Rattle.mpx_post.specs.Rows.{RowView}
 use Rattle.mpx_post.specs.Blocks.{repeated}
-use Rattle.mpx_post.specs.Agreement.{post_at, first_of, fill, count_at, amounts_differ, IsFine}
+use Rattle.mpx_post.specs.Agreement.{post_at, first_of, fill, count_at, Agrees, AmountsAgree, IsFine}
 use Rattle.mpx_fold.specs.Folds.{reduces}
 use Rattle.mpx_post.proofs.Blocks.{count_alone, rcounts_as, filled_as}
-use Rattle.mpx_post.proofs.Agreement.{Agrees, agrees, fits_parts}
-
-equal_from_differ : (m n : ℕ) → not (m == n) ≡ false → m ≡ n
-equal_from_differ m n e = grind (arith, nat_tests)
-
-not_false : (b : Bool) → not b ≡ false → b ≡ true
-not_false true e = refl
-not_false false e = cc e
+use Rattle.mpx_post.proofs.Agreement.{fits_parts, same_type}
 
 -- lists of one count are equal by it
 same_alone : (xs ys : List ℕ) → length xs ≡ 1 → length ys ≡ 1 → count_at xs 0 ≡ count_at ys 0 → xs ≡ ys
@@ -50,15 +45,15 @@ same_by_blocks given first size n t e f g =
 
 module _ (row : RowView) (rank : ℕ) (fine : IsFine row) (l : rank < length row) where
   here : Agrees row rank
-  here = agrees row rank fine l
+  here = fine.each rank l
 
   start : Agrees row 0
-  start = agrees row 0 fine (omega arith)
+  start = fine.each 0 (omega arith)
 
-  by_count : IsWhole (post_at row rank) → IsWhole (first_of row) → not (count_of (post_at row rank) == count_of (first_of row)) ≡ false → length (numbers_of (post_at row rank)) ≡ length (numbers_of (first_of row))
-  by_count w v e = same_by_count (post_at row rank) (first_of row) here.type w v (equal_from_differ _ _ e)
+  by_count : IsWhole (post_at row rank) → IsWhole (first_of row) → count_of (post_at row rank) ≡ count_of (first_of row) → length (numbers_of (post_at row rank)) ≡ length (numbers_of (first_of row))
+  by_count w v e = same_by_count (post_at row rank) (first_of row) (same_type row rank fine l) w v e
 
-  as_many_by : (kind : Kind) → (first_of row).kind ≡ kind → amounts_differ kind row rank (post_at row rank) ≡ false → (fields_of kind).op ≡ true → IsWhole (post_at row rank) → IsWhole (first_of row) → length (numbers_of (post_at row rank)) ≡ length (numbers_of (first_of row))
+  as_many_by : (kind : Kind) → (first_of row).kind ≡ kind → AmountsAgree kind row rank (post_at row rank) → (fields_of kind).op ≡ true → IsWhole (post_at row rank) → IsWhole (first_of row) → length (numbers_of (post_at row rank)) ≡ length (numbers_of (first_of row))
   as_many_by Reduce is e op w v = by_count w v e
   as_many_by Allreduce is e op w v = by_count w v e
   as_many_by Scan is e op w v = by_count w v e
@@ -67,11 +62,10 @@ module _ (row : RowView) (rank : ℕ) (fine : IsFine row) (l : rank < length row
       let size = length row in
       let one = rcounts_as ReduceScatterBlock size rank (post_at row rank) (here.kind ∙ is) here.fit in
       let alone = rcounts_as ReduceScatterBlock size 0 (first_of row) is start.fit in
-      same_by_blocks (post_at row rank) (first_of row) size size here.type (same_alone _ _ one alone (equal_from_differ _ _ e)) (filled_as ReduceScatterBlock size rank (post_at row rank) (here.kind ∙ is) here.fit) (filled_as ReduceScatterBlock size 0 (first_of row) is start.fit)
+      same_by_blocks (post_at row rank) (first_of row) size size (same_type row rank fine l) (same_alone _ _ one alone e) (filled_as ReduceScatterBlock size rank (post_at row rank) (here.kind ∙ is) here.fit) (filled_as ReduceScatterBlock size 0 (first_of row) is start.fit)
   as_many_by ReduceScatter is e op w v =
       let size = length row in
-      let equal = (slice_eq-Decides Decides-eqb (post_at row rank).rcounts (first_of row).rcounts _ refl).0 (not_false _ e) in
-      same_by_blocks (post_at row rank) (first_of row) size 1 here.type equal (filled_as ReduceScatter size rank (post_at row rank) (here.kind ∙ is) here.fit) (filled_as ReduceScatter size 0 (first_of row) is start.fit)
+      same_by_blocks (post_at row rank) (first_of row) size 1 (same_type row rank fine l) e (filled_as ReduceScatter size rank (post_at row rank) (here.kind ∙ is) here.fit) (filled_as ReduceScatter size 0 (first_of row) is start.fit)
   as_many_by Barrier is e op w v = cc op
   as_many_by Bcast is e op w v = cc op
   as_many_by Gather is e op w v = cc op
@@ -85,11 +79,20 @@ module _ (row : RowView) (rank : ℕ) (fine : IsFine row) (l : rank < length row
 
   -- each gives as many numbers as rank 0
   pub as_many : reduces row ≡ true → AreItems (type_of (first_of row)) (numbers_of (post_at row rank)) → AreItems (type_of (first_of row)) (numbers_of (first_of row)) → length (numbers_of (post_at row rank)) ≡ length (numbers_of (first_of row))
-  as_many op given first = as_many_by (first_of row).kind refl here.amounts op (subst (λ (ty : Ty). is_whole ty (numbers_of (post_at row rank)) ≡ true) (sym here.type) given.whole) first.whole
+  as_many op given first = as_many_by (first_of row).kind refl here.amounts op (subst (λ (ty : Ty). is_whole ty (numbers_of (post_at row rank)) ≡ true) (sym (same_type row rank fine l)) given.whole) first.whole
 
 -- the operation fits the type
 pub fits_first : (row : RowView) (op : Op) → IsFine row → 0 < length row → (first_of row).op ≡ Some op → fits op (type_of (first_of row)) ≡ true
-fits_first row op fine l e = rw e at (fits_parts (length row) 0 (first_of row) (agrees row 0 fine l).fit).type
+fits_first row op fine l e = rw e at (fits_parts (length row) 0 (first_of row) (fine.each 0 l).fit).type
+
+-- a reduction has an operation
+pub reduction_has_op : (reduction : Reduction) → (fields_of (kind_in (F.Reduction reduction))).op ≡ true
+reduction_has_op R.Reduce = refl
+reduction_has_op R.Allreduce = refl
+reduction_has_op R.ReduceScatterBlock = refl
+reduction_has_op R.ReduceScatter = refl
+reduction_has_op R.Scan = refl
+reduction_has_op R.Exscan = refl
 
 -- a reduction's posts have items
 pub has_items : (kind : Kind) → (fields_of kind).op ≡ true → (fields_of kind).items ≡ true

@@ -1,15 +1,18 @@
 -- What reductions and scans give (MPI 4.1, sections 6.9 to 6.11).
 use Rattle.std.specs.Prelude.{ℕ, Bool, ◌+◌, ◌==◌, List, ℤ, length, map, take, cond}
 use Rattle.mpx_num.specs.Operations.{fold_items}
-use Rattle.mpx_post.specs.declared.kinds.Kind.{Kind}
-use Rattle.mpx_post.specs.declared.kinds.Kind.TheVariants.{Barrier, Bcast, Gather, Gatherv, Scatter, Scatterv, Allgather, Allgatherv, Alltoall, Alltoallv, Reduce, Allreduce, ReduceScatterBlock, ReduceScatter, Scan, Exscan}
+use Rattle.mpx_post.specs.declared.kinds.Family.{Family}
+use Rattle.mpx_post.specs.declared.kinds.Family.TheVariants as F
+use Rattle.mpx_post.specs.declared.kinds.Reduction.{Reduction}
+use Rattle.mpx_post.specs.declared.kinds.Reduction.TheVariants.{Reduce, Allreduce, ReduceScatterBlock, ReduceScatter, Scan, Exscan}
 use Rattle.mpx_post.specs.declared.value.Value.{Value}
-use Rattle.mpx_post.specs.declared.value.Value.TheVariants.{Nothing, Absent, Items}
-use Rattle.mpx_post.specs.Kinds.{fields_of}
+use Rattle.mpx_post.specs.declared.value.Value.TheVariants.{Nothing, Absent}
+use Rattle.mpx_post.specs.Kinds.{family_of, fields_of}
 use Rattle.mpx_post.specs.Posts.{root_of, operation_of, type_of, numbers_of}
 use Rattle.mpx_post.specs.Rows.{RowView}
 use Rattle.mpx_post.specs.Agreement.{first_of}
 use Rattle.mpx_post.specs.Blocks.{repeated, block_at}
+use Rattle.mpx_post.specs.Values.{as_items}
 
 -- whether the row is of a reduction: its kind has an operation
 abbrev pub reduces : RowView → Bool
@@ -27,29 +30,20 @@ all_folded row = folded row (length row)
 abbrev pub folded_block : RowView → List ℕ → ℕ → List ℤ
 folded_block row counts rank = block_at (type_of (first_of row)) counts (all_folded row) rank
 
--- as items of the type that rank 0 names
-abbrev pub as_items : RowView → List ℤ → Value
-as_items row nums = Items (record { ty = type_of (first_of row); nums = nums })
-
--- what a call of this kind gives the member with this rank
-abbrev pub fold_of : Kind → RowView → ℕ → Value
+-- what a reduction gives the member with this rank
+abbrev pub fold_of : Reduction → RowView → ℕ → Value
 fold_of Reduce row rank = cond (rank == root_of (first_of row)) (as_items row (all_folded row)) Nothing
 fold_of Allreduce row rank = as_items row (all_folded row)
 fold_of ReduceScatterBlock row rank = as_items row (folded_block row (repeated (length row) (first_of row).rcounts) rank)
 fold_of ReduceScatter row rank = as_items row (folded_block row (first_of row).rcounts rank)
 fold_of Scan row rank = as_items row (folded row (rank + 1))
 fold_of Exscan row rank = cond (rank == 0) Absent (as_items row (folded row rank))
-fold_of Barrier row rank = Nothing
-fold_of Bcast row rank = Nothing
-fold_of Gather row rank = Nothing
-fold_of Gatherv row rank = Nothing
-fold_of Scatter row rank = Nothing
-fold_of Scatterv row rank = Nothing
-fold_of Allgather row rank = Nothing
-fold_of Allgatherv row rank = Nothing
-fold_of Alltoall row rank = Nothing
-fold_of Alltoallv row rank = Nothing
+
+-- kinds of other families give nothing here
+abbrev pub fold_in : Family → RowView → ℕ → Value
+fold_in (F.Reduction reduction) row rank = fold_of reduction row rank
+fold_in family row rank = Nothing
 
 -- what a fine row of a reduction gives the member with this rank
 unfoldable pub fold_value : RowView → ℕ → Value
-fold_value row rank = fold_of (first_of row).kind row rank
+fold_value row rank = fold_in (family_of (first_of row).kind) row rank

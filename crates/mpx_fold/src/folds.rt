@@ -1,15 +1,16 @@
-ghost use Rattle.std.specs.Prelude.{◌≡◌, ◌<◌, ◌≤◌, IfOk, length, true};
+ghost use Rattle.std.specs.Prelude.{◌≡◌, ◌+◌, ◌*◌, ◌<◌, ◌≤◌, IfOk, length, true};
 ghost use Rattle.mpx_num.specs.ItemList.{AreItems};
-ghost use Rattle.mpx_post.specs.declared.kinds.Kind.TheVariants.{ReduceScatterBlock, ReduceScatter};
+ghost use Rattle.mpx_num.specs.Types.{item_len};
 ghost use Rattle.mpx_post.specs.Agreement.{IsFine, first_of, post_at};
-ghost use Rattle.mpx_post.specs.Blocks.{repeated};
+ghost use Rattle.mpx_post.specs.Blocks.{IsBlock, part, repeated};
+ghost use Rattle.mpx_post.specs.Kinds.{family_of};
 ghost use Rattle.mpx_post.specs.Posts.{numbers_of, type_of};
-ghost use Rattle.mpx_fold.specs.Folds.{all_folded, as_items, fold_value, folded, reduces};
-ghost use Rattle.mpx_fold.specs.Places.{IsBlock, IsWithin, part};
+ghost use Rattle.mpx_post.specs.Values.{as_items};
+ghost use Rattle.mpx_fold.specs.Folds.{all_folded, fold_of, fold_value, folded, reduces};
 
 use join_core::OutOfMemory;
 use mpx_num::{Items, apply};
-use mpx_post::{Kind, Row, Value};
+use mpx_post::{Block, Family, Reduction, Row, Value};
 use std::alloc::Global;
 
 /// What a fine row of a reduction or a scan gives the member with this rank. A row of another kind gives nothing.
@@ -18,53 +19,55 @@ pub fn fold_value(alloc: Global, row: &Row<'_>, rank: u8) -> Result<Value, OutOf
     requires rank { rank < length row.now }
     ensures { IfOk result (λ value. value ≡ fold_value row.now rank) }
 {
+    match row.post(0).kind().family() {
+        Family::Reduction(reduction) => value_of(alloc, row, reduction, rank),
+        Family::Exchange(_) => Ok(Value::Nothing),
+    }
+}
+
+// What a row of this reduction gives the member.
+fn value_of(
+    alloc: Global,
+    row: &Row<'_>,
+    reduction: Reduction,
+    rank: u8,
+) -> Result<Value, OutOfMemory>
+    requires fine { IsFine row.now }
+    requires family { family_of (first_of row.now).kind ≡ Family.Reduction reduction }
+    requires reduces { reduces row.now ≡ true }
+    requires rank { rank < length row.now }
+    ensures { IfOk result (λ value. value ≡ fold_of reduction row.now rank) }
+{
     let place = usize::from(rank);
     let first = row.post(0);
-    match first.kind() {
-        Kind::Reduce => {
+    match reduction {
+        Reduction::Reduce => {
             if first.root() == Some(rank) {
                 folded_value(alloc, row, row.len())
             } else {
                 Ok(Value::Nothing)
             }
         }
-        Kind::Allreduce => folded_value(alloc, row, row.len()),
-        Kind::ReduceScatterBlock => block_value(alloc, row, equal_block(row, rank)),
-        Kind::ReduceScatter => block_value(alloc, row, counted_block(row, rank)),
-        Kind::Scan => folded_value(alloc, row, place + 1),
-        Kind::Exscan => {
+        Reduction::Allreduce => folded_value(alloc, row, row.len()),
+        Reduction::ReduceScatterBlock => block_value(alloc, row, equal_block(row, rank)),
+        Reduction::ReduceScatter => block_value(alloc, row, counted_block(row, rank)),
+        Reduction::Scan => folded_value(alloc, row, place + 1),
+        Reduction::Exscan => {
             if rank == 0 {
                 Ok(Value::Absent)
             } else {
                 folded_value(alloc, row, place)
             }
         }
-        Kind::Barrier
-        | Kind::Bcast
-        | Kind::Gather
-        | Kind::Gatherv
-        | Kind::Scatter
-        | Kind::Scatterv
-        | Kind::Allgather
-        | Kind::Allgatherv
-        | Kind::Alltoall
-        | Kind::Alltoallv => Ok(Value::Nothing),
     }
-}
-
-// So many items, from a place on.
-#[derive(Clone, Copy)]
-struct Block {
-    first: usize,
-    count: usize,
 }
 
 // The block of this rank, where each has as many items.
 fn equal_block(row: &Row<'_>, rank: u8) -> Block
     requires fine { IsFine row.now }
-    requires kind { (first_of row.now).kind ≡ ReduceScatterBlock }
+    requires family { family_of (first_of row.now).kind ≡ Family.Reduction Reduction.ReduceScatterBlock }
     requires rank { rank < length row.now }
-    ensures { IsBlock row.now (repeated (length row.now) (first_of row.now).rcounts) rank result }
+    ensures { IsBlock (type_of (first_of row.now)) (repeated (length row.now) (first_of row.now).rcounts) rank (length (numbers_of (first_of row.now))) result }
 {
     let count = usize::from(row.post(0).rcounts().as_slice()[0]);
     Block {
@@ -76,9 +79,9 @@ fn equal_block(row: &Row<'_>, rank: u8) -> Block
 // The block of this rank, where each rank has a count.
 fn counted_block(row: &Row<'_>, rank: u8) -> Block
     requires fine { IsFine row.now }
-    requires kind { (first_of row.now).kind ≡ ReduceScatter }
+    requires family { family_of (first_of row.now).kind ≡ Family.Reduction Reduction.ReduceScatter }
     requires rank { rank < length row.now }
-    ensures { IsBlock row.now (first_of row.now).rcounts rank result }
+    ensures { IsBlock (type_of (first_of row.now)) (first_of row.now).rcounts rank (length (numbers_of (first_of row.now))) result }
 {
     let counts = row.post(0).rcounts();
     let place = usize::from(rank);
@@ -92,7 +95,7 @@ fn counted_block(row: &Row<'_>, rank: u8) -> Block
 fn block_value(alloc: Global, row: &Row<'_>, block: Block) -> Result<Value, OutOfMemory>
     requires fine { IsFine row.now }
     requires reduces { reduces row.now ≡ true }
-    requires within { IsWithin row.now block }
+    requires within { (block.first + block.count) * item_len (type_of (first_of row.now)) ≤ length (numbers_of (first_of row.now)) }
     ensures { IfOk result (λ value. value ≡ as_items row.now (part (type_of (first_of row.now)) block (all_folded row.now))) }
 {
     let all = fold_upto(alloc, row, row.len())?;

@@ -1,2 +1,3 @@
-pub mod Fine
 pub mod Least
+pub mod Decisions
+pub mod FirstFault

@@ -1,11 +1,49 @@
--- What is asked of each post of a row.
-use Rattle.std.specs.Prelude.{ℕ, Bool, not, length, Option}
-use Rattle.mpx_post.specs.Posts.{Given}
+-- Tests that decide in what the posts of a row differ.
+use Rattle.std.specs.Prelude.{ℕ, ◌+◌, ◌==◌, nat_eq, Bool, false, not, [], ◌∷◌, length, cond, Option, Some, None, is_some}
+use lib.Pointwise.{pointwise}
+use Rattle.mpx_post.specs.declared.kinds.Kind as K
+use Rattle.mpx_post.specs.declared.kinds.Kind.TheVariants.{Barrier, Bcast, Gather, Gatherv, Scatter, Scatterv, Allgather, Allgatherv, Alltoall, Alltoallv, Reduce, Allreduce, ReduceScatterBlock, ReduceScatter, Scan, Exscan}
+use Rattle.mpx_post.specs.Posts.{Given, count_of}
 use Rattle.mpx_post.specs.Equality.{same_kind, same_mode, same_root, same_operations, same_types}
 use Rattle.mpx_post.specs.Rows.{RowView}
-use Rattle.mpx_post.specs.Agreement.{first_of, is_fit, amounts_differ, least_rank}
-use Rattle.mpx_match.specs.declared.questions.Question.{Question}
-use Rattle.mpx_match.specs.declared.questions.Question.TheVariants.{Fit, Kind, Mode, Root, Op, ItemType, Amount}
+use Rattle.mpx_post.specs.Agreement.{count_at, first_of, is_fit, received, root_post}
+use Rattle.mpx_match.specs.declared.verdicts.Question.{Question}
+use Rattle.mpx_match.specs.declared.verdicts.Question.TheVariants.{Fit, Kind, Mode, Root, Op, ItemType, Amount}
+
+abbrev pub least_from : (ℕ → Given → Bool) → ℕ → RowView → Option ℕ
+least_from test i [] = None
+least_from test i (given ∷ rest) = cond (test i given) (Some i) (least_from test (i + 1) rest)
+
+-- the least rank at which the test holds of the member's post
+abbrev pub least_rank : (ℕ → Given → Bool) → RowView → Option ℕ
+least_rank test row = least_from test 0 row
+
+-- other numbers
+abbrev differ : ℕ → ℕ → Bool
+differ m n = not (m == n)
+
+-- some receiver awaits another number of items than this member sends it
+abbrev some_receiver : (ℕ → Given → Bool) → RowView → Bool
+some_receiver test row = is_some (least_rank test row)
+
+-- the amounts of the member's post differ from what its kind asks of them
+abbrev pub amounts_differ : K.Kind → RowView → ℕ → Given → Bool
+amounts_differ Barrier row rank given = false
+amounts_differ Bcast row rank given = differ (received given) (received (first_of row))
+amounts_differ Gather row rank given = differ (count_of given) (count_of (root_post row))
+amounts_differ Gatherv row rank given = differ (count_of given) (count_at (root_post row).rcounts rank)
+amounts_differ Scatter row rank given = differ (received given) (received (root_post row))
+amounts_differ Scatterv row rank given = differ (received given) (count_at (root_post row).scounts rank)
+amounts_differ Allgather row rank given = differ (count_of given) (count_of (first_of row))
+amounts_differ Allgatherv row rank given = some_receiver (λ j receiver. differ (count_of given) (count_at receiver.rcounts rank)) row
+amounts_differ Alltoall row rank given = differ (received given) (received (first_of row))
+amounts_differ Alltoallv row rank given = some_receiver (λ j receiver. differ (count_at given.scounts j) (count_at receiver.rcounts rank)) row
+amounts_differ Reduce row rank given = differ (count_of given) (count_of (first_of row))
+amounts_differ Allreduce row rank given = differ (count_of given) (count_of (first_of row))
+amounts_differ ReduceScatterBlock row rank given = differ (received given) (received (first_of row))
+amounts_differ ReduceScatter row rank given = not (pointwise nat_eq given.rcounts (first_of row).rcounts)
+amounts_differ Scan row rank given = differ (count_of given) (count_of (first_of row))
+amounts_differ Exscan row rank given = differ (count_of given) (count_of (first_of row))
 
 -- the answer for the post of the member with this rank
 abbrev pub is_faulty : Question → RowView → ℕ → Given → Bool

@@ -1,6 +1,7 @@
 ghost use Rattle.std.specs.Prelude.{◌≡◌, ◌<◌, length};
 ghost use Rattle.mpx_post.specs.Posts.{count_of, root_of};
-ghost use Rattle.mpx_post.specs.Agreement.{amounts_differ as differ, count_at, post_at};
+ghost use Rattle.mpx_post.specs.Agreement.{count_at, post_at};
+ghost use Rattle.mpx_match.specs.Questions.{amounts_differ as differ};
 
 use mpx_post::{Counts, Kind, Post, Row};
 

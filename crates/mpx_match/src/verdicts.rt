@@ -1,32 +1,119 @@
-/// In what the members' posts to a call differ, in the order in which it is told.
-#[derive(Clone, Copy, Debug, PartialEq, Eq)]
-pub enum FaultKind {
-    /// In the kind of call.
+ghost use Rattle.std.specs.Prelude.{◌≡◌, ◌<◌, length};
+ghost use Rattle.mpx_post.specs.Agreement.{IsFine, post_at};
+ghost use Rattle.mpx_post.specs.Equality.{same_types as have_same_types};
+ghost use Rattle.mpx_match.specs.Questions.{answer, is_faulty as faulty};
+ghost use Rattle.mpx_match.specs.Verdicts.{IsFirstFault, questions, told_as as told, verdict};
+
+use crate::amounts::amounts_differ;
+use crate::faults::{Fault, FaultKind, Verdict};
+use crate::fits::fits;
+use mpx_post::{Post, Row};
+
+// What is asked of each post of a row.
+#[derive(Clone, Copy)]
+enum Question {
+    /// Whether it doesn't fit its communicator.
+    Fit,
+    /// Whether it is of another kind than rank 0's.
     Kind,
-    /// One call blocks, another doesn't.
+    /// Whether it has another mode.
     Mode,
-    /// In the root.
+    /// Whether it names another root.
     Root,
-    /// In the operation.
+    /// Whether it names another operation.
     Op,
-    /// In the type of the items.
+    /// Whether its items are of another type.
     ItemType,
-    /// In the numbers of items.
+    /// Whether its amounts differ from what rank 0's kind asks of them.
     Amount,
 }
 
-/// A call whose posts don't fit together: every member is told the same.
-#[derive(Clone, Copy, Debug, PartialEq, Eq)]
-pub struct Fault {
-    /// In what they differ.
-    pub what: FaultKind,
-    /// The least rank that differs.
-    pub rank: u8,
+/// Whether the posts of a row fit together, or their first fault. It takes no memory.
+pub fn verdict(row: &Row<'_>) -> Verdict
+    ensures first { IsFirstFault questions row.now result }
+    ensures fine { result ≡ Verdict.Fine → IsFine row.now }
+    ensures computed { result ≡ verdict row.now }
+{
+    first_fault(row)
 }
 
-/// Whether the posts of a call fit together.
-#[derive(Clone, Copy, Debug, PartialEq, Eq)]
-pub enum Verdict {
-    Fine,
-    Fault(Fault),
+// The first fault, by the questions in their order.
+fn first_fault(row: &Row<'_>) -> Verdict
+    ensures { result ≡ verdict row.now }
+{
+    let questions = [
+        Question::Fit,
+        Question::Kind,
+        Question::Mode,
+        Question::Root,
+        Question::Op,
+        Question::ItemType,
+        Question::Amount,
+    ];
+    for question in questions {
+        if let Some(rank) = least_rank(row, question) {
+            return Verdict::Fault(Fault {
+                what: told_as(question),
+                rank,
+            });
+        }
+    }
+    Verdict::Fine
+}
+
+// As what a fault is told.
+fn told_as(question: Question) -> FaultKind
+    ensures { result ≡ told question }
+{
+    match question {
+        Question::Fit => FaultKind::Amount,
+        Question::Kind => FaultKind::Kind,
+        Question::Mode => FaultKind::Mode,
+        Question::Root => FaultKind::Root,
+        Question::Op => FaultKind::Op,
+        Question::ItemType => FaultKind::ItemType,
+        Question::Amount => FaultKind::Amount,
+    }
+}
+
+// The least rank of whose post the answer is yes.
+fn least_rank(row: &Row<'_>, question: Question) -> Option<u8>
+    ensures { result ≡ answer question row.now }
+{
+    for rank in 0..row.len() {
+        if is_faulty(row, question, rank) {
+            return Some(rank as u8);
+        }
+    }
+    None
+}
+
+// The answer for the post of this rank.
+fn is_faulty(row: &Row<'_>, question: Question, rank: usize) -> bool
+    requires { rank < length row.now }
+    ensures { result ≡ faulty question row.now rank (post_at row.now rank) }
+{
+    let post = row.post(rank);
+    let first = row.post(0);
+    match question {
+        Question::Fit => !fits(row.len(), rank, post),
+        Question::Kind => post.kind() != first.kind(),
+        Question::Mode => post.mode() != first.mode(),
+        Question::Root => post.root() != first.root(),
+        Question::Op => post.op() != first.op(),
+        Question::ItemType => !same_types(post, first),
+        Question::Amount => amounts_differ(row, first.kind(), rank),
+    }
+}
+
+// Whether both give items of one type, or none.
+fn same_types(left: &Post, right: &Post) -> bool
+    ensures { result ≡ have_same_types left.now.items right.now.items }
+{
+    match (left.items(), right.items()) {
+        (None, None) => true,
+        (None, Some(_)) => false,
+        (Some(_), None) => false,
+        (Some(left), Some(right)) => left.ty() == right.ty(),
+    }
 }

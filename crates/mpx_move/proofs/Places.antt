@@ -6,38 +6,37 @@ use Rattle.mpx_post.specs.declared.kinds.Kind.{Kind}
 use Rattle.mpx_post.specs.declared.kinds.Kind.TheVariants.{Scatter, Scatterv, Alltoall, Alltoallv}
 use Rattle.mpx_post.specs.Kinds.{fields_of, is_had}
 use Rattle.mpx_post.specs.Posts.{Given, type_of, numbers_of}
-use Rattle.mpx_post.specs.Blocks.{block_at, blocks_sent, repeated}
+use Rattle.mpx_post.specs.Blocks.{IsBlock, block_at, blocks_sent, part, repeated}
 use Rattle.mpx_post.specs.Rows.{RowView}
 use Rattle.mpx_post.specs.Agreement.{count_at, fill, is_fit, is_root, post_at, IsFine}
-use Rattle.mpx_post.proofs.Agreement.{agrees}
 use Rattle.mpx_post.proofs.Blocks.{block_at-part, block_at-repeated, block_within, count_alone, filled_as, length-repeated, rcounts_as, repeated_within}
-use Rattle.mpx_move.specs.declared.moves.Block.{Block}
+use Rattle.mpx_post.specs.declared.block.Block.{Block}
 use Rattle.mpx_move.specs.Moves.{counts_sent}
-use Rattle.mpx_move.specs.Places.{IsBlock, IsSender, part, sends_blocks}
+use Rattle.mpx_move.specs.Senders.{IsSender, sends_blocks}
 
 -- the blocks' numbers of items, by the kind
 abbrev pub sent_as : Kind → (size sender : ℕ) → Given → List ℕ
 sent_as kind size sender given = unwrap_or (blocks_sent (fields_of kind).sent size (is_root sender given) given.scounts given.rcounts) []
 
 -- one count, which all blocks have
-by_one : (given : Given) (size receiver n first count : ℕ) → receiver < size → length given.rcounts ≡ 1 → length (repeated n given.rcounts) ≡ size → fill (Some (repeated n given.rcounts)) given ≡ true → first ≡ receiver * count → count ≡ count_at given.rcounts 0 → IsBlock given (repeated n given.rcounts) receiver (record { first = first; count = count })
+by_one : (given : Given) (size receiver n first count : ℕ) → receiver < size → length given.rcounts ≡ 1 → length (repeated n given.rcounts) ≡ size → fill (Some (repeated n given.rcounts)) given ≡ true → first ≡ receiver * count → count ≡ count_at given.rcounts 0 → IsBlock (type_of given) (repeated n given.rcounts) receiver (length (numbers_of given)) (record { first = first; count = count })
 by_one given size receiver n first count l one each filled f e =
     let ty = type_of given in
     let alone : given.rcounts ≡ count ∷ [] = count_alone given.rcounts one ∙ ap (λ (c : ℕ). c ∷ []) (sym e) in
     let so_many : n ≡ size = sym (length-repeated n count) ∙ ap (λ (counts : List ℕ). length (repeated n counts)) (sym alone) ∙ each in
     let below : receiver < n = omega arith in
     rw f (record {
-      at = sym (ap (λ (counts : List ℕ). block_at ty (repeated n counts) (numbers_of given) receiver) alone ∙ block_at-repeated ty n count (numbers_of given) receiver below);
+      at = λ nums. sym (ap (λ (counts : List ℕ). block_at ty (repeated n counts) nums receiver) alone ∙ block_at-repeated ty n count nums receiver below);
       within = repeated_within ty n count (numbers_of given) receiver below (ap (λ (counts : List ℕ). sum (repeated n counts) * item_len ty) (sym alone) ∙ eqb-true _ _ filled);
     })
 
 -- a count for each block
-by_each : (given : Given) (size receiver : ℕ) (counts : List ℕ) (first count : ℕ) → receiver < size → counts ≡ given.scounts → length counts ≡ size → fill (Some counts) given ≡ true → first ≡ sum (take receiver given.scounts) → count ≡ count_at given.scounts receiver → IsBlock given counts receiver (record { first = first; count = count })
+by_each : (given : Given) (size receiver : ℕ) (counts : List ℕ) (first count : ℕ) → receiver < size → counts ≡ given.scounts → length counts ≡ size → fill (Some counts) given ≡ true → first ≡ sum (take receiver given.scounts) → count ≡ count_at given.scounts receiver → IsBlock (type_of given) counts receiver (length (numbers_of given)) (record { first = first; count = count })
 by_each given size receiver counts first count l same each filled f e =
     let ty = type_of given in
     let below : receiver < length counts = omega arith in
     rw (f, e, ← same) (record {
-      at = sym (block_at-part ty counts (numbers_of given) receiver below);
+      at = λ nums. sym (block_at-part ty counts nums receiver below);
       within = block_within ty counts (numbers_of given) receiver below (eqb-true _ _ filled);
     })
 
@@ -62,14 +61,14 @@ module _ (given : Given) (size sender : ℕ) (fit : is_fit size sender given ≡
   sent_scounts kind l sends had each = cc sends
 
   module _ (receiver first count : ℕ) (l : receiver < size) where
-    equal_block : (kind : Kind) → given.kind ≡ kind → sends_blocks kind ≡ true → is_had (fields_of kind).scounts ≡ false → length (sent_as kind size sender given) ≡ size → first ≡ receiver * count → count ≡ count_at given.rcounts 0 → IsBlock given (sent_as kind size sender given) receiver (record { first = first; count = count })
+    equal_block : (kind : Kind) → given.kind ≡ kind → sends_blocks kind ≡ true → is_had (fields_of kind).scounts ≡ false → length (sent_as kind size sender given) ≡ size → first ≡ receiver * count → count ≡ count_at given.rcounts 0 → IsBlock (type_of given) (sent_as kind size sender given) receiver (length (numbers_of given)) (record { first = first; count = count })
     equal_block Scatter is sends had each f e = by_one given size receiver _ first count l (one_count Scatter is sends had) each (filled_as Scatter size sender given is fit) f e
     equal_block Alltoall is sends had each f e = by_one given size receiver _ first count l (one_count Alltoall is sends had) each (filled_as Alltoall size sender given is fit) f e
     equal_block Scatterv is sends had each f e = cc had
     equal_block Alltoallv is sends had each f e = cc had
     equal_block kind is sends had each f e = cc sends
 
-    counted_block : (kind : Kind) → given.kind ≡ kind → sends_blocks kind ≡ true → is_had (fields_of kind).scounts ≡ true → length (sent_as kind size sender given) ≡ size → first ≡ sum (take receiver given.scounts) → count ≡ count_at given.scounts receiver → IsBlock given (sent_as kind size sender given) receiver (record { first = first; count = count })
+    counted_block : (kind : Kind) → given.kind ≡ kind → sends_blocks kind ≡ true → is_had (fields_of kind).scounts ≡ true → length (sent_as kind size sender given) ≡ size → first ≡ sum (take receiver given.scounts) → count ≡ count_at given.scounts receiver → IsBlock (type_of given) (sent_as kind size sender given) receiver (length (numbers_of given)) (record { first = first; count = count })
     counted_block Scatterv is sends had each f e = by_each given size receiver _ first count l (sent_scounts Scatterv (omega arith) sends had each) each (filled_as Scatterv size sender given is fit) f e
     counted_block Alltoallv is sends had each f e = by_each given size receiver _ first count l (sent_scounts Alltoallv (omega arith) sends had each) each (filled_as Alltoallv size sender given is fit) f e
     counted_block Scatter is sends had each f e = cc had
@@ -77,22 +76,22 @@ module _ (given : Given) (size sender : ℕ) (fit : is_fit size sender given ≡
     counted_block kind is sends had each f e = cc sends
 
 -- what is in a block, by the type and the numbers of the items
-pub part_of : (given : Given) (block : Block) (ty : Ty) (nums : List ℤ) → ty ≡ type_of given → nums ≡ numbers_of given → take (block.count * item_len ty) (drop (block.first * item_len ty) nums) ≡ part given block
+pub part_of : (given : Given) (block : Block) (ty : Ty) (nums : List ℤ) → ty ≡ type_of given → nums ≡ numbers_of given → take (block.count * item_len ty) (drop (block.first * item_len ty) nums) ≡ part (type_of given) block (numbers_of given)
 part_of given block ty nums t e = rw (t, e)
 
 module _ (row : RowView) (sender : ℕ) (fine : IsFine row) (l : sender < length row) (sends : IsSender row sender) where
   of_kind : sends_blocks (post_at row sender).kind ≡ true
-  of_kind = ap sends_blocks (agrees row sender fine l).kind ∙ sends.kind
+  of_kind = ap sends_blocks (fine.each sender l).kind ∙ sends.kind
 
   pub one_received : is_had (fields_of (post_at row sender).kind).scounts ≡ false → length (post_at row sender).rcounts ≡ 1
-  one_received had = one_count (post_at row sender) (length row) sender (agrees row sender fine l).fit (post_at row sender).kind refl of_kind had
+  one_received had = one_count (post_at row sender) (length row) sender (fine.each sender l).fit (post_at row sender).kind refl of_kind had
 
   pub each_sent : is_had (fields_of (post_at row sender).kind).scounts ≡ true → length (post_at row sender).scounts ≡ length row
-  each_sent had = ap length (sym (sent_scounts (post_at row sender) (length row) sender (agrees row sender fine l).fit (post_at row sender).kind (omega arith) of_kind had sends.each)) ∙ sends.each
+  each_sent had = ap length (sym (sent_scounts (post_at row sender) (length row) sender (fine.each sender l).fit (post_at row sender).kind (omega arith) of_kind had sends.each)) ∙ sends.each
 
   module _ (receiver first count : ℕ) (r : receiver < length row) where
-    pub equal_place : is_had (fields_of (post_at row sender).kind).scounts ≡ false → first ≡ receiver * count → count ≡ count_at (post_at row sender).rcounts 0 → IsBlock (post_at row sender) (counts_sent row sender) receiver (record { first = first; count = count })
-    equal_place had f e = equal_block (post_at row sender) (length row) sender (agrees row sender fine l).fit receiver first count r (post_at row sender).kind refl of_kind had sends.each f e
+    pub equal_place : is_had (fields_of (post_at row sender).kind).scounts ≡ false → first ≡ receiver * count → count ≡ count_at (post_at row sender).rcounts 0 → IsBlock (type_of (post_at row sender)) (counts_sent row sender) receiver (length (numbers_of (post_at row sender))) (record { first = first; count = count })
+    equal_place had f e = equal_block (post_at row sender) (length row) sender (fine.each sender l).fit receiver first count r (post_at row sender).kind refl of_kind had sends.each f e
 
-    pub counted_place : is_had (fields_of (post_at row sender).kind).scounts ≡ true → first ≡ sum (take receiver (post_at row sender).scounts) → count ≡ count_at (post_at row sender).scounts receiver → IsBlock (post_at row sender) (counts_sent row sender) receiver (record { first = first; count = count })
-    counted_place had f e = counted_block (post_at row sender) (length row) sender (agrees row sender fine l).fit receiver first count r (post_at row sender).kind refl of_kind had sends.each f e
+    pub counted_place : is_had (fields_of (post_at row sender).kind).scounts ≡ true → first ≡ sum (take receiver (post_at row sender).scounts) → count ≡ count_at (post_at row sender).scounts receiver → IsBlock (type_of (post_at row sender)) (counts_sent row sender) receiver (length (numbers_of (post_at row sender))) (record { first = first; count = count })
+    counted_place had f e = counted_block (post_at row sender) (length row) sender (fine.each sender l).fit receiver first count r (post_at row sender).kind refl of_kind had sends.each f e

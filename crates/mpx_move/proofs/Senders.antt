@@ -9,9 +9,8 @@ use Rattle.mpx_post.specs.Posts.{Given}
 use Rattle.mpx_post.specs.Rows.{RowView}
 use Rattle.mpx_post.specs.Blocks.{repeated}
 use Rattle.mpx_post.specs.Agreement.{count_at, first_of, is_fit, is_root, post_at, IsFine}
-use Rattle.mpx_post.proofs.Agreement.{agrees}
 use Rattle.mpx_post.proofs.Blocks.{count_alone, length-repeated, rcounts_as, scounts_as}
-use Rattle.mpx_move.specs.Places.{IsSender, sends_blocks}
+use Rattle.mpx_move.specs.Senders.{IsSender, sends_blocks}
 use Rattle.mpx_move.proofs.Places.{sent_as}
 
 -- one count for each of so many blocks
@@ -34,7 +33,7 @@ module _ (given : Given) (size sender : ℕ) (fit : is_fit size sender given ≡
 
 pub is_sender : (row : RowView) (sender : ℕ) → IsFine row → sender < length row → sends_blocks (first_of row).kind ≡ true → ((fields_of (first_of row).kind).root ≡ true → (first_of row).root ≡ Some sender) → IsSender row sender
 is_sender row sender fine l kind rooted =
-    let agreed = agrees row sender fine l in
+    let agreed = fine.each sender l in
     let root : (fields_of (post_at row sender).kind).root ≡ true → is_root sender (post_at row sender) ≡ true = λ has. ap (λ (o : Option ℕ). option_map_or (λ root. root == sender) o false) (agreed.root ∙ rooted (sym (ap (λ (k : Kind). (fields_of k).root) agreed.kind) ∙ has)) ∙ eq-eqb sender sender refl in
     record {
       kind = kind;

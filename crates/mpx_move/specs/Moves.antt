@@ -1,15 +1,19 @@
 -- What exchanges of blocks give (MPI 4.1, sections 6.3 to 6.8).
 use Rattle.std.specs.Prelude.{ℕ, ◌==◌, List, [], ℤ, length, cond, unwrap_or}
 use Rattle.std.specs.List.{flat_map}
-use Rattle.mpx_post.specs.declared.kinds.Kind.{Kind}
-use Rattle.mpx_post.specs.declared.kinds.Kind.TheVariants.{Barrier, Bcast, Gather, Gatherv, Scatter, Scatterv, Allgather, Allgatherv, Alltoall, Alltoallv, Reduce, Allreduce, ReduceScatterBlock, ReduceScatter, Scan, Exscan}
+use Rattle.mpx_post.specs.declared.kinds.Family.{Family}
+use Rattle.mpx_post.specs.declared.kinds.Family.TheVariants as F
+use Rattle.mpx_post.specs.declared.kinds.Exchange.{Exchange}
+use Rattle.mpx_post.specs.declared.kinds.Exchange.TheVariants.{Barrier, Bcast, Gather, Gatherv, Scatter, Scatterv, Allgather, Allgatherv, Alltoall, Alltoallv}
 use Rattle.mpx_post.specs.declared.value.Value.{Value}
-use Rattle.mpx_post.specs.declared.value.Value.TheVariants.{Nothing, Items}
+use Rattle.mpx_post.specs.declared.value.Value.TheVariants.{Nothing}
 use Rattle.mpx_post.specs.Births.{upto}
+use Rattle.mpx_post.specs.Kinds.{family_of}
 use Rattle.mpx_post.specs.Posts.{root_of, type_of, numbers_of}
 use Rattle.mpx_post.specs.Rows.{RowView}
 use Rattle.mpx_post.specs.Agreement.{post_at, first_of, root_post, blocks_of}
 use Rattle.mpx_post.specs.Blocks.{block_at}
+use Rattle.mpx_post.specs.Values.{as_items}
 
 -- all that is given, in rank order
 abbrev pub joined : RowView → List ℤ
@@ -27,12 +31,8 @@ block_for row receiver sender = block_at (type_of (post_at row sender)) (counts_
 abbrev pub blocks_for : RowView → ℕ → List ℤ
 blocks_for row receiver = flat_map (block_for row receiver) (upto (length row))
 
--- as items of the type that rank 0 names
-abbrev pub as_items : RowView → List ℤ → Value
-as_items row nums = Items (record { ty = type_of (first_of row); nums = nums })
-
--- what a call of this kind gives the member with this rank
-abbrev pub move_of : Kind → RowView → ℕ → Value
+-- what an exchange gives the member with this rank
+abbrev pub move_of : Exchange → RowView → ℕ → Value
 move_of Barrier row rank = Nothing
 move_of Bcast row rank = as_items row (numbers_of (root_post row))
 move_of Gather row rank = cond (rank == root_of (first_of row)) (as_items row (joined row)) Nothing
@@ -43,13 +43,12 @@ move_of Allgather row rank = as_items row (joined row)
 move_of Allgatherv row rank = as_items row (joined row)
 move_of Alltoall row rank = as_items row (blocks_for row rank)
 move_of Alltoallv row rank = as_items row (blocks_for row rank)
-move_of Reduce row rank = Nothing
-move_of Allreduce row rank = Nothing
-move_of ReduceScatterBlock row rank = Nothing
-move_of ReduceScatter row rank = Nothing
-move_of Scan row rank = Nothing
-move_of Exscan row rank = Nothing
+
+-- kinds of other families give nothing here
+abbrev pub move_in : Family → RowView → ℕ → Value
+move_in (F.Exchange exchange) row rank = move_of exchange row rank
+move_in family row rank = Nothing
 
 -- what a fine row of an exchange gives the member with this rank
 unfoldable pub move_value : RowView → ℕ → Value
-move_value row rank = move_of (first_of row).kind row rank
+move_value row rank = move_in (family_of (first_of row).kind) row rank

@@ -2,12 +2,14 @@ ghost use Rattle.std.specs.Prelude.{◌≡◌, ◌<◌, ◌≤◌, ◌++◌, IfO
 ghost use Rattle.mpx_post.specs.Agreement.{IsFine, count_at, first_of, post_at};
 ghost use Rattle.mpx_post.specs.Kinds.{fields_of};
 ghost use Rattle.mpx_post.specs.Posts.{most_items, numbers_of, type_of};
-ghost use Rattle.mpx_move.specs.Moves.{as_items, block_for, blocks_for, counts_sent, joined, move_value};
-ghost use Rattle.mpx_move.specs.Places.{IsBlock, IsSender};
+ghost use Rattle.mpx_post.specs.Blocks.{IsBlock};
+ghost use Rattle.mpx_post.specs.Values.{as_items};
+ghost use Rattle.mpx_move.specs.Moves.{block_for, blocks_for, counts_sent, joined, move_value};
+ghost use Rattle.mpx_move.specs.Senders.{IsSender};
 
 use join_core::OutOfMemory;
 use mpx_num::Items;
-use mpx_post::{Kind, Post, Row, Value};
+use mpx_post::{Block, Kind, Post, Row, Value};
 use std::alloc::Global;
 
 /// What a fine row of an exchange gives the member with this rank. A row of another kind gives nothing.
@@ -107,20 +109,13 @@ fn append_block(
     Ok(())
 }
 
-// So many items, from a place on.
-#[derive(Clone, Copy)]
-struct Block {
-    first: usize,
-    count: usize,
-}
-
 // Where the block for the receiver stands in what the sender sends.
 fn block_of(row: &Row<'_>, sender: usize, receiver: u8) -> Block
     requires fine { IsFine row.now }
     requires sender { sender < length row.now }
     requires sends { IsSender row.now sender }
     requires receiver { receiver < length row.now }
-    ensures { IsBlock (post_at row.now sender) (counts_sent row.now sender) receiver result }
+    ensures { IsBlock (type_of (post_at row.now sender)) (counts_sent row.now sender) receiver (length (numbers_of (post_at row.now sender))) result }
 {
     let post = row.post(sender);
     let place = usize::from(receiver);

@@ -182,7 +182,12 @@ fn append(nums: &mut Arc<Vec<i128>>, part: &[i128]) -> Result<(), AllocError>
 }
 
 // The operation item by item, on a copy where others share the list.
-fn combine_shared(op: Op, ty: Ty, left: &mut Arc<Vec<i128>>, right: &[i128]) -> Result<(), AllocError>
+fn combine_shared(
+    op: Op,
+    ty: Ty,
+    left: &mut Arc<Vec<i128>>,
+    right: &[i128],
+) -> Result<(), AllocError>
     requires whole { IsTrue (is_whole ty (arc_value left.old).items) }
     requires same_len { length (arc_value left.old).items ≡ length right.now }
     ensures ok { OnOk result ((arc_value left.new).items ≡ elementwise op ty (arc_value left.old).items right.now) }

@@ -4,3 +4,4 @@ pub mod Refusals
 pub mod Sums
 pub mod Blocks
 pub mod Contributions
+pub mod Families

@@ -1,15 +1,15 @@
--- Where the posts of a row don't fit together (MPI 4.1, sections 6.2 to 6.12): each fault names the least rank of which its test holds.
-use Rattle.std.specs.Prelude.{◌≡◌, ℕ, ◌+◌, ◌*◌, ◌==◌, ◌&&◌, nat_eq, nat_lt, Bool, true, false, not, List, [], ◌∷◌, length, cond, Option, Some, None, is_some, slice_index_or}
+-- When the posts of a row fit together (MPI 4.1, sections 6.2 to 6.12).
+use Rattle.std.specs.Prelude.{◌≡◌, ℕ, ◌*◌, ◌<◌, ◌==◌, ◌&&◌, nat_lt, Bool, true, false, List, length, Option, Some, None, slice_index_or}
 use Rattle.std.specs.List.{sum}
-use Rattle.std.specs.Option.{option_map_or}
-use lib.Pointwise.{pointwise}
+use Rattle.std.specs.Option.{option_map, option_map_or}
+use Rattle.mpx_num.specs.declared.types.Ty.{Ty}
+use Rattle.mpx_num.specs.ItemList.{ItemList}
 use Rattle.mpx_num.specs.Types.{item_len}
 use Rattle.mpx_num.specs.Operations.{fits}
 use Rattle.mpx_post.specs.declared.kinds.Kind.{Kind}
 use Rattle.mpx_post.specs.declared.kinds.Kind.TheVariants.{Barrier, Bcast, Gather, Gatherv, Scatter, Scatterv, Allgather, Allgatherv, Alltoall, Alltoallv, Reduce, Allreduce, ReduceScatterBlock, ReduceScatter, Scan, Exscan}
 use Rattle.mpx_post.specs.Kinds.{fields_of, number_in}
 use Rattle.mpx_post.specs.Posts.{Given, nothing_given, root_of, type_of, numbers_of, count_of}
-use Rattle.mpx_post.specs.Equality.{same_kind, same_mode, same_root, same_operations, same_types}
 use Rattle.mpx_post.specs.Rows.{RowView}
 use Rattle.mpx_post.specs.Blocks.{blocks_sent}
 
@@ -27,13 +27,17 @@ first_of row = post_at row 0
 abbrev pub root_post : RowView → Given
 root_post row = post_at row (root_of (first_of row))
 
-abbrev pub least_from : (ℕ → Given → Bool) → ℕ → RowView → Option ℕ
-least_from test i [] = None
-least_from test i (given ∷ rest) = cond (test i given) (Some i) (least_from test (i + 1) rest)
+-- the count at a place
+abbrev pub count_at : List ℕ → ℕ → ℕ
+count_at counts i = slice_index_or counts i 0
 
--- the least rank at which the test holds of the member's post
-abbrev pub least_rank : (ℕ → Given → Bool) → RowView → Option ℕ
-least_rank test row = least_from test 0 row
+-- the one receive count of a post that has one
+abbrev pub received : Given → ℕ
+received given = count_at given.rcounts 0
+
+-- the type of the items, where there are some
+abbrev pub type_given : Given → Option Ty
+type_given given = option_map (λ (items : ItemList). items.ty) given.items
 
 -- WHAT FITS A COMMUNICATOR
 
@@ -66,72 +70,37 @@ is_fit size rank given = fits_root size given
     && ((length given.rcounts == number_in (fields_of given.kind).rcounts size (is_root rank given))
     && fill (blocks_of size rank given) given)))
 
--- THE FAULTS
+-- WHAT AGREES
 
--- doesn't fit the communicator
-abbrev pub misfit : RowView → Option ℕ
-misfit row = least_rank (λ rank given. not (is_fit (length row) rank given)) row
+-- the amounts of the member's post are what its kind asks of them
+abbrev pub AmountsAgree : Kind → RowView → ℕ → Given → Type 0
+AmountsAgree Barrier row rank given = Unit {0}
+AmountsAgree Bcast row rank given = received given ≡ received (first_of row)
+AmountsAgree Gather row rank given = count_of given ≡ count_of (root_post row)
+AmountsAgree Gatherv row rank given = count_of given ≡ count_at (root_post row).rcounts rank
+AmountsAgree Scatter row rank given = received given ≡ received (root_post row)
+AmountsAgree Scatterv row rank given = received given ≡ count_at (root_post row).scounts rank
+AmountsAgree Allgather row rank given = count_of given ≡ count_of (first_of row)
+AmountsAgree Allgatherv row rank given = (receiver : ℕ) → receiver < length row → count_of given ≡ count_at (post_at row receiver).rcounts rank
+AmountsAgree Alltoall row rank given = received given ≡ received (first_of row)
+AmountsAgree Alltoallv row rank given = (receiver : ℕ) → receiver < length row → count_at given.scounts receiver ≡ count_at (post_at row receiver).rcounts rank
+AmountsAgree Reduce row rank given = count_of given ≡ count_of (first_of row)
+AmountsAgree Allreduce row rank given = count_of given ≡ count_of (first_of row)
+AmountsAgree ReduceScatterBlock row rank given = received given ≡ received (first_of row)
+AmountsAgree ReduceScatter row rank given = given.rcounts ≡ (first_of row).rcounts
+AmountsAgree Scan row rank given = count_of given ≡ count_of (first_of row)
+AmountsAgree Exscan row rank given = count_of given ≡ count_of (first_of row)
 
--- differs from rank 0's post in its kind, its mode, its root, its operation, the type of its items
-abbrev pub kind_fault : RowView → Option ℕ
-kind_fault row = least_rank (λ rank given. not (same_kind given.kind (first_of row).kind)) row
+-- the post of the member with this rank fits the communicator and agrees with the others
+pub record Agrees (row : RowView) (rank : ℕ) : Type 0 where
+  pub fit : is_fit (length row) rank (post_at row rank) ≡ true
+  pub kind : (post_at row rank).kind ≡ (first_of row).kind
+  pub mode : (post_at row rank).mode ≡ (first_of row).mode
+  pub root : (post_at row rank).root ≡ (first_of row).root
+  pub op : (post_at row rank).op ≡ (first_of row).op
+  pub ty : type_given (post_at row rank) ≡ type_given (first_of row)
+  pub amounts : AmountsAgree (first_of row).kind row rank (post_at row rank)
 
-abbrev pub mode_fault : RowView → Option ℕ
-mode_fault row = least_rank (λ rank given. not (same_mode given.mode (first_of row).mode)) row
-
-abbrev pub root_fault : RowView → Option ℕ
-root_fault row = least_rank (λ rank given. not (same_root given.root (first_of row).root)) row
-
-abbrev pub op_fault : RowView → Option ℕ
-op_fault row = least_rank (λ rank given. not (same_operations given.op (first_of row).op)) row
-
-abbrev pub type_fault : RowView → Option ℕ
-type_fault row = least_rank (λ rank given. not (same_types given.items (first_of row).items)) row
-
--- the count at a place
-abbrev pub count_at : List ℕ → ℕ → ℕ
-count_at counts i = slice_index_or counts i 0
-
--- other numbers
-abbrev differ : ℕ → ℕ → Bool
-differ m n = not (m == n)
-
--- the one receive count of a post that has one
-abbrev received : Given → ℕ
-received given = count_at given.rcounts 0
-
--- some receiver awaits another number of items than this member sends it
-abbrev some_receiver : (ℕ → Given → Bool) → RowView → Bool
-some_receiver test row = is_some (least_rank test row)
-
--- the amounts of the member's post differ from what its kind asks of them
-abbrev pub amounts_differ : Kind → RowView → ℕ → Given → Bool
-amounts_differ Barrier row rank given = false
-amounts_differ Bcast row rank given = differ (received given) (received (first_of row))
-amounts_differ Gather row rank given = differ (count_of given) (count_of (root_post row))
-amounts_differ Gatherv row rank given = differ (count_of given) (count_at (root_post row).rcounts rank)
-amounts_differ Scatter row rank given = differ (received given) (received (root_post row))
-amounts_differ Scatterv row rank given = differ (received given) (count_at (root_post row).scounts rank)
-amounts_differ Allgather row rank given = differ (count_of given) (count_of (first_of row))
-amounts_differ Allgatherv row rank given = some_receiver (λ j receiver. differ (count_of given) (count_at receiver.rcounts rank)) row
-amounts_differ Alltoall row rank given = differ (received given) (received (first_of row))
-amounts_differ Alltoallv row rank given = some_receiver (λ j receiver. differ (count_at given.scounts j) (count_at receiver.rcounts rank)) row
-amounts_differ Reduce row rank given = differ (count_of given) (count_of (first_of row))
-amounts_differ Allreduce row rank given = differ (count_of given) (count_of (first_of row))
-amounts_differ ReduceScatterBlock row rank given = differ (received given) (received (first_of row))
-amounts_differ ReduceScatter row rank given = not (pointwise nat_eq given.rcounts (first_of row).rcounts)
-amounts_differ Scan row rank given = differ (count_of given) (count_of (first_of row))
-amounts_differ Exscan row rank given = differ (count_of given) (count_of (first_of row))
-
-abbrev pub amount_fault : RowView → Option ℕ
-amount_fault row = least_rank (amounts_differ (first_of row).kind row) row
-
--- none of these
+-- the posts of all members do
 pub record IsFine (row : RowView) : Type 0 where
-  pub fits : misfit row ≡ None
-  pub kind : kind_fault row ≡ None
-  pub mode : mode_fault row ≡ None
-  pub root : root_fault row ≡ None
-  pub op : op_fault row ≡ None
-  pub ty : type_fault row ≡ None
-  pub amount : amount_fault row ≡ None
+  pub each : (rank : ℕ) → rank < length row → Agrees row rank

@@ -6,6 +6,7 @@ use Rattle.std.specs.Ordering.{int_eq}
 use Rattle.std.proofs.lemmas.Bool.Decides.{Decides-and, Decides-eqb, Decides-int_eq, Decides-like}
 use Rattle.std.proofs.lemmas.Slice.Eq.{slice_eq-Decides}
 use lib.Pointwise.{pointwise}
+use Rattle.std.specs.Option.{option_map}
 use Rattle.join_core.specs.Laws.{IsEquality}
 use Rattle.mpx_num.specs.declared.types.Ty.{Ty}
 use Rattle.mpx_num.specs.declared.types.Ty.TheVariants.{I8, I16, I32, I64, U8, U16, U32, U64, TwoInt}
@@ -183,7 +184,7 @@ modes_decided Nonblocking Nonblocking = (λ t. refl, λ e. refl)
 pub operations_decided : (a b : Op) → Decides (same_operation a b) (a ≡ b)
 operations_decided = decided_by_place place_of_operation operation_at operation_at-place
 
-numbers_decided : (a b : List ℕ) → Decides (pointwise nat_eq a b) (a ≡ b)
+pub numbers_decided : (a b : List ℕ) → Decides (pointwise nat_eq a b) (a ≡ b)
 numbers_decided a b = slice_eq-Decides Decides-eqb a b (pointwise nat_eq a b) refl
 
 pub items_decided : (a b : ItemList) → Decides (same_items a b) (a ≡ b)
@@ -195,11 +196,17 @@ items_decided a b =
     (λ e. (ap (λ (items : ItemList). items.ty) e, ap (λ (items : ItemList). items.nums) e))
     (Decides-and _ _ types numbers)
 
-options_decided : {A : Type 0} (same : A → A → Bool) → ((a b : A) → Decides (same a b) (a ≡ b)) → (a b : Option A) → Decides (same_option same a b) (a ≡ b)
+pub options_decided : {A : Type 0} (same : A → A → Bool) → ((a b : A) → Decides (same a b) (a ≡ b)) → (a b : Option A) → Decides (same_option same a b) (a ≡ b)
 options_decided same decided None None = (λ t. refl, λ e. refl)
 options_decided same decided None (Some b) = (λ t. cc, λ e. cc)
 options_decided same decided (Some a) None = (λ t. cc, λ e. cc)
 options_decided same decided (Some a) (Some b) = Decides-like _ (ap Some) (λ e. cc) (decided a b)
+
+pub types_decided : (a b : Option ItemList) → Decides (same_types a b) (option_map (λ (items : ItemList). items.ty) a ≡ option_map (λ (items : ItemList). items.ty) b)
+types_decided None None = (λ t. refl, λ e. refl)
+types_decided None (Some b) = (λ t. cc, λ e. cc)
+types_decided (Some a) None = (λ t. cc, λ e. cc)
+types_decided (Some a) (Some b) = Decides-like _ (ap Some) (λ e. cc) (decided_by_place place_of_type type_at type_at-place a.ty b.ty)
 
 pub given_decided : (a b : Given) → Decides (same_given a b) (a ≡ b)
 given_decided a b =

@@ -1,7 +1,11 @@
--- The kinds of calls: one row each of what its posts have (MPI 4.1, sections 6.3 to 6.12).
+-- The kinds of calls: one row each of what its posts have, and one of its family (MPI 4.1, sections 6.3 to 6.12).
 use Rattle.std.specs.Prelude.{ℕ, Bool, true, false, cond}
 use Rattle.mpx_post.specs.declared.kinds.Kind.{Kind}
 use Rattle.mpx_post.specs.declared.kinds.Kind.TheVariants.{Barrier, Bcast, Gather, Gatherv, Scatter, Scatterv, Allgather, Allgatherv, Alltoall, Alltoallv, Reduce, Allreduce, ReduceScatterBlock, ReduceScatter, Scan, Exscan}
+use Rattle.mpx_post.specs.declared.kinds.Family.{Family}
+use Rattle.mpx_post.specs.declared.kinds.Family.TheVariants.{Exchange, Reduction}
+use Rattle.mpx_post.specs.declared.kinds.Exchange.TheVariants as E
+use Rattle.mpx_post.specs.declared.kinds.Reduction.TheVariants as R
 use Rattle.mpx_post.specs.declared.kinds.Number.{Number}
 use Rattle.mpx_post.specs.declared.kinds.Number.TheVariants.{Zero, One, OneAtRoot, Members, MembersAtRoot}
 use Rattle.mpx_post.specs.declared.kinds.Sent.{Sent}
@@ -45,3 +49,22 @@ fields_of ReduceScatterBlock = having false true true Zero One (Rcounts Members)
 fields_of ReduceScatter = having false true true Zero Members (Rcounts One)
 fields_of Scan = having false true true Zero Zero Any
 fields_of Exscan = having false true true Zero Zero Any
+
+-- the family of each kind, and which of the family's kinds it is
+abbrev pub family_of : Kind → Family
+family_of Barrier = Exchange E.Barrier
+family_of Bcast = Exchange E.Bcast
+family_of Gather = Exchange E.Gather
+family_of Gatherv = Exchange E.Gatherv
+family_of Scatter = Exchange E.Scatter
+family_of Scatterv = Exchange E.Scatterv
+family_of Allgather = Exchange E.Allgather
+family_of Allgatherv = Exchange E.Allgatherv
+family_of Alltoall = Exchange E.Alltoall
+family_of Alltoallv = Exchange E.Alltoallv
+family_of Reduce = Reduction R.Reduce
+family_of Allreduce = Reduction R.Allreduce
+family_of ReduceScatterBlock = Reduction R.ReduceScatterBlock
+family_of ReduceScatter = Reduction R.ReduceScatter
+family_of Scan = Reduction R.Scan
+family_of Exscan = Reduction R.Exscan

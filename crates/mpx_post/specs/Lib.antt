@@ -6,3 +6,4 @@ pub mod Equality
 pub mod Rows
 pub mod Agreement
 pub mod Drafts
+pub mod Values

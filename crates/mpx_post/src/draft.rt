@@ -7,10 +7,10 @@ ghost use Rattle.mpx_post.specs.Drafts.{Checks, checked, checked_at, is_rank as 
 use crate::birth::Birth;
 use crate::counts::are_counts;
 use crate::kinds::{Kind, Mode, Sent};
-use crate::parts::{
+use crate::post::Post;
+use crate::post_fields::{
     given_counts, given_items, given_op, given_root, is_misfill, is_rank, where_had,
 };
-use crate::post::Post;
 use join_core::OutOfMemory;
 use mpx_group::Proc;
 use mpx_num::{Numbers, Op, Ty, op_fits};

@@ -1,5 +1,5 @@
 ghost use Rattle.std.specs.Prelude.{◌≡◌, ◌≤◌};
-ghost use Rattle.mpx_post.specs.Kinds.{fields_of, is_had, number_in};
+ghost use Rattle.mpx_post.specs.Kinds.{family_of, fields_of, is_had, number_in};
 
 /// The kinds of calls (MPI 4.1 sections 6.3 to 6.12).
 #[derive(Clone, Copy, Debug, PartialEq, Eq)]
@@ -36,6 +36,39 @@ pub enum Kind {
     Scan,
     /// `MPI_EXSCAN` (section 6.11.2).
     Exscan,
+}
+
+/// The kinds that move items as they are (MPI 4.1 sections 6.3 to 6.8).
+#[derive(Clone, Copy, Debug, PartialEq, Eq)]
+pub enum Exchange {
+    Barrier,
+    Bcast,
+    Gather,
+    Gatherv,
+    Scatter,
+    Scatterv,
+    Allgather,
+    Allgatherv,
+    Alltoall,
+    Alltoallv,
+}
+
+/// The kinds that combine items (MPI 4.1 sections 6.9 to 6.11).
+#[derive(Clone, Copy, Debug, PartialEq, Eq)]
+pub enum Reduction {
+    Reduce,
+    Allreduce,
+    ReduceScatterBlock,
+    ReduceScatter,
+    Scan,
+    Exscan,
+}
+
+/// The families of kinds: the values of each are found in a way of its own.
+#[derive(Clone, Copy, Debug, PartialEq, Eq)]
+pub enum Family {
+    Exchange(Exchange),
+    Reduction(Reduction),
 }
 
 /// Whether a call blocks. Blocking and nonblocking calls don't match (MPI 4.1 section 6.12).
@@ -83,6 +116,30 @@ pub struct Fields {
 }
 
 impl Kind {
+    /// Its family, and which of the family's kinds it is.
+    pub fn family(self) -> Family
+        ensures { result ≡ family_of self }
+    {
+        match self {
+            Kind::Barrier => Family::Exchange(Exchange::Barrier),
+            Kind::Bcast => Family::Exchange(Exchange::Bcast),
+            Kind::Gather => Family::Exchange(Exchange::Gather),
+            Kind::Gatherv => Family::Exchange(Exchange::Gatherv),
+            Kind::Scatter => Family::Exchange(Exchange::Scatter),
+            Kind::Scatterv => Family::Exchange(Exchange::Scatterv),
+            Kind::Allgather => Family::Exchange(Exchange::Allgather),
+            Kind::Allgatherv => Family::Exchange(Exchange::Allgatherv),
+            Kind::Alltoall => Family::Exchange(Exchange::Alltoall),
+            Kind::Alltoallv => Family::Exchange(Exchange::Alltoallv),
+            Kind::Reduce => Family::Reduction(Reduction::Reduce),
+            Kind::Allreduce => Family::Reduction(Reduction::Allreduce),
+            Kind::ReduceScatterBlock => Family::Reduction(Reduction::ReduceScatterBlock),
+            Kind::ReduceScatter => Family::Reduction(Reduction::ReduceScatter),
+            Kind::Scan => Family::Reduction(Reduction::Scan),
+            Kind::Exscan => Family::Reduction(Reduction::Exscan),
+        }
+    }
+
     /// What its posts have.
     pub fn fields(self) -> Fields
         ensures { result ≡ fields_of self }

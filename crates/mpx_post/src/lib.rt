@@ -1,27 +1,29 @@
 //! What a process gives to a call: drafts, posts and the rows that they make.
 //!
 //! A [`Kind`] of call has one row in a table (`specs/Kinds.antt`): which fields its posts have, how many counts, and how
-//! their items are cut into blocks. A post is seen by contracts as the record of its fields (`specs/Posts.antt`), a row as
+//! their items are cut into blocks; and one row that says its [`Family`], by which its value is found. A post is seen by contracts as the record of its fields (`specs/Posts.antt`), a row as
 //! the list of its posts in rank order (`specs/Rows.antt`), and a communicator as the list of its members
 //! (`specs/Births.antt`). A draft is accepted or refused by one list of conditions in the order in which they are told
-//! (`specs/Drafts.antt`), and a row is fine where none of its faults names a rank (`specs/Agreement.antt`).
+//! (`specs/Drafts.antt`), and a row is fine where the posts of all ranks agree (`specs/Agreement.antt`).
 //!
 //! In the order of reading: [`Birth`], [`Kind`], [`Draft`] with [`Draft::check`], [`Post`], [`Row`], [`Value`].
 #![tactic(auto)]
 
 mod birth;
+mod block;
 mod counts;
 mod draft;
 mod kinds;
-mod parts;
 mod post;
+mod post_fields;
 mod row;
 mod value;
 
 pub use birth::Birth;
+pub use block::Block;
 pub use counts::Counts;
 pub use draft::{At, Draft, MOST_CALLS, PostError};
-pub use kinds::{Fields, Kind, Mode, Number, Sent};
+pub use kinds::{Exchange, Family, Fields, Kind, Mode, Number, Reduction, Sent};
 pub use post::Post;
 pub use row::Row;
 pub use value::Value;

@@ -9,8 +9,8 @@ use Rattle.mpx_post.specs.declared.kinds.Kind.TheVariants as K
 use Rattle.mpx_post.specs.declared.kinds.Mode.TheVariants.{Blocking}
 use Rattle.mpx_post.specs.declared.draft.PostError.TheVariants.{RootOutOfRange, ItemOutOfRange}
 use Rattle.mpx_post.specs.Drafts.{checked}
-use Rattle.mpx_match.specs.declared.verdicts.FaultKind.{FaultKind}
-use Rattle.mpx_match.specs.declared.verdicts.FaultKind.TheVariants as F
+use Rattle.mpx_match.specs.declared.faults.FaultKind.{FaultKind}
+use Rattle.mpx_match.specs.declared.faults.FaultKind.TheVariants as F
 use Rattle.mpx_match.specs.Verdicts.{verdict}
 use Rattle.mpx_fold.specs.Folds.{fold_value}
 use Rattle.mpx_move.specs.Moves.{move_value}

@@ -3,8 +3,8 @@ use Rattle.std.specs.Prelude.{ℕ, zero, suc, ℤ, pos, List, [], ◌∷◌, ◌
 use Rattle.mpx_num.specs.Text.{number_text}
 use Rattle.mpx_post.specs.declared.draft.PostError.{PostError}
 use Rattle.mpx_post.specs.declared.draft.PostError.TheVariants as R
-use Rattle.mpx_match.specs.declared.verdicts.FaultKind.{FaultKind}
-use Rattle.mpx_match.specs.declared.verdicts.FaultKind.TheVariants as F
+use Rattle.mpx_match.specs.declared.faults.FaultKind.{FaultKind}
+use Rattle.mpx_match.specs.declared.faults.FaultKind.TheVariants as F
 use Rattle.mpx_value.specs.declared.outcomes.Outcome.{Outcome}
 use Rattle.mpx_value.specs.declared.outcomes.Outcome.TheVariants as O
 use Rattle.mpx_script.specs.Ranks.{Line, Told, Refused}

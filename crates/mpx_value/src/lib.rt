@@ -5,8 +5,6 @@
 #![tactic(auto)]
 
 mod outcomes;
-#[cfg(test)]
-mod tests;
 mod values;
 
 pub use mpx_match::{Fault, FaultKind};

@@ -7,7 +7,7 @@ use join_core::OutOfMemory;
 use mpx_fold::fold_value;
 use mpx_match::{Verdict, verdict};
 use mpx_move::move_value;
-use mpx_post::{Row, Value};
+use mpx_post::{Family, Row, Value};
 use std::alloc::Global;
 
 /// What the call with this row of posts gives the member with this rank.
@@ -28,10 +28,9 @@ fn given_to(alloc: Global, row: &Row<'_>, rank: u8) -> Result<Value, OutOfMemory
     requires rank { rank < length row.now }
     ensures { IfOk result (λ value. value ≡ given_to row.now rank) }
 {
-    if row.post(0).kind().fields().op {
-        fold_value(alloc, row, rank)
-    } else {
-        move_value(alloc, row, rank)
+    match row.post(0).kind().family() {
+        Family::Exchange(_) => move_value(alloc, row, rank),
+        Family::Reduction(_) => fold_value(alloc, row, rank),
     }
 }
 

@@ -64,9 +64,15 @@ fn at_most_4096_items(rt: HostRuntime) -> Result<(), Fail> {
     for (ty, most) in [(Ty::I64, 4096), (Ty::U8, 4096), (Ty::TwoInt, 8192)] {
         let full = Items::new(ty, Numbers::new(rt.alloc(), vec![in rt.alloc(); 7; most]?)?);
         assert_eq!(rt; full?.count(), 4096);
-        let many = Items::new(ty, Numbers::new(rt.alloc(), vec![in rt.alloc(); 7; most + 2]?)?);
+        let many = Items::new(
+            ty,
+            Numbers::new(rt.alloc(), vec![in rt.alloc(); 7; most + 2]?)?,
+        );
         assert_eq!(rt; many.err(), Some(ItemsError::TooManyItems));
-        let wrong = Items::new(ty, Numbers::new(rt.alloc(), vec![in rt.alloc(); i128::MAX; most + 2]?)?);
+        let wrong = Items::new(
+            ty,
+            Numbers::new(rt.alloc(), vec![in rt.alloc(); i128::MAX; most + 2]?)?,
+        );
         assert_eq!(rt; wrong.err(), Some(ItemsError::ItemOutOfRange));
         assert!(rt; Items::new(ty, Numbers::new(rt.alloc(), Vec::new(rt.alloc()))?).is_ok());
     }
@@ -79,9 +85,15 @@ fn pairs_have_two_numbers(rt: HostRuntime) -> Result<(), Fail> {
     assert_eq!(rt; pairs.count(), 2);
     assert_eq!(rt; Ty::TwoInt.item_len(), 2);
     assert_eq!(rt; Ty::I32.item_len(), 1);
-    let odd = Items::new(Ty::TwoInt, Numbers::new(rt.alloc(), vec![in rt.alloc(); 7, 2, 9]?)?);
+    let odd = Items::new(
+        Ty::TwoInt,
+        Numbers::new(rt.alloc(), vec![in rt.alloc(); 7, 2, 9]?)?,
+    );
     assert_eq!(rt; odd.err(), Some(ItemsError::ItemsLength));
-    let odd_and_out = Items::new(Ty::TwoInt, Numbers::new(rt.alloc(), vec![in rt.alloc(); 4294967296]?)?);
+    let odd_and_out = Items::new(
+        Ty::TwoInt,
+        Numbers::new(rt.alloc(), vec![in rt.alloc(); 4294967296]?)?,
+    );
     assert_eq!(rt; odd_and_out.err(), Some(ItemsError::ItemsLength));
     assert_eq!(rt;
         format!(in rt.alloc(); "{}", ItemsError::ItemsLength)?.as_str(),

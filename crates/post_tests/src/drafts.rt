@@ -1,10 +1,10 @@
 //! What no clause says: that a check succeeds where memory is there, and refusals of drafts from outside.
 ghost use Rattle.std.specs.Prelude.{◌<◌};
 
-use super::*;
 use join_core::{Exact, OutOfMemory};
 use mpx_group::Proc;
 use mpx_num::{Numbers, Op, Ty};
+use mpx_post::{At, Birth, Draft, Kind, Mode, Post, PostError, Row};
 use std::alloc::{AllocError, Global};
 use std::process::Abort;
 use std::test::Fail;
@@ -193,7 +193,7 @@ fn calls_are_used_up(rt: HostRuntime) -> Result<(), Fail> {
         Ty::I32,
         [&[], &[], &[]],
     )?;
-    let past = last.copy(rt.alloc())?;
+    let past = last.copy()?;
     assert!(rt; check(rt.alloc(), 0, 4294967294, last)?.is_ok());
     assert_eq!(rt;
         check(rt.alloc(), 0, 4294967295, past)?.err(),

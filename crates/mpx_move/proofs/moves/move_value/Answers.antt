@@ -7,12 +7,14 @@ use Rattle.mpx_post.specs.declared.kinds.Kind.{Kind}
 use Rattle.mpx_post.specs.declared.kinds.Kind.TheVariants.{Barrier, Bcast, Gather, Gatherv, Scatter, Scatterv, Allgather, Allgatherv, Alltoall, Alltoallv, Reduce, Allreduce, ReduceScatterBlock, ReduceScatter, Scan, Exscan}
 use Rattle.mpx_post.specs.declared.value.Value.{Value}
 use Rattle.mpx_post.specs.declared.value.Value.TheVariants.{Nothing, Items}
-use Rattle.mpx_post.specs.Kinds.{fields_of}
+use Rattle.mpx_post.specs.declared.kinds.Exchange.TheVariants as E
+use Rattle.mpx_post.specs.Kinds.{family_of, fields_of}
 use Rattle.mpx_post.specs.Posts.{Given, numbers_of, root_of}
 use Rattle.mpx_post.specs.Rows.{RowView}
 use Rattle.mpx_post.specs.Agreement.{first_of, post_at}
-use Rattle.mpx_move.specs.Moves.{as_items, block_for, joined, move_of, move_value}
-use Rattle.mpx_move.specs.Places.{sends_blocks}
+use Rattle.mpx_post.specs.Values.{as_items}
+use Rattle.mpx_move.specs.Moves.{block_for, joined, move_in, move_of, move_value}
+use Rattle.mpx_move.specs.Senders.{sends_blocks}
 use Rattle.mpx_move.proofs.Senders.{is_sender}
 use Rattle.mpx_move.proofs.moves.move_value.Goals as goal
 
@@ -21,9 +23,9 @@ first_kind : (row : RowView) (first : Given) (read : Kind) → first ≡ first_o
 first_kind row first read e k = k ∙ ap (λ (given : Given). given.kind) e
 
 -- the value by that kind
-by_kind : (row : RowView) (rank : ℕ) (kind : Kind) → kind ≡ (first_of row).kind → move_of kind row rank ≡ move_value row rank
+by_kind : (row : RowView) (rank : ℕ) (kind : Kind) → kind ≡ (first_of row).kind → move_in (family_of kind) row rank ≡ move_value row rank
 unfolding move_value
-by_kind row rank kind k = ap (λ (k : Kind). move_of k row rank) k
+by_kind row rank kind k = ap (λ (k : Kind). move_in (family_of k) row rank) k
 
 -- what an answer gives, in other words
 gives : (answer : Result Value OutOfMemory) (told value : Value) → told ≡ value → IfOk answer (λ v. v ≡ told) → IfOk answer (λ v. v ≡ value)
@@ -67,7 +69,7 @@ returns-then-root-from c =
     let row = c.args.row.now in
     let kind = first_kind row _ _ c.post.ensures.value c.kind.ensures in
     let here : (c.args.rank == root_of (first_of row)) ≡ true = at_root row c.root-in-Gather.result c.args.rank c.root-in-Gather.ensures.value (c.if-root-from.true ∙ c.from.ensures) in
-    let all : as_items row (joined row) ≡ move_of Gather row c.args.rank = sym (cond-true _ (as_items row (joined row)) Nothing here) in
+    let all : as_items row (joined row) ≡ move_of E.Gather row c.args.rank = sym (cond-true _ (as_items row (joined row)) Nothing here) in
     gives _ _ _ (all ∙ elim c.in-Gather.is [ inl is ↦ by_kind row c.args.rank Gather (sym is ∙ kind) | inr is ↦ by_kind row c.args.rank Gatherv (sym is ∙ kind) ]) c.joined_value.ensures
 
 pub returns-else-root-from : goal.returns-else-root-from
@@ -75,7 +77,7 @@ returns-else-root-from c =
     let row = c.args.row.now in
     let kind = first_kind row _ _ c.post.ensures.value c.kind.ensures in
     let away : (c.args.rank == root_of (first_of row)) ≡ false = elsewhere row c.root-in-Gather.result c.args.rank c.root-in-Gather.ensures.value (λ e. c.if-root-from.false (e ∙ sym c.from.ensures)) in
-    let none : Nothing ≡ move_of Gather row c.args.rank = sym (cond-false _ (as_items row (joined row)) Nothing away) in
+    let none : Nothing ≡ move_of E.Gather row c.args.rank = sym (cond-false _ (as_items row (joined row)) Nothing away) in
     none ∙ elim c.in-Gather.is [ inl is ↦ by_kind row c.args.rank Gather (sym is ∙ kind) | inr is ↦ by_kind row c.args.rank Gatherv (sym is ∙ kind) ]
 
 pub returns-in-Scatter : goal.returns-in-Scatter
@@ -100,7 +102,7 @@ returns-in-Alltoall c =
 pub returns-in-Barrier : goal.returns-in-Barrier
 returns-in-Barrier c =
     let kind = first_kind c.args.row.now _ _ c.post.ensures.value c.kind.ensures in
-    let by : (kind : Kind) → c.kind.result ≡ kind → move_of kind c.args.row.now c.args.rank ≡ move_value c.args.row.now c.args.rank = λ k is. by_kind c.args.row.now c.args.rank k (sym is ∙ kind) in
+    let by : (kind : Kind) → c.kind.result ≡ kind → move_in (family_of kind) c.args.row.now c.args.rank ≡ move_value c.args.row.now c.args.rank = λ k is. by_kind c.args.row.now c.args.rank k (sym is ∙ kind) in
     elim c.in-Barrier.is [
       | inl is ↦ by Barrier is
       | inr (inl is) ↦ by Reduce is

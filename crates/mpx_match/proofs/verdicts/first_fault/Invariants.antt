@@ -1,0 +1,6 @@
+use Rattle.std.proofs.Common.{◌≡◌, drop}
+use Rattle.mpx_match.specs.Verdicts.{answers, first_fault, verdict}
+use Rattle.mpx_match.proofs.verdicts.first_fault.Given as goal
+
+abbrev pub invariant-loop-question : goal.invariant-loop-question
+invariant-loop-question l = first_fault (answers (drop l.question-index l.question-items) l.row) ≡ verdict l.row

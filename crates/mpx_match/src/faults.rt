@@ -1,0 +1,32 @@
+/// In what the members' posts to a call differ, in the order in which it is told.
+#[derive(Clone, Copy, Debug, PartialEq, Eq)]
+pub enum FaultKind {
+    /// In the kind of call.
+    Kind,
+    /// One call blocks, another doesn't.
+    Mode,
+    /// In the root.
+    Root,
+    /// In the operation.
+    Op,
+    /// In the type of the items.
+    ItemType,
+    /// In the numbers of items.
+    Amount,
+}
+
+/// A call whose posts don't fit together: every member is told the same.
+#[derive(Clone, Copy, Debug, PartialEq, Eq)]
+pub struct Fault {
+    /// In what they differ.
+    pub what: FaultKind,
+    /// The least rank that differs.
+    pub rank: u8,
+}
+
+/// Whether the posts of a call fit together.
+#[derive(Clone, Copy, Debug, PartialEq, Eq)]
+pub enum Verdict {
+    Fine,
+    Fault(Fault),
+}
