@@ -1,6 +1,4 @@
+pub mod Systems
 pub mod Running
 pub mod Shown
-pub mod Turns
-pub mod Views
-pub mod Reports
-pub mod Texts
+pub mod Runs

@@ -24,7 +24,7 @@ use Rattle.mpx_script.proofs.Ahead.{goes_on_cases}
 -- LINES
 
 -- the outcomes that lines tell are these results, in order, from that of call n on
-abbrev Tell : Results → ℕ → List Line → Type 0
+abbrev pub Tell : Results → ℕ → List Line → Type 0
 Tell r n [] = Unit {0}
 Tell r n (Told outcome ∷ lines) = (r n ≡ Some outcome) × Tell r (n + 1) lines
 Tell r n (Refused refusal ∷ lines) = Tell r n lines
@@ -47,7 +47,7 @@ tell-grows r more w n [] h = h
 tell-grows r more w n (Told outcome ∷ lines) h = (w n outcome h.0, tell-grows r more w (n + 1) lines h.1)
 tell-grows r more w n (Refused refusal ∷ lines) h = tell-grows r more w n lines h
 
-tell-at : (r : Results) (n : ℕ) (lines : List Line) → Tell r n lines → (i : ℕ) (outcome : Outcome) → slice_get lines i ≡ Some (Told outcome) → r (n + call_at lines i) ≡ Some outcome
+pub tell-at : (r : Results) (n : ℕ) (lines : List Line) → Tell r n lines → (i : ℕ) (outcome : Outcome) → slice_get lines i ≡ Some (Told outcome) → r (n + call_at lines i) ≡ Some outcome
 tell-at r n [] h i outcome e = cc e
 tell-at r n (Told other ∷ lines) h zero outcome e =
     let none : n + 0 ≡ n = omega arith in
@@ -62,13 +62,13 @@ tell-at r n (Refused refusal ∷ lines) h (suc i) outcome e = tell-at r n lines 
 -- TURNS
 
 -- no wait among them
-abbrev AreStatements : List Todo → Type 0
+abbrev pub AreStatements : List Todo → Type 0
 AreStatements [] = Unit {0}
 AreStatements (Do statement ∷ rest) = AreStatements rest
 AreStatements (Await call ∷ rest) = ⊥
 
 -- who has made so many posts, and told so many outcomes, awaits that of the last post, or none
-abbrev IsInTurn : (told posts : ℕ) → List Todo → Type 0
+abbrev pub IsInTurn : (told posts : ℕ) → List Todo → Type 0
 IsInTurn told posts [] = posts ≡ told
 IsInTurn told posts (Do statement ∷ rest) = (posts ≡ told) × AreStatements rest
 IsInTurn told posts (Await call ∷ rest) = (call ≡ told) × (posts ≡ told + 1) × AreStatements rest
@@ -85,9 +85,9 @@ doing_statements (statement ∷ rest) = doing_statements rest
 -- RANKS
 
 -- what holds of a rank, where these results are known
-record IsSound (r : Results) (s : Local) : Type 0 where
-  turn : IsInTurn (count_by tells s.lines) (length s.posts) s.todo
-  lines : Tell r 0 s.lines
+pub record IsSound (r : Results) (s : Local) : Type 0 where
+  pub turn : IsInTurn (count_by tells s.lines) (length s.posts) s.todo
+  pub lines : Tell r 0 s.lines
 
 -- and of an act after so many outcomes and posts
 record Keeps (r : Results) (told posts : ℕ) (a : Act) : Type 0 where
@@ -132,17 +132,17 @@ step_by-sound r s (Asks calls act) t h k e =
     option_and_then_some _ (all_of r calls) t e (λ outcomes eo f.
     subst (IsSound r) (same_Some (done s (act outcomes)) t f) (done-sound r s (act outcomes) h (k outcomes eo)))
 
-step-sound : (r : Results) (s t : Local) → IsSound r s → step r s ≡ Some t → IsSound r t
+pub step-sound : (r : Results) (s t : Local) → IsSound r s → step r s ≡ Some t → IsSound r t
 step-sound r s t h e = step_by-sound r s (next s) t h (next-keeps r s _ s.todo h.turn) e
 
-sound-grows : (r more : Results) → Within r more → (s : Local) → IsSound r s → IsSound more s
+pub sound-grows : (r more : Results) → Within r more → (s : Local) → IsSound r s → IsSound more s
 sound-grows r more w s h = record { turn = h.turn; lines = tell-grows r more w 0 s.lines h.lines }
 
 -- STATES
 
 -- it holds of all ranks
-record AllAreSound (ranks : ℕ) (s : State) : Type 0 where
-  each : (p : ℕ) → IsSound (known ranks s p) (s p)
+pub record AllAreSound (ranks : ℕ) (s : State) : Type 0 where
+  pub each : (p : ℕ) → IsSound (known ranks s p) (s p)
 
 move-within : (ranks : ℕ) (s : State) (p me : ℕ) → Within (known ranks s me) (known ranks (move ranks s p) me)
 move-within ranks s p me = results-grow (history s) (history (move ranks s p)) (world_of ranks) me (λ k q given e. prefix_get (s q).posts (move ranks s p q).posts (adds q) k given e) where
@@ -156,7 +156,7 @@ moved-sound ranks (p ∷ order) s h = moved-sound ranks order (move ranks s p) (
       (goes_on_cases (λ j t. IsSound (known ranks s j) t) s p (known ranks s p) h.each (λ t e. step-sound (known ranks s p) (s p) t (h.each p) e) q);
 })
 
-start-sound : (script : List (List Statement)) (ranks : ℕ) → AllAreSound ranks (start script ranks)
+pub start-sound : (script : List (List Statement)) (ranks : ℕ) → AllAreSound ranks (start script ranks)
 start-sound script ranks = record { each = λ p. record { turn = turn_on 0 0 _ refl (doing_statements (unwrap_or (slice_get script p) [])); lines = tt } }
 
 reached-sound : (script : List (List Statement)) (ranks : ℕ) (s : State) → IsReached script ranks s → AllAreSound ranks s
