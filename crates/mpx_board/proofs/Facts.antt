@@ -10,7 +10,8 @@ use Rattle.join_nest.specs.Entries.{yes, no, answer}
 use Rattle.mpx_post.specs.Posts.{Given}
 use Rattle.mpx_post.specs.Equality.{same_given, given_equality}
 use Rattle.mpx_post.specs.Births.{same_birth, birth_equality}
-use Rattle.mpx_board.specs.Boards.{Name, Context, Look, join, join_contexts, Born, Held, Front, Dropped, Acknowledged, IsBelow, IsLeastAbove, IsLeastAboveAll, empty, join_all}
+use Rattle.mpx_name.specs.Name.{Name}
+use Rattle.mpx_board.specs.Boards.{Context, Look, join, join_contexts, Born, Held, Front, Dropped, Acknowledged, IsBelow, IsLeastAbove, IsLeastAboveAll, empty, join_all}
 
 -- a post of call k is dropped by d, or is below the one that stands there
 abbrev pub IsPostUnder : (d k : ℕ) → FlatView Given → FlatView Given → Type 0

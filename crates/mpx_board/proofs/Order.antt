@@ -16,7 +16,8 @@ use Rattle.mpx_name.specs.Order.{name_total, name_exact}
 use Rattle.mpx_post.specs.Posts.{Given}
 use Rattle.mpx_post.specs.Equality.{same_given}
 use Rattle.mpx_post.specs.Births.{same_birth}
-use Rattle.mpx_board.specs.Boards.{Name, nothing, IsBelow}
+use Rattle.mpx_name.specs.Name.{Name}
+use Rattle.mpx_board.specs.Boards.{nothing, IsBelow}
 use Rattle.mpx_board.specs.Parts.{OfProcesses, CallView, EntryView, AcksView, PartsView, numbers_joining, call_joining, entry_joining, acks_joining, parts_joining, parts_laws}
 use Rattle.mpx_board.specs.Contexts.{or_zero, or_unknown, post_in, context_of, or_nothing, number_in, ack_in, look_of}
 use Rattle.mpx_post.specs.Drafts.{most_calls}

@@ -14,7 +14,8 @@ use Rattle.mpx_post.specs.Posts.{Given}
 use Rattle.mpx_post.specs.Equality.{same_given}
 use Rattle.mpx_post.specs.Births.{BirthView, same_birth}
 use Rattle.mpx_name.specs.Order.{name_cmp, name_total, name_exact}
-use Rattle.mpx_board.specs.Boards.{Name, same_name, Context, nothing, join_contexts, join, about, only, Front, told, floor_on, minimum}
+use Rattle.mpx_name.specs.Name.{Name, same_name}
+use Rattle.mpx_board.specs.Boards.{Context, nothing, join_contexts, join, about, only, Front, told, floor_on, minimum}
 use Rattle.mpx_board.specs.Parts.{OfProcesses, OfNames, CallView, EntryView, PartsView}
 use Rattle.mpx_board.specs.Contexts.{context_of, or_nothing, or_unknown, or_zero, post_in, ack_in, look_of}
 use Rattle.mpx_post.specs.Drafts.{most_calls}

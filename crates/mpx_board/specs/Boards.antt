@@ -1,22 +1,13 @@
 -- Boards by look-ups: their facts, their order, and the join as the least board above two.
-use Rattle.std.specs.Prelude.{◌≡◌, ◌≢◌, ℕ, ◌==◌, ◌&&◌, ◌⊎◌, ◌<◌, ◌≤◌, Bool, true, cond, nat_le, max, min, List, [], ◌∷◌, map, Option, Some, None, option_and_then, slice_get}
+use Rattle.std.specs.Prelude.{◌≡◌, ◌≢◌, ℕ, ◌==◌, ◌&&◌, ◌⊎◌, ◌<◌, ◌≤◌, true, cond, nat_le, max, min, List, [], ◌∷◌, map, Option, Some, None, option_and_then, slice_get}
 use Rattle.std.specs.List.{fold}
 use Rattle.std.specs.Option.{option_map}
-use Rattle.std.specs.Ordering.{eq_by_cmp}
 use Rattle.join_core.specs.Flat.{FlatView, unknown, known, clash, flat_join, flat_leq}
-use Rattle.mpx_name.specs.declared.steps.Step.{Step}
-use Rattle.mpx_name.specs.Order.{name_cmp}
+use Rattle.mpx_name.specs.Name.{Name, same_name}
 use Rattle.mpx_post.specs.Posts.{Given}
 use Rattle.mpx_post.specs.Equality.{same_given}
 use Rattle.mpx_post.specs.Births.{BirthView, same_birth}
 use Rattle.mpx_post.specs.Rows.{RowView, all_of}
-
--- names of contexts, the newest step first
-abbrev pub Name : Type 0
-Name = List Step
-
-abbrev pub same_name : Name → Name → Bool
-same_name = eq_by_cmp name_cmp
 
 -- what is known of one context: its birth, how many calls each process has harvested, below which call posts are dropped, and the post of each call and process
 pub record Context : Type 0 where

@@ -3,7 +3,8 @@ use Rattle.std.specs.Prelude.{ℕ, ◌||◌, Bool, not, nat_lt, nat_le, List, Op
 use Rattle.std.specs.List.{list_any}
 use Rattle.mpx_board.specs.declared.errors.PruneError.{PruneError}
 use Rattle.mpx_board.specs.declared.errors.PruneError.TheVariants.{NoBirth, AboveFloor}
-use Rattle.mpx_board.specs.Boards.{Name, Context, Look, same_name, nothing, empty}
+use Rattle.mpx_name.specs.Name.{Name, same_name}
+use Rattle.mpx_board.specs.Boards.{Context, Look, nothing, empty}
 use Rattle.mpx_board.specs.Tidy.{is_unknown}
 
 -- the process's post of the call is told, or is dropped

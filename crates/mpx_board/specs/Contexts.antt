@@ -3,7 +3,8 @@ use Rattle.std.specs.Prelude.{ℕ, Option, Some, None}
 use Rattle.std.specs.FinMap.{get}
 use Rattle.join_core.specs.Flat.{FlatView, unknown}
 use Rattle.mpx_post.specs.Posts.{Given}
-use Rattle.mpx_board.specs.Boards.{Name, Context, Look, nothing}
+use Rattle.mpx_name.specs.Name.{Name}
+use Rattle.mpx_board.specs.Boards.{Context, Look, nothing}
 use Rattle.mpx_board.specs.Parts.{OfProcesses, CallView, EntryView, AcksView, PartsView}
 
 -- the number at the key: 0 where there is no entry

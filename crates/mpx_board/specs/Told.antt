@@ -3,7 +3,8 @@ use Rattle.std.specs.Prelude.{◌==◌, ◌&&◌, ◌<◌, cond}
 use Rattle.join_core.specs.Flat.{known, unknown}
 use Rattle.mpx_board.specs.declared.told.Told.{Told}
 use Rattle.mpx_board.specs.declared.told.Told.TheVariants as T
-use Rattle.mpx_board.specs.Boards.{Name, Context, nothing, same_name}
+use Rattle.mpx_name.specs.Name.{Name, same_name}
+use Rattle.mpx_board.specs.Boards.{Context, nothing}
 use Rattle.mpx_post.specs.Drafts.{most_calls}
 
 -- numbers within their limits

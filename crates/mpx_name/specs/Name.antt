@@ -1,7 +1,16 @@
 -- Names as lists of steps, the newest first.
 use Rattle.std.specs.Prelude.{◌≢◌, ◌<◌, ◌≤◌, ◌-◌, ◌^◌, Bool, true, false, List, [], ◌∷◌, length, All, Option, Some, None}
+use Rattle.std.specs.Ordering.{eq_by_cmp}
 use Rattle.mpx_name.specs.declared.steps.Step.{Step}
 use Rattle.mpx_name.specs.declared.steps.Step.TheVariants.{Child, Gathering}
+use Rattle.mpx_name.specs.Order.{name_cmp}
+
+-- names of contexts, the newest step first
+abbrev pub Name : Type 0
+Name = List Step
+
+abbrev pub same_name : Name → Name → Bool
+same_name = eq_by_cmp name_cmp
 
 -- numbers of calls, colours and tags within their limits; a gathering has members
 abbrev pub IsStep : Step → Type 0

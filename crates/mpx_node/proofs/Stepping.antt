@@ -14,7 +14,8 @@ use Rattle.mpx_post.specs.declared.draft.PostError.{PostError}
 use Rattle.mpx_post.specs.declared.draft.PostError.TheVariants as R
 use Rattle.mpx_post.specs.Births.{BirthView}
 use Rattle.mpx_post.specs.Drafts.{Checks}
-use Rattle.mpx_board.specs.Boards.{Name, Born, same_name, only, join, join_contexts, empty, nothing}
+use Rattle.mpx_name.specs.Name.{Name, same_name}
+use Rattle.mpx_board.specs.Boards.{Born, only, join, join_contexts, empty, nothing}
 use Rattle.mpx_node.specs.declared.opened.Opened.{Opened}
 use Rattle.mpx_node.specs.declared.node.Harvest.{Harvest}
 use Rattle.mpx_node.specs.declared.node.Harvest.TheVariants as H

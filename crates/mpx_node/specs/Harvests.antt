@@ -1,7 +1,7 @@
 -- What a harvest comes to.
 use Rattle.std.specs.Prelude.{◌≡◌, Bool, true, false, Option, Some, None, Result, Ok, Err}
 use Rattle.join_core.specs.declared.memory.OutOfMemory.{OutOfMemory}
-use Rattle.mpx_board.specs.Boards.{Name}
+use Rattle.mpx_name.specs.Name.{Name}
 use Rattle.mpx_node.specs.declared.node.Harvest.{Harvest}
 use Rattle.mpx_node.specs.declared.node.Harvest.TheVariants.{Done, NotYet, NotOpened}
 use Rattle.mpx_node.specs.declared.finished.Finished.{Finished}

@@ -8,7 +8,8 @@ use Rattle.mpx_post.specs.declared.draft.PostError.{PostError}
 use Rattle.mpx_post.specs.declared.draft.PostError.TheVariants.{NotMember, OutOfMemory}
 use Rattle.mpx_post.specs.Births.{BirthView, upto}
 use Rattle.mpx_post.specs.Drafts.{checked}
-use Rattle.mpx_board.specs.Boards.{Name, Look, join, only, told, row_on, Born, Held, Front, same_name}
+use Rattle.mpx_name.specs.Name.{Name, same_name}
+use Rattle.mpx_board.specs.Boards.{Look, join, only, told, row_on, Born, Held, Front}
 use Rattle.mpx_node.specs.declared.finished.Finished.{Finished}
 use Rattle.mpx_value.specs.declared.outcomes.Outcome.{Outcome}
 use Rattle.mpx_value.specs.Histories.{value_for}

@@ -1,35 +1,108 @@
--- What all processes posted, and the rows that are whole.
-use Rattle.std.specs.Prelude.{◌≡◌, ℕ, Option, Some, option_and_then}
+-- What all processes posted on all contexts, the members that this gives to each context, and what its whole rows give.
+use Rattle.std.specs.Prelude.{◌≡◌, ℕ, Bool, true, cond, not, ◌==◌, ◌&&◌, nat_lt, List, [], ◌∷◌, length, Option, Some, None, option_and_then, slice_get}
+use Rattle.std.specs.List.{list_any, list_all}
+use Rattle.mpx_name.specs.declared.steps.Step.TheVariants.{Child, Gathering}
+use Rattle.mpx_name.specs.Name.{Name, same_name}
 use Rattle.mpx_post.specs.Posts.{Given}
-use Rattle.mpx_post.specs.Births.{BirthView, rank_in}
+use Rattle.mpx_post.specs.Births.{BirthView, rank_in, upto}
 use Rattle.mpx_post.specs.Rows.{RowView, all_of}
 use Rattle.mpx_value.specs.declared.outcomes.Outcome.{Outcome}
 use Rattle.mpx_value.specs.Values.{value}
 
--- what process p posted as its call k, where it did
+-- POSTS
+
+-- a post, and the context on which it was made
+pub record Made : Type 0 where
+  pub name : Name
+  pub given : Given
+
+-- of these posts those on one context, in their order
+abbrev pub posts_on : Name → List Made → List Given
+posts_on name [] = []
+posts_on name (m ∷ rest) = cond (same_name name m.name) (m.given ∷ posts_on name rest) (posts_on name rest)
+
+-- what a process posted on a context as its call of this number, where it did
 abbrev pub History : Type 0
-History = (call process : ℕ) → Option Given
+History = Name → (call process : ℕ) → Option Given
+
+-- the history that these posts of each process make
+abbrev pub history_of : ((process : ℕ) → List Made) → History
+history_of made name k p = slice_get (posts_on name (made p)) k
 
 -- a later history has what an earlier one has
 abbrev pub Grows : History → History → Type 0
-Grows h later = (k p : ℕ) (given : Given) → h k p ≡ Some given → later k p ≡ Some given
+Grows h later = (name : Name) (k p : ℕ) (given : Given) → h name k p ≡ Some given → later name k p ≡ Some given
 
--- the posts of all members to call k, where all are there
-abbrev pub row_of : History → BirthView → ℕ → Option RowView
-row_of h birth k = all_of (h k) birth.members
+-- the posts of all members to a call, where all are there
+abbrev pub row_of : History → Name → BirthView → (call : ℕ) → Option RowView
+row_of h name birth k = all_of (h name k) birth.members
 
--- what is known of the outcomes of calls, by their numbers
+-- BIRTHS
+
+-- a communicator that a call makes, told from its sisters by a colour
+pub record ChildView : Type 0 where
+  pub colour : ℕ
+  pub birth : BirthView
+
+-- what the call with this row makes: no kind of call makes any yet
+unfoldable pub children : BirthView → RowView → Name → (call : ℕ) → List ChildView
+children birth row name call = []
+
+-- the one of this colour
+abbrev pub of_colour : ℕ → List ChildView → Option BirthView
+of_colour colour [] = None
+of_colour colour (x ∷ rest) = cond (x.colour == colour) (Some x.birth) (of_colour colour rest)
+
+-- the child of this colour that the call with this row makes
+abbrev pub child : BirthView → RowView → Name → (call colour : ℕ) → Option BirthView
+child birth row name call colour = of_colour colour (children birth row name call)
+
+-- the child of this colour of a call, where its row is whole
+abbrev pub child_of : History → Name → (call colour : ℕ) → BirthView → Option BirthView
+child_of h name call colour birth = option_and_then (λ row. child birth row name call colour) (row_of h name birth call)
+
+abbrev pub is_among : ℕ → List ℕ → Bool
+is_among p ps = list_any (λ q. q == p) ps
+
+abbrev pub are_distinct : List ℕ → Bool
+are_distinct [] = true
+are_distinct (p ∷ ps) = not (is_among p ps) && are_distinct ps
+
+-- whether these can gather below a context with this birth: some of its members, each once
+abbrev pub may_gather : List ℕ → BirthView → Bool
+may_gather members birth = nat_lt 0 (length members) && (are_distinct members && list_all (λ p. is_among p birth.members) members)
+
+abbrev pub gathered : List ℕ → BirthView → Option BirthView
+gathered members birth = cond (may_gather members birth) (Some (record { members = members })) None
+
+-- the birth of a context, where the history has all that made it: the world's members are the ranks
+abbrev pub birth_of : History → (ranks : ℕ) → Name → Option BirthView
+birth_of h ranks [] = Some (record { members = upto ranks })
+birth_of h ranks (Child call colour ∷ parent) = option_and_then (child_of h parent call colour) (birth_of h ranks parent)
+birth_of h ranks (Gathering tag members ∷ parent) = option_and_then (gathered members) (birth_of h ranks parent)
+
+-- the posts of all members to a call, where the birth and all of them are there
+abbrev pub whole_row : History → (ranks : ℕ) → Name → (call : ℕ) → Option RowView
+whole_row h ranks name k = option_and_then (λ birth. row_of h name birth k) (birth_of h ranks name)
+
+-- RESULTS
+
+-- what is known of the outcomes of calls, by their contexts and numbers
 abbrev pub Results : Type 0
-Results = (call : ℕ) → Option Outcome
+Results = Name → (call : ℕ) → Option Outcome
 
 -- each answer of the first is one of the second
 abbrev pub Within : Results → Results → Type 0
-Within r more = (k : ℕ) (outcome : Outcome) → r k ≡ Some outcome → more k ≡ Some outcome
+Within r more = (name : Name) (k : ℕ) (outcome : Outcome) → r name k ≡ Some outcome → more name k ≡ Some outcome
 
 -- what a row gives a member, by the member's rank
 abbrev pub value_for : BirthView → ℕ → RowView → Option Outcome
 value_for birth me row = option_and_then (λ rank. Some (value row rank)) (rank_in me birth.members)
 
+-- what the whole rows of a context with this birth give a process
+abbrev pub results_by : History → Name → BirthView → (me call : ℕ) → Option Outcome
+results_by h name birth me k = option_and_then (value_for birth me) (row_of h name birth k)
+
 -- what the rows that are whole give a process
-abbrev pub results_of : History → BirthView → ℕ → Results
-results_of h birth me k = option_and_then (value_for birth me) (row_of h birth k)
+abbrev pub results_of : History → (ranks me : ℕ) → Results
+results_of h ranks me name k = option_and_then (λ birth. results_by h name birth me k) (birth_of h ranks name)

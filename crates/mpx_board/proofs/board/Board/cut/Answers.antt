@@ -7,7 +7,8 @@ use Rattle.std.proofs.lemmas.List.{take_all}
 use Rattle.std.proofs.lemmas.List.Folds.{list_any_more}
 use Rattle.join_nest.specs.Entries.{answer, yes, no, is_tied, both_true, first_true}
 use Rattle.mpx_name.specs.Order.{name_cmp, name_total, name_exact}
-use Rattle.mpx_board.specs.Boards.{Name, same_name, nothing}
+use Rattle.mpx_name.specs.Name.{Name, same_name}
+use Rattle.mpx_board.specs.Boards.{nothing}
 use Rattle.mpx_board.specs.Changes.{cut_to}
 use Rattle.mpx_board.specs.Parts.{OfNames, OfProcesses, EntryView, AcksView, PartsView}
 use Rattle.mpx_board.specs.Contexts.{or_nothing, ack_in, look_of}

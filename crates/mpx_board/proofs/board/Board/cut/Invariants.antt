@@ -6,7 +6,7 @@ use Rattle.join_core.specs.FlatSeen.{flat_view}
 use Rattle.join_nest.specs.Seen.{keyed_view}
 use Rattle.join_nest.specs.TruncSeen.{trunc_view}
 use Rattle.mpx_name.specs.Order.{name_cmp}
-use Rattle.mpx_board.specs.Boards.{Name, same_name}
+use Rattle.mpx_name.specs.Name.{Name, same_name}
 use Rattle.mpx_board.specs.Looks.{parts_of}
 use Rattle.mpx_board.proofs.board.Board.cut.Given as goal
 

@@ -3,7 +3,8 @@ use Rattle.std.specs.Prelude.{nat_lt}
 use Rattle.std.specs.Option.{option_map}
 use Rattle.std.proofs.lemmas.Bool.Decides.{nat_tests}
 use Rattle.std.proofs.lemmas.Result.{err_from_is_err_and}
-use Rattle.mpx_board.specs.Boards.{join, only, Front, same_name}
+use Rattle.mpx_name.specs.Name.{same_name}
+use Rattle.mpx_board.specs.Boards.{join, only, Front}
 use Rattle.mpx_board.specs.Looks.{look}
 use Rattle.mpx_node.specs.declared.opened.Opened.{Opened}
 use Rattle.mpx_node.specs.Nodes.{OpenedView, result_of, results_by}

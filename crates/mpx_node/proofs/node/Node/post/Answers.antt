@@ -4,7 +4,8 @@ use Rattle.mpx_node.specs.declared.opened.Opened.{Opened}
 use Rattle.std.specs.Prelude.{Ok, Err}
 use Rattle.mpx_post.specs.declared.draft.PostError.TheVariants as R
 use Rattle.mpx_post.specs.Drafts.{Checks}
-use Rattle.mpx_board.specs.Boards.{join, only, Held, same_name}
+use Rattle.mpx_name.specs.Name.{same_name}
+use Rattle.mpx_board.specs.Boards.{join, only, Held}
 use Rattle.std.proofs.lemmas.Result.{err_from_is_err_and}
 use Rattle.join_core.specs.Flat.{known}
 use Rattle.mpx_board.specs.Looks.{look}

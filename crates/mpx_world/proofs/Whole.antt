@@ -1,0 +1,51 @@
+-- All that is kept along lists of events and of what happens.
+use Rattle.std.proofs.Common.{◌≡◌, ℕ, List, [], ◌∷◌, ◌++◌, refl}
+use Rattle.std.specs.Prelude.{nat_lt}
+use Rattle.mpx_world.specs.declared.events.Event.{Event}
+use Rattle.mpx_world.specs.Worlds.{WorldView, Happening, happens, MayHappen, goes_on, MayGoOn, start}
+use Rattle.mpx_world.specs.Events.{process_of, happening_of, does, does_all}
+use Rattle.mpx_world.proofs.Lists.{cond_same}
+use Rattle.mpx_world.proofs.Steps.{Holds, holds_start, holds_happens}
+use Rattle.mpx_world.proofs.Reached.{may_happen}
+use Rattle.mpx_world.proofs.Retention.{AllStore, stores_start, stores_happens}
+use Rattle.mpx_world.proofs.Opened.{AllIn, in_start, in_happens}
+
+-- a world that can be reached: all that it tells is so, own posts are stored, and processes are in what they opened
+pub record IsWell (w : WorldView) : Type 0 where
+  pub holds : Holds w
+  pub stores : AllStore w
+  pub members : AllIn w
+
+pub well_start : (ranks size : ℕ) → IsWell (start ranks size)
+well_start ranks size = record { holds = holds_start ranks size; stores = stores_start ranks size; members = in_start ranks size }
+
+pub well_happens : (w : WorldView) (h : Happening) → MayHappen w h → IsWell w → IsWell (happens w h)
+well_happens w h m s = record {
+  holds = holds_happens w h s.holds m;
+  stores = stores_happens w h s.holds m s.stores;
+  members = in_happens w h s.holds m s.members;
+}
+
+pub well_goes_on : (hs : List Happening) (w : WorldView) → MayGoOn w hs → IsWell w → IsWell (goes_on w hs)
+well_goes_on [] w m s = s
+well_goes_on (h ∷ hs) w m s = well_goes_on hs (happens w h) m.1 (well_happens w h m.0 s)
+
+pub well_does : (w : WorldView) (e : Event) → IsWell w → IsWell (does w e)
+well_does w e s = cond_same IsWell (nat_lt (process_of e) w.size) (happens w (happening_of w e)) w (well_happens w (happening_of w e) (may_happen w e s.holds) s) s
+
+pub well_does_all : (es : List Event) (w : WorldView) → IsWell w → IsWell (does_all w es)
+well_does_all [] w s = s
+well_does_all (e ∷ es) w s = well_does_all es (does w e) (well_does w e s)
+
+-- after one list another
+pub goes_on-append : (early late : List Happening) (w : WorldView) → goes_on w (early ++ late) ≡ goes_on (goes_on w early) late
+goes_on-append [] late w = refl
+goes_on-append (h ∷ early) late w = goes_on-append early late (happens w h)
+
+pub does_all-append : (early late : List Event) (w : WorldView) → does_all w (early ++ late) ≡ does_all (does_all w early) late
+does_all-append [] late w = refl
+does_all-append (e ∷ early) late w = does_all-append early late (does w e)
+
+pub may_early : (early late : List Happening) (w : WorldView) → MayGoOn w (early ++ late) → MayGoOn w early
+may_early [] late w m = tt
+may_early (h ∷ early) late w m = (m.0, may_early early late (happens w h) m.1)

@@ -1,0 +1,5 @@
+use Rattle.mpx_world.proofs.Sealing.{reached_start}
+use Rattle.mpx_world.proofs.world.World.new.Goals as goal
+
+pub invariant_of-result : goal.invariant_of-result
+invariant_of-result c = record { reached = ∣ reached_start c.in_ok-processes.processes c.args.ranks c.args.processes c.in_ok-processes.ensures ∣₁ }
