@@ -1,3 +1,4 @@
+//! How a run ends.
 /// How a run ended.
 #[derive(Debug, Drop)]
 pub enum End {

@@ -4,9 +4,9 @@ use Rattle.std.proofs.lemmas.Bool.Decides.{Decides-eqb}
 use Rattle.mpx_script.specs.declared.statement.Statement.{Statement}
 use Rattle.mpx_value.specs.Histories.{Results, Within}
 use Rattle.mpx_script.specs.Ranks.{Local, next, next_of, step_by, step}
-use Rattle.mpx_script.specs.Evaluation.{State, start, world_of, history, known, or_stay, goes_on, move, moves, IsMaximal, IsPrefixOf, IsReached, IsEvaluation}
-use Rattle.mpx_script.proofs.Growth.{results-grow}
-use Rattle.mpx_script.proofs.Fronts.{prefix_itself, prefix_trans, prefix_get}
+use Rattle.mpx_script.specs.Evaluation.{State, start, history, known, or_stay, goes_on, move, moves, IsMaximal, IsPrefixOf, IsReached, IsEvaluation}
+use Rattle.mpx_value.proofs.Growth.{results-grow}
+use Rattle.mpx_script.proofs.Fronts.{prefix_itself, prefix_trans, history-grows}
 use Rattle.mpx_script.proofs.Ways.{Way, here, on, step-grows, step_by-adds, way-adds, way-step, way-stuck}
 
 -- each rank of s has a way to where it stands in end, by what end knows
@@ -14,8 +14,8 @@ pub record IsOnWay (ranks : ℕ) (end s : State) : Type 0 where
   pub each : (p : ℕ) → Way (known ranks end p) (s p) (end p)
 
 -- whose posts are beginnings of the others' has no other results
-knows_less : (ranks : ℕ) (s end : State) → ((p : ℕ) → IsPrefixOf (s p).posts (end p).posts) → (me : ℕ) → Within (known ranks s me) (known ranks end me)
-knows_less ranks s end less me = results-grow (history s) (history end) (world_of ranks) me (λ k p given e. prefix_get (s p).posts (end p).posts (less p) k given e)
+knows_less : (ranks : ℕ) (s end : State) → ((p : ℕ) → IsPrefixOf (s p).made (end p).made) → (me : ℕ) → Within (known ranks s me) (known ranks end me)
+knows_less ranks s end less me = results-grow (history s) (history end) ranks (history-grows s end less) me
 
 on_way-knows : (ranks : ℕ) (end s : State) → IsOnWay ranks end s → (me : ℕ) → Within (known ranks s me) (known ranks end me)
 on_way-knows ranks end s w = knows_less ranks s end (λ p. (way-adds (known ranks end p) (s p) (end p) (w.each p)).0)
@@ -48,13 +48,13 @@ on_way-moved : (ranks : ℕ) (end : State) → IsMaximal ranks end → (order : 
 on_way-moved ranks end stuck [] s w = w
 on_way-moved ranks end stuck (p ∷ order) s w = on_way-moved ranks end stuck order (move ranks s p) (on_way-next ranks end s stuck w p)
 
-goes_on-adds : (s : State) (p : ℕ) (told : Results) (q : ℕ) → IsPrefixOf (s q).posts (goes_on s p told q).posts
-goes_on-adds s p told = goes_on_cases (λ q t. IsPrefixOf (s q).posts t.posts) s p told (λ q. prefix_itself (s q).posts) (λ t e. (step_by-adds told (s p) (next (s p)) t e).0)
+goes_on-adds : (s : State) (p : ℕ) (told : Results) (q : ℕ) → IsPrefixOf (s q).made (goes_on s p told q).made
+goes_on-adds s p told = goes_on_cases (λ q t. IsPrefixOf (s q).made t.made) s p told (λ q. prefix_itself (s q).made) (λ t e. (step_by-adds told (s p) (next (s p)) t e).0)
 
 -- one move before the way
 back : (ranks : ℕ) (end s : State) (p : ℕ) → IsOnWay ranks end (move ranks s p) → (q : ℕ) → Way (known ranks end q) (s q) (end q)
 back ranks end s p w q =
-    let less : (j : ℕ) → IsPrefixOf (s j).posts (end j).posts = λ j. prefix_trans (s j).posts (move ranks s p j).posts (end j).posts (goes_on-adds s p (known ranks s p) j) (way-adds (known ranks end j) (move ranks s p j) (end j) (w.each j)).0 in
+    let less : (j : ℕ) → IsPrefixOf (s j).made (end j).made = λ j. prefix_trans (s j).made (move ranks s p j).made (end j).made (goes_on-adds s p (known ranks s p) j) (way-adds (known ranks end j) (move ranks s p j) (end j) (w.each j)).0 in
     goes_on_cases (λ j t. Way (known ranks end j) t (end j) → Way (known ranks end j) (s j) (end j)) s p (known ranks s p)
     (λ j v. v)
     (λ t e v. on (step-grows (known ranks s p) (known ranks end p) (knows_less ranks s end less p) (s p) t e) v)

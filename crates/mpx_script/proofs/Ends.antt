@@ -8,7 +8,7 @@ use Rattle.mpx_script.specs.declared.statement.Statement.{Statement}
 use Rattle.mpx_value.specs.Histories.{Results}
 use Rattle.mpx_script.specs.Ranks.{Local, doing, next_of, step_by, step, weights}
 use Rattle.mpx_script.specs.Evaluation.{State, start, known, or_stay, goes_on, move, moves, IsMaximal, IsEvaluation, left, IsQuiet}
-use Rattle.mpx_script.proofs.Lowers.{step-lowers}
+use Rattle.mpx_script.proofs.Steps.{step-lowers}
 use Rattle.mpx_script.proofs.Ahead.{goes_on_cases}
 
 lt_or_ge : (a b : ℕ) → (a < b) ⊎ (b ≤ a)

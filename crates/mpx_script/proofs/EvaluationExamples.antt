@@ -31,11 +31,12 @@ sum items = call K.Allreduce (pos 0) [] items
 abbrev barrier : Statement
 barrier = call K.Barrier (pos 0) [] []
 
-abbrev tells_items : List ℤ → Line
-tells_items nums = Told (O.Items (record { ty = I64; nums = nums }))
+-- what a call of the world gave
+abbrev tells_items : (call : ℕ) → List ℤ → Line
+tells_items call nums = Told [] call (O.Items (record { ty = I64; nums = nums }))
 
-abbrev tells_fault : FaultKind → ℕ → Line
-tells_fault what rank = Told (O.Fault (record { what = what; rank = rank }))
+abbrev tells_fault : (call : ℕ) → FaultKind → ℕ → Line
+tells_fault call what rank = Told [] call (O.Fault (record { what = what; rank = rank }))
 
 -- the lines of two ranks with these statements, after moves in this order
 lines_after : List ℕ → (first second : List Statement) → List (List Line)
@@ -46,26 +47,26 @@ lines_after order first second =
 record Examples : Type 0 where
   -- 1 and 2 make 3, and the greatest number and 1 make the least
   sums : lines_after (0 ∷ 1 ∷ 1 ∷ 0 ∷ []) (sum (pos 1 ∷ pos (2 ^ 63 - 1) ∷ []) ∷ []) (sum (pos 2 ∷ pos 1 ∷ []) ∷ [])
-      ≡ (tells_items (pos 3 ∷ negsuc (2 ^ 63 - 1) ∷ []) ∷ []) ∷ (tells_items (pos 3 ∷ negsuc (2 ^ 63 - 1) ∷ []) ∷ []) ∷ []
+      ≡ (tells_items 0 (pos 3 ∷ negsuc (2 ^ 63 - 1) ∷ []) ∷ []) ∷ (tells_items 0 (pos 3 ∷ negsuc (2 ^ 63 - 1) ∷ []) ∷ []) ∷ []
   -- a rank that is alone with its post waits
   alone : lines_after (0 ∷ 0 ∷ 0 ∷ []) (sum (pos 1 ∷ []) ∷ []) (sum (pos 2 ∷ []) ∷ []) ≡ [] ∷ [] ∷ []
   -- where one gives two items and the other one, both are told so
   amounts : lines_after (0 ∷ 1 ∷ 0 ∷ 1 ∷ []) (sum (pos 1 ∷ pos 5 ∷ []) ∷ []) (sum (pos 2 ∷ []) ∷ [])
-      ≡ (tells_fault F.Amount 1 ∷ []) ∷ (tells_fault F.Amount 1 ∷ []) ∷ []
+      ≡ (tells_fault 0 F.Amount 1 ∷ []) ∷ (tells_fault 0 F.Amount 1 ∷ []) ∷ []
   -- a post that is refused is no call
   refused : lines_after (0 ∷ 0 ∷ 1 ∷ 0 ∷ 1 ∷ []) (sum (pos (2 ^ 63) ∷ []) ∷ sum (pos 1 ∷ []) ∷ []) (sum (pos 2 ∷ []) ∷ [])
-      ≡ (Refused ItemOutOfRange ∷ tells_items (pos 3 ∷ []) ∷ []) ∷ (tells_items (pos 3 ∷ []) ∷ []) ∷ []
+      ≡ (Refused ItemOutOfRange ∷ tells_items 0 (pos 3 ∷ []) ∷ []) ∷ (tells_items 0 (pos 3 ∷ []) ∷ []) ∷ []
   -- a barrier gives nothing, and the last rank of a scan that leaves out its own items gets those of the first
   nothing : lines_after (0 ∷ 1 ∷ 0 ∷ 1 ∷ 0 ∷ 1 ∷ 0 ∷ 1 ∷ []) (barrier ∷ call K.Exscan (pos 0) [] (pos 7 ∷ []) ∷ []) (barrier ∷ call K.Exscan (pos 0) [] (pos 8 ∷ []) ∷ [])
-      ≡ (Told O.Nothing ∷ Told O.Absent ∷ []) ∷ (Told O.Nothing ∷ tells_items (pos 7 ∷ []) ∷ []) ∷ []
+      ≡ (Told [] 0 O.Nothing ∷ Told [] 1 O.Absent ∷ []) ∷ (Told [] 0 O.Nothing ∷ tells_items 1 (pos 7 ∷ []) ∷ []) ∷ []
   -- all get what the root gives, and rank 2 isn't one of two
   roots : lines_after (0 ∷ 0 ∷ 1 ∷ 0 ∷ 1 ∷ []) (call K.Bcast (pos 2) (pos 1 ∷ []) [] ∷ call K.Bcast (pos 1) (pos 2 ∷ []) [] ∷ []) (call K.Bcast (pos 1) (pos 2 ∷ []) (pos 4 ∷ pos 5 ∷ []) ∷ [])
-      ≡ (Refused RootOutOfRange ∷ tells_items (pos 4 ∷ pos 5 ∷ []) ∷ []) ∷ (tells_items (pos 4 ∷ pos 5 ∷ []) ∷ []) ∷ []
+      ≡ (Refused RootOutOfRange ∷ tells_items 0 (pos 4 ∷ pos 5 ∷ []) ∷ []) ∷ (tells_items 0 (pos 4 ∷ pos 5 ∷ []) ∷ []) ∷ []
   -- each gets its own row of blocks
   blocks : lines_after (0 ∷ 1 ∷ 0 ∷ 1 ∷ []) (call K.Alltoall (pos 0) (pos 1 ∷ []) (pos 1 ∷ pos 2 ∷ []) ∷ []) (call K.Alltoall (pos 0) (pos 1 ∷ []) (pos 3 ∷ pos 4 ∷ []) ∷ [])
-      ≡ (tells_items (pos 1 ∷ pos 3 ∷ []) ∷ []) ∷ (tells_items (pos 2 ∷ pos 4 ∷ []) ∷ []) ∷ []
+      ≡ (tells_items 0 (pos 1 ∷ pos 3 ∷ []) ∷ []) ∷ (tells_items 0 (pos 2 ∷ pos 4 ∷ []) ∷ []) ∷ []
   -- a barrier and a sum don't match
-  kinds : lines_after (0 ∷ 1 ∷ 1 ∷ 0 ∷ []) (barrier ∷ []) (sum [] ∷ []) ≡ (tells_fault F.Kind 1 ∷ []) ∷ (tells_fault F.Kind 1 ∷ []) ∷ []
+  kinds : lines_after (0 ∷ 1 ∷ 1 ∷ 0 ∷ []) (barrier ∷ []) (sum [] ∷ []) ≡ (tells_fault 0 F.Kind 1 ∷ []) ∷ (tells_fault 0 F.Kind 1 ∷ []) ∷ []
 
 examples : Examples
 unfolding lines_after checked value verdict fold_value move_value elementwise combined into_range

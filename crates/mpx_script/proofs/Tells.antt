@@ -1,183 +1,174 @@
--- What the lines of ranks tell, in whatever state moves reach.
-use Rattle.std.proofs.Common.{◌≡◌, ℕ, zero, suc, ◌+◌, List, [], ◌∷◌, ◌++◌, length, take, Some, refl, sym, ap, ◌∙◌, subst, arith, length-append}
-use Rattle.std.specs.Prelude.{cond, count_by, slice_get, unwrap_or, Result, Ok, Err}
-use Rattle.std.proofs.lemmas.List.Sums.{sum_by-append, sum_by-cons}
+-- What the posts and the lines of ranks have to do with their statements, in whatever state moves reach.
+use Rattle.std.proofs.Common.{◌≡◌, ℕ, zero, suc, List, [], ◌∷◌, ◌++◌, Option, Some, None, refl, sym, ◌∙◌, subst, inl, inr, append_assoc}
+use Rattle.std.specs.Prelude.{slice_get, Result, Ok, Err}
 use Rattle.std.proofs.lemmas.Option.{option_and_then_some, same_Some}
+use Rattle.mpx_name.specs.Name.{Name}
 use Rattle.mpx_post.specs.declared.draft.PostError.{PostError}
-use Rattle.mpx_post.specs.Posts.{Given}
-use Rattle.mpx_post.specs.Drafts.{checked}
-use Rattle.mpx_post.specs.Births.{upto, rank_in}
-use Rattle.mpx_post.specs.Rows.{RowView, all_of}
+use Rattle.mpx_post.specs.Births.{rank_in}
 use Rattle.mpx_value.specs.declared.outcomes.Outcome.{Outcome}
-use Rattle.mpx_value.specs.Histories.{Results, Within, row_of, value_for}
+use Rattle.mpx_value.specs.Histories.{Made, Results, Within, birth_of, row_of, value_for, results_by}
 use Rattle.mpx_value.specs.Values.{value}
+use Rattle.mpx_value.proofs.Growth.{results-grow}
 use Rattle.mpx_script.specs.declared.statement.Statement.{Statement}
-use Rattle.mpx_script.specs.Ranks.{Line, Told, Refused, Todo, Do, Await, Local, Act, Next, End, Asks, done, draft_of, posts_or_refuses, next_of, next, step_by, step, doing}
-use Rattle.mpx_script.specs.Evaluation.{State, start, world_of, history, known, move, moves, IsReached, IsPrefixOf}
-use Rattle.mpx_script.specs.Told.{tells, call_at, IsToldOf}
-use Rattle.mpx_script.proofs.Growth.{results-grow}
-use Rattle.mpx_script.proofs.Fronts.{prefix_itself, prefix_get}
-use Rattle.mpx_script.proofs.Worlds.{rank_in-upto}
+use Rattle.mpx_script.specs.Ranks.{Bindings, Line, Told, Refused, Local, attempt, done, doing, next, next_call, step}
+use Rattle.mpx_script.specs.Evaluation.{State, start, bound_at_start, history, known, move, moves, statements_of, IsReached, IsPrefixOf}
+use Rattle.mpx_script.specs.Told.{Passes, none, accepted, refused, IsWaiting, CarriesOut, IsToldOf}
+use Rattle.mpx_script.proofs.Fronts.{append-nil, prefix_itself, history-grows}
+use Rattle.mpx_script.proofs.Steps.{heard, posted, turned_down, step_ends, step_hears, step_waits, step_posts, step_refused, step-keeps}
 use Rattle.mpx_script.proofs.Ways.{step_by-adds}
 use Rattle.mpx_script.proofs.Ahead.{goes_on_cases}
 
--- LINES
+-- STATEMENTS THAT ARE PASSED
 
--- the outcomes that lines tell are these results, in order, from that of call n on
-abbrev pub Tell : Results → ℕ → List Line → Type 0
-Tell r n [] = Unit {0}
-Tell r n (Told outcome ∷ lines) = (r n ≡ Some outcome) × Tell r (n + 1) lines
-Tell r n (Refused refusal ∷ lines) = Tell r n lines
+-- who knows more passes them so too
+passes-grow : (r more : Results) → Within r more → (me : ℕ) (bound : Bindings) (earlier : List Made) (xs : List Statement) (ms : List Made) (lines : List Line) → Passes r me bound earlier xs ms lines → Passes more me bound earlier xs ms lines
+passes-grow r more w me bound earlier xs ms lines none = none
+passes-grow r more w me bound earlier xs ms lines (accepted a k p) = accepted a (w _ _ _ k) (passes-grow r more w me bound _ _ _ _ p)
+passes-grow r more w me bound earlier xs ms lines (refused a p) = refused a (passes-grow r more w me bound _ _ _ _ p)
 
-told-one : (outcome : Outcome) (lines : List Line) → count_by tells (Told outcome ∷ lines) ≡ 1 + count_by tells lines
-told-one outcome lines = sum_by-cons (λ line. cond (tells line) 1 0) (Told outcome) lines
+module _ (r : Results) (me : ℕ) (bound : Bindings) (x : Statement) where
+  -- one statement more, which is accepted
+  passes-accepted : (now : List Made) (m : Made) (outcome : Outcome) → attempt me bound now x ≡ Ok m → r m.name (next_call m.name now) ≡ Some outcome → (earlier : List Made) (xs : List Statement) (ms : List Made) (lines : List Line) → Passes r me bound earlier xs ms lines → now ≡ earlier ++ ms → Passes r me bound earlier (xs ++ x ∷ []) (ms ++ m ∷ []) (lines ++ Told m.name (next_call m.name now) outcome ∷ [])
+  passes-accepted now m outcome a k earlier xs ms lines none e = subst (λ (before : List Made). Passes r me bound before (x ∷ []) (m ∷ []) (Told m.name (next_call m.name now) outcome ∷ [])) (e ∙ append-nil earlier) (accepted a k none)
+  passes-accepted now m outcome a k earlier xs ms lines (accepted {further = further} {m = first} b j p) e = accepted b j (passes-accepted now m outcome a k _ _ _ _ p (e ∙ sym (append_assoc earlier (first ∷ []) further)))
+  passes-accepted now m outcome a k earlier xs ms lines (refused b p) e = refused b (passes-accepted now m outcome a k _ _ _ _ p e)
 
-tells-append : (xs ys : List Line) → count_by tells (xs ++ ys) ≡ count_by tells xs + count_by tells ys
-tells-append xs ys = sum_by-append (λ line. cond (tells line) 1 0) xs ys
+  -- one statement more, which is refused
+  passes-refused : (now : List Made) (refusal : PostError) → attempt me bound now x ≡ Err refusal → (earlier : List Made) (xs : List Statement) (ms : List Made) (lines : List Line) → Passes r me bound earlier xs ms lines → now ≡ earlier ++ ms → Passes r me bound earlier (xs ++ x ∷ []) ms (lines ++ Refused refusal ∷ [])
+  passes-refused now refusal a earlier xs ms lines none e = subst (λ (before : List Made). Passes r me bound before (x ∷ []) [] (Refused refusal ∷ [])) (e ∙ append-nil earlier) (refused a none)
+  passes-refused now refusal a earlier xs ms lines (accepted {further = further} {m = first} b j p) e = accepted b j (passes-refused now refusal a _ _ _ _ p (e ∙ sym (append_assoc earlier (first ∷ []) further)))
+  passes-refused now refusal a earlier xs ms lines (refused b p) e = refused b (passes-refused now refusal a _ _ _ _ p e)
 
-tell-append : (r : Results) (n : ℕ) (xs ys : List Line) → Tell r n xs → Tell r (n + count_by tells xs) ys → Tell r n (xs ++ ys)
-tell-append r n [] ys h k = let none : n + 0 ≡ n = omega arith in subst (λ m. Tell r m ys) none k
-tell-append r n (Told outcome ∷ xs) ys h k =
-    let same : n + count_by tells (Told outcome ∷ xs) ≡ n + 1 + count_by tells xs = omega (arith, told-one outcome xs) in
-    (h.0, tell-append r (n + 1) xs ys h.1 (subst (λ m. Tell r m ys) same k))
-tell-append r n (Refused refusal ∷ xs) ys h k = tell-append r n xs ys h k
-
-tell-grows : (r more : Results) → Within r more → (n : ℕ) (lines : List Line) → Tell r n lines → Tell more n lines
-tell-grows r more w n [] h = h
-tell-grows r more w n (Told outcome ∷ lines) h = (w n outcome h.0, tell-grows r more w (n + 1) lines h.1)
-tell-grows r more w n (Refused refusal ∷ lines) h = tell-grows r more w n lines h
-
-pub tell-at : (r : Results) (n : ℕ) (lines : List Line) → Tell r n lines → (i : ℕ) (outcome : Outcome) → slice_get lines i ≡ Some (Told outcome) → r (n + call_at lines i) ≡ Some outcome
-tell-at r n [] h i outcome e = cc e
-tell-at r n (Told other ∷ lines) h zero outcome e =
-    let none : n + 0 ≡ n = omega arith in
-    let same : other ≡ outcome = cc e in
-    ap r none ∙ h.0 ∙ ap Some same
-tell-at r n (Told other ∷ lines) h (suc i) outcome e =
-    let on : n + call_at (Told other ∷ lines) (suc i) ≡ n + 1 + call_at lines i = omega (arith, told-one other (take i lines)) in
-    ap r on ∙ tell-at r (n + 1) lines h.1 i outcome e
-tell-at r n (Refused refusal ∷ lines) h zero outcome e = cc e
-tell-at r n (Refused refusal ∷ lines) h (suc i) outcome e = tell-at r n lines h i outcome e
-
--- TURNS
-
--- no wait among them
-abbrev pub AreStatements : List Todo → Type 0
-AreStatements [] = Unit {0}
-AreStatements (Do statement ∷ rest) = AreStatements rest
-AreStatements (Await call ∷ rest) = ⊥
-
--- who has made so many posts, and told so many outcomes, awaits that of the last post, or none
-abbrev pub IsInTurn : (told posts : ℕ) → List Todo → Type 0
-IsInTurn told posts [] = posts ≡ told
-IsInTurn told posts (Do statement ∷ rest) = (posts ≡ told) × AreStatements rest
-IsInTurn told posts (Await call ∷ rest) = (call ≡ told) × (posts ≡ told + 1) × AreStatements rest
-
-turn_on : (told posts : ℕ) (rest : List Todo) → posts ≡ told → AreStatements rest → IsInTurn told posts rest
-turn_on told posts [] e h = e
-turn_on told posts (Do statement ∷ rest) e h = (e, h)
-turn_on told posts (Await call ∷ rest) e h = absurd h
-
-doing_statements : (statements : List Statement) → AreStatements (doing statements)
-doing_statements [] = tt
-doing_statements (statement ∷ rest) = doing_statements rest
+-- what a line tells is known
+passes-tell : (r : Results) (me : ℕ) (bound : Bindings) (earlier : List Made) (xs : List Statement) (ms : List Made) (lines : List Line) → Passes r me bound earlier xs ms lines → (i : ℕ) (name : Name) (call : ℕ) (outcome : Outcome) → slice_get lines i ≡ Some (Told name call outcome) → r name call ≡ Some outcome
+passes-tell r me bound earlier xs ms lines none i name call outcome e = cc e
+passes-tell r me bound earlier xs ms lines (accepted a k p) zero name call outcome e = cc (e, k)
+passes-tell r me bound earlier xs ms lines (accepted a k p) (suc i) name call outcome e = passes-tell r me bound _ _ _ _ p i name call outcome e
+passes-tell r me bound earlier xs ms lines (refused a p) zero name call outcome e = cc e
+passes-tell r me bound earlier xs ms lines (refused a p) (suc i) name call outcome e = passes-tell r me bound _ _ _ _ p i name call outcome e
 
 -- RANKS
 
--- what holds of a rank, where these results are known
-pub record IsSound (r : Results) (s : Local) : Type 0 where
-  pub turn : IsInTurn (count_by tells s.lines) (length s.posts) s.todo
-  pub lines : Tell r 0 s.lines
+pub carries_out-grows : (r more : Results) → Within r more → (xs : List Statement) (s : Local) → CarriesOut r xs s → CarriesOut more xs s
+carries_out-grows r more w xs s (inl h) = inl (record { passed = h.passed; left = h.left; all = h.all; todo = h.todo; passes = passes-grow r more w s.me s.bound _ _ _ _ h.passes })
+carries_out-grows r more w xs s (inr h) = inr (record { passed = h.passed; statement = h.statement; left = h.left; all = h.all; earlier = h.earlier; last = h.last; made = h.made; accepts = h.accepts; todo = h.todo; passes = passes-grow r more w s.me s.bound _ _ _ _ h.passes })
 
--- and of an act after so many outcomes and posts
-record Keeps (r : Results) (told posts : ℕ) (a : Act) : Type 0 where
-  turn : IsInTurn (told + count_by tells a.lines) (posts + length a.posts) a.todo
-  lines : Tell r told a.lines
+module _ (r : Results) (xs : List Statement) (s : Local) where
+  -- it goes on to its next statement
+  ready-steps : (passed left : List Statement) → passed ++ left ≡ xs → s.todo ≡ doing left → Passes r s.me s.bound [] passed s.made s.lines → (t : Local) → step r s ≡ Some t → CarriesOut r xs t
+  ready-steps passed [] all todo passes t e = cc (e, step_ends r s todo)
+  ready-steps passed (x ∷ left) all todo passes t e = by_attempt (attempt s.me s.bound s.made x) refl where
+    by_attempt : (o : Result Made PostError) → attempt s.me s.bound s.made x ≡ o → CarriesOut r xs t
+    by_attempt (Ok m) f =
+        let to : done s (posted s (doing left) m) ≡ t = same_Some (done s (posted s (doing left) m)) t (sym (step_posts r s x (doing left) m todo f) ∙ e) in
+        subst (CarriesOut r xs) to (inr (record {
+          passed = passed;
+          statement = x;
+          left = left;
+          all = all;
+          earlier = s.made;
+          last = m;
+          made = refl;
+          accepts = f;
+          todo = refl;
+          passes = subst (λ lines. Passes r s.me s.bound [] passed s.made lines) (sym (append-nil s.lines)) passes;
+        }))
+    by_attempt (Err refusal) f =
+        let to : done s (turned_down s (doing left) refusal) ≡ t = same_Some (done s (turned_down s (doing left) refusal)) t (sym (step_refused r s x (doing left) refusal todo f) ∙ e) in
+        subst (CarriesOut r xs) to (inl (record {
+          passed = passed ++ x ∷ [];
+          left = left;
+          all = append_assoc passed (x ∷ []) left ∙ all;
+          todo = refl;
+          passes = subst (λ ms. Passes r s.me s.bound [] (passed ++ x ∷ []) ms (s.lines ++ Refused refusal ∷ [])) (sym (append-nil s.made)) (passes-refused r s.me s.bound x s.made refusal f [] passed s.made s.lines passes refl);
+        }))
 
-done-sound : (r : Results) (s : Local) (a : Act) → IsSound r s → Keeps r (count_by tells s.lines) (length s.posts) a → IsSound r (done s a)
-done-sound r s a h k =
-    let from_none : count_by tells s.lines ≡ 0 + count_by tells s.lines = omega arith in
-    record {
-      turn = rw (tells-append s.lines a.lines, length-append s.posts a.posts) k.turn;
-      lines = tell-append r 0 s.lines a.lines h.lines (subst (λ m. Tell r m a.lines) from_none k.lines);
-    }
+  -- it hears what it waits for
+  waiting-steps : IsWaiting r xs s → (t : Local) → step r s ≡ Some t → CarriesOut r xs t
+  waiting-steps h t e = by_answer (r h.last.name (next_call h.last.name h.earlier)) refl where
+    by_answer : (o : Option Outcome) → r h.last.name (next_call h.last.name h.earlier) ≡ o → CarriesOut r xs t
+    by_answer None f = cc (e, step_waits r s h.last.name (next_call h.last.name h.earlier) (doing h.left) h.todo f)
+    by_answer (Some outcome) f =
+        let act = heard s h.last.name (next_call h.last.name h.earlier) (doing h.left) outcome in
+        let to : done s act ≡ t = same_Some (done s act) t (sym (step_hears r s h.last.name (next_call h.last.name h.earlier) (doing h.left) outcome h.todo f) ∙ e) in
+        subst (CarriesOut r xs) to (inl (record {
+          passed = h.passed ++ h.statement ∷ [];
+          left = h.left;
+          all = append_assoc h.passed (h.statement ∷ []) h.left ∙ h.all;
+          todo = refl;
+          passes = subst (λ ms. Passes r s.me s.bound [] (h.passed ++ h.statement ∷ []) ms (s.lines ++ Told h.last.name (next_call h.last.name h.earlier) outcome ∷ [])) (sym (append-nil s.made ∙ h.made)) (passes-accepted r s.me s.bound h.statement h.earlier h.last outcome h.accepts f [] h.passed h.earlier s.lines h.passes refl);
+        }))
 
--- whatever is told, the next act keeps it
-NextKeeps : Results → ℕ → ℕ → Next → Type 0
-NextKeeps r told posts End = Unit {0}
-NextKeeps r told posts (Asks calls act) = (outcomes : List Outcome) → all_of r calls ≡ Some outcomes → Keeps r told posts (act outcomes)
+  pub step-carries_out : (t : Local) → CarriesOut r xs s → step r s ≡ Some t → CarriesOut r xs t
+  step-carries_out t (inl h) e = ready-steps h.passed h.left h.all h.todo h.passes t e
+  step-carries_out t (inr h) e = waiting-steps h t e
 
-post-keeps : (r : Results) (s : Local) (rest : List Todo) (told : ℕ) (x : Result Given PostError) → length s.posts ≡ told → AreStatements rest → NextKeeps r told (length s.posts) (posts_or_refuses s rest x)
-unfolding NextKeeps
-post-keeps r s rest told (Ok given) e h = λ outcomes eo. record { turn = (omega arith, omega arith, h); lines = tt }
-post-keeps r s rest told (Err refusal) e h = λ outcomes eo. record { turn = turn_on _ _ rest (omega arith) h; lines = tt }
+  -- what its lines tell is known
+  pub carried_out-tell : CarriesOut r xs s → (i : ℕ) (name : Name) (call : ℕ) (outcome : Outcome) → slice_get s.lines i ≡ Some (Told name call outcome) → r name call ≡ Some outcome
+  carried_out-tell (inl h) = passes-tell r s.me s.bound [] h.passed s.made s.lines h.passes
+  carried_out-tell (inr h) = passes-tell r s.me s.bound [] h.passed h.earlier s.lines h.passes
 
-await-keeps : (r : Results) (s : Local) (call : ℕ) (rest : List Todo) (told posts : ℕ) → call ≡ told → posts ≡ told + 1 → AreStatements rest → NextKeeps r told posts (next_of s (Await call ∷ rest))
-unfolding NextKeeps
-await-keeps r s call rest told posts c e h [] eo = option_and_then_some _ (r call) [] eo (λ x f g. cc g)
-await-keeps r s call rest told posts c e h (outcome ∷ more) eo =
-    option_and_then_some _ (r call) (outcome ∷ more) eo (λ x f g.
-    let same : x ≡ outcome = cc g in
-    record { turn = turn_on _ _ rest (omega arith) h; lines = (ap r (sym c) ∙ f ∙ ap Some same, tt) })
-
-next-keeps : (r : Results) (s : Local) (told : ℕ) (todo : List Todo) → IsInTurn told (length s.posts) todo → NextKeeps r told (length s.posts) (next_of s todo)
-next-keeps r s told [] h = unfold NextKeeps in tt
-next-keeps r s told (Do statement ∷ rest) h = post-keeps r s rest told (checked s.world s.me _ (draft_of statement)) h.0 h.1
-next-keeps r s told (Await call ∷ rest) h = await-keeps r s call rest told (length s.posts) h.0 h.1 h.2
-
-step_by-sound : (r : Results) (s : Local) (n : Next) (t : Local) → IsSound r s → NextKeeps r (count_by tells s.lines) (length s.posts) n → step_by r s n ≡ Some t → IsSound r t
-unfolding NextKeeps
-step_by-sound r s End t h k e = cc e
-step_by-sound r s (Asks calls act) t h k e =
-    option_and_then_some _ (all_of r calls) t e (λ outcomes eo f.
-    subst (IsSound r) (same_Some (done s (act outcomes)) t f) (done-sound r s (act outcomes) h (k outcomes eo)))
-
-pub step-sound : (r : Results) (s t : Local) → IsSound r s → step r s ≡ Some t → IsSound r t
-step-sound r s t h e = step_by-sound r s (next s) t h (next-keeps r s _ s.todo h.turn) e
-
-pub sound-grows : (r more : Results) → Within r more → (s : Local) → IsSound r s → IsSound more s
-sound-grows r more w s h = record { turn = h.turn; lines = tell-grows r more w 0 s.lines h.lines }
+  -- who has nothing left has passed all
+  carried_out-all : CarriesOut r xs s → s.todo ≡ [] → Passes r s.me s.bound [] xs s.made s.lines
+  carried_out-all (inr h) e = cc (e, h.todo)
+  carried_out-all (inl h) e = by_left h.left h.all (sym h.todo ∙ e) where
+    by_left : (left : List Statement) → h.passed ++ left ≡ xs → doing left ≡ [] → Passes r s.me s.bound [] xs s.made s.lines
+    by_left [] all f = subst (λ ys. Passes r s.me s.bound [] ys s.made s.lines) (sym (append-nil h.passed) ∙ all) h.passes
+    by_left (x ∷ left) all f = cc f
 
 -- STATES
 
 -- it holds of all ranks
-pub record AllAreSound (ranks : ℕ) (s : State) : Type 0 where
-  pub each : (p : ℕ) → IsSound (known ranks s p) (s p)
+pub record AllCarryOut (script : List (List Statement)) (ranks : ℕ) (s : State) : Type 0 where
+  pub each : (p : ℕ) → CarriesOut (known ranks s p) (statements_of script p) (s p)
+  pub me : (p : ℕ) → (s p).me ≡ p
+  pub bound : (p : ℕ) → (s p).bound ≡ bound_at_start ranks
 
 move-within : (ranks : ℕ) (s : State) (p me : ℕ) → Within (known ranks s me) (known ranks (move ranks s p) me)
-move-within ranks s p me = results-grow (history s) (history (move ranks s p)) (world_of ranks) me (λ k q given e. prefix_get (s q).posts (move ranks s p q).posts (adds q) k given e) where
-  adds : (q : ℕ) → IsPrefixOf (s q).posts (move ranks s p q).posts
-  adds = goes_on_cases (λ q t. IsPrefixOf (s q).posts t.posts) s p (known ranks s p) (λ q. prefix_itself (s q).posts) (λ t e. (step_by-adds (known ranks s p) (s p) (next (s p)) t e).0)
+move-within ranks s p me = results-grow (history s) (history (move ranks s p)) ranks (history-grows s (move ranks s p) adds) me where
+  adds : (q : ℕ) → IsPrefixOf (s q).made (move ranks s p q).made
+  adds = goes_on_cases (λ q t. IsPrefixOf (s q).made t.made) s p (known ranks s p) (λ q. prefix_itself (s q).made) (λ t e. (step_by-adds (known ranks s p) (s p) (next (s p)) t e).0)
 
-moved-sound : (ranks : ℕ) (order : List ℕ) (s : State) → AllAreSound ranks s → AllAreSound ranks (moves ranks order s)
-moved-sound ranks [] s h = h
-moved-sound ranks (p ∷ order) s h = moved-sound ranks order (move ranks s p) (record {
-  each = λ q. sound-grows (known ranks s q) (known ranks (move ranks s p) q) (move-within ranks s p q) (move ranks s p q)
-      (goes_on_cases (λ j t. IsSound (known ranks s j) t) s p (known ranks s p) h.each (λ t e. step-sound (known ranks s p) (s p) t (h.each p) e) q);
+moved-carry_out : (script : List (List Statement)) (ranks : ℕ) (order : List ℕ) (s : State) → AllCarryOut script ranks s → AllCarryOut script ranks (moves ranks order s)
+moved-carry_out script ranks [] s h = h
+moved-carry_out script ranks (p ∷ order) s h = moved-carry_out script ranks order (move ranks s p) (record {
+  each = λ q. carries_out-grows (known ranks s q) (known ranks (move ranks s p) q) (move-within ranks s p q) (statements_of script q) (move ranks s p q)
+      (goes_on_cases (λ j t. CarriesOut (known ranks s j) (statements_of script j) t) s p (known ranks s p) h.each (λ t e. step-carries_out (known ranks s p) (statements_of script p) (s p) t (h.each p) e) q);
+  me = goes_on_cases (λ j t. t.me ≡ j) s p (known ranks s p) h.me (λ t e. (step-keeps (known ranks s p) (s p) t e).0 ∙ h.me p);
+  bound = goes_on_cases (λ j t. t.bound ≡ bound_at_start ranks) s p (known ranks s p) h.bound (λ t e. (step-keeps (known ranks s p) (s p) t e).1 ∙ h.bound p);
 })
 
-pub start-sound : (script : List (List Statement)) (ranks : ℕ) → AllAreSound ranks (start script ranks)
-start-sound script ranks = record { each = λ p. record { turn = turn_on 0 0 _ refl (doing_statements (unwrap_or (slice_get script p) [])); lines = tt } }
+start-carry_out : (script : List (List Statement)) (ranks : ℕ) → AllCarryOut script ranks (start script ranks)
+start-carry_out script ranks = record {
+  each = λ p. inl (record { passed = []; left = statements_of script p; all = refl; todo = refl; passes = none });
+  me = λ p. refl;
+  bound = λ p. refl;
+}
 
-reached-sound : (script : List (List Statement)) (ranks : ℕ) (s : State) → IsReached script ranks s → AllAreSound ranks s
-reached-sound script ranks s r = subst (AllAreSound ranks) r.reached (moved-sound ranks r.order (start script ranks) (start-sound script ranks))
+pub reached-carry_out : (script : List (List Statement)) (ranks : ℕ) (s : State) → IsReached script ranks s → AllCarryOut script ranks s
+reached-carry_out script ranks s r = subst (AllCarryOut script ranks) r.reached (moved-carry_out script ranks r.order (start script ranks) (start-carry_out script ranks))
 
 -- WHAT THEY TELL
 
--- a member of the world has its own number as its rank
-value_for-own : (ranks p : ℕ) (row : RowView) (outcome : Outcome) → value_for (world_of ranks) p row ≡ Some outcome → outcome ≡ value row p
-value_for-own ranks p row outcome e =
-    option_and_then_some _ (rank_in p (upto ranks)) outcome e (λ rank there is.
-    sym (same_Some (value row rank) outcome is) ∙ ap (value row) (rank_in-upto ranks p rank there))
+module _ (script : List (List Statement)) (ranks : ℕ) (s : State) (reached : IsReached script ranks s) (p : ℕ) where
+  pub each-carries_out : CarriesOut (known ranks s p) (statements_of script p) (s p)
+  each-carries_out = (reached-carry_out script ranks s reached).each p
 
-pub lines_tell : (script : List (List Statement)) (ranks : ℕ) (s : State) → IsReached script ranks s → (p i : ℕ) (outcome : Outcome) → slice_get (s p).lines i ≡ Some (Told outcome) → IsToldOf ranks s p (call_at (s p).lines i) outcome
-lines_tell script ranks s reached p i outcome e =
-    option_and_then_some _ (row_of (history s) (world_of ranks) call) outcome result (λ row whole given.
-    record { row = row; whole = whole; is = value_for-own ranks p row outcome given }) where
-      call : ℕ
-      call = call_at (s p).lines i
+  pub each-me : (s p).me ≡ p
+  each-me = (reached-carry_out script ranks s reached).me p
 
-      result : known ranks s p call ≡ Some outcome
-      result =
-          let from_none : call_at (s p).lines i ≡ 0 + call_at (s p).lines i = omega arith in
-          ap (known ranks s p) from_none ∙ tell-at (known ranks s p) 0 (s p).lines ((reached-sound script ranks s reached).each p).lines i outcome e
+  pub each-bound : (s p).bound ≡ bound_at_start ranks
+  each-bound = (reached-carry_out script ranks s reached).bound p
+
+  pub each-all : (s p).todo ≡ [] → Passes (known ranks s p) p (bound_at_start ranks) [] (statements_of script p) (s p).made (s p).lines
+  each-all e =
+      subst (λ me. Passes (known ranks s p) me (bound_at_start ranks) [] (statements_of script p) (s p).made (s p).lines) each-me
+      (subst (λ bound. Passes (known ranks s p) (s p).me bound [] (statements_of script p) (s p).made (s p).lines) each-bound
+      (carried_out-all (known ranks s p) (statements_of script p) (s p) each-carries_out e))
+
+  pub lines_tell : (i : ℕ) (name : Name) (call : ℕ) (outcome : Outcome) → slice_get (s p).lines i ≡ Some (Told name call outcome) → IsToldOf ranks s p name call outcome
+  lines_tell i name call outcome e =
+      option_and_then_some (λ birth. results_by (history s) name birth p call) (birth_of (history s) ranks name) outcome (carried_out-tell (known ranks s p) (statements_of script p) (s p) each-carries_out i name call outcome e) (λ birth born f.
+      option_and_then_some (value_for birth p) (row_of (history s) name birth call) outcome f (λ row whole g.
+      option_and_then_some (λ rank. Some (value row rank)) (rank_in p birth.members) outcome g (λ rank member is.
+      record { birth = birth; born = born; row = row; whole = whole; rank = rank; member = member; is = sym (same_Some (value row rank) outcome is) })))

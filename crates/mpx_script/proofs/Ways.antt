@@ -1,11 +1,11 @@
 -- Ways of one rank from where it stands to where it gets.
-use Rattle.std.proofs.Common.{◌≡◌, Some, None, refl, sym, ap, ◌∙◌, subst}
+use Rattle.std.proofs.Common.{◌≡◌, ℕ, Some, None, refl, sym, ap, ◌∙◌, subst}
 use Rattle.std.proofs.lemmas.Option.{option_and_then_some, same_Some}
-use Rattle.mpx_post.specs.Rows.{all_of}
+use Rattle.mpx_name.specs.Name.{Name}
 use Rattle.mpx_value.specs.Histories.{Results, Within}
-use Rattle.mpx_script.specs.Ranks.{Local, Next, End, Asks, done, next, step_by, step}
+use Rattle.mpx_script.specs.Ranks.{Local, Next, End, Asks, answers, done, next, step_by, step}
 use Rattle.mpx_script.specs.Evaluation.{IsPrefixOf}
-use Rattle.mpx_script.proofs.Growth.{all_of-grows, then_some}
+use Rattle.mpx_value.proofs.Growth.{all_of-grows, then_some}
 use Rattle.mpx_script.proofs.Fronts.{prefix_itself, prefix_trans}
 
 -- by these outcomes a rank comes from the one to the other
@@ -17,26 +17,26 @@ pub data Way (r : Results) : Local → Local → Type 0 where
 step_by-grows : (r more : Results) → Within r more → (s : Local) (n : Next) (t : Local) → step_by r s n ≡ Some t → step_by more s n ≡ Some t
 step_by-grows r more w s End t e = e
 step_by-grows r more w s (Asks calls act) t e =
-    option_and_then_some _ (all_of r calls) t e (λ outcomes eo f.
-    then_some _ (all_of more calls) outcomes t (all_of-grows r more w calls outcomes eo) f)
+    option_and_then_some _ (answers r calls) t e (λ outcomes eo f.
+    then_some _ (answers more calls) outcomes t (all_of-grows (λ (c : Name × ℕ). r c.0 c.1) (λ (c : Name × ℕ). more c.0 c.1) (λ c outcome. w c.0 c.1 outcome) calls outcomes eo) f)
 
 pub step-grows : (r more : Results) → Within r more → (s t : Local) → step r s ≡ Some t → step more s ≡ Some t
 step-grows r more w s t = step_by-grows r more w s (next s) t
 
 -- a step only adds posts and lines
-pub step_by-adds : (r : Results) (s : Local) (n : Next) (t : Local) → step_by r s n ≡ Some t → IsPrefixOf s.posts t.posts × IsPrefixOf s.lines t.lines
+pub step_by-adds : (r : Results) (s : Local) (n : Next) (t : Local) → step_by r s n ≡ Some t → IsPrefixOf s.made t.made × IsPrefixOf s.lines t.lines
 step_by-adds r s End t e = cc e
 step_by-adds r s (Asks calls act) t e =
-    option_and_then_some _ (all_of r calls) t e (λ outcomes eo f.
+    option_and_then_some _ (answers r calls) t e (λ outcomes eo f.
     let same : done s (act outcomes) ≡ t = same_Some (done s (act outcomes)) t f in
-    (((act outcomes).posts, ap (λ (u : Local). u.posts) same), ((act outcomes).lines, ap (λ (u : Local). u.lines) same)))
+    (((act outcomes).made, ap (λ (u : Local). u.made) same), ((act outcomes).lines, ap (λ (u : Local). u.lines) same)))
 
-pub way-adds : (r : Results) (s u : Local) → Way r s u → IsPrefixOf s.posts u.posts × IsPrefixOf s.lines u.lines
-way-adds r s u here = (prefix_itself s.posts, prefix_itself s.lines)
+pub way-adds : (r : Results) (s u : Local) → Way r s u → IsPrefixOf s.made u.made × IsPrefixOf s.lines u.lines
+way-adds r s u here = (prefix_itself s.made, prefix_itself s.lines)
 way-adds r s u (on {t = t} e w) =
     let one = step_by-adds r s (next s) t e in
     let rest = way-adds r t u w in
-    (prefix_trans s.posts t.posts u.posts one.0 rest.0, prefix_trans s.lines t.lines u.lines one.1 rest.1)
+    (prefix_trans s.made t.made u.made one.0 rest.0, prefix_trans s.lines t.lines u.lines one.1 rest.1)
 
 -- a step leads on towards the end
 pub way-step : (r : Results) (s t u : Local) → Way r s u → step r u ≡ None → step r s ≡ Some t → Way r t u

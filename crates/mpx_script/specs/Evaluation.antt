@@ -1,9 +1,9 @@
 -- The evaluation of a script: what stands after any list of moves that no move extends.
-use Rattle.std.specs.Prelude.{◌≡◌, ℕ, zero, suc, ◌+◌, ◌==◌, ◌≤◌, cond, List, [], ◌∷◌, ◌++◌, Option, Some, None, slice_get, unwrap_or}
+use Rattle.std.specs.Prelude.{◌≡◌, ℕ, zero, suc, ◌+◌, ◌==◌, ◌≤◌, cond, List, [], ◌∷◌, ◌++◌, codes, Option, Some, None, slice_get, unwrap_or}
 use Rattle.mpx_post.specs.Births.{BirthView, upto}
-use Rattle.mpx_value.specs.Histories.{History, Results, results_of}
+use Rattle.mpx_value.specs.Histories.{History, history_of, Results, results_of}
 use Rattle.mpx_script.specs.declared.statement.Statement.{Statement}
-use Rattle.mpx_script.specs.Ranks.{Local, step, doing, weights}
+use Rattle.mpx_script.specs.Ranks.{Bindings, Communicator, Local, step, doing, weights}
 
 -- where each rank stands
 abbrev pub State : Type 0
@@ -12,16 +12,24 @@ State = (rank : ℕ) → Local
 abbrev pub world_of : ℕ → BirthView
 world_of ranks = record { members = upto ranks }
 
-abbrev pub start : List (List Statement) → ℕ → State
-start script ranks p = record { me = p; world = world_of ranks; todo = doing (unwrap_or (slice_get script p) []); posts = []; lines = [] }
+-- before any statement one word is bound: `world`
+abbrev pub bound_at_start : ℕ → Bindings
+bound_at_start ranks = (codes "world", Communicator [] (world_of ranks)) ∷ []
 
--- all posts that were made, each process's in order
+-- the statements of a rank
+abbrev pub statements_of : List (List Statement) → (rank : ℕ) → List Statement
+statements_of script p = unwrap_or (slice_get script p) []
+
+abbrev pub start : List (List Statement) → ℕ → State
+start script ranks p = record { me = p; bound = bound_at_start ranks; todo = doing (statements_of script p); made = []; lines = [] }
+
+-- all posts that were made
 abbrev pub history : State → History
-history s k p = slice_get (s p).posts k
+history s = history_of (λ p. (s p).made)
 
 -- what the rows that are whole give a rank
 abbrev pub known : ℕ → State → ℕ → Results
-known ranks s p = results_of (history s) (world_of ranks) p
+known ranks s p = results_of (history s) ranks p
 
 abbrev pub or_stay : Local → Option Local → Local
 or_stay s None = s

@@ -1,53 +1,86 @@
 -- One rank of a script, as an automaton over the outcomes that it asks for.
-use Rattle.std.specs.Prelude.{ℕ, ◌+◌, List, [], ◌∷◌, ◌++◌, length, Option, Some, None, option_and_then, Result, Ok, Err}
+use Rattle.std.specs.Prelude.{ℕ, ◌+◌, List, [], ◌∷◌, ◌++◌, length, codes, Option, Some, None, option_and_then, Result, Ok, Err}
+use Rattle.mpx_name.specs.Name.{Name}
 use Rattle.mpx_post.specs.Posts.{Given}
 use Rattle.mpx_post.specs.declared.draft.Draft.{Draft}
 use Rattle.mpx_post.specs.declared.draft.PostError.{PostError}
+use Rattle.mpx_post.specs.declared.draft.PostError.TheVariants.{NotMember}
 use Rattle.mpx_post.specs.Births.{BirthView}
 use Rattle.mpx_post.specs.Drafts.{checked}
-use Rattle.mpx_value.specs.declared.outcomes.Outcome.{Outcome}
 use Rattle.mpx_post.specs.Rows.{all_of}
-use Rattle.mpx_value.specs.Histories.{Results}
+use Rattle.mpx_value.specs.declared.outcomes.Outcome.{Outcome}
+use Rattle.mpx_value.specs.Histories.{Made, posts_on, Results}
 use Rattle.mpx_script.specs.declared.statement.Statement.{Statement}
 use Rattle.mpx_script.specs.declared.statement.Statement.TheVariants.{Call}
+use Rattle.mpx_script.specs.Grammar.{named}
 
--- a line of a transcript: what a call gave, or why a post was refused
+-- a line of a transcript: what a call of a context gave, or why a post was refused
 pub data Line : Type 0 where
-  Told : Outcome → Line
+  Told : Name → (call : ℕ) → Outcome → Line
   Refused : PostError → Line
+
+-- what a word is bound to
+pub data Bound : Type 0 where
+  Communicator : Name → BirthView → Bound
+
+-- words, and what they are bound to
+abbrev pub Bindings : Type 0
+Bindings = List (List ℕ × Bound)
 
 -- a statement, or the rest of one whose post is made: the wait for that call
 pub data Todo : Type 0 where
   Do : Statement → Todo
-  Await : (call : ℕ) → Todo
+  Await : Name → (call : ℕ) → Todo
 
--- where a rank stands: who it is in which communicator, what is left to do, its own posts and its lines
+-- where a rank stands: who it is, what its words are bound to, what is left to do, the posts that it made and its lines
 pub record Local : Type 0 where
   pub me : ℕ
-  pub world : BirthView
+  pub bound : Bindings
   pub todo : List Todo
-  pub posts : List Given
+  pub made : List Made
   pub lines : List Line
 
--- what one move does: what is left to do after it, and the posts and the lines that it adds
+-- what one move does: what is bound and left to do after it, and the posts and the lines that it adds
 pub record Act : Type 0 where
+  pub bound : Bindings
   pub todo : List Todo
-  pub posts : List Given
+  pub made : List Made
   pub lines : List Line
 
 abbrev pub done : Local → Act → Local
-done s a = record { me = s.me; world = s.world; todo = a.todo; posts = s.posts ++ a.posts; lines = s.lines ++ a.lines }
+done s a = record { me = s.me; bound = a.bound; todo = a.todo; made = s.made ++ a.made; lines = s.lines ++ a.lines }
 
 -- what a rank does next: nothing, or an act that is a function of the outcomes of some calls
 pub data Next : Type 0 where
   End : Next
-  Asks : List ℕ → (List Outcome → Act) → Next
+  Asks : List (Name × ℕ) → (List Outcome → Act) → Next
 
 -- THE LANGUAGE
 
 -- the draft that a statement posts
 abbrev pub draft_of : Statement → Draft
 draft_of (Call draft) = draft
+
+-- the word of the communicator on which it posts
+abbrev pub word_of : Statement → List ℕ
+word_of (Call draft) = codes "world"
+
+-- the number of the next call on a context, after these posts
+abbrev pub next_call : Name → List Made → ℕ
+next_call name made = length (posts_on name made)
+
+abbrev pub made_on : Name → Result Given PostError → Result Made PostError
+made_on name (Ok given) = Ok (record { name = name; given = given })
+made_on name (Err refusal) = Err refusal
+
+-- what a draft comes to on what a word is bound to: the next post on that communicator, or why there is none
+abbrev pub attempt_on : (me : ℕ) → List Made → Draft → Option Bound → Result Made PostError
+attempt_on me made draft None = Err NotMember
+attempt_on me made draft (Some (Communicator name birth)) = made_on name (checked birth me (record { call = next_call name made }) draft)
+
+-- what a statement of a rank comes to, with these bindings and after these posts
+abbrev pub attempt : (me : ℕ) → Bindings → List Made → Statement → Result Made PostError
+attempt me bound made statement = attempt_on me made (draft_of statement) (named bound (word_of statement))
 
 -- no outcome is asked for
 abbrev pub at_once : Act → Next
@@ -58,27 +91,31 @@ abbrev pub first_or : (Outcome → Act) → Act → List Outcome → Act
 first_or f other (outcome ∷ rest) = f outcome
 first_or f other [] = other
 
-abbrev pub awaits : ℕ → (Outcome → Act) → Next
-awaits call f = Asks (call ∷ []) (first_or f (record { todo = []; posts = []; lines = [] }))
+abbrev pub awaits : Name → ℕ → (Outcome → Act) → Next
+awaits name call f = Asks ((name, call) ∷ []) (first_or f (record { bound = []; todo = []; made = []; lines = [] }))
 
 -- a blocking call: its post, whose outcome is awaited next, or the line of its refusal
-abbrev pub posts_or_refuses : Local → List Todo → Result Given PostError → Next
-posts_or_refuses s rest (Ok given) = at_once (record { todo = Await (length s.posts) ∷ rest; posts = given ∷ []; lines = [] })
-posts_or_refuses s rest (Err refusal) = at_once (record { todo = rest; posts = []; lines = Refused refusal ∷ [] })
+abbrev pub posts_or_refuses : Local → List Todo → Result Made PostError → Next
+posts_or_refuses s rest (Ok m) = at_once (record { bound = s.bound; todo = Await m.name (next_call m.name s.made) ∷ rest; made = m ∷ []; lines = [] })
+posts_or_refuses s rest (Err refusal) = at_once (record { bound = s.bound; todo = rest; made = []; lines = Refused refusal ∷ [] })
 
 abbrev pub next_of : Local → List Todo → Next
 next_of s [] = End
-next_of s (Do statement ∷ rest) = posts_or_refuses s rest (checked s.world s.me (record { call = length s.posts }) (draft_of statement))
-next_of s (Await call ∷ rest) = awaits call (λ outcome. record { todo = rest; posts = []; lines = Told outcome ∷ [] })
+next_of s (Do statement ∷ rest) = posts_or_refuses s rest (attempt s.me s.bound s.made statement)
+next_of s (Await name call ∷ rest) = awaits name call (λ outcome. record { bound = s.bound; todo = rest; made = []; lines = Told name call outcome ∷ [] })
 
 abbrev pub next : Local → Next
 next s = next_of s s.todo
 
 -- STEPS
 
+-- the outcomes of all of these calls, only where each is known
+abbrev pub answers : Results → List (Name × ℕ) → Option (List Outcome)
+answers r calls = all_of (λ (call : Name × ℕ). r call.0 call.1) calls
+
 abbrev pub step_by : Results → Local → Next → Option Local
 step_by r s End = None
-step_by r s (Asks calls act) = option_and_then (λ outcomes. Some (done s (act outcomes))) (all_of r calls)
+step_by r s (Asks calls act) = option_and_then (λ outcomes. Some (done s (act outcomes))) (answers r calls)
 
 -- where the next move of a rank that knows these outcomes leads, where it has one
 abbrev pub step : Results → Local → Option Local
@@ -87,7 +124,7 @@ step r s = step_by r s (next s)
 -- so many moves are left at most
 abbrev pub weight : Todo → ℕ
 weight (Do statement) = 2
-weight (Await call) = 1
+weight (Await name call) = 1
 
 abbrev pub weights : List Todo → ℕ
 weights [] = 0

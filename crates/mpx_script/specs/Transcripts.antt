@@ -44,8 +44,9 @@ outcome_text O.Absent = codes "none"
 outcome_text (O.Items items) = numbers_text items.nums
 outcome_text (O.Fault fault) = codes "fault " ++ fault_name fault.what ++ codes " at " ++ number_text (pos fault.rank)
 
+-- the place of an outcome isn't printed
 abbrev pub line_text : Line → List ℕ
-line_text (Told outcome) = outcome_text outcome
+line_text (Told name call outcome) = outcome_text outcome
 line_text (Refused refusal) = codes "refused " ++ refusal_name refusal
 
 -- each line of a rank as `RANK: LINE`

@@ -17,6 +17,6 @@ pub fn evaluations_are_one()
 /// and a rank that has nothing left to do has all of them.
 pub fn whatever_is_reached_is_a_beginning()
     ensures lines { (script : List (List Told)) (ranks : ℕ) (end s : State) → IsEvaluation script ranks end → IsReached script ranks s → (p : ℕ) → IsPrefixOf (s p).lines (end p).lines }
-    ensures posts { (script : List (List Told)) (ranks : ℕ) (end s : State) → IsEvaluation script ranks end → IsReached script ranks s → (p : ℕ) → IsPrefixOf (s p).posts (end p).posts }
+    ensures posts { (script : List (List Told)) (ranks : ℕ) (end s : State) → IsEvaluation script ranks end → IsReached script ranks s → (p : ℕ) → IsPrefixOf (s p).made (end p).made }
     ensures whole { (script : List (List Told)) (ranks : ℕ) (end s : State) → IsEvaluation script ranks end → IsReached script ranks s → (p : ℕ) → (s p).todo ≡ [] → s p ≡ end p }
 {}

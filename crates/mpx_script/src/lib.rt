@@ -6,8 +6,8 @@
 //! whole text is read as in `specs/Reading.antt`.
 //!
 //! What a script's ranks print is its evaluation (`specs/Evaluation.antt`), whose laws are [`every_script_has_an_evaluation`],
-//! [`evaluations_are_one`], [`whatever_is_reached_is_a_beginning`] and [`lines_tell_the_values_of_all_posts`]; [`line`] and
-//! [`refused_line`] write a line of it.
+//! [`evaluations_are_one`], [`whatever_is_reached_is_a_beginning`], [`ranks_carry_out_their_statements`] and
+//! [`lines_tell_the_values_of_all_posts`]; [`line`] and [`refused_line`] write a line of it.
 #![tactic(auto)]
 
 mod calls;
@@ -32,5 +32,5 @@ pub use reader::read_script;
 pub use report::Report;
 pub use script::Script;
 pub use statement::Statement;
-pub use told::lines_tell_the_values_of_all_posts;
+pub use told::{lines_tell_the_values_of_all_posts, ranks_carry_out_their_statements};
 pub use transcript::{line, refused_line};

@@ -1,7 +1,7 @@
 ghost use Rattle.std.specs.Prelude.{◌≡◌, ◌++◌, IfOk, pos, codes, string_bytes};
 ghost use Rattle.mpx_num.specs.Text.{number_text};
-ghost use Rattle.mpx_script.specs.Ranks.{Told, Refused};
-ghost use Rattle.mpx_script.specs.Transcripts.{fault_name, line_text, numbers_text, refusal_name};
+ghost use Rattle.mpx_script.specs.Ranks.{Refused};
+ghost use Rattle.mpx_script.specs.Transcripts.{fault_name, line_text, numbers_text, outcome_text, refusal_name};
 
 use join_core::OutOfMemory;
 use mpx_num::push_number;
@@ -12,7 +12,7 @@ use std::alloc::Global;
 /// The line of a transcript that tells an outcome: the numbers with one space between them, `empty` where there are
 /// none, `ok` where the call gives nothing, `none` where there is nothing to give, or `fault NAME at RANK`.
 pub fn line(alloc: Global, outcome: &Outcome) -> Result<String, OutOfMemory>
-    ensures { IfOk result (λ text. string_bytes text ≡ line_text (Told outcome.now)) }
+    ensures { IfOk result (λ text. string_bytes text ≡ outcome_text outcome.now) }
 {
     match outcome {
         Outcome::Nothing => Ok(String::from_str(alloc, "ok")?),
