@@ -1,3 +1,4 @@
 pub mod Coupling
 pub mod Running
 pub mod Reporting
+pub mod Pieces

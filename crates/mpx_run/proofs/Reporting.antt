@@ -1,6 +1,6 @@
 -- What is reported of a run.
 use Rattle.std.proofs.Common.{◌≡◌, ℕ, zero, suc, ◌+◌, ◌<◌, ◌≤◌, Bool, true, false, cond, List, [], ◌∷◌, ◌++◌, length, map, take, drop, Option, Some, None, refl, sym, ap, ◌∙◌, subst, arith, pos, codes}
-use Rattle.std.specs.Prelude.{slice_get, nat_lt, ◌||◌, is_some}
+use Rattle.std.specs.Prelude.{slice_get, nat_lt, unwrap_or, ◌||◌, is_some}
 use Rattle.std.specs.Option.{option_map}
 use Rattle.std.proofs.lemmas.List.{map-append, length-map}
 use Rattle.std.proofs.lemmas.Option.{slice_get-map}
@@ -14,13 +14,14 @@ use Rattle.mpx_script.specs.declared.statement.Statement.{Statement}
 use Rattle.mpx_script.specs.ScriptView.{ScriptView}
 use Rattle.mpx_script.specs.Ranks.{Todo, Line, Local, doing}
 use Rattle.mpx_script.specs.Evaluation.{State, IsEvaluation, IsPrefixOf, known}
-use Rattle.mpx_script.specs.Transcripts.{line_text, rank_text}
+use Rattle.mpx_script.specs.Transcripts.{line_text, rank_text, text_upto}
 use Rattle.mpx_script.specs.Reports.{which, is_left, lines_in, waiting_in}
 use Rattle.mpx_script.proofs.Ways.{Way, way-adds}
 use Rattle.mpx_script.proofs.Ahead.{on_way-reached, finished}
-use Rattle.mpx_run.specs.Systems.{on_world}
 use Rattle.mpx_run.specs.Running.{RankView, IsUnderWay, todo_of, has_statements, is_waiting, is_waiting_at}
-use Rattle.mpx_run.specs.Runs.{IsRun, Begin, AreWhole}
+use Rattle.mpx_run.specs.Runs.{IsRun, IsReport, Begin, AreWhole, EndsSo, lines_at}
+use Rattle.mpx_run.specs.declared.end.End.{End}
+use Rattle.mpx_run.specs.declared.end.End.TheVariants.{Finished, Waiting}
 use Rattle.mpx_run.proofs.Coupling.{mapped_some, tells_results}
 use Rattle.mpx_run.proofs.Running.{coupled}
 
@@ -60,13 +61,13 @@ which_same f g (suc n) h = λ i. which_same f g n (λ p l. h p (omega (arith, l)
 -- each number that passes the test is there
 which_has : (test : ℕ → Bool) (n p : ℕ) → p < n → test p ≡ true → (place : ℕ) × (slice_get (which test n) place ≡ Some p)
 which_has test zero p l e = absurd (omega (arith, l))
-which_has test (suc n) p l e = by_last (nat_lt p n) refl where
-  by_last : (b : Bool) → nat_lt p n ≡ b → (place : ℕ) × (slice_get (which test (suc n)) place ≡ Some p)
-  by_last true t =
+which_has test (suc n) p l e = by_last (nat_lt p n) refl (which_has test n p) where
+  by_last : (b : Bool) → nat_lt p n ≡ b → (p < n → test p ≡ true → (place : ℕ) × (slice_get (which test n) place ≡ Some p)) → (place : ℕ) × (slice_get (which test (suc n)) place ≡ Some p)
+  by_last true t before =
       let below : p < n = grind (arith, nat_tests, t) in
-      let found = which_has test n p below e in
+      let found = before below e in
       (found.0, slice_get-append (which test n) (cond (test n) (n ∷ []) []) found.0 p found.1)
-  by_last false t =
+  by_last false t before =
       let above : n ≤ p = grind (arith, nat_tests, t) in
       let same : p ≡ n = omega (arith, l, above) in
       let here : test n ≡ true = ap test (sym same) ∙ e in
@@ -124,7 +125,8 @@ module _ (script : ScriptView) (relays : ℕ) (processes : List RankView) (frame
         processes = length-map processes (λ (r : RankView). r.node) ∙ run.shows.count;
         nodes_are = λ p node e. let found = mapped_at (λ (r : RankView). r.node) processes p node e in sym found.2 ∙ run.shows.nodes p found.0 found.1;
         posts = c.made;
-        relays_post_nothing = λ p over. c.made p ∙ ap on_world (c.relays p over);
+        relays_post_nothing = λ p over. c.made p ∙ c.relays p over;
+        carries_out = c.told;
         told = tells_results script.statements script.ranks run.system c;
         ranks_are = length_taken script.ranks (map (λ (r : RankView). r.lines) processes) (omega (arith, length-map processes (λ (r : RankView). r.lines), run.shows.count));
         lines = lines_so;
@@ -145,6 +147,51 @@ module _ (script : ScriptView) (relays : ℕ) (processes : List RankView) (frame
             let found = which_has (λ q. is_left (run.system.ranks q).todo) script.ranks p l is in
             other found.0 (ap (λ ws. slice_get ws found.0) waiting_so ∙ found.1)) in
         lines_so p lines e ∙ ap (λ (x : Local). map line_text x.lines) (finished (known script.ranks end p) (run.system.ranks p) (end p) (way p) todo)
+
+module _ (script : ScriptView) (relays ranks : ℕ) (same : ranks ≡ script.ranks) (processes : List RankView) (frames : List Look) (run : IsUnderWay script.statements script.ranks (script.ranks + relays) processes frames)
+    (told : List NodeView) (said : List (List (List ℕ))) (wait : List ℕ) (nodes_so : told ≡ map (λ (r : RankView). r.node) processes) (lines_said : said ≡ take ranks (map (λ (r : RankView). r.lines) processes)) (wait_so : wait ≡ which (λ p. is_waiting_at (slice_get processes p)) ranks) where
+  said_so : transcripts script relays processes frames run ≡ said
+  said_so = sym (lines_said ∙ ap (λ n. take n (map (λ (r : RankView). r.lines) processes)) same)
+
+  waiting_is : waiting script relays processes frames run ≡ wait
+  waiting_is = sym (wait_so ∙ ap (which (λ p. is_waiting_at (slice_get processes p))) same)
+
+  pub run_said : IsRun script relays told said wait
+  run_said = subst (λ ns. IsRun script relays ns said wait) (sym nodes_so) (subst (λ ls. IsRun script relays (nodes script relays processes frames run) ls wait) said_so (subst (IsRun script relays (nodes script relays processes frames run) (transcripts script relays processes frames run)) waiting_is (is_run script relays processes frames run)))
+
+  pub begin_said : (e : State) → IsEvaluation script.statements script.ranks e → Begin said e
+  begin_said e is = subst (λ ls. Begin ls e) said_so (begin script relays processes frames run e is)
+
+  pub whole_said : (e : State) → IsEvaluation script.statements script.ranks e → AreWhole said wait e
+  whole_said e is = subst (λ ls. AreWhole ls wait e) said_so (subst (λ ws. AreWhole (transcripts script relays processes frames run) ws e) waiting_is (are_whole script relays processes frames run e is))
+
+-- THE TEXT
+
+text_same : (f g : (p : ℕ) → List (List ℕ)) (n : ℕ) → ((p : ℕ) → p < n → f p ≡ g p) → text_upto f n ≡ text_upto g n
+text_same f g zero h = refl
+text_same f g (suc n) h = λ i. text_same f g n (λ p l. h p (omega (arith, l))) i ++ rank_text n (h n (omega arith) i)
+
+nobody : (end : End) (waiting : List ℕ) → EndsSo end waiting → end ≡ Finished → waiting ≡ []
+nobody Finished waiting h e = h
+nobody (Waiting ranks) waiting h e = cc e
+
+pub reported : (script : ScriptView) (relays : ℕ) (nodes : List NodeView) (transcripts : List (List (List ℕ))) (waiting : List ℕ) (end : End) (text : List ℕ) → IsRun script relays nodes transcripts waiting
+    → ((e : State) → IsEvaluation script.statements script.ranks e → Begin transcripts e) → ((e : State) → IsEvaluation script.statements script.ranks e → AreWhole transcripts waiting e)
+    → text ≡ text_upto (lines_at transcripts) script.ranks → EndsSo end waiting → IsReport script relays end text
+reported script relays nodes transcripts waiting end text run begins whole lines ends = record {
+  nodes = nodes;
+  transcripts = transcripts;
+  waiting = waiting;
+  run = run;
+  lines = lines;
+  ends = ends;
+  begins = begins;
+  whole = λ e is finished.
+      let none = nobody end waiting ends finished in
+      lines ∙ text_same (lines_at transcripts) (lines_in e) script.ranks (λ p l.
+          let found = some_at transcripts p (omega (arith, l, run.ranks_are)) in
+          ap (λ o. unwrap_or o []) found.1 ∙ whole e is p found.0 found.1 (λ place at. cc (at, none)));
+}
 
 -- LINES
 

@@ -1,5 +1,5 @@
 -- What the steps of a process keep of a run.
-use Rattle.std.proofs.Common.{◌≡◌, ℕ, zero, suc, ◌+◌, ◌<◌, Bool, true, false, cond, ◌==◌, List, [], ◌∷◌, ◌++◌, length, map, take, set, get_or, Option, Some, None, refl, sym, ap, ◌∙◌, subst, arith, length-append}
+use Rattle.std.proofs.Common.{◌≡◌, ℕ, zero, suc, ◌+◌, ◌<◌, Bool, true, false, cond, ◌==◌, List, [], ◌∷◌, ◌++◌, length, map, take, drop, set, get_or, Option, Some, None, refl, sym, ap, ◌∙◌, subst, arith, length-append}
 use Rattle.std.specs.Prelude.{slice_get, unwrap_or, Result, Ok, Err, OnOk, OnErr}
 use Rattle.std.specs.List.{All, items_where_true}
 use Rattle.std.proofs.lemmas.Grind.{get_or_picked}
@@ -10,30 +10,32 @@ use Rattle.std.specs.Option.{option_map}
 use Rattle.mpx_post.specs.Posts.{Given}
 use Rattle.mpx_post.specs.declared.draft.PostError.{PostError}
 use Rattle.mpx_board.specs.declared.errors.PruneError.{PruneError}
-use Rattle.mpx_board.specs.Boards.{Name, Look, only, Dropped, floor_on}
+use Rattle.mpx_name.specs.Name.{Name}
+use Rattle.mpx_board.specs.Boards.{Look, only, Dropped, floor_on}
 use Rattle.mpx_board.specs.Changes.{pruned}
 use Rattle.mpx_value.specs.declared.outcomes.Outcome.{Outcome}
-use Rattle.mpx_value.specs.Histories.{Results}
+use Rattle.mpx_value.specs.Histories.{Made, Results}
 use Rattle.mpx_node.specs.declared.finished.Finished.{Finished}
 use Rattle.mpx_node.specs.Nodes.{Posts as NodePosts}
 use Rattle.mpx_post.specs.declared.draft.PostError.TheVariants as R
 use Rattle.mpx_node.specs.Nodes.{NodeView, learn, posted_on, post_at, checked_on, next_result, add_result}
 use Rattle.mpx_world.specs.declared.events.Event.TheVariants as E
 use Rattle.mpx_world.specs.declared.events.Cut.TheVariants as C
-use Rattle.mpx_world.specs.Worlds.{ProcessView, WorldView, makes, stores, drops, takes, posts, harvests, prunes, Posts, Harvests, Prunes, Sends, Takes, at_process, happens}
+use Rattle.mpx_world.specs.Worlds.{ProcessView, WorldView, makes, stores, drops, takes, posts, harvests, prunes, Happening, Posts, Harvests, Prunes, Sends, Takes, at_process, happens}
 use Rattle.mpx_world.specs.Worlds.{goes_on as goes_on_world}
 use Rattle.mpx_world.proofs.Lists.{slice_get-append, slice_get-push, slice_get-push_cases, same_number}
 use Rattle.mpx_world.proofs.Steps.{at_here}
 use Rattle.mpx_world.proofs.Reached.{may_happen}
 use Rattle.mpx_script.specs.declared.statement.Statement.{Statement}
-use Rattle.mpx_script.specs.Ranks.{Todo, Do, Await, Local, Act, Told, Refused, draft_of, doing, done, step, step_by, next_of, posts_or_refuses}
+use Rattle.mpx_script.specs.Ranks.{Await, Line, Local, Told, Refused, draft_of, doing, done, made_on, next_call, step}
 use Rattle.mpx_script.specs.Evaluation.{State, goes_on}
-use Rattle.mpx_script.specs.Transcripts.{line_text}
+use Rattle.mpx_script.specs.Transcripts.{line_text, outcome_text}
 use Rattle.mpx_script.proofs.Ends.{goes_on-at}
 use Rattle.mpx_script.proofs.Fronts.{append-nil}
-use Rattle.mpx_run.specs.Systems.{System, node_tells, drafts, posts_of, Doing, Nets, Drives, does, does_all, MayDo, MayDoAll, Leads, start_system}
+use Rattle.mpx_script.proofs.Steps.{heard, posted, turned_down, step_hears, step_posts, step_refused}
+use Rattle.mpx_run.specs.Systems.{System, node_tells, posts_of, Doing, Nets, Drives, does, does_all, MayDo, MayDoAll, Leads, start_system}
 use Rattle.mpx_run.specs.Running.{RankView, todo_of, IsAmong, stored, harvested, Stands, Shows, IsUnderWay, Keeps, Moves, Receives, StartsAt, Starts}
-use Rattle.mpx_run.proofs.Coupling.{Couples, couples_posts, couples_all, couples_start, goes_on-other, asks_same}
+use Rattle.mpx_run.proofs.Coupling.{Couples, counted, couples_all, couples_start, goes_on-other, attempts_same, posts_so}
 
 -- LISTS
 
@@ -254,20 +256,17 @@ moves_then a b c f g script ranks size processes frames p l at run =
     (g script ranks size (set processes p b) frames p l (set_has processes p a b at) (f script ranks size processes frames p l at run))
 
 module _ (script : List (List Statement)) (ranks size : ℕ) (processes : List RankView) (frames : List Look) (p : ℕ) (l : p < ranks) (r : RankView) (at : slice_get processes p ≡ Some r) (run : IsUnderWay script ranks size processes frames) where
-  s : System
-  s = run.system
-
   abbrev told : Results
   told = node_tells (run.system.world.each p).node
 
   -- a move by what the node tells, after which the world is so
-  moved : (todo : List Todo) (t : Local) (new : RankView) → (run.system.ranks p).todo ≡ todo → step told (run.system.ranks p) ≡ Some t → Stands new t
-      → new.node ≡ ((goes_on_world run.system.world (posts_of p (drafts todo))).each p).node
-      → ((q : ℕ) → (q ≡ p → ⊥) → ((goes_on_world run.system.world (posts_of p (drafts todo))).each q).node ≡ (run.system.world.each q).node)
-      → (goes_on_world run.system.world (posts_of p (drafts todo))).parts ≡ run.system.world.parts
+  moved : (hs : List Happening) (t : Local) (new : RankView) → posts_of p (run.system.ranks p).bound (run.system.ranks p).todo ≡ hs → step told (run.system.ranks p) ≡ Some t → Stands new t
+      → new.node ≡ ((goes_on_world run.system.world hs).each p).node
+      → ((q : ℕ) → (q ≡ p → ⊥) → ((goes_on_world run.system.world hs).each q).node ≡ (run.system.world.each q).node)
+      → (goes_on_world run.system.world hs).parts ≡ run.system.world.parts
       → IsUnderWay script ranks size (set processes p new) frames
-  moved todo t new e step_is stands node nodes parts =
-      let world : goes_on_world run.system.world (posts_of p (drafts todo)) ≡ goes_on_world run.system.world (posts_of p (drafts (run.system.ranks p).todo)) = ap (λ x. goes_on_world run.system.world (posts_of p (drafts x))) (sym e) in
+  moved hs t new e step_is stands node nodes parts =
+      let world : goes_on_world run.system.world hs ≡ goes_on_world run.system.world (posts_of p (run.system.ranks p).bound (run.system.ranks p).todo) = ap (goes_on_world run.system.world) (sym e) in
       run_on script ranks size processes frames run p new (Drives p) l (record {
         node = node ∙ ap (λ (w : WorldView). (w.each p).node) world;
         stands = λ m. subst (Stands new) (sym (goes_on-at run.system.ranks p told t step_is)) stands;
@@ -279,23 +278,23 @@ module _ (script : List (List Statement)) (ranks size : ℕ) (processes : List R
   stands_so : (waits : Option ℕ) (todo : List Statement) → r.waits ≡ waits → r.todo ≡ todo → (run.system.ranks p).todo ≡ todo_of waits todo
   stands_so waits todo w t = (run.shows.stands p r at l).todo ∙ λ i. todo_of (w i) (t i)
 
-  lines_so : (text : List ℕ) (line : _) → text ≡ line_text line → r.lines ++ text ∷ [] ≡ map line_text ((run.system.ranks p).lines ++ line ∷ [])
+  lines_so : (text : List ℕ) (line : Line) → text ≡ line_text line → r.lines ++ text ∷ [] ≡ map line_text ((run.system.ranks p).lines ++ line ∷ [])
   lines_so text line e = (λ i. (run.shows.stands p r at l).lines i ++ e i ∷ []) ∙ sym (map-append line_text (run.system.ranks p).lines (line ∷ []))
 
   -- it hears an outcome that its node holds
-  hears : (call : ℕ) (outcome : Outcome) (text : List ℕ) → r.waits ≡ Some call → node_tells r.node call ≡ Some outcome → text ≡ line_text (Told outcome)
+  hears : (call : ℕ) (outcome : Outcome) (text : List ℕ) → r.waits ≡ Some call → node_tells r.node [] call ≡ Some outcome → text ≡ outcome_text outcome
       → IsUnderWay script ranks size (set processes p (record { node = r.node; todo = r.todo; waits = None; lines = r.lines ++ text ∷ [] })) frames
   hears call outcome text w e t =
       let todo = stands_so (Some call) r.todo w refl in
-      let known : told call ≡ Some outcome = ap (λ n. node_tells n call) (sym (run.shows.nodes p r at)) ∙ e in
-      let heard : Act = record { todo = doing r.todo; posts = []; lines = Told outcome ∷ [] } in
-      moved (Await call ∷ doing r.todo) (done (run.system.ranks p) heard) (record { node = r.node; todo = r.todo; waits = None; lines = r.lines ++ text ∷ [] }) todo
-        (ap (λ x. step_by told (run.system.ranks p) (next_of (run.system.ranks p) x)) todo ∙ rw known)
-        (record { todo = refl; lines = lines_so text (Told outcome) t })
+      let known : told [] call ≡ Some outcome = ap (λ n. node_tells n [] call) (sym (run.shows.nodes p r at)) ∙ e in
+      moved [] (done (run.system.ranks p) (heard (run.system.ranks p) [] call (doing r.todo) outcome)) (record { node = r.node; todo = r.todo; waits = None; lines = r.lines ++ text ∷ [] })
+        (ap (posts_of p (run.system.ranks p).bound) todo)
+        (step_hears told (run.system.ranks p) [] call (doing r.todo) outcome todo known)
+        (record { todo = refl; lines = lines_so text (Told [] call outcome) t })
         (run.shows.nodes p r at) (λ q other. refl) refl
 
-  makes_node : (x y : Result Given PostError) (v : ProcessView) (given : Given) → x ≡ Ok given → (makes [] x v).node ≡ post_at [] given v.node
-  makes_node x y v given e = ap (λ z. (makes [] z v).node) e
+  makes_node : (x : Result Given PostError) (v : ProcessView) (given : Given) → x ≡ Ok given → (makes [] x v).node ≡ post_at [] given v.node
+  makes_node x v given e = ap (λ z. (makes [] z v).node) e
 
   -- it posts
   posts_next : (statement : Statement) (rest : List Statement) (given : Given) → r.waits ≡ None → r.todo ≡ statement ∷ rest → checked_on r.node [] (draft_of statement) ≡ Ok given
@@ -307,13 +306,13 @@ module _ (script : List (List Statement)) (ranks size : ℕ) (processes : List R
       let same : r.node ≡ v.node = run.shows.nodes p r at in
       let todo = stands_so None (statement ∷ rest) w t in
       let checked_so : checked_on v.node [] (draft_of statement) ≡ Ok given = ap (λ n. checked_on n [] (draft_of statement)) (sym same) ∙ e in
-      let asked_so = sym (asks_same script ranks run.system c p l statement) ∙ checked_so in
-      let made : Act = record { todo = Await (length local.posts) ∷ doing rest; posts = given ∷ []; lines = [] } in
-      let counted : length local.posts ≡ posted_on r.node [] = ap length (sym (couples_posts script ranks run.system c p)) ∙ sym ((c.holds.processes p).counted []) ∙ ap (λ n. posted_on n []) (sym same) in
-      moved (Do statement ∷ doing rest) (done local made) (record { node = post_at [] given r.node; todo = rest; waits = Some (posted_on r.node []); lines = r.lines }) todo
-        (ap (λ x. step_by told local (next_of local x)) todo ∙ ap (λ x. step_by told local (posts_or_refuses local (doing rest) x)) asked_so)
-        (record { todo = ap (λ k. Await k ∷ doing rest) counted; lines = (run.shows.stands p r at l).lines ∙ ap (map line_text) (sym (append-nil local.lines)) })
-        (ap (post_at [] given) same ∙ sym (makes_node (checked_on v.node [] (draft_of statement)) (Ok given) v given checked_so) ∙ ap (λ (u : ProcessView). u.node) (sym (at_here run.system.world p (posts [] (draft_of statement)))))
+      let m : Made = record { name = []; given = given } in
+      let count : next_call [] local.made ≡ posted_on r.node [] = sym (counted script ranks run.system c p) ∙ ap (λ n. posted_on n []) (sym same) in
+      moved (Posts p [] (draft_of statement) ∷ []) (done local (posted local (doing rest) m)) (record { node = post_at [] given r.node; todo = rest; waits = Some (posted_on r.node []); lines = r.lines })
+        (posts_so script ranks run.system c p statement (doing rest) todo)
+        (step_posts told local statement (doing rest) m todo (attempts_same script ranks run.system c p l statement ∙ ap (made_on []) checked_so))
+        (record { todo = ap (λ k. Await [] k ∷ doing rest) count; lines = (run.shows.stands p r at l).lines ∙ ap (map line_text) (sym (append-nil local.lines)) })
+        (ap (post_at [] given) same ∙ sym (makes_node (checked_on v.node [] (draft_of statement)) v given checked_so) ∙ ap (λ (u : ProcessView). u.node) (sym (at_here run.system.world p (posts [] (draft_of statement)))))
         (λ q other. ap (λ (u : ProcessView). u.node) (each_other run.system.world p (posts [] (draft_of statement)) q other))
         refl
 
@@ -327,16 +326,15 @@ module _ (script : List (List Statement)) (ranks size : ℕ) (processes : List R
       let same : r.node ≡ v.node = run.shows.nodes p r at in
       let todo = stands_so None (statement ∷ rest) w t in
       let checked_so : checked_on v.node [] (draft_of statement) ≡ Err refusal = ap (λ n. checked_on n [] (draft_of statement)) (sym same) ∙ e in
-      let asked_so = sym (asks_same script ranks run.system c p l statement) ∙ checked_so in
-      let turned : Act = record { todo = doing rest; posts = []; lines = Refused refusal ∷ [] } in
-      moved (Do statement ∷ doing rest) (done local turned) (record { node = r.node; todo = rest; waits = None; lines = r.lines ++ text ∷ [] }) todo
-        (ap (λ x. step_by told local (next_of local x)) todo ∙ ap (λ x. step_by told local (posts_or_refuses local (doing rest) x)) asked_so)
+      moved (Posts p [] (draft_of statement) ∷ []) (done local (turned_down local (doing rest) refusal)) (record { node = r.node; todo = rest; waits = None; lines = r.lines ++ text ∷ [] })
+        (posts_so script ranks run.system c p statement (doing rest) todo)
+        (step_refused told local statement (doing rest) refusal todo (attempts_same script ranks run.system c p l statement ∙ ap (made_on []) checked_so))
         (record { todo = refl; lines = lines_so text (Refused refusal) u })
         (same ∙ ap (λ z. (makes [] z v).node) (sym checked_so) ∙ ap (λ (x : ProcessView). x.node) (sym (at_here run.system.world p (posts [] (draft_of statement)))))
         (λ q other. ap (λ (x : ProcessView). x.node) (each_other run.system.world p (posts [] (draft_of statement)) q other))
         refl
 
-pub moves_hears : (r : RankView) (call : ℕ) (outcome : Outcome) (text : List ℕ) → r.waits ≡ Some call → node_tells r.node call ≡ Some outcome → text ≡ line_text (Told outcome) → Moves r (record { node = r.node; todo = r.todo; waits = None; lines = r.lines ++ text ∷ [] })
+pub moves_hears : (r : RankView) (call : ℕ) (outcome : Outcome) (text : List ℕ) → r.waits ≡ Some call → node_tells r.node [] call ≡ Some outcome → text ≡ outcome_text outcome → Moves r (record { node = r.node; todo = r.todo; waits = None; lines = r.lines ++ text ∷ [] })
 moves_hears r call outcome text w e t script ranks size processes frames p l at run = hears script ranks size processes frames p l r at run call outcome text w e t
 
 pub moves_posts : (r : RankView) (statement : Statement) (rest : List Statement) (given : Given) → r.waits ≡ None → r.todo ≡ statement ∷ rest → checked_on r.node [] (draft_of statement) ≡ Ok given
@@ -384,6 +382,15 @@ kept f (y ∷ ys) (suc p) d x l e = ap (λ zs. f y ∷ zs) (kept f ys p d x (ome
 
 pub element : {A B : Type 0} (f : A → B) (xs : List A) (p : ℕ) (d : A) → p < length xs → slice_get (map f xs) p ≡ Some (f (get_or xs p d))
 element f xs p d l = slice_get-map f xs p ∙ ap (option_map f) (slice_get-get_or xs p d l)
+
+-- a vector whose elements were lent has what was written there
+pub written_back : {A : Type 0} (len : ℕ) (old new : List A) → length new ≡ length old → length old ≡ len → take len (new ++ drop (length new) old) ≡ new
+written_back zero [] [] e f = refl
+written_back len [] (x ∷ xs) e f = absurd (omega (arith, e))
+written_back len (y ∷ ys) [] e f = absurd (omega (arith, e))
+written_back zero (y ∷ ys) (x ∷ xs) e f = absurd (omega (arith, f))
+written_back (suc len) [] [] e f = refl
+written_back (suc len) (y ∷ ys) (x ∷ xs) e f = ap (λ zs. x ∷ zs) (written_back len ys xs (omega (arith, e)) (omega (arith, f)))
 
 -- THE START
 

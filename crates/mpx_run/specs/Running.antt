@@ -3,12 +3,10 @@ use Rattle.std.specs.Prelude.{◌≡◌, ℕ, ◌<◌, ◌+◌, ◌*◌, Bool, t
 use Rattle.std.proofs.Common.{set}
 use Rattle.std.specs.List.{All}
 use Rattle.mpx_board.specs.Boards.{Look}
-use Rattle.mpx_node.specs.Nodes.{NodeView, start_node, results_on, next_result, add_result}
+use Rattle.mpx_node.specs.Nodes.{NodeView, start_node, next_result, add_result}
 use Rattle.mpx_node.specs.declared.finished.Finished.{Finished}
 use Rattle.mpx_script.specs.declared.statement.Statement.{Statement}
-use Rattle.mpx_script.specs.Ranks.{Todo, Await, Local, Line, Told, doing}
-use Rattle.mpx_script.specs.Told.{call_at}
-use Rattle.mpx_value.specs.declared.outcomes.Outcome.{Outcome}
+use Rattle.mpx_script.specs.Ranks.{Todo, Await, Local, doing}
 use Rattle.mpx_script.specs.Transcripts.{line_text}
 use Rattle.mpx_run.specs.Systems.{System, Leads, start_system}
 
@@ -20,7 +18,7 @@ pub record RankView : Type 0 where
   pub lines : List (List ℕ)
 
 abbrev pub todo_of : Option ℕ → List Statement → List Todo
-todo_of (Some call) rest = Await call ∷ doing rest
+todo_of (Some call) rest = Await [] call ∷ doing rest
 todo_of None rest = doing rest
 
 abbrev pub awaited : Option ℕ → ℕ

@@ -1,9 +1,10 @@
 //! What is so after every list of doings, as a call that a contract can name: it does nothing.
 ghost use Rattle.std.specs.Prelude.{◌≡◌, ◌≤◌, List, ℕ, []};
 ghost use Rattle.mpx_script.specs.declared.statement.Statement.{Statement};
-ghost use Rattle.mpx_script.specs.Evaluation.{State, IsEvaluation, IsPrefixOf};
+ghost use Rattle.mpx_script.specs.Evaluation.{State, IsEvaluation, IsPrefixOf, statements_of};
+ghost use Rattle.mpx_script.specs.Told.{CarriesOut};
 ghost use Rattle.mpx_world.specs.Soundness.{Sound};
-ghost use Rattle.mpx_run.specs.Systems.{Doing, MayDoAll, TellsResults, does_all, on_world, start_system};
+ghost use Rattle.mpx_run.specs.Systems.{Doing, MayDoAll, TellsResults, does_all, node_tells, start_system};
 
 /// Whatever is sent, lost, repeated or reordered, and in whatever order ranks move: each rank's lines begin its lines in
 /// the evaluation, those of a rank that has nothing left are all of them, each line that tells an outcome tells that of
@@ -16,7 +17,9 @@ pub fn every_run_begins_the_evaluation()
     ensures told { (script : List (List Statement)) (ranks size : ℕ) (doings : List Doing) → MayDoAll ranks (start_system script ranks size) doings
         → (p : ℕ) → TellsResults ((does_all (start_system script ranks size) doings).world.each p).node ((does_all (start_system script ranks size) doings).ranks p) }
     ensures posts { (script : List (List Statement)) (ranks size : ℕ) (doings : List Doing) → MayDoAll ranks (start_system script ranks size) doings
-        → (p : ℕ) → ((does_all (start_system script ranks size) doings).world.each p).made ≡ on_world ((does_all (start_system script ranks size) doings).ranks p).posts }
+        → (p : ℕ) → ((does_all (start_system script ranks size) doings).world.each p).made ≡ ((does_all (start_system script ranks size) doings).ranks p).made }
+    ensures carries_out { (script : List (List Statement)) (ranks size : ℕ) (doings : List Doing) → MayDoAll ranks (start_system script ranks size) doings
+        → (p : ℕ) → CarriesOut (node_tells ((does_all (start_system script ranks size) doings).world.each p).node) (statements_of script p) ((does_all (start_system script ranks size) doings).ranks p) }
     ensures relays { (script : List (List Statement)) (ranks size : ℕ) (doings : List Doing) → MayDoAll ranks (start_system script ranks size) doings
         → (p : ℕ) → ranks ≤ p → ((does_all (start_system script ranks size) doings).world.each p).made ≡ [] }
     ensures sound { (script : List (List Statement)) (ranks size : ℕ) (doings : List Doing) → MayDoAll ranks (start_system script ranks size) doings

@@ -4,7 +4,7 @@ ghost use Rattle.mpx_script.specs.Evaluation.{State, IsEvaluation};
 ghost use Rattle.mpx_script.specs.Reports.{transcripts_of, which};
 ghost use Rattle.mpx_script.specs.Transcripts.{rank_text, text_upto};
 ghost use Rattle.mpx_run.specs.Running.{RankView, is_waiting_at};
-ghost use Rattle.mpx_run.specs.Runs.{AreWhole, Begin, EndsSo, IsRun, lines_at};
+ghost use Rattle.mpx_run.specs.Runs.{AreWhole, Begin, EndsSo, IsReport, IsRun, lines_at};
 ghost use Rattle.mpx_run.specs.Shown.{rank_of};
 
 use crate::end::End;
@@ -39,9 +39,10 @@ pub fn run_sim(alloc: Global, script: &Script, options: &Options) -> Result<Run,
     ensures whole { IfOk result (λ run. (evaluation : State) → IsEvaluation script.now.statements script.now.ranks evaluation → AreWhole (transcripts_of run.report) run.report.waiting.items evaluation) }
 {
     let processes = simulate(alloc, script, options)?;
-    let waiting = waiting_of(alloc, processes.as_slice(), script.ranks())?;
+    let ranks = script.ranks();
+    let waiting = waiting_of(alloc, processes.as_slice(), ranks)?;
     let (mut transcripts, nodes) = parts_of(alloc, processes)?;
-    transcripts.truncate(script.ranks() as usize);
+    transcripts.truncate(ranks as usize);
     Ok(Run {
         report: Report {
             transcripts,
@@ -92,14 +93,33 @@ fn parts_of(
     Ok((transcripts, nodes))
 }
 
-/// The lines of all ranks, each as `RANK: LINE`, rank by rank.
-pub(crate) fn text_of(alloc: Global, report: &Report) -> Result<String, OutOfMemory>
-    requires { length (transcripts_of report.now) ≤ 64 }
-    ensures { IfOk result (λ text. string_bytes text ≡ text_upto (lines_at (transcripts_of report.now)) (length (transcripts_of report.now))) }
+/// The text of a run, and how it ended.
+#[derive(Drop)]
+pub(crate) struct Printed {
+    pub(crate) text: String,
+    pub(crate) end: End,
+}
+
+/// The lines of all ranks of a run, each as `RANK: LINE`, rank by rank, and who waits.
+pub(crate) fn print(alloc: Global, script: &Script, options: &Options) -> Result<Printed, OutOfMemory>
+    requires { script.now.ranks + options.now.relays ≤ 64 }
+    ensures { IfOk result (λ printed. IsReport script.now options.now.relays printed.end (string_bytes printed.text)) }
+{
+    let run = run_sim(alloc, script, options)?;
+    let ranks = script.ranks();
+    let text = text_of(alloc, &run.report, ranks)?;
+    let end = end_of(run.report.waiting);
+    Ok(Printed { text, end })
+}
+
+// The lines of all ranks.
+fn text_of(alloc: Global, report: &Report, ranks: u8) -> Result<String, OutOfMemory>
+    requires { ranks ≤ length (transcripts_of report.now) }
+    ensures { IfOk result (λ text. string_bytes text ≡ text_upto (lines_at (transcripts_of report.now)) ranks) }
 {
     let mut text = String::new(alloc);
-    for p in 0..report.transcripts.len() {
-        push_lines(&mut text, p as u8, report.transcripts[p].as_slice())?;
+    for p in 0..ranks {
+        push_lines(&mut text, p, report.transcripts[p as usize].as_slice())?;
     }
     Ok(text)
 }
@@ -117,8 +137,8 @@ fn push_lines(text: &mut String, rank: u8, lines: &[String]) -> Result<(), OutOf
     Ok(())
 }
 
-/// Whether all are done, or who waits.
-pub(crate) fn end_of(waiting: Vec<u8>) -> End
+// Whether all are done, or who waits.
+fn end_of(waiting: Vec<u8>) -> End
     ensures { EndsSo result waiting.items }
 {
     if waiting.is_empty() {

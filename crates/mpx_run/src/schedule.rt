@@ -84,8 +84,8 @@ impl Schedule {
     }
 
     /// Brings items into an order that is drawn.
-    pub(crate) fn shuffle<T>(&mut self, items: &mut [T])
-        ensures { IsPermutation items.old items.new }
+    pub(crate) fn shuffle<T>(&mut self, items: &mut Vec<T>)
+        ensures { IsPermutation items.old.items items.new.items }
     {
         shuffle(&mut self.words, items);
     }
@@ -100,8 +100,8 @@ fn below(words: &mut Pcg32, limit: usize) -> usize
 }
 
 // Each place gets one of the items that the places before it have left.
-fn shuffle<T>(words: &mut Pcg32, items: &mut [T])
-    ensures { IsPermutation items.old items.new }
+fn shuffle<T>(words: &mut Pcg32, items: &mut Vec<T>)
+    ensures { IsPermutation items.old.items items.new.items }
 {
     for i in 0..items.len() {
         let j = i + below(words, items.len() - i);

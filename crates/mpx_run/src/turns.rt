@@ -33,12 +33,11 @@ pub(crate) fn simulate<'a>(
     let mut processes = start(alloc, script, options.relays)?;
     let mut schedule = Schedule::new(alloc, options.seed, options.loss, processes.len())?;
     let mut frames = Vec::new(alloc);
-    let ranks = script.ranks() as usize;
     for number in 0..options.turns {
         let goes_on = turn(
             alloc,
             &mut processes,
-            ranks,
+            script.ranks() as usize,
             &mut frames,
             &mut schedule,
             number,
@@ -58,38 +57,38 @@ pub(crate) fn simulate<'a>(
 fn turn(
     alloc: Global,
     processes: &mut [Rank<'_>],
-    ranks: usize,
+    count: usize,
     frames: &mut Vec<Frame>,
     schedule: &mut Schedule,
     number: u32,
 ) -> Result<bool, OutOfMemory>
-    requires { ranks ≤ length processes.old }
-    ensures { OnOk result ((script : List (List Said)) (size : ℕ) → IsUnderWay script ranks size (map rank_of processes.old) (map part_of frames.old.items)
+    requires { count ≤ length processes.old }
+    ensures { OnOk result ((script : List (List Said)) (ranks size : ℕ) → count ≤ ranks → IsUnderWay script ranks size (map rank_of processes.old) (map part_of frames.old.items)
         → IsUnderWay script ranks size (map rank_of processes.new) (map part_of frames.new.items)) }
 {
-    let moved = go_round(alloc, processes, ranks)?;
+    let moved = go_round(alloc, processes, count)?;
     let pruned = prune_all(alloc, processes);
-    if are_finished(processes, ranks) {
+    if are_finished(processes, count) {
         return Ok(false);
     }
     if !moved && !pruned && (schedule.loses_all() || are_same(processes)) {
         return Ok(false);
     }
     send_all(alloc, processes, frames, schedule, number)?;
-    schedule.shuffle(frames.as_mut_slice());
+    schedule.shuffle(frames);
     deliver(alloc, processes, frames.as_slice(), u64::from(number))?;
     keep_some(frames, schedule, u64::from(number));
     Ok(true)
 }
 
 // Every rank in order goes on until it must wait. It answers whether one moved.
-fn go_round(alloc: Global, processes: &mut [Rank<'_>], ranks: usize) -> Result<bool, OutOfMemory>
-    requires { ranks ≤ length processes.old }
-    ensures { OnOk result ((script : List (List Said)) (size : ℕ) (frames : List Look) → IsUnderWay script ranks size (map rank_of processes.old) frames
+fn go_round(alloc: Global, processes: &mut [Rank<'_>], count: usize) -> Result<bool, OutOfMemory>
+    requires { count ≤ length processes.old }
+    ensures { OnOk result ((script : List (List Said)) (ranks size : ℕ) (frames : List Look) → count ≤ ranks → IsUnderWay script ranks size (map rank_of processes.old) frames
         → IsUnderWay script ranks size (map rank_of processes.new) frames) }
 {
     let mut changed = false;
-    for p in 0..ranks {
+    for p in 0..count {
         let moved = processes[p].go_on(alloc)?;
         changed |= moved;
     }
@@ -110,10 +109,10 @@ fn prune_all(alloc: Global, processes: &mut [Rank<'_>]) -> bool
 }
 
 // Whether every rank has finished.
-fn are_finished(processes: &[Rank<'_>], ranks: usize) -> bool
-    requires { ranks ≤ length processes.now }
+fn are_finished(processes: &[Rank<'_>], count: usize) -> bool
+    requires { count ≤ length processes.now }
 {
-    for p in 0..ranks {
+    for p in 0..count {
         if processes[p].is_waiting() {
             return false;
         }
@@ -205,13 +204,13 @@ fn keep_some(frames: &mut Vec<Frame>, schedule: &mut Schedule, turn: u64)
     ensures { (script : List (List Said)) (ranks size : ℕ) (processes : List RankView) → IsUnderWay script ranks size processes (map part_of frames.old.items)
         → IsUnderWay script ranks size processes (map part_of frames.new.items) }
 {
-    delay_some(frames.as_mut_slice(), schedule, turn);
+    delay_some(frames, schedule, turn);
     frames.retain(|frame| frame.turn > turn);
 }
 
 // One in four of the turn's frames comes again.
-fn delay_some(frames: &mut [Frame], schedule: &mut Schedule, turn: u64)
-    ensures { map part_of frames.new ≡ map part_of frames.old }
+fn delay_some(frames: &mut Vec<Frame>, schedule: &mut Schedule, turn: u64)
+    ensures { map part_of frames.new.items ≡ map part_of frames.old.items }
 {
     for i in 0..frames.len() {
         delay(&mut frames[i], schedule, turn);

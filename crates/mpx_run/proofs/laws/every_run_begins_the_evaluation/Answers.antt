@@ -1,10 +1,10 @@
-use Rattle.std.proofs.Common.{◌≡◌, ◌∙◌, ℕ, List, ap}
+use Rattle.std.proofs.Common.{◌≡◌, ◌∙◌, ℕ, List}
 use Rattle.mpx_world.proofs.Steps.{sound_of}
 use Rattle.mpx_script.specs.declared.statement.Statement.{Statement}
 use Rattle.mpx_script.specs.Evaluation.{known}
 use Rattle.mpx_script.proofs.Ways.{way-adds}
 use Rattle.mpx_script.proofs.Ahead.{on_way-reached, finished}
-use Rattle.mpx_run.specs.Systems.{Doing, MayDoAll, does_all, on_world, start_system}
+use Rattle.mpx_run.specs.Systems.{Doing, MayDoAll, does_all, start_system}
 use Rattle.mpx_run.proofs.Coupling.{Couples, couples_all, couples_start, tells_results}
 use Rattle.mpx_run.proofs.laws.every_run_begins_the_evaluation.Goals as goal
 
@@ -24,7 +24,10 @@ pub returns-clause-posts : goal.returns-clause-posts
 returns-clause-posts c script ranks size doings m p = (coupled script ranks size doings m).made p
 
 pub returns-clause-relays : goal.returns-clause-relays
-returns-clause-relays c script ranks size doings m p over = (coupled script ranks size doings m).made p ∙ ap on_world ((coupled script ranks size doings m).relays p over)
+returns-clause-relays c script ranks size doings m p over = (coupled script ranks size doings m).made p ∙ (coupled script ranks size doings m).relays p over
+
+pub returns-clause-carries_out : goal.returns-clause-carries_out
+returns-clause-carries_out c script ranks size doings m p = (coupled script ranks size doings m).told p
 
 pub returns-clause-sound : goal.returns-clause-sound
 returns-clause-sound c script ranks size doings m = sound_of (does_all (start_system script ranks size) doings).world (coupled script ranks size doings m).holds
