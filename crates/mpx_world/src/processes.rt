@@ -45,8 +45,10 @@ impl Processes {
 
     // The events in order, with a reply for each. An event that is refused changes nothing.
     pub fn run(&mut self, alloc: Global, events: &[Event]) -> Result<Vec<Reply>, Stopped>
-        ensures ok { IfOk result (λ replies. (w : WorldView) → Shows self.old w → RunsAll events.now replies.items self.new w) }
-        ensures stopped { IfErr result (λ stopped. (w : WorldView) → Shows self.old w → StopsAt stopped.at events.now self.new w) }
+        ensures ok { IfOk result (λ replies. (w : WorldView) → Shows self.old w
+            → RunsAll events.now replies.items self.new w) }
+        ensures stopped { IfErr result (λ stopped. (w : WorldView) → Shows self.old w
+            → StopsAt stopped.at events.now self.new w) }
     {
         let mut replies = Vec::new(alloc);
         for at in 0..events.len() {
@@ -73,7 +75,8 @@ impl Processes {
         replies: &mut Vec<Reply>,
     ) -> Result<(), OutOfMemory>
         ensures ok { OnOk result ((w : WorldView) → Shows self.old w → Shows self.new (does w event.now)) }
-        ensures answered { OnOk result ((w : WorldView) → Shows self.old w → replies.new.items ≡ replies.old.items ++ reply_to w event.now ∷ []) }
+        ensures answered { OnOk result ((w : WorldView) → Shows self.old w
+            → replies.new.items ≡ replies.old.items ++ reply_to w event.now ∷ []) }
         ensures err { OnErr result ((w : WorldView) → Shows self.old w → Shows self.new w) }
     {
         replies.reserve(1)?;

@@ -51,8 +51,8 @@ fn a_part_taken_twice(rt: HostRuntime) -> Result<(), Fail> {
 // the parts in each order.
 fn seven_calls(alloc: Global) -> Result<World, Fail> {
     let mut world = World::new(alloc, 1, 3)?;
-    for item in 0..7 {
-        replies(alloc, &mut world, &[post(alloc, 0, item)?])?;
+    for item in 0..7u8 {
+        replies(alloc, &mut world, &[post(alloc, 0, i128::from(item))?])?;
     }
     replies(alloc, &mut world, &[send(0)])?;
     for _ in 0..5 {
