@@ -1,7 +1,7 @@
 -- The words of a call, and the job that they ask for.
-use Rattle.std.specs.Prelude.{List, Option, true, codes, option_map}
+use Rattle.std.specs.Prelude.{◌≡◌, List, [], ◌∷◌, Option, Some, None, true, codes}
 use Rattle.clap.specs.Walk.{Text}
-use Rattle.clap.specs.Simple.{App, new_app, new_shape, on_top, subcommand_of, with_subcommand}
+use Rattle.clap.specs.Simple.{App, new_app, new_shape, on_top, with_subcommand}
 use Rattle.gossipmpi.specs.declared.command.Job.{Job}
 use Rattle.gossipmpi.specs.declared.command.Job.TheVariants.{Run}
 
@@ -12,10 +12,15 @@ program_app = with_subcommand
     (new_app (codes "gossipmpi")))
     (new_shape (codes "run"))
 
--- the command that clap enters at the words
-abbrev pub command_at : List Text → Option Text
-command_at words = option_map (λ p. p.0) (subcommand_of program_app words)
-
 -- the word of a job
 abbrev pub word_of : Job → Text
 word_of Run = codes "run"
+
+-- the program's name and a job's word, and nothing else
+abbrev pub AsksFor : List Text → Job → Type 0
+AsksFor words job = (name : Text) × (words ≡ name ∷ word_of job ∷ [])
+
+-- the second of two words, where there are just two
+abbrev pub second_of_two : List Text → Option Text
+second_of_two (name ∷ word ∷ []) = Some word
+second_of_two words = None

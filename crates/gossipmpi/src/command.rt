@@ -1,7 +1,7 @@
 //! The words of a call, and the job that they ask for.
-ghost use Rattle.std.specs.Prelude.{◌≡◌, ◌∷◌, [], IfErr, IfOk, List, Some, codes, map, string_bytes, ℕ};
+ghost use Rattle.std.specs.Prelude.{◌≡◌, ◌⊎◌, IfErr, IfOk, map, option_map, string_bytes};
 ghost use Rattle.clap.specs.Words.{app_of, kind_of};
-ghost use Rattle.gossipmpi.specs.Words.{command_at, program_app, word_of};
+ghost use Rattle.gossipmpi.specs.Words.{AsksFor, program_app, second_of_two};
 
 use clap::error::ErrorKind;
 use clap::{Command, Error};
@@ -29,28 +29,46 @@ fn program<'a>(alloc: Global) -> Result<Command<'a>, AllocError>
         .subcommand(run)
 }
 
-/// The job that `words` ask for, of which the first is the program's own name. A refusal has clap's
-/// text, or is want of memory.
+/// The job that `words` ask for, of which the first is the program's own name and the second, the last, the command's.
+/// A refusal has clap's text, or is want of memory.
 pub fn job_of<'a>(alloc: Global, words: &'a [String]) -> Result<Job, Error>
-    ensures ok { IfOk result (λ job. command_at (map string_bytes words.entry.now) ≡ Some (word_of job)) }
-    ensures run { IfErr result (λ e. (name : List ℕ) → map string_bytes words.entry.now ≡ name ∷ codes "run" ∷ []
-        → kind_of e ≡ ErrorKind.OutOfMemory) }
+    ensures ok { IfOk result (λ job. AsksFor (map string_bytes words.entry.now) job) }
+    ensures run { IfErr result (λ e. AsksFor (map string_bytes words.entry.now) Job.Run → kind_of e ≡ ErrorKind.OutOfMemory) }
 {
     match program(alloc)?.try_get_matches_from(words) {
-        Ok(matches) => match matches.subcommand_name() {
+        Ok(_) => match only_word(words) {
             Some("run") => Ok(Job::Run),
-            _ => Err(no_command(alloc)),
+            _ => Err(not_alone(alloc)),
         },
         Err(refusal) => Err(refusal),
     }
 }
 
-fn no_command(alloc: Global) -> Error {
-    refusal(alloc, ErrorKind::MissingSubcommand, "there is no command")
+// The word after the program's name, where it is the last.
+fn only_word(words: &[String]) -> Option<&str>
+    ensures { option_map (λ word. word.now) result ≡ second_of_two (map string_bytes words.now) }
+{
+    match words {
+        [_, word] => Some(word.as_str()),
+        _ => None,
+    }
+}
+
+// The refusal of words that clap takes, as `run --`, but that aren't one command's name alone.
+fn not_alone(alloc: Global) -> Error
+    ensures { (kind_of result ≡ ErrorKind.UnknownArgument) ⊎ (kind_of result ≡ ErrorKind.OutOfMemory) }
+{
+    refusal(
+        alloc,
+        ErrorKind::UnknownArgument,
+        "nothing stands beside a command",
+    )
 }
 
 /// The refusal of words of which one is no text.
-pub fn not_text(alloc: Global) -> Error {
+pub fn not_text(alloc: Global) -> Error
+    ensures { (kind_of result ≡ ErrorKind.InvalidValue) ⊎ (kind_of result ≡ ErrorKind.OutOfMemory) }
+{
     refusal(
         alloc,
         ErrorKind::InvalidValue,
@@ -58,7 +76,9 @@ pub fn not_text(alloc: Global) -> Error {
     )
 }
 
-fn refusal(alloc: Global, kind: ErrorKind, message: &str) -> Error {
+fn refusal(alloc: Global, kind: ErrorKind, message: &str) -> Error
+    ensures { (kind_of result ≡ kind) ⊎ (kind_of result ≡ ErrorKind.OutOfMemory) }
+{
     match program(alloc) {
         Ok(mut commands) => match commands.error(kind, message) {
             Ok(error) => error,

@@ -3,39 +3,38 @@
 #![tactic(auto)]
 
 mod command;
+mod job;
 mod status;
 #[cfg(test)]
 mod tests;
 
-use command::Job;
-use mpx_run::run_text;
+use command::not_text;
+use job::{refuse, run_job};
 use std::alloc::AllocError;
 use std::process::ExitCode;
 use std::{env, io};
 
-/// The job that the words of the call ask for.
-fn asked_job(rt: &HostRuntime) -> Result<Job, clap::Error> {
+/// The words of the call.
+fn words_of(rt: &HostRuntime) -> Result<Vec<String>, clap::Error> {
     match env::args(rt) {
-        Ok(args) => {
-            let words: Vec<String> = args.collect(rt.alloc())?;
-            command::job_of(rt.alloc(), words.as_slice())
-        }
+        Ok(args) => Ok(args.collect(rt.alloc())?),
         Err(error) if error.kind() == io::ErrorKind::OutOfMemory => Err(AllocError.into()),
-        Err(_) => Err(command::not_text(rt.alloc())),
+        Err(_) => Err(not_text(rt.alloc())),
     }
 }
 
 /// What fails on the standard error is let go: the status stands.
 fn main(rt: HostRuntime) -> ExitCode {
-    match asked_job(&rt) {
-        Ok(Job::Run) => {
-            let answer = run_text(rt.alloc(), &mut rt.reader(), &mut io::writer(&rt));
-            let _ = status::write_message(&answer, &mut rt.stderr());
-            ExitCode::from(status::status_of(&answer))
-        }
-        Err(refusal) => {
-            let _ = status::print_refusal(&rt, &refusal);
-            ExitCode::from(status::refusal_status(&refusal))
-        }
-    }
+    let err = &mut rt.stderr();
+    let exit = match words_of(&rt) {
+        Ok(words) => run_job(
+            rt.alloc(),
+            &words,
+            &mut rt.reader(),
+            &mut io::writer(&rt),
+            err,
+        ),
+        Err(refusal) => refuse(&refusal, err),
+    };
+    ExitCode::from(exit.status)
 }

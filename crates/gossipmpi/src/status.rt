@@ -1,7 +1,8 @@
 //! What the program says on the standard error, and its exit status.
-ghost use Rattle.std.specs.Prelude.{◌≡◌};
+ghost use Rattle.std.specs.Prelude.{◌≡◌, OnOk, codes};
+ghost use Rattle.std.specs.Io.KnownBytes.{Appends};
 ghost use Rattle.clap.specs.Words.{kind_of};
-ghost use Rattle.gossipmpi.specs.Status.{refusal_status, status};
+ghost use Rattle.gossipmpi.specs.Status.{message, refusal_status, status, waiting_text};
 
 use clap::error::ErrorKind;
 use mpx_run::{End, RunError};
@@ -31,55 +32,36 @@ pub fn refusal_status(refusal: &clap::Error) -> u8
     }
 }
 
-/// Writes what the standard error is told of a run: nothing where all ranks finished.
-pub fn write_message<W: Write>(answer: &Result<End, RunError>, writer: &mut W) -> io::Result<()> {
+/// Writes what the standard error is told of a run: nothing where all ranks finished. After an error of the writer a
+/// part of it may be out.
+pub fn write_message<W: Write>(answer: &Result<End, RunError>, writer: &mut W) -> io::Result<()>
+    ensures { OnOk result (Appends (W.contents writer.old) (W.contents writer.new) (message answer.now)) }
+{
     match answer {
         Ok(End::Finished) => Ok(()),
-        Ok(End::Waiting(ranks)) => {
-            write!(writer, "waiting:")?;
-            for rank in ranks {
-                write!(writer, " {rank}")?;
-            }
-            writeln!(writer)
-        }
+        Ok(End::Waiting(ranks)) => write_waiting(ranks, writer),
         Err(error) => writeln!(writer, "{error}"),
     }
 }
 
-/// Prints clap's text where clap prints it: help on the standard output, else the standard error.
-pub fn print_refusal<R: Print + Eprint>(rt: &R, refusal: &clap::Error) -> io::Result<()> {
-    match refusal.kind() {
-        ErrorKind::OutOfMemory => eprintln!(rt; "out of memory"),
-        _ => refusal.print(rt),
+// Writes the line of the ranks that wait.
+fn write_waiting<W: Write>(ranks: &[u8], writer: &mut W) -> io::Result<()>
+    ensures { OnOk result (Appends (W.contents writer.old) (W.contents writer.new) (waiting_text ranks.now)) }
+{
+    writer.write_all(b"waiting:")?;
+    for rank in ranks {
+        write!(writer, " {rank}")?;
     }
+    writer.write_all(b"\n")
 }
 
-#[cfg(test)]
-mod tests {
-    use super::write_message;
-    use mpx_run::{End, RunError};
-    use std::test::Fail;
-
-    #[test]
-    fn names_the_waiting_ranks(rt: HostRuntime) -> Result<(), Fail> {
-        let answer = Ok(End::Waiting(vec![in rt.alloc(); 0, 2, 10]?));
-        let mut text = Vec::new(rt.alloc());
-        write_message(&answer, &mut text)?;
-        assert_eq!(rt; text.as_slice(), b"waiting: 0 2 10\n".as_slice());
-        Ok(())
-    }
-
-    #[test]
-    fn names_the_faults(rt: HostRuntime) -> Result<(), Fail> {
-        let mut text = Vec::new(rt.alloc());
-        write_message(&Ok(End::Finished), &mut text)?;
-        write_message(&Err(RunError::Memory), &mut text)?;
-        write_message(&Err(RunError::Read), &mut text)?;
-        write_message(&Err(RunError::Write), &mut text)?;
-        assert_eq!(rt;
-            text.as_slice(),
-            b"out of memory\nread fault\nwrite fault\n".as_slice()
-        );
-        Ok(())
+/// Writes clap's text of a refusal, or `out of memory`. No clause says what clap's text is.
+pub fn write_refusal<W: Write>(refusal: &clap::Error, writer: &mut W) -> io::Result<()>
+    ensures { kind_of refusal.now ≡ ErrorKind.OutOfMemory
+        → OnOk result (Appends (W.contents writer.old) (W.contents writer.new) (codes "out of memory\n")) }
+{
+    match refusal.kind() {
+        ErrorKind::OutOfMemory => writer.write_all(b"out of memory\n"),
+        _ => write!(writer, "{refusal}"),
     }
 }

@@ -7,8 +7,6 @@ use Rattle.std.proofs.Math.Nat.{min-le_left, min-le_right, le-min}
 use Rattle.std.specs.Prelude.{min, Result, Err, OnErr}
 use Rattle.std.proofs.Math.Seq.{take-add, take-append_seam}
 use Rattle.std.proofs.Common.{Ok}
-use Rattle.mpx_script.specs.ScriptView.{ScriptView}
-use Rattle.mpx_script.specs.Reading.{reading}
 use Rattle.mpx_run.specs.declared.end.End.{End}
 use Rattle.mpx_script.specs.Words.{bytes_limit}
 use Rattle.mpx_run.specs.Texts.{Prints, TakesInput, TakesPart, Runs}

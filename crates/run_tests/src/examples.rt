@@ -1,6 +1,6 @@
 //! The scripts of `examples/` with their transcripts, in the order of their names. The transcripts are from
 //! `bench/reference.py`.
-use super::{Row, check_runs};
+use crate::making::{Came, Row, check_runs};
 use std::test::Fail;
 
 #[test]
@@ -9,61 +9,61 @@ fn exchanges(rt: HostRuntime) -> Result<(), Fail> {
         // allgather.job
         (
             b"# Every rank gets what all give, in rank order.\nranks 2\n0: allgather world 2int 7 0 8 1\n1: allgather world 2int 9 2 6 3\n",
-            0,
+            Came::Finished,
             b"0: 7 0 8 1 9 2 6 3\n1: 7 0 8 1 9 2 6 3\n",
         ),
         // allgatherv.job
         (
             b"# As allgather, with another number of items from each rank, which all know.\nranks 3\n0: allgatherv world i8 1,2,0 -1\n1: allgatherv world i8 1,2,0 2 3\n2: allgatherv world i8 1,2,0\n",
-            0,
+            Came::Finished,
             b"0: -1 2 3\n1: -1 2 3\n2: -1 2 3\n",
         ),
         // alltoall.job
         (
             b"# Rank j's block i goes to rank i, which gets them in rank order.\nranks 2\n0: alltoall world i16 1 1 2\n1: alltoall world i16 1 3 4\n",
-            0,
+            Came::Finished,
             b"0: 1 3\n1: 2 4\n",
         ),
         // alltoallv.job
         (
             b"# As alltoall, with a number of items for each pair of ranks.\nranks 2\n0: alltoallv world u32 1,2 1,0 5 6 7\n1: alltoallv world u32 0,1 2,1 8\n",
-            0,
+            Came::Finished,
             b"0: 5\n1: 6 7 8\n",
         ),
         // barrier.job
         (
             b"# Every rank waits for all others; a barrier gives nothing.\nranks 3\n*: barrier world\n",
-            0,
+            Came::Finished,
             b"0: ok\n1: ok\n2: ok\n",
         ),
         // bcast.job
         (
             b"# Rank 1 gives its two numbers to all. COUNT is how many items come, at every rank.\nranks 3\n0: bcast world 1 i32 2\n1: bcast world 1 i32 2 -7 8\n2: bcast world 1 i32 2\n",
-            0,
+            Came::Finished,
             b"0: -7 8\n1: -7 8\n2: -7 8\n",
         ),
         // gather.job
         (
             b"# The root, rank 2, gets what all give, in rank order; the others get nothing.\nranks 3\n0: gather world 2 u8 1 2\n1: gather world 2 u8 3 4\n2: gather world 2 u8 5 6\n",
-            0,
+            Came::Finished,
             b"0: ok\n1: ok\n2: 1 2 3 4 5 6\n",
         ),
         // gatherv.job
         (
             b"# The root tells how many items each rank gives; elsewhere the list is `-`.\nranks 3\n0: gatherv world 0 i16 1,0,2 10\n1: gatherv world 0 i16 -\n2: gatherv world 0 i16 - 30 31\n",
-            0,
+            Came::Finished,
             b"0: 10 30 31\n1: ok\n2: ok\n",
         ),
         // scatter.job
         (
             b"# The root cuts its items into one block of COUNT items for each rank.\nranks 3\n0: scatter world 0 u16 2 1 2 3 4 5 6\n1: scatter world 0 u16 2\n2: scatter world 0 u16 2\n",
-            0,
+            Came::Finished,
             b"0: 1 2\n1: 3 4\n2: 5 6\n",
         ),
         // scatterv.job
         (
             b"# The root tells each block's number of items; each rank tells how many it awaits.\nranks 3\n0: scatterv world 1 i64 - 2\n1: scatterv world 1 i64 2,0,1 0 5 6 7\n2: scatterv world 1 i64 - 1\n",
-            0,
+            Came::Finished,
             b"0: 5 6\n1: empty\n2: 7\n",
         ),
     ];
@@ -77,55 +77,55 @@ fn reductions(rt: HostRuntime) -> Result<(), Fail> {
         // bits.job
         (
             b"# Numbers as truth and as bits; what one rank alone gives is left as it is.\nranks 2\n0: allreduce world land u8 5 0\n1: allreduce world land u8 2 3\n0: allreduce world band u8 5 255\n1: allreduce world band u8 6 129\n0: scan world lxor i8 5\n1: scan world lxor i8 -1\n",
-            0,
+            Came::Finished,
             b"0: 1 0\n0: 4 129\n0: 5\n1: 1 0\n1: 4 129\n1: 0\n",
         ),
         // exscan.job
         (
             b"# Rank i gets the sums of what the ranks below it give; there is none for rank 0.\nranks 3\n0: exscan world sum i32 5\n1: exscan world sum i32 6\n2: exscan world sum i32 7\n",
-            0,
+            Came::Finished,
             b"0: none\n1: 5\n2: 11\n",
         ),
         // locations.job
         (
             b"# The greatest value and where it is: of equal values the lesser index.\nranks 3\n0: allreduce world maxloc 2int 7 2\n1: allreduce world maxloc 2int 9 5\n2: allreduce world maxloc 2int 9 3\n",
-            0,
+            Came::Finished,
             b"0: 9 3\n1: 9 3\n2: 9 3\n",
         ),
         // reduce.job
         (
             b"# The root gets the greatest of what all give, item by item; the others get nothing.\nranks 3\n0: reduce world 1 max i32 3 -9\n1: reduce world 1 max i32 -4 -8\n2: reduce world 1 max i32 2 -10\n",
-            0,
+            Came::Finished,
             b"0: ok\n1: 3 -8\n2: ok\n",
         ),
         // reduce_scatter.job
         (
             b"# As reduce_scatter_block, with another number of items for each rank.\nranks 2\n0: reduce_scatter world sum i32 1,2 1 2 3\n1: reduce_scatter world sum i32 1,2 10 20 30\n",
-            0,
+            Came::Finished,
             b"0: 11\n1: 22 33\n",
         ),
         // reduce_scatter_block.job
         (
             b"# The sums of what all give, cut into blocks of COUNT items: rank i gets block i.\nranks 2\n0: reduce_scatter_block world sum u8 2 250 1 2 3\n1: reduce_scatter_block world sum u8 2 10 20 30 40\n",
-            0,
+            Came::Finished,
             b"0: 4 21\n1: 32 43\n",
         ),
         // scan.job
         (
             b"# Rank i gets the products of what ranks 0 to i give.\nranks 4\n0: scan world prod i64 2\n1: scan world prod i64 3\n2: scan world prod i64 5\n3: scan world prod i64 7\n",
-            0,
+            Came::Finished,
             b"0: 2\n1: 6\n2: 30\n3: 210\n",
         ),
         // three_ranks.job
         (
             b"# Three ranks add two numbers each; every rank gets both sums.\nranks 3\n0: allreduce world sum i64 1 2\n1: allreduce world sum i64 3 4\n2: allreduce world sum i64 5 6\n",
-            0,
+            Came::Finished,
             b"0: 9 12\n1: 9 12\n2: 9 12\n",
         ),
         // wraps.job
         (
             b"# Sums are brought into the range of i64; an item past the range is refused, and the rank goes on.\nranks 2\n0: allreduce world sum i64 9223372036854775807\n1: allreduce world sum i64 1\n0: allreduce world sum i64 9223372036854775808\n*: allreduce world sum i64 20\n",
-            0,
+            Came::Finished,
             b"0: -9223372036854775808\n0: refused ItemOutOfRange\n0: 40\n1: -9223372036854775808\n1: 40\n",
         ),
     ];
@@ -139,25 +139,25 @@ fn what_does_not_fit(rt: HostRuntime) -> Result<(), Fail> {
         // everyone.job
         (
             b"# A line for every rank at once, and one rank that differs in how many items it gives.\nranks 4\n*: allreduce world sum i64 10\n0: allreduce world sum i64 1 2\n1: allreduce world sum i64 1 2\n2: allreduce world sum i64 1\n3: allreduce world sum i64 1 2\n*: allreduce world sum i64 -5\n",
-            0,
+            Came::Finished,
             b"0: 40\n0: fault Amount at 2\n0: -20\n1: 40\n1: fault Amount at 2\n1: -20\n2: 40\n2: fault Amount at 2\n2: -20\n3: 40\n3: fault Amount at 2\n3: -20\n",
         ),
         // mismatch.job
         (
             b"# Calls that don't fit together: every rank is told the same, and the next call goes on.\nranks 2\n0: barrier world\n1: allreduce world sum i32 8\n*: allreduce world sum i32 1\n0: bcast world 0 i32 1 4\n1: bcast world 1 i32 1 4\n0: gather world 0 i32 1 2\n1: gather world 0 i32 1\n*: barrier world\n",
-            0,
+            Came::Finished,
             b"0: fault Kind at 1\n0: 2\n0: fault Root at 1\n0: fault Amount at 1\n0: ok\n1: fault Kind at 1\n1: 2\n1: fault Root at 1\n1: fault Amount at 1\n1: ok\n",
         ),
         // refused.job
         (
             b"# Posts that are refused: the rank is told why, and its next statement is its next call.\nranks 2\n0: bcast world 2 i32 1\n0: reduce world 0 maxloc i32 1\n0: alltoallv world i32 1,2 1 5 6 7\n0: bcast world 0 i8 4096\n0: allgather world i8 128\n0: bcast world 0 i8 4097\n*: barrier world\n",
-            0,
+            Came::Finished,
             b"0: refused RootOutOfRange\n0: refused OpNotForType\n0: refused CountsLength\n0: refused ItemsLength\n0: refused ItemOutOfRange\n0: refused TooManyItems\n0: ok\n1: ok\n",
         ),
         // waits.job
         (
             b"# Rank 1 never posts its second call, so rank 0 waits for it: the run ends with status 3.\nranks 2\n*: allreduce world sum i64 4\n0: allreduce world sum i64 7\n",
-            3,
+            Came::Waiting,
             b"0: 8\n1: 8\n",
         ),
     ];

@@ -1,0 +1,15 @@
+//! Tests of whole runs with values from outside: the example scripts, each kind of call at 3 and at 64 ranks, a long
+//! script, and readers and writers that fail. They stand in a crate of their own, so that the crates below are proved
+//! once.
+#![tactic(auto)]
+
+#[cfg(test)]
+mod examples;
+#[cfg(test)]
+mod kinds;
+#[cfg(test)]
+mod making;
+#[cfg(test)]
+mod runs;
+#[cfg(test)]
+mod streams;
