@@ -111,14 +111,34 @@ fn number_within(least: u64, most: u64, word: &[u8]) -> Option<u64>
 // The program's commands, as clap explains them.
 fn program<'a>(alloc: Global) -> Result<Command<'a>, AllocError> {
     let run = Command::new(alloc, "run")
-        .about("Run the job script on standard input and print each rank's transcript")
-        .arg(Arg::new(alloc, "seed").long("seed").help("What all draws follow from [default: 1]"))?
-        .arg(Arg::new(alloc, "loss").long("loss").help("How many frames of a hundred are lost [default: 0]"))?
-        .arg(Arg::new(alloc, "relays").long("relays").help("How many processes only carry frames, 0 to 63 [default: 0]"))?
-        .arg(Arg::new(alloc, "turns").long("turns").help("How many turns are made at most, 1 to 10000000 [default: 100000]"))?;
+        .about(
+            "Run the script on the standard input (gossipmpi run < SCRIPT) and print what each rank gets",
+        )
+        .arg(
+            Arg::new(alloc, "seed").long("seed").help(
+                "What loss, order and receivers are drawn from, 0 to 18446744073709551615 [default: 1]",
+            ),
+        )?
+        .arg(
+            Arg::new(alloc, "loss").long("loss").help(
+                "How many frames of a hundred are lost, 0 to 100 [default: 0]",
+            ),
+        )?
+        .arg(
+            Arg::new(alloc, "relays").long("relays").help(
+                "How many processes only carry frames, 0 to 63 [default: 0]",
+            ),
+        )?
+        .arg(
+            Arg::new(alloc, "turns").long("turns").help(
+                "How many turns are made at most, 1 to 10000000 [default: 100000]",
+            ),
+        )?;
     Command::new(alloc, "gossipmpi")
         .bin_name("gossipmpi")?
-        .about("Run job scripts of MPI collective operations over a gossiped board")
+        .about(
+            "Run a text script of MPI collectives for up to 64 ranks, and print what each rank gets",
+        )
         .subcommand_required(true)
         .arg_required_else_help(true)
         .subcommand(run)
@@ -133,7 +153,7 @@ fn no_job(alloc: Global, words: &[String]) -> Error {
         Ok(_) => refusal(
             alloc,
             ErrorKind::InvalidValue,
-            "an option is followed by its number, within its limits",
+            "each option is followed by a number in a word of its own: --seed 0 to 18446744073709551615, --loss 0 to 100, --relays 0 to 63, --turns 1 to 10000000",
         ),
         Err(refusal) => refusal,
     }

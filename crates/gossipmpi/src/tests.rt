@@ -82,7 +82,7 @@ fn refuses_words(rt: HostRuntime) -> Result<(), Fail> {
             b"ranks 1\n",
             1,
             b"",
-            "Run job scripts",
+            "Run a text script",
             "Usage: gossipmpi",
         ),
         (
@@ -90,7 +90,7 @@ fn refuses_words(rt: HostRuntime) -> Result<(), Fail> {
             b"ranks 1\n",
             1,
             b"",
-            "Run job scripts",
+            "Run a text script",
             "Usage: gossipmpi",
         ),
         (
@@ -98,7 +98,7 @@ fn refuses_words(rt: HostRuntime) -> Result<(), Fail> {
             b"ranks 1\n",
             1,
             b"",
-            "Run the job script",
+            "Run the script on",
             "Usage: gossipmpi run",
         ),
         (&["walk"], b"ranks 1\n", 1, b"", "error: ", "'walk'"),
