@@ -112,10 +112,26 @@ fn number_within(least: u64, most: u64, word: &[u8]) -> Option<u64>
 fn program<'a>(alloc: Global) -> Result<Command<'a>, AllocError> {
     let run = Command::new(alloc, "run")
         .about("Run the job script on standard input and print each rank's transcript")
-        .arg(Arg::new(alloc, "seed").long("seed").help("What all draws follow from [default: 1]"))?
-        .arg(Arg::new(alloc, "loss").long("loss").help("How many frames of a hundred are lost [default: 0]"))?
-        .arg(Arg::new(alloc, "relays").long("relays").help("How many processes only carry frames, 0 to 63 [default: 0]"))?
-        .arg(Arg::new(alloc, "turns").long("turns").help("How many turns are made at most, 1 to 10000000 [default: 100000]"))?;
+        .arg(
+            Arg::new(alloc, "seed")
+                .long("seed")
+                .help("What all draws follow from [default: 1]"),
+        )?
+        .arg(
+            Arg::new(alloc, "loss")
+                .long("loss")
+                .help("How many frames of a hundred are lost [default: 0]"),
+        )?
+        .arg(
+            Arg::new(alloc, "relays").long("relays").help(
+                "How many processes only carry frames, 0 to 63 [default: 0]",
+            ),
+        )?
+        .arg(
+            Arg::new(alloc, "turns").long("turns").help(
+                "How many turns are made at most, 1 to 10000000 [default: 100000]",
+            ),
+        )?;
     Command::new(alloc, "gossipmpi")
         .bin_name("gossipmpi")?
         .about("Run job scripts of MPI collective operations over a gossiped board")
