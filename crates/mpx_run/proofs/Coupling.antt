@@ -1,5 +1,5 @@
 -- What each doing keeps of a world and the ranks that move in it.
-use Rattle.std.proofs.Common.{◌≡◌, ℕ, ◌+◌, ◌<◌, ◌≤◌, Bool, true, false, cond, ◌==◌, ◌&&◌, List, [], ◌∷◌, ◌++◌, length, codes, Option, Some, None, refl, sym, ap, ◌∙◌, subst, arith, inl}
+use Rattle.std.proofs.Common.{◌≡◌, ℕ, ◌<◌, ◌≤◌, Bool, true, false, cond, ◌==◌, ◌&&◌, List, [], ◌∷◌, ◌++◌, codes, Option, Some, None, refl, sym, ap, ◌∙◌, subst, arith, inl}
 use Rattle.std.specs.Prelude.{slice_get, nat_lt, is_some, IsTrue, Result, Ok, Err, option_and_then}
 use Rattle.std.specs.Option.{option_map}
 use Rattle.std.proofs.lemmas.Option.{same_Some}
@@ -14,9 +14,9 @@ use Rattle.mpx_board.specs.Boards.{told}
 use Rattle.mpx_value.specs.declared.outcomes.Outcome.{Outcome}
 use Rattle.mpx_value.specs.Histories.{Made, posts_on, Results, Within, results_of, results_by, value_for}
 use Rattle.mpx_node.specs.declared.finished.Finished.{Finished}
-use Rattle.mpx_node.specs.Nodes.{NodeView, OpenedView, opened_at_start, posted_by, posted_on, results_on, checked_by, checked_on}
+use Rattle.mpx_node.specs.Nodes.{OpenedView, opened_at_start, posted_by, posted_on, results_on, checked_by, checked_on}
 use Rattle.mpx_world.specs.Worlds.{ProcessView, WorldView, history, births, makes, posts, Happening, Posts, IsNoPost, happens, MayHappen}
-use Rattle.mpx_world.specs.Worlds.{start as start_world, goes_on as goes_on_world}
+use Rattle.mpx_world.specs.Worlds.{goes_on as goes_on_world}
 use Rattle.mpx_world.specs.Soundness.{IsValue}
 use Rattle.mpx_world.proofs.Lists.{same_number, name_itself}
 use Rattle.mpx_world.proofs.Later.{later_happens, made_happens}
@@ -26,8 +26,8 @@ use Rattle.mpx_world.proofs.Opened.{AllIn, in_happens, in_start}
 use Rattle.mpx_script.specs.declared.statement.Statement.{Statement}
 use Rattle.mpx_script.specs.declared.statement.Statement.TheVariants.{Call}
 use Rattle.mpx_script.specs.Grammar.{named}
-use Rattle.mpx_script.specs.Ranks.{Todo, Do, Await, Local, Bound, Communicator, Told, draft_of, word_of, attempt, attempt_on, made_on, next_call, done, step}
-use Rattle.mpx_script.specs.Evaluation.{State, start, world_of, bound_at_start, statements_of, known, or_stay, goes_on, move, moves, IsReached}
+use Rattle.mpx_script.specs.Ranks.{Todo, Do, Await, Local, Communicator, draft_of, word_of, attempt, attempt_on, made_on, next_call, done, step}
+use Rattle.mpx_script.specs.Evaluation.{State, start, world_of, statements_of, known, or_stay, goes_on, move, moves, IsReached}
 use Rattle.mpx_script.specs.Evaluation.{history as history_of_ranks}
 use Rattle.mpx_script.specs.Told.{CarriesOut, none}
 use Rattle.mpx_script.proofs.Fronts.{append-nil}
@@ -36,7 +36,7 @@ use Rattle.mpx_script.proofs.Ways.{step-grows}
 use Rattle.mpx_script.proofs.Ahead.{goes_on_cases}
 use Rattle.mpx_script.proofs.Ends.{goes_on-at}
 use Rattle.mpx_script.proofs.Tells.{carries_out-grows, step-carries_out, carried_out-tell, each-me, each-bound}
-use Rattle.mpx_run.specs.Systems.{System, node_tells, posts_bound, posts_of, Doing, Nets, Drives, does, does_all, MayDo, MayDoAll, start_system, IsResultOf, TellsResults}
+use Rattle.mpx_run.specs.Systems.{System, node_tells, posts_bound, posts_of, Doing, Nets, Drives, does, does_all, MayDo, MayDoAll, start_system, TellsResults}
 
 -- the posts of the world are those of the ranks, each rank has carried out the first of its statements by what its node
 -- holds, and moves of the evaluation lead to where the ranks stand
@@ -239,12 +239,12 @@ module _ (script : List (List Statement)) (ranks : ℕ) (s : System) (c : Couple
       → Couples script ranks (record { world = happens s.world (Posts p [] (draft_of statement)); ranks = goes_on s.ranks p (node_tells (s.world.each p).node) })
   couples_posts p l statement rest e (Ok m) f =
       couples_move p l (happens s.world (Posts p [] (draft_of statement))) (m ∷ []) (done (s.ranks p) (posted (s.ranks p) rest m))
-        (step_posts (node_tells (s.world.each p).node) (s.ranks p) statement rest m e (attempts_same p l statement ∙ f)) refl
-        (subst (λ y. Follows p s.world (happens s.world (Posts p [] (draft_of statement))) (added_by y)) f (follows_post p (draft_of statement)))
+      (step_posts (node_tells (s.world.each p).node) (s.ranks p) statement rest m e (attempts_same p l statement ∙ f)) refl
+      (subst (λ y. Follows p s.world (happens s.world (Posts p [] (draft_of statement))) (added_by y)) f (follows_post p (draft_of statement)))
   couples_posts p l statement rest e (Err refusal) f =
       couples_move p l (happens s.world (Posts p [] (draft_of statement))) [] (done (s.ranks p) (turned_down (s.ranks p) rest refusal))
-        (step_refused (node_tells (s.world.each p).node) (s.ranks p) statement rest refusal e (attempts_same p l statement ∙ f)) refl
-        (subst (λ y. Follows p s.world (happens s.world (Posts p [] (draft_of statement))) (added_by y)) f (follows_post p (draft_of statement)))
+      (step_refused (node_tells (s.world.each p).node) (s.ranks p) statement rest refusal e (attempts_same p l statement ∙ f)) refl
+      (subst (λ y. Follows p s.world (happens s.world (Posts p [] (draft_of statement))) (added_by y)) f (follows_post p (draft_of statement)))
 
   couples_hears : (p : ℕ) → p < ranks → (name : Name) (call : ℕ) (rest : List Todo) → (s.ranks p).todo ≡ Await name call ∷ rest → (o : Option Outcome) → node_tells (s.world.each p).node name call ≡ o
       → Couples script ranks (record { world = s.world; ranks = goes_on s.ranks p (node_tells (s.world.each p).node) })

@@ -1,7 +1,6 @@
 -- What is reported of a run.
 use Rattle.std.proofs.Common.{◌≡◌, ℕ, zero, suc, ◌+◌, ◌<◌, ◌≤◌, Bool, true, false, cond, List, [], ◌∷◌, ◌++◌, length, map, take, drop, Option, Some, None, refl, sym, ap, ◌∙◌, subst, arith, pos, codes}
 use Rattle.std.specs.Prelude.{slice_get, nat_lt, unwrap_or, ◌||◌, is_some}
-use Rattle.std.specs.Option.{option_map}
 use Rattle.std.proofs.lemmas.List.{map-append, length-map}
 use Rattle.std.proofs.lemmas.Option.{slice_get-map}
 use Rattle.std.proofs.lemmas.Bool.Decides.{nat_tests}
@@ -18,7 +17,7 @@ use Rattle.mpx_script.specs.Transcripts.{line_text, rank_text, text_upto}
 use Rattle.mpx_script.specs.Reports.{which, is_left, lines_in, waiting_in}
 use Rattle.mpx_script.proofs.Ways.{Way, way-adds}
 use Rattle.mpx_script.proofs.Ahead.{on_way-reached, finished}
-use Rattle.mpx_run.specs.Running.{RankView, IsUnderWay, todo_of, has_statements, is_waiting, is_waiting_at}
+use Rattle.mpx_run.specs.Running.{RankView, IsUnderWay, todo_of, has_statements, is_waiting_at}
 use Rattle.mpx_run.specs.Runs.{IsRun, IsReport, Begin, AreWhole, EndsSo, lines_at}
 use Rattle.mpx_run.specs.declared.end.End.{End}
 use Rattle.mpx_run.specs.declared.end.End.TheVariants.{Finished, Waiting}
@@ -144,8 +143,8 @@ module _ (script : ScriptView) (relays : ℕ) (processes : List RankView) (frame
     are_whole p lines e other =
         let l = (taken_at script.ranks (map (λ (r : RankView). r.lines) processes) p lines e).0 in
         let todo : (run.system.ranks p).todo ≡ [] = nothing_left (run.system.ranks p).todo (λ is.
-            let found = which_has (λ q. is_left (run.system.ranks q).todo) script.ranks p l is in
-            other found.0 (ap (λ ws. slice_get ws found.0) waiting_so ∙ found.1)) in
+        let found = which_has (λ q. is_left (run.system.ranks q).todo) script.ranks p l is in
+        other found.0 (ap (λ ws. slice_get ws found.0) waiting_so ∙ found.1)) in
         lines_so p lines e ∙ ap (λ (x : Local). map line_text x.lines) (finished (known script.ranks end p) (run.system.ranks p) (end p) (way p) todo)
 
 module _ (script : ScriptView) (relays ranks : ℕ) (same : ranks ≡ script.ranks) (processes : List RankView) (frames : List Look) (run : IsUnderWay script.statements script.ranks (script.ranks + relays) processes frames)
@@ -189,8 +188,8 @@ reported script relays nodes transcripts waiting end text run begins whole lines
   whole = λ e is finished.
       let none = nobody end waiting ends finished in
       lines ∙ text_same (lines_at transcripts) (lines_in e) script.ranks (λ p l.
-          let found = some_at transcripts p (omega (arith, l, run.ranks_are)) in
-          ap (λ o. unwrap_or o []) found.1 ∙ whole e is p found.0 found.1 (λ place at. cc (at, none)));
+      let found = some_at transcripts p (omega (arith, l, run.ranks_are)) in
+      ap (λ o. unwrap_or o []) found.1 ∙ whole e is p found.0 found.1 (λ place at. cc (at, none)));
 }
 
 -- LINES

@@ -18,23 +18,22 @@ use Rattle.mpx_value.specs.Histories.{Made, Results}
 use Rattle.mpx_node.specs.declared.finished.Finished.{Finished}
 use Rattle.mpx_node.specs.Nodes.{Posts as NodePosts}
 use Rattle.mpx_post.specs.declared.draft.PostError.TheVariants as R
-use Rattle.mpx_node.specs.Nodes.{NodeView, learn, posted_on, post_at, checked_on, next_result, add_result}
+use Rattle.mpx_node.specs.Nodes.{NodeView, learn, posted_on, post_at, checked_on, next_result}
 use Rattle.mpx_world.specs.declared.events.Event.TheVariants as E
 use Rattle.mpx_world.specs.declared.events.Cut.TheVariants as C
-use Rattle.mpx_world.specs.Worlds.{ProcessView, WorldView, makes, stores, drops, takes, posts, harvests, prunes, Happening, Posts, Harvests, Prunes, Sends, Takes, at_process, happens}
+use Rattle.mpx_world.specs.Worlds.{ProcessView, WorldView, makes, stores, drops, takes, posts, harvests, prunes, Happening, Posts, Harvests, Prunes, Sends, Takes, at_process}
 use Rattle.mpx_world.specs.Worlds.{goes_on as goes_on_world}
 use Rattle.mpx_world.proofs.Lists.{slice_get-append, slice_get-push, slice_get-push_cases, same_number}
 use Rattle.mpx_world.proofs.Steps.{at_here}
 use Rattle.mpx_world.proofs.Reached.{may_happen}
 use Rattle.mpx_script.specs.declared.statement.Statement.{Statement}
 use Rattle.mpx_script.specs.Ranks.{Await, Line, Local, Told, Refused, draft_of, doing, done, made_on, next_call, step}
-use Rattle.mpx_script.specs.Evaluation.{State, goes_on}
 use Rattle.mpx_script.specs.Transcripts.{line_text, outcome_text}
 use Rattle.mpx_script.proofs.Ends.{goes_on-at}
 use Rattle.mpx_script.proofs.Fronts.{append-nil}
 use Rattle.mpx_script.proofs.Steps.{heard, posted, turned_down, step_hears, step_posts, step_refused}
 use Rattle.mpx_run.specs.Systems.{System, node_tells, posts_of, Doing, Nets, Drives, does, does_all, MayDo, MayDoAll, Leads, start_system}
-use Rattle.mpx_run.specs.Running.{RankView, todo_of, IsAmong, stored, harvested, Stands, Shows, IsUnderWay, Keeps, Moves, Receives, StartsAt, Starts}
+use Rattle.mpx_run.specs.Running.{RankView, todo_of, IsAmong, stored, harvested, Stands, IsUnderWay, Keeps, Moves, Receives, StartsAt, Starts}
 use Rattle.mpx_run.proofs.Coupling.{Couples, counted, couples_all, couples_start, goes_on-other, attempts_same, posts_so}
 
 -- LISTS
@@ -152,7 +151,7 @@ keeps_harvest r script ranks size processes frames p at run =
     let same : r.node ≡ v.node = run.shows.nodes p r at in
     run_on script ranks size processes frames run p (harvested r) (Nets (Harvests p [])) (tt, tt)
     (done_net ranks s p r (stored (next_result r.node []) r.node) (harvests []) (run.shows.stands p r at)
-      (ap (λ n. stored (next_result n []) n) same ∙ sym (stores_node (next_result v.node []) v)))
+    (ap (λ n. stored (next_result n []) n) same ∙ sym (stores_node (next_result v.node []) v)))
 
 abbrev pub pruned_by : Result (Unit {0}) PruneError → ℕ → NodeView → NodeView
 pruned_by (Ok u) n node = learn (only (Dropped [] n)) node
@@ -170,7 +169,7 @@ keeps_prune r n script ranks size processes frames p at run =
     let new = pruned_by (pruned (floor_on r.node.board []) n) n r.node in
     run_on script ranks size processes frames run p (record r { node = new }) (Nets (Prunes p [] n)) (tt, tt)
     (done_net ranks s p r new (prunes [] n) (run.shows.stands p r at)
-      (ap (λ (m : NodeView). pruned_by (pruned (floor_on m.board []) n) n m) same ∙ sym (drops_node n (pruned (floor_on v.node.board []) n) v)))
+    (ap (λ (m : NodeView). pruned_by (pruned (floor_on m.board []) n) n m) same ∙ sym (drops_node n (pruned (floor_on v.node.board []) n) v)))
 
 pruned_is : (r : Result (Unit {0}) PruneError) (n : ℕ) (old new : NodeView) → OnOk r (new ≡ learn (only (Dropped [] n)) old) → OnErr r (new ≡ old) → new ≡ pruned_by r n old
 pruned_is (Ok u) n old new f g = f
@@ -193,7 +192,7 @@ run_takes script ranks size processes frames p r i b at got run =
     let found = all_at (IsAmong s.world.parts) frames i b got run.shows.sent in
     run_on script ranks size processes frames run p (record r { node = learn b r.node }) (Nets (Takes p found.0)) (tt, tt)
     (done_net ranks s p r (learn b r.node) (takes (slice_get s.world.parts found.0)) (run.shows.stands p r at)
-      (ap (learn b) (run.shows.nodes p r at) ∙ ap (λ o. (takes o v).node) (sym found.1)))
+    (ap (learn b) (run.shows.nodes p r at) ∙ ap (λ o. (takes o v).node) (sym found.1)))
 
 -- a board is sent
 pub run_sends : (script : List (List Statement)) (ranks size : ℕ) (processes : List RankView) (frames : List Look) (p : ℕ) (r : RankView) → slice_get processes p ≡ Some r
@@ -288,10 +287,10 @@ module _ (script : List (List Statement)) (ranks size : ℕ) (processes : List R
       let todo = stands_so (Some call) r.todo w refl in
       let known : told [] call ≡ Some outcome = ap (λ n. node_tells n [] call) (sym (run.shows.nodes p r at)) ∙ e in
       moved [] (done (run.system.ranks p) (heard (run.system.ranks p) [] call (doing r.todo) outcome)) (record { node = r.node; todo = r.todo; waits = None; lines = r.lines ++ text ∷ [] })
-        (ap (posts_of p (run.system.ranks p).bound) todo)
-        (step_hears told (run.system.ranks p) [] call (doing r.todo) outcome todo known)
-        (record { todo = refl; lines = lines_so text (Told [] call outcome) t })
-        (run.shows.nodes p r at) (λ q other. refl) refl
+      (ap (posts_of p (run.system.ranks p).bound) todo)
+      (step_hears told (run.system.ranks p) [] call (doing r.todo) outcome todo known)
+      (record { todo = refl; lines = lines_so text (Told [] call outcome) t })
+      (run.shows.nodes p r at) (λ q other. refl) refl
 
   makes_node : (x : Result Given PostError) (v : ProcessView) (given : Given) → x ≡ Ok given → (makes [] x v).node ≡ post_at [] given v.node
   makes_node x v given e = ap (λ z. (makes [] z v).node) e
@@ -309,12 +308,12 @@ module _ (script : List (List Statement)) (ranks size : ℕ) (processes : List R
       let m : Made = record { name = []; given = given } in
       let count : next_call [] local.made ≡ posted_on r.node [] = sym (counted script ranks run.system c p) ∙ ap (λ n. posted_on n []) (sym same) in
       moved (Posts p [] (draft_of statement) ∷ []) (done local (posted local (doing rest) m)) (record { node = post_at [] given r.node; todo = rest; waits = Some (posted_on r.node []); lines = r.lines })
-        (posts_so script ranks run.system c p statement (doing rest) todo)
-        (step_posts told local statement (doing rest) m todo (attempts_same script ranks run.system c p l statement ∙ ap (made_on []) checked_so))
-        (record { todo = ap (λ k. Await [] k ∷ doing rest) count; lines = (run.shows.stands p r at l).lines ∙ ap (map line_text) (sym (append-nil local.lines)) })
-        (ap (post_at [] given) same ∙ sym (makes_node (checked_on v.node [] (draft_of statement)) v given checked_so) ∙ ap (λ (u : ProcessView). u.node) (sym (at_here run.system.world p (posts [] (draft_of statement)))))
-        (λ q other. ap (λ (u : ProcessView). u.node) (each_other run.system.world p (posts [] (draft_of statement)) q other))
-        refl
+      (posts_so script ranks run.system c p statement (doing rest) todo)
+      (step_posts told local statement (doing rest) m todo (attempts_same script ranks run.system c p l statement ∙ ap (made_on []) checked_so))
+      (record { todo = ap (λ k. Await [] k ∷ doing rest) count; lines = (run.shows.stands p r at l).lines ∙ ap (map line_text) (sym (append-nil local.lines)) })
+      (ap (post_at [] given) same ∙ sym (makes_node (checked_on v.node [] (draft_of statement)) v given checked_so) ∙ ap (λ (u : ProcessView). u.node) (sym (at_here run.system.world p (posts [] (draft_of statement)))))
+      (λ q other. ap (λ (u : ProcessView). u.node) (each_other run.system.world p (posts [] (draft_of statement)) q other))
+      refl
 
   -- its post is refused
   is_refused : (statement : Statement) (rest : List Statement) (refusal : PostError) (text : List ℕ) → r.waits ≡ None → r.todo ≡ statement ∷ rest → checked_on r.node [] (draft_of statement) ≡ Err refusal → text ≡ line_text (Refused refusal)
@@ -327,12 +326,12 @@ module _ (script : List (List Statement)) (ranks size : ℕ) (processes : List R
       let todo = stands_so None (statement ∷ rest) w t in
       let checked_so : checked_on v.node [] (draft_of statement) ≡ Err refusal = ap (λ n. checked_on n [] (draft_of statement)) (sym same) ∙ e in
       moved (Posts p [] (draft_of statement) ∷ []) (done local (turned_down local (doing rest) refusal)) (record { node = r.node; todo = rest; waits = None; lines = r.lines ++ text ∷ [] })
-        (posts_so script ranks run.system c p statement (doing rest) todo)
-        (step_refused told local statement (doing rest) refusal todo (attempts_same script ranks run.system c p l statement ∙ ap (made_on []) checked_so))
-        (record { todo = refl; lines = lines_so text (Refused refusal) u })
-        (same ∙ ap (λ z. (makes [] z v).node) (sym checked_so) ∙ ap (λ (x : ProcessView). x.node) (sym (at_here run.system.world p (posts [] (draft_of statement)))))
-        (λ q other. ap (λ (x : ProcessView). x.node) (each_other run.system.world p (posts [] (draft_of statement)) q other))
-        refl
+      (posts_so script ranks run.system c p statement (doing rest) todo)
+      (step_refused told local statement (doing rest) refusal todo (attempts_same script ranks run.system c p l statement ∙ ap (made_on []) checked_so))
+      (record { todo = refl; lines = lines_so text (Refused refusal) u })
+      (same ∙ ap (λ z. (makes [] z v).node) (sym checked_so) ∙ ap (λ (x : ProcessView). x.node) (sym (at_here run.system.world p (posts [] (draft_of statement)))))
+      (λ q other. ap (λ (x : ProcessView). x.node) (each_other run.system.world p (posts [] (draft_of statement)) q other))
+      refl
 
 pub moves_hears : (r : RankView) (call : ℕ) (outcome : Outcome) (text : List ℕ) → r.waits ≡ Some call → node_tells r.node [] call ≡ Some outcome → text ≡ outcome_text outcome → Moves r (record { node = r.node; todo = r.todo; waits = None; lines = r.lines ++ text ∷ [] })
 moves_hears r call outcome text w e t script ranks size processes frames p l at run = hears script ranks size processes frames p l r at run call outcome text w e t

@@ -1,5 +1,5 @@
 -- What a run of a script comes to.
-use Rattle.std.specs.Prelude.{◌≡◌, ◌≢◌, ℕ, ◌<◌, ◌≤◌, ◌+◌, List, [], length, map, slice_get, Some, None, unwrap_or}
+use Rattle.std.specs.Prelude.{◌≡◌, ◌≢◌, ℕ, ◌≤◌, ◌+◌, List, [], length, slice_get, Some, unwrap_or}
 use Rattle.mpx_node.specs.Nodes.{NodeView}
 use Rattle.mpx_script.specs.ScriptView.{ScriptView}
 use Rattle.mpx_script.specs.Evaluation.{State, IsEvaluation, IsPrefixOf, statements_of}

@@ -101,7 +101,11 @@ pub(crate) struct Printed {
 }
 
 /// The lines of all ranks of a run, each as `RANK: LINE`, rank by rank, and who waits.
-pub(crate) fn print(alloc: Global, script: &Script, options: &Options) -> Result<Printed, OutOfMemory>
+pub(crate) fn print(
+    alloc: Global,
+    script: &Script,
+    options: &Options,
+) -> Result<Printed, OutOfMemory>
     requires { script.now.ranks + options.now.relays ≤ 64 }
     ensures { IfOk result (λ printed. IsReport script.now options.now.relays printed.end (string_bytes printed.text)) }
 {

@@ -249,11 +249,7 @@ fn start_at<'a>(
 }
 
 // The processes before the first turn.
-fn start<'a>(
-    alloc: Global,
-    script: &'a Script,
-    relays: u8,
-) -> Result<Vec<Rank<'a>>, OutOfMemory>
+fn start<'a>(alloc: Global, script: &'a Script, relays: u8) -> Result<Vec<Rank<'a>>, OutOfMemory>
     requires { script.now.ranks + relays ≤ 64 }
     ensures { IfOk result (λ processes. Starts script.now.statements script.now.ranks (script.now.ranks + relays) (map rank_of processes.items)) }
 {

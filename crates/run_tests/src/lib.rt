@@ -1,5 +1,5 @@
 //! Tests of whole runs with values from outside: the example scripts, each kind of call at 3 and at 64 ranks, a long
-//! script, and readers and writers that fail. They stand in a crate of their own, so that the crates below are proved
+//! script, runs over a lossy interconnect, and readers and writers that fail. They stand in a crate of their own, so that the crates below are proved
 //! once.
 #![tactic(auto)]
 
@@ -11,5 +11,7 @@ mod kinds;
 mod making;
 #[cfg(test)]
 mod runs;
+#[cfg(test)]
+mod simulated;
 #[cfg(test)]
 mod streams;

@@ -1,8 +1,16 @@
 //! What the tests use: scripts with the text of their runs, and readers and writers that fail.
-use mpx_run::{End, RunError, run_text};
+use mpx_run::{End, Options, RunError, run_text};
 use std::alloc::Global;
 use std::io::{self, ErrorKind, Read, Write};
 use std::process::Abort;
+
+/// What a run is without options.
+pub const USUAL: Options = Options {
+    seed: 1,
+    loss: 0,
+    relays: 0,
+    turns: 100_000,
+};
 
 /// Which end a run came to.
 #[derive(Clone, Copy, Debug, PartialEq, Eq)]
@@ -10,6 +18,7 @@ pub enum Came {
     Finished,
     Waiting,
     Refused,
+    TooMany,
     Memory,
     Read,
     Write,
@@ -20,6 +29,7 @@ pub fn end_of(answer: &Result<End, RunError>) -> Came {
         Ok(End::Finished) => Came::Finished,
         Ok(End::Waiting(_)) => Came::Waiting,
         Err(RunError::Script(_)) => Came::Refused,
+        Err(RunError::TooManyProcesses) => Came::TooMany,
         Err(RunError::Memory) => Came::Memory,
         Err(RunError::Read) => Came::Read,
         Err(RunError::Write) => Came::Write,
@@ -34,7 +44,7 @@ pub fn check_runs(rt: &impl Abort, alloc: Global, table: &[Row]) {
         let (script, end, text) = *row;
         let mut reader = script;
         let mut out = Vec::new(alloc);
-        let answer = run_text(alloc, &mut reader, &mut out);
+        let answer = run_text(alloc, &USUAL, &mut reader, &mut out);
         assert_eq!(rt; end_of(&answer), end, "row {i}");
         assert_eq!(rt; out.as_slice(), text, "row {i}");
     }

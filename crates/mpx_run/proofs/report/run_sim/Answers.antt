@@ -1,5 +1,5 @@
-use Rattle.std.proofs.Common.{◌≡◌, ap, sym, ◌∙◌, map, take, List, ℕ, string_bytes}
-use Rattle.std.specs.Prelude.{slice_get, Vec}
+use Rattle.std.proofs.Common.{◌≡◌, ap, ◌∙◌, map, take}
+use Rattle.std.specs.Prelude.{slice_get}
 use Rattle.mpx_node.specs.Shown.{node_of}
 use Rattle.mpx_script.specs.Reports.{transcripts_of, which}
 use Rattle.mpx_run.specs.Running.{RankView, is_waiting_at}

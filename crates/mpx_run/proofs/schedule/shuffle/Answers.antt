@@ -1,4 +1,4 @@
-use Rattle.std.proofs.Common.{rules, ◌+◌, ◌<◌, length, arith}
+use Rattle.std.proofs.Common.{rules, ◌+◌, ◌<◌, length}
 use Rattle.std.proofs.lemmas.List.Sorted.{IsPermutation-trans, IsPermutation-swap}
 use Rattle.mpx_run.proofs.schedule.shuffle.Goals as goal
 

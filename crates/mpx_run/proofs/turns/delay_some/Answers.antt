@@ -1,4 +1,4 @@
-use Rattle.std.proofs.Common.{rules, ◌∙◌, ◌<◌, length, ap, arith}
+use Rattle.std.proofs.Common.{rules, ◌∙◌, ◌<◌, length, ap}
 use Rattle.mpx_run.specs.Shown.{part_of}
 use Rattle.mpx_run.proofs.Running.{kept}
 use Rattle.mpx_run.proofs.turns.delay_some.Goals as goal

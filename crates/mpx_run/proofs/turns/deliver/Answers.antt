@@ -1,4 +1,4 @@
-use Rattle.std.proofs.Common.{map, sym, ap, ◌∙◌, Some, get_or, arith}
+use Rattle.std.proofs.Common.{map, sym, ap, ◌∙◌, Some, arith}
 use Rattle.mpx_run.specs.Shown.{part_of}
 use Rattle.mpx_run.proofs.Running.{element}
 use Rattle.mpx_run.proofs.turns.deliver.Goals as goal

@@ -1,4 +1,4 @@
-use Rattle.std.proofs.Common.{◌≡◌, map, subst, sym}
+use Rattle.std.proofs.Common.{map, subst, sym}
 use Rattle.std.specs.List.{All}
 use Rattle.mpx_run.specs.Shown.{part_of}
 use Rattle.mpx_run.proofs.Running.{run_fewer, all_picked}

@@ -1,8 +1,7 @@
-use Rattle.std.proofs.Common.{◌≡◌, ◌∙◌, ◌++◌, ◌∷◌, [], List, map, subst, sym, ap, Some, get_or, arith}
+use Rattle.std.proofs.Common.{◌≡◌, ◌∙◌, ◌++◌, ◌∷◌, [], List, map, subst, sym, ap, get_or, arith}
 use Rattle.std.proofs.lemmas.List.{map-append}
 use Rattle.mpx_board.specs.Boards.{Look}
-use Rattle.mpx_run.specs.declared.turns.Frame.{Frame}
-use Rattle.mpx_run.specs.Running.{RankView, IsUnderWay}
+use Rattle.mpx_run.specs.Running.{IsUnderWay}
 use Rattle.mpx_run.specs.Shown.{rank_of, part_of}
 use Rattle.mpx_run.proofs.Running.{element, run_sends}
 use Rattle.mpx_run.proofs.turns.send_all.Goals as goal

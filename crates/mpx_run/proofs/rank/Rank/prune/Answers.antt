@@ -1,10 +1,8 @@
-use Rattle.std.proofs.Common.{◌≡◌, [], ap, sym, ◌∙◌, subst}
-use Rattle.mpx_board.specs.Boards.{floor_on}
-use Rattle.mpx_board.specs.Changes.{pruned}
+use Rattle.std.proofs.Common.{sym, subst}
 use Rattle.mpx_node.specs.Shown.{node_of}
 use Rattle.mpx_run.specs.Running.{Keeps}
 use Rattle.mpx_run.specs.Shown.{rank_of}
-use Rattle.mpx_run.proofs.Running.{keeps_itself, keeps_prune, pruned_by, pruned_at}
+use Rattle.mpx_run.proofs.Running.{keeps_itself, keeps_prune, pruned_at}
 use Rattle.mpx_run.proofs.rank.Rank.prune.Goals as goal
 
 pub returns-in_default : goal.returns-in_default

@@ -1,4 +1,4 @@
-use Rattle.std.proofs.Common.{ap, ◌≡◌}
+use Rattle.std.proofs.Common.{ap}
 use Rattle.mpx_board.specs.Looks.{look}
 use Rattle.mpx_run.specs.Running.{RankView}
 use Rattle.mpx_run.specs.Shown.{rank_of}
