@@ -54,11 +54,12 @@ fn dropped_calls_stay_dropped(rt: HostRuntime) -> Result<(), Fail> {
 }
 
 // The join of a list of boards, in this order.
-fn all_of(alloc: Global, a: &Board, b: &Board, c: &Board) -> Result<Board, OutOfMemory> {
-    Board::take_all(
-        alloc,
-        &vec![in alloc; a.copy(alloc)?, b.copy(alloc)?, c.copy(alloc)?]?,
-    )
+fn all_of(alloc: Global, parts: &[&Board]) -> Result<Board, OutOfMemory> {
+    let mut boards = Vec::new(alloc);
+    for part in parts {
+        boards.push(part.copy(alloc)?)?;
+    }
+    Board::take_all(alloc, &boards)
 }
 
 fn is_least_above(
@@ -68,7 +69,7 @@ fn is_least_above(
     a: &Board,
     b: &Board,
 ) -> Result<(), Fail> {
-    assert!(rt; once.same(&all_of(alloc, a, b, a)?));
+    assert!(rt; once.same(&all_of(alloc, &[a, b, a])?));
     assert!(rt; a.leq(once) && b.leq(once) && !once.leq(a));
     assert!(rt; once.delta(alloc, once)?.same(&Board::new(alloc)));
     assert!(rt; is_join(alloc, once, b, &a.delta(alloc, b)?)?);
@@ -81,16 +82,27 @@ fn boards_as_whole_values(rt: HostRuntime) -> Result<(), Fail> {
     let a = harvested(alloc, &[1, 0, 2])?;
     let mut b = Board::new(alloc);
     late_posts(alloc, &mut b, &Name::world(alloc))?;
-    let once = all_of(alloc, &b, &a, &b)?;
+    let once = all_of(alloc, &[&b, &a, &b])?;
     is_least_above(&rt, alloc, &once, &a, &b)
+}
+
+fn tells_of_a_child(alloc: Global, board: &mut Board) -> Result<(), Fail> {
+    let child = Name::world(alloc).child(alloc, 0, 0)?;
+    Ok(add(alloc, board, &child, 4, Proc::new(1), &[7])??)
+}
+
+// What the board knows of the world.
+fn cut_to_the_world(alloc: Global, board: &Board) -> Result<Board, Fail> {
+    let names = vec![in alloc; Name::world(alloc)]?;
+    Ok(board.cut(alloc, &names)?)
 }
 
 // Tells of the first child, and cuts that out again.
 fn cuts_the_child(rt: &impl Abort, alloc: Global, board: &mut Board) -> Result<(), Fail> {
-    let child = Name::world(alloc).child(alloc, 0, 0)?;
-    add(alloc, board, &child, 4, Proc::new(1), &[7])??;
-    let cut = board.cut(alloc, &vec![in alloc; Name::world(alloc)]?)?;
-    assert!(rt; cut.same(&harvested(alloc, &[1, 0, 2])?));
+    let before = board.copy(alloc)?;
+    tells_of_a_child(alloc, board)?;
+    let cut = cut_to_the_world(alloc, board)?;
+    assert!(rt; cut.same(&before));
     assert_eq!(rt; cut.pair().first.len(), 1);
     Ok(())
 }

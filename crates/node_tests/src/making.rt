@@ -1,4 +1,7 @@
-//! Drafts and posts that the tests use.
+//! Drafts, posts and nodes that the tests use.
+ghost use Rattle.std.specs.Prelude.{◌<◌};
+
+use mpx_group::Proc;
 use mpx_name::Name;
 use mpx_node::Node;
 use mpx_num::{Numbers, Op, Ty};
@@ -33,4 +36,22 @@ pub fn post(
     assert_eq!(rt; node.post(alloc, &world, draft), Ok(call));
     assert!(rt; node.posted(&world) > call);
     Ok(())
+}
+
+// A rank of so many beside one relay, with these calls posted.
+pub fn posted(
+    rt: &impl Abort,
+    alloc: Global,
+    me: Proc,
+    ranks: u8,
+    posts: &[(u32, &[i128])],
+) -> Result<Node, Fail>
+    requires me { me < ranks }
+    requires few { ranks < 64 }
+{
+    let mut node = Node::new(alloc, me, ranks, ranks + 1)?;
+    for (call, nums) in posts {
+        post(rt, alloc, &mut node, *call, nums)?;
+    }
+    Ok(node)
 }

@@ -1,7 +1,5 @@
 // Nodes that take each other's boards, and harvest what these tell.
-ghost use Rattle.std.specs.Prelude.{◌<◌};
-
-use crate::making::post;
+use crate::making::posted;
 use join_core::{Exact, Join, OutOfMemory};
 use mpx_board::{Board, PruneError};
 use mpx_group::Proc;
@@ -39,27 +37,9 @@ fn reaches_the_sums(
     Ok(())
 }
 
-// Three posts of the left one, and two of the right one.
-fn both_post(
-    rt: &impl Abort,
-    alloc: Global,
-    left: &mut Node,
-    right: &mut Node,
-) -> Result<(), Fail> {
-    post(rt, alloc, left, 0, &[1])?;
-    post(rt, alloc, left, 1, &[9223372036854775807])?;
-    post(rt, alloc, left, 2, &[1])?;
-    post(rt, alloc, right, 0, &[2])?;
-    post(rt, alloc, right, 1, &[1])
-}
-
-// The relay takes both boards, the left one takes what it lacks, and the right one all.
-fn meet(
-    alloc: Global,
-    left: &mut Node,
-    right: &mut Node,
-    relay: &mut Node,
-) -> Result<(), OutOfMemory> {
+// A relay takes both boards, the left one takes what it lacks, and the right one all.
+fn meet(alloc: Global, left: &mut Node, right: &mut Node) -> Result<(), OutOfMemory> {
+    let mut relay = Node::new(alloc, Proc::new(2), 2, 3)?;
     relay.take(alloc, left.board())?;
     relay.take(alloc, right.board())?;
     let lacking = relay.board().delta(alloc, left.board())?;
@@ -91,51 +71,50 @@ fn reach_the_sums(
     Ok(())
 }
 
+// Three posts of the left one, and two of the right one.
 #[test]
 fn two_processes_reach_the_sum(rt: HostRuntime) -> Result<(), Fail> {
     let alloc = rt.alloc();
-    let mut left = Node::new(alloc, Proc::new(0), 2, 3)?;
-    let mut right = Node::new(alloc, Proc::new(1), 2, 3)?;
-    let mut relay = Node::new(alloc, Proc::new(2), 2, 3)?;
-    both_post(&rt, alloc, &mut left, &mut right)?;
-    meet(alloc, &mut left, &mut right, &mut relay)?;
+    let of_left = [
+        (0, [1].as_slice()),
+        (1, [9223372036854775807].as_slice()),
+        (2, [1].as_slice()),
+    ];
+    let of_right = [(0, [2].as_slice()), (1, [1].as_slice())];
+    let mut left = posted(&rt, alloc, Proc::new(0), 2, &of_left)?;
+    let mut right = posted(&rt, alloc, Proc::new(1), 2, &of_right)?;
+    meet(alloc, &mut left, &mut right)?;
     reach_the_sums(&rt, alloc, &mut left, &mut right)
 }
 
-// A rank of three with one post.
-fn posted(rt: &impl Abort, alloc: Global, me: Proc, nums: &[i128]) -> Result<Node, Fail>
-    requires { me < 3 }
-{
-    let mut node = Node::new(alloc, me, 3, 3)?;
-    post(rt, alloc, &mut node, 0, nums)?;
+// The last rank of three with one post, and what the parts tell.
+fn taken(rt: &impl Abort, alloc: Global, parts: &[&Board]) -> Result<Node, Fail> {
+    let mut node = posted(rt, alloc, Proc::new(2), 3, &[(0, [3].as_slice())])?;
+    for part in parts {
+        node.take(alloc, part)?;
+    }
     Ok(node)
 }
 
-fn take_in_orders(
+fn any_order_is_the_same(
+    rt: &impl Abort,
     alloc: Global,
-    one: &mut Node,
-    other: &mut Node,
     first: &Board,
     second: &Board,
-) -> Result<(), OutOfMemory> {
-    one.take(alloc, first)?;
-    one.take(alloc, second)?;
-    one.take(alloc, first)?;
-    other.take(alloc, second)?;
-    other.take(alloc, first)
+) -> Result<(), Fail> {
+    let one = taken(rt, alloc, &[first, second, first])?;
+    let other = taken(rt, alloc, &[second, first])?;
+    assert!(rt; one.board().same(other.board()));
+    Ok(())
 }
 
 // Parts of three nodes, whichever way and however often they are taken.
 #[test]
 fn parts_in_any_order(rt: HostRuntime) -> Result<(), Fail> {
     let alloc = rt.alloc();
-    let one = posted(&rt, alloc, Proc::new(0), &[1])?;
-    let two = posted(&rt, alloc, Proc::new(1), &[2])?;
-    let mut three = posted(&rt, alloc, Proc::new(2), &[3])?;
-    let mut other = posted(&rt, alloc, Proc::new(2), &[3])?;
-    take_in_orders(alloc, &mut three, &mut other, one.board(), two.board())?;
-    assert!(rt; three.board().same(other.board()));
-    Ok(())
+    let one = posted(&rt, alloc, Proc::new(0), 3, &[(0, [1].as_slice())])?;
+    let two = posted(&rt, alloc, Proc::new(1), 3, &[(0, [2].as_slice())])?;
+    any_order_is_the_same(&rt, alloc, one.board(), two.board())
 }
 
 // Before the clash is told there is a fault: 1 item and 2 items.
@@ -183,23 +162,24 @@ fn harvests_no_clash(
 #[test]
 fn posts_that_do_not_fit_are_a_fault(rt: HostRuntime) -> Result<(), Fail> {
     let alloc = rt.alloc();
-    let mut left = Node::new(alloc, Proc::new(0), 2, 2)?;
-    let mut right = Node::new(alloc, Proc::new(1), 2, 2)?;
-    post(&rt, alloc, &mut left, 0, &[1])?;
-    post(&rt, alloc, &mut right, 0, &[3, 4])?;
+    let mut left = posted(&rt, alloc, Proc::new(0), 2, &[(0, [1].as_slice())])?;
+    let right = posted(&rt, alloc, Proc::new(1), 2, &[(0, [3, 4].as_slice())])?;
     harvests_a_fault(&rt, alloc, &mut left, right.board())
+}
+
+// The other rank, which has taken a post of the first.
+fn other_rank(rt: &impl Abort, alloc: Global) -> Result<Node, Fail> {
+    let left = posted(rt, alloc, Proc::new(0), 2, &[(0, [1].as_slice())])?;
+    let mut right = posted(rt, alloc, Proc::new(1), 2, &[(0, [3].as_slice())])?;
+    right.take(alloc, left.board())?;
+    Ok(right)
 }
 
 // Two replicas of one process, of which the second posts something else than the other rank has of it.
 #[test]
 fn different_posts_of_one_call_clash(rt: HostRuntime) -> Result<(), Fail> {
     let alloc = rt.alloc();
-    let mut left = Node::new(alloc, Proc::new(0), 2, 2)?;
-    let mut again = Node::new(alloc, Proc::new(0), 2, 2)?;
-    let mut right = Node::new(alloc, Proc::new(1), 2, 2)?;
-    post(&rt, alloc, &mut left, 0, &[1])?;
-    post(&rt, alloc, &mut again, 0, &[2])?;
-    post(&rt, alloc, &mut right, 0, &[3])?;
-    right.take(alloc, left.board())?;
+    let right = other_rank(&rt, alloc)?;
+    let mut again = posted(&rt, alloc, Proc::new(0), 2, &[(0, [2].as_slice())])?;
     harvests_no_clash(&rt, alloc, &mut again, right.board())
 }

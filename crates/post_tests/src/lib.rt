@@ -1,5 +1,9 @@
-//! Tests of drafts, posts and rows, with values from outside.
+//! Tests of drafts and posts: refusals with values from outside, and one run of each call that takes memory.
 #![tactic(auto)]
 
 #[cfg(test)]
-mod drafts;
+mod making;
+#[cfg(test)]
+mod posts;
+#[cfg(test)]
+mod refusals;

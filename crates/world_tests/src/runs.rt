@@ -1,77 +1,41 @@
 //! Posts travel through a relay; refusals; what is enough, and what is kept.
-use crate::making::{harvest, post, proc, prune, replies, send, take};
+use crate::making::{Act, has_sum, holds_own, proc, run};
 use mpx_board::PruneError;
-use mpx_name::Name;
 use mpx_post::PostError;
-use mpx_value::Outcome;
-use mpx_world::{Cut, Event, Names, Reply, World};
+use mpx_world::{Reply, World};
 use std::alloc::Global;
 use std::process::Abort;
 use std::test::Fail;
 
-// The process has this sum as the result of a call.
-fn has_sum(
-    rt: &impl Abort,
-    alloc: Global,
-    world: &World,
-    number: u8,
-    call: u32,
-    sum: i128,
-) -> Result<(), Fail> {
-    let node = world.node(proc(number)).ok_or("no node")?;
-    let finished = node.result(&Name::world(alloc), call).ok_or("no result")?;
-    match &finished.outcome {
-        Outcome::Items(items) => assert_eq!(rt; items.nums(), [sum].as_slice()),
-        _ => return Err(Fail::from("no items")),
-    }
-    Ok(())
+fn a_relay_takes_and_sends(rt: &impl Abort, alloc: Global, world: &mut World) -> Result<(), Fail> {
+    let rows = [
+        (0, Act::Post(1), Reply::Posted(0)),
+        (1, Act::Post(2), Reply::Posted(0)),
+        (0, Act::Send, Reply::Sent(0)),
+        (1, Act::Send, Reply::Sent(1)),
+        (2, Act::Take(0), Reply::Taken),
+        (2, Act::Take(1), Reply::Taken),
+        (2, Act::Send, Reply::Sent(2)),
+        (0, Act::Take(2), Reply::Taken),
+        (0, Act::Take(2), Reply::Taken),
+        (1, Act::Take(2), Reply::Taken),
+        (0, Act::Harvest, Reply::Harvested(0)),
+        (1, Act::Harvest, Reply::Harvested(0)),
+        (0, Act::Harvest, Reply::NotYet),
+        (0, Act::Take(9), Reply::NoSuchPart),
+        (3, Act::Send, Reply::NoSuchProcess),
+    ];
+    run(rt, alloc, world, &rows)
 }
 
 #[test]
 fn a_relay_carries_posts(rt: HostRuntime) -> Result<(), Fail> {
     let alloc = rt.alloc();
     let mut world = World::new(alloc, 2, 3)?;
-    let events = vec![in alloc;
-        post(alloc, 0, 1)?,
-        post(alloc, 1, 2)?,
-        send(0),
-        send(1),
-        take(2, 0),
-        take(2, 1),
-        send(2),
-        take(0, 2),
-        take(0, 2),
-        take(1, 2),
-        harvest(alloc, 0),
-        harvest(alloc, 1),
-        harvest(alloc, 0),
-        take(0, 9),
-        send(3),
-    ]?;
-    let told = replies(alloc, &mut world, &events)?;
-    assert_eq!(rt;
-        told.as_slice(),
-        [
-            Reply::Posted(0),
-            Reply::Posted(0),
-            Reply::Sent(0),
-            Reply::Sent(1),
-            Reply::Taken,
-            Reply::Taken,
-            Reply::Sent(2),
-            Reply::Taken,
-            Reply::Taken,
-            Reply::Taken,
-            Reply::Harvested(0),
-            Reply::Harvested(0),
-            Reply::NotYet,
-            Reply::NoSuchPart,
-            Reply::NoSuchProcess,
-        ]
-        .as_slice()
-    );
-    has_sum(&rt, alloc, &world, 0, 0, 3)?;
-    has_sum(&rt, alloc, &world, 1, 0, 3)?;
+    a_relay_takes_and_sends(&rt, alloc, &mut world)?;
+    for number in [0, 1] {
+        has_sum(&rt, alloc, &world, number, 0, 3)?;
+    }
     assert!(rt; world.node(proc(3)).is_none());
     Ok(())
 }
@@ -80,40 +44,28 @@ fn a_relay_carries_posts(rt: HostRuntime) -> Result<(), Fail> {
 fn refusals_and_cuts(rt: HostRuntime) -> Result<(), Fail> {
     let alloc = rt.alloc();
     let mut world = World::new(alloc, 1, 2)?;
-    let events = vec![in alloc;
-        post(alloc, 1, 1)?,
-        harvest(alloc, 1),
-        post(alloc, 0, 4_294_967_296)?,
-        post(alloc, 0, 7)?,
-        harvest(alloc, 0),
-        prune(alloc, 0, 2),
-        prune(alloc, 0, 1),
-        Event::Send {
-            proc: proc(0),
-            cut: Cut::Names(Names::new(Vec::new(alloc)))
-        },
-        take(1, 0),
-        // No such process is asked before no such part.
-        take(2, 9),
-    ]?;
-    let told = replies(alloc, &mut world, &events)?;
-    assert_eq!(rt;
-        told.as_slice(),
-        [
-            Reply::PostRefused(PostError::NotMember),
-            Reply::NotOpened,
+    let rows = [
+        (1, Act::Post(1), Reply::PostRefused(PostError::NotMember)),
+        (1, Act::Harvest, Reply::NotOpened),
+        (
+            0,
+            Act::Post(4_294_967_296),
             Reply::PostRefused(PostError::ItemOutOfRange),
-            Reply::Posted(0),
-            Reply::Harvested(0),
+        ),
+        (0, Act::Post(7), Reply::Posted(0)),
+        (0, Act::Harvest, Reply::Harvested(0)),
+        (
+            0,
+            Act::Prune(2),
             Reply::PruneRefused(PruneError::AboveFloor(1)),
-            Reply::Pruned,
-            Reply::Sent(0),
-            Reply::Taken,
-            Reply::NoSuchProcess,
-        ]
-        .as_slice()
-    );
-    Ok(())
+        ),
+        (0, Act::Prune(1), Reply::Pruned),
+        (0, Act::SendNothing, Reply::Sent(0)),
+        (1, Act::Take(0), Reply::Taken),
+        // No such process is asked before no such part.
+        (2, Act::Take(9), Reply::NoSuchProcess),
+    ];
+    run(&rt, alloc, &mut world, &rows)
 }
 
 // One part of the other, sent after its second post, is enough for both calls.
@@ -121,32 +73,54 @@ fn refusals_and_cuts(rt: HostRuntime) -> Result<(), Fail> {
 fn one_part_is_enough(rt: HostRuntime) -> Result<(), Fail> {
     let alloc = rt.alloc();
     let mut world = World::new(alloc, 2, 2)?;
-    let events = vec![in alloc;
-        post(alloc, 1, 10)?,
-        post(alloc, 1, 20)?,
-        send(1),
-        post(alloc, 0, 1)?,
-        post(alloc, 0, 2)?,
-        harvest(alloc, 0),
-        take(0, 0),
-        harvest(alloc, 0),
-        harvest(alloc, 0),
-        harvest(alloc, 0),
-    ]?;
-    let told = replies(alloc, &mut world, &events)?;
-    assert_eq!(rt;
-        told.as_slice().get(5..),
-        Some([
-            Reply::NotYet,
-            Reply::Taken,
-            Reply::Harvested(0),
-            Reply::Harvested(1),
-            Reply::NotYet,
-        ]
-        .as_slice())
-    );
-    has_sum(&rt, alloc, &world, 0, 0, 11)?;
-    has_sum(&rt, alloc, &world, 0, 1, 22)?;
+    let rows = [
+        (1, Act::Post(10), Reply::Posted(0)),
+        (1, Act::Post(20), Reply::Posted(1)),
+        (1, Act::Send, Reply::Sent(0)),
+        (0, Act::Post(1), Reply::Posted(0)),
+        (0, Act::Post(2), Reply::Posted(1)),
+        (0, Act::Harvest, Reply::NotYet),
+        (0, Act::Take(0), Reply::Taken),
+        (0, Act::Harvest, Reply::Harvested(0)),
+        (0, Act::Harvest, Reply::Harvested(1)),
+        (0, Act::Harvest, Reply::NotYet),
+    ];
+    run(&rt, alloc, &mut world, &rows)?;
+    for (call, sum) in [(0, 11), (1, 22)] {
+        has_sum(&rt, alloc, &world, 0, call, sum)?;
+    }
+    Ok(())
+}
+
+fn only_one_harvests(rt: &impl Abort, alloc: Global, world: &mut World) -> Result<(), Fail> {
+    let rows = [
+        (0, Act::Post(1), Reply::Posted(0)),
+        (1, Act::Post(2), Reply::Posted(0)),
+        (1, Act::Send, Reply::Sent(0)),
+        (0, Act::Take(0), Reply::Taken),
+        (0, Act::Harvest, Reply::Harvested(0)),
+        (
+            0,
+            Act::Prune(1),
+            Reply::PruneRefused(PruneError::AboveFloor(0)),
+        ),
+    ];
+    run(rt, alloc, world, &rows)?;
+    assert!(rt; holds_own(alloc, world, 0, 0)?);
+    Ok(())
+}
+
+fn the_other_harvests(rt: &impl Abort, alloc: Global, world: &mut World) -> Result<(), Fail> {
+    let rows = [
+        (0, Act::Send, Reply::Sent(1)),
+        (1, Act::Take(1), Reply::Taken),
+        (1, Act::Harvest, Reply::Harvested(0)),
+        (1, Act::Send, Reply::Sent(2)),
+        (0, Act::Take(2), Reply::Taken),
+        (0, Act::Prune(1), Reply::Pruned),
+    ];
+    run(rt, alloc, world, &rows)?;
+    assert!(rt; !holds_own(alloc, world, 0, 0)?);
     Ok(())
 }
 
@@ -154,45 +128,11 @@ fn one_part_is_enough(rt: HostRuntime) -> Result<(), Fail> {
 #[test]
 fn an_own_post_is_kept(rt: HostRuntime) -> Result<(), Fail> {
     let alloc = rt.alloc();
-    let name = Name::world(alloc);
     let mut world = World::new(alloc, 2, 2)?;
-    let first = vec![in alloc;
-        post(alloc, 0, 1)?,
-        post(alloc, 1, 2)?,
-        send(1),
-        take(0, 0),
-        harvest(alloc, 0),
-        prune(alloc, 0, 1),
-    ]?;
-    let told = replies(alloc, &mut world, &first)?;
-    assert_eq!(rt;
-        told.as_slice().get(4..),
-        Some([
-            Reply::Harvested(0),
-            Reply::PruneRefused(PruneError::AboveFloor(0))
-        ]
-        .as_slice())
-    );
-    let node = world.node(proc(0)).ok_or("no node")?;
-    assert!(rt; node.board().holds(&name, 0, proc(0)).is_some());
-
-    let second = vec![in alloc;
-        send(0),
-        take(1, 1),
-        harvest(alloc, 1),
-        send(1),
-        take(0, 2),
-        prune(alloc, 0, 1),
-    ]?;
-    let told = replies(alloc, &mut world, &second)?;
-    assert_eq!(rt;
-        told.as_slice().get(2..3),
-        Some([Reply::Harvested(0)].as_slice())
-    );
-    assert_eq!(rt; told.as_slice().get(5..), Some([Reply::Pruned].as_slice()));
-    let node = world.node(proc(0)).ok_or("no node")?;
-    assert!(rt; node.board().holds(&name, 0, proc(0)).is_none());
-    has_sum(&rt, alloc, &world, 0, 0, 3)?;
-    has_sum(&rt, alloc, &world, 1, 0, 3)?;
+    only_one_harvests(&rt, alloc, &mut world)?;
+    the_other_harvests(&rt, alloc, &mut world)?;
+    for number in [0, 1] {
+        has_sum(&rt, alloc, &world, number, 0, 3)?;
+    }
     Ok(())
 }
