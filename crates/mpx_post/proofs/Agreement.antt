@@ -1,5 +1,5 @@
 -- What a fine row says of each rank's post.
-use Rattle.std.proofs.Common.{◌≡◌, ℕ, ◌<◌, Bool, true, length, Option, Some, None, refl, sym, ap, ◌∙◌, eqb-true}
+use Rattle.std.proofs.Common.{◌≡◌, ℕ, ◌<◌, true, length, Option, Some, None, refl, sym, ap, ◌∙◌, eqb-true}
 use Rattle.std.specs.Option.{option_map, option_map_or}
 use Rattle.std.specs.Prelude.{unwrap_or}
 use Rattle.std.proofs.lemmas.Bool.{and_parts}
@@ -9,7 +9,7 @@ use Rattle.mpx_num.specs.ItemList.{ItemList}
 use Rattle.mpx_post.specs.Kinds.{fields_of, number_in}
 use Rattle.mpx_post.specs.Posts.{Given, type_of}
 use Rattle.mpx_post.specs.Rows.{RowView}
-use Rattle.mpx_post.specs.Agreement.{post_at, first_of, type_given, is_root, fits_root, fits_type, blocks_of, fill, is_fit, IsFine}
+use Rattle.mpx_post.specs.Agreement.{post_at, first_of, is_root, fits_root, fits_type, blocks_of, fill, is_fit, IsFine}
 
 -- the type of the items, by the type that is given
 type_by_given : (items : Option ItemList) → option_map_or (λ (items : ItemList). items.ty) items I8 ≡ unwrap_or (option_map (λ (items : ItemList). items.ty) items) I8

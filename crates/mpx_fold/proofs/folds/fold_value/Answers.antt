@@ -1,9 +1,7 @@
-use Rattle.std.proofs.Common.{◌≡◌, ℕ, ◌∙◌, Result, true, ap, sym, subst}
+use Rattle.std.proofs.Common.{◌≡◌, ℕ, ◌∙◌, ap, sym, subst}
 use Rattle.std.specs.Result.{IfOk}
-use Rattle.join_core.specs.declared.memory.OutOfMemory.{OutOfMemory}
 use Rattle.mpx_post.specs.declared.kinds.Kind.{Kind}
 use Rattle.mpx_post.specs.declared.kinds.Family.{Family}
-use Rattle.mpx_post.specs.declared.kinds.Family.TheVariants.{Exchange, Reduction}
 use Rattle.mpx_post.specs.declared.value.Value.{Value}
 use Rattle.mpx_post.specs.Kinds.{family_of, fields_of}
 use Rattle.mpx_post.specs.Posts.{Given}

@@ -6,7 +6,6 @@ use Rattle.std.proofs.lemmas.Bool.{cond-true, cond-false}
 use Rattle.std.proofs.lemmas.Bool.Decides.{nat_tests}
 use Rattle.join_core.specs.declared.memory.OutOfMemory.{OutOfMemory}
 use Rattle.mpx_post.specs.declared.kinds.Kind.{Kind}
-use Rattle.mpx_post.specs.declared.kinds.Kind.TheVariants as K
 use Rattle.mpx_post.specs.declared.kinds.Family.TheVariants as F
 use Rattle.mpx_post.specs.declared.kinds.Reduction.TheVariants.{Reduce}
 use Rattle.mpx_post.specs.declared.value.Value.{Value}
