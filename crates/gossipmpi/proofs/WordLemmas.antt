@@ -1,28 +1,19 @@
--- What clap makes of the one word `run`.
-use Rattle.std.proofs.Common.{◌≡◌, ◌∷◌, ◌∙◌, [], ℕ, List, Option, None, Some, ap, codes, refl, true}
-use Rattle.clap.specs.Takes.{takes}
-use Rattle.clap.proofs.OnLiterals.{clap_on_literals}
-use Rattle.std.proofs.lemmas.Option.{none-some}
-use Rattle.gossipmpi.specs.Words.{AsksFor, program_app, second_of_two}
-use Rattle.gossipmpi.specs.declared.command.Job.TheVariants.{Run}
+-- Options that words give.
+use Rattle.std.proofs.Common.{◌≡◌, ℕ, ◌≤◌, ◌-◌, List, [], ◌∷◌, length, map, drop, take, get_or, Some, refl, sym, ap, ◌∙◌, arith}
+use Rattle.std.specs.Prelude.{option_and_then}
+use Rattle.mpx_run.specs.declared.options.Options.{Options}
+use Rattle.gossipmpi.specs.Words.{options_in, with_option}
 
-run_is_taken : (name : List ℕ) → takes program_app (name ∷ codes "run" ∷ []) ≡ true
-unfolding clap_on_literals
-run_is_taken name = refl
+take_whole : {A : Type 0} (xs : List A) → take (length xs) xs ≡ xs
+take_whole [] = refl
+take_whole (x ∷ xs) = ap (λ ys. x ∷ ys) (take_whole xs)
 
--- the words are taken
-pub takes_run : (words : List (List ℕ)) (name : List ℕ) → words ≡ name ∷ codes "run" ∷ []
-    → takes program_app words ≡ true
-takes_run words name e = ap (takes program_app) e ∙ run_is_taken name
-
-word_in : Option (List ℕ) → List ℕ
-word_in (Some word) = word
-word_in None = []
-
--- two words of which the second is `run` ask for a run
-pub asks_run : (words : List (List ℕ)) → second_of_two words ≡ Some (codes "run") → AsksFor words Run
-unfolding word_in
-asks_run [] e = absurd (none-some _ e)
-asks_run (name ∷ []) e = absurd (none-some _ e)
-asks_run (name ∷ word ∷ []) e = (name, ap (λ w. name ∷ w ∷ []) (ap word_in e))
-asks_run (name ∷ word ∷ more ∷ rest) e = absurd (none-some _ e)
+-- the first two words are an option
+pub one_option : {A : Type 0} (f : A → List ℕ) (o more : Options) (words : List A) (x y : A) → 2 ≤ length words → x ≡ get_or words 0 x → y ≡ get_or words 1 y → with_option o (f x) (f y) ≡ Some more
+    → options_in more (map f (take (length words - 2) (drop 2 words))) ≡ options_in o (map f words)
+one_option f o more [] x y l e g h = absurd (omega (arith, l))
+one_option f o more (u ∷ []) x y l e g h = absurd (omega (arith, l))
+one_option f o more (u ∷ v ∷ rest) x y l e g h =
+    let count : length (u ∷ v ∷ rest) - 2 ≡ length rest = omega arith in
+    ap (λ n. options_in more (map f (take n rest))) count ∙ ap (λ ws. options_in more (map f ws)) (take_whole rest)
+    ∙ ap (option_and_then (λ p. options_in p (map f rest))) (sym h ∙ λ i. with_option o (f (e i)) (f (g i)))

@@ -8,13 +8,14 @@ use Rattle.mpx_run.specs.Texts.{error_text}
 use Rattle.mpx_run.specs.declared.end.End.{End}
 use Rattle.mpx_run.specs.declared.end.End.TheVariants.{Finished, Waiting}
 use Rattle.mpx_run.specs.declared.texts.RunError.{RunError}
-use Rattle.mpx_run.specs.declared.texts.RunError.TheVariants.{Script, Memory, Read, Write}
+use Rattle.mpx_run.specs.declared.texts.RunError.TheVariants.{Script, TooManyProcesses, Memory, Read, Write}
 
 -- the status of a run
 abbrev pub status : Result End RunError → ℕ
 status (Ok Finished) = 0
 status (Ok (Waiting ranks)) = 3
 status (Err (Script refusal)) = 2
+status (Err TooManyProcesses) = 1
 status (Err Memory) = 4
 status (Err Read) = 5
 status (Err Write) = 5

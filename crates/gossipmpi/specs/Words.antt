@@ -1,26 +1,41 @@
 -- The words of a call, and the job that they ask for.
-use Rattle.std.specs.Prelude.{◌≡◌, List, [], ◌∷◌, Option, Some, None, true, codes}
+use Rattle.std.specs.Prelude.{ℕ, ℤ, pos, negsuc, ◌&&◌, List, [], ◌∷◌, Option, Some, None, codes, bytes_eq, nat_le, option_and_then, if◌then◌else◌}
+use Rattle.std.specs.Option.{option_map}
+use Rattle.mpx_num.specs.Text.{number_of}
+use Rattle.mpx_run.specs.declared.options.Options.{Options}
 use Rattle.clap.specs.Walk.{Text}
-use Rattle.clap.specs.Simple.{App, new_app, new_shape, on_top, with_subcommand}
 use Rattle.gossipmpi.specs.declared.command.Job.{Job}
 use Rattle.gossipmpi.specs.declared.command.Job.TheVariants.{Run}
 
--- the program as clap reads it: it wants a command, and `run` is one
-abbrev pub program_app : App
-program_app = with_subcommand
-    (on_top (λ s. record s { subcommand_required = true; arg_required_else_help = true })
-    (new_app (codes "gossipmpi")))
-    (new_shape (codes "run"))
+-- a number from the least to the most
+abbrev pub in_range : (least most : ℕ) → ℤ → Option ℕ
+in_range least most (pos n) = if nat_le least n && nat_le n most then Some n else None
+in_range least most (negsuc n) = None
 
--- the word of a job
-abbrev pub word_of : Job → Text
-word_of Run = codes "run"
+abbrev pub number_within : (least most : ℕ) → Text → Option ℕ
+number_within least most word = option_and_then (in_range least most) (number_of word)
 
--- the program's name and a job's word, and nothing else
-abbrev pub AsksFor : List Text → Job → Type 0
-AsksFor words job = (name : Text) × (words ≡ name ∷ word_of job ∷ [])
+-- without options
+abbrev pub usual : Options
+usual = record { seed = 1; loss = 0; relays = 0; turns = 100000 }
 
--- the second of two words, where there are just two
-abbrev pub second_of_two : List Text → Option Text
-second_of_two (name ∷ word ∷ []) = Some word
-second_of_two words = None
+-- these options with one more
+abbrev pub with_option : Options → (option value : Text) → Option Options
+with_option o option value =
+    if bytes_eq option (codes "--seed") then option_map (λ n. record o { seed = n }) (number_within 0 18446744073709551615 value) else
+    if bytes_eq option (codes "--loss") then option_map (λ n. record o { loss = n }) (number_within 0 100 value) else
+    if bytes_eq option (codes "--relays") then option_map (λ n. record o { relays = n }) (number_within 0 63 value) else
+    if bytes_eq option (codes "--turns") then option_map (λ n. record o { turns = n }) (number_within 1 10000000 value) else
+    None
+
+-- these options with those that the words give, each followed by its number
+abbrev pub options_in : Options → List Text → Option Options
+options_in o [] = Some o
+options_in o (option ∷ []) = None
+options_in o (option ∷ value ∷ rest) = option_and_then (λ p. options_in p rest) (with_option o option value)
+
+-- what the words ask for: the program's name, `run`, and options
+abbrev pub job_in : List Text → Option Job
+job_in [] = None
+job_in (name ∷ []) = None
+job_in (name ∷ command ∷ rest) = if bytes_eq command (codes "run") then option_map (λ o. Run o) (options_in usual rest) else None

@@ -1,26 +1,121 @@
 //! The words of a call, and the job that they ask for.
-ghost use Rattle.std.specs.Prelude.{◌≡◌, ◌⊎◌, IfErr, IfOk, map, option_map, string_bytes};
-ghost use Rattle.clap.specs.Words.{app_of, kind_of};
-ghost use Rattle.gossipmpi.specs.Words.{AsksFor, program_app, second_of_two};
+ghost use Rattle.std.specs.Prelude.{◌≡◌, ◌≤◌, ◌⊎◌, IfErr, IfOk, IfSome, None, Some, length, map, string_bytes};
+ghost use Rattle.clap.specs.Words.{kind_of};
+ghost use Rattle.gossipmpi.specs.Words.{job_in, number_within, options_in, usual, with_option};
 
 use clap::error::ErrorKind;
-use clap::{Command, Error};
+use clap::{Arg, Command, Error};
+use mpx_num::parse_number;
+use mpx_run::Options;
 use std::alloc::{AllocError, Global};
 
 /// What a call asks the program to do.
 #[derive(Clone, Copy, Debug, PartialEq, Eq)]
 pub enum Job {
-    /// `run`: run the script.
-    Run,
+    /// `run`: run the script so.
+    Run(Options),
 }
 
-/// The program's commands, as clap reads and explains them.
-fn program<'a>(alloc: Global) -> Result<Command<'a>, AllocError>
-    ensures { IfOk result (λ c. app_of c ≡ program_app) }
+/// The job that `words` ask for, of which the first is the program's own name and the second the command's: `run` with
+/// `--seed N` (any u64, else 1), `--loss P` (0 to 100, else 0), `--relays N` (0 to 63, else 0) and `--turns N` (1 to
+/// 10,000,000, else 100,000). Of an option that is given twice the last counts. A refusal has clap's text, or is want of
+/// memory.
+pub fn job_of(alloc: Global, words: &[String]) -> Result<Job, Error>
+    ensures ok { IfOk result (λ job. job_in (map string_bytes words.now) ≡ Some job) }
+    ensures err { IfErr result (λ e. job_in (map string_bytes words.now) ≡ None) }
 {
-    let run = Command::new(alloc, "run").about(
-        "Run the job script on standard input and print each rank's transcript",
-    );
+    match job_in(words) {
+        Some(job) => Ok(job),
+        None => Err(no_job(alloc, words)),
+    }
+}
+
+fn job_in(words: &[String]) -> Option<Job>
+    ensures { result ≡ job_in (map string_bytes words.now) }
+{
+    match words {
+        [] => None,
+        [_] => None,
+        [_, command, rest @ ..] => {
+            if command.as_bytes() != b"run".as_slice() {
+                return None;
+            }
+            let options = options_in(usual(), rest)?;
+            Some(Job::Run(options))
+        }
+    }
+}
+
+// Without options.
+fn usual() -> Options
+    ensures { result ≡ usual }
+{
+    Options {
+        seed: 1,
+        loss: 0,
+        relays: 0,
+        turns: 100_000,
+    }
+}
+
+// These options with those that the words give, each followed by its number.
+fn options_in(options: Options, words: &[String]) -> Option<Options>
+    ensures { result ≡ options_in options (map string_bytes words.now) }
+{
+    match words {
+        [] => Some(options),
+        [_] => None,
+        [option, value, rest @ ..] => {
+            let more = with_option(options, option.as_bytes(), value.as_bytes())?;
+            options_in(more, rest)
+        }
+    }
+}
+
+// These options with one more.
+fn with_option(options: Options, option: &[u8], value: &[u8]) -> Option<Options>
+    ensures { result ≡ with_option options option.now value.now }
+{
+    if option == b"--seed".as_slice() {
+        let seed = number_within(0, u64::MAX, value)?;
+        return Some(Options { seed, ..options });
+    }
+    if option == b"--loss".as_slice() {
+        let loss = number_within(0, 100, value)? as u8;
+        return Some(Options { loss, ..options });
+    }
+    if option == b"--relays".as_slice() {
+        let relays = number_within(0, 63, value)? as u8;
+        return Some(Options { relays, ..options });
+    }
+    if option == b"--turns".as_slice() {
+        let turns = number_within(1, 10_000_000, value)? as u32;
+        return Some(Options { turns, ..options });
+    }
+    None
+}
+
+// The number that a word is, from the least to the most.
+fn number_within(least: u64, most: u64, word: &[u8]) -> Option<u64>
+    ensures number { result ≡ number_within least most word.now }
+    ensures most { IfSome result (λ n. n ≤ most) }
+{
+    let number = parse_number(word)?;
+    if i128::from(least) <= number && number <= i128::from(most) {
+        Some(number as u64)
+    } else {
+        None
+    }
+}
+
+// The program's commands, as clap explains them.
+fn program<'a>(alloc: Global) -> Result<Command<'a>, AllocError> {
+    let run = Command::new(alloc, "run")
+        .about("Run the job script on standard input and print each rank's transcript")
+        .arg(Arg::new(alloc, "seed").long("seed").help("What all draws follow from [default: 1]"))?
+        .arg(Arg::new(alloc, "loss").long("loss").help("How many frames of a hundred are lost [default: 0]"))?
+        .arg(Arg::new(alloc, "relays").long("relays").help("How many processes only carry frames, 0 to 63 [default: 0]"))?
+        .arg(Arg::new(alloc, "turns").long("turns").help("How many turns are made at most, 1 to 10000000 [default: 100000]"))?;
     Command::new(alloc, "gossipmpi")
         .bin_name("gossipmpi")?
         .about("Run job scripts of MPI collective operations over a gossiped board")
@@ -29,40 +124,19 @@ fn program<'a>(alloc: Global) -> Result<Command<'a>, AllocError>
         .subcommand(run)
 }
 
-/// The job that `words` ask for, of which the first is the program's own name and the second, the last, the command's.
-/// A refusal has clap's text, or is want of memory.
-pub fn job_of<'a>(alloc: Global, words: &'a [String]) -> Result<Job, Error>
-    ensures ok { IfOk result (λ job. AsksFor (map string_bytes words.entry.now) job) }
-    ensures run { IfErr result (λ e. AsksFor (map string_bytes words.entry.now) Job.Run → kind_of e ≡ ErrorKind.OutOfMemory) }
-{
-    match program(alloc)?.try_get_matches_from(words) {
-        Ok(_) => match only_word(words) {
-            Some("run") => Ok(Job::Run),
-            _ => Err(not_alone(alloc)),
-        },
-        Err(refusal) => Err(refusal),
+// Why the words ask for no job: clap's refusal, or that the options aren't pairs of words within their limits.
+fn no_job(alloc: Global, words: &[String]) -> Error {
+    let Ok(program) = program(alloc) else {
+        return Error::from(AllocError);
+    };
+    match program.try_get_matches_from(words) {
+        Ok(_) => refusal(
+            alloc,
+            ErrorKind::InvalidValue,
+            "an option is followed by its number, within its limits",
+        ),
+        Err(refusal) => refusal,
     }
-}
-
-// The word after the program's name, where it is the last.
-fn only_word(words: &[String]) -> Option<&str>
-    ensures { option_map (λ word. word.now) result ≡ second_of_two (map string_bytes words.now) }
-{
-    match words {
-        [_, word] => Some(word.as_str()),
-        _ => None,
-    }
-}
-
-// The refusal of words that clap takes, as `run --`, but that aren't one command's name alone.
-fn not_alone(alloc: Global) -> Error
-    ensures { (kind_of result ≡ ErrorKind.UnknownArgument) ⊎ (kind_of result ≡ ErrorKind.OutOfMemory) }
-{
-    refusal(
-        alloc,
-        ErrorKind::UnknownArgument,
-        "nothing stands beside a command",
-    )
 }
 
 /// The refusal of words of which one is no text.

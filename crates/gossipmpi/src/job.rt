@@ -32,8 +32,8 @@ pub fn run_job<R: Read, W: Write, E: Write>(
         result.status (λ said. OnOk result.told (Appends (E.contents err.old) (E.contents err.new) said)) }
 {
     match job_of(alloc, words) {
-        Ok(Job::Run) => {
-            let answer = run_text(alloc, reader, out);
+        Ok(Job::Run(options)) => {
+            let answer = run_text(alloc, &options, reader, out);
             Exit {
                 status: status_of(&answer),
                 told: write_message(&answer, err),

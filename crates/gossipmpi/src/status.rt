@@ -17,6 +17,7 @@ pub fn status_of(answer: &Result<End, RunError>) -> u8
         Ok(End::Finished) => 0,
         Ok(End::Waiting(_)) => 3,
         Err(RunError::Script(_)) => 2,
+        Err(RunError::TooManyProcesses) => 1,
         Err(RunError::Memory) => 4,
         Err(RunError::Read | RunError::Write) => 5,
     }

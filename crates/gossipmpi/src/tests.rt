@@ -104,20 +104,20 @@ fn refuses_words(rt: HostRuntime) -> Result<(), Fail> {
         (&["walk"], b"ranks 1\n", 1, b"", "error: ", "'walk'"),
         (&["run", "fast"], b"ranks 1\n", 1, b"", "error: ", "'fast'"),
         (
-            &["run", "--"],
+            &["run", "--loss", "101"],
             b"ranks 1\n",
             1,
             b"",
             "error: ",
-            "Usage: gossipmpi",
+            "within its limits",
         ),
         (
-            &["run", "--seed", "1"],
+            &["run", "--seed"],
             b"ranks 1\n",
             1,
             b"",
             "error: ",
-            "'--seed'",
+            "--seed",
         ),
     ];
     check_calls(&rt, rt.alloc(), table.as_slice())

@@ -1,5 +1,4 @@
-pub mod Moving
-pub mod Turning
-pub mod Exchanging
+pub mod Coupling
+pub mod Running
 pub mod Reporting
 pub mod Pieces

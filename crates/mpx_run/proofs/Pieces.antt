@@ -148,9 +148,10 @@ takes_part None left text t = ([], omega arith, tt)
 takes_part (Some all) left text t = (text, subst (λ xs. length xs ≤ bytes_limit + 1) (sym t.0) (within_take (bytes_limit + 1) all), t.1)
 
 -- the answer of a text's run is that of a reader which gives the text
-pub runs_input : (there left old new : Option (List ℕ)) (text now : List ℕ) (answer : Result End RunError) → TakesInput there left text → now ≡ text → Prints now old new answer → Runs there left old new answer
-runs_input there left old new text now (Ok end) t e p = record { text = text; taken = t; prints = subst (λ xs. Prints xs old new (Ok end)) e p }
-runs_input there left old new text now (Err (E.Script refusal)) t e p = record { text = text; taken = t; prints = subst (λ xs. Prints xs old new (Err (E.Script refusal))) e p }
-runs_input there left old new text now (Err E.Memory) t e p = (takes_part there left text t, p)
-runs_input there left old new text now (Err E.Read) t e p = absurd p
-runs_input there left old new text now (Err E.Write) t e p = record { text = text; taken = t; prints = subst (λ xs. Prints xs old new (Err E.Write)) e p }
+pub runs_input : (relays : ℕ) (there left old new : Option (List ℕ)) (text now : List ℕ) (answer : Result End RunError) → TakesInput there left text → now ≡ text → Prints relays now old new answer → Runs relays there left old new answer
+runs_input relays there left old new text now (Ok end) t e p = record { text = text; taken = t; prints = subst (λ xs. Prints relays xs old new (Ok end)) e p }
+runs_input relays there left old new text now (Err (E.Script refusal)) t e p = record { text = text; taken = t; prints = subst (λ xs. Prints relays xs old new (Err (E.Script refusal))) e p }
+runs_input relays there left old new text now (Err E.TooManyProcesses) t e p = record { text = text; taken = t; prints = subst (λ xs. Prints relays xs old new (Err E.TooManyProcesses)) e p }
+runs_input relays there left old new text now (Err E.Memory) t e p = (takes_part there left text t, p)
+runs_input relays there left old new text now (Err E.Read) t e p = absurd p
+runs_input relays there left old new text now (Err E.Write) t e p = record { text = text; taken = t; prints = subst (λ xs. Prints relays xs old new (Err E.Write)) e p }

@@ -1,213 +1,197 @@
--- What the ranks show at the start and at the end, and what the evaluation's text and waits are by it.
-use Rattle.std.proofs.Common.{◌≡◌, ℕ, zero, suc, ◌+◌, ◌<◌, Bool, true, false, cond, List, [], ◌∷◌, ◌++◌, length, map, take, drop, Option, Some, refl, sym, ap, ◌∙◌, arith, pos, codes, subst}
-use Rattle.std.proofs.Common.{Result, Ok, Err, IfOk}
-use Rattle.std.proofs.lemmas.List.{map-append}
-use Rattle.std.specs.Prelude.{slice_get, ◌||◌, ◌&&◌, None, is_some, nat_lt, unwrap_or}
-use Rattle.std.proofs.lemmas.Option.{slice_get_within}
+-- What is reported of a run.
+use Rattle.std.proofs.Common.{◌≡◌, ℕ, zero, suc, ◌+◌, ◌<◌, ◌≤◌, Bool, true, false, cond, List, [], ◌∷◌, ◌++◌, length, map, take, drop, Option, Some, None, refl, sym, ap, ◌∙◌, subst, arith, pos, codes}
+use Rattle.std.specs.Prelude.{slice_get, nat_lt, unwrap_or, ◌||◌, is_some}
+use Rattle.std.specs.Option.{option_map}
+use Rattle.std.proofs.lemmas.List.{map-append, length-map}
+use Rattle.std.proofs.lemmas.Option.{slice_get-map}
 use Rattle.std.proofs.lemmas.Bool.Decides.{nat_tests}
-use Rattle.join_core.specs.Flat.{known, unknown}
-use Rattle.mpx_name.specs.Order.{name_equality}
-use Rattle.mpx_board.specs.Boards.{Context, nothing}
-use Rattle.mpx_node.specs.Nodes.{opened_at_start, start_node, posted_by as opened_posted, results_by}
 use Rattle.mpx_num.specs.Text.{number_text}
+use Rattle.mpx_node.specs.Nodes.{NodeView}
+use Rattle.mpx_board.specs.Boards.{Look}
+use Rattle.mpx_world.proofs.Lists.{slice_get-append, slice_get-push}
+use Rattle.mpx_world.proofs.Steps.{sound_of}
 use Rattle.mpx_script.specs.declared.statement.Statement.{Statement}
-use Rattle.mpx_script.specs.Ranks.{doing}
-use Rattle.mpx_script.specs.Evaluation.{State, start, history, world_of}
-use Rattle.mpx_script.specs.Transcripts.{rank_text, text_upto}
-use Rattle.mpx_script.proofs.Ends.{start_quiet}
-use Rattle.mpx_run.specs.Running.{RankView, Stands, todo_of, of_world, harvested_by}
-use Rattle.mpx_run.specs.Turns.{Agrees, TellsTruth, IsHarvested, Shows, IsFull, Ends}
-use Rattle.mpx_run.proofs.Moving.{world_about}
-use Rattle.mpx_run.specs.Views.{start_rank, starts_from, lines_of, has_statements, is_waiting}
 use Rattle.mpx_script.specs.ScriptView.{ScriptView}
+use Rattle.mpx_script.specs.Ranks.{Todo, Line, Local, doing}
+use Rattle.mpx_script.specs.Evaluation.{State, IsEvaluation, IsPrefixOf, known}
+use Rattle.mpx_script.specs.Transcripts.{line_text, rank_text, text_upto}
+use Rattle.mpx_script.specs.Reports.{which, is_left, lines_in, waiting_in}
+use Rattle.mpx_script.proofs.Ways.{Way, way-adds}
+use Rattle.mpx_script.proofs.Ahead.{on_way-reached, finished}
+use Rattle.mpx_run.specs.Running.{RankView, IsUnderWay, todo_of, has_statements, is_waiting, is_waiting_at}
+use Rattle.mpx_run.specs.Runs.{IsRun, IsReport, Begin, AreWhole, EndsSo, lines_at}
 use Rattle.mpx_run.specs.declared.end.End.{End}
-use Rattle.mpx_run.specs.Reports.{which, is_left, lines_in, EndsSo, Comes, IsReport}
+use Rattle.mpx_run.specs.declared.end.End.TheVariants.{Finished, Waiting}
+use Rattle.mpx_run.proofs.Coupling.{mapped_some, tells_results}
+use Rattle.mpx_run.proofs.Running.{coupled}
 
--- THE START
+-- LISTS
 
--- one more rank
-pub starts_more : (n p k : ℕ) (todos : List (List Statement)) (todo : List Statement) → slice_get todos k ≡ Some todo → starts_from n p (take (suc k) todos) ≡ starts_from n p (take k todos) ++ start_rank n (p + k) todo ∷ []
-starts_more n p k [] todo e = cc e
-starts_more n p zero (x ∷ xs) todo e =
-    let same : x ≡ todo = cc e in
-    let here : p ≡ p + 0 = omega arith in
-    λ i. start_rank n (here i) (same i) ∷ []
-starts_more n p (suc k) (x ∷ xs) todo e =
-    let here : suc p + k ≡ p + suc k = omega arith in
-    ap (λ rs. start_rank n p x ∷ rs) (starts_more n (suc p) k xs todo e ∙ ap (λ q. starts_from n (suc p) (take k xs) ++ start_rank n q todo ∷ []) here)
+-- what is among the first of a list
+taken_at : {A : Type 0} (n : ℕ) (xs : List A) (p : ℕ) (x : A) → slice_get (take n xs) p ≡ Some x → (p < n) × (slice_get xs p ≡ Some x)
+taken_at zero xs p x e = cc e
+taken_at (suc n) [] p x e = cc e
+taken_at (suc n) (y ∷ ys) zero x e = (omega arith, e)
+taken_at (suc n) (y ∷ ys) (suc p) x e = let rest = taken_at n ys p x e in (omega (arith, rest.0), rest.1)
 
--- the code's list of ranks after one more
-pub one_more_started : {A : Type 0} (view : A → RankView) (ranks new : List A) (n count k : ℕ) (x : A) (todos : List (List Statement)) (todo : List Statement) → count ≡ n → new ≡ ranks ++ x ∷ [] → map view ranks ≡ starts_from n 0 (take k todos) → view x ≡ start_rank count k todo → slice_get todos k ≡ Some todo → map view new ≡ starts_from n 0 (take (k + 1) todos)
-one_more_started view ranks new n count k x todos todo same e before is at =
-    let here : 0 + k ≡ k = omega arith in
-    let next : suc k ≡ k + 1 = omega arith in
-    let one : view x ≡ start_rank n (0 + k) todo = is ∙ (λ i. start_rank (same i) (sym here i) todo) in
-    ap (map view) e ∙ map-append view ranks (x ∷ []) ∙ (λ i. before i ++ one i ∷ []) ∙ sym (starts_more n 0 k todos todo at) ∙ ap (λ j. starts_from n 0 (take j todos)) next
+length_taken : {A : Type 0} (n : ℕ) (xs : List A) → n ≤ length xs → length (take n xs) ≡ n
+length_taken zero xs l = refl
+length_taken (suc n) [] l = absurd (omega (arith, l))
+length_taken (suc n) (x ∷ xs) l = ap suc (length_taken n xs (omega (arith, l)))
 
-pub length-starts : (n p : ℕ) (todos : List (List Statement)) → length (starts_from n p todos) ≡ length todos
-length-starts n p [] = refl
-length-starts n p (x ∷ xs) = ap suc (length-starts n (suc p) xs)
-
--- rank p of the start
-record StartsAt (n at : ℕ) (todo : Option (List Statement)) (r : RankView) : Type 0 where
-  list : List Statement
-  is : todo ≡ Some list
-  rank : r ≡ start_rank n at list
-
-start_at : (n p k : ℕ) (todos : List (List Statement)) (r : RankView) → slice_get (starts_from n p todos) k ≡ Some r → StartsAt n (p + k) (slice_get todos k) r
-start_at n p k [] r e = cc e
-start_at n p zero (x ∷ xs) r e =
-    let same : start_rank n p x ≡ r = cc e in
-    let here : p ≡ p + 0 = omega arith in
-    record { list = x; is = refl; rank = sym same ∙ ap (λ q. start_rank n q x) here }
-start_at n p (suc k) (x ∷ xs) r e =
-    let here : suc p + k ≡ p + suc k = omega arith in
-    let rest = start_at n (suc p) k xs r e in
-    record { list = rest.list; is = rest.is; rank = rest.rank ∙ ap (λ q. start_rank n q rest.list) here }
-
--- the ranks before their statements show the start of the script
-module _ (n : ℕ) (todos : List (List Statement)) (few : length todos ≡ n) where
-  first_at : (p : ℕ) (r : RankView) → slice_get (starts_from n 0 todos) p ≡ Some r → StartsAt n p (slice_get todos p) r
-  first_at p r e =
-      let here : 0 + p ≡ p = omega arith in
-      let at = start_at n 0 p todos r e in
-      record { list = at.list; is = at.is; rank = at.rank ∙ ap (λ q. start_rank n q at.list) here }
-
-  opened_first : (p : ℕ) → p < n → opened_at_start p n [] ≡ Some (record { posted = 0; results = [] })
-  opened_first p l =
-      let below : nat_lt p n ≡ true = grind (arith, nat_tests, l) in
-      λ i. cond (name_equality.reflexive [] i && below i) (Some (record { posted = 0; results = [] })) None
-
-  stands_start : (p : ℕ) (list : List Statement) → p < n → slice_get todos p ≡ Some list → Stands (start_rank n p list) (start todos n p)
-  stands_start p list l e =
-      let opened = opened_first p l in
-      let born = world_about (record nothing { birth = known (world_of n) }) in
-      let dropped : (of_world (start_node p n).board).dropped ≡ 0 = ap (λ (c : Context). c.dropped) born in
-      record {
-        me = refl;
-        opened = ap is_some opened;
-        ranks = n;
-        born = ap (λ (c : Context). c.birth) born;
-        bound = refl;
-        todo = ap (λ o. doing (unwrap_or o [])) e;
-        posted = ap opened_posted opened;
-        harvested = ap opened_posted opened ∙ sym (ap (λ o. length (results_by o) + 0) opened);
-        kept = omega (arith, dropped);
-        own = λ k given m f. cc f;
-        lines = refl;
-      }
-
-  within : (p : ℕ) (r : RankView) → slice_get (starts_from n 0 todos) p ≡ Some r → p < n
-  within p r e = omega (arith, slice_get_within (starts_from n 0 todos) p r e, length-starts n 0 todos, few)
-
-  stands_first : (p : ℕ) (r : RankView) → slice_get (starts_from n 0 todos) p ≡ Some r → Stands r (start todos n p)
-  stands_first p r e =
-      let at = first_at p r e in
-      subst (λ (x : RankView). Stands x (start todos n p)) (sym at.rank) (stands_start p at.list (within p r e) at.is)
-
-  tells_nothing : (p : ℕ) (r : RankView) → slice_get (starts_from n 0 todos) p ≡ Some r → TellsTruth r.node.board (history (start todos n))
-  tells_nothing p r e k q =
-      let at = first_at p r e in
-      let born = world_about (record nothing { birth = known (world_of n) }) in
-      let none : (of_world (start_node p n).board).posts k q ≡ unknown = ap (λ (c : Context). c.posts k q) born in
-      subst (λ (b : RankView). Agrees ((of_world b.node.board).posts k q) (history (start todos n) [] k q)) (sym at.rank) (subst (λ v. Agrees v (history (start todos n) [] k q)) (sym none) tt)
-
-  nothing_harvested : (p : ℕ) (r : RankView) → slice_get (starts_from n 0 todos) p ≡ Some r → IsHarvested (starts_from n 0 todos) r.node.board
-  nothing_harvested p r e q x f =
-      let at = first_at p r e in
-      let born = world_about (record nothing { birth = known (world_of n) }) in
-      let fronts : (of_world r.node.board).fronts q ≡ 0 = ap (λ (b : RankView). (of_world b.node.board).fronts q) at.rank ∙ ap (λ (c : Context). c.fronts q) born in
-      let dropped : (of_world r.node.board).dropped ≡ 0 = ap (λ (b : RankView). (of_world b.node.board).dropped) at.rank ∙ ap (λ (c : Context). c.dropped) born in
-      (omega (arith, fronts), omega (arith, dropped))
-
-  pub shows_start : Shows n (starts_from n 0 todos) (start todos n)
-  shows_start = record {
-    count = length-starts n 0 todos ∙ few;
-    each = stands_first;
-    truth = tells_nothing;
-    fronts = nothing_harvested;
-    me = λ p. refl;
-    bound = λ p. refl;
-    quiet = start_quiet todos n (omega (arith, few));
-  }
-
-  pub full_start : IsFull n (starts_from n 0 todos) (start todos n)
-  full_start p r e k q given l above f = cc f
-
--- THE END
-
--- the text is that of the same lines
-pub text_same : (f g : (p : ℕ) → List (List ℕ)) (n : ℕ) → ((p : ℕ) → p < n → f p ≡ g p) → text_upto f n ≡ text_upto g n
-text_same f g zero h = refl
-text_same f g (suc n) h = λ i. text_same f g n (λ p l. h p (omega (arith, l))) i ++ rank_text n (h n (omega arith) i)
-
-pub which_same : (f g : ℕ → Bool) (n : ℕ) → ((p : ℕ) → p < n → f p ≡ g p) → which f n ≡ which g n
-which_same f g zero h = refl
-which_same f g (suc n) h = λ i. which_same f g n (λ p l. h p (omega (arith, l))) i ++ cond (h n (omega arith) i) (n ∷ []) []
-
-left_doing : (todo : List Statement) → has_statements todo ≡ is_left (doing todo)
-left_doing [] = refl
-left_doing (x ∷ xs) = refl
-
-left_todo : (waits : Bool) (call : ℕ) (todo : List Statement) → (waits || has_statements todo) ≡ is_left (todo_of waits call todo)
-left_todo true call todo = refl
-left_todo false call todo = left_doing todo
+pub map_taken : {A B : Type 0} (f : A → B) (n : ℕ) (xs : List A) → map f (take n xs) ≡ take n (map f xs)
+map_taken f zero xs = refl
+map_taken f (suc n) [] = refl
+map_taken f (suc n) (x ∷ xs) = ap (λ ys. f x ∷ ys) (map_taken f n xs)
 
 some_at : {A : Type 0} (xs : List A) (p : ℕ) → p < length xs → (x : A) × (slice_get xs p ≡ Some x)
 some_at [] p l = absurd (omega (arith, l))
 some_at (x ∷ xs) zero l = (x, refl)
 some_at (x ∷ xs) (suc p) l = some_at xs p (omega (arith, l))
 
-module _ (n : ℕ) (ranks : List RankView) (s : State) (shows : Shows n ranks s) where
-  line_of : (p : ℕ) → p < n → lines_of (slice_get ranks p) ≡ lines_in s p
-  line_of p l =
-      let found = some_at ranks p (omega (arith, l, shows.count)) in
-      ap lines_of found.1 ∙ (shows.each p found.0 found.1).lines
+mapped_at : {A B : Type 0} (f : A → B) (xs : List A) (p : ℕ) (y : B) → slice_get (map f xs) p ≡ Some y → (x : A) × (slice_get xs p ≡ Some x) × (f x ≡ y)
+mapped_at f xs p y e = mapped_some f (slice_get xs p) y (sym (slice_get-map f xs p) ∙ e)
 
-  waits_at : (p : ℕ) → p < n → is_waiting (slice_get ranks p) ≡ is_left (s p).todo
+-- WHO WAITS
+
+which_same : (f g : ℕ → Bool) (n : ℕ) → ((p : ℕ) → p < n → f p ≡ g p) → which f n ≡ which g n
+which_same f g zero h = refl
+which_same f g (suc n) h = λ i. which_same f g n (λ p l. h p (omega (arith, l))) i ++ cond (h n (omega arith) i) (n ∷ []) []
+
+-- each number that passes the test is there
+which_has : (test : ℕ → Bool) (n p : ℕ) → p < n → test p ≡ true → (place : ℕ) × (slice_get (which test n) place ≡ Some p)
+which_has test zero p l e = absurd (omega (arith, l))
+which_has test (suc n) p l e = by_last (nat_lt p n) refl (which_has test n p) where
+  by_last : (b : Bool) → nat_lt p n ≡ b → (p < n → test p ≡ true → (place : ℕ) × (slice_get (which test n) place ≡ Some p)) → (place : ℕ) × (slice_get (which test (suc n)) place ≡ Some p)
+  by_last true t before =
+      let below : p < n = grind (arith, nat_tests, t) in
+      let found = before below e in
+      (found.0, slice_get-append (which test n) (cond (test n) (n ∷ []) []) found.0 p found.1)
+  by_last false t before =
+      let above : n ≤ p = grind (arith, nat_tests, t) in
+      let same : p ≡ n = omega (arith, l, above) in
+      let here : test n ≡ true = ap test (sym same) ∙ e in
+      (length (which test n), ap (λ b. slice_get (which test n ++ cond b (n ∷ []) []) (length (which test n))) here ∙ slice_get-push (which test n) n ∙ ap Some (sym same))
+
+nothing_left : (todo : List Todo) → (is_left todo ≡ true → ⊥) → todo ≡ []
+nothing_left [] none = refl
+nothing_left (x ∷ rest) none = absurd (none refl)
+
+left_doing : (todo : List Statement) → has_statements todo ≡ is_left (doing todo)
+left_doing [] = refl
+left_doing (x ∷ xs) = refl
+
+left_todo : (waits : Option ℕ) (todo : List Statement) → (is_some waits || has_statements todo) ≡ is_left (todo_of waits todo)
+left_todo (Some call) todo = refl
+left_todo None todo = left_doing todo
+
+-- A RUN
+
+prefix_map : (xs ys : List Line) → IsPrefixOf xs ys → IsPrefixOf (map line_text xs) (map line_text ys)
+prefix_map xs ys p = (map line_text p.0, sym (map-append line_text xs p.0) ∙ ap (map line_text) p.1)
+
+module _ (script : ScriptView) (relays : ℕ) (processes : List RankView) (frames : List Look) (run : IsUnderWay script.statements script.ranks (script.ranks + relays) processes frames) where
+  abbrev nodes : List NodeView
+  nodes = map (λ (r : RankView). r.node) processes
+
+  abbrev transcripts : List (List (List ℕ))
+  transcripts = take script.ranks (map (λ (r : RankView). r.lines) processes)
+
+  abbrev waiting : List ℕ
+  waiting = which (λ p. is_waiting_at (slice_get processes p)) script.ranks
+
+  lines_so : (p : ℕ) (lines : List (List ℕ)) → slice_get transcripts p ≡ Some lines → lines ≡ lines_in run.system.ranks p
+  lines_so p lines e =
+      let taken = taken_at script.ranks (map (λ (r : RankView). r.lines) processes) p lines e in
+      let found = mapped_at (λ (r : RankView). r.lines) processes p lines taken.1 in
+      sym found.2 ∙ (run.shows.stands p found.0 found.1 taken.0).lines
+
+  waits_at : (p : ℕ) → p < script.ranks → is_waiting_at (slice_get processes p) ≡ is_left (run.system.ranks p).todo
   waits_at p l =
-      let found = some_at ranks p (omega (arith, l, shows.count)) in
+      let found = some_at processes p (omega (arith, l, run.shows.count)) in
       let r : RankView = found.0 in
-      ap is_waiting found.1 ∙ left_todo r.waits (harvested_by r) r.todo ∙ ap is_left (sym (shows.each p r found.1).todo)
+      ap is_waiting_at found.1 ∙ left_todo r.waits r.todo ∙ ap is_left (sym (run.shows.stands p r found.1 l).todo)
 
-  pub text_shown : text_upto (λ p. lines_of (slice_get ranks p)) n ≡ text_upto (lines_in s) n
-  text_shown = text_same (λ p. lines_of (slice_get ranks p)) (lines_in s) n line_of
+  waiting_so : waiting ≡ waiting_in run.system.ranks script.ranks
+  waiting_so = which_same (λ p. is_waiting_at (slice_get processes p)) (λ p. is_left (run.system.ranks p).todo) script.ranks waits_at
 
-  pub which_shown : which (λ p. is_waiting (slice_get ranks p)) n ≡ which (λ p. is_left (s p).todo) n
-  which_shown = which_same (λ p. is_waiting (slice_get ranks p)) (λ p. is_left (s p).todo) n waits_at
-
-pub comes_to : (n size : ℕ) (ranks : List RankView) (s : State) (end : End) (text : List ℕ) → size ≡ n → Ends n ranks s → text ≡ text_upto (λ p. lines_of (slice_get ranks p)) size → EndsSo end (which (λ p. is_waiting (slice_get ranks p)) size) → Comes n s end text
-comes_to n size ranks s end text same ends t w = record {
-  to = ends.to;
-  order = ends.order;
-  reached = ends.reached;
-  maximal = ends.maximal;
-  lines = t ∙ ap (text_upto (λ p. lines_of (slice_get ranks p))) same ∙ text_shown n ranks ends.to ends.shows;
-  ends = subst (EndsSo end) (ap (which (λ p. is_waiting (slice_get ranks p))) same ∙ which_shown n ranks ends.to ends.shows) w;
-}
-
-module _ (script : ScriptView) (few : length script.statements ≡ script.ranks) (ranks : List RankView) (first : ranks ≡ starts_from script.ranks 0 script.statements) where
-  counted : length ranks ≡ script.ranks
-  counted = ap length first ∙ length-starts script.ranks 0 script.statements ∙ few
-
-  -- what a script's ranks come to is its report
-  pub reported : (end : End) (text : List ℕ) (size : ℕ) → size ≡ length ranks → ((s : State) → Shows size ranks s → IsFull size ranks s → Comes size s end text) → IsReport script end text
-  reported end text size same f =
-      let from : State = start script.statements script.ranks in
-      let all : size ≡ script.ranks = same ∙ counted in
-      let shows : Shows size ranks from = subst (λ m. Shows m ranks from) (sym all) (subst (λ rs. Shows script.ranks rs from) (sym first) (shows_start script.ranks script.statements few)) in
-      let full : IsFull size ranks from = subst (λ m. IsFull m ranks from) (sym all) (subst (λ rs. IsFull script.ranks rs from) (sym first) (full_start script.ranks script.statements few)) in
-      let found : Comes script.ranks from end text = subst (λ m. Comes m from end text) all (f from shows full) in
+  pub is_run : IsRun script relays nodes transcripts waiting
+  is_run =
+      let c = coupled script.statements script.ranks (script.ranks + relays) processes frames run in
       record {
-        evaluation = found.to;
-        is = record { reached = record { order = found.order; reached = found.reached }; maximal = found.maximal };
-        lines = found.lines;
-        ends = found.ends;
+        system = run.system;
+        led = run.led;
+        sound = sound_of run.system.world c.holds;
+        processes = length-map processes (λ (r : RankView). r.node) ∙ run.shows.count;
+        nodes_are = λ p node e. let found = mapped_at (λ (r : RankView). r.node) processes p node e in sym found.2 ∙ run.shows.nodes p found.0 found.1;
+        posts = c.made;
+        relays_post_nothing = λ p over. c.made p ∙ c.relays p over;
+        carries_out = c.told;
+        told = tells_results script.statements script.ranks run.system c;
+        ranks_are = length_taken script.ranks (map (λ (r : RankView). r.lines) processes) (omega (arith, length-map processes (λ (r : RankView). r.lines), run.shows.count));
+        lines = lines_so;
+        waiting_are = waiting_so;
       }
 
-pub ok_then : {A E : Type 0} {P Q : A → Type 0} (r : Result A E) → ((x : A) → P x → Q x) → IfOk r P → IfOk r Q
-ok_then (Ok x) f h = f x h
-ok_then (Err e) f h = tt
+  module _ (end : State) (is : IsEvaluation script.statements script.ranks end) where
+    way : (p : ℕ) → Way (known script.ranks end p) (run.system.ranks p) (end p)
+    way p = (on_way-reached script.statements script.ranks end run.system.ranks is (coupled script.statements script.ranks (script.ranks + relays) processes frames run).reached).each p
+
+    pub begin : Begin transcripts end
+    begin p lines e = subst (λ xs. IsPrefixOf xs (lines_in end p)) (sym (lines_so p lines e)) (prefix_map (run.system.ranks p).lines (end p).lines (way-adds (known script.ranks end p) (run.system.ranks p) (end p) (way p)).1)
+
+    pub are_whole : AreWhole transcripts waiting end
+    are_whole p lines e other =
+        let l = (taken_at script.ranks (map (λ (r : RankView). r.lines) processes) p lines e).0 in
+        let todo : (run.system.ranks p).todo ≡ [] = nothing_left (run.system.ranks p).todo (λ is.
+            let found = which_has (λ q. is_left (run.system.ranks q).todo) script.ranks p l is in
+            other found.0 (ap (λ ws. slice_get ws found.0) waiting_so ∙ found.1)) in
+        lines_so p lines e ∙ ap (λ (x : Local). map line_text x.lines) (finished (known script.ranks end p) (run.system.ranks p) (end p) (way p) todo)
+
+module _ (script : ScriptView) (relays ranks : ℕ) (same : ranks ≡ script.ranks) (processes : List RankView) (frames : List Look) (run : IsUnderWay script.statements script.ranks (script.ranks + relays) processes frames)
+    (told : List NodeView) (said : List (List (List ℕ))) (wait : List ℕ) (nodes_so : told ≡ map (λ (r : RankView). r.node) processes) (lines_said : said ≡ take ranks (map (λ (r : RankView). r.lines) processes)) (wait_so : wait ≡ which (λ p. is_waiting_at (slice_get processes p)) ranks) where
+  said_so : transcripts script relays processes frames run ≡ said
+  said_so = sym (lines_said ∙ ap (λ n. take n (map (λ (r : RankView). r.lines) processes)) same)
+
+  waiting_is : waiting script relays processes frames run ≡ wait
+  waiting_is = sym (wait_so ∙ ap (which (λ p. is_waiting_at (slice_get processes p))) same)
+
+  pub run_said : IsRun script relays told said wait
+  run_said = subst (λ ns. IsRun script relays ns said wait) (sym nodes_so) (subst (λ ls. IsRun script relays (nodes script relays processes frames run) ls wait) said_so (subst (IsRun script relays (nodes script relays processes frames run) (transcripts script relays processes frames run)) waiting_is (is_run script relays processes frames run)))
+
+  pub begin_said : (e : State) → IsEvaluation script.statements script.ranks e → Begin said e
+  begin_said e is = subst (λ ls. Begin ls e) said_so (begin script relays processes frames run e is)
+
+  pub whole_said : (e : State) → IsEvaluation script.statements script.ranks e → AreWhole said wait e
+  whole_said e is = subst (λ ls. AreWhole ls wait e) said_so (subst (λ ws. AreWhole (transcripts script relays processes frames run) ws e) waiting_is (are_whole script relays processes frames run e is))
+
+-- THE TEXT
+
+text_same : (f g : (p : ℕ) → List (List ℕ)) (n : ℕ) → ((p : ℕ) → p < n → f p ≡ g p) → text_upto f n ≡ text_upto g n
+text_same f g zero h = refl
+text_same f g (suc n) h = λ i. text_same f g n (λ p l. h p (omega (arith, l))) i ++ rank_text n (h n (omega arith) i)
+
+nobody : (end : End) (waiting : List ℕ) → EndsSo end waiting → end ≡ Finished → waiting ≡ []
+nobody Finished waiting h e = h
+nobody (Waiting ranks) waiting h e = cc e
+
+pub reported : (script : ScriptView) (relays : ℕ) (nodes : List NodeView) (transcripts : List (List (List ℕ))) (waiting : List ℕ) (end : End) (text : List ℕ) → IsRun script relays nodes transcripts waiting
+    → ((e : State) → IsEvaluation script.statements script.ranks e → Begin transcripts e) → ((e : State) → IsEvaluation script.statements script.ranks e → AreWhole transcripts waiting e)
+    → text ≡ text_upto (lines_at transcripts) script.ranks → EndsSo end waiting → IsReport script relays end text
+reported script relays nodes transcripts waiting end text run begins whole lines ends = record {
+  nodes = nodes;
+  transcripts = transcripts;
+  waiting = waiting;
+  run = run;
+  lines = lines;
+  ends = ends;
+  begins = begins;
+  whole = λ e is finished.
+      let none = nobody end waiting ends finished in
+      lines ∙ text_same (lines_at transcripts) (lines_in e) script.ranks (λ p l.
+          let found = some_at transcripts p (omega (arith, l, run.ranks_are)) in
+          ap (λ o. unwrap_or o []) found.1 ∙ whole e is p found.0 found.1 (λ place at. cc (at, none)));
+}
 
 -- LINES
 

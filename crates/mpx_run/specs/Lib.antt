@@ -1,6 +1,5 @@
+pub mod Systems
 pub mod Running
 pub mod Shown
-pub mod Turns
-pub mod Views
-pub mod Reports
+pub mod Runs
 pub mod Texts

@@ -1,85 +1,98 @@
--- A rank of a run, and what it shows of where the rank stands in its script.
-use Rattle.std.specs.Prelude.{◌≡◌, ℕ, ◌+◌, ◌*◌, Bool, true, false, cond, List, [], ◌∷◌, ◌++◌, length, map, ◌≤◌, slice_get, is_some, Some, None}
-use Rattle.join_core.specs.Flat.{known, unknown}
-use Rattle.mpx_post.specs.Posts.{Given}
-use Rattle.mpx_board.specs.Boards.{Look, Context, Held, Front, join, only}
-use Rattle.mpx_value.specs.Histories.{posts_on, Results}
-use Rattle.mpx_node.specs.Nodes.{NodeView, posted_on, front_on, outcome_on}
+-- The processes of a run, and which system they show.
+use Rattle.std.specs.Prelude.{◌≡◌, ℕ, ◌<◌, ◌+◌, ◌*◌, Bool, true, false, ◌||◌, is_some, List, [], ◌∷◌, length, map, slice_get, Option, Some, None}
+use Rattle.std.proofs.Common.{set}
+use Rattle.std.specs.List.{All}
+use Rattle.mpx_board.specs.Boards.{Look}
+use Rattle.mpx_node.specs.Nodes.{NodeView, start_node, next_result, add_result}
+use Rattle.mpx_node.specs.declared.finished.Finished.{Finished}
 use Rattle.mpx_script.specs.declared.statement.Statement.{Statement}
-use Rattle.mpx_script.specs.Ranks.{Local, Todo, Await, step, doing}
-use Rattle.mpx_script.specs.Evaluation.{bound_at_start, world_of}
+use Rattle.mpx_script.specs.Ranks.{Todo, Await, Local, doing}
 use Rattle.mpx_script.specs.Transcripts.{line_text}
+use Rattle.mpx_run.specs.Systems.{System, Leads, start_system}
 
--- its node, the statements that are left, whether it waits for its last post, and the lines so far
+-- its node, the statements that are left, the call whose outcome it waits for, and the lines so far
 pub record RankView : Type 0 where
   pub node : NodeView
   pub todo : List Statement
-  pub waits : Bool
+  pub waits : Option ℕ
   pub lines : List (List ℕ)
 
--- what a board knows of the world
-abbrev pub of_world : Look → Context
-of_world b = b.contexts []
+abbrev pub todo_of : Option ℕ → List Statement → List Todo
+todo_of (Some call) rest = Await [] call ∷ doing rest
+todo_of None rest = doing rest
 
--- how many calls it has posted on the world
-abbrev pub posted_by : RankView → ℕ
-posted_by r = posted_on r.node []
-
--- how many calls it has harvested on the world
-abbrev pub harvested_by : RankView → ℕ
-harvested_by r = front_on r.node []
-
--- the posts that a rank made on the world
-abbrev pub world_posts : Local → List Given
-world_posts s = posts_on [] s.made
-
--- what the rows of the world that are whole on its board give it
-abbrev pub told_by : RankView → Results
-told_by r [] k = outcome_on r.node.board [] r.node.me k
-told_by r (step ∷ parent) k = None
-
--- what is left to do, where it waits for this call or for none
-abbrev pub todo_of : Bool → ℕ → List Statement → List Todo
-todo_of true call rest = Await [] call ∷ doing rest
-todo_of false call rest = doing rest
+abbrev pub awaited : Option ℕ → ℕ
+awaited (Some call) = 1
+awaited None = 0
 
 -- so much is left at most
 abbrev pub left_of : RankView → ℕ
-left_of r = 2 * length r.todo + cond r.waits 1 0
+left_of r = 2 * length r.todo + awaited r.waits
+
+abbrev pub has_statements : List Statement → Bool
+has_statements [] = false
+has_statements (x ∷ rest) = true
+
+-- whether it waits for an outcome, or has statements left
+abbrev pub is_waiting : RankView → Bool
+is_waiting r = is_some r.waits || has_statements r.todo
+
+abbrev pub is_waiting_at : Option RankView → Bool
+is_waiting_at None = false
+is_waiting_at (Some r) = is_waiting r
+
+-- a node with its next result stored, where there is one
+abbrev pub stored : Option Finished → NodeView → NodeView
+stored None node = node
+stored (Some finished) node = add_result [] finished node
+
+abbrev pub harvested : RankView → RankView
+harvested r = record r { node = stored (next_result r.node []) r.node }
 
 -- the rank stands there in its script
 pub record Stands (r : RankView) (s : Local) : Type 0 where
-  pub me : r.node.me ≡ s.me
-  pub opened : is_some (r.node.opened []) ≡ true
-  pub ranks : ℕ
-  pub born : (of_world r.node.board).birth ≡ known (world_of ranks)
-  pub bound : s.bound ≡ bound_at_start ranks
-  pub todo : s.todo ≡ todo_of r.waits (harvested_by r) r.todo
-  pub posted : posted_by r ≡ length (world_posts s)
-  pub harvested : posted_by r ≡ harvested_by r + cond r.waits 1 0
-  pub kept : (of_world r.node.board).dropped ≤ harvested_by r
-  pub own : (k : ℕ) (given : Given) → (of_world r.node.board).dropped ≤ k → slice_get (world_posts s) k ≡ Some given → (of_world r.node.board).posts k s.me ≡ known given
+  pub todo : s.todo ≡ todo_of r.waits r.todo
   pub lines : r.lines ≡ map line_text s.lines
 
--- its board tells nothing yet of its next post
-abbrev pub IsFresh : RankView → Local → Type 0
-IsFresh r s = (of_world r.node.board).posts (length (world_posts s)) s.me ≡ unknown
+abbrev pub IsAmong : List Look → Look → Type 0
+IsAmong parts b = (place : ℕ) × (slice_get parts place ≡ Some b)
 
--- what a move tells the board of the rank: nothing, the post that it makes, or how many calls it has harvested
-pub data Gains (old new : RankView) (s t : Local) : Type 0 where
-  tells_nothing : new.node.board ≡ old.node.board → world_posts t ≡ world_posts s → Gains old new s t
-  tells_post : (given : Given) → new.node.board ≡ join old.node.board (only (Held [] (length (world_posts s)) s.me (known given))) → world_posts t ≡ world_posts s ++ given ∷ [] → Gains old new s t
-  tells_front : new.node.board ≡ join old.node.board (only (Front [] s.me (harvested_by new))) → world_posts t ≡ world_posts s → Gains old new s t
+-- these nodes and ranks, and frames of which each was sent
+pub record Shows (ranks size : ℕ) (processes : List RankView) (frames : List Look) (s : System) : Type 0 where
+  pub count : length processes ≡ size
+  pub nodes : (p : ℕ) (r : RankView) → slice_get processes p ≡ Some r → r.node ≡ (s.world.each p).node
+  pub stands : (p : ℕ) (r : RankView) → slice_get processes p ≡ Some r → p < ranks → Stands r (s.ranks p)
+  pub sent : All (IsAmong s.world.parts) frames
 
--- a move of the rank by what its board tells
-pub record GoesOn (old new : RankView) (s : Local) : Type 0 where
-  pub to : Local
-  pub step : step (told_by old) s ≡ Some to
-  pub stands : Stands new to
-  pub gains : Gains old new s to
-  pub no_less : harvested_by old ≤ harvested_by new
+-- the processes and frames of a run of the script: they show a system to which doings lead
+pub record IsUnderWay (script : List (List Statement)) (ranks size : ℕ) (processes : List RankView) (frames : List Look) : Type 0 where
+  pub system : System
+  pub led : Leads ranks (start_system script ranks size) system
+  pub shows : Shows ranks size processes frames system
 
--- it moves, or can't by what its board tells
-abbrev pub Moves : Bool → RankView → RankView → Local → Type 0
-Moves true old new s = GoesOn old new s
-Moves false old new s = step (told_by old) s ≡ None
+-- in place of the one in a run stands the other
+abbrev pub Keeps : RankView → RankView → Type 0
+Keeps old new = (script : List (List Statement)) (ranks size : ℕ) (processes : List RankView) (frames : List Look) (p : ℕ) → slice_get processes p ≡ Some old
+    → IsUnderWay script ranks size processes frames → IsUnderWay script ranks size (set processes p new) frames
+
+-- the same of a rank
+abbrev pub Moves : RankView → RankView → Type 0
+Moves old new = (script : List (List Statement)) (ranks size : ℕ) (processes : List RankView) (frames : List Look) (p : ℕ) → p < ranks → slice_get processes p ≡ Some old
+    → IsUnderWay script ranks size processes frames → IsUnderWay script ranks size (set processes p new) frames
+
+-- the same of a process that takes one of the frames
+abbrev pub Receives : Look → RankView → RankView → Type 0
+Receives b old new = (script : List (List Statement)) (ranks size : ℕ) (processes : List RankView) (frames : List Look) (p i : ℕ) → slice_get processes p ≡ Some old → slice_get frames i ≡ Some b
+    → IsUnderWay script ranks size processes frames → IsUnderWay script ranks size (set processes p new) frames
+
+-- process p at the start
+pub record StartsAt (script : List (List Statement)) (ranks p : ℕ) (r : RankView) : Type 0 where
+  pub node : r.node ≡ start_node p ranks
+  pub todo : p < ranks → slice_get script p ≡ Some r.todo
+  pub waits : r.waits ≡ None
+  pub lines : r.lines ≡ []
+
+-- the first so many processes at the start
+pub record Starts (script : List (List Statement)) (ranks count : ℕ) (processes : List RankView) : Type 0 where
+  pub count_is : length processes ≡ count
+  pub each : (p : ℕ) (r : RankView) → slice_get processes p ≡ Some r → StartsAt script ranks p r

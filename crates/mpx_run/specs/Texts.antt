@@ -1,5 +1,5 @@
 -- What a run reads and writes.
-use Rattle.std.specs.Prelude.{◌≡◌, ◌≤◌, ℕ, ◌+◌, List, length, codes, take, Option, Result, Ok, Err, IfSome}
+use Rattle.std.specs.Prelude.{◌≡◌, ◌<◌, ◌≤◌, ℕ, ◌+◌, List, length, codes, take, Option, Result, Ok, Err, IfSome}
 use Rattle.std.specs.Io.KnownBytes.{Appends, Consumes, Keeps}
 use Rattle.mpx_script.specs.ScriptView.{ScriptView}
 use Rattle.mpx_script.specs.Faults.{error_text as refusal_text}
@@ -10,7 +10,7 @@ use Rattle.mpx_run.specs.declared.bytes.ReadFault.TheVariants as Fault
 use Rattle.mpx_run.specs.declared.end.End.{End}
 use Rattle.mpx_run.specs.declared.texts.RunError.{RunError}
 use Rattle.mpx_run.specs.declared.texts.RunError.TheVariants as E
-use Rattle.mpx_run.specs.Reports.{IsReport}
+use Rattle.mpx_run.specs.Runs.{IsReport}
 
 -- the bytes that are read, where it is known what there is: one more than a script may have, or all
 abbrev pub IsInput : Option (List ℕ) → List ℕ → Type 0
@@ -32,48 +32,58 @@ told Fault.Reader = E.Read
 -- an error as text
 abbrev pub error_text : RunError → List ℕ
 error_text (E.Script refusal) = refusal_text refusal
+error_text E.TooManyProcesses = codes "too many processes"
 error_text E.Memory = codes "out of memory"
 error_text E.Read = codes "read fault"
 error_text E.Write = codes "write fault"
 
--- a text is read as a script, whose report is that
-pub record RunsTo (text : List ℕ) (end : End) (out : List ℕ) : Type 0 where
+-- a text is read as a script, of which a run with so many relays comes to that end and text
+pub record RunsTo (relays : ℕ) (text : List ℕ) (end : End) (out : List ℕ) : Type 0 where
   pub script : ScriptView
   pub read : reading text ≡ Ok script
-  pub report : IsReport script end out
+  pub few : script.ranks + relays ≤ 64
+  pub report : IsReport script relays end out
+
+-- a text is read as a script that has too many ranks for so many relays
+pub record HasTooMany (relays : ℕ) (text : List ℕ) : Type 0 where
+  pub script : ScriptView
+  pub read : reading text ≡ Ok script
+  pub many : 64 < script.ranks + relays
 
 -- the whole report of the text is out
-pub record PrintsWhole (text : List ℕ) (old new : Option (List ℕ)) (end : End) : Type 0 where
+pub record PrintsWhole (relays : ℕ) (text : List ℕ) (old new : Option (List ℕ)) (end : End) : Type 0 where
   pub out : List ℕ
-  pub runs : RunsTo text end out
+  pub runs : RunsTo relays text end out
   pub written : Appends old new out
 
 -- a beginning of the text's report is out
-pub record PrintsPart (text : List ℕ) (old new : Option (List ℕ)) : Type 0 where
+pub record PrintsPart (relays : ℕ) (text : List ℕ) (old new : Option (List ℕ)) : Type 0 where
   pub end : End
   pub out : List ℕ
-  pub runs : RunsTo text end out
+  pub runs : RunsTo relays text end out
   pub count : ℕ
   pub written : Appends old new (take count out)
 
 -- what is out after the run of a text, by the answer
-abbrev pub Prints : (text : List ℕ) (old new : Option (List ℕ)) → Result End RunError → Type 0
-Prints text old new (Ok end) = PrintsWhole text old new end
-Prints text old new (Err (E.Script refusal)) = (reading text ≡ Err refusal) × Keeps old new
-Prints text old new (Err E.Memory) = Keeps old new
-Prints text old new (Err E.Read) = ⊥
-Prints text old new (Err E.Write) = PrintsPart text old new
+abbrev pub Prints : (relays : ℕ) (text : List ℕ) (old new : Option (List ℕ)) → Result End RunError → Type 0
+Prints relays text old new (Ok end) = PrintsWhole relays text old new end
+Prints relays text old new (Err (E.Script refusal)) = (reading text ≡ Err refusal) × Keeps old new
+Prints relays text old new (Err E.TooManyProcesses) = HasTooMany relays text × Keeps old new
+Prints relays text old new (Err E.Memory) = Keeps old new
+Prints relays text old new (Err E.Read) = ⊥
+Prints relays text old new (Err E.Write) = PrintsPart relays text old new
 
 -- the reader's text is taken, and run
-pub record RunsInput (there left old new : Option (List ℕ)) (answer : Result End RunError) : Type 0 where
+pub record RunsInput (relays : ℕ) (there left old new : Option (List ℕ)) (answer : Result End RunError) : Type 0 where
   pub text : List ℕ
   pub taken : TakesInput there left text
-  pub prints : Prints text old new answer
+  pub prints : Prints relays text old new answer
 
 -- what a reader has left and what is out after a run, by the answer
-abbrev pub Runs : (there left old new : Option (List ℕ)) → Result End RunError → Type 0
-Runs there left old new (Ok end) = RunsInput there left old new (Ok end)
-Runs there left old new (Err (E.Script refusal)) = RunsInput there left old new (Err (E.Script refusal))
-Runs there left old new (Err E.Memory) = TakesPart there left × Keeps old new
-Runs there left old new (Err E.Read) = TakesPart there left × Keeps old new
-Runs there left old new (Err E.Write) = RunsInput there left old new (Err E.Write)
+abbrev pub Runs : (relays : ℕ) (there left old new : Option (List ℕ)) → Result End RunError → Type 0
+Runs relays there left old new (Ok end) = RunsInput relays there left old new (Ok end)
+Runs relays there left old new (Err (E.Script refusal)) = RunsInput relays there left old new (Err (E.Script refusal))
+Runs relays there left old new (Err E.TooManyProcesses) = RunsInput relays there left old new (Err E.TooManyProcesses)
+Runs relays there left old new (Err E.Memory) = TakesPart there left × Keeps old new
+Runs relays there left old new (Err E.Read) = TakesPart there left × Keeps old new
+Runs relays there left old new (Err E.Write) = RunsInput relays there left old new (Err E.Write)

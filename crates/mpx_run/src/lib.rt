@@ -1,16 +1,22 @@
-//! Running a script: every rank goes on as far as it can, boards are exchanged, and what comes of it is the script's
-//! evaluation.
+//! Running a script over a lossy interconnect: ranks go on as far as they can, boards are lost, repeated and reordered, and
+//! what each rank writes begins what it writes in the script's evaluation.
 //!
-//! In the order of reading: [`run_text`], which answers an [`End`] or a [`RunError`], and [`run_bytes`], which is its part
-//! once the script is read.
+//! In the order of reading: [`Options`], [`run_sim`], which answers a [`Run`], and [`run_text`], which reads a script, runs
+//! it and writes its lines, and answers an [`End`] or a [`RunError`]; [`run_bytes`] is its part once the script is read.
 #![tactic(auto)]
 
 mod bytes;
 mod end;
+mod laws;
+mod options;
 mod rank;
 mod report;
+mod schedule;
 mod texts;
 mod turns;
 
 pub use end::End;
+pub use laws::every_run_begins_the_evaluation;
+pub use options::Options;
+pub use report::{Run, run_sim};
 pub use texts::{RunError, run_bytes, run_text};

@@ -1,70 +1,125 @@
-//! The report of a run: its text, and who waits.
-ghost use Rattle.std.specs.Prelude.{◌≡◌, ◌++◌, ◌<◌, ◌≤◌, ◌∷◌, [], cond, IfOk, OnOk, length, map, slice_get, string_bytes};
+ghost use Rattle.std.specs.Prelude.{◌≡◌, ◌++◌, ◌≤◌, ◌+◌, ◌<◌, ◌∷◌, [], cond, IfOk, OnOk, length, map, take, slice_get, string_bytes};
+ghost use Rattle.mpx_node.specs.Shown.{node_of};
+ghost use Rattle.mpx_script.specs.Evaluation.{State, IsEvaluation};
+ghost use Rattle.mpx_script.specs.Reports.{transcripts_of, which};
 ghost use Rattle.mpx_script.specs.Transcripts.{rank_text, text_upto};
+ghost use Rattle.mpx_run.specs.Running.{RankView, is_waiting_at};
+ghost use Rattle.mpx_run.specs.Runs.{AreWhole, Begin, EndsSo, IsReport, IsRun, lines_at};
 ghost use Rattle.mpx_run.specs.Shown.{rank_of};
-ghost use Rattle.mpx_script.specs.Evaluation.{State};
-ghost use Rattle.mpx_run.specs.Turns.{Shows, IsFull};
-ghost use Rattle.mpx_run.specs.Reports.{Comes, EndsSo, IsReport, which};
-ghost use Rattle.mpx_run.specs.Views.{starts_from, lines_of, is_waiting};
 
 use crate::end::End;
+use crate::options::Options;
 use crate::rank::Rank;
-use crate::turns::run_to_the_end;
+use crate::turns::simulate;
 use join_core::OutOfMemory;
+use mpx_node::Node;
 use mpx_num::push_number;
-use mpx_script::Script;
+use mpx_script::{Report, Script};
 use std::alloc::Global;
 
-/// The text of a run, each line as `RANK: LINE`, and how it ended.
+/// What a run comes to, and the node of each process: first those of the ranks, then the relays'.
 #[derive(Drop)]
-pub struct Report {
-    pub text: String,
-    pub end: End,
+pub struct Run {
+    /// The lines of each rank, and who waits.
+    pub report: Report,
+    /// The node of each process.
+    pub nodes: Vec<Node>,
 }
 
-/// Runs a script: its report is that of its evaluation.
-pub fn run(alloc: Global, script: &Script) -> Result<Report, OutOfMemory>
-    ensures { IfOk result (λ report. IsReport script.now report.end (string_bytes report.text)) }
+/// Runs a script's ranks, and relays, over an interconnect that loses, repeats and reorders frames.
+///
+/// In each turn every rank in order goes on with its script until an outcome is missing, each process drops what all
+/// members have harvested, and sends its whole board to one process; then the turn's frames come in a drawn order, but for
+/// those that are lost. One in four of those that come is taken again, one to four turns later. The run ends once all ranks
+/// have finished, once no turn can change anything any more, or with the last turn. Equal options give equal runs.
+pub fn run_sim(alloc: Global, script: &Script, options: &Options) -> Result<Run, OutOfMemory>
+    requires { script.now.ranks + options.now.relays ≤ 64 }
+    ensures run { IfOk result (λ run. IsRun script.now options.now.relays (map node_of run.nodes.items) (transcripts_of run.report) run.report.waiting.items) }
+    ensures begins { IfOk result (λ run. (evaluation : State) → IsEvaluation script.now.statements script.now.ranks evaluation → Begin (transcripts_of run.report) evaluation) }
+    ensures whole { IfOk result (λ run. (evaluation : State) → IsEvaluation script.now.statements script.now.ranks evaluation → AreWhole (transcripts_of run.report) run.report.waiting.items evaluation) }
 {
-    let mut ranks = start(alloc, script)?;
-    run_ranks(alloc, &mut ranks)
+    let processes = simulate(alloc, script, options)?;
+    let ranks = script.ranks();
+    let waiting = waiting_of(alloc, processes.as_slice(), ranks)?;
+    let (mut transcripts, nodes) = parts_of(alloc, processes)?;
+    transcripts.truncate(ranks as usize);
+    Ok(Run {
+        report: Report {
+            transcripts,
+            waiting,
+        },
+        nodes,
+    })
 }
 
-// Runs these ranks to the end.
-fn run_ranks(alloc: Global, ranks: &mut [Rank<'_>]) -> Result<Report, OutOfMemory>
-    requires { length ranks.old ≤ 64 }
-    ensures { IfOk result (λ report. (s : State) → Shows (length ranks.old) (map rank_of ranks.old) s
-        → IsFull (length ranks.old) (map rank_of ranks.old) s
-        → Comes (length ranks.old) s report.end (string_bytes report.text)) }
+// The ranks that have something left, in rising order.
+fn waiting_of(alloc: Global, processes: &[Rank<'_>], ranks: u8) -> Result<Vec<u8>, OutOfMemory>
+    requires { ranks ≤ length processes.now }
+    ensures { IfOk result (λ waiting. waiting.items ≡ which (λ p. is_waiting_at (slice_get (map rank_of processes.now) p)) ranks) }
 {
-    run_to_the_end(alloc, ranks)?;
-    let text = text_of(alloc, ranks)?;
-    let end = end_of(alloc, ranks)?;
-    Ok(Report { text, end })
-}
-
-// The ranks before their statements.
-fn start(alloc: Global, script: &Script) -> Result<Vec<Rank<'_>>, OutOfMemory>
-    ensures count { length script.now.statements ≡ script.now.ranks }
-    ensures few { script.now.ranks ≤ 64 }
-    ensures ranks { IfOk result (λ ranks. map rank_of ranks.items ≡ starts_from script.now.ranks 0 script.now.statements) }
-{
-    let mut ranks = Vec::new(alloc);
-    let count = script.ranks();
-    for rank in 0..count {
-        ranks.push(Rank::new(alloc, rank, count, script.statements(rank))?)?;
+    let mut waiting = Vec::new(alloc);
+    for p in 0..ranks {
+        push_where(&mut waiting, p, processes[p as usize].is_waiting())?;
     }
-    Ok(ranks)
+    Ok(waiting)
+}
+
+// Adds the rank where the test holds.
+fn push_where(ranks: &mut Vec<u8>, rank: u8, test: bool) -> Result<(), OutOfMemory>
+    ensures { OnOk result (ranks.new.items ≡ ranks.old.items ++ cond test (rank ∷ []) []) }
+{
+    if !test {
+        return Ok(());
+    }
+    ranks.push(rank)?;
+    Ok(())
+}
+
+// The lines and the node of each process.
+fn parts_of(
+    alloc: Global,
+    processes: Vec<Rank<'_>>,
+) -> Result<(Vec<Vec<String>>, Vec<Node>), OutOfMemory>
+    ensures lines { IfOk result (λ parts. map (λ lines. map string_bytes lines.items) parts.0.items ≡ map (λ (r : RankView). r.lines) (map rank_of processes.entry.items)) }
+    ensures nodes { IfOk result (λ parts. map node_of parts.1.items ≡ map (λ (r : RankView). r.node) (map rank_of processes.entry.items)) }
+{
+    let mut transcripts = Vec::new(alloc);
+    let mut nodes = Vec::new(alloc);
+    for process in processes {
+        let (node, lines) = process.into_parts();
+        transcripts.push(lines)?;
+        nodes.push(node)?;
+    }
+    Ok((transcripts, nodes))
+}
+
+/// The text of a run, and how it ended.
+#[derive(Drop)]
+pub(crate) struct Printed {
+    pub(crate) text: String,
+    pub(crate) end: End,
+}
+
+/// The lines of all ranks of a run, each as `RANK: LINE`, rank by rank, and who waits.
+pub(crate) fn print(alloc: Global, script: &Script, options: &Options) -> Result<Printed, OutOfMemory>
+    requires { script.now.ranks + options.now.relays ≤ 64 }
+    ensures { IfOk result (λ printed. IsReport script.now options.now.relays printed.end (string_bytes printed.text)) }
+{
+    let run = run_sim(alloc, script, options)?;
+    let ranks = script.ranks();
+    let text = text_of(alloc, &run.report, ranks)?;
+    let end = end_of(run.report.waiting);
+    Ok(Printed { text, end })
 }
 
 // The lines of all ranks.
-fn text_of(alloc: Global, ranks: &[Rank<'_>]) -> Result<String, OutOfMemory>
-    requires { length ranks.now ≤ 64 }
-    ensures { IfOk result (λ text. string_bytes text ≡ text_upto (λ p. lines_of (slice_get (map rank_of ranks.now) p)) (length ranks.now)) }
+fn text_of(alloc: Global, report: &Report, ranks: u8) -> Result<String, OutOfMemory>
+    requires { ranks ≤ length (transcripts_of report.now) }
+    ensures { IfOk result (λ text. string_bytes text ≡ text_upto (lines_at (transcripts_of report.now)) ranks) }
 {
     let mut text = String::new(alloc);
-    for p in 0..ranks.len() {
-        push_lines(&mut text, p as u8, ranks[p].lines())?;
+    for p in 0..ranks {
+        push_lines(&mut text, p, report.transcripts[p as usize].as_slice())?;
     }
     Ok(text)
 }
@@ -83,27 +138,11 @@ fn push_lines(text: &mut String, rank: u8, lines: &[String]) -> Result<(), OutOf
 }
 
 // Whether all are done, or who waits.
-fn end_of(alloc: Global, ranks: &[Rank<'_>]) -> Result<End, OutOfMemory>
-    requires { length ranks.now ≤ 64 }
-    ensures { IfOk result (λ end. EndsSo end (which (λ p. is_waiting (slice_get (map rank_of ranks.now) p)) (length ranks.now))) }
+fn end_of(waiting: Vec<u8>) -> End
+    ensures { EndsSo result waiting.items }
 {
-    let mut waiting = Vec::new(alloc);
-    for p in 0..ranks.len() {
-        push_where(&mut waiting, p as u8, ranks[p].is_waiting())?;
-    }
     if waiting.is_empty() {
-        return Ok(End::Finished);
+        return End::Finished;
     }
-    Ok(End::Waiting(waiting))
-}
-
-// Adds the rank where the test holds.
-fn push_where(ranks: &mut Vec<u8>, rank: u8, test: bool) -> Result<(), OutOfMemory>
-    ensures { OnOk result (ranks.new.items ≡ ranks.old.items ++ cond test (rank ∷ []) []) }
-{
-    if !test {
-        return Ok(());
-    }
-    ranks.push(rank)?;
-    Ok(())
+    End::Waiting(waiting)
 }

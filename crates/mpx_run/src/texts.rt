@@ -4,17 +4,23 @@ ghost use Rattle.mpx_run.specs.Texts.{Prints, Runs, error_text, told};
 
 use crate::bytes::{ReadFault, WriteFault, read_bytes, write_bytes};
 use crate::end::End;
-use crate::report::run;
+use crate::options::Options;
+use crate::report::print;
 use mpx_script::{ReadScriptError, ScriptError, read_script};
 use std::alloc::Global;
 use std::fmt;
 use std::io::{Read, Write};
+
+// So many ranks and relays there are at most.
+const MOST_PROCESSES: u8 = 64;
 
 /// Why a run has no end, or why its text could not be written whole. It prints as one line of text.
 #[derive(Debug, Drop)]
 pub enum RunError {
     /// The script is refused.
     Script(ScriptError),
+    /// There are more than 64 ranks and relays.
+    TooManyProcesses,
     /// There is no more memory.
     Memory,
     /// The reader failed.
@@ -29,6 +35,7 @@ impl fmt::Display for RunError {
     fn fmt<W: fmt::Write>(&self, f: &mut fmt::Formatter<W>) -> fmt::Result {
         match self {
             RunError::Script(refusal) => write!(f, "{refusal}"),
+            RunError::TooManyProcesses => f.write_str("too many processes"),
             RunError::Memory => f.write_str("out of memory"),
             RunError::Read => f.write_str("read fault"),
             RunError::Write => f.write_str("write fault"),
@@ -57,30 +64,39 @@ impl From<ReadFault> for RunError {
 /// nor that all is flushed: that is shown by tests.
 pub fn run_text<R: Read, W: Write>(
     alloc: Global,
+    options: &Options,
     reader: &mut R,
     writer: &mut W,
 ) -> Result<End, RunError>
-    ensures { Runs (R.remaining reader.old) (R.remaining reader.new) (W.contents writer.old) (W.contents writer.new) result }
+    ensures { Runs options.now.relays (R.remaining reader.old) (R.remaining reader.new) (W.contents writer.old) (W.contents writer.new) result }
 {
     let text = read_bytes(alloc, reader)?;
-    run_bytes(alloc, &text, writer)
+    run_bytes(alloc, options, &text, writer)
 }
 
 /// Runs the script that the bytes are, and writes its ranks' lines, as [`run_text`] does once it has read them. It never
 /// answers `Read`.
-pub fn run_bytes<W: Write>(alloc: Global, text: &[u8], writer: &mut W) -> Result<End, RunError>
-    ensures { Prints text.now (W.contents writer.old) (W.contents writer.new) result }
+pub fn run_bytes<W: Write>(
+    alloc: Global,
+    options: &Options,
+    text: &[u8],
+    writer: &mut W,
+) -> Result<End, RunError>
+    ensures { Prints options.now.relays text.now (W.contents writer.old) (W.contents writer.new) result }
 {
     let script = match read_script(alloc, text) {
         Ok(script) => script,
         Err(ReadScriptError::Refused(refusal)) => return Err(RunError::Script(refusal)),
         Err(ReadScriptError::OutOfMemory) => return Err(RunError::Memory),
     };
-    let Ok(report) = run(alloc, &script) else {
+    if options.relays > MOST_PROCESSES - script.ranks() {
+        return Err(RunError::TooManyProcesses);
+    }
+    let Ok(printed) = print(alloc, &script, options) else {
         return Err(RunError::Memory);
     };
-    match write_bytes(writer, report.text.as_bytes()) {
-        Ok(()) => Ok(report.end),
+    match write_bytes(writer, printed.text.as_bytes()) {
+        Ok(()) => Ok(printed.end),
         Err(WriteFault) => Err(RunError::Write),
     }
 }

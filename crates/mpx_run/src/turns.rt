@@ -1,93 +1,266 @@
-//! The turns of a run.
-ghost use Rattle.std.specs.Prelude.{◌≡◌, ◌<◌, ◌≤◌, IfOk, OnOk, IsTrue, length, map};
-ghost use Rattle.mpx_script.specs.Evaluation.{State};
-ghost use Rattle.mpx_board.specs.Looks.{look};
-ghost use Rattle.mpx_run.specs.Shown.{rank_of};
-ghost use Rattle.mpx_run.specs.Turns.{Ends, Exhausts, GoesRound, Shows, IsFull, Turns, all_joined, catches_up, total_left};
+ghost use Rattle.std.specs.Prelude.{◌≡◌, ◌<◌, ◌≤◌, ◌+◌, IfOk, OnOk, length, map, slice_get, List, Some, ℕ};
+ghost use Rattle.mpx_board.specs.Boards.{Look};
+ghost use Rattle.mpx_script.specs.declared.statement.Statement.{Statement as Said};
+ghost use Rattle.mpx_run.specs.Shown.{rank_of, part_of};
+ghost use Rattle.mpx_run.specs.Running.{IsUnderWay, RankView, Starts, StartsAt};
 
+use crate::options::Options;
 use crate::rank::Rank;
-use join_core::OutOfMemory;
+use crate::schedule::Schedule;
+use join_core::{Exact, OutOfMemory};
 use mpx_board::Board;
+use mpx_script::Script;
 use std::alloc::Global;
 
-// The rank goes on until it must wait. It answers whether it moved.
-fn exhaust(alloc: Global, ranks: &mut [Rank<'_>], p: usize) -> Result<bool, OutOfMemory>
-    requires { p < length ranks.old }
-    ensures goes { IfOk result (λ moved. (s : State) → Shows (length ranks.old) (map rank_of ranks.old) s
-        → Exhausts (length ranks.old) (map rank_of ranks.old) (map rank_of ranks.new) s p moved) }
-    ensures no_more { OnOk result (total_left (map rank_of ranks.new) ≤ total_left (map rank_of ranks.old)) }
-    ensures less { IfOk result (λ moved. IsTrue moved → total_left (map rank_of ranks.new) < total_left (map rank_of ranks.old)) }
+/// A board on its way: to which process, and in which turn it comes.
+#[derive(Drop)]
+pub(crate) struct Frame {
+    to: usize,
+    turn: u64,
+    part: Board,
+}
+
+/// The processes of a script's run after its last turn: all turns are used up, all ranks have finished, or no turn to come
+/// changes anything.
+pub(crate) fn simulate<'a>(
+    alloc: Global,
+    script: &'a Script,
+    options: &Options,
+) -> Result<Vec<Rank<'a>>, OutOfMemory>
+    requires { script.now.ranks + options.now.relays ≤ 64 }
+    ensures { IfOk result (λ processes. (frames : List Look) × IsUnderWay script.now.statements script.now.ranks (script.now.ranks + options.now.relays) (map rank_of processes.items) frames) }
 {
-    let mut moved = false;
-    loop {
-        let rank = &mut ranks[p];
-        if !rank.move_on(alloc)? {
-            return Ok(moved);
+    let mut processes = start(alloc, script, options.relays)?;
+    let mut schedule = Schedule::new(alloc, options.seed, options.loss, processes.len())?;
+    let mut frames = Vec::new(alloc);
+    for number in 0..options.turns {
+        let goes_on = turn(
+            alloc,
+            &mut processes,
+            script.ranks() as usize,
+            &mut frames,
+            &mut schedule,
+            number,
+        )?;
+        if !goes_on {
+            return Ok(processes);
         }
-        moved = true;
     }
+    Ok(processes)
 }
 
-// Every rank in order goes on until it must wait. It answers whether any moved.
-fn go_round(alloc: Global, ranks: &mut [Rank<'_>]) -> Result<bool, OutOfMemory>
-    ensures goes { IfOk result (λ moved. (s : State) → Shows (length ranks.old) (map rank_of ranks.old) s
-        → GoesRound (length ranks.old) (map rank_of ranks.old) (map rank_of ranks.new) s (length ranks.old) moved) }
-    ensures no_more { OnOk result (total_left (map rank_of ranks.new) ≤ total_left (map rank_of ranks.old)) }
-    ensures less { IfOk result (λ moved. IsTrue moved → total_left (map rank_of ranks.new) < total_left (map rank_of ranks.old)) }
+// A turn: every rank goes on until it must wait, every process drops what it may and sends its board, and the turn's
+// frames come. It answers whether there is need of another.
+//
+// Where nobody moved or dropped anything and all boards are equal, every frame, also those that come later, is below these
+// boards; and where every frame is lost, none comes.
+fn turn(
+    alloc: Global,
+    processes: &mut [Rank<'_>],
+    count: usize,
+    frames: &mut Vec<Frame>,
+    schedule: &mut Schedule,
+    number: u32,
+) -> Result<bool, OutOfMemory>
+    requires { count ≤ length processes.old }
+    ensures { OnOk result ((script : List (List Said)) (ranks size : ℕ) → count ≤ ranks → IsUnderWay script ranks size (map rank_of processes.old) (map part_of frames.old.items)
+        → IsUnderWay script ranks size (map rank_of processes.new) (map part_of frames.new.items)) }
 {
-    let mut moved = false;
-    for p in 0..ranks.len() {
-        if exhaust(alloc, ranks, p)? {
-            moved = true;
-        }
-    }
-    Ok(moved)
-}
-
-// The join of all boards.
-fn joined_boards(alloc: Global, ranks: &[Rank<'_>]) -> Result<Board, OutOfMemory>
-    ensures { IfOk result (λ board. look board ≡ all_joined (map rank_of ranks.now)) }
-{
-    let mut joined = Board::new(alloc);
-    for rank in ranks {
-        joined.take(alloc, rank.board())?;
-    }
-    Ok(joined)
-}
-
-// Every board is joined into every other, and each rank drops the posts that every rank has harvested.
-fn exchange(alloc: Global, ranks: &mut [Rank<'_>]) -> Result<(), OutOfMemory>
-    ensures { OnOk result (map rank_of ranks.new ≡ map (catches_up (all_joined (map rank_of ranks.old))) (map rank_of ranks.old)) }
-{
-    let joined = joined_boards(alloc, ranks)?;
-    for rank in ranks.iter_mut() {
-        rank.take(alloc, &joined)?;
-        rank.prune(alloc);
-    }
-    Ok(())
-}
-
-// A turn: every rank in order goes on until it must wait, and then boards are exchanged. It answers
-// whether any rank moved; where none did, none can.
-fn turn(alloc: Global, ranks: &mut [Rank<'_>]) -> Result<bool, OutOfMemory>
-    ensures goes { IfOk result (λ moved. (s : State) → Shows (length ranks.old) (map rank_of ranks.old) s
-        → IsFull (length ranks.old) (map rank_of ranks.old) s
-        → Turns (length ranks.old) (map rank_of ranks.old) (map rank_of ranks.new) s moved) }
-    ensures less { IfOk result (λ moved. IsTrue moved → total_left (map rank_of ranks.new) < total_left (map rank_of ranks.old)) }
-{
-    if !go_round(alloc, ranks)? {
+    let moved = go_round(alloc, processes, count)?;
+    let pruned = prune_all(alloc, processes);
+    if are_finished(processes, count) {
         return Ok(false);
     }
-    exchange(alloc, ranks)?;
+    if !moved && !pruned && (schedule.loses_all() || are_same(processes)) {
+        return Ok(false);
+    }
+    send_all(alloc, processes, frames, schedule, number)?;
+    schedule.shuffle(frames);
+    deliver(alloc, processes, frames.as_slice(), u64::from(number))?;
+    keep_some(frames, schedule, u64::from(number));
     Ok(true)
 }
 
-/// Turns, up to one in which no rank moves: the ranks then stand where the evaluation of their script ends.
-pub fn run_to_the_end(alloc: Global, ranks: &mut [Rank<'_>]) -> Result<(), OutOfMemory>
-    ensures { OnOk result ((s : State) → Shows (length ranks.old) (map rank_of ranks.old) s
-        → IsFull (length ranks.old) (map rank_of ranks.old) s
-        → Ends (length ranks.old) (map rank_of ranks.new) s) }
+// Every rank in order goes on until it must wait. It answers whether one moved.
+fn go_round(alloc: Global, processes: &mut [Rank<'_>], count: usize) -> Result<bool, OutOfMemory>
+    requires { count ≤ length processes.old }
+    ensures { OnOk result ((script : List (List Said)) (ranks size : ℕ) (frames : List Look) → count ≤ ranks → IsUnderWay script ranks size (map rank_of processes.old) frames
+        → IsUnderWay script ranks size (map rank_of processes.new) frames) }
 {
-    while turn(alloc, ranks)? {}
+    let mut changed = false;
+    for p in 0..count {
+        let moved = processes[p].go_on(alloc)?;
+        changed |= moved;
+    }
+    Ok(changed)
+}
+
+// Every process drops what it may. It answers whether one did.
+fn prune_all(alloc: Global, processes: &mut [Rank<'_>]) -> bool
+    ensures { (script : List (List Said)) (ranks size : ℕ) (frames : List Look) → IsUnderWay script ranks size (map rank_of processes.old) frames
+        → IsUnderWay script ranks size (map rank_of processes.new) frames }
+{
+    let mut changed = false;
+    for p in 0..processes.len() {
+        let pruned = processes[p].prune(alloc);
+        changed |= pruned;
+    }
+    changed
+}
+
+// Whether every rank has finished.
+fn are_finished(processes: &[Rank<'_>], count: usize) -> bool
+    requires { count ≤ length processes.now }
+{
+    for p in 0..count {
+        if processes[p].is_waiting() {
+            return false;
+        }
+    }
+    true
+}
+
+// Whether all boards are equal.
+fn are_same(processes: &[Rank<'_>]) -> bool {
+    let Some((first, rest)) = processes.split_first() else {
+        return true;
+    };
+    for process in rest {
+        if !first.board().same(process.board()) {
+            return false;
+        }
+    }
+    true
+}
+
+// The board of a process, on its way.
+fn sent(alloc: Global, process: &Rank<'_>, to: usize, turn: u32) -> Result<Frame, OutOfMemory>
+    ensures { IfOk result (λ frame. part_of frame ≡ (rank_of process.now).node.board) }
+{
+    let part = process.board().copy(alloc)?;
+    Ok(Frame {
+        to,
+        turn: u64::from(turn),
+        part,
+    })
+}
+
+// Every process sends its board, where it isn't lost.
+fn send_all(
+    alloc: Global,
+    processes: &[Rank<'_>],
+    frames: &mut Vec<Frame>,
+    schedule: &mut Schedule,
+    turn: u32,
+) -> Result<(), OutOfMemory>
+    ensures { OnOk result ((script : List (List Said)) (ranks size : ℕ) → IsUnderWay script ranks size (map rank_of processes.now) (map part_of frames.old.items)
+        → IsUnderWay script ranks size (map rank_of processes.now) (map part_of frames.new.items)) }
+{
+    for p in 0..processes.len() {
+        let to = schedule.receiver(p, turn, processes.len());
+        if !schedule.is_lost() {
+            let frame = sent(alloc, &processes[p], to, turn)?;
+            frames.push(frame)?;
+        }
+    }
     Ok(())
+}
+
+// The turn's frames reach their processes.
+fn deliver(
+    alloc: Global,
+    processes: &mut [Rank<'_>],
+    frames: &[Frame],
+    turn: u64,
+) -> Result<(), OutOfMemory>
+    ensures { OnOk result ((script : List (List Said)) (ranks size : ℕ) → IsUnderWay script ranks size (map rank_of processes.old) (map part_of frames.now)
+        → IsUnderWay script ranks size (map rank_of processes.new) (map part_of frames.now)) }
+{
+    for i in 0..frames.len() {
+        arrive(alloc, processes, &frames[i], turn)?;
+    }
+    Ok(())
+}
+
+// A frame reaches its process, where this is its turn.
+fn arrive(
+    alloc: Global,
+    processes: &mut [Rank<'_>],
+    frame: &Frame,
+    turn: u64,
+) -> Result<(), OutOfMemory>
+    ensures { OnOk result ((script : List (List Said)) (ranks size : ℕ) (frames : List Look) (i : ℕ) → slice_get frames i ≡ Some (part_of frame.now) → IsUnderWay script ranks size (map rank_of processes.old) frames
+        → IsUnderWay script ranks size (map rank_of processes.new) frames) }
+{
+    if frame.turn != turn || frame.to >= processes.len() {
+        return Ok(());
+    }
+    processes[frame.to].receive(alloc, &frame.part)?;
+    Ok(())
+}
+
+// One in four of the turn's frames is taken again in a later turn, and the others are let go.
+fn keep_some(frames: &mut Vec<Frame>, schedule: &mut Schedule, turn: u64)
+    ensures { (script : List (List Said)) (ranks size : ℕ) (processes : List RankView) → IsUnderWay script ranks size processes (map part_of frames.old.items)
+        → IsUnderWay script ranks size processes (map part_of frames.new.items) }
+{
+    delay_some(frames, schedule, turn);
+    frames.retain(|frame| frame.turn > turn);
+}
+
+// One in four of the turn's frames comes again.
+fn delay_some(frames: &mut Vec<Frame>, schedule: &mut Schedule, turn: u64)
+    ensures { map part_of frames.new.items ≡ map part_of frames.old.items }
+{
+    for i in 0..frames.len() {
+        delay(&mut frames[i], schedule, turn);
+    }
+}
+
+// It comes again, where this is its turn and it is drawn.
+fn delay(frame: &mut Frame, schedule: &mut Schedule, turn: u64)
+    ensures { part_of frame.new ≡ part_of frame.old }
+{
+    if frame.turn != turn {
+        return;
+    }
+    if let Some(later) = schedule.again() {
+        frame.turn = turn.saturating_add(later);
+    }
+}
+
+// A process before the first turn: a relay has no statements.
+fn start_at<'a>(
+    alloc: Global,
+    script: &'a Script,
+    me: u8,
+    size: u8,
+) -> Result<Rank<'a>, OutOfMemory>
+    requires me { me < size }
+    requires ranks { script.now.ranks ≤ size }
+    requires few { size ≤ 64 }
+    ensures { IfOk result (λ rank. StartsAt script.now.statements script.now.ranks me (rank_of rank)) }
+{
+    let ranks = script.ranks();
+    if me >= ranks {
+        return Rank::new(alloc, me, ranks, size, &script.statements(0)[..0]);
+    }
+    Rank::new(alloc, me, ranks, size, script.statements(me))
+}
+
+// The processes before the first turn.
+fn start<'a>(
+    alloc: Global,
+    script: &'a Script,
+    relays: u8,
+) -> Result<Vec<Rank<'a>>, OutOfMemory>
+    requires { script.now.ranks + relays ≤ 64 }
+    ensures { IfOk result (λ processes. Starts script.now.statements script.now.ranks (script.now.ranks + relays) (map rank_of processes.items)) }
+{
+    let mut processes = Vec::new(alloc);
+    let ranks = script.ranks();
+    for me in 0..ranks + relays {
+        processes.push(start_at(alloc, script, me, ranks + relays)?)?;
+    }
+    Ok(processes)
 }

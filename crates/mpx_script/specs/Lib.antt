@@ -10,3 +10,4 @@ pub mod Ranks
 pub mod Evaluation
 pub mod Told
 pub mod Transcripts
+pub mod Reports

@@ -15,6 +15,7 @@ mod evaluation;
 mod faults;
 mod grammar;
 mod reader;
+mod report;
 mod script;
 mod script_line;
 mod statement;
@@ -28,6 +29,7 @@ pub use evaluation::{
 };
 pub use faults::{ReadScriptError, ScriptError, ScriptFault};
 pub use reader::read_script;
+pub use report::Report;
 pub use script::Script;
 pub use statement::Statement;
 pub use told::{lines_tell_the_values_of_all_posts, ranks_carry_out_their_statements};

@@ -1,24 +1,14 @@
-use Rattle.std.proofs.Common.{◌≡◌, length, map, ap, subst, ◌∙◌, arith}
-use Rattle.mpx_run.specs.Shown.{rank_of}
-use Rattle.mpx_run.specs.Turns.{GoesRound, total_left, all_joined}
-use Rattle.mpx_run.proofs.Exchanging.{turn_ends, turn_goes_on, left_caught_up}
+use Rattle.std.proofs.Common.{map, subst, sym, List}
+use Rattle.std.proofs.lemmas.Map.Views.{All-map-IsPermutation}
+use Rattle.mpx_run.specs.declared.turns.Frame.{Frame}
+use Rattle.mpx_run.specs.Running.{IsUnderWay}
+use Rattle.mpx_run.specs.Shown.{rank_of, part_of}
+use Rattle.mpx_run.proofs.Running.{run_fewer}
 use Rattle.mpx_run.proofs.turns.turn.Goals as goal
 
-pub returns-then-not-branch-clause-goes : goal.returns-then-not-branch-clause-goes
-returns-then-not-branch-clause-goes c s shows full =
-    let n = length c.args.ranks.now in
-    turn_ends n (map rank_of c.args.ranks.now) (map rank_of c.go_round.new.ranks) s
-    (subst (GoesRound n (map rank_of c.args.ranks.now) (map rank_of c.go_round.new.ranks) s n) c.if-not-branch.true (c.in_ok-go_round.ensures.goes s shows)) full
-
-pub returns-clause-goes : goal.returns-clause-goes
-returns-clause-goes c s shows full =
-    let n = length c.args.ranks.now in
-    turn_goes_on n (map rank_of c.args.ranks.now) (map rank_of c.go_round.new.ranks) (map rank_of c.exchange.new.ranks) s
-    (subst (GoesRound n (map rank_of c.args.ranks.now) (map rank_of c.go_round.new.ranks) s n) c.if-not-branch.false (c.in_ok-go_round.ensures.goes s shows)) c.in_ok-exchange.ensures
-
-pub returns-clause-less : goal.returns-clause-less
-returns-clause-less c did =
-    let kept : total_left (map rank_of c.exchange.new.ranks) ≡ total_left (map rank_of c.go_round.new.ranks) =
-    ap total_left c.in_ok-exchange.ensures ∙ left_caught_up (all_joined (map rank_of c.go_round.new.ranks)) (map rank_of c.go_round.new.ranks) in
-    let less = c.in_ok-go_round.ensures.less c.if-not-branch.false in
-    omega (arith, kept, less)
+pub returns : goal.returns
+returns c script ranks size few run =
+    let sent = c.in_ok-send_all.ensures script ranks size (c.prune_all-pruned.ensures script ranks size (map part_of c.args.frames.now.items) (c.in_ok-moved.ensures script ranks size (map part_of c.args.frames.now.items) few run)) in
+    let mixed = run_fewer script ranks size (map rank_of c.prune_all-pruned.new.processes) (map part_of c.send_all.new.frames.items) (map part_of c.shuffle.new.items.items) (λ P. All-map-IsPermutation part_of P c.send_all.new.frames.items c.shuffle.new.items.items c.shuffle.ensures) sent in
+    let came = c.in_ok-deliver.ensures script ranks size (subst (λ (fs : List Frame). IsUnderWay script ranks size (map rank_of c.prune_all-pruned.new.processes) (map part_of fs)) (sym c.as_slice.ensures.value) mixed) in
+    c.keep_some.ensures script ranks size (map rank_of c.deliver.new.processes) (subst (λ (fs : List Frame). IsUnderWay script ranks size (map rank_of c.deliver.new.processes) (map part_of fs)) c.as_slice.ensures.value came)

@@ -1,0 +1,415 @@
+-- What the steps of a process keep of a run.
+use Rattle.std.proofs.Common.{◌≡◌, ℕ, zero, suc, ◌+◌, ◌<◌, Bool, true, false, cond, ◌==◌, List, [], ◌∷◌, ◌++◌, length, map, take, drop, set, get_or, Option, Some, None, refl, sym, ap, ◌∙◌, subst, arith, length-append}
+use Rattle.std.specs.Prelude.{slice_get, unwrap_or, Result, Ok, Err, OnOk, OnErr}
+use Rattle.std.specs.List.{All, items_where_true}
+use Rattle.std.proofs.lemmas.Grind.{get_or_picked}
+use Rattle.std.proofs.lemmas.List.{map-append, length-set}
+use Rattle.std.proofs.lemmas.List.Elements.{All-push}
+use Rattle.std.proofs.lemmas.Option.{slice_get-map, slice_get-get_or, slice_get_within, same_Some}
+use Rattle.std.specs.Option.{option_map}
+use Rattle.mpx_post.specs.Posts.{Given}
+use Rattle.mpx_post.specs.declared.draft.PostError.{PostError}
+use Rattle.mpx_board.specs.declared.errors.PruneError.{PruneError}
+use Rattle.mpx_name.specs.Name.{Name}
+use Rattle.mpx_board.specs.Boards.{Look, only, Dropped, floor_on}
+use Rattle.mpx_board.specs.Changes.{pruned}
+use Rattle.mpx_value.specs.declared.outcomes.Outcome.{Outcome}
+use Rattle.mpx_value.specs.Histories.{Made, Results}
+use Rattle.mpx_node.specs.declared.finished.Finished.{Finished}
+use Rattle.mpx_node.specs.Nodes.{Posts as NodePosts}
+use Rattle.mpx_post.specs.declared.draft.PostError.TheVariants as R
+use Rattle.mpx_node.specs.Nodes.{NodeView, learn, posted_on, post_at, checked_on, next_result, add_result}
+use Rattle.mpx_world.specs.declared.events.Event.TheVariants as E
+use Rattle.mpx_world.specs.declared.events.Cut.TheVariants as C
+use Rattle.mpx_world.specs.Worlds.{ProcessView, WorldView, makes, stores, drops, takes, posts, harvests, prunes, Happening, Posts, Harvests, Prunes, Sends, Takes, at_process, happens}
+use Rattle.mpx_world.specs.Worlds.{goes_on as goes_on_world}
+use Rattle.mpx_world.proofs.Lists.{slice_get-append, slice_get-push, slice_get-push_cases, same_number}
+use Rattle.mpx_world.proofs.Steps.{at_here}
+use Rattle.mpx_world.proofs.Reached.{may_happen}
+use Rattle.mpx_script.specs.declared.statement.Statement.{Statement}
+use Rattle.mpx_script.specs.Ranks.{Await, Line, Local, Told, Refused, draft_of, doing, done, made_on, next_call, step}
+use Rattle.mpx_script.specs.Evaluation.{State, goes_on}
+use Rattle.mpx_script.specs.Transcripts.{line_text, outcome_text}
+use Rattle.mpx_script.proofs.Ends.{goes_on-at}
+use Rattle.mpx_script.proofs.Fronts.{append-nil}
+use Rattle.mpx_script.proofs.Steps.{heard, posted, turned_down, step_hears, step_posts, step_refused}
+use Rattle.mpx_run.specs.Systems.{System, node_tells, posts_of, Doing, Nets, Drives, does, does_all, MayDo, MayDoAll, Leads, start_system}
+use Rattle.mpx_run.specs.Running.{RankView, todo_of, IsAmong, stored, harvested, Stands, Shows, IsUnderWay, Keeps, Moves, Receives, StartsAt, Starts}
+use Rattle.mpx_run.proofs.Coupling.{Couples, counted, couples_all, couples_start, goes_on-other, attempts_same, posts_so}
+
+-- LISTS
+
+-- where a list was written, it has the new value; elsewhere what it had
+set_cases : {A : Type 0} (xs : List A) (i p : ℕ) (y x : A) (P : A → Type 0) → slice_get (set xs i y) p ≡ Some x → (p ≡ i → P y) → (slice_get xs p ≡ Some x → (p ≡ i → ⊥) → P x) → P x
+set_cases [] i p y x P e f g = cc e
+set_cases (z ∷ xs) zero zero y x P e f g = subst P (let q : y ≡ x = cc e in q) (f refl)
+set_cases (z ∷ xs) zero (suc p) y x P e f g = g e (λ q. omega (arith, q))
+set_cases (z ∷ xs) (suc i) zero y x P e f g = g e (λ q. omega (arith, q))
+set_cases (z ∷ xs) (suc i) (suc p) y x P e f g = set_cases xs i p y x P e (λ q. f (ap suc q)) (λ s q. g s (λ r. q (omega (arith, r))))
+
+set_twice : {A : Type 0} (xs : List A) (i : ℕ) (x y : A) → set (set xs i x) i y ≡ set xs i y
+set_twice [] i x y = refl
+set_twice (z ∷ xs) zero x y = refl
+set_twice (z ∷ xs) (suc i) x y = ap (λ ys. z ∷ ys) (set_twice xs i x y)
+
+set_has : {A : Type 0} (xs : List A) (i : ℕ) (x y : A) → slice_get xs i ≡ Some x → slice_get (set xs i y) i ≡ Some y
+set_has [] i x y e = cc e
+set_has (z ∷ xs) zero x y e = refl
+set_has (z ∷ xs) (suc i) x y e = set_has xs i x y e
+
+set_same : {A : Type 0} (xs : List A) (i : ℕ) (x : A) → slice_get xs i ≡ Some x → set xs i x ≡ xs
+set_same [] i x e = cc e
+set_same (z ∷ xs) zero x e = ap (λ y. y ∷ xs) (let q : x ≡ z = cc e in q)
+set_same (z ∷ xs) (suc i) x e = ap (λ ys. z ∷ ys) (set_same xs i x e)
+
+all_at : {A : Type 0} (P : A → Type 0) (xs : List A) (i : ℕ) (x : A) → slice_get xs i ≡ Some x → All P xs → P x
+all_at P xs i x e h =
+    let l : i < length xs = slice_get_within xs i x e in
+    subst P (same_Some (get_or xs i x) x (sym (slice_get-get_or xs i x l) ∙ e)) (h i x l)
+
+all_more : {A : Type 0} (P Q : A → Type 0) → ((x : A) → P x → Q x) → (xs : List A) → All P xs → All Q xs
+all_more P Q f xs h k d l = f (get_or xs k d) (h k d l)
+
+-- DOINGS
+
+does_all-push : (ds : List Doing) (d : Doing) (s : System) → does_all s (ds ++ d ∷ []) ≡ does (does_all s ds) d
+does_all-push [] d s = refl
+does_all-push (x ∷ ds) d s = does_all-push ds d (does s x)
+
+may-push : (ranks : ℕ) (ds : List Doing) (d : Doing) (s : System) → MayDoAll ranks s ds → MayDo ranks (does_all s ds) d → MayDoAll ranks s (ds ++ d ∷ [])
+may-push ranks [] d s m n = (n, tt)
+may-push ranks (x ∷ ds) d s m n = (m.0, may-push ranks ds d (does s x) m.1 n)
+
+leads_on : (ranks : ℕ) (from to : System) (d : Doing) → Leads ranks from to → MayDo ranks to d → Leads ranks from (does to d)
+leads_on ranks from to d l m = record {
+  doings = l.doings ++ d ∷ [];
+  may = may-push ranks l.doings d from l.may (subst (λ s. MayDo ranks s d) (sym l.reached) m);
+  reached = does_all-push l.doings d from ∙ ap (λ s. does s d) l.reached;
+}
+
+pub coupled : (script : List (List Statement)) (ranks size : ℕ) (processes : List RankView) (frames : List Look) (run : IsUnderWay script ranks size processes frames) → Couples script ranks run.system
+coupled script ranks size processes frames run = subst (Couples script ranks) run.led.reached (couples_all script ranks run.led.doings (start_system script ranks size) (couples_start script ranks size) run.led.may)
+
+-- ONE PROCESS
+
+-- a doing of process p: what it shows after it, and the others as they were
+record IsDoneAt (ranks : ℕ) (s t : System) (p : ℕ) (new : RankView) : Type 0 where
+  node : new.node ≡ (t.world.each p).node
+  stands : p < ranks → Stands new (t.ranks p)
+  nodes : (q : ℕ) → (q ≡ p → ⊥) → (t.world.each q).node ≡ (s.world.each q).node
+  ranks_stay : (q : ℕ) → (q ≡ p → ⊥) → t.ranks q ≡ s.ranks q
+  parts : t.world.parts ≡ s.world.parts
+
+run_on : (script : List (List Statement)) (ranks size : ℕ) (processes : List RankView) (frames : List Look) (run : IsUnderWay script ranks size processes frames) (p : ℕ) (new : RankView) (d : Doing)
+    → MayDo ranks run.system d → IsDoneAt ranks run.system (does run.system d) p new → IsUnderWay script ranks size (set processes p new) frames
+run_on script ranks size processes frames run p new d may is =
+    let t = does run.system d in
+    record {
+      system = t;
+      led = leads_on ranks (start_system script ranks size) run.system d run.led may;
+      shows = record {
+        count = length-set processes p new ∙ run.shows.count;
+        nodes = λ q r e. set_cases processes p q new r (λ x. x.node ≡ (t.world.each q).node) e
+            (λ same. is.node ∙ ap (λ j. (t.world.each j).node) (sym same))
+            (λ old other. run.shows.nodes q r old ∙ sym (is.nodes q other));
+        stands = λ q r e l. set_cases processes p q new r (λ x. Stands x (t.ranks q)) e
+            (λ same. subst (λ j. Stands new (t.ranks j)) (sym same) (is.stands (subst (λ j. j < ranks) same l)))
+            (λ old other. subst (Stands r) (sym (is.ranks_stay q other)) (run.shows.stands q r old l));
+        sent = subst (λ ps. All (IsAmong ps) frames) (sym is.parts) run.shows.sent;
+      };
+    }
+
+not_same : (q p : ℕ) → (q ≡ p → ⊥) → (q == p) ≡ false
+not_same q p other = by_test (q == p) refl where
+  by_test : (b : Bool) → (q == p) ≡ b → b ≡ false
+  by_test true e = absurd (other (same_number q p e))
+  by_test false e = refl
+
+each_other : (w : WorldView) (p : ℕ) (f : ProcessView → ProcessView) (q : ℕ) → (q ≡ p → ⊥) → (at_process p f w).each q ≡ w.each q
+each_other w p f q other = ap (λ b. cond b (f (w.each q)) (w.each q)) (not_same q p other)
+
+-- a process that changes just its node
+done_net : (ranks : ℕ) (s : System) (p : ℕ) (r : RankView) (new : NodeView) (f : ProcessView → ProcessView) → (p < ranks → Stands r (s.ranks p)) → new ≡ (f (s.world.each p)).node
+    → IsDoneAt ranks s (record { world = at_process p f s.world; ranks = s.ranks }) p (record r { node = new })
+done_net ranks s p r new f stands e = record {
+  node = e ∙ ap (λ (v : ProcessView). v.node) (sym (at_here s.world p f));
+  stands = λ l. let h = stands l in record { todo = h.todo; lines = h.lines };
+  nodes = λ q other. ap (λ (v : ProcessView). v.node) (each_other s.world p f q other);
+  ranks_stay = λ q other. refl;
+  parts = refl;
+}
+
+-- A NODE'S STEPS
+
+stores_node : (o : Option Finished) (v : ProcessView) → (stores [] o v).node ≡ stored o v.node
+stores_node None v = refl
+stores_node (Some finished) v = refl
+
+pub keeps_harvest : (r : RankView) → Keeps r (harvested r)
+keeps_harvest r script ranks size processes frames p at run =
+    let s = run.system in
+    let v = s.world.each p in
+    let same : r.node ≡ v.node = run.shows.nodes p r at in
+    run_on script ranks size processes frames run p (harvested r) (Nets (Harvests p [])) (tt, tt)
+    (done_net ranks s p r (stored (next_result r.node []) r.node) (harvests []) (run.shows.stands p r at)
+      (ap (λ n. stored (next_result n []) n) same ∙ sym (stores_node (next_result v.node []) v)))
+
+abbrev pub pruned_by : Result (Unit {0}) PruneError → ℕ → NodeView → NodeView
+pruned_by (Ok u) n node = learn (only (Dropped [] n)) node
+pruned_by (Err refusal) n node = node
+
+drops_node : (n : ℕ) (x : Result (Unit {0}) PruneError) (v : ProcessView) → (drops [] n x v).node ≡ pruned_by x n v.node
+drops_node n (Ok u) v = refl
+drops_node n (Err refusal) v = refl
+
+pub keeps_prune : (r : RankView) (n : ℕ) → Keeps r (record r { node = pruned_by (pruned (floor_on r.node.board []) n) n r.node })
+keeps_prune r n script ranks size processes frames p at run =
+    let s = run.system in
+    let v = s.world.each p in
+    let same : r.node ≡ v.node = run.shows.nodes p r at in
+    let new = pruned_by (pruned (floor_on r.node.board []) n) n r.node in
+    run_on script ranks size processes frames run p (record r { node = new }) (Nets (Prunes p [] n)) (tt, tt)
+    (done_net ranks s p r new (prunes [] n) (run.shows.stands p r at)
+      (ap (λ (m : NodeView). pruned_by (pruned (floor_on m.board []) n) n m) same ∙ sym (drops_node n (pruned (floor_on v.node.board []) n) v)))
+
+pruned_is : (r : Result (Unit {0}) PruneError) (n : ℕ) (old new : NodeView) → OnOk r (new ≡ learn (only (Dropped [] n)) old) → OnErr r (new ≡ old) → new ≡ pruned_by r n old
+pruned_is (Ok u) n old new f g = f
+pruned_is (Err refusal) n old new f g = g
+
+pub pruned_at : (r : Result (Unit {0}) PruneError) (n : ℕ) (name : Name) (old new : NodeView) → name ≡ [] → r ≡ pruned (floor_on old.board name) n → OnOk r (new ≡ learn (only (Dropped name n)) old) → OnErr r (new ≡ old)
+    → new ≡ pruned_by (pruned (floor_on old.board []) n) n old
+pruned_at r n name old new w e f g =
+    pruned_is r n old new (subst (λ m. OnOk r (new ≡ learn (only (Dropped m n)) old)) w f) g ∙ ap (λ x. pruned_by x n old) (e ∙ ap (λ m. pruned (floor_on old.board m) n) w)
+
+pub keeps_itself : (r : RankView) → Keeps r r
+keeps_itself r script ranks size processes frames p at run = subst (λ rs. IsUnderWay script ranks size rs frames) (sym (set_same processes p r at)) run
+
+-- a frame is taken
+pub run_takes : (script : List (List Statement)) (ranks size : ℕ) (processes : List RankView) (frames : List Look) (p : ℕ) (r : RankView) (i : ℕ) (b : Look) → slice_get processes p ≡ Some r → slice_get frames i ≡ Some b
+    → IsUnderWay script ranks size processes frames → IsUnderWay script ranks size (set processes p (record r { node = learn b r.node })) frames
+run_takes script ranks size processes frames p r i b at got run =
+    let s = run.system in
+    let v = s.world.each p in
+    let found = all_at (IsAmong s.world.parts) frames i b got run.shows.sent in
+    run_on script ranks size processes frames run p (record r { node = learn b r.node }) (Nets (Takes p found.0)) (tt, tt)
+    (done_net ranks s p r (learn b r.node) (takes (slice_get s.world.parts found.0)) (run.shows.stands p r at)
+      (ap (learn b) (run.shows.nodes p r at) ∙ ap (λ o. (takes o v).node) (sym found.1)))
+
+-- a board is sent
+pub run_sends : (script : List (List Statement)) (ranks size : ℕ) (processes : List RankView) (frames : List Look) (p : ℕ) (r : RankView) → slice_get processes p ≡ Some r
+    → IsUnderWay script ranks size processes frames → IsUnderWay script ranks size processes (frames ++ r.node.board ∷ [])
+run_sends script ranks size processes frames p r at run =
+    let s = run.system in
+    let c = coupled script ranks size processes frames run in
+    let board = (s.world.each p).node.board in
+    let d : Doing = Nets (Sends p board) in
+    let new = s.world.parts ++ board ∷ [] in
+    record {
+      system = does s d;
+      led = leads_on ranks (start_system script ranks size) s d run.led (tt, may_happen s.world (E.Send p C.Whole) c.holds);
+      shows = record {
+        count = run.shows.count;
+        nodes = run.shows.nodes;
+        stands = run.shows.stands;
+        sent = All-push (IsAmong new) frames r.node.board
+            (all_more (IsAmong s.world.parts) (IsAmong new) (λ b found. (found.0, slice_get-append s.world.parts (board ∷ []) found.0 b found.1)) frames run.shows.sent)
+            (length s.world.parts, slice_get-push s.world.parts board ∙ ap (λ (n : NodeView). Some n.board) (sym (run.shows.nodes p r at)));
+      };
+    }
+
+-- frames are lost, repeated or reordered
+pub run_fewer : (script : List (List Statement)) (ranks size : ℕ) (processes : List RankView) (frames fewer : List Look) → ((P : Look → Type 0) → All P frames → All P fewer)
+    → IsUnderWay script ranks size processes frames → IsUnderWay script ranks size processes fewer
+run_fewer script ranks size processes frames fewer among run = record {
+  system = run.system;
+  led = run.led;
+  shows = record {
+    count = run.shows.count;
+    nodes = run.shows.nodes;
+    stands = run.shows.stands;
+    sent = among (IsAmong run.system.world.parts) run.shows.sent;
+  };
+}
+
+-- what is picked of a list
+picked_map : {A B : Type 0} (f : A → B) (bs : List Bool) (xs : List A) → map f (items_where_true bs xs) ≡ items_where_true bs (map f xs)
+picked_map f [] xs = refl
+picked_map f (b ∷ bs) [] = refl
+picked_map f (true ∷ bs) (x ∷ xs) = ap (λ ys. f x ∷ ys) (picked_map f bs xs)
+picked_map f (false ∷ bs) (x ∷ xs) = picked_map f bs xs
+
+pub all_picked : {A B : Type 0} (f : A → B) (P : B → Type 0) (bs : List Bool) (xs : List A) → All P (map f xs) → All P (map f (items_where_true bs xs))
+all_picked f P bs xs h = subst (All P) (sym (picked_map f bs xs)) (λ k d l. let found = get_or_picked bs (map f xs) k d l in subst P (sym found.1.2) (h found.1.0 d found.1.1))
+
+pub receives : (b : Look) (old new : RankView) → new ≡ record old { node = learn b old.node } → Receives b old new
+receives b old new e script ranks size processes frames p i at got run =
+    subst (λ (r : RankView). IsUnderWay script ranks size (set processes p r) frames) (sym e) (run_takes script ranks size processes frames p old i b at got run)
+
+pub receives_nothing : (b : Look) (r : RankView) → Receives b r r
+receives_nothing b r script ranks size processes frames p i at got run = keeps_itself r script ranks size processes frames p at run
+
+-- A RANK'S MOVES
+
+pub moves_then : (a b c : RankView) → Moves a b → Moves b c → Moves a c
+moves_then a b c f g script ranks size processes frames p l at run =
+    subst (λ rs. IsUnderWay script ranks size rs frames) (set_twice processes p b c)
+    (g script ranks size (set processes p b) frames p l (set_has processes p a b at) (f script ranks size processes frames p l at run))
+
+module _ (script : List (List Statement)) (ranks size : ℕ) (processes : List RankView) (frames : List Look) (p : ℕ) (l : p < ranks) (r : RankView) (at : slice_get processes p ≡ Some r) (run : IsUnderWay script ranks size processes frames) where
+  abbrev told : Results
+  told = node_tells (run.system.world.each p).node
+
+  -- a move by what the node tells, after which the world is so
+  moved : (hs : List Happening) (t : Local) (new : RankView) → posts_of p (run.system.ranks p).bound (run.system.ranks p).todo ≡ hs → step told (run.system.ranks p) ≡ Some t → Stands new t
+      → new.node ≡ ((goes_on_world run.system.world hs).each p).node
+      → ((q : ℕ) → (q ≡ p → ⊥) → ((goes_on_world run.system.world hs).each q).node ≡ (run.system.world.each q).node)
+      → (goes_on_world run.system.world hs).parts ≡ run.system.world.parts
+      → IsUnderWay script ranks size (set processes p new) frames
+  moved hs t new e step_is stands node nodes parts =
+      let world : goes_on_world run.system.world hs ≡ goes_on_world run.system.world (posts_of p (run.system.ranks p).bound (run.system.ranks p).todo) = ap (goes_on_world run.system.world) (sym e) in
+      run_on script ranks size processes frames run p new (Drives p) l (record {
+        node = node ∙ ap (λ (w : WorldView). (w.each p).node) world;
+        stands = λ m. subst (Stands new) (sym (goes_on-at run.system.ranks p told t step_is)) stands;
+        nodes = λ q other. ap (λ (w : WorldView). (w.each q).node) (sym world) ∙ nodes q other;
+        ranks_stay = λ q other. goes_on-other run.system.ranks p told q (not_same q p other);
+        parts = ap (λ (w : WorldView). w.parts) (sym world) ∙ parts;
+      })
+
+  stands_so : (waits : Option ℕ) (todo : List Statement) → r.waits ≡ waits → r.todo ≡ todo → (run.system.ranks p).todo ≡ todo_of waits todo
+  stands_so waits todo w t = (run.shows.stands p r at l).todo ∙ λ i. todo_of (w i) (t i)
+
+  lines_so : (text : List ℕ) (line : Line) → text ≡ line_text line → r.lines ++ text ∷ [] ≡ map line_text ((run.system.ranks p).lines ++ line ∷ [])
+  lines_so text line e = (λ i. (run.shows.stands p r at l).lines i ++ e i ∷ []) ∙ sym (map-append line_text (run.system.ranks p).lines (line ∷ []))
+
+  -- it hears an outcome that its node holds
+  hears : (call : ℕ) (outcome : Outcome) (text : List ℕ) → r.waits ≡ Some call → node_tells r.node [] call ≡ Some outcome → text ≡ outcome_text outcome
+      → IsUnderWay script ranks size (set processes p (record { node = r.node; todo = r.todo; waits = None; lines = r.lines ++ text ∷ [] })) frames
+  hears call outcome text w e t =
+      let todo = stands_so (Some call) r.todo w refl in
+      let known : told [] call ≡ Some outcome = ap (λ n. node_tells n [] call) (sym (run.shows.nodes p r at)) ∙ e in
+      moved [] (done (run.system.ranks p) (heard (run.system.ranks p) [] call (doing r.todo) outcome)) (record { node = r.node; todo = r.todo; waits = None; lines = r.lines ++ text ∷ [] })
+        (ap (posts_of p (run.system.ranks p).bound) todo)
+        (step_hears told (run.system.ranks p) [] call (doing r.todo) outcome todo known)
+        (record { todo = refl; lines = lines_so text (Told [] call outcome) t })
+        (run.shows.nodes p r at) (λ q other. refl) refl
+
+  makes_node : (x : Result Given PostError) (v : ProcessView) (given : Given) → x ≡ Ok given → (makes [] x v).node ≡ post_at [] given v.node
+  makes_node x v given e = ap (λ z. (makes [] z v).node) e
+
+  -- it posts
+  posts_next : (statement : Statement) (rest : List Statement) (given : Given) → r.waits ≡ None → r.todo ≡ statement ∷ rest → checked_on r.node [] (draft_of statement) ≡ Ok given
+      → IsUnderWay script ranks size (set processes p (record { node = post_at [] given r.node; todo = rest; waits = Some (posted_on r.node []); lines = r.lines })) frames
+  posts_next statement rest given w t e =
+      let c = coupled script ranks size processes frames run in
+      let local = run.system.ranks p in
+      let v = run.system.world.each p in
+      let same : r.node ≡ v.node = run.shows.nodes p r at in
+      let todo = stands_so None (statement ∷ rest) w t in
+      let checked_so : checked_on v.node [] (draft_of statement) ≡ Ok given = ap (λ n. checked_on n [] (draft_of statement)) (sym same) ∙ e in
+      let m : Made = record { name = []; given = given } in
+      let count : next_call [] local.made ≡ posted_on r.node [] = sym (counted script ranks run.system c p) ∙ ap (λ n. posted_on n []) (sym same) in
+      moved (Posts p [] (draft_of statement) ∷ []) (done local (posted local (doing rest) m)) (record { node = post_at [] given r.node; todo = rest; waits = Some (posted_on r.node []); lines = r.lines })
+        (posts_so script ranks run.system c p statement (doing rest) todo)
+        (step_posts told local statement (doing rest) m todo (attempts_same script ranks run.system c p l statement ∙ ap (made_on []) checked_so))
+        (record { todo = ap (λ k. Await [] k ∷ doing rest) count; lines = (run.shows.stands p r at l).lines ∙ ap (map line_text) (sym (append-nil local.lines)) })
+        (ap (post_at [] given) same ∙ sym (makes_node (checked_on v.node [] (draft_of statement)) v given checked_so) ∙ ap (λ (u : ProcessView). u.node) (sym (at_here run.system.world p (posts [] (draft_of statement)))))
+        (λ q other. ap (λ (u : ProcessView). u.node) (each_other run.system.world p (posts [] (draft_of statement)) q other))
+        refl
+
+  -- its post is refused
+  is_refused : (statement : Statement) (rest : List Statement) (refusal : PostError) (text : List ℕ) → r.waits ≡ None → r.todo ≡ statement ∷ rest → checked_on r.node [] (draft_of statement) ≡ Err refusal → text ≡ line_text (Refused refusal)
+      → IsUnderWay script ranks size (set processes p (record { node = r.node; todo = rest; waits = None; lines = r.lines ++ text ∷ [] })) frames
+  is_refused statement rest refusal text w t e u =
+      let c = coupled script ranks size processes frames run in
+      let local = run.system.ranks p in
+      let v = run.system.world.each p in
+      let same : r.node ≡ v.node = run.shows.nodes p r at in
+      let todo = stands_so None (statement ∷ rest) w t in
+      let checked_so : checked_on v.node [] (draft_of statement) ≡ Err refusal = ap (λ n. checked_on n [] (draft_of statement)) (sym same) ∙ e in
+      moved (Posts p [] (draft_of statement) ∷ []) (done local (turned_down local (doing rest) refusal)) (record { node = r.node; todo = rest; waits = None; lines = r.lines ++ text ∷ [] })
+        (posts_so script ranks run.system c p statement (doing rest) todo)
+        (step_refused told local statement (doing rest) refusal todo (attempts_same script ranks run.system c p l statement ∙ ap (made_on []) checked_so))
+        (record { todo = refl; lines = lines_so text (Refused refusal) u })
+        (same ∙ ap (λ z. (makes [] z v).node) (sym checked_so) ∙ ap (λ (x : ProcessView). x.node) (sym (at_here run.system.world p (posts [] (draft_of statement)))))
+        (λ q other. ap (λ (x : ProcessView). x.node) (each_other run.system.world p (posts [] (draft_of statement)) q other))
+        refl
+
+pub moves_hears : (r : RankView) (call : ℕ) (outcome : Outcome) (text : List ℕ) → r.waits ≡ Some call → node_tells r.node [] call ≡ Some outcome → text ≡ outcome_text outcome → Moves r (record { node = r.node; todo = r.todo; waits = None; lines = r.lines ++ text ∷ [] })
+moves_hears r call outcome text w e t script ranks size processes frames p l at run = hears script ranks size processes frames p l r at run call outcome text w e t
+
+pub moves_posts : (r : RankView) (statement : Statement) (rest : List Statement) (given : Given) → r.waits ≡ None → r.todo ≡ statement ∷ rest → checked_on r.node [] (draft_of statement) ≡ Ok given
+    → Moves r (record { node = post_at [] given r.node; todo = rest; waits = Some (posted_on r.node []); lines = r.lines })
+moves_posts r statement rest given w t e script ranks size processes frames p l at run = posts_next script ranks size processes frames p l r at run statement rest given w t e
+
+pub moves_refused : (r : RankView) (statement : Statement) (rest : List Statement) (refusal : PostError) (text : List ℕ) → r.waits ≡ None → r.todo ≡ statement ∷ rest → checked_on r.node [] (draft_of statement) ≡ Err refusal → text ≡ line_text (Refused refusal)
+    → Moves r (record { node = r.node; todo = rest; waits = None; lines = r.lines ++ text ∷ [] })
+moves_refused r statement rest refusal text w t e u script ranks size processes frames p l at run = is_refused script ranks size processes frames p l r at run statement rest refusal text w t e u
+
+pub moves_harvest : (r : RankView) → Moves r (harvested r)
+moves_harvest r script ranks size processes frames p l at run = keeps_harvest r script ranks size processes frames p at run
+
+pub moves_itself : (r : RankView) → Moves r r
+moves_itself r script ranks size processes frames p l at run = keeps_itself r script ranks size processes frames p at run
+
+-- WHAT THE NODE'S ANSWERS SAY
+
+pub posted_is : (r : Result Given PostError) (call : ℕ) (old new : NodeView) → NodePosts [] r (Ok call) old new → (given : Given) × (r ≡ Ok given) × (call ≡ posted_on old []) × (new ≡ post_at [] given old)
+posted_is (Ok given) call old new h = (given, refl, h.0, h.1)
+posted_is (Err refusal) call old new h = cc h.0
+
+pub refused_is : (r : Result Given PostError) (e : PostError) (old new : NodeView) → NodePosts [] r (Err e) old new → (e ≡ R.OutOfMemory → ⊥) → (r ≡ Err e) × (new ≡ old)
+refused_is (Ok given) e old new h other = absurd (other h.0)
+refused_is (Err refusal) e old new h other = (let same : e ≡ refusal = cc h.0 in ap (λ x. let r : Result Given PostError = Err x in r) (sym same), h.1)
+
+pub lines_push : {A : Type 0} (text_of : A → List ℕ) (lines new : List A) (line : A) (text : List ℕ) → new ≡ lines ++ line ∷ [] → text_of line ≡ text → map text_of new ≡ map text_of lines ++ text ∷ []
+lines_push text_of lines new line text e f = ap (map text_of) e ∙ map-append text_of lines (line ∷ []) ∙ ap (λ x. map text_of lines ++ x ∷ []) f
+
+-- THE CODE'S LISTS
+
+map_set : {A B : Type 0} (f : A → B) (xs : List A) (p : ℕ) (x : A) → map f (set xs p x) ≡ set (map f xs) p (f x)
+map_set f [] p x = refl
+map_set f (y ∷ xs) zero x = refl
+map_set f (y ∷ xs) (suc p) x = ap (λ zs. f y ∷ zs) (map_set f xs p x)
+
+pub written : {A B : Type 0} (f : A → B) (xs : List A) (p : ℕ) (x : A) → set (map f xs) p (f x) ≡ map f (set xs p x)
+written f xs p x = sym (map_set f xs p x)
+
+-- a write that leaves what f reads
+pub kept : {A B : Type 0} (f : A → B) (xs : List A) (p : ℕ) (d x : A) → p < length xs → f x ≡ f (get_or xs p d) → map f (set xs p x) ≡ map f xs
+kept f [] p d x l e = refl
+kept f (y ∷ ys) zero d x l e = ap (λ z. z ∷ map f ys) e
+kept f (y ∷ ys) (suc p) d x l e = ap (λ zs. f y ∷ zs) (kept f ys p d x (omega (arith, l)) e)
+
+pub element : {A B : Type 0} (f : A → B) (xs : List A) (p : ℕ) (d : A) → p < length xs → slice_get (map f xs) p ≡ Some (f (get_or xs p d))
+element f xs p d l = slice_get-map f xs p ∙ ap (option_map f) (slice_get-get_or xs p d l)
+
+-- a vector whose elements were lent has what was written there
+pub written_back : {A : Type 0} (len : ℕ) (old new : List A) → length new ≡ length old → length old ≡ len → take len (new ++ drop (length new) old) ≡ new
+written_back zero [] [] e f = refl
+written_back len [] (x ∷ xs) e f = absurd (omega (arith, e))
+written_back len (y ∷ ys) [] e f = absurd (omega (arith, e))
+written_back zero (y ∷ ys) (x ∷ xs) e f = absurd (omega (arith, f))
+written_back (suc len) [] [] e f = refl
+written_back (suc len) (y ∷ ys) (x ∷ xs) e f = ap (λ zs. x ∷ zs) (written_back len ys xs (omega (arith, e)) (omega (arith, f)))
+
+-- THE START
+
+pub one_more : (script : List (List Statement)) (ranks count : ℕ) (processes : List RankView) (r : RankView) → Starts script ranks count processes → StartsAt script ranks count r → Starts script ranks (count + 1) (processes ++ r ∷ [])
+one_more script ranks count processes r s at = record {
+  count_is = length-append processes (r ∷ []) ∙ omega (arith, s.count_is);
+  each = λ p x e. slice_get-push_cases (λ y j. StartsAt script ranks j y) processes r p x e (s.each p x) (λ same last. subst (StartsAt script ranks p) same (subst (λ j. StartsAt script ranks j r) (sym (last ∙ s.count_is)) at));
+}
+
+pub run_starts : (script : List (List Statement)) (ranks size : ℕ) (processes : List RankView) → Starts script ranks size processes → IsUnderWay script ranks size processes []
+run_starts script ranks size processes s = record {
+  system = start_system script ranks size;
+  led = record { doings = []; may = tt; reached = refl };
+  shows = record {
+    count = s.count_is;
+    nodes = λ p r e. (s.each p r e).node;
+    stands = λ p r e l.
+        let h = s.each p r e in
+        record { todo = ap (λ o. doing (unwrap_or o [])) (h.todo l) ∙ ap (λ w. todo_of w r.todo) (sym h.waits); lines = h.lines };
+    sent = λ k d l. absurd (omega (arith, l));
+  };
+}

@@ -1,0 +1,79 @@
+-- A world, and where the ranks that carry out their scripts in it stand.
+use Rattle.std.specs.Prelude.{◌≡◌, ℕ, ◌<◌, List, [], ◌∷◌, slice_get, Option, Some, None}
+use Rattle.std.specs.Option.{option_map}
+use Rattle.mpx_name.specs.Name.{Name}
+use Rattle.mpx_post.specs.declared.draft.Draft.{Draft}
+use Rattle.mpx_value.specs.declared.outcomes.Outcome.{Outcome}
+use Rattle.mpx_value.specs.Histories.{Results, posts_on}
+use Rattle.mpx_node.specs.declared.finished.Finished.{Finished}
+use Rattle.mpx_node.specs.Nodes.{NodeView, results_on}
+use Rattle.mpx_world.specs.Worlds.{WorldView, Happening, Posts, IsNoPost, happens, MayHappen}
+use Rattle.mpx_world.specs.Worlds.{goes_on as goes_on_world, start as start_world}
+use Rattle.mpx_script.specs.declared.statement.Statement.{Statement}
+use Rattle.mpx_script.specs.Grammar.{named}
+use Rattle.mpx_script.specs.Ranks.{Bindings, Bound, Communicator, Todo, Do, Await, Local, draft_of, word_of, Told}
+use Rattle.mpx_script.specs.Evaluation.{State, start, goes_on}
+
+pub record System : Type 0 where
+  pub world : WorldView
+  pub ranks : State
+
+-- what the results that a node holds tell
+abbrev pub node_tells : NodeView → Results
+node_tells node name k = option_map (λ (f : Finished). f.outcome) (slice_get (results_on node name) k)
+
+-- the post of a draft on what a word is bound to
+abbrev pub posts_bound : ℕ → Draft → Option Bound → List Happening
+posts_bound p draft None = []
+posts_bound p draft (Some (Communicator name birth)) = Posts p name draft ∷ []
+
+-- what the next move of a rank gives its node to post
+abbrev pub posts_of : ℕ → Bindings → List Todo → List Happening
+posts_of p bound [] = []
+posts_of p bound (Do statement ∷ rest) = posts_bound p (draft_of statement) (named bound (word_of statement))
+posts_of p bound (Await name call ∷ rest) = []
+
+-- something that makes no post, or a rank's next move by what its node tells, with the posts that it makes there
+pub data Doing : Type 0 where
+  Nets : Happening → Doing
+  Drives : (rank : ℕ) → Doing
+
+abbrev pub does : System → Doing → System
+does s (Nets h) = record { world = happens s.world h; ranks = s.ranks }
+does s (Drives p) = record {
+  world = goes_on_world s.world (posts_of p (s.ranks p).bound (s.ranks p).todo);
+  ranks = goes_on s.ranks p (node_tells (s.world.each p).node);
+}
+
+abbrev pub does_all : System → List Doing → System
+does_all s [] = s
+does_all s (d ∷ ds) = does_all (does s d) ds
+
+-- processes send what they have seen, and ranks alone move
+abbrev pub MayDo : (ranks : ℕ) → System → Doing → Type 0
+MayDo ranks s (Nets h) = IsNoPost h × MayHappen s.world h
+MayDo ranks s (Drives p) = p < ranks
+
+abbrev pub MayDoAll : (ranks : ℕ) → System → List Doing → Type 0
+MayDoAll ranks s [] = Unit {0}
+MayDoAll ranks s (d ∷ ds) = MayDo ranks s d × MayDoAll ranks (does s d) ds
+
+abbrev pub start_system : List (List Statement) → (ranks size : ℕ) → System
+start_system script ranks size = record { world = start_world ranks size; ranks = start script ranks }
+
+-- some list of doings leads there
+pub record Leads (ranks : ℕ) (from to : System) : Type 0 where
+  pub doings : List Doing
+  pub may : MayDoAll ranks from doings
+  pub reached : does_all from doings ≡ to
+
+-- the node holds a result of the call with this outcome, beside the rank's own post of that call
+pub record IsResultOf (node : NodeView) (s : Local) (name : Name) (call : ℕ) (outcome : Outcome) : Type 0 where
+  pub finished : Finished
+  pub held : slice_get (results_on node name) call ≡ Some finished
+  pub is : finished.outcome ≡ outcome
+  pub mine : slice_get (posts_on name s.made) call ≡ Some finished.mine
+
+-- each line that tells the outcome of a call tells that of its result
+abbrev pub TellsResults : NodeView → Local → Type 0
+TellsResults node s = (i : ℕ) (name : Name) (call : ℕ) (outcome : Outcome) → slice_get s.lines i ≡ Some (Told name call outcome) → IsResultOf node s name call outcome

@@ -1,0 +1,110 @@
+//! What is drawn in a run. Equal seeds give equal draws.
+ghost use Rattle.std.specs.Prelude.{◌<◌, IfSome};
+ghost use Rattle.std.specs.List.Sorted.{IsPermutation};
+
+use join_core::OutOfMemory;
+use rand_core::utils::NextWord;
+use rand_pcg::Pcg32;
+use std::alloc::Global;
+
+// Shifts are below the number of processes, which is at most 64.
+const MOST_SHIFTS: usize = 6;
+
+// The stream of the generator.
+const STREAM: u64 = 54;
+
+/// What is drawn of a run: to whom each process sends in a turn, which frames are lost, in which order the others come,
+/// and which of them come again.
+#[derive(Drop)]
+pub(crate) struct Schedule {
+    words: Pcg32,
+    loss: usize,
+    shifts: Vec<usize>,
+}
+
+impl Schedule {
+    /// For so many processes. The shifts are the powers of two below their number, in an order that is drawn once.
+    pub(crate) fn new(
+        alloc: Global,
+        seed: u64,
+        loss: u8,
+        processes: usize,
+    ) -> Result<Schedule, OutOfMemory> {
+        let mut shifts = Vec::new(alloc);
+        for place in 0..MOST_SHIFTS {
+            let shift = 1usize << place;
+            if shift < processes {
+                shifts.push(shift)?;
+            }
+        }
+        let mut words = Pcg32::new(seed, STREAM);
+        shuffle(&mut words, &mut shifts);
+        Ok(Schedule {
+            words,
+            loss: loss as usize,
+            shifts,
+        })
+    }
+
+    /// To whom a process sends in a turn: as many processes on as the turn's shift says. Where a hundred percent arrive, any
+    /// turns of one round bring every fact to every process.
+    pub(crate) fn receiver(&self, from: usize, turn: u32, processes: usize) -> usize
+        requires { from < processes }
+        ensures { result < processes }
+    {
+        if self.shifts.is_empty() {
+            return from;
+        }
+        let shift = self.shifts[turn as usize % self.shifts.len()] % processes;
+        if shift < processes - from {
+            from + shift
+        } else {
+            shift - (processes - from)
+        }
+    }
+
+    /// Whether a frame is lost.
+    pub(crate) fn is_lost(&mut self) -> bool {
+        below(&mut self.words, 100) < self.loss
+    }
+
+    /// Whether every frame is lost.
+    pub(crate) fn loses_all(&self) -> bool {
+        self.loss >= 100
+    }
+
+    /// In how many turns a frame that was taken is taken again, which one in four is: 1 to 4.
+    pub(crate) fn again(&mut self) -> Option<u64>
+        ensures { IfSome result (λ later. 0 < later) }
+    {
+        if below(&mut self.words, 4) != 0 {
+            return None;
+        }
+        Some(below(&mut self.words, 4) as u64 + 1)
+    }
+
+    /// Brings items into an order that is drawn.
+    pub(crate) fn shuffle<T>(&mut self, items: &mut Vec<T>)
+        ensures { IsPermutation items.old.items items.new.items }
+    {
+        shuffle(&mut self.words, items);
+    }
+}
+
+// A number below a limit.
+fn below(words: &mut Pcg32, limit: usize) -> usize
+    requires { 0 < limit }
+    ensures { result < limit }
+{
+    words.next_word() as usize % limit
+}
+
+// Each place gets one of the items that the places before it have left.
+fn shuffle<T>(words: &mut Pcg32, items: &mut Vec<T>)
+    ensures { IsPermutation items.old.items items.new.items }
+{
+    for i in 0..items.len() {
+        let j = i + below(words, items.len() - i);
+        items.swap(i, j);
+    }
+}
