@@ -5,7 +5,7 @@ use Rattle.std.specs.Ordering.{nat_cmp}
 use Rattle.std.specs.Cmp.{nat_cmp_total}
 use Rattle.std.specs.FinMap.{get, empty as no_entry, get-empty}
 use Rattle.std.proofs.lemmas.Bool.Decides.{nat_tests}
-use Rattle.join_core.specs.Flat.{FlatView, unknown, known, clash, flat_join, flat_joining}
+use Rattle.join_core.specs.Flat.{FlatView, unknown, flat_join, flat_joining}
 use Rattle.join_core.specs.Max.{max_joining}
 use Rattle.join_nest.specs.Optional.{option_join}
 use Rattle.join_nest.specs.KeyedLaws.{get_join}
@@ -13,7 +13,6 @@ use Rattle.join_nest.specs.TruncLaws.{get_trunc_join, get_dropped}
 use Rattle.mpx_name.specs.Order.{name_cmp, name_total}
 use Rattle.mpx_post.specs.Posts.{Given}
 use Rattle.mpx_post.specs.Equality.{same_given}
-use Rattle.mpx_post.specs.Births.{same_birth}
 use Rattle.mpx_name.specs.Name.{Name}
 use Rattle.mpx_board.specs.Boards.{nothing, empty, join, join_contexts}
 use Rattle.mpx_board.specs.Parts.{OfProcesses, CallView, EntryView, AcksView, PartsView, numbers_joining, call_joining, entry_joining, acks_joining, parts_joining}
