@@ -136,7 +136,7 @@ fn refuses_what_is_no_text(rt: HostRuntime) -> Result<(), Fail> {
     Ok(())
 }
 
-// No run comes to it, since the rank that is furthest back goes on.
+// All ranks wait, as where every frame is lost.
 #[test]
 fn names_sixty_four_waiting_ranks(rt: HostRuntime) -> Result<(), Fail> {
     let alloc = rt.alloc();
