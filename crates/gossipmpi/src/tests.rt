@@ -109,7 +109,7 @@ fn refuses_words(rt: HostRuntime) -> Result<(), Fail> {
             1,
             b"",
             "error: ",
-            "within its limits",
+            "--loss 0 to 100",
         ),
         (
             &["run", "--seed"],
