@@ -144,19 +144,55 @@ fn program<'a>(alloc: Global) -> Result<Command<'a>, AllocError> {
         .subcommand(run)
 }
 
-// Why the words ask for no job: clap's refusal, or that the options aren't pairs of words within their limits.
+// Why the words ask for no job: clap's refusal, or what the first option that gives none should be followed by.
 fn no_job(alloc: Global, words: &[String]) -> Error {
     let Ok(program) = program(alloc) else {
         return Error::from(AllocError);
     };
     match program.try_get_matches_from(words) {
-        Ok(_) => refusal(
-            alloc,
-            ErrorKind::InvalidValue,
-            "each option is followed by a number in a word of its own: --seed 0 to 18446744073709551615, --loss 0 to 100, --relays 0 to 63, --turns 1 to 10000000",
-        ),
+        Ok(_) => {
+            let options = match words {
+                [_, _, options @ ..] => options,
+                _ => &words[..0],
+            };
+            refusal(alloc, ErrorKind::InvalidValue, complaint(options))
+        }
         Err(refusal) => refusal,
     }
+}
+
+// What is wrong with the first of these options that gives none.
+fn complaint(words: &[String]) -> &'static str {
+    for pair in words.chunks(2) {
+        match pair {
+            [option, value] => {
+                if with_option(usual(), option.as_bytes(), value.as_bytes()).is_none() {
+                    return limits_of(option.as_bytes());
+                }
+            }
+            _ => return NO_PAIR,
+        }
+    }
+    NO_PAIR
+}
+
+const NO_PAIR: &str = "each option is followed by its number, as a word of its own";
+
+// What an option is followed by.
+fn limits_of(option: &[u8]) -> &'static str {
+    if option == b"--seed".as_slice() {
+        return "--seed is followed by a number from 0 to 18446744073709551615";
+    }
+    if option == b"--loss".as_slice() {
+        return "--loss is followed by a number from 0 to 100";
+    }
+    if option == b"--relays".as_slice() {
+        return "--relays is followed by a number from 0 to 63";
+    }
+    if option == b"--turns".as_slice() {
+        return "--turns is followed by a number from 1 to 10000000";
+    }
+    NO_PAIR
 }
 
 /// The refusal of words of which one is no text.

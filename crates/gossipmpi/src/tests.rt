@@ -109,7 +109,7 @@ fn refuses_words(rt: HostRuntime) -> Result<(), Fail> {
             1,
             b"",
             "error: ",
-            "--loss 0 to 100",
+            "--loss is followed by a number from 0 to 100",
         ),
         (
             &["run", "--seed"],
