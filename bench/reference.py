@@ -2,9 +2,9 @@
 """A second opinion on gossipmpi: reads and evaluates a job script, without sharing any code with the program.
 
 It refuses what the program refuses, with the same line on the standard error and exit status 2, by the grammar and the order
-of refusals in docs/MODEL.md, limits of bytes and of statements included. It evaluates the calls by MPI 4.1's text, for all 16
-kinds, 9 types and 12 operations, with the refusals of posts and the faults of rows, and tells which ranks wait (exit status
-3). It knows nothing of usage, want of memory, and readers or writers that fail.
+of refusals in docs/MODEL.md, limits of bytes and of statements included. It evaluates the calls by MPI 4.1's text, for all 20
+kinds, 9 types and 12 operations, on every communicator, with the refusals of posts and the faults of rows, and tells which
+ranks wait (exit status 3). It knows nothing of usage, want of memory, and readers or writers that fail.
 
 reference.py < SCRIPT               prints the transcripts
 reference.py random SEED            prints a random script
@@ -24,7 +24,10 @@ PLACES = {  # the words behind the communicator; the last is any number of items
     "scatter": "root ty count items", "scatterv": "root ty scounts count items", "allgather": "ty items",
     "allgatherv": "ty rcounts items", "alltoall": "ty count items", "alltoallv": "ty scounts rcounts items",
     "reduce": "root op ty items", "allreduce": "op ty items", "reduce_scatter_block": "op ty count items",
-    "reduce_scatter": "op ty rcounts items", "scan": "op ty items", "exscan": "op ty items"}
+    "reduce_scatter": "op ty rcounts items", "scan": "op ty items", "exscan": "op ty items",
+    "dup": "arrow target", "split": "colour key arrow target", "create": "list arrow target",
+    "create_group": "tag list arrow target"}
+MAKERS = ["dup", "split", "create", "create_group"]
 PLACES = {k: (v.split() if v else []) for k, v in PLACES.items()}
 
 
@@ -58,7 +61,7 @@ def combine(op, ty, a, b):
 
 
 OPS = ["max", "min", "sum", "prod", "land", "lor", "lxor", "band", "bor", "bxor", "maxloc", "minloc"]
-BYTES, STATEMENTS = 1048576, 65536
+BYTES, STATEMENTS, STEPS = 1048576, 65536, 8
 
 
 class Refused(Exception):
@@ -95,8 +98,13 @@ def first(asked):
     return next((what for what, holds in asked if holds), None)
 
 
-def statement_refusal(words):
-    """Why what stands behind the label is refused; each question is one about the whole line."""
+def is_name(word):
+    return re.fullmatch("[a-z][a-z0-9_]{0,31}", word) is not None
+
+
+def statement_refusal(words, bound):
+    """Why what stands behind the label is refused; each question is one about the whole line. `bound` has the words that are
+    bound at each rank that the line is for."""
     kind = words[0] if words else None
     if kind not in PLACES:
         return "UnknownStatement"
@@ -107,11 +115,14 @@ def statement_refusal(words):
     wrong = lambda places, test: any(p in at and not test(at[p]) for p in places)
     return first([
         ("UnknownStatement", wrong(["op"], OPS.__contains__) or wrong(["ty"], TYPES.__contains__)),
-        ("WrongWords", name is None or len(at) < len(names) or (behind and "items" not in PLACES[kind])),
-        ("BadNumber", wrong(["root", "count"], is_number) or not all(map(is_number, behind))),
-        ("BadList", wrong(["scounts", "rcounts"], is_list)),
-        ("BadName", name is not None and not re.fullmatch("[a-z][a-z0-9_]{0,31}", name)),
-        ("NameUnknown", name != "world")])
+        ("WrongWords", name is None or len(at) < len(names) or (behind and "items" not in PLACES[kind])
+         or wrong(["arrow"], "->".__eq__)),
+        ("BadNumber", wrong(["root", "count", "key", "tag"], is_number) or not all(map(is_number, behind))
+         or wrong(["colour"], lambda word: word == "undefined" or is_number(word))),
+        ("BadList", wrong(["scounts", "rcounts", "list"], is_list)),
+        ("BadName", name is not None and not is_name(name) or wrong(["target"], is_name)),
+        ("NameUnknown", any(name not in words for words in bound)),
+        ("NameTaken", "target" in at and any(at["target"] in words for words in bound))])
 
 
 def read(data):
@@ -120,7 +131,7 @@ def read(data):
     lines = lines_of(seen)
     if not over and not any(counts(words_of(l)) for l in lines):
         raise Refused(1, "NoRanksLine" if not lines or lines[0].isascii() else "NotAscii")
-    todo, made = None, 0
+    todo, made, bound = None, 0, None
     for number, text in enumerate(lines, 1):
         words = words_of(text)
         what = first([("NotAscii", not text.isascii()), ("TooLarge", over and number == len(lines))])
@@ -129,23 +140,28 @@ def read(data):
             what = first([("NoRanksLine", not told), ("RanksOutOfRange", told and not 1 <= int(words[1]) <= 64)])
             if what is None:
                 todo = [[] for _ in range(int(words[1]))]
+                bound = [{"world"} for _ in todo]
         elif what is None and counts(words):
             label = words[0][:-1] if words[0].endswith(":") else ""
             labelled = label == "*" or is_number(label)
             ranks = range(len(todo)) if label == "*" else [int(label)] if labelled else []
             made += len(ranks) if len(words) > 1 else 0
             what = first([("TooLarge", made > STATEMENTS), ("RankOutOfRange", any(not 0 <= r < len(todo) for r in ranks)),
-                          ("UnknownStatement", not labelled)]) or statement_refusal(words[1:])
+                          ("UnknownStatement", not labelled)])
+            what = what or statement_refusal(words[1:], [bound[rank] for rank in ranks])
             if what is None:
                 for rank in ranks:
                     todo[rank].append(words[1:])
+                    if words[1] in MAKERS:
+                        bound[rank].add(words[-1])
         if what is not None:
             raise Refused(number, what)
     return todo
 
 
 def parse(words):
-    call = {"kind": words[0], "root": None, "op": None, "ty": None, "scounts": [], "rcounts": [], "items": []}
+    call = {"kind": words[0], "root": None, "op": None, "ty": None, "scounts": [], "rcounts": [], "items": [],
+            "colour": None, "key": 0, "list": [], "tag": 0, "target": None}
     rest = words[2:]
     for place in PLACES[words[0]]:
         if place == "items":
@@ -156,7 +172,11 @@ def parse(words):
             call["root"] = int(word)
         elif place == "count":
             call["rcounts"] = [int(word)]
-        elif place in ("scounts", "rcounts"):
+        elif place in ("key", "tag"):
+            call[place] = int(word)
+        elif place == "colour":
+            call["colour"] = None if word == "undefined" else int(word)
+        elif place in ("scounts", "rcounts", "list"):
             call[place] = numbers(word)
         else:
             call[place] = word
@@ -174,7 +194,7 @@ def expected(call, n, me):
             "reduce_scatter": (0, n, r)}.get(k, (0, 0, None))
 
 
-def refusal(call, n, me):
+def refusal(call, n, me, depth):
     if call["root"] is not None and not 0 <= call["root"] < n:
         return "RootOutOfRange"
     if call["op"] and (call["op"] in ("maxloc", "minloc")) != (call["ty"] == "2int"):
@@ -192,7 +212,27 @@ def refusal(call, n, me):
         return "ItemOutOfRange"
     if len(call["items"]) > 4096 * width or not all(map(good, call["scounts"] + call["rcounts"])):
         return "TooManyItems"
+    if call["kind"] in MAKERS and depth >= STEPS:
+        return "DepthUsedUp"
+    if call["kind"] == "create" and not are_ranks(call["list"], n):
+        return "BadGroup"
+    if not (call["colour"] is None or 0 <= call["colour"] < 2 ** 31) or not -2 ** 31 <= call["key"] < 2 ** 31:
+        return "BadTag"
     return None
+
+
+def gathering_refusal(call, n, me, depth):
+    if depth >= STEPS:
+        return "DepthUsedUp"
+    if not are_ranks(call["list"], n) or me not in call["list"]:
+        return "BadGroup"
+    if not 0 <= call["tag"] < 2 ** 15:
+        return "BadTag"
+    return None
+
+
+def are_ranks(ranks, n):
+    return all(0 <= r < n for r in ranks) and len(set(ranks)) == len(ranks)
 
 
 def items(call):
@@ -231,7 +271,26 @@ def fault(row):
         }.get(k, lambda: size[i] != size[0])()
         if bad:
             return "Amount", i
+    if k == "create":
+        for i, c in enumerate(row):
+            if any(row[member]["list"] != c["list"] for member in c["list"]):
+                return "Groups", i
     return None
+
+
+def new_communicator(row, name, members, call, me):
+    """The name and the members of the communicator that the member with this rank gets, or None."""
+    kind = row[0]["kind"]
+    if kind in ("dup", "create_group"):
+        return name + (("child", call, 0),), members
+    if kind == "split":
+        colour = row[me]["colour"]
+        if colour is None:
+            return None
+        ranks = sorted((r for r in range(len(row)) if row[r]["colour"] == colour), key=lambda r: (row[r]["key"], r))
+        return name + (("child", call, colour),), [members[r] for r in ranks]
+    ranks = row[me]["list"]  # create: a member of another's group has given the same group
+    return (name + (("child", call, ranks[0]),), [members[r] for r in ranks]) if me in ranks else None
 
 
 def value(row, me):
@@ -284,32 +343,140 @@ def line(x):
 
 
 def evaluate(todo):
+    """Each context is its name, a tuple of steps, and its members' processes."""
     n = len(todo)
-    out, calls = [[] for _ in range(n)], [[] for _ in range(n)]
-    place, waits = [0] * n, [False] * n
+    out, posts = [[] for _ in range(n)], {}  # posts of a context and a process, in order
+    bound = [{"world": ((), list(range(n)))} for _ in range(n)]
+    place, waits = [0] * n, [None] * n
+
+    def post(p, words):
+        """Why the statement is refused, or None where its post is made."""
+        call, context = parse(words), bound[p][words[1]]
+        if call["target"]:
+            bound[p][call["target"]] = None
+        if context is None:
+            return "NotMember"
+        name, members = context
+        if call["kind"] == "create_group":
+            why = gathering_refusal(call, len(members), members.index(p), len(name))
+            if why:
+                return why
+            members = [members[r] for r in call["list"]]
+            name += (("gathering", call["tag"], tuple(members)),)
+            call["list"] = []
+        why = refusal(call, len(members), members.index(p), len(name))
+        if why:
+            return why
+        mine = posts.setdefault((name, p), [])
+        waits[p] = (name, members, len(mine), call["target"])
+        mine.append(call)
+        return None
+
+    def hear(p):
+        """Whether the row that the rank waits for is whole."""
+        name, members, k, target = waits[p]
+        lists = [posts.get((name, q), []) for q in members]
+        if any(len(calls) <= k for calls in lists):
+            return False
+        row, me = [calls[k] for calls in lists], members.index(p)
+        wrong = fault(row)
+        if wrong:
+            out[p].append("fault %s at %d" % wrong)
+        elif row[0]["kind"] in MAKERS:
+            made = new_communicator(row, name, members, k, me)
+            bound[p][target] = made
+            out[p].append("comm %d %d" % (len(made[1]), made[1].index(p)) if made else "null")
+        else:
+            out[p].append(line(value(row, me)))
+        waits[p] = None
+        return True
+
     moved = True
     while moved:
         moved = False
         for p in range(n):
             if waits[p]:
-                k = len(calls[p]) - 1
-                if all(len(c) > k for c in calls):
-                    row = [c[k] for c in calls]
-                    f = fault(row)
-                    out[p].append("fault %s at %d" % f if f else line(value(row, p)))
-                    waits[p], moved = False, True
+                moved |= hear(p)
             elif place[p] < len(todo[p]):
-                call = parse(todo[p][place[p]])
+                why = post(p, todo[p][place[p]])
                 place[p] += 1
                 moved = True
-                why = refusal(call, n, p)
                 if why:
                     out[p].append("refused " + why)
-                else:
-                    calls[p].append(call)
-                    waits[p] = True
     text = "".join("%d: %s\n" % (p, l) for p in range(n) for l in out[p])
     return text, [p for p in range(n) if waits[p] or place[p] < len(todo[p])]
+
+
+def random_call(rng, members, wild):
+    """The words of a call that moves items behind the communicator's, for each of these processes."""
+    n = len(members)
+    kind, ty = rng.choice([k for k in PLACES if k not in MAKERS]), rng.choice(list(TYPES))
+    op = rng.choice(["maxloc", "minloc"] if ty == "2int" else ["max", "min", "sum", "prod", "land", "lor", "lxor", "band", "bor", "bxor"])
+    root, c, width = rng.randrange(n), rng.randint(0, 3), 2 if ty == "2int" else 1
+    send = [[rng.randint(0, 3) for _ in range(n)] for _ in range(n)]
+    vector = [rng.randint(0, 3) for _ in range(n)]
+    for p in range(n):
+        at = p == root
+        count = {"bcast": c if at else 0, "gather": c, "gatherv": vector[p], "scatter": n * c if at else 0,
+                 "scatterv": sum(vector) if at else 0, "allgather": c, "allgatherv": vector[p], "alltoall": n * c,
+                 "alltoallv": sum(send[p]), "reduce_scatter_block": n * c, "reduce_scatter": sum(vector)}.get(kind, c)
+        text = lambda xs: ",".join(map(str, xs)) or "-"
+        words = {"root": str(root), "op": op, "ty": ty, "count": str(vector[p] if kind == "scatterv" else c),
+                 "scounts": text(send[p]) if kind == "alltoallv" else (text(vector) if at else "-"),
+                 "rcounts": text([send[j][p] for j in range(n)]) if kind == "alltoallv" else (text(vector) if at or kind != "gatherv" else "-")}
+        pick = lambda: rng.choice([least(ty), greatest(ty), 0, 1, -1 if TYPES[ty][1] else 2, rng.randint(least(ty), greatest(ty))])
+        # now and then something that doesn't fit
+        if rng.random() < 0.04 * wild:
+            words["root"] = str(rng.randint(-1, n))
+        if rng.random() < 0.03 * wild:
+            words["op"] = rng.choice(["sum", "maxloc", "max"])
+        if rng.random() < 0.03 * wild:
+            words["count"] = str(rng.choice([-1, 0, 2, 4096, 4097]))
+        if rng.random() < 0.03 * wild:
+            count += 1
+        nums = [pick() for _ in range(count * width)]
+        if rng.random() < 0.02 * wild and nums:
+            nums[-1] = -1 if ty == "u64" else greatest(ty) + 1
+        if rng.random() < 0.02 * wild and nums:
+            nums.pop()
+        behind = [" ".join(map(str, nums)) if place == "items" else words[place] for place in PLACES[kind]]
+        yield members[p], kind, behind
+
+
+def random_making(rng, members, wild):
+    """The words of a call that makes communicators, before the arrow, for each of these processes; and who is in each one."""
+    n = len(members)
+    kind = rng.choice(MAKERS)
+    text = lambda xs: ",".join(map(str, xs)) or "-"
+    shuffled = rng.sample(range(n), n)
+    size = rng.randint(1, n)
+    group = shuffled[:size]
+    other = shuffled[size:]  # a second group beside it
+    tag, strange = rng.choice([0, 7, 32767]), lambda: rng.random() < 0.05 * wild
+    lines, made = [], {}
+    for r in range(n):
+        colour, key = rng.choice(["undefined", 0, 1, 1, 2147483647]), rng.choice([0, 0, 1, -1, -r, 2147483647, -2147483648])
+        own = group if r in group else other
+        given = list(own) if r in own else rng.choice([[], list(group)])
+        if strange():
+            colour = rng.choice([-1, 2147483648, 2])
+        if strange():
+            key = rng.choice([2147483648, -2147483649])
+        if strange():
+            given = rng.choice([[], [r], list(range(n)), given[::-1], given + given[:1], [n], [-1], other])
+        gathers = kind == "create_group" and (r in own)
+        if kind == "dup":
+            behind, colour = [], 0
+        elif kind == "split":
+            behind = [str(colour), str(key)]
+        else:
+            behind = ([str(rng.choice([-1, 32768]) if strange() else tag)] if kind == "create_group" else []) + [text(given)]
+            colour = "group" if r in group else "other"
+        if kind != "create_group" or gathers:
+            lines.append((members[r], kind, behind))
+            if colour != "undefined":
+                made.setdefault(colour, []).append(members[r])
+    return lines, list(made.values())
 
 
 def random_script(seed):
@@ -317,48 +484,33 @@ def random_script(seed):
     n = rng.randint(1, 6)
     out = ["ranks %d" % n]
     wild = rng.choice([0, 0, 1])  # whether some calls are to be refused, or don't fit together
-    for _ in range(rng.randint(1, 12)):
-        kind, ty = rng.choice(list(PLACES)), rng.choice(list(TYPES))
-        op = rng.choice(["maxloc", "minloc"] if ty == "2int" else ["max", "min", "sum", "prod", "land", "lor", "lxor", "band", "bor", "bxor"])
-        root, c, width = rng.randrange(n), rng.randint(0, 3), 2 if ty == "2int" else 1
-        send = [[rng.randint(0, 3) for _ in range(n)] for _ in range(n)]
-        vector = [rng.randint(0, 3) for _ in range(n)]
-        for p in range(n):
-            at = p == root
-            count = {"bcast": c if at else 0, "gather": c, "gatherv": vector[p], "scatter": n * c if at else 0,
-                     "scatterv": sum(vector) if at else 0, "allgather": c, "allgatherv": vector[p], "alltoall": n * c,
-                     "alltoallv": sum(send[p]), "reduce_scatter_block": n * c, "reduce_scatter": sum(vector)}.get(kind, c)
-            text = lambda xs: ",".join(map(str, xs)) or "-"
-            words = {"root": str(root), "op": op, "ty": ty, "count": str(vector[p] if kind == "scatterv" else c),
-                     "scounts": text(send[p]) if kind == "alltoallv" else (text(vector) if at else "-"),
-                     "rcounts": text([send[j][p] for j in range(n)]) if kind == "alltoallv" else (text(vector) if at or kind != "gatherv" else "-")}
-            pick = lambda: rng.choice([least(ty), greatest(ty), 0, 1, -1 if TYPES[ty][1] else 2, rng.randint(least(ty), greatest(ty))])
-            # now and then something that doesn't fit
-            if rng.random() < 0.04 * wild:
-                words["root"] = str(rng.randint(-1, n))
-            if rng.random() < 0.03 * wild:
-                words["op"] = rng.choice(["sum", "maxloc", "max"])
-            if rng.random() < 0.03 * wild:
-                words["count"] = str(rng.choice([-1, 0, 2, 4096, 4097]))
-            if rng.random() < 0.03 * wild:
-                count += 1
-            nums = [pick() for _ in range(count * width)]
-            if rng.random() < 0.02 * wild and nums:
-                nums[-1] = -1 if ty == "u64" else greatest(ty) + 1
-            if rng.random() < 0.02 * wild and nums:
-                nums.pop()
-            line = "%d: %s world" % (p, kind)
-            for place in PLACES[kind]:
-                line += " " + (" ".join(map(str, nums)) if place == "items" else words[place])
-            out.append(line.rstrip())
+    words = {"world": [list(range(n))]}  # about which processes share a communicator under each word
+    makes = rng.choice([0.0, 0.1, 0.3, 0.6])
+    for number in range(rng.randint(1, 12)):
+        word = rng.choice(list(words))
+        target = "c%d" % number
+        for members in words[word]:
+            if rng.random() < makes:
+                lines, made = random_making(rng, members, wild)
+                words.setdefault(target, [])
+                words[target] += made
+                for p, kind, behind in lines:
+                    out.append(" ".join(["%d:" % p, kind, word] + behind + ["->", target]))
+            else:
+                for p, kind, behind in random_call(rng, members, wild):
+                    out.append(" ".join(["%d:" % p, kind, word] + behind).rstrip())
+        if rng.random() < 0.05:
+            p = rng.randrange(n)  # a call that nobody answers, or on a null communicator
+            for known in list(words)[-1:]:
+                out.append("%d: barrier %s" % (p, known))
     return "\n".join(out) + "\n"
 
 
 NUMBERS = ["", "-", "x", "+1", "1.5", "1,2", "1,", "-0", "007", "i32", "->", "1\r", "1\x00", "18446744073709551615", "18446744073709551616",
            "-9223372036854775808", "-9223372036854775809", "--1", "1_0"]
 LISTS = ["-", "1,,2", "1,x", ",", "1,", ",1", "--", "1,-1", "0,00", "1", "x", "1,18446744073709551616", "1,\x0b2"]
-NAMES = ["Zz", "worlds", "a_1", "_a", "a" * 32, "a" * 33, "1a", "null", "world\r", "World", "w-1", "world:"]
-OTHERS = ["i33", "f64", "i32", "sum", "avg", "maxloc", "barrier", "ibcast", "Barrier", "ranks", "scan", "gatherv"]
+NAMES = ["c0", "c1", "c9", "world", "undefined", "->", "Zz", "worlds", "a_1", "_a", "a" * 32, "a" * 33, "1a", "null", "world\r", "World", "w-1", "world:"]
+OTHERS = ["dup", "split", "create", "create_group", "idup", "undefined", "i33", "f64", "i32", "sum", "avg", "maxloc", "barrier", "ibcast", "Barrier", "ranks", "scan", "gatherv"]
 LABELS = ["*:", "9:", "-1:", "00:", "-0:", "0", "0:barrier", ":", "+0:", "99999999999999999999:", "#", "\xe9", "0::", "*"]
 LINES = ["", "# a", "#", "\t# \xff", "\r", "ranks 1", "0:", "*:", "9:", "x: y", "\x0b", "0: barrier", "0: barrier world 1", "0: barrier world "]
 OPENINGS = ["", "ranks", "ranks 0", "ranks 65", "ranks 64", "ranks -1", "ranks 2 3", "ranks x", "Ranks 2", "\tranks  3 ", "ranks 3\r"]

@@ -5,7 +5,7 @@ use mpx_board::{AddPostError, Board};
 use mpx_group::Proc;
 use mpx_name::Name;
 use mpx_num::{Numbers, Op, Ty};
-use mpx_post::{At, Birth, Draft, Kind, Mode, Post};
+use mpx_post::{At, Birth, Call, Draft, Kind, Post};
 use std::alloc::Global;
 use std::test::Fail;
 
@@ -13,16 +13,19 @@ use std::test::Fail;
 pub fn post_of(alloc: Global, nums: &[i128]) -> Result<Post, Fail> {
     let world = Birth::world(alloc, 1)?;
     let draft = Draft {
-        kind: Kind::Allreduce,
-        mode: Mode::Blocking,
+        call: Call::blocking(Kind::Allreduce),
         root: 0,
         op: Op::Sum,
         ty: Ty::I64,
         scounts: Numbers::new(alloc, Vec::new(alloc))?,
         rcounts: Numbers::new(alloc, Vec::new(alloc))?,
         items: Numbers::new(alloc, Vec::from_slice(alloc, nums)?)?,
+        colour: None,
+        key: 0,
+        group: Numbers::new(alloc, Vec::new(alloc))?,
     };
-    let made = draft.check(alloc, &world, Proc::new(0), &At { call: 0 });
+    let at = At::on(&Name::world(alloc), 0);
+    let made = draft.check(alloc, &world, Proc::new(0), &at);
     Ok(made.ok().ok_or("refused")?)
 }
 

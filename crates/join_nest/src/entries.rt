@@ -99,6 +99,7 @@ pub fn push_copies<K: Key, J: Exact>(
 ) -> Result<(), OutOfMemory>
     ensures { OnOk result (seen J.view made.new.items ≡ seen J.view made.old.items ++ seen J.view entries.now) }
 {
+    made.reserve(entries.len())?;
     for entry in entries {
         push_copy(alloc, made, entry)?;
     }
@@ -130,6 +131,7 @@ pub fn merged<K: Key, J: Join>(
     ensures { IfOk result (λ made. seen J.view made.items ≡ merge K.cmp J.joining.join (seen J.view left.now) (seen J.view right.now)) }
 {
     let mut made = Vec::new(alloc);
+    made.reserve(left.len().max(right.len()))?;
     let mut i = 0;
     let mut j = 0;
     while i < left.len() && j < right.len() {

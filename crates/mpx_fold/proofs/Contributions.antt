@@ -6,7 +6,7 @@ use Rattle.mpx_num.specs.Operations.{fits}
 use Rattle.mpx_num.specs.Types.{item_len}
 use Rattle.mpx_num.specs.ItemList.{AreItems, is_whole}
 use Rattle.mpx_post.specs.declared.kinds.Kind.{Kind}
-use Rattle.mpx_post.specs.declared.kinds.Kind.TheVariants.{Barrier, Bcast, Gather, Gatherv, Scatter, Scatterv, Allgather, Allgatherv, Alltoall, Alltoallv, Reduce, Allreduce, ReduceScatterBlock, ReduceScatter, Scan, Exscan}
+use Rattle.mpx_post.specs.declared.kinds.Kind.TheVariants.{Barrier, Bcast, Gather, Gatherv, Scatter, Scatterv, Allgather, Allgatherv, Alltoall, Alltoallv, Reduce, Allreduce, ReduceScatterBlock, ReduceScatter, Scan, Exscan, Dup, Split, Create, CreateGroup}
 use Rattle.mpx_post.specs.declared.kinds.Family.TheVariants as F
 use Rattle.mpx_post.specs.declared.kinds.Reduction.{Reduction}
 use Rattle.mpx_post.specs.declared.kinds.Reduction.TheVariants as R
@@ -76,6 +76,10 @@ module _ (row : RowView) (rank : ℕ) (fine : IsFine row) (l : rank < length row
   as_many_by Allgatherv is e op w v = cc op
   as_many_by Alltoall is e op w v = cc op
   as_many_by Alltoallv is e op w v = cc op
+  as_many_by Dup is e op w v = cc op
+  as_many_by Split is e op w v = cc op
+  as_many_by Create is e op w v = cc op
+  as_many_by CreateGroup is e op w v = cc op
 
   -- each gives as many numbers as rank 0
   pub as_many : reduces row ≡ true → AreItems (type_of (first_of row)) (numbers_of (post_at row rank)) → AreItems (type_of (first_of row)) (numbers_of (first_of row)) → length (numbers_of (post_at row rank)) ≡ length (numbers_of (first_of row))
@@ -97,4 +101,8 @@ reduction_has_op R.Exscan = refl
 -- a reduction's posts have items
 pub has_items : (kind : Kind) → (fields_of kind).op ≡ true → (fields_of kind).items ≡ true
 has_items Barrier op = cc op
+has_items Dup op = cc op
+has_items Split op = cc op
+has_items Create op = cc op
+has_items CreateGroup op = cc op
 has_items kind op = refl

@@ -22,6 +22,7 @@ pub fn fold_value(alloc: Global, row: &Row<'_>, rank: u8) -> Result<Value, OutOf
     match row.post(0).kind().family() {
         Family::Reduction(reduction) => value_of(alloc, row, reduction, rank),
         Family::Exchange(_) => Ok(Value::Nothing),
+        Family::NewCommunicator(_) => Ok(Value::Nothing),
     }
 }
 

@@ -1,16 +1,19 @@
 -- The tests decide in what posts differ.
-use Rattle.std.proofs.Common.{◌≡◌, ℕ, ◌<◌, nat_eq, Bool, true, false, not, is_some, length, Option, Some, None, refl}
+use Rattle.std.proofs.Common.{◌≡◌, ℕ, zero, suc, ◌<◌, nat_eq, Bool, true, false, not, ◌||◌, is_some, List, [], ◌∷◌, length, Option, Some, None, refl, subst}
+use Rattle.std.specs.Prelude.{slice_get}
+use Rattle.std.specs.List.{list_any}
+use Rattle.std.proofs.lemmas.Option.{same_Some}
 use Rattle.std.specs.Bool.{Decides}
 use Rattle.std.proofs.lemmas.Bool.{false≢true}
 use Rattle.std.proofs.lemmas.Bool.Decides.{Decides-eqb}
 use Rattle.mpx_post.specs.declared.kinds.Kind as K
-use Rattle.mpx_post.specs.declared.kinds.Kind.TheVariants.{Barrier, Bcast, Gather, Gatherv, Scatter, Scatterv, Allgather, Allgatherv, Alltoall, Alltoallv, Reduce, Allreduce, ReduceScatterBlock, ReduceScatter, Scan, Exscan}
-use Rattle.mpx_post.specs.Posts.{Given}
+use Rattle.mpx_post.specs.declared.kinds.Kind.TheVariants.{Barrier, Bcast, Gather, Gatherv, Scatter, Scatterv, Allgather, Allgatherv, Alltoall, Alltoallv, Reduce, Allreduce, ReduceScatterBlock, ReduceScatter, Scan, Exscan, Dup, Split, Create, CreateGroup}
+use Rattle.mpx_post.specs.Posts.{Given, group_of}
 use Rattle.mpx_post.specs.Rows.{RowView}
 use Rattle.mpx_post.specs.Agreement.{post_at, first_of, AmountsAgree}
 use Rattle.mpx_post.specs.Equality.{same_operation, kinds_decided, modes_decided, operations_decided, options_decided, types_decided, numbers_decided}
 use Rattle.mpx_match.specs.declared.verdicts.Question.{Question}
-use Rattle.mpx_match.specs.declared.verdicts.Question.TheVariants.{Fit, Kind, Mode, Root, Op, ItemType, Amount}
+use Rattle.mpx_match.specs.declared.verdicts.Question.TheVariants.{Fit, Kind, Mode, Root, Op, ItemType, Amount, Groups}
 use Rattle.mpx_match.specs.Faults.{Agrees}
 use Rattle.mpx_match.specs.Questions.{amounts_differ, is_faulty, least_rank}
 use Rattle.mpx_match.proofs.Least.{least_rank-passes, least_rank-none}
@@ -51,6 +54,24 @@ amounts_decided ReduceScatterBlock row rank given = not_same _ (Decides-eqb _ _)
 amounts_decided ReduceScatter row rank given = not_same _ (numbers_decided _ _)
 amounts_decided Scan row rank given = not_same _ (Decides-eqb _ _)
 amounts_decided Exscan row rank given = not_same _ (Decides-eqb _ _)
+amounts_decided Dup row rank given = record { holds = λ e. tt; fails = λ e. cc e }
+amounts_decided Split row rank given = record { holds = λ e. tt; fails = λ e. cc e }
+amounts_decided Create row rank given = record { holds = λ e. tt; fails = λ e. cc e }
+amounts_decided CreateGroup row rank given = record { holds = λ e. tt; fails = λ e. cc e }
+
+-- of each of these
+of_each : (test : ℕ → Bool) (P : ℕ → Type 0) → ((x : ℕ) → Refutes (test x) (P x)) → (xs : List ℕ) → Refutes (list_any test xs) ((place x : ℕ) → slice_get xs place ≡ Some x → P x)
+of_each test P each [] = record { holds = λ e place x at. cc at; fails = λ e. cc e }
+of_each test P each (y ∷ ys) = by_test (test y) refl (of_each test P each ys) where
+  by_test : (b : Bool) → test y ≡ b → Refutes (list_any test ys) ((place x : ℕ) → slice_get ys place ≡ Some x → P x) → Refutes (b || list_any test ys) ((place x : ℕ) → slice_get (y ∷ ys) place ≡ Some x → P x)
+  by_test true e rest = record { holds = λ t. cc t; fails = λ t all. (each y).fails e (all 0 y refl) }
+  by_test false e rest = record {
+    holds = λ t place x at. by_place place x at (rest.holds t);
+    fails = λ t all. rest.fails t (λ place x at. all (suc place) x at);
+  } where
+    by_place : (place x : ℕ) → slice_get (y ∷ ys) place ≡ Some x → ((i z : ℕ) → slice_get ys i ≡ Some z → P z) → P x
+    by_place zero x at later = subst P (same_Some y x at) ((each y).holds e)
+    by_place (suc i) x at later = later i x at
 
 pub decided : (question : Question) (row : RowView) (rank : ℕ) → Refutes (is_faulty question row rank (post_at row rank)) (Agrees question row rank)
 decided Fit row rank = not_same _ (same_test _)
@@ -60,3 +81,4 @@ decided Root row rank = not_same _ (options_decided nat_eq Decides-eqb _ _)
 decided Op row rank = not_same _ (options_decided same_operation operations_decided _ _)
 decided ItemType row rank = not_same _ (types_decided _ _)
 decided Amount row rank = amounts_decided (first_of row).kind row rank (post_at row rank)
+decided Groups row rank = of_each _ _ (λ member. not_same _ (numbers_decided _ _)) (group_of (post_at row rank))

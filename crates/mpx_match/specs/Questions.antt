@@ -1,14 +1,15 @@
 -- Tests that decide in what the posts of a row differ.
 use Rattle.std.specs.Prelude.{ℕ, ◌+◌, ◌==◌, nat_eq, Bool, false, not, [], ◌∷◌, length, cond, Option, Some, None, is_some}
+use Rattle.std.specs.List.{list_any}
 use lib.Pointwise.{pointwise}
 use Rattle.mpx_post.specs.declared.kinds.Kind as K
-use Rattle.mpx_post.specs.declared.kinds.Kind.TheVariants.{Barrier, Bcast, Gather, Gatherv, Scatter, Scatterv, Allgather, Allgatherv, Alltoall, Alltoallv, Reduce, Allreduce, ReduceScatterBlock, ReduceScatter, Scan, Exscan}
-use Rattle.mpx_post.specs.Posts.{Given, count_of}
+use Rattle.mpx_post.specs.declared.kinds.Kind.TheVariants.{Barrier, Bcast, Gather, Gatherv, Scatter, Scatterv, Allgather, Allgatherv, Alltoall, Alltoallv, Reduce, Allreduce, ReduceScatterBlock, ReduceScatter, Scan, Exscan, Dup, Split, Create, CreateGroup}
+use Rattle.mpx_post.specs.Posts.{Given, count_of, group_of}
 use Rattle.mpx_post.specs.Equality.{same_kind, same_mode, same_root, same_operations, same_types}
 use Rattle.mpx_post.specs.Rows.{RowView}
-use Rattle.mpx_post.specs.Agreement.{count_at, first_of, is_fit, received, root_post}
+use Rattle.mpx_post.specs.Agreement.{count_at, first_of, is_fit, post_at, received, root_post}
 use Rattle.mpx_match.specs.declared.verdicts.Question.{Question}
-use Rattle.mpx_match.specs.declared.verdicts.Question.TheVariants.{Fit, Kind, Mode, Root, Op, ItemType, Amount}
+use Rattle.mpx_match.specs.declared.verdicts.Question.TheVariants.{Fit, Kind, Mode, Root, Op, ItemType, Amount, Groups}
 
 abbrev pub least_from : (ℕ → Given → Bool) → ℕ → RowView → Option ℕ
 least_from test i [] = None
@@ -44,6 +45,14 @@ amounts_differ ReduceScatterBlock row rank given = differ (received given) (rece
 amounts_differ ReduceScatter row rank given = not (pointwise nat_eq given.rcounts (first_of row).rcounts)
 amounts_differ Scan row rank given = differ (count_of given) (count_of (first_of row))
 amounts_differ Exscan row rank given = differ (count_of given) (count_of (first_of row))
+amounts_differ Dup row rank given = false
+amounts_differ Split row rank given = false
+amounts_differ Create row rank given = false
+amounts_differ CreateGroup row rank given = false
+
+-- some member of the group that the post gives gives another one
+abbrev pub groups_differ : RowView → Given → Bool
+groups_differ row given = list_any (λ member. not (pointwise nat_eq (group_of (post_at row member)) (group_of given))) (group_of given)
 
 -- the answer for the post of the member with this rank
 abbrev pub is_faulty : Question → RowView → ℕ → Given → Bool
@@ -54,6 +63,7 @@ is_faulty Root row rank given = not (same_root given.root (first_of row).root)
 is_faulty Op row rank given = not (same_operations given.op (first_of row).op)
 is_faulty ItemType row rank given = not (same_types given.items (first_of row).items)
 is_faulty Amount row rank given = amounts_differ (first_of row).kind row rank given
+is_faulty Groups row rank given = groups_differ row given
 
 -- the least rank of whose post the answer is yes
 abbrev pub answer : Question → RowView → Option ℕ

@@ -12,7 +12,7 @@ pub(crate) fn amounts_differ(row: &Row<'_>, kind: Kind, rank: usize) -> bool
 {
     let root = root_of(row.post(0));
     match kind {
-        Kind::Barrier => false,
+        Kind::Barrier | Kind::Dup | Kind::Split | Kind::Create | Kind::CreateGroup => false,
         Kind::Bcast | Kind::Alltoall | Kind::ReduceScatterBlock => {
             received(row, rank, 0) != received(row, 0, 0)
         }

@@ -13,6 +13,8 @@ pub enum FaultKind {
     ItemType,
     /// In the numbers of items.
     Amount,
+    /// In the groups that the members of one of them give.
+    Groups,
 }
 
 /// A call whose posts don't fit together: every member is told the same.

@@ -1,7 +1,8 @@
-ghost use Rattle.std.specs.Prelude.{◌≡◌, ◌≤◌, ◌*◌, ◌==◌, length};
+ghost use Rattle.std.specs.Prelude.{◌≡◌, ◌≤◌, ◌*◌, ◌==◌, nat_lt, length};
+ghost use Rattle.std.specs.List.{list_all};
 ghost use Rattle.mpx_num.specs.Types.{item_len};
 ghost use Rattle.mpx_post.specs.Posts.{numbers_of, type_of};
-ghost use Rattle.mpx_post.specs.Agreement.{blocks_of, fill, fits_root, fits_type, is_fit, is_root};
+ghost use Rattle.mpx_post.specs.Agreement.{blocks_of, fill, fits_group, fits_root, fits_type, is_fit, is_root};
 
 use mpx_num::{Ty, op_fits};
 use mpx_post::{Post, Sent};
@@ -18,6 +19,7 @@ pub(crate) fn fits(size: usize, rank: usize, post: &Post) -> bool
         && post.scounts().as_slice().len() == fields.scounts.of(size, at_root)
         && post.rcounts().as_slice().len() == fields.rcounts.of(size, at_root)
         && are_filled(size, rank, post)
+        && fits_group(size, post)
 }
 
 fn is_root(rank: usize, post: &Post) -> bool
@@ -77,4 +79,17 @@ fn gives(post: &Post, count: usize) -> bool
         None => count == 0,
         Some(items) => count == items.count(),
     }
+}
+
+// The ranks of the group are of so many. None of them stands twice, by the type of a post.
+fn fits_group(size: usize, post: &Post) -> bool
+    ensures { result ≡ fits_group size post.now }
+{
+    are_below(size, post.group())
+}
+
+fn are_below(size: usize, ranks: &[u8]) -> bool
+    ensures { result ≡ list_all (λ r. nat_lt r size) ranks.now }
+{
+    ranks.iter().all(|&rank| usize::from(rank) < size)
 }

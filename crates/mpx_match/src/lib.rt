@@ -8,6 +8,7 @@
 mod amounts;
 mod faults;
 mod fits;
+mod groups;
 mod verdicts;
 
 pub use faults::{Fault, FaultKind, Verdict};

@@ -7,6 +7,7 @@ ghost use Rattle.mpx_match.specs.Verdicts.{IsFirstFault, questions, told_as as t
 use crate::amounts::amounts_differ;
 use crate::faults::{Fault, FaultKind, Verdict};
 use crate::fits::fits;
+use crate::groups::groups_differ;
 use mpx_post::{Post, Row};
 
 // What is asked of each post of a row.
@@ -26,6 +27,8 @@ enum Question {
     ItemType,
     /// Whether its amounts differ from what rank 0's kind asks of them.
     Amount,
+    /// Whether a member of the group that it gives gives another.
+    Groups,
 }
 
 /// Whether the posts of a row fit together, or their first fault. It takes no memory.
@@ -49,6 +52,7 @@ fn first_fault(row: &Row<'_>) -> Verdict
         Question::Op,
         Question::ItemType,
         Question::Amount,
+        Question::Groups,
     ];
     for question in questions {
         if let Some(rank) = least_rank(row, question) {
@@ -73,6 +77,7 @@ fn told_as(question: Question) -> FaultKind
         Question::Op => FaultKind::Op,
         Question::ItemType => FaultKind::ItemType,
         Question::Amount => FaultKind::Amount,
+        Question::Groups => FaultKind::Groups,
     }
 }
 
@@ -103,6 +108,7 @@ fn is_faulty(row: &Row<'_>, question: Question, rank: usize) -> bool
         Question::Op => post.op() != first.op(),
         Question::ItemType => !same_types(post, first),
         Question::Amount => amounts_differ(row, first.kind(), rank),
+        Question::Groups => groups_differ(row, post),
     }
 }
 

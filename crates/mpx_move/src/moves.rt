@@ -1,15 +1,15 @@
 ghost use Rattle.std.specs.Prelude.{◌≡◌, ◌<◌, ◌≤◌, ◌++◌, IfOk, OnOk, Some, ℕ, length, true};
 ghost use Rattle.mpx_post.specs.Agreement.{IsFine, count_at, first_of, post_at};
-ghost use Rattle.mpx_post.specs.Kinds.{fields_of};
+ghost use Rattle.mpx_post.specs.Kinds.{exchange_kind, fields_of};
 ghost use Rattle.mpx_post.specs.Posts.{most_items, numbers_of, type_of};
 ghost use Rattle.mpx_post.specs.Blocks.{IsBlock};
 ghost use Rattle.mpx_post.specs.Values.{as_items};
-ghost use Rattle.mpx_move.specs.Moves.{block_for, blocks_for, counts_sent, joined, move_value};
+ghost use Rattle.mpx_move.specs.Moves.{block_for, blocks_for, counts_sent, joined, move_of, move_value};
 ghost use Rattle.mpx_move.specs.Senders.{IsSender};
 
 use join_core::OutOfMemory;
 use mpx_num::Items;
-use mpx_post::{Block, Kind, Post, Row, Value};
+use mpx_post::{Block, Exchange, Family, Post, Row, Value};
 use std::alloc::Global;
 
 /// What a fine row of an exchange gives the member with this rank. A row of another kind gives nothing.
@@ -18,28 +18,41 @@ pub fn move_value(alloc: Global, row: &Row<'_>, rank: u8) -> Result<Value, OutOf
     requires rank { rank < length row.now }
     ensures { IfOk result (λ value. value ≡ move_value row.now rank) }
 {
-    match row.post(0).kind() {
-        Kind::Bcast => {
+    match row.post(0).kind().family() {
+        Family::Exchange(exchange) => value_of(alloc, row, exchange, rank),
+        Family::Reduction(_) => Ok(Value::Nothing),
+        Family::NewCommunicator(_) => Ok(Value::Nothing),
+    }
+}
+
+// What a row of this exchange gives the member.
+fn value_of(
+    alloc: Global,
+    row: &Row<'_>,
+    exchange: Exchange,
+    rank: u8,
+) -> Result<Value, OutOfMemory>
+    requires fine { IsFine row.now }
+    requires kind { (first_of row.now).kind ≡ exchange_kind exchange }
+    requires rank { rank < length row.now }
+    ensures { IfOk result (λ value. value ≡ move_of exchange row.now rank) }
+{
+    match exchange {
+        Exchange::Barrier => Ok(Value::Nothing),
+        Exchange::Bcast => {
             let items = given(row, root(row)).copy()?;
             Ok(Value::Items(items))
         }
-        Kind::Gather | Kind::Gatherv => {
+        Exchange::Gather | Exchange::Gatherv => {
             if root(row) == usize::from(rank) {
                 joined_value(alloc, row)
             } else {
                 Ok(Value::Nothing)
             }
         }
-        Kind::Scatter | Kind::Scatterv => block_value(alloc, row, root(row), rank),
-        Kind::Allgather | Kind::Allgatherv => joined_value(alloc, row),
-        Kind::Alltoall | Kind::Alltoallv => blocks_value(alloc, row, rank),
-        Kind::Barrier
-        | Kind::Reduce
-        | Kind::Allreduce
-        | Kind::ReduceScatterBlock
-        | Kind::ReduceScatter
-        | Kind::Scan
-        | Kind::Exscan => Ok(Value::Nothing),
+        Exchange::Scatter | Exchange::Scatterv => block_value(alloc, row, root(row), rank),
+        Exchange::Allgather | Exchange::Allgatherv => joined_value(alloc, row),
+        Exchange::Alltoall | Exchange::Alltoallv => blocks_value(alloc, row, rank),
     }
 }
 

@@ -1,8 +1,7 @@
 -- What a write through the map of opened contexts does, and what the answers of a post and a harvest come to.
-use Rattle.std.proofs.Common.{◌≡◌, ℕ, Bool, true, false, cond, Option, Some, None, refl, sym, ap, ◌∙◌, subst}
-use Rattle.std.specs.Prelude.{◌<◌, Result, Ok, Err, is_some, IsSome, length, nat_le, nat_lt}
-use Rattle.std.proofs.Common.{arith}
-use Rattle.std.proofs.lemmas.Bool.Decides.{nat_tests}
+use Rattle.std.proofs.Common.{◌≡◌, ℕ, Bool, true, false, cond, Option, Some, refl, sym, ap, ◌∙◌, subst}
+use Rattle.std.proofs.Math.Nat.{zero-max}
+use Rattle.std.specs.Prelude.{◌==◌, Result, Ok, Err, is_some, IsSome, nat_le}
 use Rattle.std.specs.Option.{option_map}
 use Rattle.std.specs.Ordering.{is_eq, ordering_reverse}
 use Rattle.std.specs.declared.cmp.Ordering.{Ordering}
@@ -18,14 +17,14 @@ use Rattle.mpx_post.specs.declared.draft.PostError.TheVariants as R
 use Rattle.mpx_post.specs.Births.{BirthView}
 use Rattle.mpx_post.specs.Drafts.{Checks}
 use Rattle.mpx_name.specs.Name.{Name, same_name}
-use Rattle.mpx_board.specs.Boards.{Born, only, join, join_contexts, empty, nothing}
+use Rattle.mpx_board.specs.Boards.{Born, Front, only, join, join_contexts, empty, nothing}
 use Rattle.mpx_node.specs.declared.opened.Opened.{Opened}
 use Rattle.mpx_node.specs.declared.node.Harvest.{Harvest}
 use Rattle.mpx_node.specs.declared.node.Harvest.TheVariants as H
 use Rattle.mpx_node.specs.declared.finished.Finished.{Finished}
-use Rattle.mpx_node.specs.Nodes.{NodeView, OpenedView, posted_on, front_on, post_at, Posts, next_of, next_result, add_result, result_of}
+use Rattle.mpx_node.specs.Nodes.{NodeView, OpenedView, posted_on, front_on, post_at, Posts, next_of, next_result, add_result, children_on}
 use Rattle.mpx_node.specs.Harvests.{Harvests, HarvestsOpened}
-use Rattle.mpx_node.specs.Opened.{opened_of}
+use Rattle.mpx_node.specs.Opened.{opened_of, opened_by}
 
 same_either : {A : Type 0} (b : Bool) (x : A) → cond b x x ≡ x
 same_either true x = refl
@@ -39,10 +38,10 @@ tied_either Equal s e = ap is_eq e
 tied_either Greater s e = ap is_eq e
 
 -- either order of two names
-either : (n name : Name) → same_name n name ≡ is_at (name_cmp name) n
+pub either : (n name : Name) → same_name n name ≡ is_at (name_cmp name) n
 either n name = tied_either (name_cmp name n) (name_cmp n name) (name_total.antisymm n name)
 
-same_is : (n name : Name) → is_at (name_cmp name) n ≡ true → n ≡ name
+pub same_is : (n name : Name) → is_at (name_cmp name) n ≡ true → n ≡ name
 same_is n name t = sym (name_exact name n (is_tied _ t))
 
 -- A WRITE
@@ -51,7 +50,7 @@ abbrev pub Contexts : Type 0
 Contexts = Name → Option OpenedView
 
 abbrev pub seen : BTreeMap Name Opened → Contexts
-seen m name = option_map opened_of (get name_cmp m name)
+seen = opened_by
 
 map_cond : {A B : Type 0} (f : A → B) (b : Bool) (x : A) (o : Option A) → option_map f (cond b (Some x) o) ≡ cond b (Some (f x)) (option_map f o)
 map_cond f true x o = refl
@@ -115,37 +114,8 @@ module _ (name : Name) (old new : NodeView) (o : OpenedView) (has : old.opened n
   opened_here : (result : Result Harvest OutOfMemory) → HarvestsOpened name (next_of (Some o) old.board name old.me) result old new → Harvests (is_some (old.opened name)) name (next_result old name) result old new
   opened_here result h = subst (λ x. Harvests (is_some x) name (next_of x old.board name old.me) result old new) (sym has) h
 
-  pub harvests_done : (finished : Finished) (call : ℕ) → next_of (Some o) old.board name old.me ≡ Some finished → call ≡ front_on old name → new ≡ add_result name finished old → Harvests (is_some (old.opened name)) name (next_result old name) (Ok (H.Done call)) old new
+  pub harvests_done : (finished : Finished) (call : ℕ) → next_of (Some o) old.board name old.me ≡ Some finished → call ≡ front_on old name → new ≡ add_result name finished (children_on old.board name (front_on old name)) old → Harvests (is_some (old.opened name)) name (next_result old name) (Ok (H.Done call)) old new
   harvests_done finished call e k made = opened_here (Ok (H.Done call)) (subst (λ x. HarvestsOpened name x (Ok (H.Done call)) old new) (sym e) (k, made))
-
-  pub harvests_none : next_of (Some o) old.board name old.me ≡ None → new ≡ old → Harvests (is_some (old.opened name)) name (next_result old name) (Ok H.NotYet) old new
-  harvests_none e same = opened_here (Ok H.NotYet) (subst (λ x. HarvestsOpened name x (Ok H.NotYet) old new) (sym e) same)
-
-  wants : (next : Option Finished) (e : OutOfMemory) → IsSome next → new ≡ old → HarvestsOpened name next (Err e) old new
-  wants None e some same = cc some
-  wants (Some finished) e some same = same
-
-  pub harvests_wants : (result : Result Harvest OutOfMemory) (e : OutOfMemory) → IsSome (next_of (Some o) old.board name old.me) → result ≡ Err e → new ≡ old → Harvests (is_some (old.opened name)) name (next_result old name) result old new
-  harvests_wants result e some re same = subst (λ x. Harvests (is_some (old.opened name)) name (next_result old name) x old new) (sym re) (opened_here (Err e) (wants (next_of (Some o) old.board name old.me) e some same))
-
-none_there : {A : Type 0} (o : Option A) → false ≡ is_some o → o ≡ None
-none_there None e = refl
-none_there (Some x) e = cc e
-
-module _ (node : NodeView) (name : Name) (o : OpenedView) (call : ℕ) (front : call ≡ length o.results) where
-  -- the next call has no result
-  pub no_next : false ≡ is_some (result_of node.board name node.me call) → next_of (Some o) node.board name node.me ≡ None
-  no_next none =
-      ap (λ x. cond (nat_lt (length o.results) o.posted) x None) (ap (result_of node.board name node.me) (sym front) ∙ none_there _ none)
-      ∙ same_either (nat_lt (length o.results) o.posted) None
-
-  -- it has one, and is posted here
-  pub some_next : call < o.posted → true ≡ is_some (result_of node.board name node.me call) → IsSome (next_of (Some o) node.board name node.me)
-  some_next less some =
-      let posted : nat_lt (length o.results) o.posted ≡ true = grind (arith, nat_tests) in
-      ap (λ b. is_some (cond b (result_of node.board name node.me (length o.results)) None)) posted
-      ∙ ap (λ k. is_some (result_of node.board name node.me k)) (sym front)
-      ∙ sym some
 
 -- AT THE START
 
@@ -154,4 +124,11 @@ pub first_birth : (name : Name) (birth : BirthView) → join empty (only (Born n
 first_birth name birth i = record { contexts = λ n. at (same_name n name) i; acks = λ q n p. 0 } where
   at : (b : Bool) → join_contexts nothing (cond b (record nothing { birth = known birth }) nothing) ≡ cond b (record nothing { birth = known birth }) nothing
   at true i = record { birth = known birth; fronts = λ p. 0; dropped = 0; posts = λ k p. same_either (nat_le 0 k) unknown i }
+  at false i = record { birth = unknown; fronts = λ p. 0; dropped = 0; posts = λ k p. same_either (nat_le 0 k) unknown i }
+
+-- it learns a front
+pub first_front : (name : Name) (process number : ℕ) → join empty (only (Front name process number)) ≡ only (Front name process number)
+first_front name process number i = record { contexts = λ n. at (same_name n name) i; acks = λ q n p. 0 } where
+  at : (b : Bool) → join_contexts nothing (cond b (record nothing { fronts = λ q. cond (q == process) number 0 }) nothing) ≡ cond b (record nothing { fronts = λ q. cond (q == process) number 0 }) nothing
+  at true i = record { birth = unknown; fronts = λ q. zero-max (cond (q == process) number 0) i; dropped = 0; posts = λ k p. same_either (nat_le 0 k) unknown i }
   at false i = record { birth = unknown; fronts = λ p. 0; dropped = 0; posts = λ k p. same_either (nat_le 0 k) unknown i }

@@ -5,12 +5,12 @@ use Rattle.mpx_name.specs.Name.{Name}
 use Rattle.mpx_node.specs.declared.node.Harvest.{Harvest}
 use Rattle.mpx_node.specs.declared.node.Harvest.TheVariants.{Done, NotYet, NotOpened}
 use Rattle.mpx_node.specs.declared.finished.Finished.{Finished}
-use Rattle.mpx_node.specs.Nodes.{NodeView, add_result, front_on}
+use Rattle.mpx_node.specs.Nodes.{NodeView, add_result, children_on, front_on}
 
 -- done where there is a next result, and not yet where there is none; memory can be wanting only where there is one, and
 -- changes nothing
 abbrev pub HarvestsOpened : Name → Option Finished → Result Harvest OutOfMemory → NodeView → NodeView → Type 0
-HarvestsOpened name (Some finished) (Ok (Done call)) old new = (call ≡ front_on old name) × (new ≡ add_result name finished old)
+HarvestsOpened name (Some finished) (Ok (Done call)) old new = (call ≡ front_on old name) × (new ≡ add_result name finished (children_on old.board name (front_on old name)) old)
 HarvestsOpened name (Some finished) (Ok NotYet) old new = ⊥
 HarvestsOpened name (Some finished) (Ok NotOpened) old new = ⊥
 HarvestsOpened name None (Ok (Done call)) old new = ⊥

@@ -1,17 +1,22 @@
 -- One process, and its steps.
-use Rattle.std.specs.Prelude.{◌≡◌, ℕ, ◌+◌, ◌&&◌, cond, nat_lt, List, [], ◌∷◌, ◌++◌, length, Option, Some, None, option_and_then, Result, Ok, Err}
+use Rattle.std.specs.Prelude.{◌≡◌, ℕ, ◌+◌, ◌&&◌, Bool, cond, nat_lt, List, [], ◌∷◌, ◌++◌, length, map, Option, Some, None, option_and_then, Result, Ok, Err, ℤ}
+use Rattle.std.specs.List.{list_any}
 use Rattle.std.specs.Option.{option_map}
 use Rattle.join_core.specs.Flat.{known}
+use Rattle.mpx_group.specs.Group.{has}
+use Rattle.mpx_name.specs.declared.steps.Step.TheVariants.{Gathering}
+use Rattle.mpx_name.specs.Name.{Name, same_name}
 use Rattle.mpx_post.specs.Posts.{Given}
 use Rattle.mpx_post.specs.declared.draft.Draft.{Draft}
 use Rattle.mpx_post.specs.declared.draft.PostError.{PostError}
 use Rattle.mpx_post.specs.declared.draft.PostError.TheVariants.{NotMember, OutOfMemory}
 use Rattle.mpx_post.specs.Births.{BirthView, upto}
-use Rattle.mpx_post.specs.Drafts.{checked}
-use Rattle.mpx_name.specs.Name.{Name, same_name}
-use Rattle.mpx_board.specs.Boards.{Look, join, only, told, row_on, Born, Held, Front}
+use Rattle.mpx_post.specs.Drafts.{at, checked}
+use Rattle.mpx_post.specs.Gatherings.{GatheringView, gathering}
+use Rattle.mpx_board.specs.Boards.{Look, join, join_all, only, told, row_on, Born, Held, Front}
 use Rattle.mpx_node.specs.declared.finished.Finished.{Finished}
 use Rattle.mpx_value.specs.declared.outcomes.Outcome.{Outcome}
+use Rattle.mpx_value.specs.Children.{children, named_children}
 use Rattle.mpx_value.specs.Histories.{value_for}
 
 -- what a process has done on a context: how many calls it has posted, and the results of those that it has harvested
@@ -70,13 +75,13 @@ abbrev pub post_at : Name → Given → NodeView → NodeView
 post_at name given node = learn (only (Held name (posted_on node name) node.me (known given))) (does_on name (λ o. record o { posted = o.posted + 1 }) node)
 
 -- what a draft comes to where the context is opened and its birth is known
-abbrev pub checked_by : Option OpenedView → Option BirthView → ℕ → Draft → Result Given PostError
-checked_by None birth me draft = Err NotMember
-checked_by (Some o) None me draft = Err NotMember
-checked_by (Some o) (Some birth) me draft = checked birth me (record { call = o.posted }) draft
+abbrev pub checked_by : Option OpenedView → Option BirthView → ℕ → Name → Draft → Result Given PostError
+checked_by None birth me name draft = Err NotMember
+checked_by (Some o) None me name draft = Err NotMember
+checked_by (Some o) (Some birth) me name draft = checked birth me (at name o.posted) draft
 
 abbrev pub checked_on : NodeView → Name → Draft → Result Given PostError
-checked_on node name draft = checked_by (node.opened name) (told (node.board.contexts name).birth) node.me draft
+checked_on node name draft = checked_by (node.opened name) (told (node.board.contexts name).birth) node.me name draft
 
 -- what a post comes to: the refusal of the draft, or its call number, or want of memory; it changes the node only where it is made
 abbrev pub Posts : Name → Result Given PostError → Result ℕ PostError → NodeView → NodeView → Type 0
@@ -86,7 +91,7 @@ Posts name (Ok given) (Err e) old new = (e ≡ OutOfMemory) × (new ≡ old)
 
 -- what a call gives the process, where the board has the birth and the posts of all members
 abbrev pub outcome_on : Look → Name → (me call : ℕ) → Option Outcome
-outcome_on board name me k = option_and_then (λ birth. option_and_then (value_for birth me) (row_on board name k)) (told (board.contexts name).birth)
+outcome_on board name me k = option_and_then (λ birth. option_and_then (λ row. value_for birth me row name k) (row_on board name k)) (told (board.contexts name).birth)
 
 -- the result of a call: what it gives the process, beside the own post
 abbrev pub result_of : Look → Name → (me call : ℕ) → Option Finished
@@ -100,6 +105,72 @@ next_of (Some o) board name me = cond (nat_lt (length o.results) o.posted) (resu
 abbrev pub next_result : NodeView → Name → Option Finished
 next_result node name = next_of (node.opened name) node.board name node.me
 
--- the next call is done: its result is stored, and the own front raised
-abbrev pub add_result : Name → Finished → NodeView → NodeView
-add_result name finished node = learn (only (Front name node.me (front_on node name + 1))) (does_on name (λ o. record o { results = o.results ++ finished ∷ [] }) node)
+-- HARVESTS
+
+abbrev pub or_none : {A : Type 0} → Option (List A) → List A
+or_none None = []
+or_none (Some xs) = xs
+
+-- the communicators that a call makes, by their names and births, where the board has its row
+abbrev pub children_on : Look → Name → (call : ℕ) → List (Name × BirthView)
+children_on board name k = or_none (option_and_then (λ birth. option_map (λ row. named_children name k (children birth row name k)) (row_on board name k)) (told (board.contexts name).birth))
+
+-- the facts that these are born
+abbrev pub births_of : List (Name × BirthView) → List Look
+births_of made = map (λ (x : Name × BirthView). only (Born x.0 (known x.1))) made
+
+-- whether one of these has the name, and the process as a member
+abbrev pub is_new_to : (me : ℕ) → List (Name × BirthView) → Name → Bool
+is_new_to me made name = list_any (λ (x : Name × BirthView). same_name name x.0 && has x.1.members me) made
+
+abbrev pub or_new : Option OpenedView → OpenedView
+or_new None = record { posted = 0; results = [] }
+or_new (Some o) = o
+
+-- it opens contexts; what is opened stays as it is
+abbrev pub opens : (Name → Bool) → NodeView → NodeView
+opens new node = record node { opened = λ name. cond (new name) (Some (or_new (node.opened name))) (node.opened name) }
+
+-- it stores a result
+abbrev pub stores_on : Name → Finished → NodeView → NodeView
+stores_on name finished node = does_on name (λ o. record o { results = o.results ++ finished ∷ [] }) node
+
+-- the fact that it has harvested one more call
+abbrev pub front_fact : Name → NodeView → Look
+front_fact name node = only (Front name node.me (front_on node name + 1))
+
+-- what it tells of a call that is done, as one part: its own front raised, and the births of what the call made
+abbrev pub harvest_part : Name → List (Name × BirthView) → NodeView → Look
+harvest_part name made node = join_all (front_fact name node ∷ births_of made)
+
+-- the next call is done: its result is stored, its part joined, and what it made is opened where the process is a member
+abbrev pub add_result : Name → Finished → List (Name × BirthView) → NodeView → NodeView
+add_result name finished made node = opens (is_new_to node.me made) (learn (harvest_part name made node) (stores_on name finished node))
+
+-- GATHERINGS
+
+-- what the opening of a gathering comes to where its parent is opened and the parent's birth is known
+abbrev pub gathers_by : Option OpenedView → Option BirthView → (me : ℕ) → Name → (tag : ℤ) → List ℤ → Result GatheringView PostError
+gathers_by None birth me parent tag ranks = Err NotMember
+gathers_by (Some o) None me parent tag ranks = Err NotMember
+gathers_by (Some o) (Some birth) me parent tag ranks = gathering birth me (length parent) tag ranks
+
+abbrev pub gathers_on : NodeView → (parent : Name) → (tag : ℤ) → (ranks : List ℤ) → Result GatheringView PostError
+gathers_on node parent tag ranks = gathers_by (node.opened parent) (told (node.board.contexts parent).birth) node.me parent tag ranks
+
+abbrev pub gathering_name : Name → GatheringView → Name
+gathering_name parent g = Gathering g.tag g.members ∷ parent
+
+-- the fact that a gathering is born
+abbrev pub gathering_fact : Name → GatheringView → Look
+gathering_fact parent g = only (Born (gathering_name parent g) (known (record { members = g.members })))
+
+-- it opens a gathering, whose birth it tells; an opened one stays as it is
+abbrev pub open_gathering_node : Name → GatheringView → NodeView → NodeView
+open_gathering_node parent g node = opens (λ name. same_name name (gathering_name parent g)) (learn (gathering_fact parent g) node)
+
+-- what the opening of a gathering comes to: the refusal, or its name, or want of memory; it changes the node only where it is opened
+abbrev pub Opens : Name → Result GatheringView PostError → Result Name PostError → NodeView → NodeView → Type 0
+Opens parent (Err refusal) result old new = (result ≡ Err refusal) × (new ≡ old)
+Opens parent (Ok g) (Ok name) old new = (name ≡ gathering_name parent g) × (new ≡ open_gathering_node parent g old)
+Opens parent (Ok g) (Err e) old new = (e ≡ OutOfMemory) × (new ≡ old)

@@ -6,6 +6,8 @@
 mod finished;
 mod node;
 mod opened;
+mod opening;
+mod results;
 
 pub use finished::Finished;
 pub use node::{Harvest, Node};

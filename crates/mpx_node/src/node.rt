@@ -1,25 +1,22 @@
-ghost use Rattle.std.specs.Prelude.{◌≡◌, ◌<◌, ◌≤◌, ℕ, Some, None, OnOk, OnErr, IfOk, slice_get, is_some, length};
+ghost use Rattle.std.specs.Prelude.{◌≡◌, ◌<◌, ◌≤◌, [], Some, None, OnOk, OnErr, IfOk, slice_get, is_some};
 ghost use Rattle.std.specs.Option.{option_copied};
-ghost use Rattle.mpx_post.specs.Drafts.{Checks, checked, most_calls};
-ghost use Rattle.std.specs.Option.{option_map};
-ghost use Rattle.std.specs.BTreeMap.{get};
-ghost use Rattle.mpx_name.specs.Order.{name_cmp};
+ghost use Rattle.mpx_post.specs.Drafts.{Checks, at, checked, most_calls};
 ghost use Rattle.mpx_name.specs.Name.{Name as NameView};
-ghost use Rattle.mpx_board.specs.Boards.{only, floor_on, told, Dropped};
-ghost use Rattle.mpx_post.specs.Rows.{all_of};
+ghost use Rattle.mpx_board.specs.Boards.{only, floor_on, Dropped};
 ghost use Rattle.mpx_board.specs.Changes.{pruned};
 ghost use Rattle.mpx_board.specs.Looks.{look};
-ghost use Rattle.mpx_node.specs.Nodes.{opened_at_start, outcome_on, result_of};
-ghost use Rattle.mpx_node.specs.Opened.{opened_of};
+ghost use Rattle.mpx_node.specs.Nodes.{opened_at_start};
+ghost use Rattle.mpx_node.specs.Opened.{opened_by};
 
 use crate::finished::Finished;
 use crate::opened::Opened;
-use join_core::{Exact, OutOfMemory};
+use crate::opening::{open, store_and_open};
+use crate::results::{children_on, finished, harvest_part, has_result};
+use join_core::{Exact, Join, OutOfMemory};
 use mpx_board::{Board, PruneError};
 use mpx_group::Proc;
 use mpx_name::Name;
-use mpx_post::{At, Birth, Draft, Post, PostError};
-use mpx_value::{Outcome, outcome};
+use mpx_post::{At, Birth, Draft, Gathering, Post, PostError};
 use std::alloc::Global;
 use std::collections::BTreeMap;
 
@@ -43,8 +40,9 @@ pub enum Harvest {
 }
 
 impl Node {
-    ghost use Rattle.mpx_node.specs.Nodes.{Posts, start_node, learn, checked_on, next_result, posted_on, results_on, front_on};
+    ghost use Rattle.mpx_node.specs.Nodes.{Opens, Posts, add_result, start_node, learn, checked_on, children_on, gathering_name, gathers_on, next_result, open_gathering_node, posted_on, results_on, front_on};
     ghost use Rattle.mpx_node.specs.Shown.{node_of};
+    ghost use Rattle.mpx_node.specs.Opened.{HasUnfinished};
     ghost use Rattle.mpx_node.specs.Harvests.{Harvests};
 
     /// The process `me` of so many, of which the first are ranks, before any post: its board has just the birth of the
@@ -76,7 +74,7 @@ impl Node {
             return Err(PostError::NotMember);
         };
         let call = opened.posted;
-        let post = checked(alloc, birth, self.me, call, draft)?;
+        let post = checked(alloc, birth, self.me, name, call, draft)?;
         match self.board.join_post(alloc, name, call, self.me, post) {
             Ok(()) => {
                 opened.posted = call + 1;
@@ -86,14 +84,15 @@ impl Node {
         }
     }
 
-    /// Stores the result of the next call on a context and raises the own front, where that call is posted here and the
-    /// birth and all members' posts of it are on the board. Elsewhere it answers [`Harvest::NotYet`] or
+    /// Stores the result of the next call on a context, raises the own front, tells how the communicators came to be that
+    /// the call makes, and opens the one that has the process, where that call is posted here and the birth and all
+    /// members' posts of it are on the board. Elsewhere it answers [`Harvest::NotYet`] or
     /// [`Harvest::NotOpened`], takes no memory and is no `Err`. An `Err` changes nothing.
     pub fn harvest(&mut self, alloc: Global, name: &Name) -> Result<Harvest, OutOfMemory>
         ensures { Harvests (is_some ((node_of self.old).opened name.now)) name.now (next_result (node_of self.old) name.now)
             result (node_of self.old) (node_of self.new) }
     {
-        let Some(opened) = self.opened.get_mut(name) else {
+        let Some(opened) = self.opened.get(name) else {
             return Ok(Harvest::NotOpened);
         };
         let call = opened.front();
@@ -106,11 +105,36 @@ impl Node {
         match finished(alloc, &self.board, name, self.me, call)? {
             None => Ok(Harvest::NotYet),
             Some(finished) => {
-                opened.results.reserve(1)?;
-                self.board.raise_front(alloc, name, self.me, call + 1)?;
-                opened.results.push_reserved(finished);
+                self.add_result(alloc, name, call, finished)?;
                 Ok(Harvest::Done(call))
             }
+        }
+    }
+
+    /// Opens the gathering with this tag of the members of the parent with these ranks, in this order, and gives its name
+    /// (`MPI_COMM_CREATE_GROUP`, MPI 4.1 section 7.4.2). What is open already stays as it is. A parent that isn't opened
+    /// here, or whose birth isn't known, is refused as `NotMember`; then the refusals are those of [`Gathering::check`]. An
+    /// `Err` changes nothing.
+    pub fn open_gathering(
+        &mut self,
+        alloc: Global,
+        parent: &Name,
+        tag: i128,
+        ranks: &[i128],
+    ) -> Result<Name, PostError>
+        ensures { Opens parent.now (gathers_on (node_of self.old) parent.now tag ranks.now) result (node_of self.old) (node_of self.new) }
+    {
+        if !self.opened.contains_key(parent) {
+            return Err(PostError::NotMember);
+        }
+        let Some(birth) = self.board.birth(parent) else {
+            return Err(PostError::NotMember);
+        };
+        let depth = parent.depth();
+        let gathering = Gathering::check(alloc, birth, self.me, depth, tag, ranks)?;
+        match self.gather(alloc, parent, &gathering) {
+            Ok(name) => Ok(name),
+            Err(_) => Err(PostError::OutOfMemory),
         }
     }
 
@@ -167,6 +191,78 @@ impl Node {
     {
         &self.board
     }
+
+    // Stores the result of the next call on an opened context, tells of it, and opens what the call made. An `Err` changes
+    // nothing.
+    fn add_result(
+        &mut self,
+        alloc: Global,
+        name: &Name,
+        call: u32,
+        finished: Finished,
+    ) -> Result<(), OutOfMemory>
+        requires unfinished { HasUnfinished (node_of self.old).opened name.now }
+        requires front { call ≡ front_on (node_of self.old) name.now }
+        requires call { call < most_calls }
+        ensures ok { OnOk result (node_of self.new
+            ≡ add_result name.now finished (children_on (node_of self.old).board name.now call) (node_of self.old)) }
+        ensures err { OnErr result (node_of self.new ≡ node_of self.old) }
+    {
+        let made = children_on(alloc, &self.board, name, call)?;
+        if made.as_slice().is_empty() {
+            return self.add_plain_result(alloc, name, call, finished);
+        }
+        let part = harvest_part(alloc, name, self.me, call + 1, &made)?;
+        let board = self.board.joined(alloc, &part)?;
+        store_and_open(&mut self.opened, alloc, self.me, name, finished, &made)?;
+        self.board = board;
+        Ok(())
+    }
+
+    // The same of a call that makes nothing: the front is raised in place.
+    fn add_plain_result(
+        &mut self,
+        alloc: Global,
+        name: &Name,
+        call: u32,
+        finished: Finished,
+    ) -> Result<(), OutOfMemory>
+        requires unfinished { HasUnfinished (node_of self.old).opened name.now }
+        requires front { call ≡ front_on (node_of self.old) name.now }
+        requires call { call < most_calls }
+        ensures ok { OnOk result (node_of self.new ≡ add_result name.now finished [] (node_of self.old)) }
+        ensures err { OnErr result (node_of self.new ≡ node_of self.old) }
+    {
+        let Some(opened) = self.opened.get_mut(name) else {
+            unreachable!();
+        };
+        opened.results.reserve(1)?;
+        self.board.raise_front(alloc, name, self.me, call + 1)?;
+        opened.results.push_reserved(finished);
+        Ok(())
+    }
+
+    // Opens a gathering, and tells of it. An `Err` changes nothing.
+    fn gather(
+        &mut self,
+        alloc: Global,
+        parent: &Name,
+        gathering: &Gathering,
+    ) -> Result<Name, OutOfMemory>
+        ensures ok { IfOk result (λ name. (name ≡ gathering_name parent.now gathering.now)
+            × (node_of self.new ≡ open_gathering_node parent.now gathering.now (node_of self.old))) }
+        ensures err { OnErr result (node_of self.new ≡ node_of self.old) }
+    {
+        let Ok(name) = parent.gathering(alloc, gathering.tag(), gathering.members()) else {
+            return Err(OutOfMemory);
+        };
+        let mut part = Board::new(alloc);
+        part.add_birth(alloc, &name, gathering.birth(alloc)?)?;
+        let board = self.board.joined(alloc, &part)?;
+        open(&mut self.opened, alloc, &name)?;
+        self.board = board;
+        Ok(name)
+    }
 }
 
 // The world, where the process is a rank.
@@ -175,7 +271,7 @@ fn opened_at_start(
     me: Proc,
     ranks: u8,
 ) -> Result<BTreeMap<Name, Opened>, OutOfMemory>
-    ensures { IfOk result (λ m. (name : NameView) → option_map opened_of (get name_cmp m name) ≡ opened_at_start me ranks name) }
+    ensures { IfOk result (λ m. (name : NameView) → opened_by m name ≡ opened_at_start me ranks name) }
 {
     let mut opened = BTreeMap::new(alloc);
     if me.number() >= ranks {
@@ -185,83 +281,17 @@ fn opened_at_start(
     Ok(opened)
 }
 
-// Whether the board has the birth and the posts of all members to a call, of which the process is one.
-fn has_result(board: &Board, name: &Name, me: Proc, call: u32) -> bool
-    ensures { result ≡ is_some (result_of (look board.now) name.now me call) }
-{
-    match board.birth(name) {
-        None => false,
-        Some(birth) => {
-            board.holds(name, call, me).is_some()
-                && birth.rank_of(me).is_some()
-                && have_posted(board, name, call, birth.members())
-        }
-    }
-}
-
-// Whether the board has the posts of all of these to a call.
-fn have_posted(board: &Board, name: &Name, call: u32, members: &[Proc]) -> bool
-    ensures { result ≡ is_some (all_of (λ p. told (((look board.now).contexts name.now).posts call p)) members.now) }
-{
-    members
-        .iter()
-        .all(|member| board.holds(name, call, *member).is_some())
-}
-
-// The result of a call on a context, where the board has the birth and the posts of all members.
-fn finished(
-    alloc: Global,
-    board: &Board,
-    name: &Name,
-    me: Proc,
-    call: u32,
-) -> Result<Option<Finished>, OutOfMemory>
-    ensures { IfOk result (λ o. o ≡ result_of (look board.now) name.now me call) }
-{
-    let mine = match board.holds(name, call, me) {
-        Some(post) => post.copy(alloc)?,
-        None => return Ok(None),
-    };
-    match outcome_on(alloc, board, name, me, call)? {
-        Some(outcome) => Ok(Some(Finished { mine, outcome })),
-        None => Ok(None),
-    }
-}
-
-// What a call gives the process, where the board has the birth and the posts of all members, and it is one.
-fn outcome_on(
-    alloc: Global,
-    board: &Board,
-    name: &Name,
-    me: Proc,
-    call: u32,
-) -> Result<Option<Outcome>, OutOfMemory>
-    ensures { IfOk result (λ o. o ≡ outcome_on (look board.now) name.now me call) }
-{
-    let row = match board.row(alloc, name, call)? {
-        Some(row) => row,
-        None => return Ok(None),
-    };
-    let rank = match board.birth(name) {
-        Some(birth) => birth.rank_of(me),
-        None => None,
-    };
-    match rank {
-        Some(rank) => Ok(Some(outcome(alloc, &row, rank)?)),
-        None => Ok(None),
-    }
-}
-
-// The post of the draft as this call, of which there is none past the last.
+// The post of the draft as this call on the context, of which there is none past the last.
 fn checked(
     alloc: Global,
     birth: &Birth,
     me: Proc,
+    name: &Name,
     call: u32,
     draft: Draft,
 ) -> Result<Post, PostError>
-    ensures value { Checks (checked birth.now me (record { call = call }) draft) result }
+    ensures value { Checks (checked birth.now me (at name.now call) draft) result }
     ensures room { OnOk result (call < most_calls) }
 {
-    draft.check(alloc, birth, me, &At { call })
+    draft.check(alloc, birth, me, &At::on(name, call))
 }

@@ -5,3 +5,8 @@ pub mod Sums
 pub mod Blocks
 pub mod Contributions
 pub mod Families
+pub mod Seen
+pub mod Checks
+pub mod Makings
+pub mod Gatherings
+pub mod Examples

@@ -1,5 +1,5 @@
 -- What each part of a draft's check says of its refusals.
-use Rattle.std.proofs.Common.{◌≡◌, ◌∙◌, inl, inr, ◌≤◌, ◌<◌, ◌*◌, ◌||◌, cond, is_some, Bool, true, false, not, List, [], ◌∷◌, ℤ, length, Option, Ok, Err, nat_lt, refl, ap, arith}
+use Rattle.std.proofs.Common.{◌≡◌, ◌∙◌, inl, inr, ◌≤◌, ◌<◌, ◌*◌, ◌||◌, cond, is_some, Bool, true, false, not, List, [], ◌∷◌, ℤ, length, Option, Some, None, Ok, Err, nat_lt, refl, ap, arith}
 use Rattle.std.specs.Prelude.{int_le, ◌≤ℤ◌, ◌<ℤ◌, ◌&&◌, ◌⊎◌}
 use Rattle.std.specs.List.{Any, list_all}
 use Rattle.std.proofs.lemmas.Bool.Decides.{nat_tests}
@@ -11,7 +11,7 @@ use Rattle.mpx_num.specs.declared.types.Ty.{Ty}
 use Rattle.mpx_num.specs.Types.{item_len, least, greatest, IsInRange, IsOutOfRange}
 use Rattle.mpx_num.specs.ItemList.{AreItems, is_whole}
 use Rattle.mpx_post.specs.declared.draft.PostError.{PostError}
-use Rattle.mpx_post.specs.declared.draft.PostError.TheVariants.{ItemsLength, ItemOutOfRange, TooManyItems, CallsUsedUp}
+use Rattle.mpx_post.specs.declared.draft.PostError.TheVariants.{RootOutOfRange, OpNotForType, CountsLength, ItemsLength, ItemOutOfRange, TooManyItems, CallsUsedUp, DepthUsedUp, BadGroup, BadTag}
 use Rattle.mpx_post.specs.Posts.{Given, few_items, most_items}
 use Rattle.mpx_post.specs.Drafts.{Checks, first_that_holds, is_of, unless, where_had}
 
@@ -52,17 +52,53 @@ module _ {A : Type 0} (ty : Ty) (nums : List ℤ) (x : A) (items : AreItems ty n
 pub strange_are_refused : {A : Type 0} (ty : Ty) (nums : List ℤ) (x : A) → is_whole ty nums ≡ true → Any (IsOutOfRange ty) nums → Err ItemOutOfRange ≡ unless (items_refusal ty nums) x
 strange_are_refused ty nums x whole strange = rw (whole, one_is_none ty nums strange) refl
 
--- AFTER THE COUNTS: w whether an item is cut, r whether a number is out of range, t whether there are too many items
+-- A WHOLE CHECK: a the root, b the operation, l the number of counts, m the number of items, w whether an item is cut, r
+-- whether a number is out of range, t whether there are too many items, c whether a count is none, and the refusals after
+
+abbrev pub shape : (a b l m : Bool) → Option PostError
+shape a b l m = first_that_holds ((a, RootOutOfRange) ∷ (b, OpNotForType) ∷ (l, CountsLength) ∷ (m, ItemsLength) ∷ [])
 
 abbrev pub three : (w r t : Bool) → Option PostError
 three w r t = first_that_holds ((w, ItemsLength) ∷ (r, ItemOutOfRange) ∷ (t, TooManyItems) ∷ [])
 
--- what refuses the items refuses the draft, where c is whether a count is none, u whether the calls are used up
-pub items_refused : {A : Type 0} (w r t c u : Bool) (x : A) (e : PostError) (given : Given) → Err e ≡ unless (three w r t) x → Checks (unless (first_that_holds ((w || false, ItemsLength) ∷ (r, ItemOutOfRange) ∷ (t || c, TooManyItems) ∷ (u, CallsUsedUp) ∷ [])) given) (Err e)
-items_refused true r t c u x e given h = let same : e ≡ ItemsLength = cc in ap Err same
-items_refused false true t c u x e given h = let same : e ≡ ItemOutOfRange = cc in ap Err same
-items_refused false false true c u x e given h = let same : e ≡ TooManyItems = cc in ap Err same
-items_refused false false false c u x e given h = cc
+abbrev pub whole : (a b l m w r t c : Bool) → List (Bool × PostError) → Option PostError
+whole a b l m w r t c after = first_that_holds ((a, RootOutOfRange) ∷ (b, OpNotForType) ∷ (l, CountsLength) ∷ (w || m, ItemsLength) ∷ (r, ItemOutOfRange) ∷ (t || c, TooManyItems) ∷ after)
+
+pub shape_refused : (a b l m w r t c : Bool) (after : List (Bool × PostError)) (e : PostError) (given : Given) → shape a b l m ≡ Some e → Checks (unless (whole a b l m w r t c after) given) (Err e)
+shape_refused true b l m w r t c after e given h = let same : e ≡ RootOutOfRange = cc in ap Err same
+shape_refused false true l m w r t c after e given h = let same : e ≡ OpNotForType = cc in ap Err same
+shape_refused false false true m w r t c after e given h = let same : e ≡ CountsLength = cc in ap Err same
+shape_refused false false false true true r t c after e given h = let same : e ≡ ItemsLength = cc in ap Err same
+shape_refused false false false true false r t c after e given h = let same : e ≡ ItemsLength = cc in ap Err same
+shape_refused false false false false w r t c after e given h = cc
+
+-- what comes after the shape
+abbrev pub behind : (w r t c : Bool) → List (Bool × PostError) → Option PostError
+behind w r t c after = first_that_holds ((w, ItemsLength) ∷ (r, ItemOutOfRange) ∷ (t || c, TooManyItems) ∷ after)
+
+pub shape_parts : (a b l m : Bool) → shape a b l m ≡ None → (a ≡ false) × (b ≡ false) × (l ≡ false) × (m ≡ false)
+shape_parts true b l m h = cc
+shape_parts false true l m h = cc
+shape_parts false false true m h = cc
+shape_parts false false false true h = cc
+shape_parts false false false false h = (refl, refl, refl, refl)
+
+or_none : (w : Bool) → (w || false) ≡ w
+or_none true = refl
+or_none false = refl
+
+pub shape_passed : (a b l m w r t c : Bool) (after : List (Bool × PostError)) → shape a b l m ≡ None → whole a b l m w r t c after ≡ behind w r t c after
+shape_passed true b l m w r t c after h = cc
+shape_passed false true l m w r t c after h = cc
+shape_passed false false true m w r t c after h = cc
+shape_passed false false false true w r t c after h = cc
+shape_passed false false false false w r t c after h = rw (or_none w) refl
+
+pub items_refused : {A : Type 0} (w r t c : Bool) (after : List (Bool × PostError)) (x : A) (e : PostError) (given : Given) → Err e ≡ unless (three w r t) x → Checks (unless (behind w r t c after) given) (Err e)
+items_refused true r t c after x e given h = let same : e ≡ ItemsLength = cc in ap Err same
+items_refused false true t c after x e given h = let same : e ≡ ItemOutOfRange = cc in ap Err same
+items_refused false false true c after x e given h = let same : e ≡ TooManyItems = cc in ap Err same
+items_refused false false false c after x e given h = cc
 
 pub items_passed : {A : Type 0} (w r t : Bool) (x y : A) → Ok y ≡ unless (three w r t) x → (w ≡ false) × (r ≡ false) × (t ≡ false) × (y ≡ x)
 items_passed true r t x y h = cc
@@ -79,3 +115,33 @@ is_some-where_had false x = refl
 pub few_given : (had : Bool) (ty : Ty) (nums : List ℤ) → nat_lt (most_items * item_len ty) (length (cond had nums [])) ≡ false → few_items (where_had had (record { ty = ty; nums = nums }))
 few_given true ty nums few = grind (arith, nat_tests)
 few_given false ty nums few = tt
+
+-- THE PLACE: u the number of calls, d the depth, g the group, k the colour and the key
+
+abbrev pub place : (u d g k : Bool) → Option PostError
+place u d g k = first_that_holds ((u, CallsUsedUp) ∷ (d, DepthUsedUp) ∷ (g, BadGroup) ∷ (k, BadTag) ∷ [])
+
+pub place_passed : (u d g k : Bool) → place u d g k ≡ None → (u ≡ false) × (d ≡ false) × (g ≡ false) × (k ≡ false)
+place_passed true d g k h = cc
+place_passed false true g k h = cc
+place_passed false false true k h = cc
+place_passed false false false true h = cc
+place_passed false false false false h = (refl, refl, refl, refl)
+
+-- WHAT IS ACCEPTED
+
+pub none_told : {A : Type 0} (refusal : Option PostError) (x y : A) → unless refusal x ≡ Ok y → refusal ≡ None
+none_told None x y h = refl
+none_told (Some e) x y h = cc
+
+-- where nothing refuses, nothing that is asked last does
+pub none_after : (a b l m w r t c : Bool) (after : List (Bool × PostError)) → whole a b l m w r t c after ≡ None → first_that_holds after ≡ None
+none_after true b l m w r t c after h = cc
+none_after false true l m w r t c after h = cc
+none_after false false true m w r t c after h = cc
+none_after false false false m true r t c after h = cc
+none_after false false false true false r t c after h = cc
+none_after false false false false false true t c after h = cc
+none_after false false false false false false true c after h = cc
+none_after false false false false false false false true after h = cc
+none_after false false false false false false false false after h = h

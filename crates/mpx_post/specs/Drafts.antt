@@ -1,18 +1,26 @@
--- Which drafts are refused, and what post another one makes (MPI 4.1, sections 6.2 to 6.12).
-use Rattle.std.specs.Prelude.{◌≡◌, ℕ, ◌*◌, ℤ, pos, negsuc, int_le, ◌==◌, ◌&&◌, ◌||◌, Bool, false, not, nat_lt, List, [], ◌∷◌, length, map, cond, Option, Some, None, Result, Ok, Err}
+-- Which drafts are refused, and what post another one makes (MPI 4.1, sections 6.2 to 6.12 and 7.4).
+use Rattle.std.specs.Prelude.{◌≡◌, ℕ, ◌*◌, ◌^◌, ℤ, pos, negsuc, int_le, ◌==◌, ◌&&◌, ◌||◌, Bool, true, false, not, nat_lt, nat_le, List, [], ◌∷◌, length, map, cond, Option, Some, None, Result, Ok, Err}
 use Rattle.std.specs.List.{list_all, sum}
+use Rattle.std.specs.Option.{option_map, option_map_or}
 use Rattle.std.specs.Ordering.{int_eq}
 use Rattle.mpx_num.specs.ItemList.{is_whole}
 use Rattle.mpx_num.specs.Operations.{fits}
 use Rattle.mpx_num.specs.Types.{least, greatest, item_len}
 use Rattle.mpx_num.specs.declared.types.Ty.{Ty}
+use Rattle.mpx_num.specs.declared.types.Ty.TheVariants.{I32}
 use Rattle.mpx_post.specs.declared.draft.At.{At}
 use Rattle.mpx_post.specs.declared.draft.Draft.{Draft}
 use Rattle.mpx_post.specs.declared.draft.PostError.{PostError}
-use Rattle.mpx_post.specs.declared.draft.PostError.TheVariants.{NotMember, RootOutOfRange, OpNotForType, CountsLength, ItemsLength, ItemOutOfRange, TooManyItems, CallsUsedUp, OutOfMemory}
+use Rattle.mpx_post.specs.declared.draft.PostError.TheVariants.{NotMember, RootOutOfRange, OpNotForType, CountsLength, ItemsLength, ItemOutOfRange, TooManyItems, CallsUsedUp, DepthUsedUp, BadGroup, BadTag, OutOfMemory}
 use Rattle.mpx_post.specs.declared.kinds.Number.{Number}
+use Rattle.mpx_post.specs.declared.kinds.Makes.{Makes}
+use Rattle.mpx_post.specs.declared.kinds.Makes.TheVariants as M
+use Rattle.mpx_post.specs.declared.making.Making.{Making}
+use Rattle.mpx_post.specs.declared.making.Making.TheVariants.{Nothing, Split, Group}
+use Rattle.mpx_group.specs.Group.{has_twice}
+use Rattle.mpx_name.specs.Name.{Name, is_gathering}
 use Rattle.mpx_post.specs.Births.{BirthView, rank_in}
-use Rattle.mpx_post.specs.Kinds.{fields_of, number_in, is_had}
+use Rattle.mpx_post.specs.Kinds.{family_of, fields_of, number_in, is_had, kind_of, mode_of, makes_communicators, is_gathered}
 use Rattle.mpx_post.specs.Blocks.{blocks_sent}
 use Rattle.mpx_post.specs.Posts.{Given, most_items}
 
@@ -25,20 +33,34 @@ first_that_holds (r ∷ rest) = cond r.0 (Some r.1) (first_that_holds rest)
 abbrev pub most_calls : ℕ
 most_calls = 4294967295
 
+-- a name has at most so many steps (MPI 4.1 has no such limit)
+abbrev pub most_steps : ℕ
+most_steps = 8
+
+-- where the call with this number on this context stands
+abbrev pub at : Name → ℕ → At
+at name call = record { call = call; depth = length name; gathering = is_gathering name }
+
 -- WHAT A DRAFT HAS. A field that its kind hasn't is not looked at.
 
 abbrev pub sent_counts : Draft → List ℤ
-sent_counts draft = cond (is_had (fields_of draft.kind).scounts) draft.scounts []
+sent_counts draft = cond (is_had (fields_of (kind_of draft.call)).scounts) draft.scounts []
 
 abbrev pub received_counts : Draft → List ℤ
-received_counts draft = cond (is_had (fields_of draft.kind).rcounts) draft.rcounts []
+received_counts draft = cond (is_had (fields_of (kind_of draft.call)).rcounts) draft.rcounts []
 
 abbrev pub drafted_numbers : Draft → List ℤ
-drafted_numbers draft = cond (fields_of draft.kind).items draft.items []
+drafted_numbers draft = cond (fields_of (kind_of draft.call)).items draft.items []
+
+-- the ranks of its group
+abbrev pub ranks_in : Makes → Draft → List ℤ
+ranks_in M.Nothing draft = []
+ranks_in M.Colour draft = []
+ranks_in M.Group draft = draft.group
 
 -- whether the member with this rank is the root that the draft names
 abbrev pub is_drafted_root : ℕ → Draft → Bool
-is_drafted_root rank draft = (fields_of draft.kind).root && int_eq draft.root (pos rank)
+is_drafted_root rank draft = (fields_of (kind_of draft.call)).root && int_eq draft.root (pos rank)
 
 -- REFUSALS
 
@@ -71,32 +93,86 @@ abbrev pub misfill : Option (List ℤ) → Ty → List ℤ → Bool
 misfill None ty nums = false
 misfill (Some counts) ty nums = list_all is_count counts && not (sum (naturals counts) * item_len ty == length nums)
 
+-- ranks of so many, none twice
+abbrev pub are_ranks : ℕ → List ℤ → Bool
+are_ranks size ranks = list_all (is_rank size) ranks && not (has_twice (naturals ranks))
+
+-- a colour: from 0 to 2^31 - 1
+abbrev pub is_colour : ℤ → Bool
+is_colour z = int_le (pos 0) z && nat_lt (natural z) (2 ^ 31)
+
+-- a key: a number of 32 bits with a sign
+abbrev pub is_key : ℤ → Bool
+is_key z = is_of I32 z
+
+-- a tag: from 0 to 2^15 - 1
+abbrev pub is_tag : ℤ → Bool
+is_tag z = int_le (pos 0) z && nat_lt (natural z) (2 ^ 15)
+
+-- the colour and the key are within their limits, where the kind has them
+abbrev pub has_colour_and_key : Makes → Draft → Bool
+has_colour_and_key M.Nothing draft = true
+has_colour_and_key M.Colour draft = option_map_or is_colour draft.colour true && is_key draft.key
+has_colour_and_key M.Group draft = true
+
+-- calls of create_group are made on gatherings, and no others are
+abbrev pub is_misplaced : (gathering gathered : Bool) → Bool
+is_misplaced gathering gathered = cond gathering (not gathered) gathered
+
+-- what is asked last, of the place of the call and of the new communicator
+abbrev pub place_refusals : (size : ℕ) → At → Draft → List (Bool × PostError)
+place_refusals size at draft =
+    (at.call == most_calls, CallsUsedUp)
+    ∷ (makes_communicators (family_of (kind_of draft.call)) && nat_le most_steps at.depth, DepthUsedUp)
+    ∷ (is_misplaced at.gathering (is_gathered (family_of (kind_of draft.call))) || not (are_ranks size (ranks_in (fields_of (kind_of draft.call)).makes draft)), BadGroup)
+    ∷ (not (has_colour_and_key (fields_of (kind_of draft.call)).makes draft), BadTag)
+    ∷ []
+
 -- why the member with this rank, of so many, may not post this as its next call, in the order in which it is told
 abbrev pub refusals : (size rank : ℕ) → At → Draft → List (Bool × PostError)
 refusals size rank at draft =
-    ((fields_of draft.kind).root && not (is_rank size draft.root), RootOutOfRange)
-    ∷ ((fields_of draft.kind).op && not (fits draft.op draft.ty), OpNotForType)
-    ∷ (not (are_so_many (sent_counts draft) (fields_of draft.kind).scounts size (is_drafted_root rank draft) && are_so_many (received_counts draft) (fields_of draft.kind).rcounts size (is_drafted_root rank draft)), CountsLength)
-    ∷ (not (is_whole draft.ty (drafted_numbers draft)) || misfill (blocks_sent (fields_of draft.kind).sent size (is_drafted_root rank draft) (sent_counts draft) (received_counts draft)) draft.ty (drafted_numbers draft), ItemsLength)
+    ((fields_of (kind_of draft.call)).root && not (is_rank size draft.root), RootOutOfRange)
+    ∷ ((fields_of (kind_of draft.call)).op && not (fits draft.op draft.ty), OpNotForType)
+    ∷ (not (are_so_many (sent_counts draft) (fields_of (kind_of draft.call)).scounts size (is_drafted_root rank draft) && are_so_many (received_counts draft) (fields_of (kind_of draft.call)).rcounts size (is_drafted_root rank draft)), CountsLength)
+    ∷ (not (is_whole draft.ty (drafted_numbers draft)) || misfill (blocks_sent (fields_of (kind_of draft.call)).sent size (is_drafted_root rank draft) (sent_counts draft) (received_counts draft)) draft.ty (drafted_numbers draft), ItemsLength)
     ∷ (not (list_all (is_of draft.ty) (drafted_numbers draft)), ItemOutOfRange)
     ∷ (nat_lt (most_items * item_len draft.ty) (length (drafted_numbers draft)) || not (list_all is_count (sent_counts draft) && list_all is_count (received_counts draft)), TooManyItems)
-    ∷ (at.call == most_calls, CallsUsedUp)
+    ∷ place_refusals size at draft
+
+-- what is asked first, of the root, the operation and the counts
+abbrev pub shape_refusals : (size rank : ℕ) → Draft → List (Bool × PostError)
+shape_refusals size rank draft =
+    ((fields_of (kind_of draft.call)).root && not (is_rank size draft.root), RootOutOfRange)
+    ∷ ((fields_of (kind_of draft.call)).op && not (fits draft.op draft.ty), OpNotForType)
+    ∷ (not (are_so_many (sent_counts draft) (fields_of (kind_of draft.call)).scounts size (is_drafted_root rank draft) && are_so_many (received_counts draft) (fields_of (kind_of draft.call)).rcounts size (is_drafted_root rank draft)), CountsLength)
+    ∷ (misfill (blocks_sent (fields_of (kind_of draft.call)).sent size (is_drafted_root rank draft) (sent_counts draft) (received_counts draft)) draft.ty (drafted_numbers draft), ItemsLength)
     ∷ []
 
 -- the value, where the kind has it
 abbrev pub where_had : {A : Type 0} → Bool → A → Option A
 where_had had x = cond had (Some x) None
 
+-- what is said of a new communicator, by a colour, a key and the ranks of a group
+abbrev pub making_of : Makes → Option ℤ → (key : ℤ) → List ℤ → Making
+making_of M.Nothing colour key ranks = Nothing
+making_of M.Colour colour key ranks = Split (option_map natural colour) key
+making_of M.Group colour key ranks = Group (naturals ranks)
+
+-- what a draft says of a new communicator
+abbrev pub drafted_making : Makes → Draft → Making
+drafted_making makes draft = making_of makes draft.colour draft.key draft.group
+
 -- the post whose fields are the draft's
 abbrev pub given_by : Draft → Given
 given_by draft = record {
-  kind = draft.kind;
-  mode = draft.mode;
-  root = where_had (fields_of draft.kind).root (natural draft.root);
-  op = where_had (fields_of draft.kind).op draft.op;
+  kind = kind_of draft.call;
+  mode = mode_of draft.call;
+  root = where_had (fields_of (kind_of draft.call)).root (natural draft.root);
+  op = where_had (fields_of (kind_of draft.call)).op draft.op;
   scounts = naturals (sent_counts draft);
   rcounts = naturals (received_counts draft);
-  items = where_had (fields_of draft.kind).items (record { ty = draft.ty; nums = draft.items });
+  items = where_had (fields_of (kind_of draft.call)).items (record { ty = draft.ty; nums = draft.items });
+  making = drafted_making (fields_of (kind_of draft.call)).makes draft;
 }
 
 -- the refusal, where there is one

@@ -14,10 +14,12 @@ use Rattle.mpx_num.specs.declared.operations.Op.{Op}
 use Rattle.mpx_num.specs.declared.operations.Op.TheVariants.{Max, Min, Sum, Prod, Land, Lor, Lxor, Band, Bor, Bxor, Maxloc, Minloc}
 use Rattle.mpx_num.specs.ItemList.{ItemList}
 use Rattle.mpx_post.specs.declared.kinds.Kind.{Kind}
-use Rattle.mpx_post.specs.declared.kinds.Kind.TheVariants.{Barrier, Bcast, Gather, Gatherv, Scatter, Scatterv, Allgather, Allgatherv, Alltoall, Alltoallv, Reduce, Allreduce, ReduceScatterBlock, ReduceScatter, Scan, Exscan}
+use Rattle.mpx_post.specs.declared.kinds.Kind.TheVariants.{Barrier, Bcast, Gather, Gatherv, Scatter, Scatterv, Allgather, Allgatherv, Alltoall, Alltoallv, Reduce, Allreduce, ReduceScatterBlock, ReduceScatter, Scan, Exscan, Dup, Split, Create, CreateGroup}
 use Rattle.mpx_post.specs.declared.kinds.Mode.{Mode}
 use Rattle.mpx_post.specs.declared.kinds.Mode.TheVariants.{Blocking, Nonblocking}
-use Rattle.mpx_post.specs.Posts.{Given}
+use Rattle.mpx_post.specs.declared.making.Making.{Making}
+use Rattle.mpx_post.specs.declared.making.Making.TheVariants as M
+use Rattle.mpx_post.specs.Posts.{Given, colour_in, key_in, group_in}
 
 -- Each variant by its place in its list
 
@@ -38,6 +40,10 @@ place_of_kind ReduceScatterBlock = 12
 place_of_kind ReduceScatter = 13
 place_of_kind Scan = 14
 place_of_kind Exscan = 15
+place_of_kind Dup = 16
+place_of_kind Split = 17
+place_of_kind Create = 18
+place_of_kind CreateGroup = 19
 
 abbrev place_of_type : Ty → ℕ
 place_of_type I8 = 0
@@ -100,6 +106,18 @@ same_types a b = same_option (λ (x y : ItemList). same_type x.ty y.ty) a b
 abbrev pub same_items : ItemList → ItemList → Bool
 same_items a b = same_type a.ty b.ty && pointwise int_eq a.nums b.nums
 
+-- the same is said of a new communicator
+abbrev pub same_making : Making → Making → Bool
+same_making M.Nothing M.Nothing = true
+same_making M.Nothing (M.Split c k) = false
+same_making M.Nothing (M.Group rs) = false
+same_making (M.Split colour key) M.Nothing = false
+same_making (M.Split colour key) (M.Split c k) = same_option nat_eq colour c && int_eq key k
+same_making (M.Split colour key) (M.Group rs) = false
+same_making (M.Group ranks) M.Nothing = false
+same_making (M.Group ranks) (M.Split c k) = false
+same_making (M.Group ranks) (M.Group rs) = pointwise nat_eq ranks rs
+
 -- the same kind with the same fields
 abbrev pub same_given : Given → Given → Bool
 same_given a b = same_kind a.kind b.kind
@@ -108,7 +126,8 @@ same_given a b = same_kind a.kind b.kind
     && (same_operations a.op b.op
     && (pointwise nat_eq a.scounts b.scounts
     && (pointwise nat_eq a.rcounts b.rcounts
-    && same_option same_items a.items b.items)))))
+    && (same_option same_items a.items b.items
+    && same_making a.making b.making))))))
 
 -- Each of these tests decides whether the two are equal
 
@@ -118,7 +137,7 @@ decided_by_place place at_place back a b =
     (λ t. sym (back a) ∙ ap at_place (places.0 t) ∙ back b, λ e. places.1 (ap place e))
 
 kind_at : ℕ → Kind
-kind_at n = cond (n == 0) Barrier (cond (n == 1) Bcast (cond (n == 2) Gather (cond (n == 3) Gatherv (cond (n == 4) Scatter (cond (n == 5) Scatterv (cond (n == 6) Allgather (cond (n == 7) Allgatherv (cond (n == 8) Alltoall (cond (n == 9) Alltoallv (cond (n == 10) Reduce (cond (n == 11) Allreduce (cond (n == 12) ReduceScatterBlock (cond (n == 13) ReduceScatter (cond (n == 14) Scan Exscan))))))))))))))
+kind_at n = cond (n == 0) Barrier (cond (n == 1) Bcast (cond (n == 2) Gather (cond (n == 3) Gatherv (cond (n == 4) Scatter (cond (n == 5) Scatterv (cond (n == 6) Allgather (cond (n == 7) Allgatherv (cond (n == 8) Alltoall (cond (n == 9) Alltoallv (cond (n == 10) Reduce (cond (n == 11) Allreduce (cond (n == 12) ReduceScatterBlock (cond (n == 13) ReduceScatter (cond (n == 14) Scan (cond (n == 15) Exscan (cond (n == 16) Dup (cond (n == 17) Split (cond (n == 18) Create CreateGroup))))))))))))))))))
 
 kind_at-place : (kind : Kind) → kind_at (place_of_kind kind) ≡ kind
 unfolding kind_at
@@ -138,6 +157,10 @@ kind_at-place ReduceScatterBlock = refl
 kind_at-place ReduceScatter = refl
 kind_at-place Scan = refl
 kind_at-place Exscan = refl
+kind_at-place Dup = refl
+kind_at-place Split = refl
+kind_at-place Create = refl
+kind_at-place CreateGroup = refl
 
 type_at : ℕ → Ty
 type_at n = cond (n == 0) I8 (cond (n == 1) I16 (cond (n == 2) I32 (cond (n == 3) I64 (cond (n == 4) U8 (cond (n == 5) U16 (cond (n == 6) U32 (cond (n == 7) U64 TwoInt)))))))
@@ -208,18 +231,34 @@ types_decided None (Some b) = (λ t. cc, λ e. cc)
 types_decided (Some a) None = (λ t. cc, λ e. cc)
 types_decided (Some a) (Some b) = Decides-like _ (ap Some) (λ e. cc) (decided_by_place place_of_type type_at type_at-place a.ty b.ty)
 
+pub makings_decided : (a b : Making) → Decides (same_making a b) (a ≡ b)
+makings_decided M.Nothing M.Nothing = (λ t. refl, λ e. refl)
+makings_decided M.Nothing (M.Split c k) = (λ t. cc, λ e. cc)
+makings_decided M.Nothing (M.Group rs) = (λ t. cc, λ e. cc)
+makings_decided (M.Split colour key) M.Nothing = (λ t. cc, λ e. cc)
+makings_decided (M.Split colour key) (M.Split c k) =
+    Decides-like _
+    (λ e. λ i. M.Split (e.0 i) (e.1 i))
+    (λ e. (ap colour_in e, ap key_in e))
+    (Decides-and _ _ (options_decided nat_eq Decides-eqb colour c) (Decides-int_eq key k))
+makings_decided (M.Split colour key) (M.Group rs) = (λ t. cc, λ e. cc)
+makings_decided (M.Group ranks) M.Nothing = (λ t. cc, λ e. cc)
+makings_decided (M.Group ranks) (M.Split c k) = (λ t. cc, λ e. cc)
+makings_decided (M.Group ranks) (M.Group rs) = Decides-like _ (ap M.Group) (ap group_in) (numbers_decided ranks rs)
+
 pub given_decided : (a b : Given) → Decides (same_given a b) (a ≡ b)
 given_decided a b =
     Decides-like _
-    (λ e. λ i. record { kind = e.0 i; mode = e.1.0 i; root = e.1.1.0 i; op = e.1.1.1.0 i; scounts = e.1.1.1.1.0 i; rcounts = e.1.1.1.1.1.0 i; items = e.1.1.1.1.1.1 i })
-    (λ e. (ap (λ (g : Given). g.kind) e, (ap (λ (g : Given). g.mode) e, (ap (λ (g : Given). g.root) e, (ap (λ (g : Given). g.op) e, (ap (λ (g : Given). g.scounts) e, (ap (λ (g : Given). g.rcounts) e, ap (λ (g : Given). g.items) e)))))))
+    (λ e. λ i. record { kind = e.0 i; mode = e.1.0 i; root = e.1.1.0 i; op = e.1.1.1.0 i; scounts = e.1.1.1.1.0 i; rcounts = e.1.1.1.1.1.0 i; items = e.1.1.1.1.1.1.0 i; making = e.1.1.1.1.1.1.1 i })
+    (λ e. (ap (λ (g : Given). g.kind) e, (ap (λ (g : Given). g.mode) e, (ap (λ (g : Given). g.root) e, (ap (λ (g : Given). g.op) e, (ap (λ (g : Given). g.scounts) e, (ap (λ (g : Given). g.rcounts) e, (ap (λ (g : Given). g.items) e, ap (λ (g : Given). g.making) e))))))))
     (Decides-and _ _ (kinds_decided a.kind b.kind)
     (Decides-and _ _ (modes_decided a.mode b.mode)
     (Decides-and _ _ (options_decided nat_eq Decides-eqb a.root b.root)
     (Decides-and _ _ (options_decided same_operation operations_decided a.op b.op)
     (Decides-and _ _ (numbers_decided a.scounts b.scounts)
     (Decides-and _ _ (numbers_decided a.rcounts b.rcounts)
-    (options_decided same_items items_decided a.items b.items)))))))
+    (Decides-and _ _ (options_decided same_items items_decided a.items b.items)
+    (makings_decided a.making b.making))))))))
 
 pub given_equality : IsEquality same_given
 given_equality = record {

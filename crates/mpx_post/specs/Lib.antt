@@ -1,9 +1,11 @@
 pub mod Births
 pub mod Kinds
 pub mod Blocks
+pub mod Ranks
 pub mod Posts
 pub mod Equality
 pub mod Rows
 pub mod Agreement
 pub mod Drafts
+pub mod Gatherings
 pub mod Values

@@ -1,6 +1,7 @@
 -- What a post gives.
-use Rattle.std.specs.Prelude.{◌≡◌, ℕ, ◌*◌, ℤ, ◌≤◌, List, [], length, Option, Some, None, is_some, unwrap_or}
+use Rattle.std.specs.Prelude.{◌≡◌, ℕ, ◌*◌, ◌^◌, ℤ, pos, ◌<◌, ◌≤◌, true, List, [], length, Option, Some, None, is_some, unwrap_or}
 use Rattle.std.specs.List.{All}
+use Rattle.mpx_post.specs.Ranks.{AreRanks}
 use Rattle.std.specs.Option.{option_map_or}
 use Rattle.mpx_num.specs.declared.types.Ty.{Ty}
 use Rattle.mpx_num.specs.declared.types.Ty.TheVariants.{I8}
@@ -12,7 +13,11 @@ use Rattle.mpx_post.specs.declared.kinds.Kind.{Kind}
 use Rattle.mpx_post.specs.declared.kinds.Kind.TheVariants.{Barrier}
 use Rattle.mpx_post.specs.declared.kinds.Mode.{Mode}
 use Rattle.mpx_post.specs.declared.kinds.Mode.TheVariants.{Blocking}
-use Rattle.mpx_post.specs.Kinds.{fields_of}
+use Rattle.mpx_post.specs.declared.kinds.Makes.{Makes}
+use Rattle.mpx_post.specs.declared.kinds.Makes.TheVariants as M
+use Rattle.mpx_post.specs.declared.making.Making.{Making}
+use Rattle.mpx_post.specs.declared.making.Making.TheVariants.{Nothing, Split, Group}
+use Rattle.mpx_post.specs.Kinds.{family_of, fields_of, may_be}
 
 -- what one member gives to one call: the kind with its fields
 pub record Given : Type 0 where
@@ -23,6 +28,7 @@ pub record Given : Type 0 where
   pub scounts : List ℕ
   pub rcounts : List ℕ
   pub items : Option ItemList
+  pub making : Making
 
 -- at most so many items are given, and so many by one count
 abbrev pub most_items : ℕ
@@ -41,12 +47,30 @@ abbrev pub few_items : Option ItemList → Type 0
 few_items None = Unit {0}
 few_items (Some items) = length items.nums ≤ most_items * item_len items.ty
 
--- it has the fields of its kind, and not too many items
+abbrev pub IsColour : Option ℕ → Type 0
+IsColour None = Unit {0}
+IsColour (Some colour) = colour < 2 ^ 31
+
+-- what is said of a new communicator is what the kind asks for, within its limits
+abbrev pub IsMaking : Makes → Making → Type 0
+IsMaking M.Nothing Nothing = Unit {0}
+IsMaking M.Nothing (Split colour key) = ⊥
+IsMaking M.Nothing (Group ranks) = ⊥
+IsMaking M.Colour Nothing = ⊥
+IsMaking M.Colour (Split colour key) = IsColour colour
+IsMaking M.Colour (Group ranks) = ⊥
+IsMaking M.Group Nothing = ⊥
+IsMaking M.Group (Split colour key) = ⊥
+IsMaking M.Group (Group ranks) = AreRanks ranks
+
+-- it has the fields of its kind and a mode of its family, and not too many items
 pub record IsPost (given : Given) : Type 0 where
   pub root : is_some given.root ≡ (fields_of given.kind).root
   pub op : is_some given.op ≡ (fields_of given.kind).op
   pub items : is_some given.items ≡ (fields_of given.kind).items
   pub few : few_items given.items
+  pub mode : may_be given.mode (family_of given.kind) ≡ true
+  pub making : IsMaking (fields_of given.kind).makes given.making
 
 -- READING A POST
 
@@ -70,6 +94,33 @@ numbers_of given = option_map_or (λ (items : ItemList). items.nums) given.items
 abbrev pub count_of : Given → ℕ
 count_of given = item_count (type_of given) (numbers_of given)
 
+abbrev pub colour_in : Making → Option ℕ
+colour_in Nothing = None
+colour_in (Split colour key) = colour
+colour_in (Group ranks) = None
+
+abbrev pub key_in : Making → ℤ
+key_in Nothing = pos 0
+key_in (Split colour key) = key
+key_in (Group ranks) = pos 0
+
+abbrev pub group_in : Making → List ℕ
+group_in Nothing = []
+group_in (Split colour key) = []
+group_in (Group ranks) = ranks
+
+-- the colour, of a post that has one and in which it isn't undefined
+abbrev pub colour_of : Given → Option ℕ
+colour_of given = colour_in given.making
+
+-- the key, of a post that has one
+abbrev pub key_of : Given → ℤ
+key_of given = key_in given.making
+
+-- the ranks of the group, of a post that has one
+abbrev pub group_of : Given → List ℕ
+group_of given = group_in given.making
+
 -- what stands where nothing is given
 abbrev pub nothing_given : Given
-nothing_given = record { kind = Barrier; mode = Blocking; root = None; op = None; scounts = []; rcounts = []; items = None }
+nothing_given = record { kind = Barrier; mode = Blocking; root = None; op = None; scounts = []; rcounts = []; items = None; making = Nothing }

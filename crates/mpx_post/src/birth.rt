@@ -1,4 +1,4 @@
-ghost use Rattle.std.specs.Prelude.{◌≡◌, ◌<◌, ◌≤◌, IfOk, length};
+ghost use Rattle.std.specs.Prelude.{◌≡◌, ◌<◌, ◌≤◌, ◌&&◌, nat_lt, nat_le, true, false, IfOk, MatchOption, length};
 ghost use Rattle.mpx_post.specs.Births.{upto, rank_in};
 
 use join_core::{Exact, OutOfMemory};
@@ -59,6 +59,18 @@ impl Birth {
             members.push(Proc::new(rank))?;
         }
         Ok(Birth { members })
+    }
+
+    /// The communicator of these members in this order; none where there are none or over 64 of them.
+    pub fn new(members: Vec<Proc>) -> Option<Birth>
+        ensures { MatchOption result
+            ((nat_lt 0 (length members.items) && nat_le (length members.items) 64) ≡ false)
+            (λ birth. ((nat_lt 0 (length members.items) && nat_le (length members.items) 64) ≡ true) × (birth ≡ record { members = members.items })) }
+    {
+        if members.is_empty() || members.len() > 64 {
+            return None;
+        }
+        Some(Birth { members })
     }
 
     /// The members, 1 to 64, in rank order.

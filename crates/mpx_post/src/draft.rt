@@ -1,18 +1,22 @@
-ghost use Rattle.std.specs.Prelude.{◌≡◌, ◌≤◌, ◌&&◌, Some, not, length, IfOk};
+ghost use Rattle.std.specs.Prelude.{◌≡◌, ◌≤◌, ◌&&◌, ◌||◌, nat_le, Some, not, length, IfOk};
 ghost use Rattle.mpx_num.specs.Operations.{fits};
-ghost use Rattle.mpx_post.specs.Kinds.{fields_of};
+ghost use Rattle.mpx_post.specs.Kinds.{family_of, fields_of, is_gathered, kind_of, makes_communicators};
 ghost use Rattle.mpx_post.specs.Blocks.{blocks_sent};
-ghost use Rattle.mpx_post.specs.Drafts.{Checks, checked, checked_at, is_rank as is_rank_of, is_drafted_root, are_so_many, sent_counts, received_counts, drafted_numbers, misfill};
+ghost use Rattle.mpx_post.specs.Drafts.{Checks, at, are_ranks, has_colour_and_key, is_misplaced, most_steps, ranks_in, checked, checked_at, is_rank as is_rank_of, is_drafted_root, are_so_many, sent_counts, received_counts, drafted_numbers, misfill, first_that_holds, place_refusals, shape_refusals};
 
 use crate::birth::Birth;
 use crate::counts::are_counts;
-use crate::kinds::{Kind, Mode, Sent};
+use crate::kinds::{Call, Makes, Sent};
+use crate::making_fields::{
+    are_ranks, given_making, is_colour, is_gathered, is_key, makes_communicators,
+};
 use crate::post::Post;
 use crate::post_fields::{
     given_counts, given_items, given_op, given_root, is_misfill, is_rank, where_had,
 };
 use join_core::OutOfMemory;
 use mpx_group::Proc;
+use mpx_name::Name;
 use mpx_num::{Numbers, Op, Ty, op_fits};
 use std::alloc::Global;
 use thiserror::Error;
@@ -20,8 +24,8 @@ use thiserror::Error;
 /// What a process would post, with numbers that nobody has checked yet. The fields that the kind hasn't are not looked at.
 #[derive(Debug, Drop)]
 pub struct Draft {
-    pub kind: Kind,
-    pub mode: Mode,
+    /// The kind of call, and its mode.
+    pub call: Call,
     /// The rank of the root.
     pub root: i128,
     pub op: Op,
@@ -33,6 +37,12 @@ pub struct Draft {
     pub rcounts: Numbers,
     /// The numbers of the items that are sent.
     pub items: Numbers,
+    /// Which of the new communicators the member wants, none for `MPI_UNDEFINED`.
+    pub colour: Option<i128>,
+    /// The key by which the members of a new communicator are ordered.
+    pub key: i128,
+    /// The ranks of a new communicator's members.
+    pub group: Numbers,
 }
 
 /// Where a post would stand.
@@ -40,6 +50,23 @@ pub struct Draft {
 pub struct At {
     /// The number of its call, from 0: how many calls are made before it.
     pub call: u32,
+    /// How many steps the name of its context has.
+    pub depth: usize,
+    /// Whether its context is a gathering, on which only calls of `create_group` are made.
+    pub gathering: bool,
+}
+
+impl At {
+    /// The call with this number on this context.
+    pub fn on(name: &Name, call: u32) -> At
+        ensures { result ≡ at name.now call }
+    {
+        At {
+            call,
+            depth: name.depth(),
+            gathering: name.is_gathering(),
+        }
+    }
 }
 
 /// Why a post is refused. Where several reasons hold, it is the first of them in this order.
@@ -69,6 +96,16 @@ pub enum PostError {
     /// 4,294,967,295 calls are made.
     #[error("CallsUsedUp")]
     CallsUsedUp,
+    /// The name of a new communicator would have over 8 steps.
+    #[error("DepthUsedUp")]
+    DepthUsedUp,
+    /// A rank of a group is none of the communicator or stands twice; for `create_group` also a list without the caller.
+    /// Calls of `create_group` are made on gatherings, and no others.
+    #[error("BadGroup")]
+    BadGroup,
+    /// A tag, a colour or a key is out of its limit.
+    #[error("BadTag")]
+    BadTag,
     /// A growth was refused.
     #[error("OutOfMemory")]
     OutOfMemory,
@@ -93,14 +130,16 @@ impl Draft {
         ensures { IfOk result (λ copied. copied ≡ self.now) }
     {
         Ok(Draft {
-            kind: self.kind,
-            mode: self.mode,
+            call: self.call,
             root: self.root,
             op: self.op,
             ty: self.ty,
             scounts: self.scounts.copy()?,
             rcounts: self.rcounts.copy()?,
             items: self.items.copy()?,
+            colour: self.colour,
+            key: self.key,
+            group: self.group.copy()?,
         })
     }
 
@@ -109,20 +148,12 @@ impl Draft {
         requires { size ≤ 64 }
         ensures { Checks (checked_at (Some rank) size at.now self) result }
     {
-        let fields = self.kind.fields();
-        if self.has_wrong_root(size) {
-            return Err(PostError::RootOutOfRange);
+        if let Some(refusal) = self.shape_refusal(size, rank) {
+            return Err(refusal);
         }
-        if self.has_wrong_op() {
-            return Err(PostError::OpNotForType);
-        }
-        let at_root = self.is_root(rank);
-        if self.has_wrong_lengths(size, at_root) {
-            return Err(PostError::CountsLength);
-        }
-        if self.is_misfilled(size, at_root) {
-            return Err(PostError::ItemsLength);
-        }
+        let place_refusal = self.place_refusal(size, at);
+        let fields = self.call.kind().fields();
+        let (kind, mode) = (self.call.kind(), self.call.mode());
         let root = given_root(fields.root, self.root, size);
         let op = given_op(fields.op, self.op);
         let items = match given_items(fields.items, self.ty, self.items) {
@@ -134,39 +165,84 @@ impl Draft {
         if !(are_counts(sent) & are_counts(received)) {
             return Err(PostError::TooManyItems);
         }
-        if at.call == MOST_CALLS {
-            return Err(PostError::CallsUsedUp);
+        if let Some(refusal) = place_refusal {
+            return Err(refusal);
         }
-        match given_counts(alloc, sent, received) {
-            Ok((scounts, rcounts)) => Ok(Post::new(
-                self.kind, self.mode, root, op, scounts, rcounts, items,
-            )),
+        let group = self.group.as_slice();
+        match given_making(alloc, fields.makes, self.colour, self.key, group) {
+            Ok(making) => match given_counts(alloc, sent, received) {
+                Ok((scounts, rcounts)) => Ok(Post::new(
+                    kind, mode, root, op, scounts, rcounts, items, making,
+                )),
+                Err(_) => Err(PostError::OutOfMemory),
+            },
             Err(_) => Err(PostError::OutOfMemory),
         }
     }
 
-    fn has_wrong_root(&self, size: usize) -> bool
-        ensures { result ≡ ((fields_of self.now.kind).root && not (is_rank_of size self.now.root)) }
+    // Why its root, its operation or its counts refuse it.
+    fn shape_refusal(&self, size: usize, rank: u8) -> Option<PostError>
+        requires { size ≤ 64 }
+        ensures { result ≡ first_that_holds (shape_refusals size rank self.now) }
     {
-        self.kind.fields().root & !is_rank(size, self.root)
+        if self.has_wrong_root(size) {
+            return Some(PostError::RootOutOfRange);
+        }
+        if self.has_wrong_op() {
+            return Some(PostError::OpNotForType);
+        }
+        let at_root = self.is_root(rank);
+        if self.has_wrong_lengths(size, at_root) {
+            return Some(PostError::CountsLength);
+        }
+        if self.is_misfilled(size, at_root) {
+            return Some(PostError::ItemsLength);
+        }
+        None
+    }
+
+    // Why it may not be posted there, or makes no communicator there.
+    fn place_refusal(&self, size: usize, at: &At) -> Option<PostError>
+        requires { size ≤ 64 }
+        ensures { result ≡ first_that_holds (place_refusals size at.now self.now) }
+    {
+        if at.call == MOST_CALLS {
+            return Some(PostError::CallsUsedUp);
+        }
+        if self.is_too_deep(at) {
+            return Some(PostError::DepthUsedUp);
+        }
+        if self.has_bad_group(size, at) {
+            return Some(PostError::BadGroup);
+        }
+        if !self.has_colour_and_key() {
+            return Some(PostError::BadTag);
+        }
+        None
+    }
+
+    fn has_wrong_root(&self, size: usize) -> bool
+        ensures { result ≡ ((fields_of (kind_of self.now.call)).root && not (is_rank_of size self.now.root)) }
+    {
+        self.call.kind().fields().root & !is_rank(size, self.root)
     }
 
     fn has_wrong_op(&self) -> bool
-        ensures { result ≡ ((fields_of self.now.kind).op && not (fits self.now.op self.now.ty)) }
+        ensures { result ≡ ((fields_of (kind_of self.now.call)).op && not (fits self.now.op self.now.ty)) }
     {
-        self.kind.fields().op & !op_fits(self.op, self.ty)
+        self.call.kind().fields().op & !op_fits(self.op, self.ty)
     }
 
     fn is_root(&self, rank: u8) -> bool
         ensures { result ≡ is_drafted_root rank self.now }
     {
-        self.kind.fields().root & (self.root == i128::from(rank))
+        self.call.kind().fields().root & (self.root == i128::from(rank))
     }
 
     fn has_wrong_lengths(&self, size: usize, at_root: bool) -> bool
-        ensures { result ≡ not (are_so_many (sent_counts self.now) (fields_of self.now.kind).scounts size at_root && are_so_many (received_counts self.now) (fields_of self.now.kind).rcounts size at_root) }
+        ensures { result ≡ not (are_so_many (sent_counts self.now) (fields_of (kind_of self.now.call)).scounts size at_root && are_so_many (received_counts self.now) (fields_of (kind_of self.now.call)).rcounts size at_root) }
     {
-        let fields = self.kind.fields();
+        let fields = self.call.kind().fields();
         let sent = self.sent_counts().len() == fields.scounts.of(size, at_root);
         let received = self.received_counts().len() == fields.rcounts.of(size, at_root);
         !(sent & received)
@@ -177,9 +253,9 @@ impl Draft {
         requires size { size ≤ 64 }
         requires sent { length (sent_counts self.now) ≤ 64 }
         requires received { length (received_counts self.now) ≤ 64 }
-        ensures { result ≡ misfill (blocks_sent (fields_of self.now.kind).sent size at_root (sent_counts self.now) (received_counts self.now)) self.now.ty (drafted_numbers self.now) }
+        ensures { result ≡ misfill (blocks_sent (fields_of (kind_of self.now.call)).sent size at_root (sent_counts self.now) (received_counts self.now)) self.now.ty (drafted_numbers self.now) }
     {
-        let fields = self.kind.fields();
+        let fields = self.call.kind().fields();
         let numbers = where_had(fields.items, &self.items).len();
         match fields.sent {
             Sent::Any => false,
@@ -202,15 +278,53 @@ impl Draft {
         }
     }
 
+    // Whether the new communicator's name would have too many steps.
+    fn is_too_deep(&self, at: &At) -> bool
+        ensures { result ≡ (makes_communicators (family_of (kind_of self.now.call)) && nat_le most_steps at.now.depth) }
+    {
+        makes_communicators(self.call.kind()) & (8 <= at.depth)
+    }
+
+    // Whether the call isn't made on such a context, or the group has a rank out of range or twice.
+    fn has_bad_group(&self, size: usize, at: &At) -> bool
+        requires { size ≤ 64 }
+        ensures { result ≡ (is_misplaced at.now.gathering (is_gathered (family_of (kind_of self.now.call))) || not (are_ranks size (ranks_in (fields_of (kind_of self.now.call)).makes self.now))) }
+    {
+        let misplaced = at.gathering != is_gathered(self.call.kind());
+        misplaced | !are_ranks(size, self.ranks())
+    }
+
+    // The ranks of the group, where the kind has one.
+    fn ranks(&self) -> &[i128]
+        ensures { result.now ≡ ranks_in (fields_of (kind_of self.now.call)).makes self.now }
+    {
+        match self.call.kind().fields().makes {
+            Makes::Group => self.group.as_slice(),
+            Makes::Nothing => &[],
+            Makes::Colour => &[],
+        }
+    }
+
+    // Whether the colour and the key are within their limits, where the kind has them.
+    fn has_colour_and_key(&self) -> bool
+        ensures { result ≡ has_colour_and_key (fields_of (kind_of self.now.call)).makes self.now }
+    {
+        match self.call.kind().fields().makes {
+            Makes::Colour => is_colour(self.colour) & is_key(self.key),
+            Makes::Nothing => true,
+            Makes::Group => true,
+        }
+    }
+
     fn sent_counts(&self) -> &[i128]
         ensures { result.now ≡ sent_counts self.now }
     {
-        where_had(self.kind.fields().scounts.is_had(), &self.scounts)
+        where_had(self.call.kind().fields().scounts.is_had(), &self.scounts)
     }
 
     fn received_counts(&self) -> &[i128]
         ensures { result.now ≡ received_counts self.now }
     {
-        where_had(self.kind.fields().rcounts.is_had(), &self.rcounts)
+        where_had(self.call.kind().fields().rcounts.is_had(), &self.rcounts)
     }
 }

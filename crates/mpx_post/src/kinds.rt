@@ -1,7 +1,7 @@
 ghost use Rattle.std.specs.Prelude.{◌≡◌, ◌≤◌};
-ghost use Rattle.mpx_post.specs.Kinds.{family_of, fields_of, is_had, number_in};
+ghost use Rattle.mpx_post.specs.Kinds.{blocking, exchange_kind, family_of, fields_of, is_had, kind_of, making, mode_of, new_communicator_kind, number_in, reduction_kind};
 
-/// The kinds of calls (MPI 4.1 sections 6.3 to 6.12).
+/// The kinds of calls (MPI 4.1 sections 6.3 to 6.12 and 7.4).
 #[derive(Clone, Copy, Debug, PartialEq, Eq)]
 pub enum Kind {
     /// `MPI_BARRIER` (section 6.3).
@@ -36,6 +36,14 @@ pub enum Kind {
     Scan,
     /// `MPI_EXSCAN` (section 6.11.2).
     Exscan,
+    /// `MPI_COMM_DUP` (section 7.4.2).
+    Dup,
+    /// `MPI_COMM_SPLIT` (section 7.4.2).
+    Split,
+    /// `MPI_COMM_CREATE` (section 7.4.2).
+    Create,
+    /// `MPI_COMM_CREATE_GROUP` (section 7.4.2).
+    CreateGroup,
 }
 
 /// The kinds that move items as they are (MPI 4.1 sections 6.3 to 6.8).
@@ -64,11 +72,21 @@ pub enum Reduction {
     Exscan,
 }
 
+/// The kinds that make communicators (MPI 4.1 section 7.4.2).
+#[derive(Clone, Copy, Debug, PartialEq, Eq)]
+pub enum NewCommunicator {
+    Dup,
+    Split,
+    Create,
+    CreateGroup,
+}
+
 /// The families of kinds: the values of each are found in a way of its own.
 #[derive(Clone, Copy, Debug, PartialEq, Eq)]
 pub enum Family {
     Exchange(Exchange),
     Reduction(Reduction),
+    NewCommunicator(NewCommunicator),
 }
 
 /// Whether a call blocks. Blocking and nonblocking calls don't match (MPI 4.1 section 6.12).
@@ -76,6 +94,25 @@ pub enum Family {
 pub enum Mode {
     Blocking,
     Nonblocking,
+}
+
+/// A kind of call with its mode: calls that make communicators only block.
+#[derive(Clone, Copy, Debug, PartialEq, Eq)]
+pub enum Call {
+    Exchange(Exchange, Mode),
+    Reduction(Reduction, Mode),
+    NewCommunicator(NewCommunicator),
+}
+
+/// What a post says of the communicator that its call makes.
+#[derive(Clone, Copy, Debug, PartialEq, Eq)]
+pub enum Makes {
+    /// Nothing.
+    Nothing,
+    /// A colour, which may be undefined, and a key.
+    Colour,
+    /// The ranks of a group.
+    Group,
 }
 
 /// A number that depends on the communicator's size and on who asks.
@@ -113,6 +150,7 @@ pub struct Fields {
     /// How many receive counts there are.
     pub rcounts: Number,
     pub sent: Sent,
+    pub makes: Makes,
 }
 
 impl Kind {
@@ -137,6 +175,10 @@ impl Kind {
             Kind::ReduceScatter => Family::Reduction(Reduction::ReduceScatter),
             Kind::Scan => Family::Reduction(Reduction::Scan),
             Kind::Exscan => Family::Reduction(Reduction::Exscan),
+            Kind::Dup => Family::NewCommunicator(NewCommunicator::Dup),
+            Kind::Split => Family::NewCommunicator(NewCommunicator::Split),
+            Kind::Create => Family::NewCommunicator(NewCommunicator::Create),
+            Kind::CreateGroup => Family::NewCommunicator(NewCommunicator::CreateGroup),
         }
     }
 
@@ -163,12 +205,101 @@ impl Kind {
             Kind::ReduceScatter => having(false, true, true, Zero, Members, Rcounts(One)),
             Kind::Scan => having(false, true, true, Zero, Zero, Any),
             Kind::Exscan => having(false, true, true, Zero, Zero, Any),
+            Kind::Dup => making(Makes::Nothing),
+            Kind::Split => making(Makes::Colour),
+            Kind::Create => making(Makes::Group),
+            Kind::CreateGroup => making(Makes::Nothing),
+        }
+    }
+}
+
+impl Call {
+    /// The blocking call of a kind.
+    pub fn blocking(kind: Kind) -> Call
+        ensures { result ≡ blocking kind }
+    {
+        match kind.family() {
+            Family::Exchange(exchange) => Call::Exchange(exchange, Mode::Blocking),
+            Family::Reduction(reduction) => Call::Reduction(reduction, Mode::Blocking),
+            Family::NewCommunicator(new) => Call::NewCommunicator(new),
+        }
+    }
+
+    /// Its kind.
+    pub fn kind(self) -> Kind
+        ensures { result ≡ kind_of self }
+    {
+        match self {
+            Call::Exchange(exchange, _) => exchange.kind(),
+            Call::Reduction(reduction, _) => reduction.kind(),
+            Call::NewCommunicator(new) => new.kind(),
+        }
+    }
+
+    /// Its mode.
+    pub fn mode(self) -> Mode
+        ensures { result ≡ mode_of self }
+    {
+        match self {
+            Call::Exchange(_, mode) => mode,
+            Call::Reduction(_, mode) => mode,
+            Call::NewCommunicator(_) => Mode::Blocking,
+        }
+    }
+}
+
+impl Exchange {
+    /// It as one of all kinds.
+    pub fn kind(self) -> Kind
+        ensures { result ≡ exchange_kind self }
+    {
+        match self {
+            Exchange::Barrier => Kind::Barrier,
+            Exchange::Bcast => Kind::Bcast,
+            Exchange::Gather => Kind::Gather,
+            Exchange::Gatherv => Kind::Gatherv,
+            Exchange::Scatter => Kind::Scatter,
+            Exchange::Scatterv => Kind::Scatterv,
+            Exchange::Allgather => Kind::Allgather,
+            Exchange::Allgatherv => Kind::Allgatherv,
+            Exchange::Alltoall => Kind::Alltoall,
+            Exchange::Alltoallv => Kind::Alltoallv,
+        }
+    }
+}
+
+impl Reduction {
+    /// It as one of all kinds.
+    pub fn kind(self) -> Kind
+        ensures { result ≡ reduction_kind self }
+    {
+        match self {
+            Reduction::Reduce => Kind::Reduce,
+            Reduction::Allreduce => Kind::Allreduce,
+            Reduction::ReduceScatterBlock => Kind::ReduceScatterBlock,
+            Reduction::ReduceScatter => Kind::ReduceScatter,
+            Reduction::Scan => Kind::Scan,
+            Reduction::Exscan => Kind::Exscan,
+        }
+    }
+}
+
+impl NewCommunicator {
+    /// It as one of all kinds.
+    pub fn kind(self) -> Kind
+        ensures { result ≡ new_communicator_kind self }
+    {
+        match self {
+            NewCommunicator::Dup => Kind::Dup,
+            NewCommunicator::Split => Kind::Split,
+            NewCommunicator::Create => Kind::Create,
+            NewCommunicator::CreateGroup => Kind::CreateGroup,
         }
     }
 }
 
 fn having(root: bool, op: bool, items: bool, scounts: Number, rcounts: Number, sent: Sent) -> Fields
-    ensures { result ≡ record { root = root; op = op; items = items; scounts = scounts; rcounts = rcounts; sent = sent } }
+    ensures { result ≡ record { root = root; op = op; items = items; scounts = scounts; rcounts = rcounts; sent = sent; makes = Makes.Nothing } }
 {
     Fields {
         root,
@@ -177,6 +308,21 @@ fn having(root: bool, op: bool, items: bool, scounts: Number, rcounts: Number, s
         scounts,
         rcounts,
         sent,
+        makes: Makes::Nothing,
+    }
+}
+
+fn making(makes: Makes) -> Fields
+    ensures { result ≡ making makes }
+{
+    Fields {
+        root: false,
+        op: false,
+        items: false,
+        scounts: Number::Zero,
+        rcounts: Number::Zero,
+        sent: Sent::Any,
+        makes,
     }
 }
 

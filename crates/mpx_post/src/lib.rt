@@ -13,9 +13,13 @@ mod birth;
 mod block;
 mod counts;
 mod draft;
+mod gathering;
 mod kinds;
+mod making;
+mod making_fields;
 mod post;
 mod post_fields;
+mod ranks;
 mod row;
 mod value;
 
@@ -23,7 +27,12 @@ pub use birth::Birth;
 pub use block::Block;
 pub use counts::Counts;
 pub use draft::{At, Draft, MOST_CALLS, PostError};
-pub use kinds::{Exchange, Family, Fields, Kind, Mode, Number, Reduction, Sent};
+pub use gathering::Gathering;
+pub use kinds::{
+    Call, Exchange, Family, Fields, Kind, Makes, Mode, NewCommunicator, Number, Reduction, Sent,
+};
+pub use making::Making;
 pub use post::Post;
+pub use ranks::Ranks;
 pub use row::Row;
 pub use value::Value;

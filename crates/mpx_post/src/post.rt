@@ -2,11 +2,13 @@ ghost use Rattle.std.specs.Prelude.{◌≡◌, ◌≤◌, ◌*◌, is_some, IfOk
 ghost use Rattle.std.specs.Option.{option_copied};
 ghost use Rattle.mpx_num.specs.ItemList.{ItemList};
 ghost use Rattle.mpx_post.specs.Kinds.{fields_of};
-ghost use Rattle.mpx_post.specs.Posts.{Given, IsPost, count_of, few_items};
-ghost use Rattle.mpx_post.specs.Equality.{same_option, same_items};
+ghost use Rattle.mpx_post.specs.Ranks.{AreRanks};
+ghost use Rattle.mpx_post.specs.Posts.{Given, IsColour, IsPost, colour_of, count_of, few_items, group_of, key_of};
+ghost use Rattle.mpx_post.specs.Equality.{same_making, same_option, same_items};
 
 use crate::counts::Counts;
 use crate::kinds::{Kind, Mode};
+use crate::making::Making;
 use join_core::{Exact, OutOfMemory};
 use mpx_num::{Items, Op};
 use std::alloc::Global;
@@ -22,6 +24,7 @@ pub struct Post {
     scounts: Counts,
     rcounts: Counts,
     items: Option<Items>,
+    making: Making,
 }
 
 impl Model for Post {
@@ -29,9 +32,9 @@ impl Model for Post {
 
     ghost Value = { Given };
 
-    ghost view = { λ p. record { kind = p.kind; mode = p.mode; root = p.root; op = p.op; scounts = p.scounts; rcounts = p.rcounts; items = p.items } };
+    ghost view = { λ p. record { kind = p.kind; mode = p.mode; root = p.root; op = p.op; scounts = p.scounts; rcounts = p.rcounts; items = p.items; making = p.making } };
 
-    ghost invariant = { λ p. IsPost (record { kind = p.kind; mode = p.mode; root = p.root; op = p.op; scounts = p.scounts; rcounts = p.rcounts; items = p.items }) };
+    ghost invariant = { λ p. IsPost (record { kind = p.kind; mode = p.mode; root = p.root; op = p.op; scounts = p.scounts; rcounts = p.rcounts; items = p.items; making = p.making }) };
 }
 
 impl Exact for Post {
@@ -55,12 +58,14 @@ impl Exact for Post {
             & (self.scounts.as_slice() == other.scounts.as_slice())
             & (self.rcounts.as_slice() == other.rcounts.as_slice())
             & are_same(&self.items, &other.items)
+            & have_same_making(&self.making, &other.making)
     }
 
     fn copy(&self, alloc: Global) -> Result<Post, OutOfMemory> {
         let scounts = self.scounts.copy(alloc)?;
         let rcounts = self.rcounts.copy(alloc)?;
         let items = copied(&self.items)?;
+        let making = self.making.copy(alloc)?;
         Ok(Post {
             kind: self.kind,
             mode: self.mode,
@@ -69,6 +74,7 @@ impl Exact for Post {
             scounts,
             rcounts,
             items,
+            making,
         })
     }
 
@@ -85,9 +91,10 @@ impl Post {
         scounts: Counts,
         rcounts: Counts,
         items: Option<Items>,
+        making: Making,
     ) -> Post
-        requires { IsPost (record { kind = kind; mode = mode; root = root; op = op; scounts = scounts; rcounts = rcounts; items = items }) }
-        ensures { result ≡ record { kind = kind; mode = mode; root = root; op = op; scounts = scounts; rcounts = rcounts; items = items } }
+        requires { IsPost (record { kind = kind; mode = mode; root = root; op = op; scounts = scounts; rcounts = rcounts; items = items; making = making }) }
+        ensures { result ≡ record { kind = kind; mode = mode; root = root; op = op; scounts = scounts; rcounts = rcounts; items = items; making = making } }
     {
         Post {
             kind,
@@ -97,6 +104,7 @@ impl Post {
             scounts,
             rcounts,
             items,
+            making,
         }
     }
 
@@ -153,6 +161,41 @@ impl Post {
         self.items.as_ref()
     }
 
+    /// Which of the new communicators the member wants, where the kind asks that and it isn't undefined.
+    pub fn colour(&self) -> Option<u32>
+        ensures value { result ≡ colour_of self.now }
+        ensures small { IsColour result }
+    {
+        match &self.making {
+            Making::Split { colour, .. } => *colour,
+            Making::Nothing => None,
+            Making::Group(_) => None,
+        }
+    }
+
+    /// The key by which the members of a new communicator are ordered, where the kind asks for it, else 0.
+    pub fn key(&self) -> i32
+        ensures { result ≡ key_of self.now }
+    {
+        match &self.making {
+            Making::Split { key, .. } => *key,
+            Making::Nothing => 0,
+            Making::Group(_) => 0,
+        }
+    }
+
+    /// The ranks of a new communicator's members, none twice, where the kind asks for them, else none.
+    pub fn group(&self) -> &[u8]
+        ensures value { result.now ≡ group_of self.now }
+        ensures ranks { AreRanks result.now }
+    {
+        match &self.making {
+            Making::Group(ranks) => ranks.as_slice(),
+            Making::Nothing => &[],
+            Making::Split { .. } => &[],
+        }
+    }
+
     /// How many items it gives.
     pub fn count(&self) -> usize
         ensures { result ≡ count_of self.now }
@@ -183,5 +226,21 @@ fn copied(items: &Option<Items>) -> Result<Option<Items>, OutOfMemory>
     match items {
         None => Ok(None),
         Some(items) => Ok(Some(items.copy()?)),
+    }
+}
+
+// Whether both say the same of a new communicator.
+fn have_same_making(left: &Making, right: &Making) -> bool
+    ensures { result ≡ same_making left.now right.now }
+{
+    match (left, right) {
+        (Making::Nothing, Making::Nothing) => true,
+        (Making::Split { colour, key }, Making::Split { colour: c, key: k }) => {
+            (*colour == *c) & (*key == *k)
+        }
+        (Making::Group(ranks), Making::Group(others)) => ranks.as_slice() == others.as_slice(),
+        (Making::Nothing, Making::Split { .. } | Making::Group(_)) => false,
+        (Making::Split { .. }, Making::Nothing | Making::Group(_)) => false,
+        (Making::Group(_), Making::Nothing | Making::Split { .. }) => false,
     }
 }

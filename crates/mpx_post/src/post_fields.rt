@@ -1,5 +1,5 @@
 // The fields of a post, made from those of a draft.
-ghost use Rattle.std.specs.Prelude.{◌≡◌, ◌≤◌, ◌*◌, ◌==◌, ◌&&◌, true, false, not, cond, nat_lt, length, [], ◌∷◌, IfOk};
+ghost use Rattle.std.specs.Prelude.{◌≡◌, ◌<◌, ◌≤◌, MatchOption, ◌*◌, ◌==◌, ◌&&◌, true, false, not, cond, nat_lt, length, [], ◌∷◌, IfOk};
 ghost use Rattle.std.specs.List.{list_all, sum};
 ghost use Rattle.mpx_num.specs.Types.{item_len};
 ghost use Rattle.mpx_num.specs.ItemList.{is_whole};
@@ -25,6 +25,19 @@ pub(crate) fn is_rank(size: usize, root: i128) -> bool
     ensures { result ≡ is_rank_of size root }
 {
     0 <= root && root < size as i128
+}
+
+// The place in a list of so many that a rank of them has.
+pub(crate) fn place_of(size: usize, rank: i128) -> Option<usize>
+    ensures { MatchOption result
+        (is_rank_of size rank ≡ false)
+        (λ place. (is_rank_of size rank ≡ true) × (place ≡ natural rank) × (place < size)) }
+{
+    if is_rank(size, rank) {
+        Some(rank as usize)
+    } else {
+        None
+    }
 }
 
 // Whether blocks of so many items each, all of them so many times over, have another number of numbers. It isn't so where

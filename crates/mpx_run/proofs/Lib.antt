@@ -2,3 +2,4 @@ pub mod Coupling
 pub mod Running
 pub mod Reporting
 pub mod Pieces
+pub mod Bindings

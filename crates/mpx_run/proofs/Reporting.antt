@@ -17,11 +17,12 @@ use Rattle.mpx_script.specs.Transcripts.{line_text, rank_text, text_upto}
 use Rattle.mpx_script.specs.Reports.{which, is_left, lines_in, waiting_in}
 use Rattle.mpx_script.proofs.Ways.{Way, way-adds}
 use Rattle.mpx_script.proofs.Ahead.{on_way-reached, finished}
-use Rattle.mpx_run.specs.Running.{RankView, IsUnderWay, todo_of, has_statements, is_waiting_at}
+use Rattle.mpx_run.specs.Running.{RankView, WaitView, IsUnderWay, todo_of, has_statements, is_waiting_at}
 use Rattle.mpx_run.specs.Runs.{IsRun, IsReport, Begin, AreWhole, EndsSo, lines_at}
 use Rattle.mpx_run.specs.declared.end.End.{End}
 use Rattle.mpx_run.specs.declared.end.End.TheVariants.{Finished, Waiting}
-use Rattle.mpx_run.proofs.Coupling.{mapped_some, tells_results}
+use Rattle.mpx_script.proofs.Tells.{mapped_some}
+use Rattle.mpx_run.proofs.Coupling.{tells_results}
 use Rattle.mpx_run.proofs.Running.{coupled}
 
 -- LISTS
@@ -80,8 +81,8 @@ left_doing : (todo : List Statement) → has_statements todo ≡ is_left (doing 
 left_doing [] = refl
 left_doing (x ∷ xs) = refl
 
-left_todo : (waits : Option ℕ) (todo : List Statement) → (is_some waits || has_statements todo) ≡ is_left (todo_of waits todo)
-left_todo (Some call) todo = refl
+left_todo : (waits : Option WaitView) (todo : List Statement) → (is_some waits || has_statements todo) ≡ is_left (todo_of waits todo)
+left_todo (Some w) todo = refl
 left_todo None todo = left_doing todo
 
 -- A RUN
@@ -120,7 +121,7 @@ module _ (script : ScriptView) (relays : ℕ) (processes : List RankView) (frame
       record {
         system = run.system;
         led = run.led;
-        sound = sound_of run.system.world c.holds;
+        sound = sound_of run.system.world c.upheld.holds;
         processes = length-map processes (λ (r : RankView). r.node) ∙ run.shows.count;
         nodes_are = λ p node e. let found = mapped_at (λ (r : RankView). r.node) processes p node e in sym found.2 ∙ run.shows.nodes p found.0 found.1;
         posts = c.made;

@@ -1,40 +1,45 @@
 -- What the steps of a process keep of a run.
 use Rattle.std.proofs.Common.{◌≡◌, ℕ, zero, suc, ◌+◌, ◌<◌, Bool, true, false, cond, ◌==◌, List, [], ◌∷◌, ◌++◌, length, map, take, drop, set, get_or, Option, Some, None, refl, sym, ap, ◌∙◌, subst, arith, length-append}
-use Rattle.std.specs.Prelude.{slice_get, unwrap_or, Result, Ok, Err, OnOk, OnErr}
+use Rattle.std.specs.Prelude.{slice_get, unwrap_or, Result, Ok, Err, OnOk, OnErr, if◌then◌else◌}
 use Rattle.std.specs.List.{All, items_where_true}
 use Rattle.std.proofs.lemmas.Grind.{get_or_picked}
 use Rattle.std.proofs.lemmas.List.{map-append, length-set}
 use Rattle.std.proofs.lemmas.List.Elements.{All-push}
 use Rattle.std.proofs.lemmas.Option.{slice_get-map, slice_get-get_or, slice_get_within, same_Some}
 use Rattle.std.specs.Option.{option_map}
-use Rattle.mpx_post.specs.Posts.{Given}
+use Rattle.std.specs.Str.{bytes_eq}
 use Rattle.mpx_post.specs.declared.draft.PostError.{PostError}
+use Rattle.mpx_post.specs.Births.{BirthView}
 use Rattle.mpx_board.specs.declared.errors.PruneError.{PruneError}
 use Rattle.mpx_name.specs.Name.{Name}
 use Rattle.mpx_board.specs.Boards.{Look, only, Dropped, floor_on}
 use Rattle.mpx_board.specs.Changes.{pruned}
 use Rattle.mpx_value.specs.declared.outcomes.Outcome.{Outcome}
-use Rattle.mpx_value.specs.Histories.{Made, Results}
+use Rattle.mpx_value.specs.declared.outcomes.Outcome.TheVariants.{Nothing, Absent, Items, NewComm, Null, Fault}
+use Rattle.mpx_value.specs.Histories.{Answer, Made, Results}
 use Rattle.mpx_node.specs.declared.finished.Finished.{Finished}
-use Rattle.mpx_node.specs.Nodes.{Posts as NodePosts}
-use Rattle.mpx_post.specs.declared.draft.PostError.TheVariants as R
-use Rattle.mpx_node.specs.Nodes.{NodeView, learn, posted_on, post_at, checked_on, next_result}
+use Rattle.mpx_node.specs.declared.node.Harvest.{Harvest}
+use Rattle.mpx_node.specs.declared.node.Harvest.TheVariants.{Done, NotYet, NotOpened}
+use Rattle.mpx_node.specs.Harvests.{Harvests as HarvestsOn}
+use Rattle.mpx_node.specs.Nodes.{NodeView, learn, next_result}
 use Rattle.mpx_world.specs.declared.events.Event.TheVariants as E
 use Rattle.mpx_world.specs.declared.events.Cut.TheVariants as C
-use Rattle.mpx_world.specs.Worlds.{ProcessView, WorldView, makes, stores, drops, takes, posts, harvests, prunes, Happening, Posts, Harvests, Prunes, Sends, Takes, at_process}
+use Rattle.mpx_world.specs.Worlds.{ProcessView, WorldView, stores, drops, takes, harvests, prunes, Happening, Harvests, Prunes, Sends, Takes, at_process}
 use Rattle.mpx_world.specs.Worlds.{goes_on as goes_on_world}
-use Rattle.mpx_world.proofs.Lists.{slice_get-append, slice_get-push, slice_get-push_cases, same_number}
+use Rattle.mpx_world.proofs.Lists.{slice_get-append, slice_get-push, slice_get-push_cases}
 use Rattle.mpx_world.proofs.Steps.{at_here}
 use Rattle.mpx_world.proofs.Reached.{may_happen}
 use Rattle.mpx_script.specs.declared.statement.Statement.{Statement}
-use Rattle.mpx_script.specs.Ranks.{Await, Line, Local, Told, Refused, draft_of, doing, done, made_on, next_call, step}
+use Rattle.mpx_script.specs.Statements.{target_of, word_of}
+use Rattle.mpx_script.specs.Grammar.{named}
+use Rattle.mpx_script.specs.Ranks.{Await, Bindings, Bound, Communicator, NullCommunicator, Line, Local, Told, Refused, bind, bound_by, doing, done, next_call, step}
 use Rattle.mpx_script.specs.Transcripts.{line_text, outcome_text}
 use Rattle.mpx_script.proofs.Ends.{goes_on-at}
 use Rattle.mpx_script.proofs.Fronts.{append-nil}
 use Rattle.mpx_script.proofs.Steps.{heard, posted, turned_down, step_hears, step_posts, step_refused}
-use Rattle.mpx_run.specs.Systems.{System, node_tells, posts_of, Doing, Nets, Drives, does, does_all, MayDo, MayDoAll, Leads, start_system}
-use Rattle.mpx_run.specs.Running.{RankView, todo_of, IsAmong, stored, harvested, Stands, IsUnderWay, Keeps, Moves, Receives, StartsAt, Starts}
-use Rattle.mpx_run.proofs.Coupling.{Couples, counted, couples_all, couples_start, goes_on-other, attempts_same, posts_so}
+use Rattle.mpx_run.specs.Systems.{System, node_tells, posts_bound, posts_of, Doing, Nets, Drives, does, does_all, MayDo, MayDoAll, Leads, start_system}
+use Rattle.mpx_run.specs.Running.{RankView, WaitView, Names, Tried, name_of, names_in, or_new, binds, given_name, tried, todo_of, IsAmong, stored, harvested, Stands, IsUnderWay, Keeps, KeepsNode, Moves, Receives, StartsAt, Starts}
+use Rattle.mpx_run.proofs.Coupling.{Couples, Driven, answered, answer_born, attempt_at, attempts_same, couples_all, couples_start, driven, each_other, goes_on-other, not_same}
 
 -- LISTS
 
@@ -118,21 +123,12 @@ run_on script ranks size processes frames run p new d may is =
       };
     }
 
-not_same : (q p : ℕ) → (q ≡ p → ⊥) → (q == p) ≡ false
-not_same q p other = by_test (q == p) refl where
-  by_test : (b : Bool) → (q == p) ≡ b → b ≡ false
-  by_test true e = absurd (other (same_number q p e))
-  by_test false e = refl
-
-each_other : (w : WorldView) (p : ℕ) (f : ProcessView → ProcessView) (q : ℕ) → (q ≡ p → ⊥) → (at_process p f w).each q ≡ w.each q
-each_other w p f q other = ap (λ b. cond b (f (w.each q)) (w.each q)) (not_same q p other)
-
 -- a process that changes just its node
 done_net : (ranks : ℕ) (s : System) (p : ℕ) (r : RankView) (new : NodeView) (f : ProcessView → ProcessView) → (p < ranks → Stands r (s.ranks p)) → new ≡ (f (s.world.each p)).node
     → IsDoneAt ranks s (record { world = at_process p f s.world; ranks = s.ranks }) p (record r { node = new })
 done_net ranks s p r new f stands e = record {
   node = e ∙ ap (λ (v : ProcessView). v.node) (sym (at_here s.world p f));
-  stands = λ l. let h = stands l in record { todo = h.todo; lines = h.lines };
+  stands = λ l. let h = stands l in record { bound = h.bound; todo = h.todo; lines = h.lines };
   nodes = λ q other. ap (λ (v : ProcessView). v.node) (each_other s.world p f q other);
   ranks_stay = λ q other. refl;
   parts = refl;
@@ -140,48 +136,73 @@ done_net ranks s p r new f stands e = record {
 
 -- A NODE'S STEPS
 
-stores_node : (o : Option Finished) (v : ProcessView) → (stores [] o v).node ≡ stored o v.node
-stores_node None v = refl
-stores_node (Some finished) v = refl
+stores_node : (name : Name) (o : Option Finished) (v : ProcessView) → (stores name o v).node ≡ stored name o v.node
+stores_node name None v = refl
+stores_node name (Some finished) v = refl
 
-pub keeps_harvest : (r : RankView) → Keeps r (harvested r)
-keeps_harvest r script ranks size processes frames p at run =
+pub keeps_harvest : (name : Name) (r : RankView) → Keeps r (harvested name r)
+keeps_harvest name r script ranks size processes frames p at run =
     let s = run.system in
     let v = s.world.each p in
     let same : r.node ≡ v.node = run.shows.nodes p r at in
-    run_on script ranks size processes frames run p (harvested r) (Nets (Harvests p [])) (tt, tt)
-    (done_net ranks s p r (stored (next_result r.node []) r.node) (harvests []) (run.shows.stands p r at)
-    (ap (λ n. stored (next_result n []) n) same ∙ sym (stores_node (next_result v.node []) v)))
+    run_on script ranks size processes frames run p (harvested name r) (Nets (Harvests p name)) (tt, tt)
+    (done_net ranks s p r (stored name (next_result r.node name) r.node) (harvests name) (run.shows.stands p r at)
+    (ap (λ n. stored name (next_result n name) n) same ∙ sym (stores_node name (next_result v.node name) v)))
 
-abbrev pub pruned_by : Result (Unit {0}) PruneError → ℕ → NodeView → NodeView
-pruned_by (Ok u) n node = learn (only (Dropped [] n)) node
-pruned_by (Err refusal) n node = node
+abbrev pub pruned_by : Name → Result (Unit {0}) PruneError → ℕ → NodeView → NodeView
+pruned_by name (Ok u) n node = learn (only (Dropped name n)) node
+pruned_by name (Err refusal) n node = node
 
-drops_node : (n : ℕ) (x : Result (Unit {0}) PruneError) (v : ProcessView) → (drops [] n x v).node ≡ pruned_by x n v.node
-drops_node n (Ok u) v = refl
-drops_node n (Err refusal) v = refl
+drops_node : (name : Name) (n : ℕ) (x : Result (Unit {0}) PruneError) (v : ProcessView) → (drops name n x v).node ≡ pruned_by name x n v.node
+drops_node name n (Ok u) v = refl
+drops_node name n (Err refusal) v = refl
 
-pub keeps_prune : (r : RankView) (n : ℕ) → Keeps r (record r { node = pruned_by (pruned (floor_on r.node.board []) n) n r.node })
-keeps_prune r n script ranks size processes frames p at run =
+pub keeps_prune : (name : Name) (r : RankView) (n : ℕ) → Keeps r (record r { node = pruned_by name (pruned (floor_on r.node.board name) n) n r.node })
+keeps_prune name r n script ranks size processes frames p at run =
     let s = run.system in
     let v = s.world.each p in
     let same : r.node ≡ v.node = run.shows.nodes p r at in
-    let new = pruned_by (pruned (floor_on r.node.board []) n) n r.node in
-    run_on script ranks size processes frames run p (record r { node = new }) (Nets (Prunes p [] n)) (tt, tt)
-    (done_net ranks s p r new (prunes [] n) (run.shows.stands p r at)
-    (ap (λ (m : NodeView). pruned_by (pruned (floor_on m.board []) n) n m) same ∙ sym (drops_node n (pruned (floor_on v.node.board []) n) v)))
+    let new = pruned_by name (pruned (floor_on r.node.board name) n) n r.node in
+    run_on script ranks size processes frames run p (record r { node = new }) (Nets (Prunes p name n)) (tt, tt)
+    (done_net ranks s p r new (prunes name n) (run.shows.stands p r at)
+    (ap (λ (m : NodeView). pruned_by name (pruned (floor_on m.board name) n) n m) same ∙ sym (drops_node name n (pruned (floor_on v.node.board name) n) v)))
 
-pruned_is : (r : Result (Unit {0}) PruneError) (n : ℕ) (old new : NodeView) → OnOk r (new ≡ learn (only (Dropped [] n)) old) → OnErr r (new ≡ old) → new ≡ pruned_by r n old
-pruned_is (Ok u) n old new f g = f
-pruned_is (Err refusal) n old new f g = g
+pub pruned_is : (name : Name) (r : Result (Unit {0}) PruneError) (n : ℕ) (old new : NodeView) → OnOk r (new ≡ learn (only (Dropped name n)) old) → OnErr r (new ≡ old) → new ≡ pruned_by name r n old
+pruned_is name (Ok u) n old new f g = f
+pruned_is name (Err refusal) n old new f g = g
 
-pub pruned_at : (r : Result (Unit {0}) PruneError) (n : ℕ) (name : Name) (old new : NodeView) → name ≡ [] → r ≡ pruned (floor_on old.board name) n → OnOk r (new ≡ learn (only (Dropped name n)) old) → OnErr r (new ≡ old)
-    → new ≡ pruned_by (pruned (floor_on old.board []) n) n old
-pruned_at r n name old new w e f g =
-    pruned_is r n old new (subst (λ m. OnOk r (new ≡ learn (only (Dropped m n)) old)) w f) g ∙ ap (λ x. pruned_by x n old) (e ∙ ap (λ m. pruned (floor_on old.board m) n) w)
+pub keeps_then : (a b c : RankView) → Keeps a b → Keeps b c → Keeps a c
+keeps_then a b c f g script ranks size processes frames p at run =
+    subst (λ rs. IsUnderWay script ranks size rs frames) (set_twice processes p b c)
+    (g script ranks size (set processes p b) frames p (set_has processes p a b at) (f script ranks size processes frames p at run))
 
 pub keeps_itself : (r : RankView) → Keeps r r
 keeps_itself r script ranks size processes frames p at run = subst (λ rs. IsUnderWay script ranks size rs frames) (sym (set_same processes p r at)) run
+
+-- A NODE ALONE
+
+pub keeps_node_itself : (old new : NodeView) → new ≡ old → KeepsNode old new
+keeps_node_itself old new e r is = subst (λ m. Keeps r (record r { node = m })) (is ∙ sym e) (keeps_itself r)
+
+pub keeps_node_then : (a b c : NodeView) → KeepsNode a b → KeepsNode b c → KeepsNode a c
+keeps_node_then a b c f g r is = keeps_then r (record r { node = b }) (record r { node = c }) (f r is) (g (record r { node = b }) refl)
+
+keeps_stored : (name : Name) (old new : NodeView) → new ≡ stored name (next_result old name) old → KeepsNode old new
+keeps_stored name old new e r is = subst (λ m. Keeps r (record r { node = m })) (ap (λ n. stored name (next_result n name) n) is ∙ sym e) (keeps_harvest name r)
+
+pub keeps_node_harvest : (opened : Bool) (name : Name) (next : Option Finished) (h : Harvest) (old new : NodeView) → next ≡ next_result old name → HarvestsOn opened name next (Ok h) old new → KeepsNode old new
+keeps_node_harvest false name next h old new e x = keeps_node_itself old new x.1
+keeps_node_harvest true name (Some finished) (Done call) old new e x = keeps_stored name old new (x.1 ∙ ap (λ o. stored name o old) e)
+keeps_node_harvest true name (Some finished) NotYet old new e x = absurd x
+keeps_node_harvest true name (Some finished) NotOpened old new e x = absurd x
+keeps_node_harvest true name None (Done call) old new e x = absurd x
+keeps_node_harvest true name None NotYet old new e x = keeps_node_itself old new x
+keeps_node_harvest true name None NotOpened old new e x = absurd x
+
+pub keeps_node_prune : (name : Name) (n : ℕ) (answer : Result (Unit {0}) PruneError) (old new : NodeView) → answer ≡ pruned (floor_on old.board name) n → OnOk answer (new ≡ learn (only (Dropped name n)) old) → OnErr answer (new ≡ old) → KeepsNode old new
+keeps_node_prune name n answer old new e f g r is =
+    let to : new ≡ pruned_by name (pruned (floor_on r.node.board name) n) n r.node = pruned_is name answer n old new f g ∙ ap (λ x. pruned_by name x n old) e ∙ ap (λ (m : NodeView). pruned_by name (pruned (floor_on m.board name) n) n m) (sym is) in
+    subst (λ m. Keeps r (record r { node = m })) (sym to) (keeps_prune name r n)
 
 -- a frame is taken
 pub run_takes : (script : List (List Statement)) (ranks size : ℕ) (processes : List RankView) (frames : List Look) (p : ℕ) (r : RankView) (i : ℕ) (b : Look) → slice_get processes p ≡ Some r → slice_get frames i ≡ Some b
@@ -205,7 +226,7 @@ run_sends script ranks size processes frames p r at run =
     let new = s.world.parts ++ board ∷ [] in
     record {
       system = does s d;
-      led = leads_on ranks (start_system script ranks size) s d run.led (tt, may_happen s.world (E.Send p C.Whole) c.holds);
+      led = leads_on ranks (start_system script ranks size) s d run.led (tt, may_happen s.world (E.Send p C.Whole) c.upheld.holds);
       shows = record {
         count = run.shows.count;
         nodes = run.shows.nodes;
@@ -254,6 +275,47 @@ moves_then a b c f g script ranks size processes frames p l at run =
     subst (λ rs. IsUnderWay script ranks size rs frames) (set_twice processes p b c)
     (g script ranks size (set processes p b) frames p l (set_has processes p a b at) (f script ranks size processes frames p l at run))
 
+-- BINDINGS
+
+-- a word more, seen as names
+names_by : (t u : Bool) (x : Option (Option Name)) (old new : Bound) (before after : Option Bound) → ((option_map name_of after) ≡ cond u (Some (or_new (option_map name_of before) (name_of new))) (option_map name_of before))
+    → option_map name_of (if t then Some old else after) ≡ cond u (Some (or_new (option_map name_of (if t then Some old else before)) (name_of new))) (option_map name_of (if t then Some old else before))
+names_by true true x old new before after e = refl
+names_by true false x old new before after e = refl
+names_by false u x old new before after e = e
+
+names_first : (t : Bool) (new : Bound) → option_map name_of (if t then Some new else None) ≡ cond t (Some (name_of new)) None
+names_first true new = refl
+names_first false new = refl
+
+names_behind : (xs : Bindings) (to : List ℕ) (new : Bound) (word : List ℕ) → names_in (xs ++ (to, new) ∷ []) word ≡ cond (bytes_eq word to) (Some (or_new (names_in xs word) (name_of new))) (names_in xs word)
+names_behind [] to new word = names_first (bytes_eq word to) new
+names_behind (x ∷ xs) to new word = names_by (bytes_eq word x.0) (bytes_eq word to) None x.1 new (named xs word) (named (xs ++ (to, new) ∷ []) word) (names_behind xs to new word)
+
+names_bound : (target : Option (List ℕ)) (bound : Names) (xs : Bindings) (new : Bound) (word : List ℕ) → bound word ≡ names_in xs word → binds target (name_of new) bound word ≡ names_in (bind target new xs) word
+names_bound None bound xs new word e = e
+names_bound (Some to) bound xs new word e = ap (λ o. cond (bytes_eq word to) (Some (or_new o (name_of new))) o) e ∙ sym (names_behind xs to new word)
+
+-- what an answer binds a word to is what its outcome names, where the birth of a new communicator is known
+named_so : (outcome : Outcome) (born : Option BirthView) → ((new : Name) (size rank : ℕ) → outcome ≡ NewComm new size rank → (birth : BirthView) × (born ≡ Some birth)) → name_of (bound_by outcome born) ≡ given_name outcome
+named_so Nothing born h = refl
+named_so Absent born h = refl
+named_so (Items items) born h = refl
+named_so (NewComm new size rank) born h = let x = h new size rank refl in ap (λ o. name_of (bound_by (NewComm new size rank) o)) x.1
+named_so Null born h = refl
+named_so (Fault fault) born h = refl
+
+-- the post behind an answer
+answered_ok : (made : List Made) (o : Result Made PostError) (name : Name) (call : ℕ) → answered made o ≡ Ok (name, call) → (m : Made) × (o ≡ Ok m) × (m.name ≡ name) × (next_call m.name made ≡ call)
+answered_ok made (Ok m) name call e =
+    let pair : (m.name, next_call m.name made) ≡ (name, call) = cc e in
+    (m, refl, ap (λ (x : Name × ℕ). x.0) pair, ap (λ (x : Name × ℕ). x.1) pair)
+answered_ok made (Err refusal) name call e = cc e
+
+answered_err : (made : List Made) (o : Result Made PostError) (refusal : PostError) → answered made o ≡ Err refusal → o ≡ Err refusal
+answered_err made (Ok m) refusal e = cc e
+answered_err made (Err other) refusal e = let same : other ≡ refusal = cc e in ap (λ x. let r : Result Made PostError = Err x in r) same
+
 module _ (script : List (List Statement)) (ranks size : ℕ) (processes : List RankView) (frames : List Look) (p : ℕ) (l : p < ranks) (r : RankView) (at : slice_get processes p ≡ Some r) (run : IsUnderWay script ranks size processes frames) where
   abbrev told : Results
   told = node_tells (run.system.world.each p).node
@@ -274,91 +336,87 @@ module _ (script : List (List Statement)) (ranks size : ℕ) (processes : List R
         parts = ap (λ (w : WorldView). w.parts) (sym world) ∙ parts;
       })
 
-  stands_so : (waits : Option ℕ) (todo : List Statement) → r.waits ≡ waits → r.todo ≡ todo → (run.system.ranks p).todo ≡ todo_of waits todo
+  stands_so : (waits : Option WaitView) (todo : List Statement) → r.waits ≡ waits → r.todo ≡ todo → (run.system.ranks p).todo ≡ todo_of waits todo
   stands_so waits todo w t = (run.shows.stands p r at l).todo ∙ λ i. todo_of (w i) (t i)
 
   lines_so : (text : List ℕ) (line : Line) → text ≡ line_text line → r.lines ++ text ∷ [] ≡ map line_text ((run.system.ranks p).lines ++ line ∷ [])
   lines_so text line e = (λ i. (run.shows.stands p r at l).lines i ++ e i ∷ []) ∙ sym (map-append line_text (run.system.ranks p).lines (line ∷ []))
 
-  -- it hears an outcome that its node holds
-  hears : (call : ℕ) (outcome : Outcome) (text : List ℕ) → r.waits ≡ Some call → node_tells r.node [] call ≡ Some outcome → text ≡ outcome_text outcome
-      → IsUnderWay script ranks size (set processes p (record { node = r.node; todo = r.todo; waits = None; lines = r.lines ++ text ∷ [] })) frames
-  hears call outcome text w e t =
-      let todo = stands_so (Some call) r.todo w refl in
-      let known : told [] call ≡ Some outcome = ap (λ n. node_tells n [] call) (sym (run.shows.nodes p r at)) ∙ e in
-      moved [] (done (run.system.ranks p) (heard (run.system.ranks p) [] call (doing r.todo) outcome)) (record { node = r.node; todo = r.todo; waits = None; lines = r.lines ++ text ∷ [] })
-      (ap (posts_of p (run.system.ranks p).bound) todo)
-      (step_hears told (run.system.ranks p) [] call (doing r.todo) outcome todo known)
-      (record { todo = refl; lines = lines_so text (Told [] call outcome) t })
-      (run.shows.nodes p r at) (λ q other. refl) refl
+  bound_so : (target : Option (List ℕ)) (new : Bound) (word : List ℕ) → binds target (name_of new) r.bound word ≡ names_in (bind target new (run.system.ranks p).bound) word
+  bound_so target new word = names_bound target r.bound (run.system.ranks p).bound new word ((run.shows.stands p r at l).bound word)
 
-  makes_node : (x : Result Given PostError) (v : ProcessView) (given : Given) → x ≡ Ok given → (makes [] x v).node ≡ post_at [] given v.node
-  makes_node x v given e = ap (λ z. (makes [] z v).node) e
-
-  -- it posts
-  posts_next : (statement : Statement) (rest : List Statement) (given : Given) → r.waits ≡ None → r.todo ≡ statement ∷ rest → checked_on r.node [] (draft_of statement) ≡ Ok given
-      → IsUnderWay script ranks size (set processes p (record { node = post_at [] given r.node; todo = rest; waits = Some (posted_on r.node []); lines = r.lines })) frames
-  posts_next statement rest given w t e =
+  -- it hears an answer that its node tells
+  hears : (w : WaitView) (answer : Answer) (text : List ℕ) → r.waits ≡ Some w → node_tells r.node w.name w.call ≡ Some answer → text ≡ outcome_text answer.outcome
+      → IsUnderWay script ranks size (set processes p (record { node = r.node; bound = binds w.target (given_name answer.outcome) r.bound; todo = r.todo; waits = None; lines = r.lines ++ text ∷ [] })) frames
+  hears w answer text wait e t =
       let c = coupled script ranks size processes frames run in
       let local = run.system.ranks p in
-      let v = run.system.world.each p in
-      let same : r.node ≡ v.node = run.shows.nodes p r at in
-      let todo = stands_so None (statement ∷ rest) w t in
-      let checked_so : checked_on v.node [] (draft_of statement) ≡ Ok given = ap (λ n. checked_on n [] (draft_of statement)) (sym same) ∙ e in
-      let m : Made = record { name = []; given = given } in
-      let count : next_call [] local.made ≡ posted_on r.node [] = sym (counted script ranks run.system c p) ∙ ap (λ n. posted_on n []) (sym same) in
-      moved (Posts p [] (draft_of statement) ∷ []) (done local (posted local (doing rest) m)) (record { node = post_at [] given r.node; todo = rest; waits = Some (posted_on r.node []); lines = r.lines })
-      (posts_so script ranks run.system c p statement (doing rest) todo)
-      (step_posts told local statement (doing rest) m todo (attempts_same script ranks run.system c p l statement ∙ ap (made_on []) checked_so))
-      (record { todo = ap (λ k. Await [] k ∷ doing rest) count; lines = (run.shows.stands p r at l).lines ∙ ap (map line_text) (sym (append-nil local.lines)) })
-      (ap (post_at [] given) same ∙ sym (makes_node (checked_on v.node [] (draft_of statement)) v given checked_so) ∙ ap (λ (u : ProcessView). u.node) (sym (at_here run.system.world p (posts [] (draft_of statement)))))
-      (λ q other. ap (λ (u : ProcessView). u.node) (each_other run.system.world p (posts [] (draft_of statement)) q other))
-      refl
+      let todo = stands_so (Some w) r.todo wait refl in
+      let known : told w.name w.call ≡ Some answer = ap (λ n. node_tells n w.name w.call) (sym (run.shows.nodes p r at)) ∙ e in
+      let to = bound_by answer.outcome answer.born in
+      let name_is : name_of to ≡ given_name answer.outcome = named_so answer.outcome answer.born (answer_born script ranks run.system c p w.name w.call answer known) in
+      moved [] (done local (heard local w.name w.call w.target (doing r.todo) answer)) (record { node = r.node; bound = binds w.target (given_name answer.outcome) r.bound; todo = r.todo; waits = None; lines = r.lines ++ text ∷ [] })
+      (ap (posts_of p local.bound) todo)
+      (step_hears told local w.name w.call w.target (doing r.todo) answer todo known)
+      (record { bound = λ word. ap (λ n. binds w.target n r.bound word) (sym name_is) ∙ bound_so w.target to word; todo = refl; lines = lines_so text (Told w.name w.call answer.outcome) t })
+      (run.shows.nodes p r at) (λ q other. refl) refl
 
-  -- its post is refused
-  is_refused : (statement : Statement) (rest : List Statement) (refusal : PostError) (text : List ℕ) → r.waits ≡ None → r.todo ≡ statement ∷ rest → checked_on r.node [] (draft_of statement) ≡ Err refusal → text ≡ line_text (Refused refusal)
-      → IsUnderWay script ranks size (set processes p (record { node = r.node; todo = rest; waits = None; lines = r.lines ++ text ∷ [] })) frames
+  -- what its node has of its next statement
+  statement_driven : (statement : Statement) → Driven run.system.world p (posts_bound p statement (named (run.system.ranks p).bound (word_of statement))) (attempt_at script ranks run.system (coupled script ranks size processes frames run) p statement) (tried statement (r.bound (word_of statement)) r.node)
+  statement_driven statement =
+      let c = coupled script ranks size processes frames run in
+      subst (λ (t : Tried). Driven run.system.world p (posts_bound p statement (named (run.system.ranks p).bound (word_of statement))) (attempt_at script ranks run.system c p statement) t)
+      (λ i. tried statement (sym ((run.shows.stands p r at l).bound (word_of statement)) i) (sym (run.shows.nodes p r at) i)) (driven script ranks run.system c p l statement)
+
+  -- it posts
+  posts_next : (statement : Statement) (rest : List Statement) (name : Name) (call : ℕ) → r.waits ≡ None → r.todo ≡ statement ∷ rest → (tried statement (r.bound (word_of statement)) r.node).answer ≡ Ok (name, call)
+      → IsUnderWay script ranks size (set processes p (record { node = (tried statement (r.bound (word_of statement)) r.node).node; bound = r.bound; todo = rest; waits = Some (record { name = name; call = call; target = target_of statement }); lines = r.lines })) frames
+  posts_next statement rest name call w t e =
+      let c = coupled script ranks size processes frames run in
+      let local = run.system.ranks p in
+      let todo = stands_so None (statement ∷ rest) w t in
+      let d = statement_driven statement in
+      let found = answered_ok (run.system.world.each p).made (attempt_at script ranks run.system c p statement) name call (sym d.answer ∙ e) in
+      let m : Made = found.0 in
+      let count : next_call m.name local.made ≡ call = ap (next_call m.name) (sym (c.made p)) ∙ found.3 in
+      moved (posts_bound p statement (named local.bound (word_of statement))) (done local (posted local (target_of statement) (doing rest) m)) (record { node = (tried statement (r.bound (word_of statement)) r.node).node; bound = r.bound; todo = rest; waits = Some (record { name = name; call = call; target = target_of statement }); lines = r.lines })
+      (ap (posts_of p local.bound) todo)
+      (step_posts told local statement (doing rest) m todo (attempts_same script ranks run.system c p statement ∙ found.1))
+      (record { bound = (run.shows.stands p r at l).bound; todo = λ i. Await (found.2 i) (count i) (target_of statement) ∷ doing rest; lines = (run.shows.stands p r at l).lines ∙ ap (map line_text) (sym (append-nil local.lines)) })
+      d.node d.nodes d.parts
+
+  -- it is refused
+  is_refused : (statement : Statement) (rest : List Statement) (refusal : PostError) (text : List ℕ) → r.waits ≡ None → r.todo ≡ statement ∷ rest → (tried statement (r.bound (word_of statement)) r.node).answer ≡ Err refusal → text ≡ line_text (Refused refusal)
+      → IsUnderWay script ranks size (set processes p (record { node = (tried statement (r.bound (word_of statement)) r.node).node; bound = binds (target_of statement) None r.bound; todo = rest; waits = None; lines = r.lines ++ text ∷ [] })) frames
   is_refused statement rest refusal text w t e u =
       let c = coupled script ranks size processes frames run in
       let local = run.system.ranks p in
-      let v = run.system.world.each p in
-      let same : r.node ≡ v.node = run.shows.nodes p r at in
       let todo = stands_so None (statement ∷ rest) w t in
-      let checked_so : checked_on v.node [] (draft_of statement) ≡ Err refusal = ap (λ n. checked_on n [] (draft_of statement)) (sym same) ∙ e in
-      moved (Posts p [] (draft_of statement) ∷ []) (done local (turned_down local (doing rest) refusal)) (record { node = r.node; todo = rest; waits = None; lines = r.lines ++ text ∷ [] })
-      (posts_so script ranks run.system c p statement (doing rest) todo)
-      (step_refused told local statement (doing rest) refusal todo (attempts_same script ranks run.system c p l statement ∙ ap (made_on []) checked_so))
-      (record { todo = refl; lines = lines_so text (Refused refusal) u })
-      (same ∙ ap (λ z. (makes [] z v).node) (sym checked_so) ∙ ap (λ (x : ProcessView). x.node) (sym (at_here run.system.world p (posts [] (draft_of statement)))))
-      (λ q other. ap (λ (x : ProcessView). x.node) (each_other run.system.world p (posts [] (draft_of statement)) q other))
-      refl
+      let d = statement_driven statement in
+      let is = answered_err (run.system.world.each p).made (attempt_at script ranks run.system c p statement) refusal (sym d.answer ∙ e) in
+      moved (posts_bound p statement (named local.bound (word_of statement))) (done local (turned_down local (target_of statement) (doing rest) refusal)) (record { node = (tried statement (r.bound (word_of statement)) r.node).node; bound = binds (target_of statement) None r.bound; todo = rest; waits = None; lines = r.lines ++ text ∷ [] })
+      (ap (posts_of p local.bound) todo)
+      (step_refused told local statement (doing rest) refusal todo (attempts_same script ranks run.system c p statement ∙ is))
+      (record { bound = bound_so (target_of statement) NullCommunicator; todo = refl; lines = lines_so text (Refused refusal) u })
+      d.node d.nodes d.parts
 
-pub moves_hears : (r : RankView) (call : ℕ) (outcome : Outcome) (text : List ℕ) → r.waits ≡ Some call → node_tells r.node [] call ≡ Some outcome → text ≡ outcome_text outcome → Moves r (record { node = r.node; todo = r.todo; waits = None; lines = r.lines ++ text ∷ [] })
-moves_hears r call outcome text w e t script ranks size processes frames p l at run = hears script ranks size processes frames p l r at run call outcome text w e t
+pub moves_hears : (r : RankView) (w : WaitView) (answer : Answer) (text : List ℕ) → r.waits ≡ Some w → node_tells r.node w.name w.call ≡ Some answer → text ≡ outcome_text answer.outcome
+    → Moves r (record { node = r.node; bound = binds w.target (given_name answer.outcome) r.bound; todo = r.todo; waits = None; lines = r.lines ++ text ∷ [] })
+moves_hears r w answer text wait e t script ranks size processes frames p l at run = hears script ranks size processes frames p l r at run w answer text wait e t
 
-pub moves_posts : (r : RankView) (statement : Statement) (rest : List Statement) (given : Given) → r.waits ≡ None → r.todo ≡ statement ∷ rest → checked_on r.node [] (draft_of statement) ≡ Ok given
-    → Moves r (record { node = post_at [] given r.node; todo = rest; waits = Some (posted_on r.node []); lines = r.lines })
-moves_posts r statement rest given w t e script ranks size processes frames p l at run = posts_next script ranks size processes frames p l r at run statement rest given w t e
+pub moves_posts : (r : RankView) (statement : Statement) (rest : List Statement) (name : Name) (call : ℕ) → r.waits ≡ None → r.todo ≡ statement ∷ rest → (tried statement (r.bound (word_of statement)) r.node).answer ≡ Ok (name, call)
+    → Moves r (record { node = (tried statement (r.bound (word_of statement)) r.node).node; bound = r.bound; todo = rest; waits = Some (record { name = name; call = call; target = target_of statement }); lines = r.lines })
+moves_posts r statement rest name call w t e script ranks size processes frames p l at run = posts_next script ranks size processes frames p l r at run statement rest name call w t e
 
-pub moves_refused : (r : RankView) (statement : Statement) (rest : List Statement) (refusal : PostError) (text : List ℕ) → r.waits ≡ None → r.todo ≡ statement ∷ rest → checked_on r.node [] (draft_of statement) ≡ Err refusal → text ≡ line_text (Refused refusal)
-    → Moves r (record { node = r.node; todo = rest; waits = None; lines = r.lines ++ text ∷ [] })
+pub moves_refused : (r : RankView) (statement : Statement) (rest : List Statement) (refusal : PostError) (text : List ℕ) → r.waits ≡ None → r.todo ≡ statement ∷ rest → (tried statement (r.bound (word_of statement)) r.node).answer ≡ Err refusal → text ≡ line_text (Refused refusal)
+    → Moves r (record { node = (tried statement (r.bound (word_of statement)) r.node).node; bound = binds (target_of statement) None r.bound; todo = rest; waits = None; lines = r.lines ++ text ∷ [] })
 moves_refused r statement rest refusal text w t e u script ranks size processes frames p l at run = is_refused script ranks size processes frames p l r at run statement rest refusal text w t e u
 
-pub moves_harvest : (r : RankView) → Moves r (harvested r)
-moves_harvest r script ranks size processes frames p l at run = keeps_harvest r script ranks size processes frames p at run
+pub moves_keeps : (old new : RankView) → Keeps old new → Moves old new
+moves_keeps old new k script ranks size processes frames p l at run = k script ranks size processes frames p at run
 
 pub moves_itself : (r : RankView) → Moves r r
-moves_itself r script ranks size processes frames p l at run = keeps_itself r script ranks size processes frames p at run
-
--- WHAT THE NODE'S ANSWERS SAY
-
-pub posted_is : (r : Result Given PostError) (call : ℕ) (old new : NodeView) → NodePosts [] r (Ok call) old new → (given : Given) × (r ≡ Ok given) × (call ≡ posted_on old []) × (new ≡ post_at [] given old)
-posted_is (Ok given) call old new h = (given, refl, h.0, h.1)
-posted_is (Err refusal) call old new h = cc h.0
-
-pub refused_is : (r : Result Given PostError) (e : PostError) (old new : NodeView) → NodePosts [] r (Err e) old new → (e ≡ R.OutOfMemory → ⊥) → (r ≡ Err e) × (new ≡ old)
-refused_is (Ok given) e old new h other = absurd (other h.0)
-refused_is (Err refusal) e old new h other = (let same : e ≡ refusal = cc h.0 in ap (λ x. let r : Result Given PostError = Err x in r) (sym same), h.1)
+moves_itself r = moves_keeps r r (keeps_itself r)
 
 pub lines_push : {A : Type 0} (text_of : A → List ℕ) (lines new : List A) (line : A) (text : List ℕ) → new ≡ lines ++ line ∷ [] → text_of line ≡ text → map text_of new ≡ map text_of lines ++ text ∷ []
 lines_push text_of lines new line text e f = ap (map text_of) e ∙ map-append text_of lines (line ∷ []) ∙ ap (λ x. map text_of lines ++ x ∷ []) f
@@ -408,7 +466,7 @@ run_starts script ranks size processes s = record {
     nodes = λ p r e. (s.each p r e).node;
     stands = λ p r e l.
         let h = s.each p r e in
-        record { todo = ap (λ o. doing (unwrap_or o [])) (h.todo l) ∙ ap (λ w. todo_of w r.todo) (sym h.waits); lines = h.lines };
+        record { bound = h.bound; todo = ap (λ o. doing (unwrap_or o [])) (h.todo l) ∙ ap (λ w. todo_of w r.todo) (sym h.waits); lines = h.lines };
     sent = λ k d l. absurd (omega (arith, l));
   };
 }

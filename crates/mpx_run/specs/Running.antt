@@ -1,28 +1,119 @@
 -- The processes of a run, and which system they show.
-use Rattle.std.specs.Prelude.{◌≡◌, ℕ, ◌<◌, ◌+◌, ◌*◌, Bool, true, false, ◌||◌, is_some, List, [], ◌∷◌, length, map, slice_get, Option, Some, None}
+use Rattle.std.specs.Prelude.{◌≡◌, ℕ, ◌<◌, ◌+◌, ◌*◌, Bool, true, false, ◌||◌, is_some, cond, List, [], ◌∷◌, length, map, slice_get, Option, Some, None, Result, Ok, Err}
 use Rattle.std.proofs.Common.{set}
 use Rattle.std.specs.List.{All}
+use Rattle.std.specs.Option.{option_map}
+use Rattle.std.specs.Str.{bytes_eq}
+use Rattle.mpx_name.specs.Name.{Name}
+use Rattle.mpx_post.specs.Posts.{Given}
+use Rattle.mpx_post.specs.declared.draft.Draft.{Draft}
+use Rattle.mpx_post.specs.declared.draft.PostError.{PostError}
+use Rattle.mpx_post.specs.declared.draft.PostError.TheVariants.{NotMember, OutOfMemory}
+use Rattle.mpx_post.specs.Gatherings.{GatheringView}
 use Rattle.mpx_board.specs.Boards.{Look}
-use Rattle.mpx_node.specs.Nodes.{NodeView, start_node, next_result, add_result}
+use Rattle.mpx_value.specs.declared.outcomes.Outcome.{Outcome}
+use Rattle.mpx_value.specs.declared.outcomes.Outcome.TheVariants.{Nothing, Absent, Items, NewComm, Null, Fault}
+use Rattle.mpx_node.specs.Nodes.{NodeView, add_result, checked_on, children_on, front_on, gathering_name, gathers_on, next_result, open_gathering_node, post_at, posted_on, start_node}
 use Rattle.mpx_node.specs.declared.finished.Finished.{Finished}
 use Rattle.mpx_script.specs.declared.statement.Statement.{Statement}
-use Rattle.mpx_script.specs.Ranks.{Todo, Await, Local, doing}
+use Rattle.mpx_script.specs.Statements.{Gathers as Asked, draft_of, gathers_of}
+use Rattle.mpx_script.specs.Grammar.{named}
+use Rattle.mpx_script.specs.Ranks.{Bindings, Bound, Communicator, NullCommunicator, Todo, Await, Local, doing}
+use Rattle.mpx_script.specs.Evaluation.{bound_at_start}
 use Rattle.mpx_script.specs.Transcripts.{line_text}
 use Rattle.mpx_run.specs.Systems.{System, Leads, start_system}
 
--- its node, the statements that are left, the call whose outcome it waits for, and the lines so far
+-- a call whose outcome is awaited, and the word that its new communicator gets
+pub record WaitView : Type 0 where
+  pub name : Name
+  pub call : ℕ
+  pub target : Option (List ℕ)
+
+-- what each word is bound to: the name of a communicator, or None for the null communicator
+abbrev pub Names : Type 0
+Names = List ℕ → Option (Option Name)
+
+-- its node, what its words are bound to, the statements that are left, what it waits for, and the lines so far
 pub record RankView : Type 0 where
   pub node : NodeView
+  pub bound : Names
   pub todo : List Statement
-  pub waits : Option ℕ
+  pub waits : Option WaitView
   pub lines : List (List ℕ)
 
-abbrev pub todo_of : Option ℕ → List Statement → List Todo
-todo_of (Some call) rest = Await [] call ∷ doing rest
+-- BINDINGS
+
+abbrev pub name_of : Bound → Option Name
+name_of (Communicator name birth) = Some name
+name_of NullCommunicator = None
+
+abbrev pub names_in : Bindings → Names
+names_in bound word = option_map name_of (named bound word)
+
+-- the communicator that an outcome gives
+abbrev pub given_name : Outcome → Option Name
+given_name Nothing = None
+given_name Absent = None
+given_name (Items items) = None
+given_name (NewComm name size rank) = Some name
+given_name Null = None
+given_name (Fault fault) = None
+
+-- what was bound stays
+abbrev pub or_new : {A : Type 0} → Option A → A → A
+or_new (Some old) new = old
+or_new None new = new
+
+-- the word, where there is one, is bound to this
+abbrev pub binds : Option (List ℕ) → Option Name → Names → Names
+binds None to bound word = bound word
+binds (Some new) to bound word = cond (bytes_eq word new) (Some (or_new (bound word) to)) (bound word)
+
+-- STATEMENTS
+
+-- what the node has of a statement, and what comes of it: the context and the number of the call, or the refusal
+pub record Tried : Type 0 where
+  pub node : NodeView
+  pub answer : Result (Name × ℕ) PostError
+
+abbrev pub tried_post : Name → Result Given PostError → NodeView → Tried
+tried_post name (Ok given) node = record { node = post_at name given node; answer = Ok (name, posted_on node name) }
+tried_post name (Err refusal) node = record { node = node; answer = Err refusal }
+
+abbrev pub tried_gathered : (parent : Name) → Draft → Result GatheringView PostError → NodeView → Tried
+tried_gathered parent draft (Ok g) node = tried_post (gathering_name parent g) (checked_on (open_gathering_node parent g node) (gathering_name parent g) draft) (open_gathering_node parent g node)
+tried_gathered parent draft (Err refusal) node = record { node = node; answer = Err refusal }
+
+abbrev pub tried_in : Draft → Option Asked → Name → NodeView → Tried
+tried_in draft None name node = tried_post name (checked_on node name draft) node
+tried_in draft (Some asked) name node = tried_gathered name draft (gathers_on node name asked.tag asked.ranks) node
+
+-- the communicator that a word is bound to, where it is one
+abbrev pub communicator_in : Option (Option Name) → Option Name
+communicator_in None = None
+communicator_in (Some to) = to
+
+abbrev pub tried_on : Statement → Option Name → NodeView → Tried
+tried_on statement None node = record { node = node; answer = Err NotMember }
+tried_on statement (Some name) node = tried_in (draft_of statement) (gathers_of statement) name node
+
+-- a statement is tried on what its word is bound to
+abbrev pub tried : Statement → Option (Option Name) → NodeView → Tried
+tried statement bound node = tried_on statement (communicator_in bound) node
+
+-- it is answered so and done, or memory was wanting
+abbrev pub Tries : Tried → Result (Name × ℕ) PostError → NodeView → Type 0
+Tries t (Ok call) new = (t.answer ≡ Ok call) × (new ≡ t.node)
+Tries t (Err refusal) new = (refusal ≡ OutOfMemory → ⊥) → (t.answer ≡ Err refusal) × (new ≡ t.node)
+
+-- WHERE A RANK STANDS
+
+abbrev pub todo_of : Option WaitView → List Statement → List Todo
+todo_of (Some w) rest = Await w.name w.call w.target ∷ doing rest
 todo_of None rest = doing rest
 
-abbrev pub awaited : Option ℕ → ℕ
-awaited (Some call) = 1
+abbrev pub awaited : Option WaitView → ℕ
+awaited (Some w) = 1
 awaited None = 0
 
 -- so much is left at most
@@ -41,16 +132,17 @@ abbrev pub is_waiting_at : Option RankView → Bool
 is_waiting_at None = false
 is_waiting_at (Some r) = is_waiting r
 
--- a node with its next result stored, where there is one
-abbrev pub stored : Option Finished → NodeView → NodeView
-stored None node = node
-stored (Some finished) node = add_result [] finished node
+-- a node with its next result on a context stored, where there is one
+abbrev pub stored : Name → Option Finished → NodeView → NodeView
+stored name None node = node
+stored name (Some finished) node = add_result name finished (children_on node.board name (front_on node name)) node
 
-abbrev pub harvested : RankView → RankView
-harvested r = record r { node = stored (next_result r.node []) r.node }
+abbrev pub harvested : Name → RankView → RankView
+harvested name r = record r { node = stored name (next_result r.node name) r.node }
 
 -- the rank stands there in its script
 pub record Stands (r : RankView) (s : Local) : Type 0 where
+  pub bound : (word : List ℕ) → r.bound word ≡ names_in s.bound word
   pub todo : s.todo ≡ todo_of r.waits r.todo
   pub lines : r.lines ≡ map line_text s.lines
 
@@ -75,6 +167,10 @@ abbrev pub Keeps : RankView → RankView → Type 0
 Keeps old new = (script : List (List Statement)) (ranks size : ℕ) (processes : List RankView) (frames : List Look) (p : ℕ) → slice_get processes p ≡ Some old
     → IsUnderWay script ranks size processes frames → IsUnderWay script ranks size (set processes p new) frames
 
+-- the same of a process that changes just its node
+abbrev pub KeepsNode : NodeView → NodeView → Type 0
+KeepsNode old new = (r : RankView) → r.node ≡ old → Keeps r (record r { node = new })
+
 -- the same of a rank
 abbrev pub Moves : RankView → RankView → Type 0
 Moves old new = (script : List (List Statement)) (ranks size : ℕ) (processes : List RankView) (frames : List Look) (p : ℕ) → p < ranks → slice_get processes p ≡ Some old
@@ -88,6 +184,7 @@ Receives b old new = (script : List (List Statement)) (ranks size : ℕ) (proces
 -- process p at the start
 pub record StartsAt (script : List (List Statement)) (ranks p : ℕ) (r : RankView) : Type 0 where
   pub node : r.node ≡ start_node p ranks
+  pub bound : (word : List ℕ) → r.bound word ≡ names_in (bound_at_start ranks) word
   pub todo : p < ranks → slice_get script p ≡ Some r.todo
   pub waits : r.waits ≡ None
   pub lines : r.lines ≡ []

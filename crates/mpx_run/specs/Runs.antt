@@ -2,7 +2,7 @@
 use Rattle.std.specs.Prelude.{◌≡◌, ◌≢◌, ℕ, ◌≤◌, ◌+◌, List, [], length, slice_get, Some, unwrap_or}
 use Rattle.mpx_node.specs.Nodes.{NodeView}
 use Rattle.mpx_script.specs.ScriptView.{ScriptView}
-use Rattle.mpx_script.specs.Evaluation.{State, IsEvaluation, IsPrefixOf, statements_of}
+use Rattle.mpx_script.specs.Evaluation.{State, IsEvaluation, IsPrefixOf, bound_at_start, statements_of}
 use Rattle.mpx_script.specs.Told.{CarriesOut}
 use Rattle.mpx_script.specs.Reports.{lines_in, waiting_in}
 use Rattle.mpx_script.specs.Transcripts.{text_upto}
@@ -22,7 +22,7 @@ pub record IsRun (script : ScriptView) (relays : ℕ) (nodes : List NodeView) (t
   pub nodes_are : (p : ℕ) (node : NodeView) → slice_get nodes p ≡ Some node → node ≡ (system.world.each p).node
   pub posts : (p : ℕ) → (system.world.each p).made ≡ (system.ranks p).made
   pub relays_post_nothing : (p : ℕ) → script.ranks ≤ p → (system.world.each p).made ≡ []
-  pub carries_out : (p : ℕ) → CarriesOut (node_tells (system.world.each p).node) (statements_of script.statements p) (system.ranks p)
+  pub carries_out : (p : ℕ) → CarriesOut (node_tells (system.world.each p).node) (bound_at_start script.ranks) (statements_of script.statements p) (system.ranks p)
   pub told : (p : ℕ) → TellsResults (system.world.each p).node (system.ranks p)
   pub ranks_are : length transcripts ≡ script.ranks
   pub lines : (p : ℕ) (lines : List (List ℕ)) → slice_get transcripts p ≡ Some lines → lines ≡ lines_in system.ranks p

@@ -1,37 +1,56 @@
 -- A world, and where the ranks that carry out their scripts in it stand.
-use Rattle.std.specs.Prelude.{◌≡◌, ℕ, ◌<◌, List, [], ◌∷◌, slice_get, Option, Some, None}
+use Rattle.std.specs.Prelude.{◌≡◌, ℕ, ◌<◌, List, [], ◌∷◌, length, slice_get, Option, Some, None, Result, Ok, Err}
 use Rattle.std.specs.Option.{option_map}
 use Rattle.mpx_name.specs.Name.{Name}
 use Rattle.mpx_post.specs.declared.draft.Draft.{Draft}
+use Rattle.mpx_post.specs.declared.draft.PostError.{PostError}
+use Rattle.mpx_post.specs.Births.{BirthView}
+use Rattle.mpx_post.specs.Gatherings.{GatheringView, gathering}
+use Rattle.mpx_board.specs.Boards.{told}
 use Rattle.mpx_value.specs.declared.outcomes.Outcome.{Outcome}
-use Rattle.mpx_value.specs.Histories.{Results, posts_on}
+use Rattle.mpx_value.specs.Histories.{Results, answer_with, posts_on}
 use Rattle.mpx_node.specs.declared.finished.Finished.{Finished}
-use Rattle.mpx_node.specs.Nodes.{NodeView, results_on}
-use Rattle.mpx_world.specs.Worlds.{WorldView, Happening, Posts, IsNoPost, happens, MayHappen}
+use Rattle.mpx_node.specs.Nodes.{NodeView, gathering_name, results_on}
+use Rattle.mpx_world.specs.Worlds.{WorldView, Happening, Posts, Gathers, IsNoPost, happens, MayHappen}
 use Rattle.mpx_world.specs.Worlds.{goes_on as goes_on_world, start as start_world}
 use Rattle.mpx_script.specs.declared.statement.Statement.{Statement}
+use Rattle.mpx_script.specs.Statements.{Gathers as Asked, draft_of, gathers_of, word_of}
 use Rattle.mpx_script.specs.Grammar.{named}
-use Rattle.mpx_script.specs.Ranks.{Bindings, Bound, Communicator, Todo, Do, Await, Local, draft_of, word_of, Told}
+use Rattle.mpx_script.specs.Ranks.{Bindings, Bound, Communicator, NullCommunicator, Todo, Do, Await, Local, Told}
 use Rattle.mpx_script.specs.Evaluation.{State, start, goes_on}
 
 pub record System : Type 0 where
   pub world : WorldView
   pub ranks : State
 
+-- how communicators came to be, as far as a node's board knows
+abbrev pub node_births : NodeView → Name → Option BirthView
+node_births node name = told (node.board.contexts name).birth
+
 -- what the results that a node holds tell
 abbrev pub node_tells : NodeView → Results
-node_tells node name k = option_map (λ (f : Finished). f.outcome) (slice_get (results_on node name) k)
+node_tells node name k = option_map (λ (f : Finished). answer_with (node_births node) f.outcome) (slice_get (results_on node name) k)
 
--- the post of a draft on what a word is bound to
-abbrev pub posts_bound : ℕ → Draft → Option Bound → List Happening
-posts_bound p draft None = []
-posts_bound p draft (Some (Communicator name birth)) = Posts p name draft ∷ []
+-- the opening of a gathering and the post there; nothing where the gathering is refused
+abbrev pub posts_gathered : ℕ → Draft → (parent : Name) → Asked → Result GatheringView PostError → List Happening
+posts_gathered p draft parent asked (Ok g) = Gathers p parent asked.tag asked.ranks ∷ Posts p (gathering_name parent g) draft ∷ []
+posts_gathered p draft parent asked (Err refusal) = []
+
+abbrev pub posts_in : ℕ → Draft → Option Asked → Name → BirthView → List Happening
+posts_in p draft None name birth = Posts p name draft ∷ []
+posts_in p draft (Some asked) name birth = posts_gathered p draft name asked (gathering birth p (length name) asked.tag asked.ranks)
+
+-- what a statement gives a node to post on what its word is bound to
+abbrev pub posts_bound : ℕ → Statement → Option Bound → List Happening
+posts_bound p statement None = []
+posts_bound p statement (Some NullCommunicator) = []
+posts_bound p statement (Some (Communicator name birth)) = posts_in p (draft_of statement) (gathers_of statement) name birth
 
 -- what the next move of a rank gives its node to post
 abbrev pub posts_of : ℕ → Bindings → List Todo → List Happening
 posts_of p bound [] = []
-posts_of p bound (Do statement ∷ rest) = posts_bound p (draft_of statement) (named bound (word_of statement))
-posts_of p bound (Await name call ∷ rest) = []
+posts_of p bound (Do statement ∷ rest) = posts_bound p statement (named bound (word_of statement))
+posts_of p bound (Await name call target ∷ rest) = []
 
 -- something that makes no post, or a rank's next move by what its node tells, with the posts that it makes there
 pub data Doing : Type 0 where

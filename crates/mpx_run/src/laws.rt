@@ -1,7 +1,7 @@
 //! What is so after every list of doings, as a call that a contract can name: it does nothing.
 ghost use Rattle.std.specs.Prelude.{◌≡◌, ◌≤◌, List, ℕ, []};
 ghost use Rattle.mpx_script.specs.declared.statement.Statement.{Statement};
-ghost use Rattle.mpx_script.specs.Evaluation.{State, IsEvaluation, IsPrefixOf, statements_of};
+ghost use Rattle.mpx_script.specs.Evaluation.{State, IsEvaluation, IsPrefixOf, bound_at_start, statements_of};
 ghost use Rattle.mpx_script.specs.Told.{CarriesOut};
 ghost use Rattle.mpx_world.specs.Soundness.{Sound};
 ghost use Rattle.mpx_run.specs.Systems.{Doing, MayDoAll, TellsResults, does_all, node_tells, start_system};
@@ -19,7 +19,7 @@ pub fn every_run_begins_the_evaluation()
     ensures posts { (script : List (List Statement)) (ranks size : ℕ) (doings : List Doing) → MayDoAll ranks (start_system script ranks size) doings
         → (p : ℕ) → ((does_all (start_system script ranks size) doings).world.each p).made ≡ ((does_all (start_system script ranks size) doings).ranks p).made }
     ensures carries_out { (script : List (List Statement)) (ranks size : ℕ) (doings : List Doing) → MayDoAll ranks (start_system script ranks size) doings
-        → (p : ℕ) → CarriesOut (node_tells ((does_all (start_system script ranks size) doings).world.each p).node) (statements_of script p) ((does_all (start_system script ranks size) doings).ranks p) }
+        → (p : ℕ) → CarriesOut (node_tells ((does_all (start_system script ranks size) doings).world.each p).node) (bound_at_start ranks) (statements_of script p) ((does_all (start_system script ranks size) doings).ranks p) }
     ensures relays { (script : List (List Statement)) (ranks size : ℕ) (doings : List Doing) → MayDoAll ranks (start_system script ranks size) doings
         → (p : ℕ) → ranks ≤ p → ((does_all (start_system script ranks size) doings).world.each p).made ≡ [] }
     ensures sound { (script : List (List Statement)) (ranks size : ℕ) (doings : List Doing) → MayDoAll ranks (start_system script ranks size) doings

@@ -1,29 +1,47 @@
-ghost use Rattle.std.specs.Prelude.{◌≡◌, ◌<◌, ◌≤◌, ◌↔◌, IfOk, OnOk, IsTrue, Some, None, [], false, map, string_bytes};
+ghost use Rattle.std.specs.Prelude.{◌≡◌, ◌<◌, ◌≤◌, ◌↔◌, ℕ, List, IfOk, OnOk, IsTrue, Some, None, [], false, map, string_bytes};
+ghost use Rattle.std.specs.Option.{option_copied};
+ghost use Rattle.mpx_node.specs.Nodes.{Opens, checked_on, gathers_on};
+ghost use Rattle.mpx_node.specs.Shown.{node_of};
+ghost use Rattle.mpx_script.specs.Evaluation.{bound_at_start};
+ghost use Rattle.mpx_run.specs.Running.{KeepsNode, Tries, binds, communicator_in, given_name, names_in, tried_on, tried_post};
+ghost use Rattle.mpx_run.specs.Shown.{bound_of, wait_of};
 
-use join_core::{Join, OutOfMemory};
+use join_core::{Exact, Join, OutOfMemory};
 use mpx_board::Board;
 use mpx_group::Proc;
 use mpx_name::Name;
 use mpx_node::Node;
-use mpx_post::PostError;
-use mpx_script::{Statement, line, refused_line};
+use mpx_num::Numbers;
+use mpx_post::{Draft, PostError};
+use mpx_script::{Statement, Word, line, refused_line};
+use mpx_value::Outcome;
 use std::alloc::Global;
+use std::collections::BTreeMap;
 
-/// A process of a run: its node, the statements that are left, the call whose outcome it waits for, and its lines. A relay
-/// has no statements.
+// The call whose outcome a rank waits for, and the word that its new communicator gets.
+#[derive(Drop)]
+struct Wait<'a> {
+    name: Name,
+    call: u32,
+    target: Option<&'a Word>,
+}
+
+/// A process of a run: its node, the contexts that it looks at, what its words are bound to (None: the null communicator),
+/// the statements that are left, the call whose outcome it waits for, and its lines. A relay has no statements.
 #[derive(Drop)]
 pub(crate) struct Rank<'a> {
     node: Node,
+    contexts: Vec<Name>,
+    bound: BTreeMap<Word, Option<Name>>,
     todo: &'a [Statement],
-    waits: Option<u32>,
+    waits: Option<Wait<'a>>,
     lines: Vec<String>,
 }
 
 impl<'a> Rank<'a> {
     ghost use Rattle.mpx_board.specs.Looks.{look};
     ghost use Rattle.mpx_node.specs.Nodes.{start_node, learn};
-    ghost use Rattle.mpx_node.specs.Shown.{node_of};
-    ghost use Rattle.mpx_run.specs.Running.{Keeps, Moves, Receives, harvested, is_waiting, left_of};
+    ghost use Rattle.mpx_run.specs.Running.{Keeps, Moves, Receives, is_waiting, left_of};
     ghost use Rattle.mpx_run.specs.Shown.{rank_of};
 
     /// Process `me` of so many, of which the first are ranks, before its statements.
@@ -38,22 +56,33 @@ impl<'a> Rank<'a> {
         requires ranks { ranks ≤ processes }
         requires few { processes ≤ 64 }
         requires me { me < processes }
-        ensures { IfOk result (λ rank. rank_of rank ≡ record { node = start_node me ranks; todo = todo.now; waits = None; lines = [] }) }
+        ensures node { IfOk result (λ rank. (rank_of rank).node ≡ start_node me ranks) }
+        ensures bound { IfOk result (λ rank. (word : List ℕ) → (rank_of rank).bound word ≡ names_in (bound_at_start ranks) word) }
+        ensures todo { IfOk result (λ rank. (rank_of rank).todo ≡ todo.now) }
+        ensures waits { IfOk result (λ rank. (rank_of rank).waits ≡ None) }
+        ensures lines { IfOk result (λ rank. (rank_of rank).lines ≡ []) }
     {
         let node = Node::new(alloc, Proc::new(me), ranks, processes)?;
+        let mut contexts = Vec::new(alloc);
+        contexts.push(Name::world(alloc))?;
+        let bound = world_alone(alloc)?;
         Ok(Rank {
             node,
+            contexts,
+            bound,
             todo,
             waits: None,
             lines: Vec::new(alloc),
         })
     }
 
-    /// Goes on with the script until an outcome is missing: it looks for that of the last post before it posts anew. It
-    /// answers whether there was a move.
+    /// Goes on with the script until an outcome is missing: it looks for that of the last post before it posts anew. A rank
+    /// that waits has a result to store on that context alone; else it stores the next one of each context that it looks at.
+    /// It answers whether there was a move.
     pub(crate) fn go_on(&mut self, alloc: Global) -> Result<bool, OutOfMemory>
         ensures { OnOk result (Moves (rank_of self.old) (rank_of self.new)) }
     {
+        harvest_all(alloc, &mut self.node, &self.contexts, self.waits.is_some())?;
         let mut moved = false;
         while self.move_on(alloc)? {
             moved = true;
@@ -61,19 +90,12 @@ impl<'a> Rank<'a> {
         Ok(moved)
     }
 
-    /// Drops the posts that every rank has harvested, by what its board knows of that. It answers whether there were any.
-    pub(crate) fn prune(&mut self, alloc: Global) -> bool
+    /// Drops the posts that every member has harvested, of each context that it looks at, by what its board knows of that. It
+    /// answers whether there were any.
+    pub(crate) fn prune(&mut self) -> bool
         ensures { Keeps (rank_of self.old) (rank_of self.new) }
     {
-        let world = Name::world(alloc);
-        let dropped = self.node.board().dropped(&world);
-        let Some(floor) = self.node.board().floor(&world) else {
-            return false;
-        };
-        if floor <= dropped {
-            return false;
-        }
-        self.node.prune(&world, floor).is_ok()
+        prune_all(&mut self.node, &self.contexts)
     }
 
     /// Takes a frame: a part below its board changes nothing.
@@ -115,36 +137,29 @@ impl<'a> Rank<'a> {
         ensures moves { OnOk result (Moves (rank_of self.old) (rank_of self.new)) }
         ensures less { IfOk result (λ moved. IsTrue moved → left_of (rank_of self.new) < left_of (rank_of self.old)) }
     {
-        match self.waits {
-            Some(call) => self.hear(alloc, call),
+        match self.waits.take() {
+            Some(wait) => self.hear(alloc, wait),
             None => self.post_next(alloc),
         }
     }
 
-    // Waits for the outcome of a call.
-    fn hear(&mut self, alloc: Global, call: u32) -> Result<bool, OutOfMemory>
-        requires { (rank_of self.old).waits ≡ Some call }
-        ensures moves { OnOk result (Moves (rank_of self.old) (rank_of self.new)) }
-        ensures less { IfOk result (λ moved. IsTrue moved → left_of (rank_of self.new) < left_of (rank_of self.old)) }
+    // Looks for the outcome that it waits for.
+    fn hear(&mut self, alloc: Global, wait: Wait<'a>) -> Result<bool, OutOfMemory>
+        requires { (rank_of self.old).waits ≡ None }
+        ensures moves { OnOk result (Moves (record (rank_of self.old) { waits = Some (wait_of wait.entry) }) (rank_of self.new)) }
+        ensures less { IfOk result (λ moved. IsTrue moved → left_of (rank_of self.new) ≡ left_of (rank_of self.old)) }
     {
-        let world = Name::world(alloc);
-        self.harvest(alloc, &world)?;
-        let Some(finished) = self.node.result(&world, call) else {
+        self.node.harvest(alloc, &wait.name)?;
+        let Some(finished) = self.node.result(&wait.name, wait.call) else {
+            self.waits = Some(wait);
             return Ok(false);
         };
         let text = line(alloc, &finished.outcome)?;
+        let given = given_name(alloc, &finished.outcome)?;
         self.lines.push(text)?;
-        self.waits = None;
+        look_at_given(alloc, &mut self.contexts, &given)?;
+        bind(alloc, &mut self.bound, wait.target, given)?;
         Ok(true)
-    }
-
-    // Stores the next result of its node, where there is one.
-    fn harvest(&mut self, alloc: Global, world: &Name) -> Result<(), OutOfMemory>
-        requires { world.now ≡ [] }
-        ensures { OnOk result (rank_of self.new ≡ harvested (rank_of self.old)) }
-    {
-        self.node.harvest(alloc, world)?;
-        Ok(())
     }
 
     // Posts the next statement.
@@ -156,11 +171,13 @@ impl<'a> Rank<'a> {
         let Some((statement, rest)) = self.todo.split_first() else {
             return Ok(false);
         };
-        let draft = statement.draft()?;
-        match self.node.post(alloc, &Name::world(alloc), draft) {
-            Ok(call) => {
+        let on = context_of(&self.bound, statement.on());
+        match attempt(alloc, &mut self.node, on, statement) {
+            Ok((name, call)) => {
+                look_at_gathering(alloc, &mut self.contexts, &name, call)?;
                 self.todo = rest;
-                self.waits = Some(call);
+                let target = statement.target();
+                self.waits = Some(Wait { name, call, target });
                 Ok(true)
             }
             Err(refusal) => {
@@ -169,11 +186,200 @@ impl<'a> Rank<'a> {
                 }
                 let text = refused_line(alloc, refusal)?;
                 self.lines.push(text)?;
+                bind(alloc, &mut self.bound, statement.target(), None)?;
                 self.todo = rest;
                 Ok(true)
             }
         }
     }
+}
+
+// The communicator that a call gave, where it gave one, is looked at from now on.
+fn look_at_given(
+    alloc: Global,
+    contexts: &mut Vec<Name>,
+    given: &Option<Name>,
+) -> Result<(), OutOfMemory> {
+    if let Some(name) = given {
+        contexts.push(name.copy(alloc)?)?;
+    }
+    Ok(())
+}
+
+// So is a gathering, with the first call on it.
+fn look_at_gathering(
+    alloc: Global,
+    contexts: &mut Vec<Name>,
+    name: &Name,
+    call: u32,
+) -> Result<(), OutOfMemory> {
+    if call == 0 && name.is_gathering() {
+        contexts.push(name.copy(alloc)?)?;
+    }
+    Ok(())
+}
+
+// The communicator that a word is bound to, where it is one.
+fn context_of<'m>(bound: &'m BTreeMap<Word, Option<Name>>, word: &Word) -> Option<&'m Name>
+    ensures { option_copied result ≡ communicator_in (bound_of bound.now word.now) }
+{
+    match bound.get(word) {
+        Some(Some(name)) => Some(name),
+        Some(None) => None,
+        None => None,
+    }
+}
+
+// What a node has of a statement on what its word is bound to: the context and the number of the call, or the refusal.
+fn attempt(
+    alloc: Global,
+    node: &mut Node,
+    on: Option<&Name>,
+    statement: &Statement,
+) -> Result<(Name, u32), PostError>
+    ensures { Tries (tried_on statement.now (option_copied on.entry) (node_of node.old)) result (node_of node.new) }
+{
+    let Some(on) = on else {
+        return Err(PostError::NotMember);
+    };
+    let Ok(draft) = statement.draft(alloc) else {
+        return Err(PostError::OutOfMemory);
+    };
+    match statement {
+        Statement::CreateGroup { tag, ranks, .. } => {
+            let name = open_gathering(alloc, node, on, tag, ranks)?;
+            post(alloc, node, name, draft)
+        }
+        Statement::Call { .. } => post_on(alloc, node, on, draft),
+        Statement::New { .. } => post_on(alloc, node, on, draft),
+    }
+}
+
+fn open_gathering(
+    alloc: Global,
+    node: &mut Node,
+    parent: &Name,
+    tag: &i128,
+    ranks: &Numbers,
+) -> Result<Name, PostError>
+    ensures { Opens parent.now (gathers_on (node_of node.old) parent.now tag.now ranks.now) result (node_of node.old) (node_of node.new) }
+{
+    node.open_gathering(alloc, parent, *tag, ranks.as_slice())
+}
+
+fn post_on(
+    alloc: Global,
+    node: &mut Node,
+    on: &Name,
+    draft: Draft,
+) -> Result<(Name, u32), PostError>
+    ensures { Tries (tried_post on.now (checked_on (node_of node.old) on.now draft) (node_of node.old)) result (node_of node.new) }
+{
+    match on.copy(alloc) {
+        Ok(name) => post(alloc, node, name, draft),
+        Err(_) => Err(PostError::OutOfMemory),
+    }
+}
+
+fn post(alloc: Global, node: &mut Node, name: Name, draft: Draft) -> Result<(Name, u32), PostError>
+    ensures { Tries (tried_post name (checked_on (node_of node.old) name draft) (node_of node.old)) result (node_of node.new) }
+{
+    let call = node.post(alloc, &name, draft)?;
+    Ok((name, call))
+}
+
+// The communicator that an outcome gives.
+fn given_name(alloc: Global, outcome: &Outcome) -> Result<Option<Name>, OutOfMemory>
+    ensures { IfOk result (λ given. given ≡ given_name outcome.now) }
+{
+    match outcome {
+        Outcome::NewComm { name, .. } => Ok(Some(name.copy(alloc)?)),
+        Outcome::Nothing => Ok(None),
+        Outcome::Absent => Ok(None),
+        Outcome::Items(_) => Ok(None),
+        Outcome::Null => Ok(None),
+        Outcome::Fault(_) => Ok(None),
+    }
+}
+
+// `world` alone, bound to the world.
+fn world_alone(alloc: Global) -> Result<BTreeMap<Word, Option<Name>>, OutOfMemory>
+    ensures { IfOk result (λ bound. (ranks : ℕ) (word : List ℕ) → bound_of bound word ≡ names_in (bound_at_start ranks) word) }
+{
+    let mut bound = BTreeMap::new(alloc);
+    bound.insert(Word::new(alloc, b"world")?, Some(Name::world(alloc)))?;
+    Ok(bound)
+}
+
+// Binds a word, where there is one; what was bound stays.
+fn bind(
+    alloc: Global,
+    bound: &mut BTreeMap<Word, Option<Name>>,
+    target: Option<&Word>,
+    to: Option<Name>,
+) -> Result<(), OutOfMemory>
+    ensures { OnOk result ((word : List ℕ) → bound_of bound.new word ≡ binds (option_copied target.entry) to (bound_of bound.old) word) }
+{
+    let Some(word) = target else {
+        return Ok(());
+    };
+    if bound.contains_key(word) {
+        return Ok(());
+    }
+    bound.insert(word.copy(alloc)?, to)?;
+    Ok(())
+}
+
+// Stores the next result on each context, where there is one. A rank that waits has one on that context alone, and looks for
+// it by itself.
+fn harvest_all(
+    alloc: Global,
+    node: &mut Node,
+    contexts: &[Name],
+    waits: bool,
+) -> Result<(), OutOfMemory>
+    ensures { OnOk result (KeepsNode (node_of node.old) (node_of node.new)) }
+{
+    if waits {
+        return Ok(());
+    }
+    for name in contexts {
+        node.harvest(alloc, name)?;
+    }
+    Ok(())
+}
+
+// Drops on each context what all members have harvested. It answers whether there was anything.
+fn prune_all(node: &mut Node, contexts: &[Name]) -> bool
+    ensures { KeepsNode (node_of node.old) (node_of node.new) }
+{
+    let mut changed = false;
+    for name in contexts {
+        let pruned = prune_on(node, name);
+        changed |= pruned;
+    }
+    changed
+}
+
+// Whether the process is a member whose own front the dropped front has reached, which no floor passes.
+fn has_none_to_drop(node: &Node, name: &Name, dropped: u32) -> bool {
+    node.posted(name) > 0 && node.front(name) <= dropped
+}
+
+fn prune_on(node: &mut Node, name: &Name) -> bool
+    ensures { KeepsNode (node_of node.old) (node_of node.new) }
+{
+    let dropped = node.board().dropped(name);
+    if has_none_to_drop(node, name, dropped) {
+        return false;
+    }
+    let Some(floor) = node.board().floor(name) else {
+        return false;
+    };
+    if floor <= dropped {
+        return false;
+    }
+    node.prune(name, floor).is_ok()
 }
 
 fn is_want_of_memory(refusal: PostError) -> bool
@@ -189,5 +395,8 @@ fn is_want_of_memory(refusal: PostError) -> bool
         PostError::ItemOutOfRange => false,
         PostError::TooManyItems => false,
         PostError::CallsUsedUp => false,
+        PostError::DepthUsedUp => false,
+        PostError::BadGroup => false,
+        PostError::BadTag => false,
     }
 }

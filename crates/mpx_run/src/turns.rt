@@ -67,7 +67,7 @@ fn turn(
         → IsUnderWay script ranks size (map rank_of processes.new) (map part_of frames.new.items)) }
 {
     let moved = go_round(alloc, processes, count)?;
-    let pruned = prune_all(alloc, processes);
+    let pruned = prune_all(processes);
     if are_finished(processes, count) {
         return Ok(false);
     }
@@ -96,13 +96,13 @@ fn go_round(alloc: Global, processes: &mut [Rank<'_>], count: usize) -> Result<b
 }
 
 // Every process drops what it may. It answers whether one did.
-fn prune_all(alloc: Global, processes: &mut [Rank<'_>]) -> bool
+fn prune_all(processes: &mut [Rank<'_>]) -> bool
     ensures { (script : List (List Said)) (ranks size : ℕ) (frames : List Look) → IsUnderWay script ranks size (map rank_of processes.old) frames
         → IsUnderWay script ranks size (map rank_of processes.new) frames }
 {
     let mut changed = false;
     for p in 0..processes.len() {
-        let pruned = processes[p].prune(alloc);
+        let pruned = processes[p].prune();
         changed |= pruned;
     }
     changed

@@ -1,17 +1,26 @@
 -- The words of a call that is accepted.
-use Rattle.std.proofs.Common.{◌≡◌, Bool, true, false, not, ◌&&◌, cond, List, [], ◌∷◌, ℕ, ℤ, pos, Option, Some, None, is_some, refl, ap}
+use Rattle.std.proofs.Common.{◌≡◌, Bool, true, false, not, ◌&&◌, ◌||◌, cond, List, [], ◌∷◌, ℕ, ℤ, pos, Option, Some, None, is_some, refl, ap, ◌∙◌}
 use Rattle.std.specs.List.{list_any}
 use Rattle.std.specs.Option.{option_map}
 use Rattle.mpx_num.specs.Text.{number_of}
 use Rattle.mpx_post.specs.declared.kinds.Kind.{Kind}
 use Rattle.mpx_post.specs.Kinds.{fields_of}
-use Rattle.mpx_script.specs.Grammar.{CallSyntax, fails, is_number, is_list, is_one, list_named, rcounts_named, has_strange_number, has_strange_list}
-use Rattle.mpx_script.specs.Sentences.{draft_refusal, read_at}
+use Rattle.mpx_script.specs.Grammar.{NewSyntax, CallSyntax, fails, is_number, is_list, is_one, colour_named, list_named, rcounts_named, has_strange_number, has_strange_list}
+use Rattle.mpx_script.specs.Sentences.{IsRefusal, draft_refusal, fields_refusal, read_at}
+use Rattle.mpx_script.specs.declared.faults.LineError.{LineError}
+use Rattle.mpx_script.specs.declared.faults.LineError.TheVariants.{Fault, OutOfMemory}
+use Rattle.mpx_script.specs.declared.faults.ScriptFault.{ScriptFault}
+use Rattle.mpx_script.specs.declared.faults.ScriptFault.TheVariants.{BadNumber, BadList}
 
 -- what says something doesn't fail
-read_says : {A : Type 0} (meaning : List ℕ → Option A) (other : A) (word : Option (List ℕ)) (x : A) → read_at meaning other word ≡ Some x → fails (λ word. is_some (meaning word)) word ≡ false
+pub read_says : {A : Type 0} (meaning : List ℕ → Option A) (other : A) (word : Option (List ℕ)) (x : A) → read_at meaning other word ≡ Some x → fails (λ word. is_some (meaning word)) word ≡ false
 read_says meaning other None x h = refl
 read_says meaning other (Some word) x h = ap (λ said. not (is_some said)) h
+
+-- and what says nothing does
+pub read_nothing : {A : Type 0} (meaning : List ℕ → Option A) (other : A) (word : Option (List ℕ)) → read_at meaning other word ≡ None → fails (λ word. is_some (meaning word)) word ≡ true
+read_nothing meaning other None h = cc
+read_nothing meaning other (Some word) h = ap (λ said. not (is_some said)) h
 
 mapped_some : (number : Option ℤ) (x : List ℤ) → option_map (λ count. count ∷ []) number ≡ Some x → not (is_some number) ≡ false
 mapped_some None x h = cc
@@ -24,11 +33,45 @@ rcounts_says false None x h = (refl, refl)
 rcounts_says true (Some word) x h = (mapped_some (number_of word) x h, refl)
 rcounts_says false (Some word) x h = (refl, ap (λ said. not (is_some said)) h)
 
-pub draft_accepted : (kind : Kind) (p : CallSyntax) (root : ℤ) (scounts rcounts : List ℤ) → read_at number_of (pos 0) p.root ≡ Some root → list_any (λ word. not (is_number word)) p.items ≡ false → read_at (rcounts_named (fields_of kind).rcounts) [] p.rcounts ≡ Some rcounts → read_at list_named [] p.scounts ≡ Some scounts → draft_refusal kind p ≡ None
-draft_accepted kind p root scounts rcounts at_root items at_rcounts at_scounts =
+pub fields_accepted : (kind : Kind) (p : CallSyntax) (root : ℤ) (scounts rcounts : List ℤ) → read_at number_of (pos 0) p.root ≡ Some root → list_any (λ word. not (is_number word)) p.items ≡ false → read_at (rcounts_named (fields_of kind).rcounts) [] p.rcounts ≡ Some rcounts → read_at list_named [] p.scounts ≡ Some scounts → fields_refusal kind p ≡ None
+fields_accepted kind p root scounts rcounts at_root items at_rcounts at_scounts =
     let received = rcounts_says (is_one (fields_of kind).rcounts) p.rcounts rcounts at_rcounts in
     let root_says = read_says number_of (pos 0) p.root root at_root in
     let sent_says = read_says list_named [] p.scounts scounts at_scounts in
     let numbers : has_strange_number (fields_of kind) p ≡ false = rw (root_says, received.0, items) in
     let lists : has_strange_list (fields_of kind) p ≡ false = rw (sent_says, received.1) in
     rw (numbers, lists)
+
+first_kept : (numbers lists ranks : Bool) (what : ScriptFault) → cond numbers (Some BadNumber) (cond lists (Some BadList) None) ≡ Some what → cond numbers (Some BadNumber) (cond (lists || ranks) (Some BadList) None) ≡ Some what
+first_kept true lists ranks what h = h
+first_kept false true ranks what h = h
+first_kept false false ranks what h = cc
+
+ranks_left : (numbers lists ranks : Bool) → cond numbers (Some BadNumber) (cond lists (Some BadList) None) ≡ None → cond numbers (Some BadNumber) (cond (lists || ranks) (Some BadList) None) ≡ cond ranks (Some BadList) None
+ranks_left true lists ranks h = cc
+ranks_left false true ranks h = cc
+ranks_left false false ranks h = refl
+
+-- What is said of a new communicator
+module _ (kind : Kind) (new : NewSyntax) (p : CallSyntax) where
+  pub refusal_of_colour : read_at colour_named None new.colour ≡ None → draft_refusal kind new p ≡ Some BadNumber
+  refusal_of_colour h = rw (read_nothing colour_named None new.colour h) refl
+
+  module _ (colour : Option ℤ) (at_colour : read_at colour_named None new.colour ≡ Some colour) where
+    pub refusal_of_key : read_at number_of (pos 0) new.key ≡ None → draft_refusal kind new p ≡ Some BadNumber
+    refusal_of_key h = rw (read_says colour_named None new.colour colour at_colour, read_nothing number_of (pos 0) new.key h) refl
+
+    module _ (key : ℤ) (at_key : read_at number_of (pos 0) new.key ≡ Some key) where
+      behind_choice : draft_refusal kind new p ≡ cond (has_strange_number (fields_of kind) p) (Some BadNumber) (cond (has_strange_list (fields_of kind) p || fails is_list new.ranks) (Some BadList) None)
+      behind_choice = rw (read_says colour_named None new.colour colour at_colour, read_says number_of (pos 0) new.key key at_key) refl
+
+      pub refusal_of_fields : (e : LineError) → IsRefusal (fields_refusal kind p) e → IsRefusal (draft_refusal kind new p) e
+      refusal_of_fields OutOfMemory h = tt
+      refusal_of_fields (Fault what) h = behind_choice ∙ first_kept _ _ _ what h
+
+      -- its fields are in order
+      pub refusal_of_ranks : fields_refusal kind p ≡ None → read_at list_named [] new.ranks ≡ None → draft_refusal kind new p ≡ Some BadList
+      refusal_of_ranks fine h = behind_choice ∙ ranks_left _ _ _ fine ∙ rw (read_nothing list_named [] new.ranks h) refl
+
+      pub draft_accepted : (group : List ℤ) → fields_refusal kind p ≡ None → read_at list_named [] new.ranks ≡ Some group → draft_refusal kind new p ≡ None
+      draft_accepted group fine h = behind_choice ∙ ranks_left _ _ _ fine ∙ rw (read_says list_named [] new.ranks group h) refl

@@ -1,20 +1,20 @@
 -- Scripts and what they are read as.
-use Rattle.std.proofs.Common.{◌≡◌, ℕ, List, [], ◌∷◌, ◌++◌, codes, map, pos, negsuc, Result, Ok, Err, refl}
+use Rattle.std.proofs.Common.{◌≡◌, ℕ, List, [], ◌∷◌, ◌++◌, codes, map, pos, negsuc, Some, None, Result, Ok, Err, refl}
 use Rattle.mpx_num.specs.Text.{number_of, magnitude}
 use Rattle.mpx_num.specs.declared.types.Ty.TheVariants.{I8, I32, I64, U8, U64, TwoInt}
 use Rattle.mpx_num.specs.declared.operations.Op.TheVariants.{Sum, Max}
 use Rattle.mpx_post.specs.declared.kinds.Kind.{Kind}
-use Rattle.mpx_post.specs.declared.kinds.Kind.TheVariants.{Barrier, Bcast, Gatherv, Scatterv, Allreduce, ReduceScatter}
-use Rattle.mpx_post.specs.declared.kinds.Mode.TheVariants.{Blocking}
+use Rattle.mpx_post.specs.declared.kinds.Kind.TheVariants.{Barrier, Bcast, Gatherv, Scatterv, Allreduce, ReduceScatter, Dup, Split, Create}
 use Rattle.mpx_post.specs.declared.draft.Draft.{Draft}
+use Rattle.mpx_post.specs.Kinds.{blocking}
 use Rattle.mpx_script.specs.Words.{words, counts, is_ascii}
-use Rattle.mpx_script.specs.Grammar.{ranks_number, kind_named, operation_named, type_named, list_named, call_in, label_of, statements_in, is_name, is_communicator, lacks_ranks, has_ranks_out_of_range, has_rank_out_of_range, is_unknown, has_wrong_words, has_bad_number, has_bad_list, has_bad_name, has_unknown_name, names_rank, statement_in}
+use Rattle.mpx_script.specs.Grammar.{ranks_number, kind_named, operation_named, type_named, list_named, new_in, call_in, label_of, statements_in, is_name, colour_named, lacks_ranks, has_ranks_out_of_range, has_rank_out_of_range, is_unknown, has_wrong_words, has_bad_number, has_bad_list, has_bad_name, has_unknown_name, has_taken_name, names_rank, statement_in}
 use Rattle.mpx_script.specs.ScriptView.{ScriptView}
 use Rattle.mpx_script.specs.Reading.{reading}
 use Rattle.mpx_script.specs.declared.statement.Statement.{Statement}
-use Rattle.mpx_script.specs.declared.statement.Statement.TheVariants.{Call}
+use Rattle.mpx_script.specs.declared.statement.Statement.TheVariants.{Call, New, CreateGroup}
 use Rattle.mpx_script.specs.declared.faults.ScriptFault.{ScriptFault}
-use Rattle.mpx_script.specs.declared.faults.ScriptFault.TheVariants.{NoRanksLine, RanksOutOfRange, RankOutOfRange, UnknownStatement, WrongWords, BadNumber, BadList, NameUnknown}
+use Rattle.mpx_script.specs.declared.faults.ScriptFault.TheVariants.{NoRanksLine, RanksOutOfRange, RankOutOfRange, UnknownStatement, WrongWords, BadNumber, BadList, BadName, NameUnknown, NameTaken}
 use Rattle.mpx_script.specs.declared.faults.ScriptError.{ScriptError}
 
 -- lines, each with its newline
@@ -31,14 +31,18 @@ refused_at line what = Err (record { line = line; what = what })
 
 -- a draft that tells its kind alone
 abbrev blank : Kind → Draft
-blank kind = record { kind = kind; mode = Blocking; root = pos 0; op = Sum; ty = I8; scounts = []; rcounts = []; items = [] }
+blank kind = record { call = blocking kind; root = pos 0; op = Sum; ty = I8; scounts = []; rcounts = []; items = []; colour = None; key = pos 0; group = [] }
 
 sum_of : List ℕ → Statement
-sum_of items = Call (record (blank Allreduce) { ty = I64; items = map pos items })
+sum_of items = Call (codes "world") (record (blank Allreduce) { ty = I64; items = map pos items })
 
 -- one rank with this statement
 says : Draft → Result ScriptView ScriptError
-says draft = Ok (record { ranks = 1; statements = (Call draft ∷ []) ∷ [] })
+says draft = Ok (record { ranks = 1; statements = (Call (codes "world") draft ∷ []) ∷ [] })
+
+-- one rank with this statement that makes a communicator
+makes : Statement → Result ScriptView ScriptError
+makes statement = Ok (record { ranks = 1; statements = (statement ∷ []) ∷ [] })
 
 -- scripts that are read, and first refusals
 record Examples : Type 0 where
@@ -67,9 +71,26 @@ record Examples : Type 0 where
   list_for_a_count : reading (alone (codes "0: bcast world 0 i32 1,2 3")) ≡ refused_at 2 BadNumber
   gap_in_a_list : reading (alone (codes "0: alltoallv world i32 1,,2 1 3")) ≡ refused_at 2 BadList
   not_bound : reading (script (codes "ranks 1" ∷ codes "-0: allreduce a_1 sum i64" ∷ codes "x" ∷ [])) ≡ refused_at 2 NameUnknown
+  dup : reading (alone (codes "0: dup world -> a")) ≡ makes (New (codes "world") (blank Dup) (codes "a"))
+  split : reading (alone (codes "0: split world -1 7 -> b_2")) ≡ makes (New (codes "world") (record (blank Split) { colour = Some (negsuc 0); key = pos 7 }) (codes "b_2"))
+  no_colour : reading (alone (codes "0: split world undefined 0 -> null")) ≡ makes (New (codes "world") (blank Split) (codes "null"))
+  create : reading (alone (codes "0: create world 2,0 -> a")) ≡ makes (New (codes "world") (record (blank Create) { group = pos 2 ∷ pos 0 ∷ [] }) (codes "a"))
+  create_group : reading (alone (codes "0: create_group world 9 - -> a")) ≡ makes (CreateGroup (codes "world") (pos 9) [] (codes "a"))
+  bound_before : reading (script (codes "ranks 1" ∷ codes "*: dup world -> a" ∷ codes "0: barrier a" ∷ [])) ≡ Ok (record { ranks = 1; statements = (New (codes "world") (blank Dup) (codes "a") ∷ Call (codes "a") (blank Barrier) ∷ []) ∷ [] })
+  bound_elsewhere : reading (script (codes "ranks 2" ∷ codes "0: dup world -> a" ∷ codes "*: barrier a" ∷ [])) ≡ refused_at 3 NameUnknown
+  bound_already : reading (script (codes "ranks 2" ∷ codes "1: dup world -> a" ∷ codes "*: dup world -> a" ∷ [])) ≡ refused_at 3 NameTaken
+  bound_later : reading (alone (codes "0: dup a -> a")) ≡ refused_at 2 NameUnknown
+  world_again : reading (alone (codes "0: dup world -> world")) ≡ refused_at 2 NameTaken
+  no_arrow : reading (alone (codes "0: dup world = Zz")) ≡ refused_at 2 WrongWords
+  list_left_out : reading (alone (codes "0: create world -> a")) ≡ refused_at 2 WrongWords
+  word_behind_name : reading (alone (codes "0: dup world -> a b")) ≡ refused_at 2 WrongWords
+  strange_colour : reading (alone (codes "0: split world Undefined 0 -> a")) ≡ refused_at 2 BadNumber
+  tag_and_list : reading (alone (codes "0: create_group world 1,2 x -> a")) ≡ refused_at 2 BadNumber
+  strange_rank : reading (alone (codes "0: create_group world 1 0,x -> a")) ≡ refused_at 2 BadList
+  strange_name : reading (alone (codes "0: dup nope -> Zz")) ≡ refused_at 2 BadName
 
 examples : Examples
-unfolding script alone refused_at sum_of says number_of magnitude words counts is_ascii ranks_number kind_named operation_named type_named list_named call_in label_of statements_in is_name is_communicator lacks_ranks has_ranks_out_of_range has_rank_out_of_range is_unknown has_wrong_words has_bad_number has_bad_list has_bad_name has_unknown_name names_rank statement_in reading
+unfolding script alone refused_at sum_of says makes number_of magnitude words counts is_ascii ranks_number kind_named operation_named type_named list_named new_in call_in label_of statements_in is_name colour_named lacks_ranks has_ranks_out_of_range has_rank_out_of_range is_unknown has_wrong_words has_bad_number has_bad_list has_bad_name has_unknown_name has_taken_name names_rank statement_in reading
 examples = record {
   three_ranks = refl;
   every_rank = refl;
@@ -91,4 +112,21 @@ examples = record {
   list_for_a_count = refl;
   gap_in_a_list = refl;
   not_bound = refl;
+  dup = refl;
+  split = refl;
+  no_colour = refl;
+  create = refl;
+  create_group = refl;
+  bound_before = refl;
+  bound_elsewhere = refl;
+  bound_already = refl;
+  bound_later = refl;
+  world_again = refl;
+  no_arrow = refl;
+  list_left_out = refl;
+  word_behind_name = refl;
+  strange_colour = refl;
+  tag_and_list = refl;
+  strange_rank = refl;
+  strange_name = refl;
 }

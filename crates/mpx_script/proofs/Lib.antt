@@ -2,6 +2,7 @@ pub mod Splits
 pub mod Refusals
 pub mod Accepted
 pub mod Added
+pub mod Names
 pub mod Settling
 pub mod Progress
 pub mod Fronts

@@ -9,8 +9,8 @@ use Rattle.std.proofs.lemmas.List.{take_all, take_more, drop-drop, get_or-drop, 
 use Rattle.std.proofs.lemmas.List.Elements.{filter-append}
 use Rattle.mpx_script.specs.Words.{words, counts, counting, is_ascii, is_over_limit, script_lines, with_first_line, bytes_limit}
 use Rattle.mpx_script.specs.ScriptView.{ScriptView}
-use Rattle.mpx_script.specs.Reading.{LineContext, refusal, bounded_context, context_at, error_at, errors, read_as, reading, script_of, ranks_settled, statements_settled, is_bare_script}
-use Rattle.mpx_script.specs.PartialScripts.{IsSettled, script_settled, ranks_of}
+use Rattle.mpx_script.specs.Reading.{LineContext, refusal, bounded_context, context_at, error_at, errors, read_as, reading, script_of, ranks_settled, statements_settled, bound_settled, is_bare_script}
+use Rattle.mpx_script.specs.PartialScripts.{IsSettled, script_settled, ranks_of_script, bound_of_script}
 use Rattle.mpx_script.specs.Sentences.{IsRefusal}
 use Rattle.mpx_script.specs.Answer.{Answers, at_line}
 use Rattle.mpx_script.specs.declared.faults.LineError.{LineError}
@@ -51,7 +51,7 @@ some_line b bs =
 
 -- Bare scripts
 
-bare_refusal : (line : List ℕ) (a c : Bool) → is_ascii line ≡ a → counts (words line) ≡ c → refusal (record { line = line; is_cut = false; is_bare = true; ranks = None; statements = 0 }) ≡ Some (cond (is_ascii line) NoRanksLine NotAscii)
+bare_refusal : (line : List ℕ) (a c : Bool) → is_ascii line ≡ a → counts (words line) ≡ c → refusal (record { line = line; is_cut = false; is_bare = true; ranks = None; statements = 0; bound = [] }) ≡ Some (cond (is_ascii line) NoRanksLine NotAscii)
 bare_refusal line true true e f = rw (e, f)
 bare_refusal line true false e f = rw (e, f)
 bare_refusal line false c e f = rw e
@@ -65,11 +65,11 @@ has_first : (ls : List (List ℕ)) → (first : List ℕ) × (more : List (List 
 has_first [] = ([], [], refl)
 has_first (l ∷ ls) = (l, ls, refl)
 
-bare_context : (text : List ℕ) → is_bare_script text ≡ true → context_at text 0 ≡ record { line = get_or (script_lines text) 0 []; is_cut = false; is_bare = true; ranks = None; statements = 0 }
+bare_context : (text : List ℕ) → is_bare_script text ≡ true → context_at text 0 ≡ record { line = get_or (script_lines text) 0 []; is_cut = false; is_bare = true; ranks = None; statements = 0; bound = [] }
 bare_context text bare =
     let within : is_over_limit text ≡ false = not-true (is_over_limit text) (and_parts (not (is_over_limit text)) (length (counting (script_lines text)) == 0) bare).0 in
     let cut : (is_over_limit text && (1 == length (script_lines text))) ≡ false = rw within refl in
-    λ i. record { line = get_or (script_lines text) 0 []; is_cut = cut i; is_bare = bare i; ranks = None; statements = 0 }
+    λ i. record { line = get_or (script_lines text) 0 []; is_cut = cut i; is_bare = bare i; ranks = None; statements = 0; bound = [] }
 
 -- a bare script is refused at its first line
 pub bare_reading : (text : List ℕ) → is_bare_script text ≡ true → reading text ≡ Err (record { line = 1; what = cond (is_ascii (get_or (script_lines text) 0 [])) NoRanksLine NotAscii })
@@ -126,6 +126,10 @@ ranks_same : (before : List (List (List ℕ))) → option_map (λ s. s.ranks) (s
 ranks_same [] = refl
 ranks_same (opening ∷ further) = refl
 
+bound_same : (before : List (List (List ℕ))) → bound_of_script (script_settled before) ≡ bound_settled before
+bound_same [] = refl
+bound_same (opening ∷ further) = refl
+
 is_last : (after : List ℕ) (n number : ℕ) (more : List (List ℕ)) → lines after ≡ more → length more + number + 1 ≡ n → (length after == 0) ≡ (number + 1 == n)
 is_last [] n number more e f = let none : 0 ≡ length more = ap length e in grind (arith, nat_tests)
 is_last (b ∷ bs) n number more e f = let some : length (lines (b ∷ bs)) ≡ length more = ap length e in let filled : 0 < length (lines (b ∷ bs)) = some_line b bs in grind (arith, nat_tests)
@@ -151,18 +155,19 @@ next_line_of text rest line after number left split =
     }
 
 -- that line, as the reader asks it
-context_is : (text line after : List ℕ) (number : ℕ) (partial : PartialScript) (cut : Bool) → is_bare_script text ≡ false → IsSettled (counting (take number (script_lines text))) partial → NextLine text line after number → cut ≡ (is_over_limit text && (length after == 0)) → context_at text number ≡ bounded_context line cut (ranks_of partial) partial.statements
+context_is : (text line after : List ℕ) (number : ℕ) (partial : PartialScript) (cut : Bool) → is_bare_script text ≡ false → IsSettled (counting (take number (script_lines text))) partial → NextLine text line after number → cut ≡ (is_over_limit text && (length after == 0)) → context_at text number ≡ bounded_context line cut (ranks_of_script partial.script) partial.statements (bound_of_script partial.script)
 context_is text line after number partial cut bare settled next cut_is =
     let before : List (List (List ℕ)) = counting (take number (script_lines text)) in
     let is_cut : (is_over_limit text && (number + 1 == length (script_lines text))) ≡ cut = ap (λ b. is_over_limit text && b) (sym next.last) ∙ sym cut_is in
     let is_bare : ((number == 0) && is_bare_script text) ≡ false = and_right (number == 0) (is_bare_script text) bare in
-    let ranks : ranks_settled before ≡ ranks_of partial = sym (ranks_same before) ∙ ap (option_map (λ s. s.ranks)) (sym settled.script) in
+    let ranks : ranks_settled before ≡ ranks_of_script partial.script = sym (ranks_same before) ∙ ap (option_map (λ s. s.ranks)) (sym settled.script) in
     let statements : statements_settled before ≡ partial.statements = sym settled.statements in
+    let bound : bound_settled before ≡ bound_of_script partial.script = sym (bound_same before) ∙ ap bound_of_script (sym settled.script) in
     let line_is : get_or (script_lines text) number [] ≡ line = next.line_is in
-    λ i. record { line = line_is i; is_cut = is_cut i; is_bare = is_bare i; ranks = ranks i; statements = statements i }
+    λ i. record { line = line_is i; is_cut = is_cut i; is_bare = is_bare i; ranks = ranks i; statements = statements i; bound = bound i }
 
 -- the next line isn't refused
-pub progress_more : (text rest line after : List ℕ) (number : ℕ) (partial then : PartialScript) (cut : Bool) → is_bare_script text ≡ false → Progress text rest number partial → lines rest ≡ line ∷ lines after → cut ≡ (is_over_limit text && (length after == 0)) → refusal (bounded_context line cut (ranks_of partial) partial.statements) ≡ None → ((before : List (List (List ℕ))) → IsSettled before partial → IsSettled (before ++ filter counts (words line ∷ [])) then) → Progress text after (number + 1) then
+pub progress_more : (text rest line after : List ℕ) (number : ℕ) (partial then : PartialScript) (cut : Bool) → is_bare_script text ≡ false → Progress text rest number partial → lines rest ≡ line ∷ lines after → cut ≡ (is_over_limit text && (length after == 0)) → refusal (bounded_context line cut (ranks_of_script partial.script) partial.statements (bound_of_script partial.script)) ≡ None → ((before : List (List (List ℕ))) → IsSettled before partial → IsSettled (before ++ filter counts (words line ∷ [])) then) → Progress text after (number + 1) then
 progress_more text rest line after number partial then cut bare p split cut_is accepted settles =
     let next : NextLine text line after number = next_line_of text rest line after number p.left split in
     let all : List (List ℕ) = script_lines text in
@@ -177,7 +182,7 @@ progress_more text rest line after number partial then cut bare p split cut_is a
     }
 
 -- the next line is refused
-progress_refused : (text rest line after : List ℕ) (number : ℕ) (partial : PartialScript) (cut : Bool) (what : ScriptFault) → is_bare_script text ≡ false → Progress text rest number partial → lines rest ≡ line ∷ lines after → cut ≡ (is_over_limit text && (length after == 0)) → refusal (bounded_context line cut (ranks_of partial) partial.statements) ≡ Some what → reading text ≡ Err (record { line = number + 1; what = what })
+progress_refused : (text rest line after : List ℕ) (number : ℕ) (partial : PartialScript) (cut : Bool) (what : ScriptFault) → is_bare_script text ≡ false → Progress text rest number partial → lines rest ≡ line ∷ lines after → cut ≡ (is_over_limit text && (length after == 0)) → refusal (bounded_context line cut (ranks_of_script partial.script) partial.statements (bound_of_script partial.script)) ≡ Some what → reading text ≡ Err (record { line = number + 1; what = what })
 unfolding reading
 progress_refused text rest line after number partial cut what bare p split cut_is refused =
     let next : NextLine text line after number = next_line_of text rest line after number p.left split in
@@ -188,7 +193,7 @@ progress_refused text rest line after number partial cut what bare p split cut_i
     (ap (error_at text) shift ∙ ap (option_map (λ w. record { line = number + 1; what = w })) here)
     next.within
 
-pub progress_fault : (text rest line after : List ℕ) (number : ℕ) (partial : PartialScript) (cut : Bool) (e : LineError) → is_bare_script text ≡ false → Progress text rest number partial → lines rest ≡ line ∷ lines after → cut ≡ (is_over_limit text && (length after == 0)) → IsRefusal (refusal (bounded_context line cut (ranks_of partial) partial.statements)) e → Answers (Err (at_line (number + 1) e)) (reading text)
+pub progress_fault : (text rest line after : List ℕ) (number : ℕ) (partial : PartialScript) (cut : Bool) (e : LineError) → is_bare_script text ≡ false → Progress text rest number partial → lines rest ≡ line ∷ lines after → cut ≡ (is_over_limit text && (length after == 0)) → IsRefusal (refusal (bounded_context line cut (ranks_of_script partial.script) partial.statements (bound_of_script partial.script))) e → Answers (Err (at_line (number + 1) e)) (reading text)
 progress_fault text rest line after number partial cut OutOfMemory bare p split cut_is refused = tt
 progress_fault text rest line after number partial cut (Fault what) bare p split cut_is refused = progress_refused text rest line after number partial cut what bare p split cut_is refused
 

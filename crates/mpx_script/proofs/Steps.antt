@@ -4,69 +4,69 @@ use Rattle.std.specs.Prelude.{Result, Ok, Err}
 use Rattle.std.proofs.lemmas.Option.{same_Some}
 use Rattle.mpx_name.specs.Name.{Name}
 use Rattle.mpx_post.specs.declared.draft.PostError.{PostError}
-use Rattle.mpx_value.specs.declared.outcomes.Outcome.{Outcome}
-use Rattle.mpx_value.specs.Histories.{Made, Results}
+use Rattle.mpx_value.specs.Histories.{Answer, Made, Results}
 use Rattle.mpx_script.specs.declared.statement.Statement.{Statement}
-use Rattle.mpx_script.specs.Ranks.{Todo, Do, Await, Local, Act, Told, Refused, attempt, done, next_call, next_of, posts_or_refuses, step_by, step, weights}
+use Rattle.mpx_script.specs.Statements.{target_of}
+use Rattle.mpx_script.specs.Ranks.{Todo, Do, Await, Local, Act, NullCommunicator, Told, Refused, attempt, bind, bound_by, done, next_call, next_of, posts_or_refuses, step_by, step, weights}
 
--- it hears an outcome
-abbrev pub heard : Local → Name → (call : ℕ) → List Todo → Outcome → Act
-heard s name call rest outcome = record { bound = s.bound; todo = rest; made = []; lines = Told name call outcome ∷ [] }
+-- it hears an answer
+abbrev pub heard : Local → Name → (call : ℕ) → (target : Option (List ℕ)) → List Todo → Answer → Act
+heard s name call target rest answer = record { bound = bind target (bound_by answer.outcome answer.born) s.bound; todo = rest; made = []; lines = Told name call answer.outcome ∷ [] }
 
 -- it makes a post, and waits
-abbrev pub posted : Local → List Todo → Made → Act
-posted s rest m = record { bound = s.bound; todo = Await m.name (next_call m.name s.made) ∷ rest; made = m ∷ []; lines = [] }
+abbrev pub posted : Local → (target : Option (List ℕ)) → List Todo → Made → Act
+posted s target rest m = record { bound = s.bound; todo = Await m.name (next_call m.name s.made) target ∷ rest; made = m ∷ []; lines = [] }
 
 -- it is refused
-abbrev pub turned_down : Local → List Todo → PostError → Act
-turned_down s rest refusal = record { bound = s.bound; todo = rest; made = []; lines = Refused refusal ∷ [] }
+abbrev pub turned_down : Local → (target : Option (List ℕ)) → List Todo → PostError → Act
+turned_down s target rest refusal = record { bound = bind target NullCommunicator s.bound; todo = rest; made = []; lines = Refused refusal ∷ [] }
 
 module _ (r : Results) (s : Local) where
   pub step_ends : s.todo ≡ [] → step r s ≡ None
   step_ends e = ap (λ todo. step_by r s (next_of s todo)) e
 
-  pub step_hears : (name : Name) (call : ℕ) (rest : List Todo) (outcome : Outcome) → s.todo ≡ Await name call ∷ rest → r name call ≡ Some outcome → step r s ≡ Some (done s (heard s name call rest outcome))
-  step_hears name call rest outcome e f = ap (λ todo. step_by r s (next_of s todo)) e ∙ rw f
+  pub step_hears : (name : Name) (call : ℕ) (target : Option (List ℕ)) (rest : List Todo) (answer : Answer) → s.todo ≡ Await name call target ∷ rest → r name call ≡ Some answer → step r s ≡ Some (done s (heard s name call target rest answer))
+  step_hears name call target rest answer e f = ap (λ todo. step_by r s (next_of s todo)) e ∙ rw f
 
-  pub step_waits : (name : Name) (call : ℕ) (rest : List Todo) → s.todo ≡ Await name call ∷ rest → r name call ≡ None → step r s ≡ None
-  step_waits name call rest e f = ap (λ todo. step_by r s (next_of s todo)) e ∙ rw f
+  pub step_waits : (name : Name) (call : ℕ) (target : Option (List ℕ)) (rest : List Todo) → s.todo ≡ Await name call target ∷ rest → r name call ≡ None → step r s ≡ None
+  step_waits name call target rest e f = ap (λ todo. step_by r s (next_of s todo)) e ∙ rw f
 
-  pub step_posts : (statement : Statement) (rest : List Todo) (m : Made) → s.todo ≡ Do statement ∷ rest → attempt s.me s.bound s.made statement ≡ Ok m → step r s ≡ Some (done s (posted s rest m))
-  step_posts statement rest m e f = ap (λ todo. step_by r s (next_of s todo)) e ∙ ap (λ x. step_by r s (posts_or_refuses s rest x)) f
+  pub step_posts : (statement : Statement) (rest : List Todo) (m : Made) → s.todo ≡ Do statement ∷ rest → attempt s.me s.bound s.made statement ≡ Ok m → step r s ≡ Some (done s (posted s (target_of statement) rest m))
+  step_posts statement rest m e f = ap (λ todo. step_by r s (next_of s todo)) e ∙ ap (λ x. step_by r s (posts_or_refuses s rest (target_of statement) x)) f
 
-  pub step_refused : (statement : Statement) (rest : List Todo) (refusal : PostError) → s.todo ≡ Do statement ∷ rest → attempt s.me s.bound s.made statement ≡ Err refusal → step r s ≡ Some (done s (turned_down s rest refusal))
-  step_refused statement rest refusal e f = ap (λ todo. step_by r s (next_of s todo)) e ∙ ap (λ x. step_by r s (posts_or_refuses s rest x)) f
+  pub step_refused : (statement : Statement) (rest : List Todo) (refusal : PostError) → s.todo ≡ Do statement ∷ rest → attempt s.me s.bound s.made statement ≡ Err refusal → step r s ≡ Some (done s (turned_down s (target_of statement) rest refusal))
+  step_refused statement rest refusal e f = ap (λ todo. step_by r s (next_of s todo)) e ∙ ap (λ x. step_by r s (posts_or_refuses s rest (target_of statement) x)) f
 
 -- what holds of a rank after each kind of step holds after its step
 module _ (r : Results) (s : Local) (P : Local → Type 0)
-    (posts : (statement : Statement) (rest : List Todo) (m : Made) → s.todo ≡ Do statement ∷ rest → attempt s.me s.bound s.made statement ≡ Ok m → P (done s (posted s rest m)))
-    (refuses : (statement : Statement) (rest : List Todo) (refusal : PostError) → s.todo ≡ Do statement ∷ rest → attempt s.me s.bound s.made statement ≡ Err refusal → P (done s (turned_down s rest refusal)))
-    (hears : (name : Name) (call : ℕ) (rest : List Todo) (outcome : Outcome) → s.todo ≡ Await name call ∷ rest → r name call ≡ Some outcome → P (done s (heard s name call rest outcome)))
+    (posts : (statement : Statement) (rest : List Todo) (m : Made) → s.todo ≡ Do statement ∷ rest → attempt s.me s.bound s.made statement ≡ Ok m → P (done s (posted s (target_of statement) rest m)))
+    (refuses : (statement : Statement) (rest : List Todo) (refusal : PostError) → s.todo ≡ Do statement ∷ rest → attempt s.me s.bound s.made statement ≡ Err refusal → P (done s (turned_down s (target_of statement) rest refusal)))
+    (hears : (name : Name) (call : ℕ) (target : Option (List ℕ)) (rest : List Todo) (answer : Answer) → s.todo ≡ Await name call target ∷ rest → r name call ≡ Some answer → P (done s (heard s name call target rest answer)))
     (t : Local) (e : step r s ≡ Some t) where
   at : (u : Local) → step r s ≡ Some u → P u → P t
   at u f h = subst P (same_Some u t (sym f ∙ e)) h
 
   by_attempt : (statement : Statement) (rest : List Todo) → s.todo ≡ Do statement ∷ rest → (o : Result Made PostError) → attempt s.me s.bound s.made statement ≡ o → P t
-  by_attempt statement rest todo (Ok m) f = at (done s (posted s rest m)) (step_posts r s statement rest m todo f) (posts statement rest m todo f)
-  by_attempt statement rest todo (Err refusal) f = at (done s (turned_down s rest refusal)) (step_refused r s statement rest refusal todo f) (refuses statement rest refusal todo f)
+  by_attempt statement rest todo (Ok m) f = at (done s (posted s (target_of statement) rest m)) (step_posts r s statement rest m todo f) (posts statement rest m todo f)
+  by_attempt statement rest todo (Err refusal) f = at (done s (turned_down s (target_of statement) rest refusal)) (step_refused r s statement rest refusal todo f) (refuses statement rest refusal todo f)
 
-  by_answer : (name : Name) (call : ℕ) (rest : List Todo) → s.todo ≡ Await name call ∷ rest → (o : Option Outcome) → r name call ≡ o → P t
-  by_answer name call rest todo None f = cc (e, step_waits r s name call rest todo f)
-  by_answer name call rest todo (Some outcome) f = at (done s (heard s name call rest outcome)) (step_hears r s name call rest outcome todo f) (hears name call rest outcome todo f)
+  by_answer : (name : Name) (call : ℕ) (target : Option (List ℕ)) (rest : List Todo) → s.todo ≡ Await name call target ∷ rest → (o : Option Answer) → r name call ≡ o → P t
+  by_answer name call target rest todo None f = cc (e, step_waits r s name call target rest todo f)
+  by_answer name call target rest todo (Some answer) f = at (done s (heard s name call target rest answer)) (step_hears r s name call target rest answer todo f) (hears name call target rest answer todo f)
 
   by_todo : (todo : List Todo) → s.todo ≡ todo → P t
   by_todo [] f = cc (e, step_ends r s f)
   by_todo (Do statement ∷ rest) f = by_attempt statement rest f (attempt s.me s.bound s.made statement) refl
-  by_todo (Await name call ∷ rest) f = by_answer name call rest f (r name call) refl
+  by_todo (Await name call target ∷ rest) f = by_answer name call target rest f (r name call) refl
 
   pub step_cases : P t
   step_cases = by_todo s.todo refl
 
 module _ (r : Results) (s t : Local) (e : step r s ≡ Some t) where
-  -- a step changes neither who it is nor what its words are bound to
-  pub step-keeps : (t.me ≡ s.me) × (t.bound ≡ s.bound)
-  step-keeps = step_cases r s (λ u. (u.me ≡ s.me) × (u.bound ≡ s.bound)) (λ x rest m todo f. (refl, refl)) (λ x rest refusal todo f. (refl, refl)) (λ name call rest outcome todo f. (refl, refl)) t e
+  -- a step doesn't change who it is
+  pub step-keeps : t.me ≡ s.me
+  step-keeps = step_cases r s (λ u. u.me ≡ s.me) (λ x rest m todo f. refl) (λ x rest refusal todo f. refl) (λ name call target rest answer todo f. refl) t e
 
   -- and leaves less to do
   pub step-lowers : weights t.todo < weights s.todo
-  step-lowers = step_cases r s (λ u. weights u.todo < weights s.todo) (λ x rest m todo f. rw todo (omega arith)) (λ x rest refusal todo f. rw todo (omega arith)) (λ name call rest outcome todo f. rw todo (omega arith)) t e
+  step-lowers = step_cases r s (λ u. weights u.todo < weights s.todo) (λ x rest m todo f. rw todo (omega arith)) (λ x rest refusal todo f. rw todo (omega arith)) (λ name call target rest answer todo f. rw todo (omega arith)) t e

@@ -1,67 +1,85 @@
--- What the posts and the lines of ranks have to do with their statements, in whatever state moves reach.
-use Rattle.std.proofs.Common.{◌≡◌, ℕ, zero, suc, List, [], ◌∷◌, ◌++◌, Option, Some, None, refl, sym, ◌∙◌, subst, inl, inr, append_assoc}
-use Rattle.std.specs.Prelude.{slice_get, Result, Ok, Err}
+-- What the posts, the bindings and the lines of ranks have to do with their statements, in whatever state moves reach.
+use Rattle.std.proofs.Common.{◌≡◌, ℕ, zero, suc, ◌<◌, ◌≤◌, ◌==◌, ◌⊎◌, Bool, true, false, cond, List, [], ◌∷◌, ◌++◌, length, codes, Option, Some, None, refl, sym, ap, ◌∙◌, subst, inl, inr, append_assoc, arith}
+use Rattle.std.specs.Prelude.{slice_get, nat_lt, Result, Ok, Err, if◌then◌else◌}
+use Rattle.std.specs.List.{position_or_len}
+use Rattle.std.specs.Str.{bytes_eq}
+use Rattle.std.specs.Option.{option_map}
+use Rattle.std.proofs.Math.Nat.{eq-or-lt_of_le}
+use Rattle.std.proofs.lemmas.Bool.Decides.{Decides-eqb, nat_tests}
 use Rattle.std.proofs.lemmas.Option.{option_and_then_some, same_Some}
 use Rattle.mpx_name.specs.Name.{Name}
 use Rattle.mpx_post.specs.declared.draft.PostError.{PostError}
-use Rattle.mpx_post.specs.Births.{rank_in}
+use Rattle.mpx_post.specs.Births.{BirthView, rank_in, upto}
 use Rattle.mpx_value.specs.declared.outcomes.Outcome.{Outcome}
-use Rattle.mpx_value.specs.Histories.{Made, Results, Within, birth_of, row_of, value_for, results_by}
+use Rattle.mpx_value.specs.declared.outcomes.Outcome.TheVariants.{Nothing, Absent, Items, NewComm, Null, Fault}
+use Rattle.mpx_value.specs.Histories.{Answer, Made, Results, Within, answer_with, birth_of, row_of, value_for, outcome_of, outcomes_by}
 use Rattle.mpx_value.specs.Values.{value}
-use Rattle.mpx_value.proofs.Growth.{results-grow}
+use Rattle.mpx_value.proofs.Growth.{results-grow, birth-grows, new-born}
 use Rattle.mpx_script.specs.declared.statement.Statement.{Statement}
-use Rattle.mpx_script.specs.Ranks.{Bindings, Line, Told, Refused, Local, attempt, done, doing, next, next_call, step}
-use Rattle.mpx_script.specs.Evaluation.{State, start, bound_at_start, history, known, move, moves, statements_of, IsReached, IsPrefixOf}
-use Rattle.mpx_script.specs.Told.{Passes, none, accepted, refused, IsWaiting, CarriesOut, IsToldOf}
+use Rattle.mpx_script.specs.Statements.{target_of}
+use Rattle.mpx_script.specs.Grammar.{named}
+use Rattle.mpx_script.specs.Ranks.{Bindings, Bound, Communicator, NullCommunicator, Line, Told, Refused, Local, attempt, bind, bound_by, done, doing, next, next_call, step}
+use Rattle.mpx_script.specs.Evaluation.{State, start, bound_at_start, world_of, history, known, move, moves, statements_of, IsReached, IsPrefixOf}
+use Rattle.mpx_script.specs.Told.{Passes, none, accepted, refused, IsWaiting, CarriesOut, IsToldOf, IsMemberOf}
 use Rattle.mpx_script.proofs.Fronts.{append-nil, prefix_itself, history-grows}
-use Rattle.mpx_script.proofs.Steps.{heard, posted, turned_down, step_ends, step_hears, step_waits, step_posts, step_refused, step-keeps}
+use Rattle.mpx_script.proofs.Steps.{heard, posted, turned_down, step_cases, step_ends, step_hears, step_waits, step_posts, step_refused, step-keeps}
 use Rattle.mpx_script.proofs.Ways.{step_by-adds}
 use Rattle.mpx_script.proofs.Ahead.{goes_on_cases}
 
 -- STATEMENTS THAT ARE PASSED
 
--- who knows more passes them so too
-passes-grow : (r more : Results) → Within r more → (me : ℕ) (bound : Bindings) (earlier : List Made) (xs : List Statement) (ms : List Made) (lines : List Line) → Passes r me bound earlier xs ms lines → Passes more me bound earlier xs ms lines
-passes-grow r more w me bound earlier xs ms lines none = none
-passes-grow r more w me bound earlier xs ms lines (accepted a k p) = accepted a (w _ _ _ k) (passes-grow r more w me bound _ _ _ _ p)
-passes-grow r more w me bound earlier xs ms lines (refused a p) = refused a (passes-grow r more w me bound _ _ _ _ p)
+module _ (r : Results) (me : ℕ) where
+  -- who knows more passes them so too
+  passes-grow : (more : Results) → Within r more → (before after : Bindings) (earlier : List Made) (xs : List Statement) (ms : List Made) (lines : List Line) → Passes r me before earlier xs after ms lines → Passes more me before earlier xs after ms lines
+  passes-grow more w before after earlier xs ms lines none = none
+  passes-grow more w before after earlier xs ms lines (accepted a k p) = accepted a (w _ _ _ k) (passes-grow more w _ after _ _ _ _ p)
+  passes-grow more w before after earlier xs ms lines (refused a p) = refused a (passes-grow more w _ after _ _ _ _ p)
 
-module _ (r : Results) (me : ℕ) (bound : Bindings) (x : Statement) where
   -- one statement more, which is accepted
-  passes-accepted : (now : List Made) (m : Made) (outcome : Outcome) → attempt me bound now x ≡ Ok m → r m.name (next_call m.name now) ≡ Some outcome → (earlier : List Made) (xs : List Statement) (ms : List Made) (lines : List Line) → Passes r me bound earlier xs ms lines → now ≡ earlier ++ ms → Passes r me bound earlier (xs ++ x ∷ []) (ms ++ m ∷ []) (lines ++ Told m.name (next_call m.name now) outcome ∷ [])
-  passes-accepted now m outcome a k earlier xs ms lines none e = subst (λ (before : List Made). Passes r me bound before (x ∷ []) (m ∷ []) (Told m.name (next_call m.name now) outcome ∷ [])) (e ∙ append-nil earlier) (accepted a k none)
-  passes-accepted now m outcome a k earlier xs ms lines (accepted {further = further} {m = first} b j p) e = accepted b j (passes-accepted now m outcome a k _ _ _ _ p (e ∙ sym (append_assoc earlier (first ∷ []) further)))
-  passes-accepted now m outcome a k earlier xs ms lines (refused b p) e = refused b (passes-accepted now m outcome a k _ _ _ _ p e)
+  passes-accepted : (x : Statement) (now : List Made) (m : Made) (answer : Answer) (after : Bindings) → attempt me after now x ≡ Ok m → r m.name (next_call m.name now) ≡ Some answer
+      → (before : Bindings) (earlier : List Made) (xs : List Statement) (ms : List Made) (lines : List Line) → Passes r me before earlier xs after ms lines → now ≡ earlier ++ ms
+      → Passes r me before earlier (xs ++ x ∷ []) (bind (target_of x) (bound_by answer.outcome answer.born) after) (ms ++ m ∷ []) (lines ++ Told m.name (next_call m.name now) answer.outcome ∷ [])
+  passes-accepted x now m answer after a k before earlier xs ms lines none e = subst (λ (now_made : List Made). Passes r me before now_made (x ∷ []) (bind (target_of x) (bound_by answer.outcome answer.born) before) (m ∷ []) (Told m.name (next_call m.name now) answer.outcome ∷ [])) (e ∙ append-nil earlier) (accepted a k none)
+  passes-accepted x now m answer after a k before earlier xs ms lines (accepted {further = further} {m = first} b j p) e = accepted b j (passes-accepted x now m answer after a k _ _ _ _ _ p (e ∙ sym (append_assoc earlier (first ∷ []) further)))
+  passes-accepted x now m answer after a k before earlier xs ms lines (refused b p) e = refused b (passes-accepted x now m answer after a k _ _ _ _ _ p e)
 
   -- one statement more, which is refused
-  passes-refused : (now : List Made) (refusal : PostError) → attempt me bound now x ≡ Err refusal → (earlier : List Made) (xs : List Statement) (ms : List Made) (lines : List Line) → Passes r me bound earlier xs ms lines → now ≡ earlier ++ ms → Passes r me bound earlier (xs ++ x ∷ []) ms (lines ++ Refused refusal ∷ [])
-  passes-refused now refusal a earlier xs ms lines none e = subst (λ (before : List Made). Passes r me bound before (x ∷ []) [] (Refused refusal ∷ [])) (e ∙ append-nil earlier) (refused a none)
-  passes-refused now refusal a earlier xs ms lines (accepted {further = further} {m = first} b j p) e = accepted b j (passes-refused now refusal a _ _ _ _ p (e ∙ sym (append_assoc earlier (first ∷ []) further)))
-  passes-refused now refusal a earlier xs ms lines (refused b p) e = refused b (passes-refused now refusal a _ _ _ _ p e)
+  passes-refused : (x : Statement) (now : List Made) (refusal : PostError) (after : Bindings) → attempt me after now x ≡ Err refusal
+      → (before : Bindings) (earlier : List Made) (xs : List Statement) (ms : List Made) (lines : List Line) → Passes r me before earlier xs after ms lines → now ≡ earlier ++ ms
+      → Passes r me before earlier (xs ++ x ∷ []) (bind (target_of x) NullCommunicator after) ms (lines ++ Refused refusal ∷ [])
+  passes-refused x now refusal after a before earlier xs ms lines none e = subst (λ (now_made : List Made). Passes r me before now_made (x ∷ []) (bind (target_of x) NullCommunicator before) [] (Refused refusal ∷ [])) (e ∙ append-nil earlier) (refused a none)
+  passes-refused x now refusal after a before earlier xs ms lines (accepted {further = further} {m = first} b j p) e = accepted b j (passes-refused x now refusal after a _ _ _ _ _ p (e ∙ sym (append_assoc earlier (first ∷ []) further)))
+  passes-refused x now refusal after a before earlier xs ms lines (refused b p) e = refused b (passes-refused x now refusal after a _ _ _ _ _ p e)
+
+-- the answer of a call that a line tells
+pub record Tells (r : Results) (name : Name) (call : ℕ) (outcome : Outcome) : Type 0 where
+  pub answer : Answer
+  pub known_as : r name call ≡ Some answer
+  pub is : answer.outcome ≡ outcome
 
 -- what a line tells is known
-passes-tell : (r : Results) (me : ℕ) (bound : Bindings) (earlier : List Made) (xs : List Statement) (ms : List Made) (lines : List Line) → Passes r me bound earlier xs ms lines → (i : ℕ) (name : Name) (call : ℕ) (outcome : Outcome) → slice_get lines i ≡ Some (Told name call outcome) → r name call ≡ Some outcome
-passes-tell r me bound earlier xs ms lines none i name call outcome e = cc e
-passes-tell r me bound earlier xs ms lines (accepted a k p) zero name call outcome e = cc (e, k)
-passes-tell r me bound earlier xs ms lines (accepted a k p) (suc i) name call outcome e = passes-tell r me bound _ _ _ _ p i name call outcome e
-passes-tell r me bound earlier xs ms lines (refused a p) zero name call outcome e = cc e
-passes-tell r me bound earlier xs ms lines (refused a p) (suc i) name call outcome e = passes-tell r me bound _ _ _ _ p i name call outcome e
+passes-tell : (r : Results) (me : ℕ) (before after : Bindings) (earlier : List Made) (xs : List Statement) (ms : List Made) (lines : List Line) → Passes r me before earlier xs after ms lines → (i : ℕ) (name : Name) (call : ℕ) (outcome : Outcome) → slice_get lines i ≡ Some (Told name call outcome) → Tells r name call outcome
+passes-tell r me before after earlier xs ms lines none i name call outcome e = cc e
+passes-tell r me before after earlier xs ms lines (accepted {m = m} {answer = answer} a k p) zero name call outcome e = record { answer = answer; known_as = cc (e, k); is = cc e }
+passes-tell r me before after earlier xs ms lines (accepted a k p) (suc i) name call outcome e = passes-tell r me _ _ _ _ _ _ p i name call outcome e
+passes-tell r me before after earlier xs ms lines (refused a p) zero name call outcome e = cc e
+passes-tell r me before after earlier xs ms lines (refused a p) (suc i) name call outcome e = passes-tell r me _ _ _ _ _ _ p i name call outcome e
 
 -- RANKS
 
-pub carries_out-grows : (r more : Results) → Within r more → (xs : List Statement) (s : Local) → CarriesOut r xs s → CarriesOut more xs s
-carries_out-grows r more w xs s (inl h) = inl (record { passed = h.passed; left = h.left; all = h.all; todo = h.todo; passes = passes-grow r more w s.me s.bound _ _ _ _ h.passes })
-carries_out-grows r more w xs s (inr h) = inr (record { passed = h.passed; statement = h.statement; left = h.left; all = h.all; earlier = h.earlier; last = h.last; made = h.made; accepts = h.accepts; todo = h.todo; passes = passes-grow r more w s.me s.bound _ _ _ _ h.passes })
+pub carries_out-grows : (r more : Results) → Within r more → (first : Bindings) (xs : List Statement) (s : Local) → CarriesOut r first xs s → CarriesOut more first xs s
+carries_out-grows r more w first xs s (inl h) = inl (record { passed = h.passed; left = h.left; all = h.all; todo = h.todo; passes = passes-grow r s.me more w _ _ _ _ _ _ h.passes })
+carries_out-grows r more w first xs s (inr h) = inr (record { passed = h.passed; statement = h.statement; left = h.left; all = h.all; earlier = h.earlier; last = h.last; made = h.made; accepts = h.accepts; todo = h.todo; passes = passes-grow r s.me more w _ _ _ _ _ _ h.passes })
 
-module _ (r : Results) (xs : List Statement) (s : Local) where
+module _ (r : Results) (first : Bindings) (xs : List Statement) (s : Local) where
   -- it goes on to its next statement
-  ready-steps : (passed left : List Statement) → passed ++ left ≡ xs → s.todo ≡ doing left → Passes r s.me s.bound [] passed s.made s.lines → (t : Local) → step r s ≡ Some t → CarriesOut r xs t
+  ready-steps : (passed left : List Statement) → passed ++ left ≡ xs → s.todo ≡ doing left → Passes r s.me first [] passed s.bound s.made s.lines → (t : Local) → step r s ≡ Some t → CarriesOut r first xs t
   ready-steps passed [] all todo passes t e = cc (e, step_ends r s todo)
   ready-steps passed (x ∷ left) all todo passes t e = by_attempt (attempt s.me s.bound s.made x) refl where
-    by_attempt : (o : Result Made PostError) → attempt s.me s.bound s.made x ≡ o → CarriesOut r xs t
+    by_attempt : (o : Result Made PostError) → attempt s.me s.bound s.made x ≡ o → CarriesOut r first xs t
     by_attempt (Ok m) f =
-        let to : done s (posted s (doing left) m) ≡ t = same_Some (done s (posted s (doing left) m)) t (sym (step_posts r s x (doing left) m todo f) ∙ e) in
-        subst (CarriesOut r xs) to (inr (record {
+        let to : done s (posted s (target_of x) (doing left) m) ≡ t = same_Some (done s (posted s (target_of x) (doing left) m)) t (sym (step_posts r s x (doing left) m todo f) ∙ e) in
+        subst (CarriesOut r first xs) to (inr (record {
           passed = passed;
           statement = x;
           left = left;
@@ -71,78 +89,217 @@ module _ (r : Results) (xs : List Statement) (s : Local) where
           made = refl;
           accepts = f;
           todo = refl;
-          passes = subst (λ lines. Passes r s.me s.bound [] passed s.made lines) (sym (append-nil s.lines)) passes;
+          passes = subst (λ lines. Passes r s.me first [] passed s.bound s.made lines) (sym (append-nil s.lines)) passes;
         }))
     by_attempt (Err refusal) f =
-        let to : done s (turned_down s (doing left) refusal) ≡ t = same_Some (done s (turned_down s (doing left) refusal)) t (sym (step_refused r s x (doing left) refusal todo f) ∙ e) in
-        subst (CarriesOut r xs) to (inl (record {
+        let to : done s (turned_down s (target_of x) (doing left) refusal) ≡ t = same_Some (done s (turned_down s (target_of x) (doing left) refusal)) t (sym (step_refused r s x (doing left) refusal todo f) ∙ e) in
+        subst (CarriesOut r first xs) to (inl (record {
           passed = passed ++ x ∷ [];
           left = left;
           all = append_assoc passed (x ∷ []) left ∙ all;
           todo = refl;
-          passes = subst (λ ms. Passes r s.me s.bound [] (passed ++ x ∷ []) ms (s.lines ++ Refused refusal ∷ [])) (sym (append-nil s.made)) (passes-refused r s.me s.bound x s.made refusal f [] passed s.made s.lines passes refl);
+          passes = subst (λ ms. Passes r s.me first [] (passed ++ x ∷ []) (bind (target_of x) NullCommunicator s.bound) ms (s.lines ++ Refused refusal ∷ [])) (sym (append-nil s.made)) (passes-refused r s.me x s.made refusal s.bound f first [] passed s.made s.lines passes refl);
         }))
 
   -- it hears what it waits for
-  waiting-steps : IsWaiting r xs s → (t : Local) → step r s ≡ Some t → CarriesOut r xs t
+  waiting-steps : IsWaiting r first xs s → (t : Local) → step r s ≡ Some t → CarriesOut r first xs t
   waiting-steps h t e = by_answer (r h.last.name (next_call h.last.name h.earlier)) refl where
-    by_answer : (o : Option Outcome) → r h.last.name (next_call h.last.name h.earlier) ≡ o → CarriesOut r xs t
-    by_answer None f = cc (e, step_waits r s h.last.name (next_call h.last.name h.earlier) (doing h.left) h.todo f)
-    by_answer (Some outcome) f =
-        let act = heard s h.last.name (next_call h.last.name h.earlier) (doing h.left) outcome in
-        let to : done s act ≡ t = same_Some (done s act) t (sym (step_hears r s h.last.name (next_call h.last.name h.earlier) (doing h.left) outcome h.todo f) ∙ e) in
-        subst (CarriesOut r xs) to (inl (record {
+    by_answer : (o : Option Answer) → r h.last.name (next_call h.last.name h.earlier) ≡ o → CarriesOut r first xs t
+    by_answer None f = cc (e, step_waits r s h.last.name (next_call h.last.name h.earlier) (target_of h.statement) (doing h.left) h.todo f)
+    by_answer (Some answer) f =
+        let act = heard s h.last.name (next_call h.last.name h.earlier) (target_of h.statement) (doing h.left) answer in
+        let to : done s act ≡ t = same_Some (done s act) t (sym (step_hears r s h.last.name (next_call h.last.name h.earlier) (target_of h.statement) (doing h.left) answer h.todo f) ∙ e) in
+        subst (CarriesOut r first xs) to (inl (record {
           passed = h.passed ++ h.statement ∷ [];
           left = h.left;
           all = append_assoc h.passed (h.statement ∷ []) h.left ∙ h.all;
           todo = refl;
-          passes = subst (λ ms. Passes r s.me s.bound [] (h.passed ++ h.statement ∷ []) ms (s.lines ++ Told h.last.name (next_call h.last.name h.earlier) outcome ∷ [])) (sym (append-nil s.made ∙ h.made)) (passes-accepted r s.me s.bound h.statement h.earlier h.last outcome h.accepts f [] h.passed h.earlier s.lines h.passes refl);
+          passes = subst (λ ms. Passes r s.me first [] (h.passed ++ h.statement ∷ []) (bind (target_of h.statement) (bound_by answer.outcome answer.born) s.bound) ms (s.lines ++ Told h.last.name (next_call h.last.name h.earlier) answer.outcome ∷ [])) (sym (append-nil s.made ∙ h.made)) (passes-accepted r s.me h.statement h.earlier h.last answer s.bound h.accepts f first [] h.passed h.earlier s.lines h.passes refl);
         }))
 
-  pub step-carries_out : (t : Local) → CarriesOut r xs s → step r s ≡ Some t → CarriesOut r xs t
+  pub step-carries_out : (t : Local) → CarriesOut r first xs s → step r s ≡ Some t → CarriesOut r first xs t
   step-carries_out t (inl h) e = ready-steps h.passed h.left h.all h.todo h.passes t e
   step-carries_out t (inr h) e = waiting-steps h t e
 
   -- what its lines tell is known
-  pub carried_out-tell : CarriesOut r xs s → (i : ℕ) (name : Name) (call : ℕ) (outcome : Outcome) → slice_get s.lines i ≡ Some (Told name call outcome) → r name call ≡ Some outcome
-  carried_out-tell (inl h) = passes-tell r s.me s.bound [] h.passed s.made s.lines h.passes
-  carried_out-tell (inr h) = passes-tell r s.me s.bound [] h.passed h.earlier s.lines h.passes
+  pub carried_out-tell : CarriesOut r first xs s → (i : ℕ) (name : Name) (call : ℕ) (outcome : Outcome) → slice_get s.lines i ≡ Some (Told name call outcome) → Tells r name call outcome
+  carried_out-tell (inl h) = passes-tell r s.me first s.bound [] h.passed s.made s.lines h.passes
+  carried_out-tell (inr h) = passes-tell r s.me first s.bound [] h.passed h.earlier s.lines h.passes
 
   -- who has nothing left has passed all
-  carried_out-all : CarriesOut r xs s → s.todo ≡ [] → Passes r s.me s.bound [] xs s.made s.lines
+  carried_out-all : CarriesOut r first xs s → s.todo ≡ [] → Passes r s.me first [] xs s.bound s.made s.lines
   carried_out-all (inr h) e = cc (e, h.todo)
   carried_out-all (inl h) e = by_left h.left h.all (sym h.todo ∙ e) where
-    by_left : (left : List Statement) → h.passed ++ left ≡ xs → doing left ≡ [] → Passes r s.me s.bound [] xs s.made s.lines
-    by_left [] all f = subst (λ ys. Passes r s.me s.bound [] ys s.made s.lines) (sym (append-nil h.passed) ∙ all) h.passes
+    by_left : (left : List Statement) → h.passed ++ left ≡ xs → doing left ≡ [] → Passes r s.me first [] xs s.bound s.made s.lines
+    by_left [] all f = subst (λ ys. Passes r s.me first [] ys s.bound s.made s.lines) (sym (append-nil h.passed) ∙ all) h.passes
     by_left (x ∷ left) all f = cc f
+
+-- BINDINGS
+
+-- an entry more behind the others
+stays_by : (t : Bool) (x b : Bound) (before after : Option Bound) → (if t then Some x else before) ≡ Some b → (before ≡ Some b → after ≡ Some b) → (if t then Some x else after) ≡ Some b
+stays_by true x b before after e f = e
+stays_by false x b before after e f = f e
+
+stays_behind : (xs : Bindings) (entry : List ℕ × Bound) (word : List ℕ) (b : Bound) → named xs word ≡ Some b → named (xs ++ entry ∷ []) word ≡ Some b
+stays_behind [] entry word b e = cc e
+stays_behind (x ∷ xs) entry word b e = stays_by (bytes_eq word x.0) x.1 b (named xs word) (named (xs ++ entry ∷ []) word) e (stays_behind xs entry word b)
+
+-- a word that was bound stays so
+pub named-stays : (bound : Bindings) (target : Option (List ℕ)) (to : Bound) (word : List ℕ) (b : Bound) → named bound word ≡ Some b → named (bind target to bound) word ≡ Some b
+named-stays bound None to word b e = e
+named-stays bound (Some new) to word b e = stays_behind bound (new, to) word b e
+
+last_by : (t : Bool) (to b : Bound) → (if t then Some to else None) ≡ Some b → to ≡ b
+last_by true to b e = same_Some to b e
+last_by false to b e = cc e
+
+found_by : (t : Bool) (x to b : Bound) (before after : Option Bound) → (if t then Some x else after) ≡ Some b → (after ≡ Some b → (before ≡ Some b) ⊎ (to ≡ b)) → ((if t then Some x else before) ≡ Some b) ⊎ (to ≡ b)
+found_by true x to b before after e f = inl e
+found_by false x to b before after e f = f e
+
+found_behind : (xs : Bindings) (entry : List ℕ × Bound) (word : List ℕ) (b : Bound) → named (xs ++ entry ∷ []) word ≡ Some b → (named xs word ≡ Some b) ⊎ (entry.1 ≡ b)
+found_behind [] entry word b e = inr (last_by (bytes_eq word entry.0) entry.1 b e)
+found_behind (x ∷ xs) entry word b e = found_by (bytes_eq word x.0) x.1 entry.1 b (named xs word) (named (xs ++ entry ∷ []) word) e (found_behind xs entry word b)
+
+-- and what one is bound to it was bound to before, or it is the new one
+pub named-bound : (bound : Bindings) (target : Option (List ℕ)) (to : Bound) (word : List ℕ) (b : Bound) → named (bind target to bound) word ≡ Some b → (named bound word ≡ Some b) ⊎ (to ≡ b)
+named-bound bound None to word b e = inl e
+named-bound bound (Some new) to word b e = found_behind bound (new, to) word b e
+
+-- a call that binds a word to a communicator gave that one
+pub record IsGivenBy (outcome : Outcome) (born : Option BirthView) (name : Name) (birth : BirthView) : Type 0 where
+  pub size : ℕ
+  pub rank : ℕ
+  pub is : outcome ≡ NewComm name size rank
+  pub born_so : born ≡ Some birth
+
+pub given_by : (outcome : Outcome) (born : Option BirthView) (name : Name) (birth : BirthView) → bound_by outcome born ≡ Communicator name birth → IsGivenBy outcome born name birth
+given_by Nothing born name birth e = cc e
+given_by Absent born name birth e = cc e
+given_by (Items items) born name birth e = cc e
+given_by (NewComm new size rank) None name birth e = cc e
+given_by (NewComm new size rank) (Some b) name birth e = record { size = size; rank = rank; is = let same : new ≡ name = cc e in ap (λ n. NewComm n size rank) same; born_so = let same : b ≡ birth = cc e in ap Some same }
+given_by Null born name birth e = cc e
+given_by (Fault fault) born name birth e = cc e
+
+pub mapped_some : {A B : Type 0} (f : A → B) (o : Option A) (y : B) → option_map f o ≡ Some y → (x : A) × (o ≡ Some x) × (f x ≡ y)
+mapped_some f None y e = cc e
+mapped_some f (Some x) y e = (x, refl, same_Some (f x) y e)
+
+-- its birth is known; and a rank of the script is one of its members
+pub record IsThere (ranks : ℕ) (s : State) (process : ℕ) (name : Name) (birth : BirthView) : Type 0 where
+  pub born : birth_of (history s) ranks name ≡ Some birth
+  pub member : process < ranks → (rank : ℕ) × (rank_in process birth.members ≡ Some rank)
+
+-- each word that is bound to a communicator
+abbrev pub AreThere : ℕ → State → ℕ → Bindings → Type 0
+AreThere ranks s p bound = (word : List ℕ) (name : Name) (birth : BirthView) → named bound word ≡ Some (Communicator name birth) → IsThere ranks s p name birth
+
+module _ (ranks : ℕ) (s : State) (p : ℕ) where
+  told_there : (from : Name) (call : ℕ) (answer : Answer) → known ranks s p from call ≡ Some answer → (name : Name) (birth : BirthView) → bound_by answer.outcome answer.born ≡ Communicator name birth → IsThere ranks s p name birth
+  told_there from call answer e name birth f =
+      let births = birth_of (history s) ranks in
+      let found = mapped_some (answer_with births) (outcome_of (history s) ranks p from call) answer e in
+      let given = given_by answer.outcome answer.born name birth f in
+      let is : found.0 ≡ NewComm name given.size given.rank = ap (λ (a : Answer). a.outcome) found.2 ∙ given.is in
+      let born : births name ≡ Some birth = ap (λ o. (answer_with births o).born) (sym is) ∙ ap (λ (a : Answer). a.born) found.2 ∙ given.born_so in
+      let b = new-born (history s) ranks p from call name given.size given.rank (found.1 ∙ ap Some is) in
+      record {
+        born = born;
+        member = λ l. (given.rank, ap (λ (v : BirthView). rank_in p v.members) (same_Some birth b.birth (sym born ∙ b.born)) ∙ b.member);
+      }
+
+  bound_there : (bound : Bindings) (target : Option (List ℕ)) (to : Bound) → AreThere ranks s p bound → ((name : Name) (birth : BirthView) → to ≡ Communicator name birth → IsThere ranks s p name birth) → AreThere ranks s p (bind target to bound)
+  bound_there bound target to before new word name birth e = elim (named-bound bound target to word (Communicator name birth) e) [ inl old ↦ before word name birth old | inr is ↦ new name birth is ]
+
+  step_there : AreThere ranks s p (s p).bound → (t : Local) → step (known ranks s p) (s p) ≡ Some t → AreThere ranks s p t.bound
+  step_there before t e = step_cases (known ranks s p) (s p) (λ u. AreThere ranks s p u.bound)
+      (λ x rest m todo f. before)
+      (λ x rest refusal todo f. bound_there (s p).bound (target_of x) NullCommunicator before (λ name birth is. cc is))
+      (λ from call target rest answer todo f. bound_there (s p).bound target (bound_by answer.outcome answer.born) before (told_there from call answer f))
+      t e
+
+-- what is in a list has a place in it
+next_by : (p : ℕ → Bool) (x : ℕ) (xs : List ℕ) (b : Bool) → p x ≡ b → position_or_len p xs < length xs → position_or_len p (x ∷ xs) < length (x ∷ xs)
+next_by p x xs true t l = rw t (omega arith)
+next_by p x xs false t l = rw t (omega (arith, l))
+
+found_in : (p : ℕ → Bool) (xs ys : List ℕ) (y : ℕ) → p y ≡ true → position_or_len p (xs ++ y ∷ ys) < length (xs ++ y ∷ ys)
+found_in p [] ys y e = rw e (omega arith)
+found_in p (x ∷ xs) ys y e = next_by p x (xs ++ y ∷ ys) (p x) refl (found_in p xs ys y e)
+
+upto_has : (n q : ℕ) → q < n → (xs ys : List ℕ) × (upto n ≡ xs ++ q ∷ ys)
+upto_has zero q l = absurd (omega (arith, l))
+upto_has (suc n) q l =
+    let below : q ≤ n = omega (arith, l) in
+    elim (eq-or-lt_of_le below) [
+      | inl here ↦ (upto n, [], ap (λ k. upto n ++ k ∷ []) (sym here))
+      | inr before ↦ let found = upto_has n q before in (found.0, found.1 ++ n ∷ [], ap (λ xs. xs ++ n ∷ []) found.2 ∙ append_assoc found.0 (q ∷ found.1) (n ∷ []))
+    ]
+
+upto_there : (n p : ℕ) → p < n → (rank : ℕ) × (rank_in p (upto n) ≡ Some rank)
+upto_there n p l =
+    let has = upto_has n p l in
+    let within : position_or_len (λ q. q == p) (upto n) < length (upto n) = subst (λ xs. position_or_len (λ q. q == p) xs < length xs) (sym has.2) (found_in (λ q. q == p) has.0 has.1 p ((Decides-eqb p p).1 refl)) in
+    let yes : nat_lt (position_or_len (λ q. q == p) (upto n)) (length (upto n)) ≡ true = grind (arith, nat_tests, within) in
+    (position_or_len (λ q. q == p) (upto n), ap (λ b. cond b (Some (position_or_len (λ q. q == p) (upto n))) None) yes)
 
 -- STATES
 
 -- it holds of all ranks
 pub record AllCarryOut (script : List (List Statement)) (ranks : ℕ) (s : State) : Type 0 where
-  pub each : (p : ℕ) → CarriesOut (known ranks s p) (statements_of script p) (s p)
+  pub each : (p : ℕ) → CarriesOut (known ranks s p) (bound_at_start ranks) (statements_of script p) (s p)
   pub me : (p : ℕ) → (s p).me ≡ p
-  pub bound : (p : ℕ) → (s p).bound ≡ bound_at_start ranks
+  pub world : (p : ℕ) → named (s p).bound (codes "world") ≡ named (bound_at_start ranks) (codes "world")
+  pub bound : (p : ℕ) → AreThere ranks s p (s p).bound
+
+move-adds : (ranks : ℕ) (s : State) (p q : ℕ) → IsPrefixOf (s q).made (move ranks s p q).made
+move-adds ranks s p = goes_on_cases (λ q t. IsPrefixOf (s q).made t.made) s p (known ranks s p) (λ q. prefix_itself (s q).made) (λ t e. (step_by-adds (known ranks s p) (s p) (next (s p)) t e).0)
 
 move-within : (ranks : ℕ) (s : State) (p me : ℕ) → Within (known ranks s me) (known ranks (move ranks s p) me)
-move-within ranks s p me = results-grow (history s) (history (move ranks s p)) ranks (history-grows s (move ranks s p) adds) me where
-  adds : (q : ℕ) → IsPrefixOf (s q).made (move ranks s p q).made
-  adds = goes_on_cases (λ q t. IsPrefixOf (s q).made t.made) s p (known ranks s p) (λ q. prefix_itself (s q).made) (λ t e. (step_by-adds (known ranks s p) (s p) (next (s p)) t e).0)
+move-within ranks s p me = results-grow (history s) (history (move ranks s p)) ranks (history-grows s (move ranks s p) (move-adds ranks s p)) me
+
+moved_there : (ranks : ℕ) (s : State) (p q : ℕ) (bound : Bindings) → AreThere ranks s q bound → AreThere ranks (move ranks s p) q bound
+moved_there ranks s p q bound h word name birth e =
+    let there = h word name birth e in
+    record { born = birth-grows (history s) (history (move ranks s p)) ranks (history-grows s (move ranks s p) (move-adds ranks s p)) name birth there.born; member = there.member }
+
+step_world : (r : Results) (s : Local) (b : Bound) → named s.bound (codes "world") ≡ Some b → (t : Local) → step r s ≡ Some t → named t.bound (codes "world") ≡ Some b
+step_world r s b h t e = step_cases r s (λ u. named u.bound (codes "world") ≡ Some b)
+    (λ x rest m todo f. h)
+    (λ x rest refusal todo f. named-stays s.bound (target_of x) NullCommunicator (codes "world") b h)
+    (λ from call target rest answer todo f. named-stays s.bound target (bound_by answer.outcome answer.born) (codes "world") b h)
+    t e
 
 moved-carry_out : (script : List (List Statement)) (ranks : ℕ) (order : List ℕ) (s : State) → AllCarryOut script ranks s → AllCarryOut script ranks (moves ranks order s)
 moved-carry_out script ranks [] s h = h
 moved-carry_out script ranks (p ∷ order) s h = moved-carry_out script ranks order (move ranks s p) (record {
-  each = λ q. carries_out-grows (known ranks s q) (known ranks (move ranks s p) q) (move-within ranks s p q) (statements_of script q) (move ranks s p q)
-      (goes_on_cases (λ j t. CarriesOut (known ranks s j) (statements_of script j) t) s p (known ranks s p) h.each (λ t e. step-carries_out (known ranks s p) (statements_of script p) (s p) t (h.each p) e) q);
-  me = goes_on_cases (λ j t. t.me ≡ j) s p (known ranks s p) h.me (λ t e. (step-keeps (known ranks s p) (s p) t e).0 ∙ h.me p);
-  bound = goes_on_cases (λ j t. t.bound ≡ bound_at_start ranks) s p (known ranks s p) h.bound (λ t e. (step-keeps (known ranks s p) (s p) t e).1 ∙ h.bound p);
+  each = λ q. carries_out-grows (known ranks s q) (known ranks (move ranks s p) q) (move-within ranks s p q) (bound_at_start ranks) (statements_of script q) (move ranks s p q)
+      (goes_on_cases (λ j t. CarriesOut (known ranks s j) (bound_at_start ranks) (statements_of script j) t) s p (known ranks s p) h.each (λ t e. step-carries_out (known ranks s p) (bound_at_start ranks) (statements_of script p) (s p) t (h.each p) e) q);
+  me = goes_on_cases (λ j t. t.me ≡ j) s p (known ranks s p) h.me (λ t e. step-keeps (known ranks s p) (s p) t e ∙ h.me p);
+  world = goes_on_cases (λ j t. named t.bound (codes "world") ≡ named (bound_at_start ranks) (codes "world")) s p (known ranks s p) h.world (λ t e. step_world (known ranks s p) (s p) _ (h.world p) t e);
+  bound = λ q. moved_there ranks s p q (move ranks s p q).bound (goes_on_cases (λ j t. AreThere ranks s j t.bound) s p (known ranks s p) h.bound (λ t e. step_there ranks s p (h.bound p) t e) q);
 })
+
+start-there : (script : List (List Statement)) (ranks p : ℕ) → AreThere ranks (start script ranks) p (bound_at_start ranks)
+start-there script ranks p word name birth e = by_test (bytes_eq word (codes "world")) e where
+  by_test : (t : Bool) → (if t then Some (Communicator [] (world_of ranks)) else None) ≡ Some (Communicator name birth) → IsThere ranks (start script ranks) p name birth
+  by_test true f =
+      let no_steps : [] ≡ name = cc f in
+      let same : world_of ranks ≡ birth = cc f in
+      record {
+        born = ap (birth_of (history (start script ranks)) ranks) (sym no_steps) ∙ ap Some same;
+        member = λ l. let found = upto_there ranks p l in (found.0, ap (λ (v : BirthView). rank_in p v.members) (sym same) ∙ found.1);
+      }
+  by_test false f = cc f
 
 start-carry_out : (script : List (List Statement)) (ranks : ℕ) → AllCarryOut script ranks (start script ranks)
 start-carry_out script ranks = record {
   each = λ p. inl (record { passed = []; left = statements_of script p; all = refl; todo = refl; passes = none });
   me = λ p. refl;
-  bound = λ p. refl;
+  world = λ p. refl;
+  bound = start-there script ranks;
 }
 
 pub reached-carry_out : (script : List (List Statement)) (ranks : ℕ) (s : State) → IsReached script ranks s → AllCarryOut script ranks s
@@ -151,24 +308,31 @@ reached-carry_out script ranks s r = subst (AllCarryOut script ranks) r.reached 
 -- WHAT THEY TELL
 
 module _ (script : List (List Statement)) (ranks : ℕ) (s : State) (reached : IsReached script ranks s) (p : ℕ) where
-  pub each-carries_out : CarriesOut (known ranks s p) (statements_of script p) (s p)
+  pub each-carries_out : CarriesOut (known ranks s p) (bound_at_start ranks) (statements_of script p) (s p)
   each-carries_out = (reached-carry_out script ranks s reached).each p
 
   pub each-me : (s p).me ≡ p
   each-me = (reached-carry_out script ranks s reached).me p
 
-  pub each-bound : (s p).bound ≡ bound_at_start ranks
-  each-bound = (reached-carry_out script ranks s reached).bound p
+  pub each-world : named (s p).bound (codes "world") ≡ Some (Communicator [] (world_of ranks))
+  each-world = (reached-carry_out script ranks s reached).world p
 
-  pub each-all : (s p).todo ≡ [] → Passes (known ranks s p) p (bound_at_start ranks) [] (statements_of script p) (s p).made (s p).lines
+  pub each-bound : p < ranks → (word : List ℕ) (name : Name) (birth : BirthView) → named (s p).bound word ≡ Some (Communicator name birth) → IsMemberOf ranks s p name birth
+  each-bound l word name birth e =
+      let there = (reached-carry_out script ranks s reached).bound p word name birth e in
+      record { born = there.born; rank = (there.member l).0; member = (there.member l).1 }
+
+  pub each-all : (s p).todo ≡ [] → Passes (known ranks s p) p (bound_at_start ranks) [] (statements_of script p) (s p).bound (s p).made (s p).lines
   each-all e =
-      subst (λ me. Passes (known ranks s p) me (bound_at_start ranks) [] (statements_of script p) (s p).made (s p).lines) each-me
-      (subst (λ bound. Passes (known ranks s p) (s p).me bound [] (statements_of script p) (s p).made (s p).lines) each-bound
-      (carried_out-all (known ranks s p) (statements_of script p) (s p) each-carries_out e))
+      subst (λ me. Passes (known ranks s p) me (bound_at_start ranks) [] (statements_of script p) (s p).bound (s p).made (s p).lines) each-me
+      (carried_out-all (known ranks s p) (bound_at_start ranks) (statements_of script p) (s p) each-carries_out e)
 
   pub lines_tell : (i : ℕ) (name : Name) (call : ℕ) (outcome : Outcome) → slice_get (s p).lines i ≡ Some (Told name call outcome) → IsToldOf ranks s p name call outcome
   lines_tell i name call outcome e =
-      option_and_then_some (λ birth. results_by (history s) name birth p call) (birth_of (history s) ranks name) outcome (carried_out-tell (known ranks s p) (statements_of script p) (s p) each-carries_out i name call outcome e) (λ birth born f.
-      option_and_then_some (value_for birth p) (row_of (history s) name birth call) outcome f (λ row whole g.
-      option_and_then_some (λ rank. Some (value row rank)) (rank_in p birth.members) outcome g (λ rank member is.
-      record { birth = birth; born = born; row = row; whole = whole; rank = rank; member = member; is = sym (same_Some (value row rank) outcome is) })))
+      let tells = carried_out-tell (known ranks s p) (bound_at_start ranks) (statements_of script p) (s p) each-carries_out i name call outcome e in
+      let found = mapped_some (answer_with (birth_of (history s) ranks)) (outcome_of (history s) ranks p name call) tells.answer tells.known_as in
+      let given : outcome_of (history s) ranks p name call ≡ Some outcome = found.1 ∙ ap Some (ap (λ (a : Answer). a.outcome) found.2 ∙ tells.is) in
+      option_and_then_some (λ birth. outcomes_by (history s) name birth p call) (birth_of (history s) ranks name) outcome given (λ birth born f.
+      option_and_then_some (λ row. value_for birth p row name call) (row_of (history s) name birth call) outcome f (λ row whole g.
+      option_and_then_some (λ rank. Some (value birth row name call rank)) (rank_in p birth.members) outcome g (λ rank member is.
+      record { birth = birth; born = born; row = row; whole = whole; rank = rank; member = member; is = sym (same_Some (value birth row name call rank) outcome is) })))

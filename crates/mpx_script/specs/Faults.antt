@@ -2,7 +2,7 @@
 use Rattle.std.specs.Prelude.{ℕ, List, ◌++◌, codes}
 use Rattle.std.specs.Fmt.{decimal}
 use Rattle.mpx_script.specs.declared.faults.ScriptFault.{ScriptFault}
-use Rattle.mpx_script.specs.declared.faults.ScriptFault.TheVariants.{NotAscii, TooLarge, NoRanksLine, RanksOutOfRange, RankOutOfRange, UnknownStatement, WrongWords, BadNumber, BadList, BadName, NameUnknown}
+use Rattle.mpx_script.specs.declared.faults.ScriptFault.TheVariants.{NotAscii, TooLarge, NoRanksLine, RanksOutOfRange, RankOutOfRange, UnknownStatement, WrongWords, BadNumber, BadList, BadName, NameUnknown, NameTaken}
 use Rattle.mpx_script.specs.declared.faults.ScriptError.{ScriptError}
 
 abbrev pub script_fault_name : ScriptFault → List ℕ
@@ -17,6 +17,7 @@ script_fault_name BadNumber = codes "BadNumber"
 script_fault_name BadList = codes "BadList"
 script_fault_name BadName = codes "BadName"
 script_fault_name NameUnknown = codes "NameUnknown"
+script_fault_name NameTaken = codes "NameTaken"
 
 -- the line of a refusal
 abbrev pub error_text : ScriptError → List ℕ

@@ -1,7 +1,7 @@
 -- The grammar of a script, line by line.
-use Rattle.std.specs.Prelude.{ℕ, ◌-◌, nat_lt, nat_le, Bool, true, false, not, ◌==◌, ◌||◌, ◌&&◌, cond, List, [], ◌∷◌, length, take, drop, slice_index, slice_get, codes, bytes_eq, Option, Some, None, is_some, is_none, unwrap_or, option_and_then, ℤ, pos, negsuc, if◌then◌else◌}
-use Rattle.std.specs.List.{filter_map, list_all, list_any, slice_split}
-use Rattle.std.specs.Option.{option_map}
+use Rattle.std.specs.Prelude.{ℕ, ◌-◌, nat_lt, nat_le, Bool, true, false, not, ◌==◌, ◌||◌, ◌&&◌, cond, List, [], ◌∷◌, length, take, drop, slice_index, slice_index_or, slice_get, codes, bytes_eq, Option, Some, None, is_some, is_none, unwrap_or, option_and_then, ℤ, pos, negsuc, if◌then◌else◌}
+use Rattle.std.specs.List.{filter_map, list_all, list_any, range_with_len, slice_split}
+use Rattle.std.specs.Option.{option_map, option_map_or}
 use Rattle.mpx_num.specs.Text.{number_of}
 use Rattle.mpx_num.specs.declared.types.Ty.{Ty}
 use Rattle.mpx_num.specs.declared.types.Ty.TheVariants as T
@@ -9,17 +9,22 @@ use Rattle.mpx_num.specs.declared.operations.Op.{Op}
 use Rattle.mpx_num.specs.declared.operations.Op.TheVariants as O
 use Rattle.mpx_post.specs.declared.kinds.Kind.{Kind}
 use Rattle.mpx_post.specs.declared.kinds.Kind.TheVariants as K
-use Rattle.mpx_post.specs.declared.kinds.Mode.TheVariants.{Blocking}
+use Rattle.mpx_post.specs.declared.kinds.Family.{Family}
+use Rattle.mpx_post.specs.declared.kinds.Family.TheVariants as F
+use Rattle.mpx_post.specs.declared.kinds.NewCommunicator.{NewCommunicator}
+use Rattle.mpx_post.specs.declared.kinds.NewCommunicator.TheVariants as N
 use Rattle.mpx_post.specs.declared.kinds.Number.{Number}
 use Rattle.mpx_post.specs.declared.kinds.Number.TheVariants.{Zero, One, OneAtRoot, Members, MembersAtRoot}
 use Rattle.mpx_post.specs.declared.kinds.Fields.{Fields}
 use Rattle.mpx_post.specs.declared.draft.Draft.{Draft}
-use Rattle.mpx_post.specs.Kinds.{fields_of, is_had}
+use Rattle.mpx_post.specs.Kinds.{blocking, family_of, fields_of, is_had}
 use Rattle.mpx_post.specs.Rows.{all_of}
+use Rattle.mpx_script.specs.Statements.{target_of}
 use Rattle.mpx_script.specs.declared.grammar.Label.{Label}
 use Rattle.mpx_script.specs.declared.grammar.Label.TheVariants.{Every, Numbered}
+use Rattle.mpx_script.specs.declared.grammar.Shape.{Shape}
 use Rattle.mpx_script.specs.declared.statement.Statement.{Statement}
-use Rattle.mpx_script.specs.declared.statement.Statement.TheVariants.{Call}
+use Rattle.mpx_script.specs.declared.statement.Statement.TheVariants.{Call, New, CreateGroup}
 
 infixl 10 ◌>>=◌
 abbrev pub ◌>>=◌ : {A B : Type 0} → Option A → (A → Option B) → Option B
@@ -52,8 +57,8 @@ abbrev pub named : {A : Type 0} → List (List ℕ × A) → List ℕ → Option
 named [] word = None
 named (entry ∷ more) word = if bytes_eq word entry.0 then Some entry.1 else named more word
 
--- STATEMENTS: a word for each kind of call. The words of a statement are the fields of its kind, in the order
--- `STATEMENT COMMUNICATOR ROOT OPERATION TYPE SCOUNTS RCOUNTS ITEMS`, without those that the kind hasn't.
+-- STATEMENTS: a word for each kind of call. The words of a statement are `STATEMENT COMMUNICATOR`, and behind them in the
+-- order `COLOUR KEY TAG RANKS -> NAME` and `ROOT OPERATION TYPE SCOUNTS RCOUNTS ITEMS` those that its kind has.
 
 unfoldable pub kind_named : List ℕ → Option Kind
 kind_named word = named (
@@ -73,6 +78,10 @@ kind_named word = named (
     ∷ (codes "reduce_scatter", K.ReduceScatter)
     ∷ (codes "scan", K.Scan)
     ∷ (codes "exscan", K.Exscan)
+    ∷ (codes "dup", K.Dup)
+    ∷ (codes "split", K.Split)
+    ∷ (codes "create", K.Create)
+    ∷ (codes "create_group", K.CreateGroup)
     ∷ []) word
 
 unfoldable pub operation_named : List ℕ → Option Op
@@ -104,6 +113,33 @@ type_named word = named (
     ∷ (codes "2int", T.TwoInt)
     ∷ []) word
 
+-- which words a kind of call has, beside the fields of its posts: a colour and a key, a tag, a list of ranks, and `->` with
+-- the name for the new communicator
+abbrev pub shape_of_new : NewCommunicator → Shape
+shape_of_new N.Dup = record { colour = false; tag = false; ranks = false; target = true }
+shape_of_new N.Split = record { colour = true; tag = false; ranks = false; target = true }
+shape_of_new N.Create = record { colour = false; tag = false; ranks = true; target = true }
+shape_of_new N.CreateGroup = record { colour = false; tag = true; ranks = true; target = true }
+
+-- other calls have none of them
+abbrev pub shape_in : Family → Shape
+shape_in (F.Exchange exchange) = record { colour = false; tag = false; ranks = false; target = false }
+shape_in (F.Reduction reduction) = record { colour = false; tag = false; ranks = false; target = false }
+shape_in (F.NewCommunicator new) = shape_of_new new
+
+abbrev pub shape_of : Kind → Shape
+shape_of kind = shape_in (family_of kind)
+
+-- these as words, and the words behind them
+pub record NewSyntax : Type 0 where
+  pub colour : Option (List ℕ)
+  pub key : Option (List ℕ)
+  pub tag : Option (List ℕ)
+  pub ranks : Option (List ℕ)
+  pub arrow : Option (List ℕ)
+  pub target : Option (List ℕ)
+  pub behind : List (List ℕ)
+
 -- a call as words: its fields, where its kind has them
 pub record CallSyntax : Type 0 where
   pub root : Option (List ℕ)
@@ -121,7 +157,25 @@ next_word asked words = cond asked (slice_get words 0) None
 abbrev pub words_after : Bool → List (List ℕ) → List (List ℕ)
 words_after asked words = cond asked (drop 1 words) words
 
--- the words behind the communicator as those of a call with these fields
+-- the words behind the communicator as those of a call of this shape
+unfoldable pub new_in : Shape → List (List ℕ) → NewSyntax
+new_in shape words =
+    let at_key : List (List ℕ) = words_after shape.colour words in
+    let at_tag : List (List ℕ) = words_after shape.colour at_key in
+    let at_ranks : List (List ℕ) = words_after shape.tag at_tag in
+    let at_arrow : List (List ℕ) = words_after shape.ranks at_ranks in
+    let at_target : List (List ℕ) = words_after shape.target at_arrow in
+    record {
+      colour = next_word shape.colour words;
+      key = next_word shape.colour at_key;
+      tag = next_word shape.tag at_tag;
+      ranks = next_word shape.ranks at_ranks;
+      arrow = next_word shape.target at_arrow;
+      target = next_word shape.target at_target;
+      behind = words_after shape.target at_target;
+    }
+
+-- the words behind these as those of a call with these fields
 unfoldable pub call_in : Fields → List (List ℕ) → CallSyntax
 call_in fields words =
     let at_operation : List (List ℕ) = words_after fields.root words in
@@ -155,8 +209,14 @@ kind_in directive = option_and_then kind_named directive.statement
 abbrev pub fields_in : DirectiveSyntax → Fields
 fields_in directive = fields_of (unwrap_or (kind_in directive) K.Barrier)
 
+abbrev pub shape_asked : DirectiveSyntax → Shape
+shape_asked directive = shape_of (unwrap_or (kind_in directive) K.Barrier)
+
+abbrev pub new_syntax_in : DirectiveSyntax → NewSyntax
+new_syntax_in directive = new_in (shape_asked directive) directive.behind
+
 abbrev pub call_syntax_in : DirectiveSyntax → CallSyntax
-call_syntax_in directive = call_in (fields_in directive) directive.behind
+call_syntax_in directive = call_in (fields_in directive) (new_syntax_in directive).behind
 
 -- `*` for every rank, or a number
 abbrev pub label_named : List ℕ → Option Label
@@ -169,6 +229,7 @@ label_of word = if slice_index word (length word - 1) == 58 then label_named (ta
 abbrev pub label_in : DirectiveSyntax → Option Label
 label_in directive = option_and_then label_of directive.label
 
+-- how many ranks the line is for
 abbrev pub ranks_meant : ℕ → Option Label → ℕ
 ranks_meant ranks None = 0
 ranks_meant ranks (Some Every) = ranks
@@ -207,9 +268,17 @@ unfoldable pub is_name : List ℕ → Bool
 is_name [] = false
 is_name (first ∷ more) = is_small_letter first && list_all is_name_byte more && nat_le (length (first ∷ more)) 32
 
--- a name that is bound to a communicator
-unfoldable pub is_communicator : List ℕ → Bool
-is_communicator word = bytes_eq word (codes "world")
+-- a colour: a number, or `undefined` for none
+unfoldable pub colour_named : List ℕ → Option (Option ℤ)
+colour_named word = if bytes_eq word (codes "undefined") then Some None else option_map Some (number_of word)
+
+-- one of the names is the word
+abbrev pub is_bound : List (List ℕ) → List ℕ → Bool
+is_bound names word = list_any (bytes_eq word) names
+
+-- the names that these statements bind, of which `world` is the first
+abbrev pub names_bound : List Statement → List (List ℕ)
+names_bound statements = codes "world" ∷ filter_map target_of statements
 
 -- What a line is refused for
 
@@ -242,6 +311,13 @@ is_unknown directive = is_none (label_in directive) || is_none (kind_in directiv
 abbrev pub lacks : Bool → Option (List ℕ) → Bool
 lacks asked word = asked && is_none word
 
+abbrev pub is_arrow : List ℕ → Bool
+is_arrow word = bytes_eq word (codes "->")
+
+-- a new communicator lacks its name, as it does wherever a word before that is missing, or another word stands for `->`
+abbrev pub has_wrong_new_words : Shape → NewSyntax → Bool
+has_wrong_new_words shape new = lacks shape.target new.target || fails is_arrow new.arrow
+
 -- words are missing, or there are more than the call has fields
 abbrev pub has_wrong_count : Fields → CallSyntax → Bool
 has_wrong_count fields call = lacks fields.root call.root
@@ -253,11 +329,21 @@ has_wrong_count fields call = lacks fields.root call.root
 
 -- there is no communicator, or the words behind it aren't as many as the kind asks for
 unfoldable pub has_wrong_words : DirectiveSyntax → Bool
-has_wrong_words directive = is_none directive.communicator || has_wrong_count (fields_in directive) (call_syntax_in directive)
+has_wrong_words directive = is_none directive.communicator
+    || has_wrong_new_words (shape_asked directive) (new_syntax_in directive)
+    || has_wrong_count (fields_in directive) (call_syntax_in directive)
 
 -- whether a word is a number
 abbrev pub is_number : List ℕ → Bool
 is_number word = is_some (number_of word)
+
+-- a colour or a key is none
+abbrev pub has_strange_choice : NewSyntax → Bool
+has_strange_choice new = fails (λ word. is_some (colour_named word)) new.colour || fails is_number new.key
+
+-- or a tag is no number
+abbrev pub has_strange_new_number : NewSyntax → Bool
+has_strange_new_number new = fails is_number new.tag || has_strange_choice new
 
 -- a root, a single count or an item is no number
 abbrev pub has_strange_number : Fields → CallSyntax → Bool
@@ -266,7 +352,7 @@ has_strange_number fields call = fails is_number call.root
     || list_any (λ word. not (is_number word)) call.items
 
 unfoldable pub has_bad_number : DirectiveSyntax → Bool
-has_bad_number directive = has_strange_number (fields_in directive) (call_syntax_in directive)
+has_bad_number directive = has_strange_new_number (new_syntax_in directive) || has_strange_number (fields_in directive) (call_syntax_in directive)
 
 -- whether a word is a list
 abbrev pub is_list : List ℕ → Bool
@@ -277,13 +363,33 @@ abbrev pub has_strange_list : Fields → CallSyntax → Bool
 has_strange_list fields call = fails is_list call.scounts || (not (is_one fields.rcounts) && fails is_list call.rcounts)
 
 unfoldable pub has_bad_list : DirectiveSyntax → Bool
-has_bad_list directive = has_strange_list (fields_in directive) (call_syntax_in directive)
+has_bad_list directive = has_strange_list (fields_in directive) (call_syntax_in directive) || fails is_list (new_syntax_in directive).ranks
 
 unfoldable pub has_bad_name : DirectiveSyntax → Bool
-has_bad_name directive = fails is_name directive.communicator
+has_bad_name directive = fails is_name directive.communicator || fails is_name (new_syntax_in directive).target
 
-unfoldable pub has_unknown_name : DirectiveSyntax → Bool
-has_unknown_name directive = fails is_communicator directive.communicator
+-- the ranks that a label names
+abbrev pub ranks_labelled : ℕ → Option Label → List ℕ
+ranks_labelled ranks None = []
+ranks_labelled ranks (Some Every) = range_with_len 0 ranks
+ranks_labelled ranks (Some (Numbered (pos n))) = n ∷ []
+ranks_labelled ranks (Some (Numbered (negsuc n))) = []
+
+-- one of these ranks hasn't bound the word, where `bound` has the names of each rank
+abbrev pub lacks_name : List (List (List ℕ)) → List ℕ → List ℕ → Bool
+lacks_name bound ranks word = list_any (λ rank. not (is_bound (slice_index_or bound rank []) word)) ranks
+
+-- one of these ranks has
+abbrev pub has_name : List (List (List ℕ)) → List ℕ → List ℕ → Bool
+has_name bound ranks word = list_any (λ rank. is_bound (slice_index_or bound rank []) word) ranks
+
+-- the communicator's name isn't bound at some rank that the line is for
+unfoldable pub has_unknown_name : List (List (List ℕ)) → ℕ → DirectiveSyntax → Bool
+has_unknown_name bound ranks directive = option_map_or (lacks_name bound (ranks_labelled ranks (label_in directive))) directive.communicator false
+
+-- the new communicator's name is bound there
+unfoldable pub has_taken_name : List (List (List ℕ)) → ℕ → DirectiveSyntax → Bool
+has_taken_name bound ranks directive = option_map_or (has_name bound (ranks_labelled ranks (label_in directive))) (new_syntax_in directive).target false
 
 -- What a line that isn't refused says
 
@@ -301,21 +407,43 @@ names_rank rank directive = is_meant rank (label_in directive)
 abbrev pub said : {A : Type 0} → (List ℕ → Option A) → A → Option (List ℕ) → A
 said meaning other word = unwrap_or (option_and_then meaning word) other
 
--- the draft of a blocking call; a field that the kind hasn't is 0, sum, i8 or no counts
-abbrev pub draft_in : Kind → CallSyntax → Draft
-draft_in kind call = record {
-  kind = kind;
-  mode = Blocking;
+-- the draft of a blocking call by its fields; a field that the kind hasn't is 0, sum, i8 or no counts
+abbrev pub call_draft_in : Kind → CallSyntax → Draft
+call_draft_in kind call = record {
+  call = blocking kind;
   root = said number_of (pos 0) call.root;
   op = said operation_named O.Sum call.operation;
   ty = said type_named T.I8 call.ty;
   scounts = said list_named [] call.scounts;
   rcounts = said (rcounts_named (fields_of kind).rcounts) [] call.rcounts;
   items = filter_map number_of call.items;
+  colour = None;
+  key = pos 0;
+  group = [];
 }
 
+-- with what it says of a new communicator
+abbrev pub draft_in : Kind → NewSyntax → CallSyntax → Draft
+draft_in kind new call = record (call_draft_in kind call) {
+  colour = said colour_named None new.colour;
+  key = said number_of (pos 0) new.key;
+  group = said list_named [] new.ranks;
+}
+
+-- the statement of a kind's family on a communicator, with this draft, this tag and this name for the new communicator
+abbrev pub statement_of : Family → (on : List ℕ) → Draft → (tag : ℤ) → (target : List ℕ) → Statement
+statement_of (F.Exchange exchange) on draft tag target = Call on draft
+statement_of (F.Reduction reduction) on draft tag target = Call on draft
+statement_of (F.NewCommunicator N.Dup) on draft tag target = New on draft target
+statement_of (F.NewCommunicator N.Split) on draft tag target = New on draft target
+statement_of (F.NewCommunicator N.Create) on draft tag target = New on draft target
+statement_of (F.NewCommunicator N.CreateGroup) on draft tag target = CreateGroup on tag draft.group target
+
+abbrev pub statement_said : Kind → Option (List ℕ) → NewSyntax → CallSyntax → Statement
+statement_said kind communicator new call = statement_of (family_of kind) (unwrap_or communicator []) (draft_in kind new call) (said number_of (pos 0) new.tag) (unwrap_or new.target [])
+
 unfoldable pub statement_in : DirectiveSyntax → Option Statement
-statement_in directive = option_map (λ kind. Call (draft_in kind (call_syntax_in directive))) (kind_in directive)
+statement_in directive = option_map (λ kind. statement_said kind directive.communicator (new_syntax_in directive) (call_syntax_in directive)) (kind_in directive)
 
 -- what the line gives the rank
 abbrev pub given_to : ℕ → DirectiveSyntax → Option Statement

@@ -1,5 +1,6 @@
 pub mod Faults
 pub mod Words
+pub mod Statements
 pub mod Grammar
 pub mod ScriptView
 pub mod Reading

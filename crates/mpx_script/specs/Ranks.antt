@@ -1,17 +1,20 @@
--- One rank of a script, as an automaton over the outcomes that it asks for.
-use Rattle.std.specs.Prelude.{ℕ, ◌+◌, List, [], ◌∷◌, ◌++◌, length, codes, Option, Some, None, option_and_then, Result, Ok, Err}
+-- One rank of a script, as an automaton over the answers that it asks for.
+use Rattle.std.specs.Prelude.{ℕ, ◌+◌, List, [], ◌∷◌, ◌++◌, length, Option, Some, None, option_and_then, Result, Ok, Err}
+use Rattle.mpx_name.specs.declared.steps.Step.TheVariants.{Gathering}
 use Rattle.mpx_name.specs.Name.{Name}
 use Rattle.mpx_post.specs.Posts.{Given}
 use Rattle.mpx_post.specs.declared.draft.Draft.{Draft}
 use Rattle.mpx_post.specs.declared.draft.PostError.{PostError}
 use Rattle.mpx_post.specs.declared.draft.PostError.TheVariants.{NotMember}
 use Rattle.mpx_post.specs.Births.{BirthView}
-use Rattle.mpx_post.specs.Drafts.{checked}
+use Rattle.mpx_post.specs.Drafts.{at, checked}
+use Rattle.mpx_post.specs.Gatherings.{GatheringView, gathering}
 use Rattle.mpx_post.specs.Rows.{all_of}
 use Rattle.mpx_value.specs.declared.outcomes.Outcome.{Outcome}
-use Rattle.mpx_value.specs.Histories.{Made, posts_on, Results}
+use Rattle.mpx_value.specs.declared.outcomes.Outcome.TheVariants.{Nothing, Absent, Items, NewComm, Null, Fault}
+use Rattle.mpx_value.specs.Histories.{Made, posts_on, Answer, Results}
 use Rattle.mpx_script.specs.declared.statement.Statement.{Statement}
-use Rattle.mpx_script.specs.declared.statement.Statement.TheVariants.{Call}
+use Rattle.mpx_script.specs.Statements.{Gathers, draft_of, gathers_of, target_of, word_of}
 use Rattle.mpx_script.specs.Grammar.{named}
 
 -- a line of a transcript: what a call of a context gave, or why a post was refused
@@ -19,18 +22,19 @@ pub data Line : Type 0 where
   Told : Name → (call : ℕ) → Outcome → Line
   Refused : PostError → Line
 
--- what a word is bound to
+-- what a word is bound to: a communicator with its birth, or the null communicator
 pub data Bound : Type 0 where
   Communicator : Name → BirthView → Bound
+  NullCommunicator : Bound
 
 -- words, and what they are bound to
 abbrev pub Bindings : Type 0
 Bindings = List (List ℕ × Bound)
 
--- a statement, or the rest of one whose post is made: the wait for that call
+-- a statement, or the rest of one whose post is made: the wait for that call, and the word that its new communicator gets
 pub data Todo : Type 0 where
   Do : Statement → Todo
-  Await : Name → (call : ℕ) → Todo
+  Await : Name → (call : ℕ) → (target : Option (List ℕ)) → Todo
 
 -- where a rank stands: who it is, what its words are bound to, what is left to do, the posts that it made and its lines
 pub record Local : Type 0 where
@@ -50,20 +54,12 @@ pub record Act : Type 0 where
 abbrev pub done : Local → Act → Local
 done s a = record { me = s.me; bound = a.bound; todo = a.todo; made = s.made ++ a.made; lines = s.lines ++ a.lines }
 
--- what a rank does next: nothing, or an act that is a function of the outcomes of some calls
+-- what a rank does next: nothing, or an act that is a function of the answers of some calls
 pub data Next : Type 0 where
   End : Next
-  Asks : List (Name × ℕ) → (List Outcome → Act) → Next
+  Asks : List (Name × ℕ) → (List Answer → Act) → Next
 
 -- THE LANGUAGE
-
--- the draft that a statement posts
-abbrev pub draft_of : Statement → Draft
-draft_of (Call draft) = draft
-
--- the word of the communicator on which it posts
-abbrev pub word_of : Statement → List ℕ
-word_of (Call draft) = codes "world"
 
 -- the number of the next call on a context, after these posts
 abbrev pub next_call : Name → List Made → ℕ
@@ -73,49 +69,78 @@ abbrev pub made_on : Name → Result Given PostError → Result Made PostError
 made_on name (Ok given) = Ok (record { name = name; given = given })
 made_on name (Err refusal) = Err refusal
 
--- what a draft comes to on what a word is bound to: the next post on that communicator, or why there is none
-abbrev pub attempt_on : (me : ℕ) → List Made → Draft → Option Bound → Result Made PostError
-attempt_on me made draft None = Err NotMember
-attempt_on me made draft (Some (Communicator name birth)) = made_on name (checked birth me (record { call = next_call name made }) draft)
+-- what a draft comes to on a context with this birth: the next post there, or why there is none
+abbrev pub post_on : (me : ℕ) → List Made → Draft → Name → BirthView → Result Made PostError
+post_on me made draft name birth = made_on name (checked birth me (at name (next_call name made)) draft)
+
+-- what it comes to on a gathering below a context, which may be refused itself
+abbrev pub post_gathered : (me : ℕ) → List Made → Draft → Name → Result GatheringView PostError → Result Made PostError
+post_gathered me made draft parent (Ok g) = post_on me made draft (Gathering g.tag g.members ∷ parent) (record { members = g.members })
+post_gathered me made draft parent (Err refusal) = Err refusal
+
+abbrev pub attempt_in : (me : ℕ) → List Made → Draft → Option Gathers → Name → BirthView → Result Made PostError
+attempt_in me made draft None name birth = post_on me made draft name birth
+attempt_in me made draft (Some g) name birth = post_gathered me made draft name (gathering birth me (length name) g.tag g.ranks)
+
+-- what a statement comes to on what its word is bound to: a post, or why there is none
+abbrev pub attempt_on : (me : ℕ) → List Made → Statement → Option Bound → Result Made PostError
+attempt_on me made statement None = Err NotMember
+attempt_on me made statement (Some NullCommunicator) = Err NotMember
+attempt_on me made statement (Some (Communicator name birth)) = attempt_in me made (draft_of statement) (gathers_of statement) name birth
 
 -- what a statement of a rank comes to, with these bindings and after these posts
 abbrev pub attempt : (me : ℕ) → Bindings → List Made → Statement → Result Made PostError
-attempt me bound made statement = attempt_on me made (draft_of statement) (named bound (word_of statement))
+attempt me bound made statement = attempt_on me made statement (named bound (word_of statement))
 
--- no outcome is asked for
+-- the communicator that a call gave, the null communicator where it gave none
+abbrev pub bound_by : Outcome → Option BirthView → Bound
+bound_by (NewComm name size rank) (Some birth) = Communicator name birth
+bound_by (NewComm name size rank) None = NullCommunicator
+bound_by Nothing born = NullCommunicator
+bound_by Absent born = NullCommunicator
+bound_by (Items items) born = NullCommunicator
+bound_by Null born = NullCommunicator
+bound_by (Fault fault) born = NullCommunicator
+
+-- the word, where there is one, is bound to this
+abbrev pub bind : Option (List ℕ) → Bound → Bindings → Bindings
+bind None to bound = bound
+bind (Some word) to bound = bound ++ (word, to) ∷ []
+
+-- nothing is asked for
 abbrev pub at_once : Act → Next
 at_once a = Asks [] (λ _. a)
 
--- the first outcome, of one that was asked for. The second case never comes
-abbrev pub first_or : (Outcome → Act) → Act → List Outcome → Act
-first_or f other (outcome ∷ rest) = f outcome
+-- the first answer, of one that was asked for. The second case never comes
+abbrev pub first_or : (Answer → Act) → Act → List Answer → Act
+first_or f other (answer ∷ rest) = f answer
 first_or f other [] = other
 
-abbrev pub awaits : Name → ℕ → (Outcome → Act) → Next
+abbrev pub awaits : Name → ℕ → (Answer → Act) → Next
 awaits name call f = Asks ((name, call) ∷ []) (first_or f (record { bound = []; todo = []; made = []; lines = [] }))
 
 -- a blocking call: its post, whose outcome is awaited next, or the line of its refusal
-abbrev pub posts_or_refuses : Local → List Todo → Result Made PostError → Next
-posts_or_refuses s rest (Ok m) = at_once (record { bound = s.bound; todo = Await m.name (next_call m.name s.made) ∷ rest; made = m ∷ []; lines = [] })
-posts_or_refuses s rest (Err refusal) = at_once (record { bound = s.bound; todo = rest; made = []; lines = Refused refusal ∷ [] })
+abbrev pub posts_or_refuses : Local → List Todo → (target : Option (List ℕ)) → Result Made PostError → Next
+posts_or_refuses s rest target (Ok m) = at_once (record { bound = s.bound; todo = Await m.name (next_call m.name s.made) target ∷ rest; made = m ∷ []; lines = [] })
+posts_or_refuses s rest target (Err refusal) = at_once (record { bound = bind target NullCommunicator s.bound; todo = rest; made = []; lines = Refused refusal ∷ [] })
 
 abbrev pub next_of : Local → List Todo → Next
 next_of s [] = End
-next_of s (Do statement ∷ rest) = posts_or_refuses s rest (attempt s.me s.bound s.made statement)
-next_of s (Await name call ∷ rest) = awaits name call (λ outcome. record { bound = s.bound; todo = rest; made = []; lines = Told name call outcome ∷ [] })
+next_of s (Do statement ∷ rest) = posts_or_refuses s rest (target_of statement) (attempt s.me s.bound s.made statement)
+next_of s (Await name call target ∷ rest) = awaits name call (λ (answer : Answer). record { bound = bind target (bound_by answer.outcome answer.born) s.bound; todo = rest; made = []; lines = Told name call answer.outcome ∷ [] })
 
 abbrev pub next : Local → Next
 next s = next_of s s.todo
 
 -- STEPS
 
--- the outcomes of all of these calls, only where each is known
-abbrev pub answers : Results → List (Name × ℕ) → Option (List Outcome)
+-- the answers of all of these calls, only where each is known
+abbrev pub answers : Results → List (Name × ℕ) → Option (List Answer)
 answers r calls = all_of (λ (call : Name × ℕ). r call.0 call.1) calls
 
 abbrev pub step_by : Results → Local → Next → Option Local
 step_by r s End = None
-step_by r s (Asks calls act) = option_and_then (λ outcomes. Some (done s (act outcomes))) (answers r calls)
+step_by r s (Asks calls act) = option_and_then (λ told. Some (done s (act told))) (answers r calls)
 
 -- where the next move of a rank that knows these outcomes leads, where it has one
 abbrev pub step : Results → Local → Option Local
@@ -124,7 +149,7 @@ step r s = step_by r s (next s)
 -- so many moves are left at most
 abbrev pub weight : Todo → ℕ
 weight (Do statement) = 2
-weight (Await name call) = 1
+weight (Await name call target) = 1
 
 abbrev pub weights : List Todo → ℕ
 weights [] = 0

@@ -3,10 +3,10 @@ use Rattle.std.specs.Prelude.{ℕ, ◌+◌, nat_lt, Bool, false, not, ◌==◌, 
 use Rattle.std.specs.List.{filter_map, range_with_len}
 use Rattle.std.specs.Option.{option_map, option_map_or}
 use Rattle.mpx_script.specs.Words.{words, counts, counting, is_ascii, is_over_limit, script_lines}
-use Rattle.mpx_script.specs.Grammar.{DirectiveSyntax, directive_in, statements_in, ranks_in, given_to, lacks_ranks, has_ranks_out_of_range, has_rank_out_of_range, is_unknown, has_wrong_words, has_bad_number, has_bad_list, has_bad_name, has_unknown_name}
+use Rattle.mpx_script.specs.Grammar.{DirectiveSyntax, directive_in, statements_in, ranks_in, given_to, lacks_ranks, has_ranks_out_of_range, has_rank_out_of_range, is_unknown, has_wrong_words, has_bad_number, has_bad_list, has_bad_name, has_unknown_name, has_taken_name, names_bound}
 use Rattle.mpx_script.specs.ScriptView.{ScriptView}
 use Rattle.mpx_script.specs.declared.faults.ScriptFault.{ScriptFault}
-use Rattle.mpx_script.specs.declared.faults.ScriptFault.TheVariants.{NotAscii, TooLarge, NoRanksLine, RanksOutOfRange, RankOutOfRange, UnknownStatement, WrongWords, BadNumber, BadList, BadName, NameUnknown}
+use Rattle.mpx_script.specs.declared.faults.ScriptFault.TheVariants.{NotAscii, TooLarge, NoRanksLine, RanksOutOfRange, RankOutOfRange, UnknownStatement, WrongWords, BadNumber, BadList, BadName, NameUnknown, NameTaken}
 use Rattle.mpx_script.specs.declared.faults.ScriptError.{ScriptError}
 
 -- how many statements a script may have
@@ -24,6 +24,8 @@ pub record LineContext : Type 0 where
   pub ranks : Option ℕ
   -- how many statements there are so far
   pub statements : ℕ
+  -- the names that each rank has bound so far
+  pub bound : List (List (List ℕ))
 
 -- the first line that counts
 abbrev pub on_opening : LineContext → (List (List ℕ) → Bool) → Bool
@@ -46,7 +48,8 @@ refusals p =
     ∷ (BadNumber, on_further p (λ ranks directive. has_bad_number directive))
     ∷ (BadList, on_further p (λ ranks directive. has_bad_list directive))
     ∷ (BadName, on_further p (λ ranks directive. has_bad_name directive))
-    ∷ (NameUnknown, on_further p (λ ranks directive. has_unknown_name directive))
+    ∷ (NameUnknown, on_further p (has_unknown_name p.bound))
+    ∷ (NameTaken, on_further p (has_taken_name p.bound))
     ∷ []
 
 -- the first of these that holds
@@ -58,12 +61,12 @@ abbrev pub refusal : LineContext → Option ScriptFault
 refusal p = first_holding (refusals p)
 
 -- a line of a script that isn't bare
-abbrev pub bounded_context : List ℕ → Bool → Option ℕ → ℕ → LineContext
-bounded_context line is_cut ranks statements = record { line = line; is_cut = is_cut; is_bare = false; ranks = ranks; statements = statements }
+abbrev pub bounded_context : List ℕ → Bool → Option ℕ → ℕ → List (List (List ℕ)) → LineContext
+bounded_context line is_cut ranks statements bound = record { line = line; is_cut = is_cut; is_bare = false; ranks = ranks; statements = statements; bound = bound }
 
 -- a line in which the limit of bytes isn't passed either
-abbrev pub plain_context : List ℕ → Option ℕ → ℕ → LineContext
-plain_context line ranks statements = bounded_context line false ranks statements
+abbrev pub plain_context : List ℕ → Option ℕ → ℕ → List (List (List ℕ)) → LineContext
+plain_context line ranks statements bound = bounded_context line false ranks statements bound
 
 -- the number of ranks that the first line that counts tells
 abbrev pub ranks_told : List (List ℕ) → ℕ
@@ -86,6 +89,10 @@ script_of (opening ∷ further) = record {
   statements = map (λ rank. filter_map (λ words. given_to rank (directive_in words)) further) (range_with_len 0 (ranks_told opening));
 }
 
+-- the names that each rank has bound by the lines that count
+abbrev pub bound_settled : List (List (List ℕ)) → List (List (List ℕ))
+bound_settled lines = map names_bound (script_of lines).statements
+
 -- no line of the script counts, though it is within its limit of bytes
 abbrev pub is_bare_script : List ℕ → Bool
 is_bare_script text = not (is_over_limit text) && (length (counting (script_lines text)) == 0)
@@ -101,6 +108,7 @@ context_at text i =
       is_bare = (i == 0) && is_bare_script text;
       ranks = ranks_settled before;
       statements = statements_settled before;
+      bound = bound_settled before;
     }
 
 -- the refusal of the line at a place, with the line's number from 1 on

@@ -1,5 +1,10 @@
 -- What a script says.
-use Rattle.std.specs.Prelude.{◌≡◌, ℕ, ◌<◌, nat_le, nat_lt, ◌&&◌, List, [], ◌∷◌, ◌++◌, Vec, length, map, slice_index_or, if◌then◌else◌}
+use Rattle.std.specs.Prelude.{◌≡◌, ℕ, ◌<◌, nat_le, nat_lt, ◌&&◌, List, [], ◌∷◌, ◌++◌, Vec, length, slice_index_or, bytes_eq, if◌then◌else◌}
+use Rattle.std.specs.BTreeSet.{BTreeSet, contains_by}
+use Rattle.std.specs.Cmp.Lexicographic.{slice_cmp}
+use Rattle.std.specs.List.{filter_map, list_any}
+use Rattle.std.specs.Ordering.{nat_cmp}
+use Rattle.mpx_script.specs.Statements.{target_of}
 use Rattle.mpx_script.specs.declared.statement.Statement.{Statement}
 
 -- how many ranks there are, and each rank's statements in their order
@@ -7,9 +12,9 @@ pub record ScriptView : Type 0 where
   pub ranks : ℕ
   pub statements : List (List Statement)
 
--- what the vectors hold
-abbrev pub lists : {Z : Type 0} → List (Vec Statement Z) → List (List Statement)
-lists vectors = map (λ v. v.items) vectors
+-- the names are the words that the statements bind
+abbrev pub AreNames : {Z : Type 0} → BTreeSet (Vec ℕ Z) → List Statement → Type 0
+AreNames names statements = (word : List ℕ) → contains_by (λ name. slice_cmp nat_cmp word name.items) names ≡ list_any (bytes_eq word) (filter_map target_of statements)
 
 -- the ranks from the one on and below the other have the statement at their end, and nothing else is changed
 pub record Adds (from to : ℕ) (statement : Statement) (old new : List (List Statement)) : Type 0 where

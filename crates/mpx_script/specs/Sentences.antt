@@ -3,10 +3,10 @@ use Rattle.std.specs.Prelude.{◌≡◌, ℕ, ◌+◌, ◌-◌, ◌<◌, ◌≤�
 use Rattle.mpx_post.specs.declared.kinds.Kind.{Kind}
 use Rattle.mpx_post.specs.Kinds.{fields_of}
 use Rattle.mpx_script.specs.Words.{counts}
-use Rattle.mpx_script.specs.Grammar.{DirectiveSyntax, CallSyntax, directive_in, ranks_in, statements_in, names_rank, statement_in, is_unknown, has_wrong_words, has_bad_number, has_bad_list, has_bad_name, has_unknown_name, has_unknown_word, has_wrong_count, has_strange_number, has_strange_list, fails, is_name, is_communicator}
+use Rattle.mpx_script.specs.Grammar.{DirectiveSyntax, NewSyntax, CallSyntax, directive_in, ranks_in, statements_in, names_rank, statement_in, is_unknown, has_wrong_words, has_bad_number, has_bad_list, has_bad_name, has_unknown_name, has_taken_name, has_unknown_word, has_wrong_new_words, has_wrong_count, has_strange_choice, has_strange_new_number, has_strange_number, has_strange_list, fails, is_name, is_list, shape_of}
 use Rattle.mpx_script.specs.Reading.{statements_limit, first_holding}
 use Rattle.mpx_script.specs.declared.faults.ScriptFault.{ScriptFault}
-use Rattle.mpx_script.specs.declared.faults.ScriptFault.TheVariants.{UnknownStatement, WrongWords, BadNumber, BadList, BadName, NameUnknown}
+use Rattle.mpx_script.specs.declared.faults.ScriptFault.TheVariants.{UnknownStatement, WrongWords, BadNumber, BadList, BadName, NameUnknown, NameTaken}
 use Rattle.mpx_script.specs.declared.script_line.Assignment.{Assignment}
 use Rattle.mpx_script.specs.declared.script_line.Sentence.{Sentence}
 use Rattle.mpx_script.specs.declared.script_line.Sentence.TheVariants.{Passed, Opening, Further}
@@ -32,7 +32,7 @@ abbrev pub IsRefusal : Option ScriptFault → LineError → Type 0
 IsRefusal found OutOfMemory = Unit {0}
 IsRefusal found (Fault what) = found ≡ Some what
 
--- what the words behind the label are refused for
+-- what the words behind the label are refused for, whatever is bound
 unfoldable pub statement_refusal : DirectiveSyntax → Option ScriptFault
 statement_refusal directive = first_holding (
     (UnknownStatement, is_unknown directive)
@@ -40,25 +40,37 @@ statement_refusal directive = first_holding (
     ∷ (BadNumber, has_bad_number directive)
     ∷ (BadList, has_bad_list directive)
     ∷ (BadName, has_bad_name directive)
-    ∷ (NameUnknown, has_unknown_name directive)
     ∷ [])
 
--- what the numbers and lists of a call are refused for
-abbrev pub draft_refusal : Kind → CallSyntax → Option ScriptFault
-draft_refusal kind call = first_holding (
+-- what its names are refused for
+abbrev pub names_refusal : List (List (List ℕ)) → ℕ → DirectiveSyntax → Option ScriptFault
+names_refusal bound ranks directive = first_holding (
+    (NameUnknown, has_unknown_name bound ranks directive)
+    ∷ (NameTaken, has_taken_name bound ranks directive)
+    ∷ [])
+
+-- what the numbers and lists of a call's fields are refused for
+abbrev pub fields_refusal : Kind → CallSyntax → Option ScriptFault
+fields_refusal kind call = first_holding (
     (BadNumber, has_strange_number (fields_of kind) call)
     ∷ (BadList, has_strange_list (fields_of kind) call)
     ∷ [])
 
+-- and with them those that it says of a new communicator
+abbrev pub draft_refusal : Kind → NewSyntax → CallSyntax → Option ScriptFault
+draft_refusal kind new call = first_holding (
+    (BadNumber, has_strange_choice new || has_strange_number (fields_of kind) call)
+    ∷ (BadList, has_strange_list (fields_of kind) call || fails is_list new.ranks)
+    ∷ [])
+
 -- what a statement of this kind is refused for, with this communicator and these words behind it
-abbrev pub call_refusal : Kind → Option (List ℕ) → CallSyntax → Option ScriptFault
-call_refusal kind communicator call = first_holding (
+abbrev pub call_refusal : Kind → Option (List ℕ) → NewSyntax → CallSyntax → Option ScriptFault
+call_refusal kind communicator new call = first_holding (
     (UnknownStatement, has_unknown_word call)
-    ∷ (WrongWords, is_none communicator || has_wrong_count (fields_of kind) call)
-    ∷ (BadNumber, has_strange_number (fields_of kind) call)
-    ∷ (BadList, has_strange_list (fields_of kind) call)
-    ∷ (BadName, fails is_name communicator)
-    ∷ (NameUnknown, fails is_communicator communicator)
+    ∷ (WrongWords, is_none communicator || has_wrong_new_words (shape_of kind) new || has_wrong_count (fields_of kind) call)
+    ∷ (BadNumber, has_strange_new_number new || has_strange_number (fields_of kind) call)
+    ∷ (BadList, has_strange_list (fields_of kind) call || fails is_list new.ranks)
+    ∷ (BadName, fails is_name communicator || fails is_name new.target)
     ∷ [])
 
 -- what a word says: the other value where there is no word, and None where the word says nothing

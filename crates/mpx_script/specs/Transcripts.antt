@@ -26,6 +26,7 @@ fault_name F.Root = codes "Root"
 fault_name F.Op = codes "Op"
 fault_name F.ItemType = codes "ItemType"
 fault_name F.Amount = codes "Amount"
+fault_name F.Groups = codes "Groups"
 
 abbrev pub refusal_name : PostError → List ℕ
 refusal_name R.NotMember = codes "NotMember"
@@ -36,12 +37,17 @@ refusal_name R.ItemsLength = codes "ItemsLength"
 refusal_name R.ItemOutOfRange = codes "ItemOutOfRange"
 refusal_name R.TooManyItems = codes "TooManyItems"
 refusal_name R.CallsUsedUp = codes "CallsUsedUp"
+refusal_name R.DepthUsedUp = codes "DepthUsedUp"
+refusal_name R.BadGroup = codes "BadGroup"
+refusal_name R.BadTag = codes "BadTag"
 refusal_name R.OutOfMemory = codes "OutOfMemory"
 
 abbrev pub outcome_text : Outcome → List ℕ
 outcome_text O.Nothing = codes "ok"
 outcome_text O.Absent = codes "none"
 outcome_text (O.Items items) = numbers_text items.nums
+outcome_text (O.NewComm name size rank) = codes "comm " ++ number_text (pos size) ++ 32 ∷ number_text (pos rank)
+outcome_text O.Null = codes "null"
 outcome_text (O.Fault fault) = codes "fault " ++ fault_name fault.what ++ codes " at " ++ number_text (pos fault.rank)
 
 -- the place of an outcome isn't printed

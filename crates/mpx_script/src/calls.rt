@@ -4,24 +4,34 @@ ghost use Rattle.std.specs.List.{filter_map, list_any};
 ghost use Rattle.std.specs.Option.{option_copied};
 ghost use Rattle.mpx_num.specs.Text.{number_of};
 ghost use Rattle.mpx_script.specs.Words.{words};
-ghost use Rattle.mpx_script.specs.Grammar.{is_number, is_one, list_named, rcounts_named, operation_named, type_named, said, draft_in};
-ghost use Rattle.mpx_script.specs.Sentences.{IsRefusal, draft_refusal, read_at};
+ghost use Rattle.mpx_script.specs.Grammar.{is_number, is_one, list_named, rcounts_named, operation_named, type_named, colour_named, said, call_draft_in, draft_in};
+ghost use Rattle.mpx_script.specs.Sentences.{IsRefusal, draft_refusal, fields_refusal, read_at};
 
 use crate::faults::{LineError, ScriptFault};
-use crate::grammar::{is_one, list_named, operation_named, type_named};
-use crate::syntax::CallSyntax;
+use crate::grammar::{colour_named, is_one, list_named, operation_named, type_named};
+use crate::syntax::{CallSyntax, NewSyntax};
 use crate::words::first_word;
 use mpx_num::{Numbers, Op, Ty, parse_number};
-use mpx_post::{Draft, Kind, Mode, Number};
+use mpx_post::{Call, Draft, Kind, Number};
 use std::alloc::{AllocError, Global};
 
 /// The number of a word, 0 where there is none, or None where the word is no number.
-fn number_at(word: Option<&[u8]>) -> Option<i128>
+pub fn number_at(word: Option<&[u8]>) -> Option<i128>
     ensures { result ≡ read_at number_of (pos 0) (option_copied word.entry) }
 {
     match word {
         Some(word) => parse_number(word),
         None => Some(0),
+    }
+}
+
+/// The colour of a word, none where there is no word, or None where the word is no colour.
+fn colour_at(word: Option<&[u8]>) -> Option<Option<i128>>
+    ensures { result ≡ read_at colour_named None (option_copied word.entry) }
+{
+    match word {
+        Some(word) => colour_named(word),
+        None => Some(None),
     }
 }
 
@@ -98,10 +108,10 @@ fn numbers_in(alloc: Global, line: &[u8]) -> Result<Option<Numbers>, AllocError>
 }
 
 /// The draft of a blocking call by the words of its fields.
-pub fn draft_in(alloc: Global, kind: Kind, call: &CallSyntax<'_>) -> Result<Draft, LineError>
-    ensures accepted { OnOk result (draft_refusal kind call.now ≡ None) }
-    ensures draft { IfOk result (λ draft. draft ≡ draft_in kind call.now) }
-    ensures refused { IfErr result (IsRefusal (draft_refusal kind call.now)) }
+fn call_draft_in(alloc: Global, kind: Kind, call: &CallSyntax<'_>) -> Result<Draft, LineError>
+    ensures accepted { OnOk result (fields_refusal kind call.now ≡ None) }
+    ensures draft { IfOk result (λ draft. draft ≡ call_draft_in kind call.now) }
+    ensures refused { IfErr result (IsRefusal (fields_refusal kind call.now)) }
 {
     let number = kind.fields().rcounts;
     let Some(root) = number_at(call.root) else {
@@ -117,14 +127,49 @@ pub fn draft_in(alloc: Global, kind: Kind, call: &CallSyntax<'_>) -> Result<Draf
         return Err(LineError::Fault(ScriptFault::BadList));
     };
     Ok(Draft {
-        kind,
-        mode: Mode::Blocking,
+        call: Call::blocking(kind),
         root,
         op: operation_at(call.operation),
         ty: type_at(call.ty),
         scounts,
         rcounts,
         items,
+        colour: None,
+        key: 0,
+        group: Numbers::new(alloc, Vec::new(alloc))?,
+    })
+}
+
+/// The draft of a blocking call by its words.
+#[tactic(auto, using(crate::proofs::Accepted::refusal_of_colour, crate::proofs::Accepted::refusal_of_key, crate::proofs::Accepted::refusal_of_fields, crate::proofs::Accepted::refusal_of_ranks, crate::proofs::Accepted::draft_accepted))]
+pub fn draft_in(
+    alloc: Global,
+    kind: Kind,
+    new: &NewSyntax<'_>,
+    call: &CallSyntax<'_>,
+) -> Result<Draft, LineError>
+    ensures accepted { OnOk result (draft_refusal kind new.now call.now ≡ None) }
+    ensures draft { IfOk result (λ draft. draft ≡ draft_in kind new.now call.now) }
+    ensures refused { IfErr result (IsRefusal (draft_refusal kind new.now call.now)) }
+{
+    let Some(colour) = colour_at(new.colour) else {
+        return Err(LineError::Fault(ScriptFault::BadNumber));
+    };
+    let Some(key) = number_at(new.key) else {
+        return Err(LineError::Fault(ScriptFault::BadNumber));
+    };
+    let draft = match call_draft_in(alloc, kind, call) {
+        Ok(draft) => draft,
+        Err(e) => return Err(e),
+    };
+    let Some(group) = list_at(alloc, new.ranks)? else {
+        return Err(LineError::Fault(ScriptFault::BadList));
+    };
+    Ok(Draft {
+        colour,
+        key,
+        group,
+        ..draft
     })
 }
 

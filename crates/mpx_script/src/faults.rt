@@ -24,16 +24,19 @@ pub enum ScriptFault {
     RankOutOfRange,
     /// There is no such statement, operation or type, or the line isn't of the form `R: STATEMENT`.
     UnknownStatement,
-    /// The statement has too few words, or too many.
+    /// The statement has too few words, or too many, or another word where `->` stands.
     WrongWords,
-    /// The word of a root, of a single count or of an item is no number.
+    /// The word of a root, of a single count, of an item, of a key or of a tag is no number, or a colour's word is neither
+    /// a number nor `undefined`.
     BadNumber,
     /// The word of a list is no list of numbers.
     BadList,
-    /// The communicator's word is no name.
+    /// The communicator's word or that for the new one is no name.
     BadName,
-    /// The name isn't bound.
+    /// The communicator's name isn't bound at some rank that the line is for.
     NameUnknown,
+    /// The name for the new communicator is bound at some rank that the line is for.
+    NameTaken,
 }
 
 impl ScriptFault {
@@ -52,6 +55,7 @@ impl ScriptFault {
             ScriptFault::BadList => "BadList",
             ScriptFault::BadName => "BadName",
             ScriptFault::NameUnknown => "NameUnknown",
+            ScriptFault::NameTaken => "NameTaken",
         }
     }
 }

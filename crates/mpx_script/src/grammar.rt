@@ -1,12 +1,12 @@
 // What a single word of a script means.
 ghost use Rattle.std.specs.Prelude.{◌≡◌, map, IfOk};
-ghost use Rattle.mpx_script.specs.Grammar.{below, rank_count, ranks_number, label_of, named, kind_named, operation_named, type_named, list_named, is_one, is_small_letter, is_name_byte, is_name, is_communicator};
+ghost use Rattle.mpx_script.specs.Grammar.{below, rank_count, ranks_number, label_of, named, kind_named, operation_named, type_named, list_named, is_one, is_small_letter, is_name_byte, is_name, colour_named, is_arrow, shape_in, shape_of, shape_of_new};
 ghost use Rattle.mpx_script.specs.Words.{words};
 ghost use Rattle.std.specs.List.{list_all};
 
 use crate::words::first_word;
 use mpx_num::{Numbers, Op, Ty, parse_number};
-use mpx_post::{Kind, Number};
+use mpx_post::{Family, Kind, NewCommunicator, Number};
 use std::alloc::{AllocError, Global};
 
 /// Which ranks a further line is for.
@@ -108,6 +108,10 @@ pub fn kind_named(word: &[u8]) -> Option<Kind>
             (b"reduce_scatter".as_slice(), Kind::ReduceScatter),
             (b"scan".as_slice(), Kind::Scan),
             (b"exscan".as_slice(), Kind::Exscan),
+            (b"dup".as_slice(), Kind::Dup),
+            (b"split".as_slice(), Kind::Split),
+            (b"create".as_slice(), Kind::Create),
+            (b"create_group".as_slice(), Kind::CreateGroup),
         ],
         word,
     )
@@ -211,10 +215,74 @@ pub fn is_name(word: &[u8]) -> bool
     }
 }
 
-/// Whether the name is bound to a communicator.
-#[tactic(auto, unfolding(crate::specs::Grammar::is_communicator))]
-pub fn is_communicator(word: &[u8]) -> bool
-    ensures { result ≡ is_communicator word.now }
+/// The colour of a word: a number, or none for `undefined`.
+#[tactic(auto, unfolding(crate::specs::Grammar::colour_named))]
+pub fn colour_named(word: &[u8]) -> Option<Option<i128>>
+    ensures { result ≡ colour_named word.now }
 {
-    word == b"world".as_slice()
+    if word == b"undefined".as_slice() {
+        return Some(None);
+    }
+    let number = parse_number(word)?;
+    Some(Some(number))
+}
+
+pub fn is_arrow(word: &[u8]) -> bool
+    ensures { result ≡ is_arrow word.now }
+{
+    word == b"->".as_slice()
+}
+
+/// Which words a kind of call has, beside the fields of its posts.
+#[derive(Clone, Copy, Debug)]
+pub struct Shape {
+    /// A colour and a key.
+    pub colour: bool,
+    pub tag: bool,
+    /// A list of ranks.
+    pub ranks: bool,
+    /// `->` and the name for the new communicator.
+    pub target: bool,
+}
+
+/// The words of a kind.
+pub fn shape_of(kind: Kind) -> Shape
+    ensures { result ≡ shape_of kind }
+{
+    match kind.family() {
+        Family::Exchange(_) | Family::Reduction(_) => Shape {
+            colour: false,
+            tag: false,
+            ranks: false,
+            target: false,
+        },
+        Family::NewCommunicator(new) => shape_of_new(new),
+    }
+}
+
+fn shape_of_new(new: NewCommunicator) -> Shape
+    ensures { result ≡ shape_of_new new }
+{
+    let nothing = Shape {
+        colour: false,
+        tag: false,
+        ranks: false,
+        target: true,
+    };
+    match new {
+        NewCommunicator::Dup => nothing,
+        NewCommunicator::Split => Shape {
+            colour: true,
+            ..nothing
+        },
+        NewCommunicator::Create => Shape {
+            ranks: true,
+            ..nothing
+        },
+        NewCommunicator::CreateGroup => Shape {
+            tag: true,
+            ranks: true,
+            ..nothing
+        },
+    }
 }

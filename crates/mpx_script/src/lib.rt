@@ -14,6 +14,7 @@ mod calls;
 mod evaluation;
 mod faults;
 mod grammar;
+mod rank_statements;
 mod reader;
 mod report;
 mod script;
@@ -22,6 +23,7 @@ mod statement;
 mod syntax;
 mod told;
 mod transcript;
+mod word;
 mod words;
 
 pub use evaluation::{
@@ -34,3 +36,4 @@ pub use script::Script;
 pub use statement::Statement;
 pub use told::{lines_tell_the_values_of_all_posts, ranks_carry_out_their_statements};
 pub use transcript::{line, refused_line};
+pub use word::Word;

@@ -5,7 +5,7 @@ ghost use Rattle.std.specs.Str.Lines.{lines};
 ghost use Rattle.mpx_script.specs.Words.{bytes_limit, words, counts, counting, is_ascii, is_over_limit, with_first_line};
 ghost use Rattle.mpx_script.specs.Reading.{refusal, bounded_context, is_bare_script, reading};
 ghost use Rattle.mpx_script.specs.Sentences.{IsRefusal};
-ghost use Rattle.mpx_script.specs.PartialScripts.{ranks_of, IsSettled};
+ghost use Rattle.mpx_script.specs.PartialScripts.{ranks_of_script, bound_of_script, IsSettled};
 ghost use Rattle.mpx_script.specs.Answer.{Answers, at_line};
 
 use crate::faults::{LineError, ReadScriptError, ScriptError, ScriptFault};
@@ -34,17 +34,16 @@ fn with_line(
 ) -> Result<PartialScript, LineError>
     requires { partial.statements ≤ STATEMENTS }
     ensures few { IfOk result (λ after. after.statements ≤ STATEMENTS) }
-    ensures accepted { OnOk result (refusal (bounded_context line.now cut (ranks_of partial) partial.statements) ≡ None) }
+    ensures accepted { OnOk result (refusal (bounded_context line.now cut (ranks_of_script partial.script) partial.statements (bound_of_script partial.script)) ≡ None) }
     ensures settled { IfOk result (λ after. (before : List (List (List ℕ))) → IsSettled before partial
         → IsSettled (before ++ filter counts (words line.now ∷ [])) after) }
-    ensures refused { IfErr result (IsRefusal (refusal (bounded_context line.now cut (ranks_of partial) partial.statements))) }
+    ensures refused { IfErr result (IsRefusal (refusal (bounded_context line.now cut (ranks_of_script partial.script) partial.statements (bound_of_script partial.script)))) }
 {
     let PartialScript { script, statements } = partial;
-    let ranks = match &script {
-        Some(script) => Some(script.ranks()),
-        None => None,
-    };
-    match (read_line(alloc, line, cut, ranks, statements)?, script) {
+    match (
+        read_line(alloc, line, cut, script.as_ref(), statements)?,
+        script,
+    ) {
         (Sentence::Passed, script) => Ok(PartialScript { script, statements }),
         (Sentence::Opening(ranks), _) => {
             let script = Script::new(alloc, ranks)?;
@@ -55,7 +54,7 @@ fn with_line(
         }
         (Sentence::Further(assignment), Some(mut script)) => {
             let statements = statements + u32::from(assignment.to - assignment.from);
-            script.add(assignment)?;
+            script.add(alloc, assignment)?;
             Ok(PartialScript {
                 script: Some(script),
                 statements,
@@ -163,8 +162,11 @@ fn read_lines(alloc: Global, text: &[u8]) -> Result<Script, ReadScriptError>
 
 /// Reads a script: at most 1,048,576 bytes of ASCII, line by line. Empty lines and lines whose first word begins with
 /// `#` are passed over; the first other line is `ranks N`, and each further line `R: STATEMENT`, or `*: STATEMENT` for
-/// every rank. A statement is `KIND world ROOT OPERATION TYPE SCOUNTS RCOUNTS ITEMS` without the words that calls of its
-/// kind don't have: see `specs/Grammar.antt`.
+/// every rank. A statement is `KIND C ROOT OPERATION TYPE SCOUNTS RCOUNTS ITEMS` without the words that calls of its
+/// kind don't have, or makes a communicator (MPI 4.1 section 7.4.2), where the list `L` has ranks of `C`:
+/// `dup C -> D`, `split C COLOUR KEY -> D` with a number or `undefined` for the colour, `create C L -> D` or
+/// `create_group C TAG L -> D`. `C` is `world` or a name that an earlier statement of the rank binds, and `D` a name that
+/// none does: a small letter, then small letters, digits or `_`, at most 32 bytes. See `specs/Grammar.antt`.
 ///
 /// The refusal is that of the least line that has one, and the first of [`ScriptFault`] that holds of it.
 pub fn read_script(alloc: Global, text: &[u8]) -> Result<Script, ReadScriptError>

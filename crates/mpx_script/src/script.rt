@@ -1,7 +1,9 @@
 ghost use Rattle.std.specs.Prelude.{◌≡◌, ◌<◌, ◌≤◌, [], ◌∷◌, ◌++◌, length, map, slice_index_or, slice_set, IfOk, OnOk, vec_len};
 ghost use Rattle.std.specs.List.{range_with_len};
-ghost use Rattle.mpx_script.specs.ScriptView.{lists, Adds};
+ghost use Rattle.mpx_script.specs.ScriptView.{Adds};
+ghost use Rattle.mpx_script.specs.Grammar.{is_bound, names_bound};
 
+use crate::rank_statements::RankStatements;
 use crate::script_line::Assignment;
 use crate::statement::Statement;
 use join_core::OutOfMemory;
@@ -13,16 +15,16 @@ use std::marker::Model;
 #[derive(Debug, Drop)]
 pub struct Script {
     ranks: u8,
-    statements: Vec<Vec<Statement>>,
+    statements: Vec<RankStatements>,
 }
 
 impl Model for Script {
     ghost use Rattle.std.specs.Prelude.{◌≡◌, ◌≤◌, vec_len};
-    ghost use Rattle.mpx_script.specs.ScriptView.{ScriptView, lists};
+    ghost use Rattle.mpx_script.specs.ScriptView.{ScriptView};
 
     ghost Value = { ScriptView };
 
-    ghost view = { λ s. record { ranks = s.ranks; statements = lists s.statements.items } };
+    ghost view = { λ s. record { ranks = s.ranks; statements = s.statements.items } };
 
     ghost invariant = { λ s. (1 ≤ s.ranks) × (s.ranks ≤ 64) × (vec_len s.statements ≡ s.ranks) };
 }
@@ -47,6 +49,16 @@ impl Script {
         }
     }
 
+    /// Whether a rank has bound a name; none where the script has no such rank.
+    pub(crate) fn has_bound(&self, rank: u8, word: &[u8]) -> bool
+        ensures { result ≡ is_bound (slice_index_or (map names_bound self.now.statements) rank []) word.now }
+    {
+        match self.statements.get(rank as usize) {
+            Some(statements) => statements.has_bound(word),
+            None => false,
+        }
+    }
+
     /// A script without statements.
     pub(crate) fn new(alloc: Global, ranks: u8) -> Result<Script, AllocError>
         requires some { 1 ≤ ranks }
@@ -58,45 +70,49 @@ impl Script {
     {
         let mut statements = Vec::new(alloc);
         for _ in 0..ranks {
-            statements.push(Vec::new(alloc))?;
+            statements.push(RankStatements::new(alloc))?;
         }
         Ok(Script { ranks, statements })
     }
 
     /// Adds a statement for its ranks. Where memory runs out, some of them may have it.
-    pub(crate) fn add(&mut self, assignment: Assignment) -> Result<(), OutOfMemory>
+    pub(crate) fn add(&mut self, alloc: Global, assignment: Assignment) -> Result<(), OutOfMemory>
         requires some { assignment.from < assignment.to }
         requires within { assignment.to ≤ self.old.ranks }
         ensures ranks { self.new.ranks ≡ self.old.ranks }
         ensures added { OnOk result (Adds assignment.from assignment.to assignment.statement
             self.old.statements self.new.statements) }
     {
-        give(&mut self.statements, assignment)
+        give(alloc, &mut self.statements, assignment)
     }
 }
 
 /// Adds a statement at the end of a rank's.
 fn push_to(
-    statements: &mut Vec<Vec<Statement>>,
+    alloc: Global,
+    statements: &mut Vec<RankStatements>,
     rank: u8,
     statement: Statement,
 ) -> Result<(), OutOfMemory>
     requires { rank < vec_len statements.old }
     ensures len { vec_len statements.new ≡ vec_len statements.old }
-    ensures pushed { OnOk result (lists statements.new.items
-        ≡ slice_set (lists statements.old.items) rank (slice_index_or (lists statements.old.items) rank [] ++ statement ∷ [])) }
+    ensures pushed { OnOk result (statements.new.items
+        ≡ slice_set statements.old.items rank (slice_index_or statements.old.items rank [] ++ statement ∷ [])) }
 {
-    statements[rank as usize].push(statement)?;
-    Ok(())
+    statements[rank as usize].push(alloc, statement)
 }
 
 /// Adds a statement for its ranks, a copy of its own for each.
-fn give(statements: &mut Vec<Vec<Statement>>, assignment: Assignment) -> Result<(), OutOfMemory>
+fn give(
+    alloc: Global,
+    statements: &mut Vec<RankStatements>,
+    assignment: Assignment,
+) -> Result<(), OutOfMemory>
     requires some { assignment.from < assignment.to }
     requires within { assignment.to ≤ vec_len statements.old }
     ensures len { vec_len statements.new ≡ vec_len statements.old }
     ensures added { OnOk result (Adds assignment.from assignment.to assignment.statement
-        (lists statements.old.items) (lists statements.new.items)) }
+        statements.old.items statements.new.items) }
 {
     let Assignment {
         from,
@@ -104,9 +120,9 @@ fn give(statements: &mut Vec<Vec<Statement>>, assignment: Assignment) -> Result<
         statement,
     } = assignment;
     for rank in from..to - 1 {
-        let copied = statement.copy()?;
-        push_to(statements, rank, copied)?;
+        let copied = statement.copy(alloc)?;
+        push_to(alloc, statements, rank, copied)?;
     }
-    push_to(statements, to - 1, statement)?;
+    push_to(alloc, statements, to - 1, statement)?;
     Ok(())
 }

@@ -2,10 +2,13 @@
 ghost use Rattle.std.specs.Prelude.{◌≡◌, ◌==◌, ◌+◌, ◌-◌, ◌<◌, ◌≤◌, ℕ, ◌&&◌, ◌⊎◌, true, false, not, None, Some, IfOk, IfErr, nat_le, nat_lt, is_none, length};
 ghost use Rattle.std.specs.Option.{option_copied};
 ghost use Rattle.mpx_script.specs.Words.{words};
-ghost use Rattle.mpx_script.specs.Grammar.{directive_in, kind_in, label_in, call_in, ranks_meant, statements_in, is_past, is_meant, lacks, has_unknown_word, has_wrong_count};
+ghost use Rattle.mpx_script.specs.Grammar.{directive_in, kind_in, label_in, new_in, call_in, ranks_meant, ranks_labelled, statements_in, is_past, is_meant, lacks, has_unknown_word, has_wrong_new_words, has_wrong_count};
+ghost use Rattle.std.specs.List.{range_with_len};
 
 use crate::faults::{LineError, ScriptFault};
-use crate::grammar::{Label, below, kind_named, label_of, operation_named, type_named};
+use crate::grammar::{
+    Label, Shape, below, is_arrow, kind_named, label_of, operation_named, type_named,
+};
 use crate::words::{first_word, next_word};
 use mpx_post::{Fields, Kind};
 use std::marker::Model;
@@ -85,6 +88,68 @@ impl DirectiveSyntax<'_> {
     }
 }
 
+/// The words of a call that makes communicators: `COLOUR KEY TAG RANKS -> TARGET`, where the kind has them.
+#[derive(Drop)]
+pub struct NewSyntax<'a> {
+    pub colour: Option<&'a [u8]>,
+    pub key: Option<&'a [u8]>,
+    pub tag: Option<&'a [u8]>,
+    pub ranks: Option<&'a [u8]>,
+    pub arrow: Option<&'a [u8]>,
+    pub target: Option<&'a [u8]>,
+    /// The line behind these words.
+    pub behind: &'a [u8],
+}
+
+impl<'a> Model for NewSyntax<'a> {
+    ghost use Rattle.std.specs.Option.{option_copied};
+    ghost use Rattle.mpx_script.specs.Words.{words};
+    ghost use Rattle.mpx_script.specs.Grammar.{NewSyntax as NewSyntaxView};
+
+    ghost Value = { NewSyntaxView };
+
+    ghost view = { λ p. record {
+      colour = option_copied p.colour;
+      key = option_copied p.key;
+      tag = option_copied p.tag;
+      ranks = option_copied p.ranks;
+      arrow = option_copied p.arrow;
+      target = option_copied p.target;
+      behind = words p.behind.now;
+    } };
+}
+
+/// What stands behind the communicator as the words of a call of this shape.
+#[tactic(auto, unfolding(crate::specs::Grammar::new_in))]
+pub fn new_in(shape: Shape, line: &[u8]) -> NewSyntax<'_>
+    ensures { result ≡ new_in shape (words line.now) }
+{
+    let (colour, rest) = next_word(shape.colour, line);
+    let (key, rest) = next_word(shape.colour, rest);
+    let (tag, rest) = next_word(shape.tag, rest);
+    let (ranks, rest) = next_word(shape.ranks, rest);
+    let (arrow, rest) = next_word(shape.target, rest);
+    let (target, behind) = next_word(shape.target, rest);
+    NewSyntax {
+        colour,
+        key,
+        tag,
+        ranks,
+        arrow,
+        target,
+        behind,
+    }
+}
+
+impl NewSyntax<'_> {
+    /// Whether the new communicator's name is missing, or another word stands for `->`.
+    pub fn has_wrong_words(&self, shape: Shape) -> bool
+        ensures { result ≡ has_wrong_new_words shape self.now }
+    {
+        lacks(shape.target, self.target) || self.arrow.is_some_and(|word| !is_arrow(word))
+    }
+}
+
 /// The fields of a call as words: `ROOT OPERATION TYPE SCOUNTS RCOUNTS ITEMS`, where the kind has them.
 #[derive(Drop)]
 pub struct CallSyntax<'a> {
@@ -114,7 +179,7 @@ impl<'a> Model for CallSyntax<'a> {
     } };
 }
 
-/// What stands behind the communicator as the words of a call's fields.
+/// What stands behind those words as the words of a call's fields.
 #[tactic(auto, unfolding(crate::specs::Grammar::call_in))]
 pub fn call_in(fields: Fields, line: &[u8]) -> CallSyntax<'_>
     ensures { result ≡ call_in fields (words line.now) }
@@ -179,6 +244,7 @@ pub fn ranks_named(label: Option<Label>, ranks: u8) -> Result<(u8, u8), LineErro
     ensures count { IfOk result (λ found. ranks_meant ranks label ≡ found.1 - found.0) }
     ensures named { IfOk result (λ found. (rank : ℕ) → rank < ranks
         → is_meant rank label ≡ (nat_le found.0 rank && nat_lt rank found.1)) }
+    ensures ranks { IfOk result (λ found. ranks_labelled ranks label ≡ range_with_len found.0 (found.1 - found.0)) }
     ensures ok { IfOk result (λ found. (is_past ranks label ≡ false) × (is_none label ≡ false)) }
     ensures err { IfErr result (λ e. ((e ≡ LineError.Fault ScriptFault.RankOutOfRange) × (is_past ranks label ≡ true))
         ⊎ ((e ≡ LineError.Fault ScriptFault.UnknownStatement) × (label ≡ None))) }

@@ -1,11 +1,13 @@
 //! What the lines of a transcript tell, and what they have to do with the statements.
-ghost use Rattle.std.specs.Prelude.{◌≡◌, ℕ, List, [], Some, slice_get};
+ghost use Rattle.std.specs.Prelude.{◌≡◌, ℕ, ◌<◌, List, [], Some, slice_get, codes};
 ghost use Rattle.mpx_name.specs.Name.{Name};
 ghost use Rattle.mpx_value.specs.declared.outcomes.Outcome.{Outcome};
 ghost use Rattle.mpx_script.specs.declared.statement.Statement.{Statement};
-ghost use Rattle.mpx_script.specs.Ranks.{Told};
-ghost use Rattle.mpx_script.specs.Evaluation.{State, IsReached, bound_at_start, known, statements_of};
-ghost use Rattle.mpx_script.specs.Told.{CarriesOut, IsToldOf, Passes};
+ghost use Rattle.mpx_post.specs.Births.{BirthView};
+ghost use Rattle.mpx_script.specs.Grammar.{named};
+ghost use Rattle.mpx_script.specs.Ranks.{Communicator, Told};
+ghost use Rattle.mpx_script.specs.Evaluation.{State, IsReached, bound_at_start, known, statements_of, world_of};
+ghost use Rattle.mpx_script.specs.Told.{CarriesOut, IsMemberOf, IsToldOf, Passes};
 
 /// After any list of moves each line that tells the outcome of a call of a context tells the value of that call: all
 /// members of the context have posted to it, and the outcome is what their posts give this rank.
@@ -18,11 +20,17 @@ pub fn lines_tell_the_values_of_all_posts()
 /// then its post is the next one that the rank made, and its line tells the outcome of that very call; or it was refused,
 /// and then its line says why, and there is no post. The rank has made no other post, but for that of the statement whose
 /// outcome it waits for, and has no other line. One that has nothing left to do has passed all of its statements.
+///
+/// `world` is bound to the communicator of all ranks. A word of a statement is bound to the communicator that its call gave,
+/// and to the null communicator where it gave none or was refused. A rank is a member of each communicator that a word of
+/// its is bound to.
 pub fn ranks_carry_out_their_statements()
     ensures carries_out { (script : List (List Statement)) (ranks : ℕ) (s : State) → IsReached script ranks s →
-        (p : ℕ) → CarriesOut (known ranks s p) (statements_of script p) (s p) }
+        (p : ℕ) → CarriesOut (known ranks s p) (bound_at_start ranks) (statements_of script p) (s p) }
     ensures all { (script : List (List Statement)) (ranks : ℕ) (s : State) → IsReached script ranks s →
-        (p : ℕ) → (s p).todo ≡ [] → Passes (known ranks s p) p (bound_at_start ranks) [] (statements_of script p) (s p).made (s p).lines }
+        (p : ℕ) → (s p).todo ≡ [] → Passes (known ranks s p) p (bound_at_start ranks) [] (statements_of script p) (s p).bound (s p).made (s p).lines }
     ensures me { (script : List (List Statement)) (ranks : ℕ) (s : State) → IsReached script ranks s → (p : ℕ) → (s p).me ≡ p }
-    ensures bound { (script : List (List Statement)) (ranks : ℕ) (s : State) → IsReached script ranks s → (p : ℕ) → (s p).bound ≡ bound_at_start ranks }
+    ensures world { (script : List (List Statement)) (ranks : ℕ) (s : State) → IsReached script ranks s → (p : ℕ) → named (s p).bound (codes "world") ≡ Some (Communicator [] (world_of ranks)) }
+    ensures bound { (script : List (List Statement)) (ranks : ℕ) (s : State) → IsReached script ranks s → (p : ℕ) → p < ranks
+        → (word : List ℕ) (name : Name) (birth : BirthView) → named (s p).bound word ≡ Some (Communicator name birth) → IsMemberOf ranks s p name birth }
 {}

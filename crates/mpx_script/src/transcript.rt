@@ -1,5 +1,5 @@
 // The text of a line of a transcript.
-ghost use Rattle.std.specs.Prelude.{◌≡◌, ◌++◌, IfOk, pos, codes, string_bytes};
+ghost use Rattle.std.specs.Prelude.{◌≡◌, ◌++◌, ◌∷◌, IfOk, pos, codes, string_bytes};
 ghost use Rattle.mpx_num.specs.Text.{number_text};
 ghost use Rattle.mpx_script.specs.Ranks.{Refused};
 ghost use Rattle.mpx_script.specs.Transcripts.{fault_name, line_text, numbers_text, outcome_text, refusal_name};
@@ -11,7 +11,8 @@ use mpx_value::{FaultKind, Outcome};
 use std::alloc::Global;
 
 /// The line of a transcript that tells an outcome: the numbers with one space between them, `empty` where there are
-/// none, `ok` where the call gives nothing, `none` where there is nothing to give, or `fault NAME at RANK`.
+/// none, `ok` where the call gives nothing, `none` where there is nothing to give, `comm SIZE RANK` of
+/// a new communicator, `null` where the rank gets none, or `fault NAME at RANK`.
 pub fn line(alloc: Global, outcome: &Outcome) -> Result<String, OutOfMemory>
     ensures { IfOk result (λ text. string_bytes text ≡ outcome_text outcome.now) }
 {
@@ -19,6 +20,8 @@ pub fn line(alloc: Global, outcome: &Outcome) -> Result<String, OutOfMemory>
         Outcome::Nothing => Ok(String::from_str(alloc, "ok")?),
         Outcome::Absent => Ok(String::from_str(alloc, "none")?),
         Outcome::Items(items) => numbers_line(alloc, items.nums()),
+        Outcome::NewComm { size, rank, .. } => communicator_line(alloc, *size, *rank),
+        Outcome::Null => Ok(String::from_str(alloc, "null")?),
         Outcome::Fault(fault) => fault_line(alloc, fault.what, fault.rank),
     }
 }
@@ -47,6 +50,16 @@ fn numbers_line(alloc: Global, numbers: &[i128]) -> Result<String, OutOfMemory>
     Ok(text)
 }
 
+fn communicator_line(alloc: Global, size: u8, rank: u8) -> Result<String, OutOfMemory>
+    ensures { IfOk result (λ text. string_bytes text ≡ codes "comm " ++ number_text (pos size) ++ 32 ∷ number_text (pos rank)) }
+{
+    let mut text = String::from_str(alloc, "comm ")?;
+    push_number(&mut text, i128::from(size))?;
+    text.push_str(" ")?;
+    push_number(&mut text, i128::from(rank))?;
+    Ok(text)
+}
+
 fn fault_line(alloc: Global, what: FaultKind, rank: u8) -> Result<String, OutOfMemory>
     ensures { IfOk result (λ text. string_bytes text ≡ codes "fault " ++ fault_name what ++ codes " at " ++ number_text (pos rank)) }
 {
@@ -67,6 +80,7 @@ fn name_of_fault(what: FaultKind) -> &'static str
         FaultKind::Op => "Op",
         FaultKind::ItemType => "ItemType",
         FaultKind::Amount => "Amount",
+        FaultKind::Groups => "Groups",
     }
 }
 
@@ -82,6 +96,9 @@ fn name_of_refusal(refusal: PostError) -> &'static str
         PostError::ItemOutOfRange => "ItemOutOfRange",
         PostError::TooManyItems => "TooManyItems",
         PostError::CallsUsedUp => "CallsUsedUp",
+        PostError::DepthUsedUp => "DepthUsedUp",
+        PostError::BadGroup => "BadGroup",
+        PostError::BadTag => "BadTag",
         PostError::OutOfMemory => "OutOfMemory",
     }
 }

@@ -1,13 +1,18 @@
 -- What was posted stays, and so do births, whole rows and what they give.
-use Rattle.std.proofs.Common.{◌≡◌, ℕ, Bool, true, false, cond, List, [], ◌∷◌, ◌++◌, Option, Some, refl, ap, ◌∙◌}
+use Rattle.std.proofs.Common.{◌≡◌, ℕ, Bool, true, false, cond, List, [], ◌∷◌, ◌++◌, length, Option, Some, None, refl, sym, ap, ◌∙◌}
 use Rattle.std.specs.Prelude.{option_and_then}
+use Rattle.std.specs.Option.{option_map}
 use Rattle.std.proofs.lemmas.Option.{option_and_then_some}
 use Rattle.mpx_name.specs.declared.steps.Step.TheVariants.{Child, Gathering}
 use Rattle.mpx_name.specs.Name.{Name, same_name}
 use Rattle.mpx_post.specs.Posts.{Given}
-use Rattle.mpx_post.specs.Births.{BirthView}
+use Rattle.mpx_post.specs.Births.{BirthView, rank_in}
 use Rattle.mpx_post.specs.Rows.{RowView, all_of}
-use Rattle.mpx_value.specs.Histories.{Made, posts_on, History, Grows, row_of, child, child_of, gathered, birth_of, Within, value_for, results_by, results_of}
+use Rattle.mpx_value.specs.declared.outcomes.Outcome.{Outcome}
+use Rattle.mpx_value.specs.declared.outcomes.Outcome.TheVariants.{Nothing, Absent, Items, NewComm, Null, Fault}
+use Rattle.mpx_value.specs.Children.{child}
+use Rattle.mpx_value.specs.Histories.{Made, posts_on, History, Grows, row_of, child_of, gathered, birth_of, Within, value_for, outcomes_by, outcome_of, answer_with, results_of}
+use Rattle.mpx_value.proofs.NewCommunicators.{children_exact, new_communicator}
 
 -- POSTS
 
@@ -50,9 +55,51 @@ module _ (h later : History) (ranks : ℕ) (grows : Grows h later) where
       then_some (gathered members) (birth_of later ranks parent) b birth (birth-grows parent b eb) r)
 
   -- who sees a longer history sees more rows whole, and no other values
+  pub outcomes-grow : (me : ℕ) (name : Name) (k : ℕ) (outcome : Outcome) → outcome_of h ranks me name k ≡ Some outcome → outcome_of later ranks me name k ≡ Some outcome
+  outcomes-grow me name k outcome e =
+      option_and_then_some (λ birth. outcomes_by h name birth me k) (birth_of h ranks name) outcome e (λ birth eb r.
+      then_some (λ b. outcomes_by later name b me k) (birth_of later ranks name) birth outcome (birth-grows name birth eb)
+      (option_and_then_some (λ row. value_for birth me row name k) (row_of h name birth k) outcome r (λ row er s.
+      then_some (λ row. value_for birth me row name k) (row_of later name birth k) row outcome (row-grows name birth k row er) s)))
+
+-- a communicator that the history has given a process: its birth is known there, and has the process
+pub record IsBornWith (births : Name → Option BirthView) (me : ℕ) (name : Name) (size rank : ℕ) : Type 0 where
+  pub birth : BirthView
+  pub born : births name ≡ Some birth
+  pub counted : size ≡ length birth.members
+  pub member : rank_in me birth.members ≡ Some rank
+
+pub new-born : (h : History) (ranks me : ℕ) (name : Name) (k : ℕ) (new : Name) (size rank : ℕ) → outcome_of h ranks me name k ≡ Some (NewComm new size rank) → IsBornWith (birth_of h ranks) me new size rank
+new-born h ranks me name k new size rank e =
+    option_and_then_some (λ birth. outcomes_by h name birth me k) (birth_of h ranks name) (NewComm new size rank) e (λ birth eb r.
+    option_and_then_some (λ row. value_for birth me row name k) (row_of h name birth k) (NewComm new size rank) r (λ row er s.
+    let i = new_communicator birth me row name k new size rank s in
+    record {
+      birth = i.child.birth;
+      born = ap (birth_of h ranks) i.named
+          ∙ then_some (child_of h name k i.child.colour) (birth_of h ranks name) birth i.child.birth eb
+          (then_some (λ x. child birth x name k i.child.colour) (row_of h name birth k) row i.child.birth er (children_exact birth row name k i.place i.child i.among));
+      counted = i.counted;
+      member = i.member;
+    }))
+
+module _ (h later : History) (ranks : ℕ) (grows : Grows h later) where
+  -- what an outcome names stays born
+  same-answer : (outcome : Outcome) → ((new : Name) (size rank : ℕ) → outcome ≡ NewComm new size rank → (birth : BirthView) × (birth_of h ranks new ≡ Some birth)) → answer_with (birth_of later ranks) outcome ≡ answer_with (birth_of h ranks) outcome
+  same-answer Nothing born = refl
+  same-answer Absent born = refl
+  same-answer (Items items) born = refl
+  same-answer (NewComm new size rank) born =
+      let b = born new size rank refl in
+      λ i. record { outcome = NewComm new size rank; born = (birth-grows h later ranks grows new b.0 b.1 ∙ sym b.1) i }
+  same-answer Null born = refl
+  same-answer (Fault fault) born = refl
+
   pub results-grow : (me : ℕ) → Within (results_of h ranks me) (results_of later ranks me)
-  results-grow me name k outcome e =
-      option_and_then_some (λ birth. results_by h name birth me k) (birth_of h ranks name) outcome e (λ birth eb r.
-      then_some (λ b. results_by later name b me k) (birth_of later ranks name) birth outcome (birth-grows name birth eb)
-      (option_and_then_some (value_for birth me) (row_of h name birth k) outcome r (λ row er s.
-      then_some (value_for birth me) (row_of later name birth k) row outcome (row-grows name birth k row er) s)))
+  results-grow me name k answer e = by_outcome (outcome_of h ranks me name k) refl e where
+    by_outcome : (o : Option Outcome) → outcome_of h ranks me name k ≡ o → option_map (answer_with (birth_of h ranks)) o ≡ Some answer → results_of later ranks me name k ≡ Some answer
+    by_outcome None f g = cc g
+    by_outcome (Some outcome) f g =
+        ap (option_map (answer_with (birth_of later ranks))) (outcomes-grow h later ranks grows me name k outcome f)
+        ∙ ap Some (same-answer outcome (λ new size rank is. let b = new-born h ranks me name k new size rank (f ∙ ap Some is) in (b.birth, b.born)))
+        ∙ g

@@ -1,12 +1,16 @@
 -- What all processes posted on all contexts, the members that this gives to each context, and what its whole rows give.
-use Rattle.std.specs.Prelude.{◌≡◌, ℕ, Bool, true, cond, not, ◌==◌, ◌&&◌, nat_lt, List, [], ◌∷◌, length, Option, Some, None, option_and_then, slice_get}
-use Rattle.std.specs.List.{list_any, list_all}
+use Rattle.std.specs.Prelude.{◌≡◌, ℕ, Bool, cond, not, ◌&&◌, nat_lt, List, [], ◌∷◌, length, Option, Some, None, option_and_then, slice_get}
+use Rattle.std.specs.List.{list_all}
+use Rattle.std.specs.Option.{option_map}
+use Rattle.mpx_group.specs.Group.{has, has_twice}
 use Rattle.mpx_name.specs.declared.steps.Step.TheVariants.{Child, Gathering}
 use Rattle.mpx_name.specs.Name.{Name, same_name}
 use Rattle.mpx_post.specs.Posts.{Given}
 use Rattle.mpx_post.specs.Births.{BirthView, rank_in, upto}
 use Rattle.mpx_post.specs.Rows.{RowView, all_of}
 use Rattle.mpx_value.specs.declared.outcomes.Outcome.{Outcome}
+use Rattle.mpx_value.specs.declared.outcomes.Outcome.TheVariants.{Nothing, Absent, Items, NewComm, Null, Fault}
+use Rattle.mpx_value.specs.Children.{child}
 use Rattle.mpx_value.specs.Values.{value}
 
 -- POSTS
@@ -39,38 +43,13 @@ row_of h name birth k = all_of (h name k) birth.members
 
 -- BIRTHS
 
--- a communicator that a call makes, told from its sisters by a colour
-pub record ChildView : Type 0 where
-  pub colour : ℕ
-  pub birth : BirthView
-
--- what the call with this row makes: no kind of call makes any yet
-unfoldable pub children : BirthView → RowView → Name → (call : ℕ) → List ChildView
-children birth row name call = []
-
--- the one of this colour
-abbrev pub of_colour : ℕ → List ChildView → Option BirthView
-of_colour colour [] = None
-of_colour colour (x ∷ rest) = cond (x.colour == colour) (Some x.birth) (of_colour colour rest)
-
--- the child of this colour that the call with this row makes
-abbrev pub child : BirthView → RowView → Name → (call colour : ℕ) → Option BirthView
-child birth row name call colour = of_colour colour (children birth row name call)
-
 -- the child of this colour of a call, where its row is whole
 abbrev pub child_of : History → Name → (call colour : ℕ) → BirthView → Option BirthView
 child_of h name call colour birth = option_and_then (λ row. child birth row name call colour) (row_of h name birth call)
 
-abbrev pub is_among : ℕ → List ℕ → Bool
-is_among p ps = list_any (λ q. q == p) ps
-
-abbrev pub are_distinct : List ℕ → Bool
-are_distinct [] = true
-are_distinct (p ∷ ps) = not (is_among p ps) && are_distinct ps
-
 -- whether these can gather below a context with this birth: some of its members, each once
 abbrev pub may_gather : List ℕ → BirthView → Bool
-may_gather members birth = nat_lt 0 (length members) && (are_distinct members && list_all (λ p. is_among p birth.members) members)
+may_gather members birth = nat_lt 0 (length members) && (not (has_twice members) && list_all (has birth.members) members)
 
 abbrev pub gathered : List ℕ → BirthView → Option BirthView
 gathered members birth = cond (may_gather members birth) (Some (record { members = members })) None
@@ -85,24 +64,47 @@ birth_of h ranks (Gathering tag members ∷ parent) = option_and_then (gathered 
 abbrev pub whole_row : History → (ranks : ℕ) → Name → (call : ℕ) → Option RowView
 whole_row h ranks name k = option_and_then (λ birth. row_of h name birth k) (birth_of h ranks name)
 
+-- OUTCOMES
+
+-- what a row gives a member, by the member's rank
+abbrev pub value_for : BirthView → ℕ → RowView → Name → (call : ℕ) → Option Outcome
+value_for birth me row name call = option_and_then (λ rank. Some (value birth row name call rank)) (rank_in me birth.members)
+
+-- what the whole rows of a context with this birth give a process
+abbrev pub outcomes_by : History → Name → BirthView → (me call : ℕ) → Option Outcome
+outcomes_by h name birth me k = option_and_then (λ row. value_for birth me row name k) (row_of h name birth k)
+
+-- what the rows that are whole give a process
+abbrev pub outcome_of : History → (ranks me : ℕ) → Name → (call : ℕ) → Option Outcome
+outcome_of h ranks me name k = option_and_then (λ birth. outcomes_by h name birth me k) (birth_of h ranks name)
+
 -- RESULTS
 
--- what is known of the outcomes of calls, by their contexts and numbers
+-- what a call gave a process, and how the communicator came to be that this names
+pub record Answer : Type 0 where
+  pub outcome : Outcome
+  pub born : Option BirthView
+
+-- what is known of calls, by their contexts and numbers
 abbrev pub Results : Type 0
-Results = Name → (call : ℕ) → Option Outcome
+Results = Name → (call : ℕ) → Option Answer
 
 -- each answer of the first is one of the second
 abbrev pub Within : Results → Results → Type 0
-Within r more = (name : Name) (k : ℕ) (outcome : Outcome) → r name k ≡ Some outcome → more name k ≡ Some outcome
+Within r more = (name : Name) (k : ℕ) (answer : Answer) → r name k ≡ Some answer → more name k ≡ Some answer
 
--- what a row gives a member, by the member's rank
-abbrev pub value_for : BirthView → ℕ → RowView → Option Outcome
-value_for birth me row = option_and_then (λ rank. Some (value row rank)) (rank_in me birth.members)
+abbrev pub born_by : (Name → Option BirthView) → Outcome → Option BirthView
+born_by births Nothing = None
+born_by births Absent = None
+born_by births (Items items) = None
+born_by births (NewComm name size rank) = births name
+born_by births Null = None
+born_by births (Fault fault) = None
 
--- what the whole rows of a context with this birth give a process
-abbrev pub results_by : History → Name → BirthView → (me call : ℕ) → Option Outcome
-results_by h name birth me k = option_and_then (value_for birth me) (row_of h name birth k)
+-- an outcome, where these births are known
+abbrev pub answer_with : (Name → Option BirthView) → Outcome → Answer
+answer_with births outcome = record { outcome = outcome; born = born_by births outcome }
 
--- what the rows that are whole give a process
+-- what the rows that are whole tell a process
 abbrev pub results_of : History → (ranks me : ℕ) → Results
-results_of h ranks me name k = option_and_then (λ birth. results_by h name birth me k) (birth_of h ranks name)
+results_of h ranks me name k = option_map (answer_with (birth_of h ranks)) (outcome_of h ranks me name k)

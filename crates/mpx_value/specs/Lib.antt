@@ -1,2 +1,5 @@
+pub mod Orders
+pub mod Children
+pub mod Colours
 pub mod Values
 pub mod Histories

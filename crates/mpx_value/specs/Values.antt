@@ -1,5 +1,7 @@
--- What a call gives its members (MPI 4.1, sections 6.3 to 6.11).
-use Rattle.std.specs.Prelude.{ℕ}
+-- What a call gives its members (MPI 4.1, sections 6.3 to 6.11 and 7.4.2).
+use Rattle.std.specs.Prelude.{ℕ, cond, List, [], ◌∷◌, length, slice_index_or}
+use Rattle.std.specs.Option.{option_map_or}
+use Rattle.mpx_match.specs.declared.faults.FaultKind.TheVariants.{Amount}
 use Rattle.mpx_match.specs.declared.faults.Verdict.{Verdict}
 use Rattle.mpx_match.specs.declared.faults.Verdict.TheVariants as V
 use Rattle.mpx_match.specs.Verdicts.{verdict}
@@ -10,29 +12,42 @@ use Rattle.mpx_post.specs.declared.value.Value.TheVariants as G
 use Rattle.mpx_post.specs.declared.kinds.Family.{Family}
 use Rattle.mpx_post.specs.declared.kinds.Family.TheVariants as F
 use Rattle.mpx_post.specs.Kinds.{family_of}
+use Rattle.mpx_name.specs.Name.{Name}
+use Rattle.mpx_post.specs.Births.{BirthView, rank_in}
 use Rattle.mpx_post.specs.Rows.{RowView}
 use Rattle.mpx_post.specs.Agreement.{first_of}
 use Rattle.mpx_value.specs.declared.outcomes.Outcome.{Outcome}
-use Rattle.mpx_value.specs.declared.outcomes.Outcome.TheVariants.{Nothing, Absent, Items, Fault}
-
--- what a fine row gives the member with this rank, by the family of its kind
-abbrev pub given_in : Family → RowView → ℕ → Value
-given_in (F.Exchange exchange) row rank = move_value row rank
-given_in (F.Reduction reduction) row rank = fold_value row rank
-
-abbrev pub given_to : RowView → ℕ → Value
-given_to row rank = given_in (family_of (first_of row).kind) row rank
+use Rattle.mpx_value.specs.declared.outcomes.Outcome.TheVariants.{Nothing, Absent, Items, NewComm, Null, Fault}
+use Rattle.mpx_value.specs.Children.{children, has_room, named_children}
 
 abbrev pub outcome_of : Value → Outcome
 outcome_of G.Nothing = Nothing
 outcome_of G.Absent = Absent
 outcome_of (G.Items items) = Items items
 
--- the fault, told to all members, else the value
-abbrev pub or_fault : Verdict → Value → Outcome
-or_fault V.Fine value = outcome_of value
-or_fault (V.Fault fault) value = Fault fault
+-- which of these communicators has the process, with its size and the process's rank; null where none has it
+abbrev pub told : List (Name × BirthView) → (process : ℕ) → Outcome
+told [] process = Null
+told (new ∷ rest) process = option_map_or (λ rank. NewComm new.0 (length new.1.members) rank) (rank_in process new.1.members) (told rest process)
+
+-- what the call gives the process by the communicators that it makes; a name that can have no further step is a fault
+abbrev pub new_communicator : BirthView → RowView → Name → (call process : ℕ) → Outcome
+new_communicator birth row name call process = cond (has_room name) (told (named_children name call (children birth row name call)) process) (Fault (record { what = Amount; rank = 0 }))
+
+-- what a fine row gives the member with this rank, by the family of its kind
+abbrev pub given_in : Family → BirthView → RowView → Name → (call rank : ℕ) → Outcome
+given_in (F.Exchange exchange) birth row name call rank = outcome_of (move_value row rank)
+given_in (F.Reduction reduction) birth row name call rank = outcome_of (fold_value row rank)
+given_in (F.NewCommunicator new) birth row name call rank = new_communicator birth row name call (slice_index_or birth.members rank 0)
+
+abbrev pub given_to : BirthView → RowView → Name → (call rank : ℕ) → Outcome
+given_to birth row name call rank = given_in (family_of (first_of row).kind) birth row name call rank
+
+-- the fault, told to all members, else what is given
+abbrev pub or_fault : Verdict → Outcome → Outcome
+or_fault V.Fine given = given
+or_fault (V.Fault fault) given = Fault fault
 
 -- what the call gives the member with this rank
-unfoldable pub value : RowView → ℕ → Outcome
-value row rank = or_fault (verdict row) (given_to row rank)
+unfoldable pub value : BirthView → RowView → Name → (call rank : ℕ) → Outcome
+value birth row name call rank = or_fault (verdict row) (given_to birth row name call rank)

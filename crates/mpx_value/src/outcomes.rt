@@ -1,4 +1,5 @@
 use mpx_match::Fault;
+use mpx_name::Name;
 use mpx_num::Items;
 
 /// What a call gives a member.
@@ -10,6 +11,10 @@ pub enum Outcome {
     Absent,
     /// The items that the member gets.
     Items(Items),
+    /// A new communicator (MPI 4.1 section 7.4.2): its name, how many members it has, and the member's rank in it.
+    NewComm { name: Name, size: u8, rank: u8 },
+    /// The null communicator: the member is in none that the call made.
+    Null,
     /// The fault of the call's posts, which every member is told.
     Fault(Fault),
 }

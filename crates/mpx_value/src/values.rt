@@ -1,36 +1,65 @@
 ghost use Rattle.std.specs.Prelude.{◌≡◌, ◌<◌, IfOk, length};
+ghost use Rattle.mpx_match.specs.Verdicts.{verdict};
 ghost use Rattle.mpx_post.specs.Agreement.{IsFine};
-ghost use Rattle.mpx_value.specs.Values.{given_to, outcome_of, value};
+ghost use Rattle.mpx_post.specs.Drafts.{most_calls};
+ghost use Rattle.mpx_value.specs.Values.{given_to, new_communicator, outcome_of, told, value};
 
+use crate::births::{has_room, made};
 use crate::outcomes::Outcome;
 use join_core::OutOfMemory;
 use mpx_fold::fold_value;
-use mpx_match::{Verdict, verdict};
+use mpx_group::Proc;
+use mpx_match::{Fault, FaultKind, Verdict, verdict};
 use mpx_move::move_value;
-use mpx_post::{Family, Row, Value};
+use mpx_name::Name;
+use mpx_post::{Birth, Family, Row, Value};
 use std::alloc::Global;
 
-/// What the call with this row of posts gives the member with this rank.
+/// What the call with this number on a context with this name and birth, of which this is the row of posts, gives the
+/// member with this rank.
 #[tactic(auto, unfolding(crate::specs::Values::value))]
-pub fn outcome(alloc: Global, row: &Row<'_>, rank: u8) -> Result<Outcome, OutOfMemory>
+pub fn outcome(
+    alloc: Global,
+    birth: &Birth,
+    row: &Row<'_>,
+    name: &Name,
+    call: u32,
+    rank: u8,
+) -> Result<Outcome, OutOfMemory>
+    requires members { length row.now ≡ length birth.now.members }
     requires rank { rank < length row.now }
-    ensures { IfOk result (λ outcome. outcome ≡ value row.now rank) }
+    requires call { call < most_calls }
+    ensures { IfOk result (λ outcome. outcome ≡ value birth.now row.now name.now call rank) }
 {
     match verdict(row) {
         Verdict::Fault(fault) => Ok(Outcome::Fault(fault)),
-        Verdict::Fine => Ok(outcome_of(given_to(alloc, row, rank)?)),
+        Verdict::Fine => given_to(alloc, birth, row, name, call, rank),
     }
 }
 
 // What a fine row gives the member.
-fn given_to(alloc: Global, row: &Row<'_>, rank: u8) -> Result<Value, OutOfMemory>
+fn given_to(
+    alloc: Global,
+    birth: &Birth,
+    row: &Row<'_>,
+    name: &Name,
+    call: u32,
+    rank: u8,
+) -> Result<Outcome, OutOfMemory>
     requires fine { IsFine row.now }
+    requires verdict { verdict row.now ≡ Verdict.Fine }
+    requires members { length row.now ≡ length birth.now.members }
     requires rank { rank < length row.now }
-    ensures { IfOk result (λ value. value ≡ given_to row.now rank) }
+    requires call { call < most_calls }
+    ensures { IfOk result (λ outcome. outcome ≡ given_to birth.now row.now name.now call rank) }
 {
     match row.post(0).kind().family() {
-        Family::Exchange(_) => move_value(alloc, row, rank),
-        Family::Reduction(_) => fold_value(alloc, row, rank),
+        Family::Exchange(_) => Ok(outcome_of(move_value(alloc, row, rank)?)),
+        Family::Reduction(_) => Ok(outcome_of(fold_value(alloc, row, rank)?)),
+        Family::NewCommunicator(_) => {
+            let process = birth.members()[usize::from(rank)];
+            new_communicator(alloc, birth, row, name, call, process)
+        }
     }
 }
 
@@ -42,4 +71,42 @@ fn outcome_of(value: Value) -> Outcome
         Value::Absent => Outcome::Absent,
         Value::Items(items) => Outcome::Items(items),
     }
+}
+
+// What a fine row gives the process by the communicators that it makes.
+fn new_communicator(
+    alloc: Global,
+    birth: &Birth,
+    row: &Row<'_>,
+    name: &Name,
+    call: u32,
+    process: Proc,
+) -> Result<Outcome, OutOfMemory>
+    requires fine { IsFine row.now }
+    requires verdict { verdict row.now ≡ Verdict.Fine }
+    requires members { length row.now ≡ length birth.now.members }
+    requires call { call < most_calls }
+    ensures { IfOk result (λ outcome. outcome ≡ new_communicator birth.now row.now name.now call process) }
+{
+    if has_room(name) {
+        Ok(told(made(alloc, birth, row, name, call)?, process))
+    } else {
+        Ok(Outcome::Fault(Fault {
+            what: FaultKind::Amount,
+            rank: 0,
+        }))
+    }
+}
+
+// Which of these communicators has the process.
+fn told(made: Vec<(Name, Birth)>, process: Proc) -> Outcome
+    ensures { result ≡ told made.items process }
+{
+    for (name, birth) in made {
+        if let Some(rank) = birth.rank_of(process) {
+            let size = birth.members().len() as u8;
+            return Outcome::NewComm { name, size, rank };
+        }
+    }
+    Outcome::Null
 }

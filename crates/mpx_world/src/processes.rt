@@ -12,6 +12,7 @@ use mpx_board::Board;
 use mpx_group::Proc;
 use mpx_name::Name;
 use mpx_node::{Harvest, Node};
+use mpx_num::Numbers;
 use mpx_post::{Draft, PostError};
 use std::alloc::Global;
 
@@ -92,6 +93,12 @@ impl Processes {
         match event {
             Event::Post { proc, name, draft } => self.post(alloc, *proc, name, draft),
             Event::Harvest { proc, name } => self.harvest(alloc, *proc, name),
+            Event::Gather {
+                proc,
+                parent,
+                tag,
+                ranks,
+            } => self.gather(alloc, *proc, parent, *tag, ranks),
             Event::Prune { proc, name, number } => Ok(self.prune(*proc, name, *number)),
             Event::Send { proc, cut } => self.send(alloc, *proc, cut),
             Event::Take { proc, part } => self.take(alloc, *proc, *part),
@@ -132,6 +139,31 @@ impl Processes {
         }
         let harvest = self.nodes[at].harvest(alloc, name)?;
         Ok(harvested(harvest))
+    }
+
+    fn gather(
+        &mut self,
+        alloc: Global,
+        proc: Proc,
+        parent: &Name,
+        tag: i128,
+        ranks: &Numbers,
+    ) -> Result<Reply, OutOfMemory>
+        ensures { Does (E.Gather proc parent.now tag ranks.now) result self.old self.new }
+    {
+        let at = usize::from(proc.number());
+        if at >= self.nodes.len() {
+            return Ok(Reply::NoSuchProcess);
+        }
+        match self.nodes[at].open_gathering(alloc, parent, tag, ranks.as_slice()) {
+            Ok(name) => Ok(Reply::Opened(name)),
+            Err(refusal) => {
+                if is_want_of_memory(refusal) {
+                    return Err(OutOfMemory);
+                }
+                Ok(Reply::GatherRefused(refusal))
+            }
+        }
     }
 
     fn prune(&mut self, proc: Proc, name: &Name, number: u32) -> Reply
@@ -208,5 +240,8 @@ fn is_want_of_memory(refusal: PostError) -> bool
         PostError::ItemOutOfRange => false,
         PostError::TooManyItems => false,
         PostError::CallsUsedUp => false,
+        PostError::DepthUsedUp => false,
+        PostError::BadGroup => false,
+        PostError::BadTag => false,
     }
 }

@@ -2,6 +2,7 @@
 use crate::making::sum_of;
 use join_core::Exact;
 use mpx_group::Proc;
+use mpx_name::Name;
 use mpx_post::{At, Birth, Post, PostError};
 use std::alloc::Global;
 use std::test::Fail;
@@ -17,7 +18,7 @@ fn checked(
     let nums = vec![in alloc; number; count]?;
     let draft = sum_of(alloc, &nums)?;
     let world = Birth::world(alloc, 2)?;
-    Ok(draft.check(alloc, &world, me, &At { call }))
+    Ok(draft.check(alloc, &world, me, &At::on(&Name::world(alloc), call)))
 }
 
 // As many items and calls as there may be.

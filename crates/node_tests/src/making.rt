@@ -5,21 +5,23 @@ use mpx_group::Proc;
 use mpx_name::Name;
 use mpx_node::Node;
 use mpx_num::{Numbers, Op, Ty};
-use mpx_post::{Draft, Kind, Mode};
+use mpx_post::{Call, Draft, Kind};
 use std::alloc::Global;
 use std::process::Abort;
 use std::test::Fail;
 
 pub fn sum_of(alloc: Global, nums: &[i128]) -> Result<Draft, Fail> {
     Ok(Draft {
-        kind: Kind::Allreduce,
-        mode: Mode::Blocking,
+        call: Call::blocking(Kind::Allreduce),
         root: 0,
         op: Op::Sum,
         ty: Ty::I64,
         scounts: Numbers::new(alloc, Vec::new(alloc))?,
         rcounts: Numbers::new(alloc, Vec::new(alloc))?,
         items: Numbers::new(alloc, Vec::from_slice(alloc, nums)?)?,
+        colour: None,
+        key: 0,
+        group: Numbers::new(alloc, Vec::new(alloc))?,
     })
 }
 
@@ -54,4 +56,12 @@ pub fn posted(
         post(rt, alloc, &mut node, *call, nums)?;
     }
     Ok(node)
+}
+
+// What makes communicators: a kind of call, and the ranks of a group where it has one.
+pub fn new_of(alloc: Global, kind: Kind, ranks: &[i128]) -> Result<Draft, Fail> {
+    let mut draft = sum_of(alloc, &[])?;
+    draft.call = Call::blocking(kind);
+    draft.group = Numbers::new(alloc, Vec::from_slice(alloc, ranks)?)?;
+    Ok(draft)
 }

@@ -2,7 +2,11 @@
 #![tactic(auto)]
 
 #[cfg(test)]
+mod gatherings;
+#[cfg(test)]
 mod making;
+#[cfg(test)]
+mod new_communicators;
 #[cfg(test)]
 mod posts;
 #[cfg(test)]

@@ -1,7 +1,7 @@
 //! Drafts and posts that the tests use.
 use mpx_group::Proc;
 use mpx_num::{Numbers, Op, Ty};
-use mpx_post::{At, Birth, Draft, Kind, Mode, Post, PostError};
+use mpx_post::{At, Birth, Call, Draft, Kind, Post, PostError};
 use std::alloc::Global;
 use std::test::Fail;
 
@@ -15,6 +15,9 @@ pub struct Drafted {
     pub scounts: &'static [i128],
     pub rcounts: &'static [i128],
     pub items: &'static [i128],
+    pub colour: Option<i128>,
+    pub key: i128,
+    pub group: &'static [i128],
 }
 
 const NO: &[i128] = &[];
@@ -37,6 +40,9 @@ pub fn just(kind: Kind, root: i128) -> Drafted {
         scounts: NO,
         rcounts: NO,
         items: NO,
+        colour: None,
+        key: 0,
+        group: NO,
     }
 }
 
@@ -46,30 +52,46 @@ fn numbers(alloc: Global, list: &[i128]) -> Result<Numbers, Fail> {
 
 pub fn draft(alloc: Global, drafted: &Drafted) -> Result<Draft, Fail> {
     Ok(Draft {
-        kind: drafted.kind,
-        mode: Mode::Blocking,
+        call: Call::blocking(drafted.kind),
         root: drafted.root,
         op: drafted.op,
         ty: drafted.ty,
         scounts: numbers(alloc, drafted.scounts)?,
         rcounts: numbers(alloc, drafted.rcounts)?,
         items: numbers(alloc, drafted.items)?,
+        colour: drafted.colour,
+        key: drafted.key,
+        group: numbers(alloc, drafted.group)?,
     })
+}
+
+// A call of world with this number.
+pub fn in_world(call: u32) -> At {
+    At {
+        call,
+        depth: 0,
+        gathering: false,
+    }
 }
 
 // What a communicator of two makes of a draft of the process with this number.
 pub fn check(
     alloc: Global,
     number: u8,
-    call: u32,
+    at: &At,
     draft: Draft,
 ) -> Result<Result<Post, PostError>, Fail> {
     let pair = Birth::world(alloc, 2)?;
-    Ok(draft.check(alloc, &pair, proc(number), &At { call }))
+    Ok(draft.check(alloc, &pair, proc(number), at))
 }
 
-// What it makes of the draft of process 0 as its first call.
-pub fn post(alloc: Global, drafted: &Drafted) -> Result<Post, Fail> {
-    let made = check(alloc, 0, 0, draft(alloc, drafted)?)?;
+// What it makes of the draft of process 0 there.
+pub fn post_at(alloc: Global, at: &At, drafted: &Drafted) -> Result<Post, Fail> {
+    let made = check(alloc, 0, at, draft(alloc, drafted)?)?;
     Ok(made.ok().ok_or("refused")?)
+}
+
+// What it makes of the draft of process 0 as the first call of world.
+pub fn post(alloc: Global, drafted: &Drafted) -> Result<Post, Fail> {
+    post_at(alloc, &in_world(0), drafted)
 }

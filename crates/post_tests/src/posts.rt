@@ -88,7 +88,7 @@ fn rows_lend_posts(rt: HostRuntime) -> Result<(), Fail> {
 fn copies_are_the_same(rt: HostRuntime) -> Result<(), Fail> {
     let alloc = rt.alloc();
     let drafted = draft(alloc, &just(Kind::Barrier, 0))?;
-    assert_eq!(rt; drafted.copy()?.kind, Kind::Barrier);
+    assert_eq!(rt; drafted.copy()?.call.kind(), Kind::Barrier);
     let post = received(alloc, &[2])?;
     assert!(rt; post.same(&post.copy(alloc)?));
     Ok(())
@@ -100,6 +100,17 @@ fn ranks_of_members(rt: HostRuntime) -> Result<(), Fail> {
     assert_eq!(rt; world.members().len(), 3);
     assert_eq!(rt; world.rank_of(proc(2)), Some(2));
     assert_eq!(rt; world.rank_of(proc(3)), None);
+    Ok(())
+}
+
+#[test]
+fn births_of_members(rt: HostRuntime) -> Result<(), Fail> {
+    let alloc = rt.alloc();
+    for (count, wanted) in [(0, None), (1, Some(1)), (64, Some(64)), (65, None)] {
+        let members = vec![in alloc; proc(5); count]?;
+        let made = Birth::new(members).map(|birth| birth.members().len());
+        assert_eq!(rt; made, wanted);
+    }
     Ok(())
 }
 

@@ -1,5 +1,5 @@
 //! Refusals of drafts, with values from outside.
-use crate::making::{Drafted, check, draft, just};
+use crate::making::{Drafted, check, draft, in_world, just};
 use mpx_num::{Op, Ty};
 use mpx_post::{Kind, PostError};
 use std::alloc::Global;
@@ -8,7 +8,7 @@ use std::test::Fail;
 // Why the first call of the process with this number is refused.
 fn refusal(alloc: Global, number: u8, drafted: &Drafted) -> Result<Option<PostError>, Fail> {
     let draft = draft(alloc, drafted)?;
-    Ok(check(alloc, number, 0, draft)?.err())
+    Ok(check(alloc, number, &in_world(0), draft)?.err())
 }
 
 fn reduce(root: i128, op: Op) -> Drafted {
@@ -127,7 +127,7 @@ fn items_outside_their_type(rt: HostRuntime) -> Result<(), Fail> {
 // Why a barrier is refused after so many calls.
 fn refused_after(alloc: Global, call: u32) -> Result<Option<PostError>, Fail> {
     let draft = draft(alloc, &just(Kind::Barrier, 0))?;
-    Ok(check(alloc, 0, call, draft)?.err())
+    Ok(check(alloc, 0, &in_world(call), draft)?.err())
 }
 
 #[test]

@@ -164,3 +164,47 @@ fn what_does_not_fit(rt: HostRuntime) -> Result<(), Fail> {
     check_runs(&rt, rt.alloc(), table.as_slice());
     Ok(())
 }
+
+#[test]
+fn communicators(rt: HostRuntime) -> Result<(), Fail> {
+    let table: [Row; 6] = [
+        // create.job
+        (
+            b"# Two groups at once, each in the order in which its members give it; rank 4 gives none and gets the null communicator, on\n# which every call is refused. Ranks 0 and 1 then disagree on a group, which all ranks are told.\nranks 5\n0: create world 2,0 -> team\n1: create world 1,3 -> team\n2: create world 2,0 -> team\n3: create world 1,3 -> team\n4: create world - -> team\n0: bcast team 1 i32 1 7\n1: bcast team 1 i32 1\n2: bcast team 1 i32 1\n3: bcast team 1 i32 1 8\n4: barrier team\n0: create world 0,1 -> pair\n1: create world 1,0 -> pair\n2: create world - -> pair\n3: create world - -> pair\n4: create world - -> pair\n",
+            Came::Finished,
+            b"0: comm 2 1\n0: 7\n0: fault Groups at 0\n1: comm 2 0\n1: 8\n1: fault Groups at 0\n2: comm 2 0\n2: 7\n2: fault Groups at 0\n3: comm 2 1\n3: 8\n3: fault Groups at 0\n4: null\n4: refused NotMember\n4: fault Groups at 0\n",
+        ),
+        // create_group.job
+        (
+            b"# Ranks 1 and 3 make a communicator while the others go on: only the listed members call. Then ranks 0 and 2 do it twice with\n# one tag: the first calls meet, and the second.\nranks 4\n1: create_group world 5 3,1 -> odd\n3: create_group world 5 3,1 -> odd\n0: create_group world 5 0,2 -> even\n2: create_group world 5 0,2 -> even\n0: create_group world 5 0,2 -> again\n2: create_group world 5 0,2 -> again\n1: scan odd sum i32 10\n3: scan odd sum i32 1\n0: barrier again\n2: barrier again\n*: allreduce world max i32 4\n",
+            Came::Finished,
+            b"0: comm 2 0\n0: comm 2 0\n0: ok\n0: 4\n1: comm 2 1\n1: 11\n1: 4\n2: comm 2 1\n2: comm 2 1\n2: ok\n2: 4\n3: comm 2 0\n3: 1\n3: 4\n",
+        ),
+        // deep.job
+        (
+            b"# Communicators of communicators: of all ranks but the last, then the halves of that, backwards, and one more.\nranks 5\n0: split world 0 0 -> most\n1: split world 0 0 -> most\n2: split world 0 0 -> most\n3: split world 0 0 -> most\n4: split world undefined 0 -> most\n0: split most 0 9 -> half\n1: split most 0 8 -> half\n2: split most 1 7 -> half\n3: split most 1 6 -> half\n0: dup half -> twin\n1: dup half -> twin\n2: dup half -> twin\n3: dup half -> twin\n4: dup most -> twin\n0: scan twin sum u8 1\n1: scan twin sum u8 2\n2: scan twin sum u8 3\n3: scan twin sum u8 4\n",
+            Came::Finished,
+            b"0: comm 4 0\n0: comm 2 1\n0: comm 2 1\n0: 3\n1: comm 4 1\n1: comm 2 0\n1: comm 2 0\n1: 2\n2: comm 4 2\n2: comm 2 1\n2: comm 2 1\n2: 7\n3: comm 4 3\n3: comm 2 0\n3: comm 2 0\n3: 4\n4: null\n4: refused NotMember\n",
+        ),
+        // dup.job
+        (
+            b"# A second communicator of the same ranks: its calls are counted for themselves, so they never meet those of the first.\nranks 3\n*: dup world -> quiet\n0: allreduce world sum i32 1\n0: allreduce quiet max i32 1\n1: allreduce world sum i32 2\n1: allreduce quiet max i32 2\n2: allreduce world sum i32 3\n2: allreduce quiet max i32 3\n",
+            Came::Finished,
+            b"0: comm 3 0\n0: 6\n0: 3\n1: comm 3 1\n1: 6\n1: 3\n2: comm 3 2\n2: 6\n2: 3\n",
+        ),
+        // names.job
+        (
+            b"# What calls that make communicators are refused for, each with its word; the name then stands for the null communicator.\nranks 2\n0: split world 2147483648 0 -> a\n0: split world 0 2147483648 -> b\n0: create world 0,2 -> c\n0: create world 1,1 -> d\n0: create_group world 0 1 -> e\n0: create_group world 0 - -> f\n0: create_group world 32768 0 -> g\n0: create_group world 32767 0 -> h\n0: dup h -> i\n0: barrier a\n*: barrier world\n",
+            Came::Finished,
+            b"0: refused BadTag\n0: refused BadTag\n0: refused BadGroup\n0: refused BadGroup\n0: refused BadGroup\n0: refused BadGroup\n0: refused BadTag\n0: comm 1 0\n0: comm 1 0\n0: refused NotMember\n0: ok\n1: ok\n",
+        ),
+        // split.job
+        (
+            b"# Rows and columns of a grid of 2 times 3 ranks: a colour for each row, then one for each column. Ranks 4 and 5 order their\n# column's ranks backwards by their keys.\nranks 6\n0: split world 0 0 -> row\n1: split world 0 0 -> row\n2: split world 0 0 -> row\n3: split world 1 0 -> row\n4: split world 1 0 -> row\n5: split world 1 0 -> row\n0: split world 0 0 -> column\n1: split world 1 0 -> column\n2: split world 2 0 -> column\n3: split world 0 1 -> column\n4: split world 1 -1 -> column\n5: split world 2 -1 -> column\n0: allreduce row sum i32 1\n1: allreduce row sum i32 2\n2: allreduce row sum i32 3\n3: allreduce row sum i32 10\n4: allreduce row sum i32 20\n5: allreduce row sum i32 30\n0: allgather column i32 0\n1: allgather column i32 1\n2: allgather column i32 2\n3: allgather column i32 3\n4: allgather column i32 4\n5: allgather column i32 5\n",
+            Came::Finished,
+            b"0: comm 3 0\n0: comm 2 0\n0: 6\n0: 0 3\n1: comm 3 1\n1: comm 2 1\n1: 6\n1: 4 1\n2: comm 3 2\n2: comm 2 1\n2: 6\n2: 5 2\n3: comm 3 0\n3: comm 2 1\n3: 60\n3: 0 3\n4: comm 3 1\n4: comm 2 0\n4: 60\n4: 4 1\n5: comm 3 2\n5: comm 2 0\n5: 60\n5: 5 2\n",
+        ),
+    ];
+    check_runs(&rt, rt.alloc(), table.as_slice());
+    Ok(())
+}

@@ -4,6 +4,8 @@
 #![tactic(auto)]
 
 #[cfg(test)]
+mod communicators;
+#[cfg(test)]
 mod examples;
 #[cfg(test)]
 mod kinds;

@@ -40,11 +40,15 @@ pub fn end_of(answer: &Result<End, RunError>) -> Came {
 pub type Row = (&'static [u8], Came, &'static [u8]);
 
 pub fn check_runs(rt: &impl Abort, alloc: Global, table: &[Row]) {
+    check_runs_with(rt, alloc, USUAL, table);
+}
+
+pub fn check_runs_with(rt: &impl Abort, alloc: Global, options: Options, table: &[Row]) {
     for (i, row) in table.iter().enumerate() {
         let (script, end, text) = *row;
         let mut reader = script;
         let mut out = Vec::new(alloc);
-        let answer = run_text(alloc, &USUAL, &mut reader, &mut out);
+        let answer = run_text(alloc, &options, &mut reader, &mut out);
         assert_eq!(rt; end_of(&answer), end, "row {i}");
         assert_eq!(rt; out.as_slice(), text, "row {i}");
     }

@@ -5,6 +5,8 @@
 #[cfg(test)]
 mod lines;
 #[cfg(test)]
+mod making;
+#[cfg(test)]
 mod reading;
 #[cfg(test)]
 mod refusing;

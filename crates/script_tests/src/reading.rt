@@ -1,6 +1,6 @@
 //! Scripts that are read: what their statements say, and how many a script may have.
 use mpx_num::{Op, Ty};
-use mpx_post::{Kind, Mode};
+use mpx_post::{Call, Kind};
 use mpx_script::{Script, Statement, read_script};
 use std::alloc::{AllocError, Global};
 use std::process::Abort;
@@ -34,17 +34,20 @@ fn just(kind: Kind, ty: Ty) -> Said<'static> {
 /// Whether the rank's statement at a place from 0 on says that.
 fn says(script: &Script, rank: u8, place: usize, wanted: Said<'_>) -> bool {
     match script.statements(rank).get(place) {
-        Some(Statement::Call(draft)) => {
-            draft.kind == wanted.kind
-                && draft.mode == Mode::Blocking
+        Some(Statement::Call { on, draft }) => {
+            on.as_bytes() == b"world".as_slice()
+                && draft.call == Call::blocking(wanted.kind)
                 && draft.root == wanted.root
                 && draft.op == wanted.op
                 && draft.ty == wanted.ty
                 && draft.scounts.as_slice() == wanted.scounts
                 && draft.rcounts.as_slice() == wanted.rcounts
                 && draft.items.as_slice() == wanted.items
+                && draft.colour == None
+                && draft.key == 0
+                && draft.group.as_slice().is_empty()
         }
-        None => false,
+        _ => false,
     }
 }
 

@@ -14,7 +14,7 @@ fn refusal(rt: &impl Abort, alloc: Global, text: &[u8]) -> Option<ScriptError> {
 }
 
 /// That each text is refused so, at its line.
-fn check_refusals(rt: &impl Abort, alloc: Global, what: ScriptFault, table: &[(&[u8], u32)]) {
+pub fn check_refusals(rt: &impl Abort, alloc: Global, what: ScriptFault, table: &[(&[u8], u32)]) {
     for (i, row) in table.iter().enumerate() {
         let (text, line) = *row;
         let wanted = ScriptError { line, what };
@@ -23,7 +23,7 @@ fn check_refusals(rt: &impl Abort, alloc: Global, what: ScriptFault, table: &[(&
 }
 
 /// That each line is refused so behind the line of a script of two ranks.
-fn check_further_lines(
+pub fn check_further_lines(
     rt: &impl Abort,
     alloc: Global,
     what: ScriptFault,

@@ -1,6 +1,8 @@
-//! Tests of verdicts and values of rows, with values from outside.
+//! Tests of verdicts and values of rows, and of the communicators that they make, with values from outside.
 #![tactic(auto)]
 
+#[cfg(test)]
+mod children;
 #[cfg(test)]
 mod values;
 #[cfg(test)]

@@ -1,14 +1,15 @@
 //! What calls give each rank: values from outside, and that the calls succeed.
 use mpx_group::Proc;
+use mpx_name::Name;
 use mpx_num::{Numbers, Op, Ty};
-use mpx_post::{At, Birth, Draft, Kind, Mode, Post, Row};
+use mpx_post::{At, Birth, Call, Draft, Kind, Post, Row};
 use mpx_value::{Outcome, outcome};
 use std::alloc::Global;
 use std::test::Fail;
 
 // What one rank posts.
 #[derive(Clone, Copy)]
-struct Call {
+struct Drafted {
     kind: Kind,
     root: i128,
     op: Op,
@@ -29,8 +30,8 @@ enum Given {
 const NO: &[i128] = &[];
 
 // A call of the kind, whose root is rank 1.
-fn posted(kind: Kind, rcounts: &'static [i128], items: &'static [i128]) -> Call {
-    Call {
+fn posted(kind: Kind, rcounts: &'static [i128], items: &'static [i128]) -> Drafted {
+    Drafted {
         kind,
         root: 1,
         op: Op::Sum,
@@ -45,18 +46,26 @@ fn numbers(alloc: Global, list: &[i128]) -> Result<Numbers, Fail> {
     Ok(Numbers::new(alloc, Vec::from_slice(alloc, list)?)?)
 }
 
-fn post_of(alloc: Global, birth: &Birth, me: Proc, call: &Call) -> Result<Post, Fail> {
+fn post_of(
+    alloc: Global,
+    birth: &Birth,
+    me: Proc,
+    at: &At,
+    drafted: &Drafted,
+) -> Result<Post, Fail> {
     let draft = Draft {
-        kind: call.kind,
-        mode: Mode::Blocking,
-        root: call.root,
-        op: call.op,
-        ty: call.ty,
-        scounts: numbers(alloc, call.scounts)?,
-        rcounts: numbers(alloc, call.rcounts)?,
-        items: numbers(alloc, call.items)?,
+        call: Call::blocking(drafted.kind),
+        root: drafted.root,
+        op: drafted.op,
+        ty: drafted.ty,
+        scounts: numbers(alloc, drafted.scounts)?,
+        rcounts: numbers(alloc, drafted.rcounts)?,
+        items: numbers(alloc, drafted.items)?,
+        colour: None,
+        key: 0,
+        group: numbers(alloc, NO)?,
     };
-    Ok(draft.check(alloc, birth, me, &At { call: 0 })?)
+    Ok(draft.check(alloc, birth, me, at)?)
 }
 
 fn is_given(outcome: &Outcome, given: Given) -> bool {
@@ -69,26 +78,30 @@ fn is_given(outcome: &Outcome, given: Given) -> bool {
 }
 
 // Whether the calls of all ranks give them this.
-fn give(alloc: Global, calls: &[Call], given: &[Given]) -> Result<bool, Fail> {
+fn give(alloc: Global, calls: &[Drafted], given: &[Given]) -> Result<bool, Fail> {
     if calls.is_empty() || calls.len() > 64 || given.len() != calls.len() {
         return Ok(false);
     }
     let birth = Birth::world(alloc, calls.len() as u8)?;
+    let world = Name::world(alloc);
     let mut posts = Vec::new(alloc);
     for (me, call) in birth.members().iter().zip(calls) {
-        posts.push(post_of(alloc, &birth, *me, call)?)?;
+        posts.push(post_of(alloc, &birth, *me, &At::on(&world, 0), call)?)?;
     }
     let mut lent = Vec::new(alloc);
     for post in &posts {
         lent.push(post)?;
     }
-    if lent.len() != given.len() {
+    if lent.len() != given.len() || lent.len() != birth.members().len() {
         return Ok(false);
     }
     let row = Row::new(lent);
     let mut same = true;
     for (rank, wanted) in given.iter().enumerate() {
-        same &= is_given(&outcome(alloc, &row, rank as u8)?, *wanted);
+        same &= is_given(
+            &outcome(alloc, &birth, &row, &world, 0, rank as u8)?,
+            *wanted,
+        );
     }
     Ok(same)
 }
@@ -161,7 +174,7 @@ fn pairs_and_truth_values(rt: HostRuntime) -> Result<(), Fail> {
     use Given::Items;
     let alloc = rt.alloc();
 
-    let maxloc = [&[7, 2], &[9, 5], &[9, 3]].map(|pair| Call {
+    let maxloc = [&[7, 2], &[9, 5], &[9, 3]].map(|pair| Drafted {
         op: Op::Maxloc,
         ty: Ty::TwoInt,
         ..posted(Kind::Allreduce, NO, pair)
@@ -174,7 +187,7 @@ fn pairs_and_truth_values(rt: HostRuntime) -> Result<(), Fail> {
         )?
     );
 
-    let alone = [Call {
+    let alone = [Drafted {
         op: Op::Land,
         ..posted(Kind::Allreduce, NO, &[5])
     }];
@@ -222,7 +235,7 @@ fn scatters(rt: HostRuntime) -> Result<(), Fail> {
 
     let unequal = [
         posted(Kind::Scatterv, &[1], NO),
-        Call {
+        Drafted {
             scounts: &[1, 0, 2],
             ..posted(Kind::Scatterv, &[0], &[4, 5, 6])
         },
@@ -244,12 +257,12 @@ fn exchanges_of_all(rt: HostRuntime) -> Result<(), Fail> {
     assert!(rt; give(alloc, &equal, &[Items(&[1, 3]), Items(&[2, 4])])?);
 
     let unequal = [
-        Call {
+        Drafted {
             ty: Ty::TwoInt,
             scounts: &[2, 1],
             ..posted(Kind::Alltoallv, &[2, 0], &[1, 2, 3, 4, 5, 6])
         },
-        Call {
+        Drafted {
             ty: Ty::TwoInt,
             scounts: &[0, 1],
             ..posted(Kind::Alltoallv, &[1, 1], &[7, 8])

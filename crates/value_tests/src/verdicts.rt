@@ -1,13 +1,14 @@
 use mpx_group::Proc;
 use mpx_match::{Fault, FaultKind, Verdict, verdict};
+use mpx_name::Name;
 use mpx_num::{Numbers, Op, Ty};
-use mpx_post::{At, Birth, Draft, Kind, Mode, Post, Row};
+use mpx_post::{At, Birth, Call, Draft, Kind, Mode, Post, Row};
 use std::alloc::Global;
 use std::test::Fail;
 
 // What one rank posts.
 #[derive(Clone, Copy)]
-struct Call {
+struct Drafted {
     kind: Kind,
     mode: Mode,
     root: i128,
@@ -17,11 +18,13 @@ struct Call {
     rcounts: &'static [i128],
     // How many items.
     items: usize,
+    // The ranks of a group.
+    group: &'static [i128],
 }
 
 const NO: &[i128] = &[];
 
-const SUM: Call = Call {
+const SUM: Drafted = Drafted {
     kind: Kind::Allreduce,
     mode: Mode::Blocking,
     root: 1,
@@ -30,9 +33,10 @@ const SUM: Call = Call {
     scounts: NO,
     rcounts: NO,
     items: 1,
+    group: NO,
 };
 
-const BCAST: Call = Call {
+const BCAST: Drafted = Drafted {
     kind: Kind::Bcast,
     rcounts: &[0],
     items: 0,
@@ -43,22 +47,33 @@ fn numbers(alloc: Global, list: &[i128]) -> Result<Numbers, Fail> {
     Ok(Numbers::new(alloc, Vec::from_slice(alloc, list)?)?)
 }
 
-fn post_of(alloc: Global, birth: &Birth, me: Proc, call: &Call) -> Result<Post, Fail> {
+// The call of the kind in this mode; those that make communicators have but one.
+fn called(kind: Kind, mode: Mode) -> Call {
+    match Call::blocking(kind) {
+        Call::Exchange(exchange, _) => Call::Exchange(exchange, mode),
+        Call::Reduction(reduction, _) => Call::Reduction(reduction, mode),
+        Call::NewCommunicator(new) => Call::NewCommunicator(new),
+    }
+}
+
+fn post_of(alloc: Global, birth: &Birth, me: Proc, drafted: &Drafted) -> Result<Post, Fail> {
     let draft = Draft {
-        kind: call.kind,
-        mode: call.mode,
-        root: call.root,
-        op: call.op,
-        ty: call.ty,
-        scounts: numbers(alloc, call.scounts)?,
-        rcounts: numbers(alloc, call.rcounts)?,
-        items: Numbers::new(alloc, vec![in alloc; 7; call.items]?)?,
+        call: called(drafted.kind, drafted.mode),
+        root: drafted.root,
+        op: drafted.op,
+        ty: drafted.ty,
+        scounts: numbers(alloc, drafted.scounts)?,
+        rcounts: numbers(alloc, drafted.rcounts)?,
+        items: Numbers::new(alloc, vec![in alloc; 7; drafted.items]?)?,
+        colour: None,
+        key: 0,
+        group: numbers(alloc, drafted.group)?,
     };
-    Ok(draft.check(alloc, birth, me, &At { call: 0 })?)
+    Ok(draft.check(alloc, birth, me, &At::on(&Name::world(alloc), 0))?)
 }
 
 // The verdict of the row of what the first ranks of a communicator post.
-fn verdict_of(alloc: Global, birth: &Birth, calls: &[Call]) -> Result<Verdict, Fail> {
+fn verdict_of(alloc: Global, birth: &Birth, calls: &[Drafted]) -> Result<Verdict, Fail> {
     let mut posts = Vec::new(alloc);
     for (me, call) in birth.members().iter().zip(calls) {
         posts.push(post_of(alloc, birth, *me, call)?)?;
@@ -73,7 +88,7 @@ fn verdict_of(alloc: Global, birth: &Birth, calls: &[Call]) -> Result<Verdict, F
     Ok(verdict(&Row::new(row)))
 }
 
-fn verdict_of_three(alloc: Global, calls: [Call; 3]) -> Result<Verdict, Fail> {
+fn verdict_of_three(alloc: Global, calls: [Drafted; 3]) -> Result<Verdict, Fail> {
     verdict_of(alloc, &Birth::world(alloc, 3)?, &calls)
 }
 
@@ -83,18 +98,18 @@ fn fault(what: FaultKind, rank: u8) -> Verdict {
 
 #[test]
 fn posts_agree_with_that_of_rank_0(rt: HostRuntime) -> Result<(), Fail> {
-    let scan = Call {
+    let scan = Drafted {
         kind: Kind::Scan,
         ..SUM
     };
-    let nonblocking = Call {
+    let nonblocking = Drafted {
         mode: Mode::Nonblocking,
         ..SUM
     };
-    let max = Call { op: Op::Max, ..SUM };
-    let wide = Call { ty: Ty::I64, ..SUM };
-    let longer = Call { items: 2, ..SUM };
-    let other_root = Call { root: 2, ..BCAST };
+    let max = Drafted { op: Op::Max, ..SUM };
+    let wide = Drafted { ty: Ty::I64, ..SUM };
+    let longer = Drafted { items: 2, ..SUM };
+    let other_root = Drafted { root: 2, ..BCAST };
     for (calls, wanted) in [
         ([SUM, SUM, SUM], Verdict::Fine),
         ([SUM, scan, scan], fault(FaultKind::Kind, 1)),
@@ -123,7 +138,7 @@ fn told(
     rcounts: Counts,
     items: Items,
 ) -> Result<Option<u8>, Fail> {
-    let mut calls = [Call { kind, ..SUM }; 3];
+    let mut calls = [Drafted { kind, ..SUM }; 3];
     for rank in 0..3 {
         calls[rank].scounts = scounts[rank];
         calls[rank].rcounts = rcounts[rank];
@@ -246,14 +261,14 @@ fn as_many_as_each_rank_counts(rt: HostRuntime) -> Result<(), Fail> {
 #[test]
 fn blocks_that_nobody_awaits(rt: HostRuntime) -> Result<(), Fail> {
     let alloc = rt.alloc();
-    let sends = Call {
+    let sends = Drafted {
         kind: Kind::Alltoallv,
         scounts: &[2, 0],
         rcounts: &[0, 0],
         items: 2,
         ..SUM
     };
-    let awaits = Call {
+    let awaits = Drafted {
         scounts: &[0, 0],
         rcounts: &[1, 0],
         items: 0,
@@ -270,14 +285,14 @@ fn blocks_that_nobody_awaits(rt: HostRuntime) -> Result<(), Fail> {
 fn misfits_are_told_first(rt: HostRuntime) -> Result<(), Fail> {
     let alloc = rt.alloc();
     let birth = Birth::world(alloc, 3)?;
-    let far_root = Call { root: 2, ..BCAST };
-    let three_blocks = Call {
+    let far_root = Drafted { root: 2, ..BCAST };
+    let three_blocks = Drafted {
         kind: Kind::Alltoall,
         rcounts: &[1],
         items: 3,
         ..SUM
     };
-    let three_counts = Call {
+    let three_counts = Drafted {
         kind: Kind::Allgatherv,
         rcounts: &[1, 1, 1],
         ..SUM
@@ -288,5 +303,65 @@ fn misfits_are_told_first(rt: HostRuntime) -> Result<(), Fail> {
             assert_eq!(rt; told, fault(FaultKind::Amount, rank));
         }
     }
+    Ok(())
+}
+
+const DUP: Drafted = Drafted {
+    kind: Kind::Dup,
+    ..SUM
+};
+
+fn create(group: &'static [i128]) -> Drafted {
+    Drafted {
+        kind: Kind::Create,
+        group,
+        ..SUM
+    }
+}
+
+#[test]
+fn groups_agree_at_their_members(rt: HostRuntime) -> Result<(), Fail> {
+    for (calls, wanted) in [
+        (
+            [create(&[2, 0]), create(NO), create(&[2, 0])],
+            Verdict::Fine,
+        ),
+        (
+            [create(&[0]), create(&[2, 1]), create(&[2, 1])],
+            Verdict::Fine,
+        ),
+        ([create(NO), create(NO), create(NO)], Verdict::Fine),
+        // Another order, told by the least rank whose group has a member that gives another list.
+        (
+            [create(&[0, 1]), create(&[1, 0]), create(NO)],
+            fault(FaultKind::Groups, 0),
+        ),
+        (
+            [create(NO), create(&[1, 2]), create(&[1, 2, 0])],
+            fault(FaultKind::Groups, 1),
+        ),
+        (
+            [create(NO), create(NO), create(&[2, 1])],
+            fault(FaultKind::Groups, 2),
+        ),
+        // A group that only one outside it names.
+        (
+            [create(NO), create(&[2]), create(NO)],
+            fault(FaultKind::Groups, 1),
+        ),
+        ([create(NO), DUP, create(NO)], fault(FaultKind::Kind, 1)),
+    ] {
+        assert_eq!(rt; verdict_of_three(rt.alloc(), calls)?, wanted);
+    }
+    Ok(())
+}
+
+// A post made for a communicator of three ranks, in a row of two.
+#[test]
+fn a_group_of_ranks_that_are_not_there(rt: HostRuntime) -> Result<(), Fail> {
+    let alloc = rt.alloc();
+    let birth = Birth::world(alloc, 3)?;
+    let told = verdict_of(alloc, &birth, &[create(NO), create(&[1, 2])])?;
+    assert_eq!(rt; told, fault(FaultKind::Amount, 1));
     Ok(())
 }

@@ -2,7 +2,7 @@
 use mpx_group::Proc;
 use mpx_name::Name;
 use mpx_num::{Numbers, Op, Ty};
-use mpx_post::{Draft, Kind, Mode};
+use mpx_post::{Call, Draft, Kind};
 use mpx_value::Outcome;
 use mpx_world::{Cut, Event, Names, Reply, World};
 use std::alloc::Global;
@@ -21,6 +21,8 @@ pub enum Act {
     // It sends what it knows of no context.
     SendNothing,
     Take(usize),
+    // It opens the gathering of ranks 0 and 2 below the context of all, with this tag.
+    Gather(i128),
 }
 
 // Which process does what, and the reply from outside.
@@ -36,14 +38,16 @@ pub fn proc(number: u8) -> Proc {
 
 fn sum_of(alloc: Global, number: i128) -> Result<Draft, Fail> {
     Ok(Draft {
-        kind: Kind::Allreduce,
-        mode: Mode::Blocking,
+        call: Call::blocking(Kind::Allreduce),
         root: 0,
         op: Op::Sum,
         ty: Ty::I32,
         scounts: Numbers::new(alloc, Vec::new(alloc))?,
         rcounts: Numbers::new(alloc, Vec::new(alloc))?,
         items: Numbers::new(alloc, Vec::from_slice(alloc, &[number])?)?,
+        colour: None,
+        key: 0,
+        group: Numbers::new(alloc, Vec::new(alloc))?,
     })
 }
 
@@ -72,14 +76,22 @@ fn event(alloc: Global, proc: Proc, act: Act) -> Result<Event, Fail> {
             }
         }
         Act::Take(part) => Event::Take { proc, part },
+        Act::Gather(tag) => {
+            Event::Gather {
+                proc,
+                parent: name,
+                tag,
+                ranks: Numbers::new(alloc, Vec::from_slice(alloc, &[0, 2])?)?,
+            }
+        }
     })
 }
 
 fn events(alloc: Global, rows: &[Row]) -> Result<Vec<Event>, Fail> {
     let mut events = Vec::new(alloc);
     for row in rows {
-        let (number, act, _) = *row;
-        events.push(event(alloc, proc(number), act)?)?;
+        let (number, act, _) = row;
+        events.push(event(alloc, proc(*number), *act)?)?;
     }
     Ok(events)
 }
@@ -94,8 +106,8 @@ pub fn run(rt: &impl Abort, alloc: Global, world: &mut World, rows: &[Row]) -> R
     let told = replies(alloc, world, rows)?;
     assert_eq!(rt; told.len(), rows.len());
     for (at, (told, row)) in told.iter().zip(rows).enumerate() {
-        let (_, _, wanted) = *row;
-        assert_eq!(rt; *told, wanted, "at {at}");
+        let (_, _, wanted) = row;
+        assert_eq!(rt; told, wanted, "at {at}");
     }
     Ok(())
 }

@@ -1,6 +1,10 @@
 //! Posts travel through a relay; refusals; what is enough, and what is kept.
+ghost use Rattle.std.specs.Prelude.{◌<◌, ◌^◌};
+
 use crate::making::{Act, has_sum, holds_own, proc, run};
 use mpx_board::PruneError;
+use mpx_group::Group;
+use mpx_name::Name;
 use mpx_post::PostError;
 use mpx_world::{Reply, World};
 use std::alloc::Global;
@@ -135,4 +139,39 @@ fn an_own_post_is_kept(rt: HostRuntime) -> Result<(), Fail> {
         has_sum(&rt, alloc, &world, number, 0, 3)?;
     }
     Ok(())
+}
+
+// The name of the gathering of ranks 0 and 2.
+fn gathering(alloc: Global, tag: u16) -> Result<Name, Fail>
+    requires { tag < 2 ^ 15 }
+{
+    let mut members = Vec::new(alloc);
+    members.push(proc(0))?;
+    members.push(proc(2))?;
+    let group = Group::new(members).ok().ok_or("no group")?;
+    if group.size() == 0 {
+        return Err(Fail::from("no members"));
+    }
+    let name = Name::world(alloc).gathering(alloc, tag, &group);
+    Ok(name.ok().ok_or("no name")?)
+}
+
+#[test]
+fn gatherings_are_opened(rt: HostRuntime) -> Result<(), Fail> {
+    let alloc = rt.alloc();
+    let mut world = World::new(alloc, 4, 5)?;
+    let rows = [
+        (0, Act::Gather(9), Reply::Opened(gathering(alloc, 9)?)),
+        (2, Act::Gather(9), Reply::Opened(gathering(alloc, 9)?)),
+        (0, Act::Gather(9), Reply::Opened(gathering(alloc, 9)?)),
+        (1, Act::Gather(9), Reply::GatherRefused(PostError::BadGroup)),
+        (0, Act::Gather(-1), Reply::GatherRefused(PostError::BadTag)),
+        (
+            4,
+            Act::Gather(-1),
+            Reply::GatherRefused(PostError::NotMember),
+        ),
+        (5, Act::Gather(9), Reply::NoSuchProcess),
+    ];
+    run(&rt, alloc, &mut world, &rows)
 }

@@ -39,10 +39,12 @@ fn sixty_four_processes(rt: HostRuntime) -> Result<(), Fail> {
 #[test]
 fn ten_thousand_events(rt: HostRuntime) -> Result<(), Fail> {
     let alloc = rt.alloc();
-    let taken = (1, Act::Take(0), Reply::Taken);
-    let mut rows = vec![in alloc; taken; 10_000]?;
-    rows[0] = (0, Act::Post(1), Reply::Posted(0));
-    rows[1] = (0, Act::Send, Reply::Sent(0));
+    let mut rows = Vec::new(alloc);
+    rows.push((0, Act::Post(1), Reply::Posted(0)))?;
+    rows.push((0, Act::Send, Reply::Sent(0)))?;
+    for _ in 2..10_000 {
+        rows.push((1, Act::Take(0), Reply::Taken))?;
+    }
     let mut world = World::new(alloc, 2, 2)?;
     run(&rt, alloc, &mut world, &rows)
 }

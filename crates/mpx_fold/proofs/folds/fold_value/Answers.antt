@@ -36,3 +36,7 @@ returns-in-Reduction c =
 pub returns-in-Exchange : goal.returns-in-Exchange
 returns-in-Exchange c =
     by_family c.args.row.now c.args.rank _ (first_family c.args.row.now _ _ _ _ c.post.ensures.value c.kind.ensures c.family.ensures c.in-Exchange.is)
+
+pub returns-in-NewCommunicator : goal.returns-in-NewCommunicator
+returns-in-NewCommunicator c =
+    by_family c.args.row.now c.args.rank _ (first_family c.args.row.now _ _ _ _ c.post.ensures.value c.kind.ensures c.family.ensures c.in-NewCommunicator.is)

@@ -30,4 +30,4 @@ pub returns-clause-carries_out : goal.returns-clause-carries_out
 returns-clause-carries_out c script ranks size doings m p = (coupled script ranks size doings m).told p
 
 pub returns-clause-sound : goal.returns-clause-sound
-returns-clause-sound c script ranks size doings m = sound_of (does_all (start_system script ranks size) doings).world (coupled script ranks size doings m).holds
+returns-clause-sound c script ranks size doings m = sound_of (does_all (start_system script ranks size) doings).world (coupled script ranks size doings m).upheld.holds

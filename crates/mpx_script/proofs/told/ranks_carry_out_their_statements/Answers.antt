@@ -1,4 +1,4 @@
-use Rattle.mpx_script.proofs.Tells.{each-carries_out, each-all, each-me, each-bound}
+use Rattle.mpx_script.proofs.Tells.{each-carries_out, each-all, each-me, each-world, each-bound}
 use Rattle.mpx_script.proofs.told.ranks_carry_out_their_statements.Goals as goal
 
 pub returns-clause-carries_out : goal.returns-clause-carries_out
@@ -12,3 +12,6 @@ returns-clause-me c = each-me
 
 pub returns-clause-bound : goal.returns-clause-bound
 returns-clause-bound c = each-bound
+
+pub returns-clause-world : goal.returns-clause-world
+returns-clause-world c = each-world

@@ -22,7 +22,7 @@ returns-in_default-birth c =
     let n = c.get_mut.follows.lender o in
     let here : old.opened c.args.name.now ≡ Some (opened_of o) = has c.args.self.now.opened n c.args.name.now o o c.in-Some.ensures.value (c.get_mut.follows.holds o) in
     let same : seen n ≡ seen c.args.self.now.opened = stays c.args.self.now.opened n c.args.name.now o o c.in-Some.ensures.value (c.get_mut.follows.holds o) refl in
-    let asked : checked_on old c.args.name.now c.args.draft ≡ Err R.NotMember = λ i. checked_by (here i) (sym c.in_default-birth.ensures i) old.me c.args.draft in
+    let asked : checked_on old c.args.name.now c.args.draft ≡ Err R.NotMember = λ i. checked_by (here i) (sym c.in_default-birth.ensures i) old.me c.args.name.now c.args.draft in
     posts_refused c.args.name.now old _ (checked_on old c.args.name.now c.args.draft) R.NotMember asked (ap (λ (x : Contexts). record old { opened = x }) same)
 
 pub returns-in_err-post : goal.returns-in_err-post
@@ -32,7 +32,7 @@ returns-in_err-post c =
     let n = c.get_mut.follows.lender o in
     let here : old.opened c.args.name.now ≡ Some (opened_of o) = has c.args.self.now.opened n c.args.name.now o o c.in-Some.ensures.value (c.get_mut.follows.holds o) in
     let same : seen n ≡ seen c.args.self.now.opened = stays c.args.self.now.opened n c.args.name.now o o c.in-Some.ensures.value (c.get_mut.follows.holds o) refl in
-    let asked = subst (λ r. Checks r (Err c.in_err-post.field-0.0)) (λ i. checked_by (sym here i) (c.in-Some-birth.ensures i) old.me c.args.draft) c.in_err-post.ensures.value in
+    let asked = subst (λ r. Checks r (Err c.in_err-post.field-0.0)) (λ i. checked_by (sym here i) (c.in-Some-birth.ensures i) old.me c.args.name.now c.args.draft) c.in_err-post.ensures.value in
     let exit = err_from_is_err_and c.from_residual.result c.from_residual.ensures.1 in
     let answer : c.from_residual.result ≡ Err c.in_err-post.field-0.0 = exit.1 ∙ ap Err exit.2 in
     posts_turned_down c.args.name.now old _ (checked_on old c.args.name.now c.args.draft) c.from_residual.result c.in_err-post.field-0.0 asked answer (ap (λ (x : Contexts). record old { opened = x }) same)
@@ -46,7 +46,7 @@ returns-in-Ok c =
     let here : old.opened c.args.name.now ≡ Some (opened_of o) = has c.args.self.now.opened n c.args.name.now o w c.in-Some.ensures.value (c.get_mut.follows.holds w) in
     let added : seen n ≡ (λ q. cond (same_name q c.args.name.now) (option_map (λ (v : OpenedView). record v { posted = v.posted + 1 }) (seen c.args.self.now.opened q)) (seen c.args.self.now.opened q)) = does c.args.self.now.opened n c.args.name.now o w c.in-Some.ensures.value (c.get_mut.follows.holds w) (λ v. record v { posted = v.posted + 1 }) refl in
     let call : posted_by (old.opened c.args.name.now) ≡ o.posted = ap posted_by here in
-    let asked : checked_on old c.args.name.now c.args.draft ≡ Ok c.in_ok-post.post = checks_post (checked_on old c.args.name.now c.args.draft) c.in_ok-post.post (subst (λ r. Checks r (Ok c.in_ok-post.post)) (λ i. checked_by (sym here i) (c.in-Some-birth.ensures i) old.me c.args.draft) c.in_ok-post.ensures.value) in
+    let asked : checked_on old c.args.name.now c.args.draft ≡ Ok c.in_ok-post.post = checks_post (checked_on old c.args.name.now c.args.draft) c.in_ok-post.post (subst (λ r. Checks r (Ok c.in_ok-post.post)) (λ i. checked_by (sym here i) (c.in-Some-birth.ensures i) old.me c.args.name.now c.args.draft) c.in_ok-post.ensures.value) in
     let board : look c.join_post.new.self ≡ join old.board (only (Held c.args.name.now (posted_by (old.opened c.args.name.now)) old.me (known c.in_ok-post.post))) = c.in-Ok.ensures.ok ∙ ap (λ k. join old.board (only (Held c.args.name.now k old.me (known c.in_ok-post.post)))) (sym call) in
     posts_made c.args.name.now old _ (checked_on old c.args.name.now c.args.draft) c.in_ok-post.post o.posted asked (sym call) (λ i. record { me = old.me; board = board i; opened = added i })
 
@@ -57,5 +57,5 @@ returns-in-Err c =
     let n = c.get_mut.follows.lender o in
     let here : old.opened c.args.name.now ≡ Some (opened_of o) = has c.args.self.now.opened n c.args.name.now o o c.in-Some.ensures.value (c.get_mut.follows.holds o) in
     let same : seen n ≡ seen c.args.self.now.opened = stays c.args.self.now.opened n c.args.name.now o o c.in-Some.ensures.value (c.get_mut.follows.holds o) refl in
-    let asked : checked_on old c.args.name.now c.args.draft ≡ Ok c.in_ok-post.post = checks_post (checked_on old c.args.name.now c.args.draft) c.in_ok-post.post (subst (λ r. Checks r (Ok c.in_ok-post.post)) (λ i. checked_by (sym here i) (c.in-Some-birth.ensures i) old.me c.args.draft) c.in_ok-post.ensures.value) in
+    let asked : checked_on old c.args.name.now c.args.draft ≡ Ok c.in_ok-post.post = checks_post (checked_on old c.args.name.now c.args.draft) c.in_ok-post.post (subst (λ r. Checks r (Ok c.in_ok-post.post)) (λ i. checked_by (sym here i) (c.in-Some-birth.ensures i) old.me c.args.name.now c.args.draft) c.in_ok-post.ensures.value) in
     posts_wants c.args.name.now old _ (checked_on old c.args.name.now c.args.draft) c.in_ok-post.post asked (λ i. record { me = old.me; board = c.in-Err.ensures.err i; opened = same i })

@@ -1,0 +1,120 @@
+// What the board tells of a call: its result, and what it makes.
+ghost use Rattle.std.specs.Prelude.{◌≡◌, ◌<◌, ◌∷◌, IfOk, is_some};
+ghost use Rattle.mpx_board.specs.Boards.{Front, join_all, only, told};
+ghost use Rattle.mpx_board.specs.Looks.{look};
+ghost use Rattle.mpx_post.specs.Drafts.{most_calls};
+ghost use Rattle.mpx_post.specs.Rows.{all_of};
+ghost use Rattle.mpx_node.specs.Nodes.{births_of, children_on, outcome_on, result_of};
+
+use crate::finished::Finished;
+use join_core::{Exact, OutOfMemory};
+use mpx_board::Board;
+use mpx_group::Proc;
+use mpx_name::Name;
+use mpx_post::Birth;
+use mpx_value::{Outcome, children, outcome};
+use std::alloc::Global;
+
+// Whether the board has the birth and the posts of all members to a call, of which the process is one.
+pub fn has_result(board: &Board, name: &Name, me: Proc, call: u32) -> bool
+    ensures { result ≡ is_some (result_of (look board.now) name.now me call) }
+{
+    match board.birth(name) {
+        None => false,
+        Some(birth) => {
+            board.holds(name, call, me).is_some()
+                && birth.rank_of(me).is_some()
+                && have_posted(board, name, call, birth.members())
+        }
+    }
+}
+
+// Whether the board has the posts of all of these to a call.
+fn have_posted(board: &Board, name: &Name, call: u32, members: &[Proc]) -> bool
+    ensures { result ≡ is_some (all_of (λ p. told (((look board.now).contexts name.now).posts call p)) members.now) }
+{
+    members
+        .iter()
+        .all(|member| board.holds(name, call, *member).is_some())
+}
+
+// The result of a call on a context, where the board has the birth and the posts of all members.
+pub fn finished(
+    alloc: Global,
+    board: &Board,
+    name: &Name,
+    me: Proc,
+    call: u32,
+) -> Result<Option<Finished>, OutOfMemory>
+    requires { call < most_calls }
+    ensures { IfOk result (λ o. o ≡ result_of (look board.now) name.now me call) }
+{
+    let mine = match board.holds(name, call, me) {
+        Some(post) => post.copy(alloc)?,
+        None => return Ok(None),
+    };
+    match outcome_on(alloc, board, name, me, call)? {
+        Some(outcome) => Ok(Some(Finished { mine, outcome })),
+        None => Ok(None),
+    }
+}
+
+// What a call gives the process, where the board has the birth and the posts of all members, and it is one.
+fn outcome_on(
+    alloc: Global,
+    board: &Board,
+    name: &Name,
+    me: Proc,
+    call: u32,
+) -> Result<Option<Outcome>, OutOfMemory>
+    requires { call < most_calls }
+    ensures { IfOk result (λ o. o ≡ outcome_on (look board.now) name.now me call) }
+{
+    let Some(birth) = board.birth(name) else {
+        return Ok(None);
+    };
+    let Some(row) = board.row(alloc, name, call)? else {
+        return Ok(None);
+    };
+    let Some(rank) = birth.rank_of(me) else {
+        return Ok(None);
+    };
+    Ok(Some(outcome(alloc, birth, &row, name, call, rank)?))
+}
+
+// The communicators that a call makes, where the board has the birth and the posts of all members: names and births.
+pub fn children_on(
+    alloc: Global,
+    board: &Board,
+    name: &Name,
+    call: u32,
+) -> Result<Vec<(Name, Birth)>, OutOfMemory>
+    requires { call < most_calls }
+    ensures { IfOk result (λ made. made.items ≡ children_on (look board.now) name.now call) }
+{
+    let Some(birth) = board.birth(name) else {
+        return Ok(Vec::new(alloc));
+    };
+    let Some(row) = board.row(alloc, name, call)? else {
+        return Ok(Vec::new(alloc));
+    };
+    children(alloc, birth, &row, name, call)
+}
+
+// What a process tells that has harvested so many calls, and of what the last of these made.
+pub fn harvest_part(
+    alloc: Global,
+    name: &Name,
+    me: Proc,
+    number: u32,
+    made: &[(Name, Birth)],
+) -> Result<Board, OutOfMemory>
+    ensures { IfOk result (λ part. look part ≡ join_all (only (Front name.now me number) ∷ births_of made.now)) }
+{
+    let mut part = Board::new(alloc);
+    part.raise_front(alloc, name, me, number)?;
+    for (child, birth) in made {
+        part.add_birth(alloc, child, birth.copy(alloc)?)?;
+    }
+    Ok(part)
+}

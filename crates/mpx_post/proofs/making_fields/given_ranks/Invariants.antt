@@ -1,0 +1,10 @@
+use Rattle.std.proofs.Common.{◌≡◌, ◌<◌, take}
+use Rattle.std.specs.List.{All}
+use Rattle.mpx_post.specs.Drafts.{naturals}
+use Rattle.mpx_post.proofs.making_fields.given_ranks.Given as goal
+
+abbrev pub invariant-loop-rank : goal.invariant-loop-rank
+invariant-loop-rank l = record {
+  items : l.list.items ≡ naturals (take l.rank-index l.group);
+  below : All (λ rank. rank < 64) l.list.items;
+}

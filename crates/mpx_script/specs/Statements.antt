@@ -1,0 +1,42 @@
+-- What a statement of a script posts, on which communicator, and what it binds.
+use Rattle.std.specs.Prelude.{ℕ, ℤ, pos, List, [], Option, Some, None}
+use Rattle.mpx_num.specs.declared.types.Ty.TheVariants.{I8}
+use Rattle.mpx_num.specs.declared.operations.Op.TheVariants.{Sum}
+use Rattle.mpx_post.specs.declared.draft.Draft.{Draft}
+use Rattle.mpx_post.specs.declared.kinds.Call.TheVariants as C
+use Rattle.mpx_post.specs.declared.kinds.NewCommunicator.TheVariants as N
+use Rattle.mpx_script.specs.declared.statement.Statement.{Statement}
+use Rattle.mpx_script.specs.declared.statement.Statement.TheVariants.{Call, New, CreateGroup}
+
+-- the draft of create_group, whose kind has no fields
+abbrev pub create_group_draft : Draft
+create_group_draft = record { call = C.NewCommunicator N.CreateGroup; root = pos 0; op = Sum; ty = I8; scounts = []; rcounts = []; items = []; colour = None; key = pos 0; group = [] }
+
+-- the draft that it posts
+abbrev pub draft_of : Statement → Draft
+draft_of (Call on draft) = draft
+draft_of (New on draft to) = draft
+draft_of (CreateGroup on tag ranks to) = create_group_draft
+
+-- the word of its communicator
+abbrev pub word_of : Statement → List ℕ
+word_of (Call on draft) = on
+word_of (New on draft to) = on
+word_of (CreateGroup on tag ranks to) = on
+
+-- the word that it binds to a new communicator
+abbrev pub target_of : Statement → Option (List ℕ)
+target_of (Call on draft) = None
+target_of (New on draft to) = Some to
+target_of (CreateGroup on tag ranks to) = Some to
+
+-- a tag, and ranks of the members that gather
+pub record Gathers : Type 0 where
+  pub tag : ℤ
+  pub ranks : List ℤ
+
+-- which gathering of its communicator's members it opens to post there
+abbrev pub gathers_of : Statement → Option Gathers
+gathers_of (Call on draft) = None
+gathers_of (New on draft to) = None
+gathers_of (CreateGroup on tag ranks to) = Some (record { tag = tag; ranks = ranks })

@@ -1,0 +1,131 @@
+-- The communicators of small rows, and what they give each rank.
+use Rattle.std.proofs.Common.{◌≡◌, ℕ, zero, suc, ℤ, pos, negsuc, List, [], ◌∷◌, Option, Some, None, refl}
+use Rattle.mpx_name.specs.declared.steps.Step.TheVariants.{Child, Gathering}
+use Rattle.mpx_name.specs.Name.{Name}
+use Rattle.mpx_match.specs.declared.faults.FaultKind.{FaultKind}
+use Rattle.mpx_match.specs.declared.faults.FaultKind.TheVariants.{Amount, Groups, Kind}
+use Rattle.mpx_match.specs.Verdicts.{verdict}
+use Rattle.mpx_post.specs.declared.kinds.Kind as K
+use Rattle.mpx_post.specs.declared.kinds.Kind.TheVariants.{Dup, Split, Create, CreateGroup}
+use Rattle.mpx_post.specs.declared.kinds.Mode.TheVariants.{Blocking}
+use Rattle.mpx_post.specs.declared.making.Making.{Making}
+use Rattle.mpx_post.specs.declared.making.Making.TheVariants as M
+use Rattle.mpx_post.specs.Births.{BirthView, upto}
+use Rattle.mpx_post.specs.Posts.{Given}
+use Rattle.mpx_post.specs.Rows.{RowView}
+use Rattle.mpx_value.specs.declared.outcomes.Outcome.{Outcome}
+use Rattle.mpx_value.specs.declared.outcomes.Outcome.TheVariants.{NewComm, Null, Fault}
+use Rattle.mpx_value.specs.Children.{children}
+use Rattle.mpx_value.specs.Values.{value}
+
+abbrev given : K.Kind → Making → Given
+given kind making = record { kind = kind; mode = Blocking; root = None; op = None; scounts = []; rcounts = []; items = None; making = making }
+
+abbrev split : Option ℕ → ℤ → Given
+split colour key = given Split (M.Split colour key)
+
+abbrev create : List ℕ → Given
+create group = given Create (M.Group group)
+
+abbrev plain : K.Kind → Given
+plain kind = given kind M.Nothing
+
+abbrev of : List ℕ → BirthView
+of members = record { members = members }
+
+-- what call 3 on the world of so many ranks gives this rank
+abbrev told : ℕ → RowView → (rank : ℕ) → Outcome
+told ranks row rank = value (of (upto ranks)) row [] 3 rank
+
+-- the communicator of this colour that call 3 on the world makes
+abbrev comm : (colour size rank : ℕ) → Outcome
+comm colour size rank = NewComm (Child 3 colour ∷ []) size rank
+
+abbrev fault : FaultKind → (rank : ℕ) → Outcome
+fault what rank = Fault (record { what = what; rank = rank })
+
+abbrev by_colour : RowView
+by_colour = split (Some 1) (pos 5) ∷ split (Some 0) (pos 0) ∷ split (Some 1) (pos 5) ∷ split None (pos 0) ∷ []
+
+abbrev reversed : RowView
+reversed = split (Some 7) (pos 1) ∷ split (Some 7) (pos 0) ∷ split (Some 7) (negsuc 4) ∷ []
+
+abbrev groups_that_differ : RowView
+groups_that_differ = create (0 ∷ 1 ∷ []) ∷ create (1 ∷ 0 ∷ []) ∷ create [] ∷ []
+
+abbrev one_group : RowView
+one_group = create (2 ∷ 0 ∷ []) ∷ create [] ∷ create (2 ∷ 0 ∷ []) ∷ []
+
+abbrev two_groups : RowView
+two_groups = create (2 ∷ 0 ∷ []) ∷ create (1 ∷ []) ∷ create (2 ∷ 0 ∷ []) ∷ []
+
+abbrev deep : ℕ → Name
+deep zero = []
+deep (suc n) = Child 0 0 ∷ deep n
+
+record Examples : Type 0 where
+  -- by colour; of equal keys the lower rank first; undefined gives none
+  split0 : told 4 by_colour 0 ≡ comm 1 2 0
+  split1 : told 4 by_colour 1 ≡ comm 0 1 0
+  split2 : told 4 by_colour 2 ≡ comm 1 2 1
+  split3 : told 4 by_colour 3 ≡ Null
+  splits : children (of (upto 4)) by_colour [] 3 ≡ record { colour = 0; birth = of (1 ∷ []) } ∷ record { colour = 1; birth = of (0 ∷ 2 ∷ []) } ∷ []
+  -- by keys, and by ranks only where these are equal
+  reversed0 : told 3 reversed 0 ≡ comm 7 3 2
+  reversed1 : told 3 reversed 1 ≡ comm 7 3 1
+  reversed2 : told 3 reversed 2 ≡ comm 7 3 0
+  -- the members of the birth, where they aren't their ranks
+  members : children (of (4 ∷ 5 ∷ 9 ∷ [])) reversed [] 3 ≡ record { colour = 7; birth = of (9 ∷ 5 ∷ 4 ∷ []) } ∷ []
+  equal : children (of (upto 3)) (split (Some 7) (pos 1) ∷ split (Some 7) (pos 1) ∷ split (Some 7) (pos 1) ∷ []) [] 3 ≡ record { colour = 7; birth = of (0 ∷ 1 ∷ 2 ∷ []) } ∷ []
+  -- rank 0 gives 0 1, rank 1 gives 1 0: all are told
+  differ0 : told 3 groups_that_differ 0 ≡ fault Groups 0
+  differ1 : told 3 groups_that_differ 1 ≡ fault Groups 0
+  differ2 : told 3 groups_that_differ 2 ≡ fault Groups 0
+  none : children (of (upto 3)) groups_that_differ [] 3 ≡ []
+  -- ranks 0 and 2 give 2 0: the colour is the rank of the first, in the parent
+  create0 : told 3 one_group 0 ≡ comm 2 2 1
+  create1 : told 3 one_group 1 ≡ Null
+  create2 : told 3 one_group 2 ≡ comm 2 2 0
+  creates : children (of (4 ∷ 5 ∷ 9 ∷ [])) two_groups [] 3 ≡ record { colour = 1; birth = of (5 ∷ []) } ∷ record { colour = 2; birth = of (9 ∷ 4 ∷ []) } ∷ []
+  -- a group that only one outside it names
+  outside : told 2 (create (1 ∷ []) ∷ create [] ∷ []) 1 ≡ fault Groups 0
+  dup0 : told 2 (plain Dup ∷ plain Dup ∷ []) 0 ≡ comm 0 2 0
+  dup1 : told 2 (plain Dup ∷ plain Dup ∷ []) 1 ≡ comm 0 2 1
+  mixed : told 2 (plain Dup ∷ split None (pos 0) ∷ []) 0 ≡ fault Kind 1
+  -- below the gathering of processes 4 and 2 with tag 9
+  gathered : value (of (4 ∷ 2 ∷ [])) (plain CreateGroup ∷ plain CreateGroup ∷ []) (Gathering 9 (4 ∷ 2 ∷ []) ∷ []) 0 1 ≡ NewComm (Child 0 0 ∷ Gathering 9 (4 ∷ 2 ∷ []) ∷ []) 2 1
+  -- the eighth step, and no ninth
+  eighth : value (of (upto 2)) (plain Dup ∷ plain Dup ∷ []) (deep 7) 0 1 ≡ NewComm (deep 8) 2 1
+  ninth : value (of (upto 2)) (plain Dup ∷ plain Dup ∷ []) (deep 8) 0 1 ≡ fault Amount 0
+  no_ninth : children (of (upto 2)) (plain Dup ∷ plain Dup ∷ []) (deep 8) 0 ≡ []
+
+examples : Examples
+unfolding value children verdict
+examples = record {
+  split0 = refl;
+  split1 = refl;
+  split2 = refl;
+  split3 = refl;
+  splits = refl;
+  reversed0 = refl;
+  reversed1 = refl;
+  reversed2 = refl;
+  members = refl;
+  equal = refl;
+  differ0 = refl;
+  differ1 = refl;
+  differ2 = refl;
+  none = refl;
+  create0 = refl;
+  create1 = refl;
+  create2 = refl;
+  creates = refl;
+  outside = refl;
+  dup0 = refl;
+  dup1 = refl;
+  mixed = refl;
+  gathered = refl;
+  eighth = refl;
+  ninth = refl;
+  no_ninth = refl;
+}

@@ -1,0 +1,59 @@
+-- The members of children are members of the birth.
+use Rattle.std.proofs.Common.{◌≡◌, ℕ, ◌<◌, Bool, true, false, List, [], length, cond, arith}
+use Rattle.std.specs.Prelude.{filter}
+use Rattle.std.specs.List.{All}
+use Rattle.std.proofs.lemmas.List.Elements.{All-cons, All-filter, All-map, All-nil, All-weaker}
+use Rattle.mpx_group.specs.Group.{has}
+use Rattle.mpx_name.specs.Name.{Name}
+use Rattle.mpx_match.specs.declared.faults.Verdict.{Verdict}
+use Rattle.mpx_match.specs.declared.faults.Verdict.TheVariants as V
+use Rattle.mpx_match.specs.Verdicts.{IsFirstFault, questions, verdict}
+use Rattle.mpx_match.proofs.FirstFault.{fine, verdict-is_first}
+use Rattle.mpx_post.specs.declared.kinds.Family.{Family}
+use Rattle.mpx_post.specs.declared.kinds.Family.TheVariants as F
+use Rattle.mpx_post.specs.declared.kinds.NewCommunicator.{NewCommunicator}
+use Rattle.mpx_post.specs.declared.kinds.NewCommunicator.TheVariants as N
+use Rattle.mpx_post.specs.Births.{BirthView, upto}
+use Rattle.mpx_post.specs.Kinds.{family_of}
+use Rattle.mpx_post.specs.Posts.{group_of}
+use Rattle.mpx_post.specs.Rows.{RowView}
+use Rattle.mpx_post.specs.Agreement.{IsFine, first_of, post_at}
+use Rattle.mpx_value.specs.Children.{ChildView, children, children_by, children_in, colours_of, group_child, has_room, leads, split_child, unless_fault}
+use Rattle.mpx_value.proofs.Rising.{below-upto}
+use Rattle.mpx_value.proofs.Ranks.{group_ranks, has-members, has-processes, split_ranks}
+
+module _ (birth : BirthView) (row : RowView) (long : length row ≡ length birth.members) where
+  abbrev Within : ChildView → Type 0
+  Within x = All (λ p. has birth.members p ≡ true) x.birth.members
+
+  below : (ranks : List ℕ) → All (λ r. r < length row) ranks → All (λ r. r < length birth.members) ranks
+  below ranks all = All-weaker (λ r. r < length row) (λ r. r < length birth.members) (λ r l. omega arith) ranks all
+
+  by_kind : (new : NewCommunicator) → IsFine row → All Within (children_by new birth row)
+  by_kind N.Dup is = All-cons Within (record { colour = 0; birth = birth }) [] (has-members birth.members) (All-nil Within)
+  by_kind N.Split is =
+      All-map Within (split_child birth row) (colours_of row) (λ k d l. has-processes birth.members _ (below _ (split_ranks row _)))
+  by_kind N.Create is =
+      All-map Within (group_child birth row) (filter (leads row) (upto (length row)))
+      (All-filter (leads row) (λ rank. Within (group_child birth row rank)) (upto (length row))
+      (All-weaker (λ r. r < length row) (λ rank. Within (group_child birth row rank))
+      (λ rank l. has-processes birth.members (group_of (post_at row rank)) (below _ (group_ranks row rank is l))) (upto (length row)) (below-upto (length row))))
+  by_kind N.CreateGroup is = All-cons Within (record { colour = 0; birth = birth }) [] (has-members birth.members) (All-nil Within)
+
+  by_family : (family : Family) → IsFine row → All Within (children_in family birth row)
+  by_family (F.Exchange exchange) is = All-nil Within
+  by_family (F.Reduction reduction) is = All-nil Within
+  by_family (F.NewCommunicator new) is = by_kind new is
+
+  by_verdict : (v : Verdict) → IsFirstFault questions row v → All Within (unless_fault v (children_in (family_of (first_of row).kind) birth row))
+  by_verdict V.Fine first = by_family (family_of (first_of row).kind) (fine row first)
+  by_verdict (V.Fault fault) first = All-nil Within
+
+  by_room : (b : Bool) (made : List ChildView) → All Within made → All Within (cond b made [])
+  by_room true made all = all
+  by_room false made all = All-nil Within
+
+pub children_within : (birth : BirthView) (row : RowView) (name : Name) (call : ℕ) → length row ≡ length birth.members → All (λ (x : ChildView). All (λ p. has birth.members p ≡ true) x.birth.members) (children birth row name call)
+unfolding children
+children_within birth row name call long =
+    by_room birth row long (has_room name) _ (by_verdict birth row long (verdict row) (verdict-is_first row))

@@ -1,0 +1,127 @@
+-- The communicators that a call makes (MPI 4.1, section 7.4.2).
+use Rattle.std.specs.Prelude.{◌≡◌, ℕ, ◌==◌, nat_eq, nat_lt, Bool, false, cond, List, [], ◌∷◌, map, length, filter, slice_get, slice_index_or, Option, Some, None}
+use Rattle.std.specs.List.{filter_map}
+use Rattle.std.specs.Option.{option_eq}
+use Rattle.std.specs.Ordering.{int_cmp, is_lt}
+use Rattle.mpx_name.specs.declared.steps.Step.TheVariants.{Child}
+use Rattle.mpx_name.specs.Name.{Name}
+use Rattle.mpx_post.specs.declared.kinds.Family.{Family}
+use Rattle.mpx_post.specs.declared.kinds.Family.TheVariants as F
+use Rattle.mpx_post.specs.declared.kinds.NewCommunicator.{NewCommunicator}
+use Rattle.mpx_post.specs.declared.kinds.NewCommunicator.TheVariants as N
+use Rattle.mpx_post.specs.Kinds.{family_of}
+use Rattle.mpx_post.specs.Births.{BirthView, rank_in, upto}
+use Rattle.mpx_post.specs.Posts.{colour_of, group_of, key_of}
+use Rattle.mpx_post.specs.Rows.{RowView}
+use Rattle.mpx_post.specs.Agreement.{first_of, post_at}
+use Rattle.mpx_post.specs.Drafts.{most_steps}
+use Rattle.mpx_match.specs.declared.faults.Verdict.{Verdict}
+use Rattle.mpx_match.specs.declared.faults.Verdict.TheVariants as V
+use Rattle.mpx_match.specs.Verdicts.{verdict}
+use Rattle.mpx_value.specs.Orders.{ordered, rising}
+
+-- a communicator that a call makes, told from its sisters by a colour
+pub record ChildView : Type 0 where
+  pub colour : ℕ
+  pub birth : BirthView
+
+-- the processes with these ranks
+abbrev pub processes : (members ranks : List ℕ) → List ℕ
+processes members ranks = map (λ rank. slice_index_or members rank 0) ranks
+
+-- the child of this colour of the members with these ranks, in this order
+abbrev pub child_of_ranks : BirthView → (colour : ℕ) → (ranks : List ℕ) → ChildView
+child_of_ranks birth colour ranks = record { colour = colour; birth = record { members = processes birth.members ranks } }
+
+-- MPI_COMM_DUP and MPI_COMM_CREATE_GROUP: one child of all members
+
+abbrev pub whole : BirthView → List ChildView
+whole birth = record { colour = 0; birth = birth } ∷ []
+
+-- MPI_COMM_SPLIT: a child for each colour that is given, of the members that give it, by their keys, ties by their rank
+
+-- the colours that are given, rising, each once; an undefined one isn't given
+abbrev pub colours_of : RowView → List ℕ
+colours_of row = rising (filter_map colour_of row)
+
+abbrev pub gives_colour : (colour : ℕ) → RowView → (rank : ℕ) → Bool
+gives_colour colour row rank = option_eq nat_eq (colour_of (post_at row rank)) (Some colour)
+
+-- the ranks that give the colour, rising
+abbrev pub ranks_with : (colour : ℕ) → RowView → List ℕ
+ranks_with colour row = filter (gives_colour colour row) (upto (length row))
+
+-- whether the first of two ranks gives the lower key
+abbrev pub lower_key : RowView → (rank other : ℕ) → Bool
+lower_key row rank other = is_lt (int_cmp (key_of (post_at row rank)) (key_of (post_at row other)))
+
+abbrev pub split_child : BirthView → RowView → (colour : ℕ) → ChildView
+split_child birth row colour = child_of_ranks birth colour (ordered (lower_key row) (ranks_with colour row))
+
+abbrev pub split : BirthView → RowView → List ChildView
+split birth row = map (split_child birth row) (colours_of row)
+
+-- MPI_COMM_CREATE: a child for each group that is given, of its members in its order; its colour is the rank of the first
+
+abbrev pub begins_with : ℕ → List ℕ → Bool
+begins_with rank [] = false
+begins_with rank (first ∷ ranks) = first == rank
+
+-- whether the member with this rank leads the group that it gives
+abbrev pub leads : RowView → (rank : ℕ) → Bool
+leads row rank = begins_with rank (group_of (post_at row rank))
+
+abbrev pub group_child : BirthView → RowView → (rank : ℕ) → ChildView
+group_child birth row rank = child_of_ranks birth rank (group_of (post_at row rank))
+
+abbrev pub created : BirthView → RowView → List ChildView
+created birth row = map (group_child birth row) (filter (leads row) (upto (length row)))
+
+-- ALL KINDS
+
+abbrev pub children_by : NewCommunicator → BirthView → RowView → List ChildView
+children_by N.Dup birth row = whole birth
+children_by N.Split birth row = split birth row
+children_by N.Create birth row = created birth row
+children_by N.CreateGroup birth row = whole birth
+
+-- the other families make none
+abbrev pub children_in : Family → BirthView → RowView → List ChildView
+children_in (F.Exchange exchange) birth row = []
+children_in (F.Reduction reduction) birth row = []
+children_in (F.NewCommunicator new) birth row = children_by new birth row
+
+-- none where the posts don't fit together
+abbrev pub unless_fault : Verdict → List ChildView → List ChildView
+unless_fault V.Fine made = made
+unless_fault (V.Fault fault) made = []
+
+-- whether the name can have one step more
+abbrev pub has_room : Name → Bool
+has_room name = nat_lt (length name) most_steps
+
+-- what the call with this row makes, in rising order of colours
+unfoldable pub children : BirthView → RowView → Name → (call : ℕ) → List ChildView
+children birth row name call = cond (has_room name) (unless_fault (verdict row) (children_in (family_of (first_of row).kind) birth row)) []
+
+-- the one of this colour
+abbrev pub of_colour : ℕ → List ChildView → Option BirthView
+of_colour colour [] = None
+of_colour colour (x ∷ rest) = cond (x.colour == colour) (Some x.birth) (of_colour colour rest)
+
+-- the child of this colour that the call with this row makes
+abbrev pub child : BirthView → RowView → Name → (call colour : ℕ) → Option BirthView
+child birth row name call colour = of_colour colour (children birth row name call)
+
+-- their names below the context of the call, with their births
+abbrev pub named_children : Name → ℕ → List ChildView → List (Name × BirthView)
+named_children name call made = map (λ (x : ChildView). (Child call x.colour ∷ name, x.birth)) made
+
+-- a communicator with this name and size, in which the process has this rank, is one of what the call makes
+pub record IsNewCommunicator (birth : BirthView) (row : RowView) (name : Name) (call process : ℕ) (new : Name) (size rank : ℕ) : Type 0 where
+  pub place : ℕ
+  pub child : ChildView
+  pub among : slice_get (children birth row name call) place ≡ Some child
+  pub named : new ≡ Child call child.colour ∷ name
+  pub counted : size ≡ length child.birth.members
+  pub member : rank_in process child.birth.members ≡ Some rank

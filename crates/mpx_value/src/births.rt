@@ -1,0 +1,165 @@
+ghost use Rattle.std.specs.Prelude.{◌≡◌, ◌<◌, ◌≤◌, ◌^◌, ◌∷◌, IfOk, length};
+ghost use Rattle.std.specs.List.{All};
+ghost use Rattle.mpx_name.specs.declared.steps.Step.TheVariants.{Child};
+ghost use Rattle.mpx_match.specs.Verdicts.{verdict};
+ghost use Rattle.mpx_post.specs.Agreement.{IsFine};
+ghost use Rattle.mpx_post.specs.Drafts.{most_calls, most_steps};
+ghost use Rattle.mpx_post.specs.Kinds.{family_of, makes_communicators};
+ghost use Rattle.mpx_value.specs.Children.{children, has_room as has_room_for, named_children, processes, whole};
+
+use crate::groups::created;
+use crate::splits::split;
+use join_core::OutOfMemory;
+use mpx_group::Proc;
+use mpx_match::{Verdict, verdict};
+use mpx_name::{Name, NameError};
+use mpx_post::{Birth, Family, Kind, NewCommunicator, Row};
+use std::alloc::Global;
+
+// So many steps a name has at most.
+const MOST_STEPS: usize = 8;
+
+/// The communicators that the call with this number makes on a context with this name and birth, of which this is the row
+/// of posts: their names in rising order, with their births. There are none where the posts don't fit together, where the
+/// name has eight steps, and where the kind makes none.
+#[tactic(auto, unfolding(crate::specs::Children::children))]
+pub fn children(
+    alloc: Global,
+    birth: &Birth,
+    row: &Row<'_>,
+    name: &Name,
+    call: u32,
+) -> Result<Vec<(Name, Birth)>, OutOfMemory>
+    requires members { length row.now ≡ length birth.now.members }
+    requires call { call < most_calls }
+    ensures { IfOk result (λ made. made.items ≡ named_children name.now call (children birth.now row.now name.now call)) }
+{
+    prove!(0 < row.len());
+    if !makes_communicators(row.post(0).kind()) {
+        return Ok(Vec::new(alloc));
+    }
+    match verdict(row) {
+        Verdict::Fault(_) => Ok(Vec::new(alloc)),
+        Verdict::Fine => {
+            if has_room(name) {
+                made(alloc, birth, row, name, call)
+            } else {
+                Ok(Vec::new(alloc))
+            }
+        }
+    }
+}
+
+// Whether calls of the kind make communicators.
+fn makes_communicators(kind: Kind) -> bool
+    ensures { result ≡ makes_communicators (family_of kind) }
+{
+    match kind.family() {
+        Family::Exchange(_) => false,
+        Family::Reduction(_) => false,
+        Family::NewCommunicator(_) => true,
+    }
+}
+
+// Whether the name can have one step more.
+pub(crate) fn has_room(name: &Name) -> bool
+    ensures { result ≡ has_room_for name.now }
+{
+    name.depth() < MOST_STEPS
+}
+
+// What a fine row makes.
+#[tactic(auto, unfolding(crate::specs::Children::children))]
+pub(crate) fn made(
+    alloc: Global,
+    birth: &Birth,
+    row: &Row<'_>,
+    name: &Name,
+    call: u32,
+) -> Result<Vec<(Name, Birth)>, OutOfMemory>
+    requires fine { IsFine row.now }
+    requires verdict { verdict row.now ≡ Verdict.Fine }
+    requires room { length name.now < most_steps }
+    requires members { length row.now ≡ length birth.now.members }
+    requires call { call < most_calls }
+    ensures { IfOk result (λ made. made.items ≡ named_children name.now call (children birth.now row.now name.now call)) }
+{
+    prove!(0 < row.len());
+    match row.post(0).kind().family() {
+        Family::Exchange(_) => Ok(Vec::new(alloc)),
+        Family::Reduction(_) => Ok(Vec::new(alloc)),
+        Family::NewCommunicator(NewCommunicator::Dup) => whole(alloc, birth, name, call),
+        Family::NewCommunicator(NewCommunicator::Split) => split(alloc, birth, row, name, call),
+        Family::NewCommunicator(NewCommunicator::Create) => created(alloc, birth, row, name, call),
+        Family::NewCommunicator(NewCommunicator::CreateGroup) => whole(alloc, birth, name, call),
+    }
+}
+
+// One communicator of all members.
+fn whole(
+    alloc: Global,
+    birth: &Birth,
+    name: &Name,
+    call: u32,
+) -> Result<Vec<(Name, Birth)>, OutOfMemory>
+    requires room { length name.now < most_steps }
+    requires call { call < most_calls }
+    ensures { IfOk result (λ made. made.items ≡ named_children name.now call (whole birth.now)) }
+{
+    let members = Vec::from_slice(alloc, birth.members())?;
+    let mut made = Vec::new(alloc);
+    made.push(child(alloc, name, call, 0, members)?)?;
+    Ok(made)
+}
+
+// The child of this colour of these members.
+pub(crate) fn child(
+    alloc: Global,
+    name: &Name,
+    call: u32,
+    colour: u32,
+    members: Vec<Proc>,
+) -> Result<(Name, Birth), OutOfMemory>
+    requires room { length name.now < most_steps }
+    requires call { call < most_calls }
+    requires colour { colour < 2 ^ 31 }
+    requires some { 0 < length members.items }
+    requires few { length members.items ≤ 64 }
+    ensures { IfOk result (λ child. child ≡ (Child call colour ∷ name.now, record { members = members.items })) }
+{
+    let name = child_name(alloc, name, call, colour)?;
+    match Birth::new(members) {
+        None => unreachable!(),
+        Some(birth) => Ok((name, birth)),
+    }
+}
+
+fn child_name(alloc: Global, name: &Name, call: u32, colour: u32) -> Result<Name, OutOfMemory>
+    requires room { length name.now < most_steps }
+    requires call { call < most_calls }
+    requires colour { colour < 2 ^ 31 }
+    ensures { IfOk result (λ child. child ≡ Child call colour ∷ name.now) }
+{
+    match name.child(alloc, call, colour) {
+        Ok(child) => Ok(child),
+        Err(NameError::OutOfMemory) => Err(OutOfMemory),
+        Err(NameError::DepthUsedUp) => unreachable!(),
+    }
+}
+
+// The processes with these ranks.
+pub(crate) fn processes(
+    alloc: Global,
+    birth: &Birth,
+    ranks: &[u8],
+) -> Result<Vec<Proc>, OutOfMemory>
+    requires { All (λ r. r < length birth.now.members) ranks.now }
+    ensures { IfOk result (λ found. found.items ≡ processes birth.now.members ranks.now) }
+{
+    let members = birth.members();
+    let mut found = Vec::new(alloc);
+    for &rank in ranks {
+        found.push(members[usize::from(rank)])?;
+    }
+    Ok(found)
+}
