@@ -2,7 +2,7 @@
 """A second opinion on gossipmpi: reads and evaluates a job script, without sharing any code with the program.
 
 It refuses what the program refuses, with the same line on the standard error and exit status 2, by the grammar and the order
-of refusals in docs/MODEL.md, limits of bytes and of statements included. It evaluates the calls by MPI 4.1's text, for all 20
+of refusals in docs/MODEL.md, limits of bytes and of statements included. It evaluates the calls by MPI 4.1's text, for all 22
 kinds, 9 types and 12 operations, on every communicator, with the refusals of posts and the faults of rows, and tells which
 ranks wait (exit status 3). It knows nothing of usage, want of memory, and readers or writers that fail.
 
@@ -26,8 +26,9 @@ PLACES = {  # the words behind the communicator; the last is any number of items
     "reduce": "root op ty items", "allreduce": "op ty items", "reduce_scatter_block": "op ty count items",
     "reduce_scatter": "op ty rcounts items", "scan": "op ty items", "exscan": "op ty items",
     "dup": "arrow target", "split": "colour key arrow target", "create": "list arrow target",
-    "create_group": "tag list arrow target"}
-MAKERS = ["dup", "split", "create", "create_group"]
+    "create_group": "tag list arrow target", "dist_graph": "edges arrow target",
+    "dist_graph_adjacent": "sources destinations arrow target"}
+MAKERS = ["dup", "split", "create", "create_group", "dist_graph", "dist_graph_adjacent"]
 PLACES = {k: (v.split() if v else []) for k, v in PLACES.items()}
 
 
@@ -80,6 +81,21 @@ def numbers(word):
     return [] if word == "-" else [int(x) for x in word.split(",")]
 
 
+def ends(word, many):
+    """Whether the edges of a list have weights, and each one's numbers, the weight last; None where it is no such list. An
+    entry has so many ranks, with `>` between them."""
+    if word in ("-", "-w"):
+        return word == "-w", []
+    found = []
+    for entry in word.split(","):
+        ranks, *weight = entry.split(":")
+        told = ranks.split(">") + weight
+        if len(ranks.split(">")) != many or len(weight) > 1 or not all(map(is_number, told)):
+            return None
+        found.append([int(x) for x in told])
+    return None if len({len(told) for told in found}) > 1 else (len(found[0]) > many, found)
+
+
 def lines_of(seen):
     """A line ends at LF, with one CR before it; what stands behind the last LF is a line where it has a byte."""
     *ended, last = seen.split("\n")
@@ -119,7 +135,9 @@ def statement_refusal(words, bound):
          or wrong(["arrow"], "->".__eq__)),
         ("BadNumber", wrong(["root", "count", "key", "tag"], is_number) or not all(map(is_number, behind))
          or wrong(["colour"], lambda word: word == "undefined" or is_number(word))),
-        ("BadList", wrong(["scounts", "rcounts", "list"], is_list)),
+        ("BadList", wrong(["scounts", "rcounts", "list"], is_list) or wrong(["edges"], lambda word: ends(word, 2))
+         or wrong(["sources", "destinations"], lambda word: ends(word, 1))
+         or "sources" in at and "destinations" in at and ends(at["sources"], 1)[0] != ends(at["destinations"], 1)[0]),
         ("BadName", name is not None and not is_name(name) or wrong(["target"], is_name)),
         ("NameUnknown", any(name not in words for words in bound)),
         ("NameTaken", "target" in at and any(at["target"] in words for words in bound))])
@@ -161,7 +179,8 @@ def read(data):
 
 def parse(words):
     call = {"kind": words[0], "root": None, "op": None, "ty": None, "scounts": [], "rcounts": [], "items": [],
-            "colour": None, "key": 0, "list": [], "tag": 0, "target": None}
+            "colour": None, "key": 0, "list": [], "tag": 0, "target": None,
+            "weighted": False, "edges": [], "sources": [], "destinations": []}
     rest = words[2:]
     for place in PLACES[words[0]]:
         if place == "items":
@@ -178,6 +197,8 @@ def parse(words):
             call["colour"] = None if word == "undefined" else int(word)
         elif place in ("scounts", "rcounts", "list"):
             call[place] = numbers(word)
+        elif place in ("edges", "sources", "destinations"):
+            call["weighted"], call[place] = ends(word, 2 if place == "edges" else 1)
         else:
             call[place] = word
     return call
@@ -216,6 +237,11 @@ def refusal(call, n, me, depth):
         return "DepthUsedUp"
     if call["kind"] == "create" and not are_ranks(call["list"], n):
         return "BadGroup"
+    told = [(edge, 2) for edge in call["edges"]] + [(near, 1) for near in call["sources"] + call["destinations"]]
+    if any(not all(0 <= r < n for r in x[:many]) or not all(0 <= w < 2 ** 31 for w in x[many:]) for x, many in told):
+        return "BadEdge"
+    if len(told) > 512:
+        return "TooManyEdges"
     if not (call["colour"] is None or 0 <= call["colour"] < 2 ** 31) or not -2 ** 31 <= call["key"] < 2 ** 31:
         return "BadTag"
     return None
@@ -268,9 +294,17 @@ def fault(row):
             "allgatherv": lambda: any(size[i] != row[j]["rcounts"][i] for j in range(n)),
             "alltoallv": lambda: any(c["scounts"][j] != row[j]["rcounts"][i] for j in range(n)),
             "reduce_scatter": lambda: c["rcounts"] != first["rcounts"],
+            **{maker: lambda: False for maker in MAKERS},
         }.get(k, lambda: size[i] != size[0])()
         if bad:
             return "Amount", i
+    for i, c in enumerate(row):
+        if c["weighted"] != first["weighted"]:
+            return "Weights", i
+    weights = lambda rank, side: sorted(x[1:] for x in side if x[0] == rank)
+    for i, c in enumerate(row):
+        if any(weights(j, c["destinations"]) != weights(i, row[j]["sources"]) for j in range(n)):
+            return "Edges", i
     if k == "create":
         for i, c in enumerate(row):
             if any(row[member]["list"] != c["list"] for member in c["list"]):
@@ -281,7 +315,7 @@ def fault(row):
 def new_communicator(row, name, members, call, me):
     """The name and the members of the communicator that the member with this rank gets, or None."""
     kind = row[0]["kind"]
-    if kind in ("dup", "create_group"):
+    if kind in ("dup", "create_group", "dist_graph", "dist_graph_adjacent"):
         return name + (("child", call, 0),), members
     if kind == "split":
         colour = row[me]["colour"]
@@ -454,6 +488,15 @@ def random_making(rng, members, wild):
     other = shuffled[size:]  # a second group beside it
     tag, strange = rng.choice([0, 7, 32767]), lambda: rng.random() < 0.05 * wild
     lines, made = [], {}
+    weighted = rng.random() < 0.5
+    weight = lambda: rng.choice([0, 1, 5, 2147483647])
+    graph = [(rng.randrange(n), rng.randrange(n), weight()) for _ in range(rng.choice([0, 1, n, 3 * n]))]
+
+    def told(entries):
+        has = weighted != strange()
+        if not entries:
+            return "-w" if has else "-"
+        return ",".join(rank + (":%d" % w if has != (strange() and strange()) else "") for rank, w in entries)
     for r in range(n):
         colour, key = rng.choice(["undefined", 0, 1, 1, 2147483647]), rng.choice([0, 0, 1, -1, -r, 2147483647, -2147483648])
         own = group if r in group else other
@@ -467,6 +510,22 @@ def random_making(rng, members, wild):
         gathers = kind == "create_group" and (r in own)
         if kind == "dup":
             behind, colour = [], 0
+        elif kind == "dist_graph":
+            edges = [edge for edge in graph if edge[2] % n == r]
+            if strange():
+                edges.append(rng.choice([(n, 0, 0), (0, -1, 0), (0, 0, 2147483648), (0, 0, -1)]))
+            if strange():
+                edges = (edges or [(0, 0, 0)]) * 513
+            behind, colour = [told([("%d>%d" % edge[:2], edge[2]) for edge in edges])], 0
+        elif kind == "dist_graph_adjacent":
+            sources = [(str(s), w) for s, d, w in graph if d == r]
+            destinations = [(str(d), w) for s, d, w in graph if s == r]
+            rng.shuffle(sources)
+            if strange() and sources:
+                sources.pop()
+            if strange():
+                destinations.append((str(rng.choice([0, n, -1])), rng.choice([0, 7])))
+            behind, colour = [told(sources), told(destinations)], 0
         elif kind == "split":
             behind = [str(colour), str(key)]
         else:
@@ -508,9 +567,9 @@ def random_script(seed):
 
 NUMBERS = ["", "-", "x", "+1", "1.5", "1,2", "1,", "-0", "007", "i32", "->", "1\r", "1\x00", "18446744073709551615", "18446744073709551616",
            "-9223372036854775808", "-9223372036854775809", "--1", "1_0"]
-LISTS = ["-", "1,,2", "1,x", ",", "1,", ",1", "--", "1,-1", "0,00", "1", "x", "1,18446744073709551616", "1,\x0b2"]
+LISTS = ["-", "-w", "0>1", "0>1:2", "0>1:2,1>0", "1:2,0", "0>1>2", "0>", ">1", "0>1:", "1:", "1:2:3", "0 >1", "1,,2", "1,x", ",", "1,", ",1", "--", "1,-1", "0,00", "1", "x", "1,18446744073709551616", "1,\x0b2"]
 NAMES = ["c0", "c1", "c9", "world", "undefined", "->", "Zz", "worlds", "a_1", "_a", "a" * 32, "a" * 33, "1a", "null", "world\r", "World", "w-1", "world:"]
-OTHERS = ["dup", "split", "create", "create_group", "idup", "undefined", "i33", "f64", "i32", "sum", "avg", "maxloc", "barrier", "ibcast", "Barrier", "ranks", "scan", "gatherv"]
+OTHERS = ["dup", "split", "create", "create_group", "dist_graph", "dist_graph_adjacent", "idup", "undefined", "i33", "f64", "i32", "sum", "avg", "maxloc", "barrier", "ibcast", "Barrier", "ranks", "scan", "gatherv"]
 LABELS = ["*:", "9:", "-1:", "00:", "-0:", "0", "0:barrier", ":", "+0:", "99999999999999999999:", "#", "\xe9", "0::", "*"]
 LINES = ["", "# a", "#", "\t# \xff", "\r", "ranks 1", "0:", "*:", "9:", "x: y", "\x0b", "0: barrier", "0: barrier world 1", "0: barrier world "]
 OPENINGS = ["", "ranks", "ranks 0", "ranks 65", "ranks 64", "ranks -1", "ranks 2 3", "ranks x", "Ranks 2", "\tranks  3 ", "ranks 3\r"]

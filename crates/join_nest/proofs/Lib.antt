@@ -3,3 +3,4 @@ pub mod Steps
 pub mod Views
 pub mod Passes
 pub mod Fronts
+pub mod Takes

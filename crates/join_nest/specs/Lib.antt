@@ -1,7 +1,9 @@
 pub mod Optional
 pub mod Entries
 pub mod Keyed
+pub mod Wanted
 pub mod Seen
+pub mod Memory
 pub mod Place
 pub mod Trunc
 pub mod TruncSeen

@@ -1,10 +1,13 @@
 // Slices of entries whose keys strictly rise.
-ghost use Rattle.std.specs.Prelude.{◌≡◌, cond, is_some, IsTrue, IfOk, IfErr, OnOk, OnErr, ◌++◌, ◌∷◌, []};
+ghost use Rattle.std.specs.Prelude.{◌≡◌, cond, is_some, IsTrue, IfOk, IfErr, OnOk, OnErr, ◌++◌, ◌∷◌, [], ◌+◌, ◌<◌, ◌≤◌};
 ghost use Rattle.std.specs.FinMap.{find, is_sorted, put};
 ghost use Rattle.std.specs.Option.{option_copied, option_map};
-ghost use Rattle.join_nest.specs.Entries.{merge, entries_leq, entries_delta, entries_equal, with_key};
+ghost use Rattle.std.specs.Vec.{vec_len, vec_capacity};
+ghost use Rattle.join_nest.specs.Entries.{merge, entries_leq, entries_delta, entries_equal, put_all, with_key};
+ghost use Rattle.join_nest.specs.Keyed.{keyed_joining};
 ghost use Rattle.join_nest.specs.Optional.{option_delta};
-ghost use Rattle.join_nest.specs.Seen.{seen};
+ghost use Rattle.join_nest.specs.Seen.{seen, keyed_view};
+ghost use Rattle.join_nest.specs.Wanted.{making};
 ghost use Rattle.join_nest.specs.Place.{IsAt, IsGap};
 
 use join_core::{Exact, Join, Key, OutOfMemory};
@@ -156,15 +159,24 @@ pub fn merged<K: Key, J: Join>(
     Ok(made)
 }
 
-// Of each entry what the known ones lack, in one pass over both.
+// What is made of an entry that isn't below the known one: what that lacks, or the join of both.
+#[derive(Clone, Copy)]
+pub enum Wanted {
+    Delta,
+    Joined,
+}
+
+// Of each entry that isn't below the known ones what is wanted, in one pass over both.
 pub fn lacking<K: Key, J: Join>(
     alloc: Global,
     entries: &[(K, J)],
     known: &[(K, J)],
+    wanted: Wanted,
 ) -> Result<Vec<(K, J)>, OutOfMemory>
     requires entries { IsTrue (is_sorted K.cmp entries.now) }
     requires known { IsTrue (is_sorted K.cmp known.now) }
-    ensures { IfOk result (λ made. seen J.view made.items ≡ entries_delta K.cmp J.joining (seen J.view entries.now) (seen J.view known.now)) }
+    ensures { IfOk result (λ made. seen J.view made.items
+        ≡ entries_delta K.cmp (making wanted J.joining) (seen J.view entries.now) (seen J.view known.now)) }
 {
     let mut made = Vec::new(alloc);
     let mut i = 0;
@@ -179,7 +191,7 @@ pub fn lacking<K: Key, J: Join>(
             }
             Ordering::Greater => j += 1,
             Ordering::Equal => {
-                push_lacking(alloc, &mut made, mine, &theirs.1)?;
+                push_lacking(alloc, &mut made, mine, &theirs.1, wanted)?;
                 i += 1;
                 j += 1;
             }
@@ -189,37 +201,88 @@ pub fn lacking<K: Key, J: Join>(
     Ok(made)
 }
 
-// Adds what the known value lacks of the entry at the end, if it lacks any.
+// Adds what is wanted of the entry at the end, where it isn't below the known value.
 fn push_lacking<K: Key, J: Join>(
     alloc: Global,
     made: &mut Vec<(K, J)>,
     entry: &(K, J),
     known: &J,
+    wanted: Wanted,
 ) -> Result<(), OutOfMemory>
     ensures { OnOk result (seen J.view made.new.items
-        ≡ seen J.view made.old.items ++ with_key entry.now.0 (option_delta J.joining (Some (J.view entry.now.1)) (Some (J.view known.now))) []) }
+        ≡ seen J.view made.old.items ++ with_key entry.now.0 (option_delta (making wanted J.joining) (Some (J.view entry.now.1)) (Some (J.view known.now))) []) }
 {
     if entry.1.leq(known) {
         Ok(())
     } else {
-        push_delta(alloc, made, entry, known)
+        push_wanted(alloc, made, entry, known, wanted)
     }
 }
 
-// Adds the key of the entry with what the known value lacks at the end.
-fn push_delta<K: Key, J: Join>(
+// Adds the key of the entry with what is wanted of it at the end.
+fn push_wanted<K: Key, J: Join>(
     alloc: Global,
     made: &mut Vec<(K, J)>,
     entry: &(K, J),
     known: &J,
+    wanted: Wanted,
 ) -> Result<(), OutOfMemory>
     ensures { OnOk result (seen J.view made.new.items
-        ≡ seen J.view made.old.items ++ (entry.now.0, J.joining.delta (J.view entry.now.1) (J.view known.now)) ∷ []) }
+        ≡ seen J.view made.old.items ++ (entry.now.0, (making wanted J.joining).delta (J.view entry.now.1) (J.view known.now)) ∷ []) }
 {
     let key = entry.0.copy(alloc)?;
-    let value = entry.1.delta(alloc, known)?;
+    let value = match wanted {
+        Wanted::Delta => entry.1.delta(alloc, known)?,
+        Wanted::Joined => known.joined(alloc, &entry.1)?,
+    };
     made.push((key, value))?;
     Ok(())
+}
+
+// Joins the others in: what is below stays as it is, and the rest is put in its place. An `Err` changes nothing.
+pub fn take_entries<K: Key, J: Join>(
+    alloc: Global,
+    entries: &mut Vec<(K, J)>,
+    others: &[(K, J)],
+) -> Result<(), OutOfMemory>
+    requires entries { IsTrue (is_sorted K.cmp entries.old.items) }
+    requires others { IsTrue (is_sorted K.cmp others.now) }
+    ensures ok { OnOk result (keyed_view K.cmp J.view entries.new.items
+        ≡ (keyed_joining J.joining).join (keyed_view K.cmp J.view entries.old.items) (keyed_view K.cmp J.view others.now)) }
+    ensures sorted { IsTrue (is_sorted K.cmp entries.new.items) }
+    ensures err { OnErr result (entries.new.items ≡ entries.old.items) }
+{
+    let changes = lacking(alloc, others, entries, Wanted::Joined)?;
+    entries.reserve(changes.len())?;
+    put_changes(entries, changes);
+    Ok(())
+}
+
+// Sets these values, of which there are at most as many as there is room for. It takes no memory.
+fn put_changes<K: Key, J: Drop>(entries: &mut Vec<(K, J)>, mut changes: Vec<(K, J)>)
+    requires sorted { IsTrue (is_sorted K.cmp entries.old.items) }
+    requires room { vec_len entries.old + vec_len changes ≤ vec_capacity entries.old }
+    ensures { entries.new.items ≡ put_all K.cmp changes.items entries.old.items }
+{
+    while let Some((key, value)) = changes.pop() {
+        put_in_room(entries, key, value);
+    }
+}
+
+// Sets the value of a key, with room for one more entry. It takes no memory.
+fn put_in_room<K: Key, J: Drop>(entries: &mut Vec<(K, J)>, key: K, value: J)
+    requires sorted { IsTrue (is_sorted K.cmp entries.old.items) }
+    requires room { vec_len entries.old < vec_capacity entries.old }
+    ensures items { entries.new.items ≡ put K.cmp key value entries.old.items }
+    ensures len { vec_len entries.new ≤ vec_len entries.old + 1 }
+    ensures capacity { vec_capacity entries.old ≤ vec_capacity entries.new }
+{
+    match place(entries, &key) {
+        Ok(at) => entries[at] = (key, value),
+        Err(at) => {
+            let _inserted = entries.insert(at, (key, value));
+        }
+    }
 }
 
 // Sets the value of a key. An `Err` changes nothing.

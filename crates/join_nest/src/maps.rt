@@ -6,7 +6,8 @@ ghost use Rattle.join_nest.specs.KeyedLaws.{keyed_equality, keyed_laws};
 ghost use Rattle.join_nest.specs.Seen.{keyed_view, seen};
 
 use crate::entries::{
-    all_below, lacking, lookup, merged, push_copies, put_entry, replace_entry, same_entries,
+    Wanted, all_below, lacking, lookup, merged, push_copies, put_entry, replace_entry,
+    same_entries, take_entries,
 };
 use join_core::{Exact, Join, Key, OutOfMemory};
 use std::alloc::Global;
@@ -51,7 +52,7 @@ impl<K: Key, J: Join> Join for Keyed<K, J> {
     }
 
     fn delta(&self, alloc: Global, known: &Keyed<K, J>) -> Result<Keyed<K, J>, OutOfMemory> {
-        let entries = lacking(alloc, &self.entries, &known.entries)?;
+        let entries = lacking(alloc, &self.entries, &known.entries, Wanted::Delta)?;
         Ok(Keyed { entries })
     }
 
@@ -59,6 +60,8 @@ impl<K: Key, J: Join> Join for Keyed<K, J> {
 }
 
 impl<K: Key, J: Exact> Keyed<K, J> {
+    ghost use Rattle.join_nest.specs.Memory.{memory_of};
+
     /// The map with no entry.
     pub fn new(alloc: Global) -> Keyed<K, J>
         ensures { ⟦<Keyed<K, J> as Exact>⟧.view result ≡ empty }
@@ -107,7 +110,9 @@ impl<K: Key, J: Exact> Keyed<K, J> {
     }
 
     /// What its memory comes from.
-    pub fn allocator(&self) -> Global {
+    pub fn allocator(&self) -> Global
+        ensures { result ≡ memory_of self.now }
+    {
         *self.entries.allocator()
     }
 
@@ -119,5 +124,16 @@ impl<K: Key, J: Exact> Keyed<K, J> {
             ≡ replaced (⟦<Keyed<K, J> as Exact>⟧.view self.old) key.now (J.view value) }
     {
         replace_entry(&mut self.entries, key, value)
+    }
+}
+
+impl<K: Key, J: Join> Keyed<K, J> {
+    /// Joins the other to this one in place: what is below stays where it is. An `Err` changes nothing.
+    pub fn take(&mut self, alloc: Global, other: &Keyed<K, J>) -> Result<(), OutOfMemory>
+        ensures ok { OnOk result (⟦<Keyed<K, J> as Exact>⟧.view self.new
+            ≡ (keyed_joining J.joining).join (⟦<Keyed<K, J> as Exact>⟧.view self.old) (⟦<Keyed<K, J> as Exact>⟧.view other.now)) }
+        ensures err { OnErr result (⟦<Keyed<K, J> as Exact>⟧.view self.new ≡ ⟦<Keyed<K, J> as Exact>⟧.view self.old) }
+    {
+        take_entries(alloc, &mut self.entries, &other.entries)
     }
 }

@@ -12,7 +12,8 @@ ghost use Rattle.join_nest.specs.Seen.{seen};
 ghost use Rattle.join_nest.specs.Place.{IsFront};
 
 use crate::entries::{
-    all_below, lacking, lookup, merged, place, push_copies, put_entry, replace_entry, same_entries,
+    Wanted, all_below, lacking, lookup, merged, place, push_copies, put_entry, replace_entry,
+    same_entries,
 };
 use join_core::{Exact, Join, OutOfMemory};
 use std::alloc::Global;
@@ -95,7 +96,7 @@ impl<J: Join> Join for Trunc<J> {
             self.dropped
         };
         let mine = kept(&self.calls, known.dropped);
-        let calls = lacking(alloc, mine, &known.calls)?;
+        let calls = lacking(alloc, mine, &known.calls, Wanted::Delta)?;
         Ok(Trunc { dropped, calls })
     }
 

@@ -41,6 +41,25 @@ fn maps_join_key_by_key(rt: HostRuntime) -> Result<(), Fail> {
     Ok(())
 }
 
+// A part below the map leaves it as it is; other parts leave the join of both, also where keys are new before, between and
+// behind those of the map.
+#[test]
+fn a_part_is_taken_in_place(rt: HostRuntime) -> Result<(), Fail> {
+    let alloc = rt.alloc();
+    let mut map = map_of(alloc, &[(2, 3), (5, 9), (8, 1)])?;
+    map.take(alloc, &map_of(alloc, &[(5, 9), (8, 0)])?)?;
+    map.take(alloc, &Keyed::new(alloc))?;
+    assert!(rt; map.same(&map_of(alloc, &[(2, 3), (5, 9), (8, 1)])?));
+    map.take(alloc, &map_of(alloc, &[(2, 4), (5, 7), (8, 6)])?)?;
+    assert!(rt; map.same(&map_of(alloc, &[(2, 4), (5, 9), (8, 6)])?));
+    map.take(alloc, &map_of(alloc, &[(1, 7), (3, 0), (8, 2), (9, 5)])?)?;
+    assert!(rt; map.same(&map_of(alloc, &[(1, 7), (2, 4), (3, 0), (5, 9), (8, 6), (9, 5)])?));
+    let mut empty = Keyed::new(alloc);
+    empty.take(alloc, &map)?;
+    assert!(rt; empty.same(&map));
+    Ok(())
+}
+
 // What either side has dropped is gone from the join, whichever way it is made.
 #[test]
 fn dropped_calls_stay_dropped(rt: HostRuntime) -> Result<(), Fail> {

@@ -184,12 +184,14 @@ impl Board {
         }
     }
 
-    /// Joins a part to the board. An `Err` changes nothing.
+    /// Joins a part to the board, in place. An `Err` changes nothing.
     pub fn take(&mut self, alloc: Global, part: &Board) -> Result<(), OutOfMemory>
         ensures ok { OnOk result (look self.new ≡ join (look self.old) (look part.now)) }
         ensures err { OnErr result (look self.new ≡ look self.old) }
     {
-        *self = self.joined(alloc, part)?;
+        let second = self.inside.second.joined(alloc, &part.inside.second)?;
+        self.inside.first.take(alloc, &part.inside.first)?;
+        self.inside.second = second;
         Ok(())
     }
 

@@ -5,13 +5,13 @@ use Rattle.mpx_num.specs.declared.operations.Op.{Op}
 use Rattle.mpx_num.specs.Operations.{fits}
 use Rattle.mpx_num.specs.Types.{item_len}
 use Rattle.mpx_num.specs.ItemList.{AreItems, is_whole}
-use Rattle.mpx_post.specs.declared.kinds.Kind.{Kind}
-use Rattle.mpx_post.specs.declared.kinds.Kind.TheVariants.{Barrier, Bcast, Gather, Gatherv, Scatter, Scatterv, Allgather, Allgatherv, Alltoall, Alltoallv, Reduce, Allreduce, ReduceScatterBlock, ReduceScatter, Scan, Exscan, Dup, Split, Create, CreateGroup}
-use Rattle.mpx_post.specs.declared.kinds.Family.TheVariants as F
-use Rattle.mpx_post.specs.declared.kinds.Reduction.{Reduction}
-use Rattle.mpx_post.specs.declared.kinds.Reduction.TheVariants as R
+use Rattle.mpx_kind.specs.declared.kinds.Kind.{Kind}
+use Rattle.mpx_kind.specs.declared.kinds.Kind.TheVariants.{Barrier, Bcast, Gather, Gatherv, Scatter, Scatterv, Allgather, Allgatherv, Alltoall, Alltoallv, Reduce, Allreduce, ReduceScatterBlock, ReduceScatter, Scan, Exscan, Dup, Split, Create, CreateGroup, DistGraph, DistGraphAdjacent}
+use Rattle.mpx_kind.specs.declared.kinds.Family.TheVariants as F
+use Rattle.mpx_kind.specs.declared.kinds.Reduction.{Reduction}
+use Rattle.mpx_kind.specs.declared.kinds.Reduction.TheVariants as R
 use Rattle.mpx_post.specs.Kinds.{fields_of}
-use Rattle.mpx_post.proofs.Families.{kind_in}
+use Rattle.mpx_kind.proofs.Families.{kind_in}
 use Rattle.mpx_post.specs.Posts.{Given, type_of, numbers_of, count_of}
 use Rattle.mpx_post.specs.Rows.{RowView}
 use Rattle.mpx_post.specs.Blocks.{repeated}
@@ -80,6 +80,8 @@ module _ (row : RowView) (rank : ℕ) (fine : IsFine row) (l : rank < length row
   as_many_by Split is e op w v = cc op
   as_many_by Create is e op w v = cc op
   as_many_by CreateGroup is e op w v = cc op
+  as_many_by DistGraph is e op w v = cc op
+  as_many_by DistGraphAdjacent is e op w v = cc op
 
   -- each gives as many numbers as rank 0
   pub as_many : reduces row ≡ true → AreItems (type_of (first_of row)) (numbers_of (post_at row rank)) → AreItems (type_of (first_of row)) (numbers_of (first_of row)) → length (numbers_of (post_at row rank)) ≡ length (numbers_of (first_of row))
@@ -105,4 +107,6 @@ has_items Dup op = cc op
 has_items Split op = cc op
 has_items Create op = cc op
 has_items CreateGroup op = cc op
+has_items DistGraph op = cc op
+has_items DistGraphAdjacent op = cc op
 has_items kind op = refl

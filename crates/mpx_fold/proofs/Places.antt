@@ -1,7 +1,7 @@
 -- Where a rank's block stands.
 use Rattle.std.proofs.Common.{◌≡◌, ℕ, ◌*◌, ◌<◌, List, [], ◌∷◌, length, take, sum, sym, ap, ◌∙◌, append-nil, eqb-true, arith}
 use Rattle.mpx_num.specs.Types.{item_len}
-use Rattle.mpx_post.specs.declared.kinds.Kind.TheVariants.{ReduceScatterBlock, ReduceScatter}
+use Rattle.mpx_kind.specs.declared.kinds.Kind.TheVariants.{ReduceScatterBlock, ReduceScatter}
 use Rattle.mpx_post.specs.Posts.{type_of, numbers_of}
 use Rattle.mpx_post.specs.Rows.{RowView}
 use Rattle.mpx_post.specs.Blocks.{IsBlock, block_at, repeated}

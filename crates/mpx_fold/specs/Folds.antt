@@ -1,10 +1,10 @@
 -- What reductions and scans give (MPI 4.1, sections 6.9 to 6.11).
 use Rattle.std.specs.Prelude.{ℕ, Bool, ◌+◌, ◌==◌, List, ℤ, length, map, take, cond}
 use Rattle.mpx_num.specs.Operations.{fold_items}
-use Rattle.mpx_post.specs.declared.kinds.Family.{Family}
-use Rattle.mpx_post.specs.declared.kinds.Family.TheVariants as F
-use Rattle.mpx_post.specs.declared.kinds.Reduction.{Reduction}
-use Rattle.mpx_post.specs.declared.kinds.Reduction.TheVariants.{Reduce, Allreduce, ReduceScatterBlock, ReduceScatter, Scan, Exscan}
+use Rattle.mpx_kind.specs.declared.kinds.Family.{Family}
+use Rattle.mpx_kind.specs.declared.kinds.Family.TheVariants as F
+use Rattle.mpx_kind.specs.declared.kinds.Reduction.{Reduction}
+use Rattle.mpx_kind.specs.declared.kinds.Reduction.TheVariants.{Reduce, Allreduce, ReduceScatterBlock, ReduceScatter, Scan, Exscan}
 use Rattle.mpx_post.specs.declared.value.Value.{Value}
 use Rattle.mpx_post.specs.declared.value.Value.TheVariants.{Nothing, Absent}
 use Rattle.mpx_post.specs.Kinds.{family_of, fields_of}

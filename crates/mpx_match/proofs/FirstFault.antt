@@ -40,14 +40,16 @@ after question more row (inr rest) = rest
 -- where there is no fault, the row is fine
 pub fine : (row : RowView) → IsFirstFault questions row Fine → IsFine row
 fine row none =
-    let fits = after Q.Fit (Q.Kind ∷ Q.Mode ∷ Q.Root ∷ Q.Op ∷ Q.ItemType ∷ Q.Amount ∷ Q.Groups ∷ []) row none in
-    let kinds = after Q.Kind (Q.Mode ∷ Q.Root ∷ Q.Op ∷ Q.ItemType ∷ Q.Amount ∷ Q.Groups ∷ []) row fits.1 in
-    let modes = after Q.Mode (Q.Root ∷ Q.Op ∷ Q.ItemType ∷ Q.Amount ∷ Q.Groups ∷ []) row kinds.1 in
-    let roots = after Q.Root (Q.Op ∷ Q.ItemType ∷ Q.Amount ∷ Q.Groups ∷ []) row modes.1 in
-    let ops = after Q.Op (Q.ItemType ∷ Q.Amount ∷ Q.Groups ∷ []) row roots.1 in
-    let types = after Q.ItemType (Q.Amount ∷ Q.Groups ∷ []) row ops.1 in
-    let amounts = after Q.Amount (Q.Groups ∷ []) row types.1 in
-    let groups = after Q.Groups [] row amounts.1 in
+    let fits = after Q.Fit (Q.Kind ∷ Q.Mode ∷ Q.Root ∷ Q.Op ∷ Q.ItemType ∷ Q.Amount ∷ Q.Weights ∷ Q.Edges ∷ Q.Groups ∷ []) row none in
+    let kinds = after Q.Kind (Q.Mode ∷ Q.Root ∷ Q.Op ∷ Q.ItemType ∷ Q.Amount ∷ Q.Weights ∷ Q.Edges ∷ Q.Groups ∷ []) row fits.1 in
+    let modes = after Q.Mode (Q.Root ∷ Q.Op ∷ Q.ItemType ∷ Q.Amount ∷ Q.Weights ∷ Q.Edges ∷ Q.Groups ∷ []) row kinds.1 in
+    let roots = after Q.Root (Q.Op ∷ Q.ItemType ∷ Q.Amount ∷ Q.Weights ∷ Q.Edges ∷ Q.Groups ∷ []) row modes.1 in
+    let ops = after Q.Op (Q.ItemType ∷ Q.Amount ∷ Q.Weights ∷ Q.Edges ∷ Q.Groups ∷ []) row roots.1 in
+    let types = after Q.ItemType (Q.Amount ∷ Q.Weights ∷ Q.Edges ∷ Q.Groups ∷ []) row ops.1 in
+    let amounts = after Q.Amount (Q.Weights ∷ Q.Edges ∷ Q.Groups ∷ []) row types.1 in
+    let weights = after Q.Weights (Q.Edges ∷ Q.Groups ∷ []) row amounts.1 in
+    let edges = after Q.Edges (Q.Groups ∷ []) row weights.1 in
+    let groups = after Q.Groups [] row edges.1 in
     record {
       each = λ rank l. record {
         fit = fits.0 rank l;
@@ -57,6 +59,8 @@ fine row none =
         op = ops.0 rank l;
         ty = types.0 rank l;
         amounts = amounts.0 rank l;
+        weights = weights.0 rank l;
+        edges = edges.0 rank l;
         groups = groups.0 rank l;
       };
     }

@@ -1,3 +1,4 @@
 pub mod Least
 pub mod Decisions
 pub mod FirstFault
+pub mod Examples

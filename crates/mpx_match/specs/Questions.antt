@@ -1,15 +1,17 @@
 -- Tests that decide in what the posts of a row differ.
 use Rattle.std.specs.Prelude.{ℕ, ◌+◌, ◌==◌, nat_eq, Bool, false, not, [], ◌∷◌, length, cond, Option, Some, None, is_some}
 use Rattle.std.specs.List.{list_any}
+use Rattle.std.specs.Bool.{beq}
 use lib.Pointwise.{pointwise}
-use Rattle.mpx_post.specs.declared.kinds.Kind as K
-use Rattle.mpx_post.specs.declared.kinds.Kind.TheVariants.{Barrier, Bcast, Gather, Gatherv, Scatter, Scatterv, Allgather, Allgatherv, Alltoall, Alltoallv, Reduce, Allreduce, ReduceScatterBlock, ReduceScatter, Scan, Exscan, Dup, Split, Create, CreateGroup}
-use Rattle.mpx_post.specs.Posts.{Given, count_of, group_of}
+use Rattle.mpx_kind.specs.declared.kinds.Kind as K
+use Rattle.mpx_kind.specs.declared.kinds.Kind.TheVariants.{Barrier, Bcast, Gather, Gatherv, Scatter, Scatterv, Allgather, Allgatherv, Alltoall, Alltoallv, Reduce, Allreduce, ReduceScatterBlock, ReduceScatter, Scan, Exscan, Dup, Split, Create, CreateGroup, DistGraph, DistGraphAdjacent}
+use Rattle.mpx_birth.specs.Edges.{weights_of}
+use Rattle.mpx_post.specs.Posts.{Given, count_of, destinations_of, group_of, sources_of, weighted_of}
 use Rattle.mpx_post.specs.Equality.{same_kind, same_mode, same_root, same_operations, same_types}
 use Rattle.mpx_post.specs.Rows.{RowView}
 use Rattle.mpx_post.specs.Agreement.{count_at, first_of, is_fit, post_at, received, root_post}
 use Rattle.mpx_match.specs.declared.verdicts.Question.{Question}
-use Rattle.mpx_match.specs.declared.verdicts.Question.TheVariants.{Fit, Kind, Mode, Root, Op, ItemType, Amount, Groups}
+use Rattle.mpx_match.specs.declared.verdicts.Question.TheVariants.{Fit, Kind, Mode, Root, Op, ItemType, Amount, Weights, Edges, Groups}
 
 abbrev pub least_from : (ℕ → Given → Bool) → ℕ → RowView → Option ℕ
 least_from test i [] = None
@@ -23,9 +25,9 @@ least_rank test row = least_from test 0 row
 abbrev differ : ℕ → ℕ → Bool
 differ m n = not (m == n)
 
--- some receiver awaits another number of items than this member sends it
-abbrev some_receiver : (ℕ → Given → Bool) → RowView → Bool
-some_receiver test row = is_some (least_rank test row)
+-- the test holds of some member's post
+abbrev some_post : (ℕ → Given → Bool) → RowView → Bool
+some_post test row = is_some (least_rank test row)
 
 -- the amounts of the member's post differ from what its kind asks of them
 abbrev pub amounts_differ : K.Kind → RowView → ℕ → Given → Bool
@@ -36,9 +38,9 @@ amounts_differ Gatherv row rank given = differ (count_of given) (count_at (root_
 amounts_differ Scatter row rank given = differ (received given) (received (root_post row))
 amounts_differ Scatterv row rank given = differ (received given) (count_at (root_post row).scounts rank)
 amounts_differ Allgather row rank given = differ (count_of given) (count_of (first_of row))
-amounts_differ Allgatherv row rank given = some_receiver (λ j receiver. differ (count_of given) (count_at receiver.rcounts rank)) row
+amounts_differ Allgatherv row rank given = some_post (λ j receiver. differ (count_of given) (count_at receiver.rcounts rank)) row
 amounts_differ Alltoall row rank given = differ (received given) (received (first_of row))
-amounts_differ Alltoallv row rank given = some_receiver (λ j receiver. differ (count_at given.scounts j) (count_at receiver.rcounts rank)) row
+amounts_differ Alltoallv row rank given = some_post (λ j receiver. differ (count_at given.scounts j) (count_at receiver.rcounts rank)) row
 amounts_differ Reduce row rank given = differ (count_of given) (count_of (first_of row))
 amounts_differ Allreduce row rank given = differ (count_of given) (count_of (first_of row))
 amounts_differ ReduceScatterBlock row rank given = differ (received given) (received (first_of row))
@@ -49,6 +51,15 @@ amounts_differ Dup row rank given = false
 amounts_differ Split row rank given = false
 amounts_differ Create row rank given = false
 amounts_differ CreateGroup row rank given = false
+amounts_differ DistGraph row rank given = false
+amounts_differ DistGraphAdjacent row rank given = false
+
+-- the edges from this member to the other have other weights by the other's post
+abbrev pub edges_differ_at : ℕ → Given → (other : ℕ) → Given → Bool
+edges_differ_at rank given other theirs = not (pointwise nat_eq (weights_of other (destinations_of given)) (weights_of rank (sources_of theirs)))
+
+abbrev pub edges_differ : RowView → ℕ → Given → Bool
+edges_differ row rank given = some_post (edges_differ_at rank given) row
 
 -- some member of the group that the post gives gives another one
 abbrev pub groups_differ : RowView → Given → Bool
@@ -63,6 +74,8 @@ is_faulty Root row rank given = not (same_root given.root (first_of row).root)
 is_faulty Op row rank given = not (same_operations given.op (first_of row).op)
 is_faulty ItemType row rank given = not (same_types given.items (first_of row).items)
 is_faulty Amount row rank given = amounts_differ (first_of row).kind row rank given
+is_faulty Weights row rank given = not (beq (weighted_of given) (weighted_of (first_of row)))
+is_faulty Edges row rank given = edges_differ row rank given
 is_faulty Groups row rank given = groups_differ row given
 
 -- the least rank of whose post the answer is yes

@@ -2,7 +2,7 @@
 use Rattle.std.specs.Prelude.{◌≡◌, ℕ, ◌<◌, ◌⊎◌, List, [], ◌∷◌, length, map, Option, Some, None}
 use Rattle.mpx_post.specs.Rows.{RowView}
 use Rattle.mpx_match.specs.declared.faults.FaultKind.{FaultKind}
-use Rattle.mpx_match.specs.declared.faults.FaultKind.TheVariants.{Kind, Mode, Root, Op, ItemType, Amount, Groups}
+use Rattle.mpx_match.specs.declared.faults.FaultKind.TheVariants.{Kind, Mode, Root, Op, ItemType, Amount, Weights, Edges, Groups}
 use Rattle.mpx_match.specs.declared.faults.Verdict.{Verdict}
 use Rattle.mpx_match.specs.declared.faults.Verdict.TheVariants.{Fine, Fault}
 use Rattle.mpx_match.specs.declared.verdicts.Question.{Question}
@@ -12,7 +12,7 @@ use Rattle.mpx_match.specs.Questions.{answer}
 
 -- what is asked of all posts, in this order
 abbrev pub questions : List Question
-questions = Q.Fit ∷ Q.Kind ∷ Q.Mode ∷ Q.Root ∷ Q.Op ∷ Q.ItemType ∷ Q.Amount ∷ Q.Groups ∷ []
+questions = Q.Fit ∷ Q.Kind ∷ Q.Mode ∷ Q.Root ∷ Q.Op ∷ Q.ItemType ∷ Q.Amount ∷ Q.Weights ∷ Q.Edges ∷ Q.Groups ∷ []
 
 -- what is told: a post that doesn't fit its communicator is a fault of the amounts
 abbrev pub told_as : Question → FaultKind
@@ -23,6 +23,8 @@ told_as Q.Root = Root
 told_as Q.Op = Op
 told_as Q.ItemType = ItemType
 told_as Q.Amount = Amount
+told_as Q.Weights = Weights
+told_as Q.Edges = Edges
 told_as Q.Groups = Groups
 
 -- the posts of all members agree in this

@@ -13,6 +13,7 @@ pub(crate) fn amounts_differ(row: &Row<'_>, kind: Kind, rank: usize) -> bool
     let root = root_of(row.post(0));
     match kind {
         Kind::Barrier | Kind::Dup | Kind::Split | Kind::Create | Kind::CreateGroup => false,
+        Kind::DistGraph | Kind::DistGraphAdjacent => false,
         Kind::Bcast | Kind::Alltoall | Kind::ReduceScatterBlock => {
             received(row, rank, 0) != received(row, 0, 0)
         }

@@ -13,6 +13,10 @@ pub enum FaultKind {
     ItemType,
     /// In the numbers of items.
     Amount,
+    /// Some give edges with weights, others without.
+    Weights,
+    /// In the edges that two members tell of each other.
+    Edges,
     /// In the groups that the members of one of them give.
     Groups,
 }

@@ -1,11 +1,11 @@
-ghost use Rattle.std.specs.Prelude.{◌≡◌, ◌≤◌, ◌*◌, ◌==◌, nat_lt, length};
+ghost use Rattle.std.specs.Prelude.{◌≡◌, ◌≤◌, ◌*◌, ◌==◌, ◌&&◌, nat_lt, length};
 ghost use Rattle.std.specs.List.{list_all};
 ghost use Rattle.mpx_num.specs.Types.{item_len};
 ghost use Rattle.mpx_post.specs.Posts.{numbers_of, type_of};
-ghost use Rattle.mpx_post.specs.Agreement.{blocks_of, fill, fits_group, fits_root, fits_type, is_fit, is_root};
+ghost use Rattle.mpx_post.specs.Agreement.{blocks_of, fill, fits_edges, fits_group, fits_root, fits_type, is_fit, is_root};
 
 use mpx_num::{Ty, op_fits};
-use mpx_post::{Post, Sent};
+use mpx_post::{Edge, Neighbour, Post, Sent};
 
 /// Whether a post fits a communicator of this size, as the post of this rank.
 pub(crate) fn fits(size: usize, rank: usize, post: &Post) -> bool
@@ -20,6 +20,7 @@ pub(crate) fn fits(size: usize, rank: usize, post: &Post) -> bool
         && post.rcounts().as_slice().len() == fields.rcounts.of(size, at_root)
         && are_filled(size, rank, post)
         && fits_group(size, post)
+        && fits_edges(size, post)
 }
 
 fn is_root(rank: usize, post: &Post) -> bool
@@ -92,4 +93,29 @@ fn are_below(size: usize, ranks: &[u8]) -> bool
     ensures { result ≡ list_all (λ r. nat_lt r size) ranks.now }
 {
     ranks.iter().all(|&rank| usize::from(rank) < size)
+}
+
+// The ends of edges are ranks of so many.
+fn fits_edges(size: usize, post: &Post) -> bool
+    ensures { result ≡ fits_edges size post.now }
+{
+    are_within(size, post.edges())
+        && are_near(size, post.sources())
+        && are_near(size, post.destinations())
+}
+
+fn are_within(size: usize, edges: &[Edge]) -> bool
+    ensures { result ≡ list_all (λ e. nat_lt e.source size && nat_lt e.destination size) edges.now }
+{
+    edges.iter().all(|edge| {
+        usize::from(edge.source) < size && usize::from(edge.destination) < size
+    })
+}
+
+fn are_near(size: usize, neighbours: &[Neighbour]) -> bool
+    ensures { result ≡ list_all (λ n. nat_lt n.rank size) neighbours.now }
+{
+    neighbours
+        .iter()
+        .all(|neighbour| usize::from(neighbour.rank) < size)
 }

@@ -6,6 +6,7 @@
 #![tactic(auto)]
 
 mod amounts;
+mod edges;
 mod faults;
 mod fits;
 mod groups;

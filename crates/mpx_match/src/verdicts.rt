@@ -1,10 +1,11 @@
-ghost use Rattle.std.specs.Prelude.{◌≡◌, ◌<◌, length};
+ghost use Rattle.std.specs.Prelude.{◌≡◌, ◌<◌, true, None, length};
 ghost use Rattle.mpx_post.specs.Agreement.{IsFine, post_at};
 ghost use Rattle.mpx_post.specs.Equality.{same_types as have_same_types};
 ghost use Rattle.mpx_match.specs.Questions.{answer, is_faulty as faulty};
 ghost use Rattle.mpx_match.specs.Verdicts.{IsFirstFault, questions, told_as as told, verdict};
 
 use crate::amounts::amounts_differ;
+use crate::edges::{edges_differ, names_no_neighbours};
 use crate::faults::{Fault, FaultKind, Verdict};
 use crate::fits::fits;
 use crate::groups::groups_differ;
@@ -27,6 +28,10 @@ enum Question {
     ItemType,
     /// Whether its amounts differ from what rank 0's kind asks of them.
     Amount,
+    /// Whether its edges have weights where rank 0's have none, or the other way round.
+    Weights,
+    /// Whether another member tells the edges between the two otherwise.
+    Edges,
     /// Whether a member of the group that it gives gives another.
     Groups,
 }
@@ -52,6 +57,8 @@ fn first_fault(row: &Row<'_>) -> Verdict
         Question::Op,
         Question::ItemType,
         Question::Amount,
+        Question::Weights,
+        Question::Edges,
         Question::Groups,
     ];
     for question in questions {
@@ -77,6 +84,8 @@ fn told_as(question: Question) -> FaultKind
         Question::Op => FaultKind::Op,
         Question::ItemType => FaultKind::ItemType,
         Question::Amount => FaultKind::Amount,
+        Question::Weights => FaultKind::Weights,
+        Question::Edges => FaultKind::Edges,
         Question::Groups => FaultKind::Groups,
     }
 }
@@ -85,12 +94,25 @@ fn told_as(question: Question) -> FaultKind
 fn least_rank(row: &Row<'_>, question: Question) -> Option<u8>
     ensures { result ≡ answer question row.now }
 {
+    if is_settled(row, question) {
+        return None;
+    }
     for rank in 0..row.len() {
         if is_faulty(row, question, rank) {
             return Some(rank as u8);
         }
     }
     None
+}
+
+// Whether one look at each post tells that there is none.
+fn is_settled(row: &Row<'_>, question: Question) -> bool
+    ensures { result ≡ true → answer question row.now ≡ None }
+{
+    match question {
+        Question::Edges => names_no_neighbours(row),
+        _ => false,
+    }
 }
 
 // The answer for the post of this rank.
@@ -108,6 +130,8 @@ fn is_faulty(row: &Row<'_>, question: Question, rank: usize) -> bool
         Question::Op => post.op() != first.op(),
         Question::ItemType => !same_types(post, first),
         Question::Amount => amounts_differ(row, first.kind(), rank),
+        Question::Weights => post.weighted() != first.weighted(),
+        Question::Edges => edges_differ(row, rank),
         Question::Groups => groups_differ(row, post),
     }
 }

@@ -2,8 +2,8 @@
 use Rattle.std.proofs.Common.{◌≡◌, ℕ, ◌<◌, Bool, true, false, List, Option, Some, length, cond, refl, sym, ap, ◌∙◌, append-nil, eq-eqb}
 use Rattle.std.specs.Option.{option_map_or}
 use Rattle.std.specs.Prelude.{◌==◌}
-use Rattle.mpx_post.specs.declared.kinds.Kind.{Kind}
-use Rattle.mpx_post.specs.declared.kinds.Kind.TheVariants.{Scatter, Scatterv, Alltoall, Alltoallv}
+use Rattle.mpx_kind.specs.declared.kinds.Kind.{Kind}
+use Rattle.mpx_kind.specs.declared.kinds.Kind.TheVariants.{Scatter, Scatterv, Alltoall, Alltoallv}
 use Rattle.mpx_post.specs.Kinds.{fields_of}
 use Rattle.mpx_post.specs.Posts.{Given}
 use Rattle.mpx_post.specs.Rows.{RowView}

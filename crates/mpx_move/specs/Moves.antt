@@ -1,10 +1,10 @@
 -- What exchanges of blocks give (MPI 4.1, sections 6.3 to 6.8).
 use Rattle.std.specs.Prelude.{ℕ, ◌==◌, List, [], ℤ, length, cond, unwrap_or}
 use Rattle.std.specs.List.{flat_map}
-use Rattle.mpx_post.specs.declared.kinds.Family.{Family}
-use Rattle.mpx_post.specs.declared.kinds.Family.TheVariants as F
-use Rattle.mpx_post.specs.declared.kinds.Exchange.{Exchange}
-use Rattle.mpx_post.specs.declared.kinds.Exchange.TheVariants.{Barrier, Bcast, Gather, Gatherv, Scatter, Scatterv, Allgather, Allgatherv, Alltoall, Alltoallv}
+use Rattle.mpx_kind.specs.declared.kinds.Family.{Family}
+use Rattle.mpx_kind.specs.declared.kinds.Family.TheVariants as F
+use Rattle.mpx_kind.specs.declared.kinds.Exchange.{Exchange}
+use Rattle.mpx_kind.specs.declared.kinds.Exchange.TheVariants.{Barrier, Bcast, Gather, Gatherv, Scatter, Scatterv, Allgather, Allgatherv, Alltoall, Alltoallv}
 use Rattle.mpx_post.specs.declared.value.Value.{Value}
 use Rattle.mpx_post.specs.declared.value.Value.TheVariants.{Nothing}
 use Rattle.mpx_post.specs.Births.{upto}

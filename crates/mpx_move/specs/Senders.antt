@@ -1,7 +1,7 @@
 -- Who sends each member a block of its own.
 use Rattle.std.specs.Prelude.{◌≡◌, ℕ, Bool, true, false, length}
-use Rattle.mpx_post.specs.declared.kinds.Kind.{Kind}
-use Rattle.mpx_post.specs.declared.kinds.Kind.TheVariants.{Scatter, Scatterv, Alltoall, Alltoallv}
+use Rattle.mpx_kind.specs.declared.kinds.Kind.{Kind}
+use Rattle.mpx_kind.specs.declared.kinds.Kind.TheVariants.{Scatter, Scatterv, Alltoall, Alltoallv}
 use Rattle.mpx_post.specs.Rows.{RowView}
 use Rattle.mpx_post.specs.Agreement.{first_of}
 use Rattle.mpx_move.specs.Moves.{counts_sent}

@@ -10,7 +10,7 @@ use Rattle.mpx_post.specs.Posts.{Given}
 use Rattle.mpx_post.specs.declared.draft.Draft.{Draft}
 use Rattle.mpx_post.specs.declared.draft.PostError.{PostError}
 use Rattle.mpx_post.specs.declared.draft.PostError.TheVariants.{NotMember, OutOfMemory}
-use Rattle.mpx_post.specs.Births.{BirthView, upto}
+use Rattle.mpx_post.specs.Births.{BirthView, of_members, upto}
 use Rattle.mpx_post.specs.Drafts.{at, checked}
 use Rattle.mpx_post.specs.Gatherings.{GatheringView, gathering}
 use Rattle.mpx_board.specs.Boards.{Look, join, join_all, only, told, row_on, Born, Held, Front}
@@ -60,7 +60,7 @@ opened_at_start me ranks name = cond (same_name name [] && nat_lt me ranks) (Som
 
 -- before any post: the world's birth is on its board
 abbrev pub start_node : (me ranks : ℕ) → NodeView
-start_node me ranks = record { me = me; board = only (Born [] (known (record { members = upto ranks }))); opened = opened_at_start me ranks }
+start_node me ranks = record { me = me; board = only (Born [] (known (of_members (upto ranks)))); opened = opened_at_start me ranks }
 
 -- a board comes to it
 abbrev pub learn : Look → NodeView → NodeView
@@ -163,7 +163,7 @@ gathering_name parent g = Gathering g.tag g.members ∷ parent
 
 -- the fact that a gathering is born
 abbrev pub gathering_fact : Name → GatheringView → Look
-gathering_fact parent g = only (Born (gathering_name parent g) (known (record { members = g.members })))
+gathering_fact parent g = only (Born (gathering_name parent g) (known (of_members g.members)))
 
 -- it opens a gathering, whose birth it tells; an opened one stays as it is
 abbrev pub open_gathering_node : Name → GatheringView → NodeView → NodeView

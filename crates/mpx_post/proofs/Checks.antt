@@ -12,17 +12,19 @@ use Rattle.mpx_post.specs.declared.draft.At.{At}
 use Rattle.mpx_post.specs.declared.draft.Draft.{Draft}
 use Rattle.mpx_post.specs.declared.draft.PostError.{PostError}
 use Rattle.mpx_post.specs.declared.draft.PostError.TheVariants.{TooManyItems}
-use Rattle.mpx_post.specs.declared.kinds.Makes.{Makes}
-use Rattle.mpx_post.specs.declared.kinds.Makes.TheVariants as M
-use Rattle.mpx_post.specs.declared.kinds.Number.{Number}
-use Rattle.mpx_post.specs.declared.kinds.Number.TheVariants.{Zero, One, OneAtRoot, Members, MembersAtRoot}
+use Rattle.mpx_kind.specs.declared.kinds.Makes.{Makes}
+use Rattle.mpx_kind.specs.declared.kinds.Makes.TheVariants as M
+use Rattle.mpx_kind.specs.declared.kinds.Number.{Number}
+use Rattle.mpx_kind.specs.declared.kinds.Number.TheVariants.{Zero, One, OneAtRoot, Members, MembersAtRoot}
 use Rattle.mpx_post.specs.Births.{BirthView, rank_in}
 use Rattle.mpx_post.specs.Blocks.{blocks_sent}
 use Rattle.mpx_post.specs.Kinds.{family_of, fields_of, is_gathered, kind_of, makes_communicators, number_in}
 use Rattle.mpx_post.specs.Posts.{Given, IsMaking, most_items}
-use Rattle.mpx_post.specs.Drafts.{Checks, checked, refusals, are_so_many, are_ranks, checked_at, drafted_making, drafted_numbers, first_that_holds, given_by, has_colour_and_key, is_colour, is_count, is_drafted_root, is_key, is_misplaced, is_of, is_rank, misfill, most_calls, most_steps, place_refusals, ranks_in, received_counts, sent_counts, shape_refusals, unless}
+use Rattle.mpx_post.specs.Drafts.{Checks, checked, refusals, asked_first, are_edges, are_so_many, are_ranks, edge_count, graph_of, is_misfilled, checked_at, drafted_making, drafted_numbers, first_that_holds, given_by, has_colour_and_key, is_colour, is_count, is_drafted_root, is_key, is_misplaced, is_of, is_rank, most_calls, most_steps, place_refusals, ranks_in, received_counts, sent_counts, unless}
+use Rattle.mpx_post.specs.Graphs.{most_edges}
+use Rattle.mpx_post.proofs.Graphs.{are_edges-more}
 use Rattle.mpx_post.proofs.Makings.{IsMaking-from, are_ranks-more}
-use Rattle.mpx_post.proofs.Refusals.{behind, none_after, none_told, items_refusal, items_refused, place_passed, shape_parts, shape_passed, shape_refused}
+use Rattle.mpx_post.proofs.Refusals.{behind, none_after, none_told, items_refusal, items_refused, PlacePassed, place_passed, shape_parts, shape_passed, shape_refused}
 
 -- not more counts than members
 few_in : (number : Number) (size : ℕ) (at_root : Bool) → size ≤ 64 → number_in number size at_root ≤ 64
@@ -52,7 +54,7 @@ module _ (size rank : ℕ) (at : At) (draft : Draft) where
   as_many_received = are_so_many (received_counts draft) (fields_of (kind_of draft.call)).rcounts size (is_drafted_root rank draft)
 
   abbrev misfilled : Bool
-  misfilled = misfill (blocks_sent (fields_of (kind_of draft.call)).sent size (is_drafted_root rank draft) (sent_counts draft) (received_counts draft)) draft.ty (drafted_numbers draft)
+  misfilled = is_misfilled size rank draft
 
   abbrev cut : Bool
   cut = not (is_whole draft.ty (drafted_numbers draft))
@@ -67,7 +69,7 @@ module _ (size rank : ℕ) (at : At) (draft : Draft) where
   counted = list_all is_count (sent_counts draft) && list_all is_count (received_counts draft)
 
   abbrev pub shape_is_fine : Type 0
-  shape_is_fine = first_that_holds (shape_refusals size rank draft) ≡ None
+  shape_is_fine = first_that_holds (asked_first size rank draft misfilled) ≡ None
 
   -- the items pass
   abbrev pub items_are_fine : Type 0
@@ -76,7 +78,7 @@ module _ (size rank : ℕ) (at : At) (draft : Draft) where
   abbrev answer : Result Given PostError
   answer = checked_at (Some rank) size at draft
 
-  pub refused_by_shape : (e : PostError) → first_that_holds (shape_refusals size rank draft) ≡ Some e → Checks answer (Err e)
+  pub refused_by_shape : (e : PostError) → first_that_holds (asked_first size rank draft misfilled) ≡ Some e → Checks answer (Err e)
   refused_by_shape e h = shape_refused rootless opless (not (as_many_sent && as_many_received)) misfilled cut strange many (not counted) (place_refusals size at draft) e (given_by draft) h
 
   behind_shape : shape_is_fine → answer ≡ unless (behind cut strange many (not counted) (place_refusals size at draft)) (given_by draft)
@@ -115,22 +117,37 @@ module _ (size rank : ℕ) (at : At) (draft : Draft) where
   abbrev ranked : Bool
   ranked = are_ranks size (ranks_in (fields_of (kind_of draft.call)).makes draft)
 
-  place_parts : place_is_fine → ((at.call == most_calls) ≡ false) × ((makes_communicators (family_of (kind_of draft.call)) && nat_le most_steps at.depth) ≡ false) × ((misplaced || not ranked) ≡ false) × (not (has_colour_and_key (fields_of (kind_of draft.call)).makes draft) ≡ false)
-  place_parts h = place_passed (at.call == most_calls) (makes_communicators (family_of (kind_of draft.call)) && nat_le most_steps at.depth) (misplaced || not ranked) (not (has_colour_and_key (fields_of (kind_of draft.call)).makes draft)) h
+  abbrev joined : Bool
+  joined = are_edges (fields_of (kind_of draft.call)).makes size (graph_of draft)
+
+  abbrev crowded : Bool
+  crowded = nat_lt most_edges (edge_count (fields_of (kind_of draft.call)).makes (graph_of draft))
+
+  abbrev uncoloured : Bool
+  uncoloured = not (has_colour_and_key (fields_of (kind_of draft.call)).makes draft)
+
+  place_parts : place_is_fine → PlacePassed (at.call == most_calls) (makes_communicators (family_of (kind_of draft.call)) && nat_le most_steps at.depth) (misplaced || not ranked) (not joined) crowded uncoloured
+  place_parts h = place_passed (at.call == most_calls) (makes_communicators (family_of (kind_of draft.call)) && nat_le most_steps at.depth) (misplaced || not ranked) (not joined) crowded uncoloured h
 
   pub group_is_fine : size ≤ 64 → place_is_fine → (fields_of (kind_of draft.call)).makes ≡ M.Group → are_ranks 64 draft.group ≡ true
   group_is_fine l h is =
-      let all : ranked ≡ true = from_not ranked (or_parts misplaced (not ranked) (place_parts h).2).1 in
+      let all : ranked ≡ true = from_not ranked (or_parts misplaced (not ranked) (place_parts h).group).1 in
       are_ranks-more size draft.group l (subst (λ (makes : Makes). are_ranks size (ranks_in makes draft) ≡ true) is all)
 
+  pub edges_are_fine : size ≤ 64 → place_is_fine → are_edges (fields_of (kind_of draft.call)).makes 64 (graph_of draft) ≡ true
+  edges_are_fine l h = are_edges-more (fields_of (kind_of draft.call)).makes size (graph_of draft) l (from_not joined (place_parts h).edges)
+
+  pub edges_are_few : place_is_fine → edge_count (fields_of (kind_of draft.call)).makes (graph_of draft) ≤ most_edges
+  edges_are_few h = let few = (place_parts h).few in grind (arith, nat_tests, few)
+
   colour_and_key : place_is_fine → (fields_of (kind_of draft.call)).makes ≡ M.Colour → (option_map_or is_colour draft.colour true && is_key draft.key) ≡ true
-  colour_and_key h is = subst (λ (makes : Makes). has_colour_and_key makes draft ≡ true) is (from_not (has_colour_and_key (fields_of (kind_of draft.call)).makes draft) (place_parts h).3)
+  colour_and_key h is = subst (λ (makes : Makes). has_colour_and_key makes draft ≡ true) is (from_not (has_colour_and_key (fields_of (kind_of draft.call)).makes draft) (place_parts h).colour_and_key)
 
   pub colour_is_fine : place_is_fine → (fields_of (kind_of draft.call)).makes ≡ M.Colour → option_map_or is_colour draft.colour true ≡ true
   colour_is_fine h is = (and_parts (option_map_or is_colour draft.colour true) (is_key draft.key) (colour_and_key h is)).0
 
   pub making_is_fine : size ≤ 64 → place_is_fine → IsMaking (fields_of (kind_of draft.call)).makes (drafted_making (fields_of (kind_of draft.call)).makes draft)
-  making_is_fine l h = IsMaking-from (fields_of (kind_of draft.call)).makes draft.colour draft.key draft.group (colour_is_fine h) (group_is_fine l h)
+  making_is_fine l h = IsMaking-from draft.colour draft.key draft.group (graph_of draft) (fields_of (kind_of draft.call)).makes (colour_is_fine h) (group_is_fine l h) (edges_are_fine l h) (edges_are_few h)
 
   -- an accepted draft passes what is asked last
   pub accepted_place : (given : Given) → answer ≡ Ok given → place_is_fine
@@ -138,12 +155,12 @@ module _ (size rank : ℕ) (at : At) (draft : Draft) where
 
   room_below : (given : Given) → answer ≡ Ok given → makes_communicators (family_of (kind_of draft.call)) ≡ true → at.depth < 8
   room_below given h makes =
-      let shallow = (place_parts (accepted_place given h)).1 in
+      let shallow = (place_parts (accepted_place given h)).depth in
       let deep : nat_le most_steps at.depth ≡ false = rw makes at shallow in
       grind (arith, nat_tests, deep)
 
   call_below : (given : Given) → answer ≡ Ok given → (at.call == most_calls) ≡ false
-  call_below given h = (place_parts (accepted_place given h)).0
+  call_below given h = (place_parts (accepted_place given h)).calls
 
 room_at : (found : Option ℕ) (size : ℕ) (at : At) (draft : Draft) (given : Given) → checked_at found size at draft ≡ Ok given → makes_communicators (family_of (kind_of draft.call)) ≡ true → at.depth < 8
 room_at None size at draft given h makes = cc

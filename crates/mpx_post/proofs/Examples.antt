@@ -5,10 +5,10 @@ use Rattle.mpx_num.specs.declared.types.Ty.TheVariants.{I32}
 use Rattle.mpx_post.specs.declared.draft.At.{At}
 use Rattle.mpx_post.specs.declared.draft.Draft.{Draft}
 use Rattle.mpx_post.specs.declared.draft.PostError.TheVariants.{BadGroup, BadTag, DepthUsedUp}
-use Rattle.mpx_post.specs.declared.kinds.Kind.{Kind}
-use Rattle.mpx_post.specs.declared.kinds.Kind.TheVariants.{Barrier, Create, CreateGroup, Dup, Split}
+use Rattle.mpx_kind.specs.declared.kinds.Kind.{Kind}
+use Rattle.mpx_kind.specs.declared.kinds.Kind.TheVariants.{Barrier, Create, CreateGroup, Dup, Split}
 use Rattle.mpx_post.specs.declared.making.Making.TheVariants as Making
-use Rattle.mpx_post.specs.Births.{BirthView}
+use Rattle.mpx_post.specs.Births.{BirthView, of_members}
 use Rattle.mpx_post.specs.Drafts.{checked}
 use Rattle.mpx_post.specs.Gatherings.{gathering}
 use Rattle.mpx_post.specs.Kinds.{blocking}
@@ -16,14 +16,14 @@ use Rattle.mpx_post.specs.Posts.{Given, nothing_given}
 
 -- four members
 abbrev four : BirthView
-four = record { members = 0 ∷ 1 ∷ 2 ∷ 3 ∷ [] }
+four = of_members (0 ∷ 1 ∷ 2 ∷ 3 ∷ [])
 
 -- the first call of a context with so many steps
 abbrev first_on : (depth : ℕ) (gathering : Bool) → At
 first_on depth gathering = record { call = 0; depth = depth; gathering = gathering }
 
 abbrev drafted : Kind → Option ℤ → (key : ℤ) → List ℤ → Draft
-drafted kind colour key group = record { call = blocking kind; root = pos 0; op = Sum; ty = I32; scounts = []; rcounts = []; items = []; colour = colour; key = key; group = group }
+drafted kind colour key group = record { call = blocking kind; root = pos 0; op = Sum; ty = I32; scounts = []; rcounts = []; items = []; colour = colour; key = key; group = group; graph = None }
 
 -- POSTS
 

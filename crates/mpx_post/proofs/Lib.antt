@@ -4,9 +4,9 @@ pub mod Refusals
 pub mod Sums
 pub mod Blocks
 pub mod Contributions
-pub mod Families
 pub mod Seen
 pub mod Checks
+pub mod Graphs
 pub mod Makings
 pub mod Gatherings
 pub mod Examples

@@ -11,7 +11,7 @@ use Rattle.mpx_num.specs.declared.types.Ty.{Ty}
 use Rattle.mpx_num.specs.Types.{item_len, least, greatest, IsInRange, IsOutOfRange}
 use Rattle.mpx_num.specs.ItemList.{AreItems, is_whole}
 use Rattle.mpx_post.specs.declared.draft.PostError.{PostError}
-use Rattle.mpx_post.specs.declared.draft.PostError.TheVariants.{RootOutOfRange, OpNotForType, CountsLength, ItemsLength, ItemOutOfRange, TooManyItems, CallsUsedUp, DepthUsedUp, BadGroup, BadTag}
+use Rattle.mpx_post.specs.declared.draft.PostError.TheVariants.{RootOutOfRange, OpNotForType, CountsLength, ItemsLength, ItemOutOfRange, TooManyItems, CallsUsedUp, DepthUsedUp, BadGroup, BadEdge, TooManyEdges, BadTag}
 use Rattle.mpx_post.specs.Posts.{Given, few_items, most_items}
 use Rattle.mpx_post.specs.Drafts.{Checks, first_that_holds, is_of, unless, where_had}
 
@@ -116,17 +116,28 @@ pub few_given : (had : Bool) (ty : Ty) (nums : List ℤ) → nat_lt (most_items 
 few_given true ty nums few = grind (arith, nat_tests)
 few_given false ty nums few = tt
 
--- THE PLACE: u the number of calls, d the depth, g the group, k the colour and the key
+-- THE PLACE: u the number of calls, d the depth, g the group, e the edges, m their number, k the colour and the key
 
-abbrev pub place : (u d g k : Bool) → Option PostError
-place u d g k = first_that_holds ((u, CallsUsedUp) ∷ (d, DepthUsedUp) ∷ (g, BadGroup) ∷ (k, BadTag) ∷ [])
+abbrev pub place : (u d g e m k : Bool) → Option PostError
+place u d g e m k = first_that_holds ((u, CallsUsedUp) ∷ (d, DepthUsedUp) ∷ (g, BadGroup) ∷ (e, BadEdge) ∷ (m, TooManyEdges) ∷ (k, BadTag) ∷ [])
 
-pub place_passed : (u d g k : Bool) → place u d g k ≡ None → (u ≡ false) × (d ≡ false) × (g ≡ false) × (k ≡ false)
-place_passed true d g k h = cc
-place_passed false true g k h = cc
-place_passed false false true k h = cc
-place_passed false false false true h = cc
-place_passed false false false false h = (refl, refl, refl, refl)
+-- none of them refuses
+pub record PlacePassed (u d g e m k : Bool) : Type 0 where
+  pub calls : u ≡ false
+  pub depth : d ≡ false
+  pub group : g ≡ false
+  pub edges : e ≡ false
+  pub few : m ≡ false
+  pub colour_and_key : k ≡ false
+
+pub place_passed : (u d g e m k : Bool) → place u d g e m k ≡ None → PlacePassed u d g e m k
+place_passed true d g e m k h = cc
+place_passed false true g e m k h = cc
+place_passed false false true e m k h = cc
+place_passed false false false true m k h = cc
+place_passed false false false false true k h = cc
+place_passed false false false false false true h = cc
+place_passed false false false false false false h = record { calls = refl; depth = refl; group = refl; edges = refl; few = refl; colour_and_key = refl }
 
 -- WHAT IS ACCEPTED
 

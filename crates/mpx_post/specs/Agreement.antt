@@ -1,4 +1,4 @@
--- When the posts of a row fit together (MPI 4.1, sections 6.2 to 6.12 and 7.4).
+-- When the posts of a row fit together (MPI 4.1, sections 6.2 to 6.12, 7.4 and 8.5).
 use Rattle.std.specs.Prelude.{◌≡◌, ℕ, ◌*◌, ◌<◌, ◌==◌, ◌&&◌, nat_lt, Bool, true, false, List, length, Option, Some, None, slice_get, slice_index_or, not}
 use Rattle.std.specs.List.{sum, list_all}
 use Rattle.mpx_group.specs.Group.{has_twice}
@@ -7,10 +7,13 @@ use Rattle.mpx_num.specs.declared.types.Ty.{Ty}
 use Rattle.mpx_num.specs.ItemList.{ItemList}
 use Rattle.mpx_num.specs.Types.{item_len}
 use Rattle.mpx_num.specs.Operations.{fits}
-use Rattle.mpx_post.specs.declared.kinds.Kind.{Kind}
-use Rattle.mpx_post.specs.declared.kinds.Kind.TheVariants.{Barrier, Bcast, Gather, Gatherv, Scatter, Scatterv, Allgather, Allgatherv, Alltoall, Alltoallv, Reduce, Allreduce, ReduceScatterBlock, ReduceScatter, Scan, Exscan, Dup, Split, Create, CreateGroup}
+use Rattle.mpx_kind.specs.declared.kinds.Kind.{Kind}
+use Rattle.mpx_kind.specs.declared.kinds.Kind.TheVariants.{Barrier, Bcast, Gather, Gatherv, Scatter, Scatterv, Allgather, Allgatherv, Alltoall, Alltoallv, Reduce, Allreduce, ReduceScatterBlock, ReduceScatter, Scan, Exscan, Dup, Split, Create, CreateGroup, DistGraph, DistGraphAdjacent}
 use Rattle.mpx_post.specs.Kinds.{fields_of, number_in}
-use Rattle.mpx_post.specs.Posts.{Given, nothing_given, root_of, type_of, numbers_of, count_of, group_of}
+use Rattle.mpx_post.specs.Posts.{Given, nothing_given, root_of, type_of, numbers_of, count_of, destinations_of, edges_of, group_of, sources_of, weighted_of}
+use Rattle.mpx_birth.specs.declared.edges.Edge.{Edge}
+use Rattle.mpx_birth.specs.declared.edges.Neighbour.{Neighbour}
+use Rattle.mpx_birth.specs.Edges.{weights_of}
 use Rattle.mpx_post.specs.Rows.{RowView}
 use Rattle.mpx_post.specs.Blocks.{blocks_sent}
 
@@ -67,15 +70,22 @@ fill (Some counts) given = sum counts * item_len (type_of given) == length (numb
 abbrev pub fits_group : ℕ → Given → Bool
 fits_group size given = not (has_twice (group_of given)) && list_all (λ r. nat_lt r size) (group_of given)
 
+-- the ends of edges are ranks of so many
+abbrev pub fits_edges : ℕ → Given → Bool
+fits_edges size given = list_all (λ (e : Edge). nat_lt e.source size && nat_lt e.destination size) (edges_of given)
+    && (list_all (λ (n : Neighbour). nat_lt n.rank size) (sources_of given)
+    && list_all (λ (n : Neighbour). nat_lt n.rank size) (destinations_of given))
+
 -- the post could be the member's with this rank: none of RootOutOfRange, OpNotForType, CountsLength, ItemsLength and, for
--- ranks out of range or twice, BadGroup holds of it
+-- ranks out of range or twice, BadGroup and BadEdge holds of it
 abbrev pub is_fit : (size rank : ℕ) → Given → Bool
 is_fit size rank given = fits_root size given
     && (fits_type given
     && ((length given.scounts == number_in (fields_of given.kind).scounts size (is_root rank given))
     && ((length given.rcounts == number_in (fields_of given.kind).rcounts size (is_root rank given))
     && (fill (blocks_of size rank given) given
-    && fits_group size given))))
+    && (fits_group size given
+    && fits_edges size given)))))
 
 -- WHAT AGREES
 
@@ -101,10 +111,17 @@ AmountsAgree Dup row rank given = Unit {0}
 AmountsAgree Split row rank given = Unit {0}
 AmountsAgree Create row rank given = Unit {0}
 AmountsAgree CreateGroup row rank given = Unit {0}
+AmountsAgree DistGraph row rank given = Unit {0}
+AmountsAgree DistGraphAdjacent row rank given = Unit {0}
 
 -- each member of the group that the post gives, if any, gives the same group (MPI 4.1 section 7.4.2)
 abbrev pub GroupsAgree : RowView → Given → Type 0
 GroupsAgree row given = (place member : ℕ) → slice_get (group_of given) place ≡ Some member → group_of (post_at row member) ≡ group_of given
+
+-- the weights of the edges between this member and the other, as told at either end, in rising order, are the same
+-- (MPI 4.1 section 8.5.4)
+abbrev pub EdgesAgree : RowView → (rank : ℕ) → Given → Type 0
+EdgesAgree row rank given = (other : ℕ) → other < length row → weights_of other (destinations_of given) ≡ weights_of rank (sources_of (post_at row other))
 
 -- the post of the member with this rank fits the communicator and agrees with the others
 pub record Agrees (row : RowView) (rank : ℕ) : Type 0 where
@@ -115,6 +132,8 @@ pub record Agrees (row : RowView) (rank : ℕ) : Type 0 where
   pub op : (post_at row rank).op ≡ (first_of row).op
   pub ty : type_given (post_at row rank) ≡ type_given (first_of row)
   pub amounts : AmountsAgree (first_of row).kind row rank (post_at row rank)
+  pub weights : weighted_of (post_at row rank) ≡ weighted_of (first_of row)
+  pub edges : EdgesAgree row rank (post_at row rank)
   pub groups : GroupsAgree row (post_at row rank)
 
 -- the posts of all members do

@@ -3,8 +3,8 @@ use Rattle.std.specs.Prelude.{◌≡◌, ℕ, zero, suc, ◌+◌, ◌*◌, ◌�
 use Rattle.mpx_num.specs.declared.types.Ty.{Ty}
 use Rattle.mpx_num.specs.Types.{item_len}
 use Rattle.mpx_post.specs.declared.block.Block.{Block}
-use Rattle.mpx_post.specs.declared.kinds.Sent.{Sent}
-use Rattle.mpx_post.specs.declared.kinds.Sent.TheVariants.{Any, Scounts, Rcounts}
+use Rattle.mpx_kind.specs.declared.kinds.Sent.{Sent}
+use Rattle.mpx_kind.specs.declared.kinds.Sent.TheVariants.{Any, Scounts, Rcounts}
 use Rattle.mpx_post.specs.Kinds.{number_in}
 
 -- a list, so many times

@@ -1,5 +1,5 @@
--- Which drafts are refused, and what post another one makes (MPI 4.1, sections 6.2 to 6.12 and 7.4).
-use Rattle.std.specs.Prelude.{◌≡◌, ℕ, ◌*◌, ◌^◌, ℤ, pos, negsuc, int_le, ◌==◌, ◌&&◌, ◌||◌, Bool, true, false, not, nat_lt, nat_le, List, [], ◌∷◌, length, map, cond, Option, Some, None, Result, Ok, Err}
+-- Which drafts are refused, and what post another one makes (MPI 4.1, sections 6.2 to 6.12, 7.4 and 8.5).
+use Rattle.std.specs.Prelude.{◌≡◌, ℕ, ◌+◌, ◌*◌, ◌^◌, ℤ, pos, negsuc, int_le, ◌==◌, ◌&&◌, ◌||◌, Bool, true, false, not, nat_lt, nat_le, List, [], ◌∷◌, ◌++◌, length, map, cond, unwrap_or, Option, Some, None, Result, Ok, Err}
 use Rattle.std.specs.List.{list_all, sum}
 use Rattle.std.specs.Option.{option_map, option_map_or}
 use Rattle.std.specs.Ordering.{int_eq}
@@ -11,17 +11,22 @@ use Rattle.mpx_num.specs.declared.types.Ty.TheVariants.{I32}
 use Rattle.mpx_post.specs.declared.draft.At.{At}
 use Rattle.mpx_post.specs.declared.draft.Draft.{Draft}
 use Rattle.mpx_post.specs.declared.draft.PostError.{PostError}
-use Rattle.mpx_post.specs.declared.draft.PostError.TheVariants.{NotMember, RootOutOfRange, OpNotForType, CountsLength, ItemsLength, ItemOutOfRange, TooManyItems, CallsUsedUp, DepthUsedUp, BadGroup, BadTag, OutOfMemory}
-use Rattle.mpx_post.specs.declared.kinds.Number.{Number}
-use Rattle.mpx_post.specs.declared.kinds.Makes.{Makes}
-use Rattle.mpx_post.specs.declared.kinds.Makes.TheVariants as M
+use Rattle.mpx_post.specs.declared.draft.PostError.TheVariants.{NotMember, RootOutOfRange, OpNotForType, CountsLength, ItemsLength, ItemOutOfRange, TooManyItems, CallsUsedUp, DepthUsedUp, BadGroup, BadEdge, TooManyEdges, BadTag, OutOfMemory}
+use Rattle.mpx_kind.specs.declared.kinds.Number.{Number}
+use Rattle.mpx_kind.specs.declared.kinds.Makes.{Makes}
+use Rattle.mpx_kind.specs.declared.kinds.Makes.TheVariants as M
 use Rattle.mpx_post.specs.declared.making.Making.{Making}
-use Rattle.mpx_post.specs.declared.making.Making.TheVariants.{Nothing, Split, Group}
+use Rattle.mpx_post.specs.declared.making.Making.TheVariants.{Nothing, Split, Group, Edges, Neighbours}
 use Rattle.mpx_group.specs.Group.{has_twice}
 use Rattle.mpx_name.specs.Name.{Name, is_gathering}
 use Rattle.mpx_post.specs.Births.{BirthView, rank_in}
 use Rattle.mpx_post.specs.Kinds.{family_of, fields_of, number_in, is_had, kind_of, mode_of, makes_communicators, is_gathered}
 use Rattle.mpx_post.specs.Blocks.{blocks_sent}
+use Rattle.mpx_birth.specs.declared.edges.Edge.{Edge}
+use Rattle.mpx_birth.specs.declared.edges.Neighbour.{Neighbour}
+use Rattle.mpx_post.specs.declared.drafted_edges.DraftedEdge.{DraftedEdge}
+use Rattle.mpx_post.specs.declared.drafted_edges.DraftedNeighbour.{DraftedNeighbour}
+use Rattle.mpx_post.specs.Graphs.{GraphView, most_edges, no_graph}
 use Rattle.mpx_post.specs.Posts.{Given, most_items}
 
 -- the first of these refusals whose condition holds
@@ -57,6 +62,12 @@ abbrev pub ranks_in : Makes → Draft → List ℤ
 ranks_in M.Nothing draft = []
 ranks_in M.Colour draft = []
 ranks_in M.Group draft = draft.group
+ranks_in M.Edges draft = []
+ranks_in M.Neighbours draft = []
+
+-- its graph: unweighted and without edges where it has none
+abbrev pub graph_of : Draft → GraphView
+graph_of draft = unwrap_or draft.graph no_graph
 
 -- whether the member with this rank is the root that the draft names
 abbrev pub is_drafted_root : ℕ → Draft → Bool
@@ -114,6 +125,35 @@ abbrev pub has_colour_and_key : Makes → Draft → Bool
 has_colour_and_key M.Nothing draft = true
 has_colour_and_key M.Colour draft = option_map_or is_colour draft.colour true && is_key draft.key
 has_colour_and_key M.Group draft = true
+has_colour_and_key M.Edges draft = true
+has_colour_and_key M.Neighbours draft = true
+
+-- a weight: from 0 to 2^31 - 1, where edges have weights
+abbrev pub is_weight : (weighted : Bool) → ℤ → Bool
+is_weight weighted z = cond weighted (int_le (pos 0) z && nat_lt (natural z) (2 ^ 31)) true
+
+-- between ranks of so many, with a weight
+abbrev pub is_edge : (size : ℕ) → (weighted : Bool) → DraftedEdge → Bool
+is_edge size weighted edge = is_rank size edge.source && (is_rank size edge.destination && is_weight weighted edge.weight)
+
+abbrev pub is_neighbour : (size : ℕ) → (weighted : Bool) → DraftedNeighbour → Bool
+is_neighbour size weighted neighbour = is_rank size neighbour.rank && is_weight weighted neighbour.weight
+
+-- the edges that the kind looks at are between ranks of so many, with weights
+abbrev pub are_edges : Makes → (size : ℕ) → GraphView → Bool
+are_edges M.Nothing size graph = true
+are_edges M.Colour size graph = true
+are_edges M.Group size graph = true
+are_edges M.Edges size graph = list_all (is_edge size graph.weighted) graph.edges
+are_edges M.Neighbours size graph = list_all (is_neighbour size graph.weighted) graph.sources && list_all (is_neighbour size graph.weighted) graph.destinations
+
+-- how many edges the kind looks at
+abbrev pub edge_count : Makes → GraphView → ℕ
+edge_count M.Nothing graph = 0
+edge_count M.Colour graph = 0
+edge_count M.Group graph = 0
+edge_count M.Edges graph = length graph.edges
+edge_count M.Neighbours graph = length graph.sources + length graph.destinations
 
 -- calls of create_group are made on gatherings, and no others are
 abbrev pub is_misplaced : (gathering gathered : Bool) → Bool
@@ -125,42 +165,54 @@ place_refusals size at draft =
     (at.call == most_calls, CallsUsedUp)
     ∷ (makes_communicators (family_of (kind_of draft.call)) && nat_le most_steps at.depth, DepthUsedUp)
     ∷ (is_misplaced at.gathering (is_gathered (family_of (kind_of draft.call))) || not (are_ranks size (ranks_in (fields_of (kind_of draft.call)).makes draft)), BadGroup)
+    ∷ (not (are_edges (fields_of (kind_of draft.call)).makes size (graph_of draft)), BadEdge)
+    ∷ (nat_lt most_edges (edge_count (fields_of (kind_of draft.call)).makes (graph_of draft)), TooManyEdges)
     ∷ (not (has_colour_and_key (fields_of (kind_of draft.call)).makes draft), BadTag)
     ∷ []
+
+-- of the root, the operation and the counts, and whether there are more or fewer items than these tell
+abbrev pub asked_first : (size rank : ℕ) → Draft → (misfilled : Bool) → List (Bool × PostError)
+asked_first size rank draft misfilled =
+    ((fields_of (kind_of draft.call)).root && not (is_rank size draft.root), RootOutOfRange)
+    ∷ ((fields_of (kind_of draft.call)).op && not (fits draft.op draft.ty), OpNotForType)
+    ∷ (not (are_so_many (sent_counts draft) (fields_of (kind_of draft.call)).scounts size (is_drafted_root rank draft) && are_so_many (received_counts draft) (fields_of (kind_of draft.call)).rcounts size (is_drafted_root rank draft)), CountsLength)
+    ∷ (misfilled, ItemsLength)
+    ∷ []
+
+-- whether there are more or fewer items than the counts tell
+abbrev pub is_misfilled : (size rank : ℕ) → Draft → Bool
+is_misfilled size rank draft = misfill (blocks_sent (fields_of (kind_of draft.call)).sent size (is_drafted_root rank draft) (sent_counts draft) (received_counts draft)) draft.ty (drafted_numbers draft)
 
 -- why the member with this rank, of so many, may not post this as its next call, in the order in which it is told
 abbrev pub refusals : (size rank : ℕ) → At → Draft → List (Bool × PostError)
 refusals size rank at draft =
-    ((fields_of (kind_of draft.call)).root && not (is_rank size draft.root), RootOutOfRange)
-    ∷ ((fields_of (kind_of draft.call)).op && not (fits draft.op draft.ty), OpNotForType)
-    ∷ (not (are_so_many (sent_counts draft) (fields_of (kind_of draft.call)).scounts size (is_drafted_root rank draft) && are_so_many (received_counts draft) (fields_of (kind_of draft.call)).rcounts size (is_drafted_root rank draft)), CountsLength)
-    ∷ (not (is_whole draft.ty (drafted_numbers draft)) || misfill (blocks_sent (fields_of (kind_of draft.call)).sent size (is_drafted_root rank draft) (sent_counts draft) (received_counts draft)) draft.ty (drafted_numbers draft), ItemsLength)
-    ∷ (not (list_all (is_of draft.ty) (drafted_numbers draft)), ItemOutOfRange)
+    asked_first size rank draft (not (is_whole draft.ty (drafted_numbers draft)) || is_misfilled size rank draft)
+    ++ (not (list_all (is_of draft.ty) (drafted_numbers draft)), ItemOutOfRange)
     ∷ (nat_lt (most_items * item_len draft.ty) (length (drafted_numbers draft)) || not (list_all is_count (sent_counts draft) && list_all is_count (received_counts draft)), TooManyItems)
     ∷ place_refusals size at draft
-
--- what is asked first, of the root, the operation and the counts
-abbrev pub shape_refusals : (size rank : ℕ) → Draft → List (Bool × PostError)
-shape_refusals size rank draft =
-    ((fields_of (kind_of draft.call)).root && not (is_rank size draft.root), RootOutOfRange)
-    ∷ ((fields_of (kind_of draft.call)).op && not (fits draft.op draft.ty), OpNotForType)
-    ∷ (not (are_so_many (sent_counts draft) (fields_of (kind_of draft.call)).scounts size (is_drafted_root rank draft) && are_so_many (received_counts draft) (fields_of (kind_of draft.call)).rcounts size (is_drafted_root rank draft)), CountsLength)
-    ∷ (misfill (blocks_sent (fields_of (kind_of draft.call)).sent size (is_drafted_root rank draft) (sent_counts draft) (received_counts draft)) draft.ty (drafted_numbers draft), ItemsLength)
-    ∷ []
 
 -- the value, where the kind has it
 abbrev pub where_had : {A : Type 0} → Bool → A → Option A
 where_had had x = cond had (Some x) None
 
--- what is said of a new communicator, by a colour, a key and the ranks of a group
-abbrev pub making_of : Makes → Option ℤ → (key : ℤ) → List ℤ → Making
-making_of M.Nothing colour key ranks = Nothing
-making_of M.Colour colour key ranks = Split (option_map natural colour) key
-making_of M.Group colour key ranks = Group (naturals ranks)
+-- an edge or a neighbour that passed, whose weight is 0 where edges have none
+abbrev pub edge_of : (weighted : Bool) → DraftedEdge → Edge
+edge_of weighted edge = record { source = natural edge.source; destination = natural edge.destination; weight = cond weighted (natural edge.weight) 0 }
+
+abbrev pub neighbour_of : (weighted : Bool) → DraftedNeighbour → Neighbour
+neighbour_of weighted neighbour = record { rank = natural neighbour.rank; weight = cond weighted (natural neighbour.weight) 0 }
+
+-- what is said of a new communicator, by a colour, a key, the ranks of a group and a graph
+abbrev pub making_of : Makes → Option ℤ → (key : ℤ) → List ℤ → GraphView → Making
+making_of M.Nothing colour key ranks graph = Nothing
+making_of M.Colour colour key ranks graph = Split (option_map natural colour) key
+making_of M.Group colour key ranks graph = Group (naturals ranks)
+making_of M.Edges colour key ranks graph = Edges (record { weighted = graph.weighted; edges = map (edge_of graph.weighted) graph.edges })
+making_of M.Neighbours colour key ranks graph = Neighbours (record { weighted = graph.weighted; sources = map (neighbour_of graph.weighted) graph.sources; destinations = map (neighbour_of graph.weighted) graph.destinations })
 
 -- what a draft says of a new communicator
 abbrev pub drafted_making : Makes → Draft → Making
-drafted_making makes draft = making_of makes draft.colour draft.key draft.group
+drafted_making makes draft = making_of makes draft.colour draft.key draft.group (graph_of draft)
 
 -- the post whose fields are the draft's
 abbrev pub given_by : Draft → Given

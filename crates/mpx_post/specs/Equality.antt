@@ -1,7 +1,8 @@
 -- When two posts give the same.
-use Rattle.std.specs.Prelude.{◌≡◌, ℕ, ◌==◌, ◌&&◌, nat_eq, Bool, true, false, cond, List, Option, Some, None, refl}
+use Rattle.std.specs.Prelude.{◌≡◌, ℕ, ℤ, ◌==◌, ◌&&◌, nat_eq, Bool, true, false, cond, List, Option, Some, None, refl}
 use Rattle.std.proofs.Common.{ap, sym, ◌∙◌}
-use Rattle.std.specs.Bool.{Decides}
+use Rattle.std.specs.Bool.{Decides, beq}
+use Rattle.std.specs.Cmp.{booleans_Decides}
 use Rattle.std.specs.Ordering.{int_eq}
 use Rattle.std.proofs.lemmas.Bool.Decides.{Decides-and, Decides-eqb, Decides-int_eq, Decides-like}
 use Rattle.std.proofs.lemmas.Slice.Eq.{slice_eq-Decides}
@@ -13,13 +14,18 @@ use Rattle.mpx_num.specs.declared.types.Ty.TheVariants.{I8, I16, I32, I64, U8, U
 use Rattle.mpx_num.specs.declared.operations.Op.{Op}
 use Rattle.mpx_num.specs.declared.operations.Op.TheVariants.{Max, Min, Sum, Prod, Land, Lor, Lxor, Band, Bor, Bxor, Maxloc, Minloc}
 use Rattle.mpx_num.specs.ItemList.{ItemList}
-use Rattle.mpx_post.specs.declared.kinds.Kind.{Kind}
-use Rattle.mpx_post.specs.declared.kinds.Kind.TheVariants.{Barrier, Bcast, Gather, Gatherv, Scatter, Scatterv, Allgather, Allgatherv, Alltoall, Alltoallv, Reduce, Allreduce, ReduceScatterBlock, ReduceScatter, Scan, Exscan, Dup, Split, Create, CreateGroup}
-use Rattle.mpx_post.specs.declared.kinds.Mode.{Mode}
-use Rattle.mpx_post.specs.declared.kinds.Mode.TheVariants.{Blocking, Nonblocking}
+use Rattle.mpx_kind.specs.declared.kinds.Kind.{Kind}
+use Rattle.mpx_kind.specs.declared.kinds.Kind.TheVariants.{Barrier, Bcast, Gather, Gatherv, Scatter, Scatterv, Allgather, Allgatherv, Alltoall, Alltoallv, Reduce, Allreduce, ReduceScatterBlock, ReduceScatter, Scan, Exscan, Dup, Split, Create, CreateGroup, DistGraph, DistGraphAdjacent}
+use Rattle.mpx_kind.specs.declared.kinds.Mode.{Mode}
+use Rattle.mpx_kind.specs.declared.kinds.Mode.TheVariants.{Blocking, Nonblocking}
 use Rattle.mpx_post.specs.declared.making.Making.{Making}
 use Rattle.mpx_post.specs.declared.making.Making.TheVariants as M
-use Rattle.mpx_post.specs.Posts.{Given, colour_in, key_in, group_in}
+use Rattle.mpx_kind.specs.declared.kinds.Makes.{Makes}
+use Rattle.mpx_kind.specs.declared.kinds.Makes.TheVariants as Makes
+use Rattle.mpx_birth.specs.declared.edges.Edge.{Edge}
+use Rattle.mpx_birth.specs.declared.edges.Neighbour.{Neighbour}
+use Rattle.mpx_birth.specs.Topologies.{neighbours_decided, same_neighbours}
+use Rattle.mpx_post.specs.Posts.{Given, colour_in, destinations_in, edges_in, group_in, key_in, makes_of, sources_in, weighted_in}
 
 -- Each variant by its place in its list
 
@@ -44,6 +50,8 @@ place_of_kind Dup = 16
 place_of_kind Split = 17
 place_of_kind Create = 18
 place_of_kind CreateGroup = 19
+place_of_kind DistGraph = 20
+place_of_kind DistGraphAdjacent = 21
 
 abbrev place_of_type : Ty → ℕ
 place_of_type I8 = 0
@@ -106,17 +114,29 @@ same_types a b = same_option (λ (x y : ItemList). same_type x.ty y.ty) a b
 abbrev pub same_items : ItemList → ItemList → Bool
 same_items a b = same_type a.ty b.ty && pointwise int_eq a.nums b.nums
 
+abbrev place_of_makes : Makes → ℕ
+place_of_makes Makes.Nothing = 0
+place_of_makes Makes.Colour = 1
+place_of_makes Makes.Group = 2
+place_of_makes Makes.Edges = 3
+place_of_makes Makes.Neighbours = 4
+
+abbrev pub same_makes : Makes → Makes → Bool
+same_makes a b = place_of_makes a == place_of_makes b
+
+abbrev pub same_edge : Edge → Edge → Bool
+same_edge a b = (a.source == b.source) && ((a.destination == b.destination) && (a.weight == b.weight))
+
 -- the same is said of a new communicator
 abbrev pub same_making : Making → Making → Bool
-same_making M.Nothing M.Nothing = true
-same_making M.Nothing (M.Split c k) = false
-same_making M.Nothing (M.Group rs) = false
-same_making (M.Split colour key) M.Nothing = false
-same_making (M.Split colour key) (M.Split c k) = same_option nat_eq colour c && int_eq key k
-same_making (M.Split colour key) (M.Group rs) = false
-same_making (M.Group ranks) M.Nothing = false
-same_making (M.Group ranks) (M.Split c k) = false
-same_making (M.Group ranks) (M.Group rs) = pointwise nat_eq ranks rs
+same_making a b = same_makes (makes_of a) (makes_of b)
+    && (same_option nat_eq (colour_in a) (colour_in b)
+    && (int_eq (key_in a) (key_in b)
+    && (pointwise nat_eq (group_in a) (group_in b)
+    && (beq (weighted_in a) (weighted_in b)
+    && (pointwise same_edge (edges_in a) (edges_in b)
+    && (same_neighbours (sources_in a) (sources_in b)
+    && same_neighbours (destinations_in a) (destinations_in b)))))))
 
 -- the same kind with the same fields
 abbrev pub same_given : Given → Given → Bool
@@ -137,7 +157,7 @@ decided_by_place place at_place back a b =
     (λ t. sym (back a) ∙ ap at_place (places.0 t) ∙ back b, λ e. places.1 (ap place e))
 
 kind_at : ℕ → Kind
-kind_at n = cond (n == 0) Barrier (cond (n == 1) Bcast (cond (n == 2) Gather (cond (n == 3) Gatherv (cond (n == 4) Scatter (cond (n == 5) Scatterv (cond (n == 6) Allgather (cond (n == 7) Allgatherv (cond (n == 8) Alltoall (cond (n == 9) Alltoallv (cond (n == 10) Reduce (cond (n == 11) Allreduce (cond (n == 12) ReduceScatterBlock (cond (n == 13) ReduceScatter (cond (n == 14) Scan (cond (n == 15) Exscan (cond (n == 16) Dup (cond (n == 17) Split (cond (n == 18) Create CreateGroup))))))))))))))))))
+kind_at n = cond (n == 0) Barrier (cond (n == 1) Bcast (cond (n == 2) Gather (cond (n == 3) Gatherv (cond (n == 4) Scatter (cond (n == 5) Scatterv (cond (n == 6) Allgather (cond (n == 7) Allgatherv (cond (n == 8) Alltoall (cond (n == 9) Alltoallv (cond (n == 10) Reduce (cond (n == 11) Allreduce (cond (n == 12) ReduceScatterBlock (cond (n == 13) ReduceScatter (cond (n == 14) Scan (cond (n == 15) Exscan (cond (n == 16) Dup (cond (n == 17) Split (cond (n == 18) Create (cond (n == 19) CreateGroup (cond (n == 20) DistGraph DistGraphAdjacent))))))))))))))))))))
 
 kind_at-place : (kind : Kind) → kind_at (place_of_kind kind) ≡ kind
 unfolding kind_at
@@ -161,6 +181,8 @@ kind_at-place Dup = refl
 kind_at-place Split = refl
 kind_at-place Create = refl
 kind_at-place CreateGroup = refl
+kind_at-place DistGraph = refl
+kind_at-place DistGraphAdjacent = refl
 
 type_at : ℕ → Ty
 type_at n = cond (n == 0) I8 (cond (n == 1) I16 (cond (n == 2) I32 (cond (n == 3) I64 (cond (n == 4) U8 (cond (n == 5) U16 (cond (n == 6) U32 (cond (n == 7) U64 TwoInt)))))))
@@ -231,20 +253,56 @@ types_decided None (Some b) = (λ t. cc, λ e. cc)
 types_decided (Some a) None = (λ t. cc, λ e. cc)
 types_decided (Some a) (Some b) = Decides-like _ (ap Some) (λ e. cc) (decided_by_place place_of_type type_at type_at-place a.ty b.ty)
 
-pub makings_decided : (a b : Making) → Decides (same_making a b) (a ≡ b)
-makings_decided M.Nothing M.Nothing = (λ t. refl, λ e. refl)
-makings_decided M.Nothing (M.Split c k) = (λ t. cc, λ e. cc)
-makings_decided M.Nothing (M.Group rs) = (λ t. cc, λ e. cc)
-makings_decided (M.Split colour key) M.Nothing = (λ t. cc, λ e. cc)
-makings_decided (M.Split colour key) (M.Split c k) =
+makes_at : ℕ → Makes
+makes_at n = cond (n == 0) Makes.Nothing (cond (n == 1) Makes.Colour (cond (n == 2) Makes.Group (cond (n == 3) Makes.Edges Makes.Neighbours)))
+
+makes_at-place : (makes : Makes) → makes_at (place_of_makes makes) ≡ makes
+unfolding makes_at
+makes_at-place Makes.Nothing = refl
+makes_at-place Makes.Colour = refl
+makes_at-place Makes.Group = refl
+makes_at-place Makes.Edges = refl
+makes_at-place Makes.Neighbours = refl
+
+pub makes_decided : (a b : Makes) → Decides (same_makes a b) (a ≡ b)
+makes_decided = decided_by_place place_of_makes makes_at makes_at-place
+
+edge_decided : (a b : Edge) → Decides (same_edge a b) (a ≡ b)
+edge_decided a b =
     Decides-like _
-    (λ e. λ i. M.Split (e.0 i) (e.1 i))
-    (λ e. (ap colour_in e, ap key_in e))
-    (Decides-and _ _ (options_decided nat_eq Decides-eqb colour c) (Decides-int_eq key k))
-makings_decided (M.Split colour key) (M.Group rs) = (λ t. cc, λ e. cc)
-makings_decided (M.Group ranks) M.Nothing = (λ t. cc, λ e. cc)
-makings_decided (M.Group ranks) (M.Split c k) = (λ t. cc, λ e. cc)
-makings_decided (M.Group ranks) (M.Group rs) = Decides-like _ (ap M.Group) (ap group_in) (numbers_decided ranks rs)
+    (λ e. λ i. record { source = e.0 i; destination = e.1.0 i; weight = e.1.1 i })
+    (λ e. (ap (λ (x : Edge). x.source) e, (ap (λ (x : Edge). x.destination) e, ap (λ (x : Edge). x.weight) e)))
+    (Decides-and _ _ (Decides-eqb a.source b.source) (Decides-and _ _ (Decides-eqb a.destination b.destination) (Decides-eqb a.weight b.weight)))
+
+-- what is said, by its sort and its fields
+making_from : Makes → Option ℕ → ℤ → List ℕ → Bool → List Edge → List Neighbour → List Neighbour → Making
+making_from Makes.Nothing colour key group weighted edges sources destinations = M.Nothing
+making_from Makes.Colour colour key group weighted edges sources destinations = M.Split colour key
+making_from Makes.Group colour key group weighted edges sources destinations = M.Group group
+making_from Makes.Edges colour key group weighted edges sources destinations = M.Edges (record { weighted = weighted; edges = edges })
+making_from Makes.Neighbours colour key group weighted edges sources destinations = M.Neighbours (record { weighted = weighted; sources = sources; destinations = destinations })
+
+making_again : (a : Making) → making_from (makes_of a) (colour_in a) (key_in a) (group_in a) (weighted_in a) (edges_in a) (sources_in a) (destinations_in a) ≡ a
+unfolding making_from
+making_again M.Nothing = refl
+making_again (M.Split colour key) = refl
+making_again (M.Group ranks) = refl
+making_again (M.Edges edges) = refl
+making_again (M.Neighbours near) = refl
+
+pub makings_decided : (a b : Making) → Decides (same_making a b) (a ≡ b)
+makings_decided a b =
+    Decides-like _
+    (λ e. sym (making_again a) ∙ (λ i. making_from (e.0 i) (e.1.0 i) (e.1.1.0 i) (e.1.1.1.0 i) (e.1.1.1.1.0 i) (e.1.1.1.1.1.0 i) (e.1.1.1.1.1.1.0 i) (e.1.1.1.1.1.1.1 i)) ∙ making_again b)
+    (λ e. (ap makes_of e, (ap colour_in e, (ap key_in e, (ap group_in e, (ap weighted_in e, (ap edges_in e, (ap sources_in e, ap destinations_in e))))))))
+    (Decides-and _ _ (makes_decided (makes_of a) (makes_of b))
+    (Decides-and _ _ (options_decided nat_eq Decides-eqb (colour_in a) (colour_in b))
+    (Decides-and _ _ (Decides-int_eq (key_in a) (key_in b))
+    (Decides-and _ _ (numbers_decided (group_in a) (group_in b))
+    (Decides-and _ _ (booleans_Decides (weighted_in a) (weighted_in b))
+    (Decides-and _ _ (slice_eq-Decides edge_decided (edges_in a) (edges_in b) (pointwise same_edge (edges_in a) (edges_in b)) refl)
+    (Decides-and _ _ (neighbours_decided (sources_in a) (sources_in b))
+    (neighbours_decided (destinations_in a) (destinations_in b)))))))))
 
 pub given_decided : (a b : Given) → Decides (same_given a b) (a ≡ b)
 given_decided a b =

@@ -1,7 +1,10 @@
-pub mod Births
-pub mod Kinds
+pub use Rattle.mpx_birth.specs.Edges
+pub use Rattle.mpx_birth.specs.Topologies
+pub use Rattle.mpx_birth.specs.Births
+pub use Rattle.mpx_kind.specs.Kinds
 pub mod Blocks
 pub mod Ranks
+pub mod Graphs
 pub mod Posts
 pub mod Equality
 pub mod Rows

@@ -1,5 +1,5 @@
 -- What a post gives.
-use Rattle.std.specs.Prelude.{◌≡◌, ℕ, ◌*◌, ◌^◌, ℤ, pos, ◌<◌, ◌≤◌, true, List, [], length, Option, Some, None, is_some, unwrap_or}
+use Rattle.std.specs.Prelude.{◌≡◌, ℕ, ◌*◌, ◌^◌, ℤ, pos, ◌<◌, ◌≤◌, Bool, true, false, List, [], length, Option, Some, None, is_some, unwrap_or}
 use Rattle.std.specs.List.{All}
 use Rattle.mpx_post.specs.Ranks.{AreRanks}
 use Rattle.std.specs.Option.{option_map_or}
@@ -9,14 +9,17 @@ use Rattle.mpx_num.specs.declared.operations.Op.{Op}
 use Rattle.mpx_num.specs.declared.operations.Op.TheVariants.{Sum}
 use Rattle.mpx_num.specs.Types.{item_len}
 use Rattle.mpx_num.specs.ItemList.{ItemList, item_count}
-use Rattle.mpx_post.specs.declared.kinds.Kind.{Kind}
-use Rattle.mpx_post.specs.declared.kinds.Kind.TheVariants.{Barrier}
-use Rattle.mpx_post.specs.declared.kinds.Mode.{Mode}
-use Rattle.mpx_post.specs.declared.kinds.Mode.TheVariants.{Blocking}
-use Rattle.mpx_post.specs.declared.kinds.Makes.{Makes}
-use Rattle.mpx_post.specs.declared.kinds.Makes.TheVariants as M
+use Rattle.mpx_kind.specs.declared.kinds.Kind.{Kind}
+use Rattle.mpx_kind.specs.declared.kinds.Kind.TheVariants.{Barrier}
+use Rattle.mpx_kind.specs.declared.kinds.Mode.{Mode}
+use Rattle.mpx_kind.specs.declared.kinds.Mode.TheVariants.{Blocking}
+use Rattle.mpx_kind.specs.declared.kinds.Makes.{Makes}
+use Rattle.mpx_kind.specs.declared.kinds.Makes.TheVariants as M
 use Rattle.mpx_post.specs.declared.making.Making.{Making}
-use Rattle.mpx_post.specs.declared.making.Making.TheVariants.{Nothing, Split, Group}
+use Rattle.mpx_post.specs.declared.making.Making.TheVariants.{Nothing, Split, Group, Edges, Neighbours}
+use Rattle.mpx_birth.specs.declared.edges.Edge.{Edge}
+use Rattle.mpx_birth.specs.declared.edges.Neighbour.{Neighbour}
+use Rattle.mpx_post.specs.Graphs.{AreEdges, AreNeighbours}
 use Rattle.mpx_post.specs.Kinds.{family_of, fields_of, may_be}
 
 -- what one member gives to one call: the kind with its fields
@@ -51,17 +54,26 @@ abbrev pub IsColour : Option ℕ → Type 0
 IsColour None = Unit {0}
 IsColour (Some colour) = colour < 2 ^ 31
 
+-- of which sort it is what is said of a new communicator
+abbrev pub makes_of : Making → Makes
+makes_of Nothing = M.Nothing
+makes_of (Split colour key) = M.Colour
+makes_of (Group ranks) = M.Group
+makes_of (Edges edges) = M.Edges
+makes_of (Neighbours near) = M.Neighbours
+
+-- it is within its limits
+abbrev pub IsWithin : Making → Type 0
+IsWithin Nothing = Unit {0}
+IsWithin (Split colour key) = IsColour colour
+IsWithin (Group ranks) = AreRanks ranks
+IsWithin (Edges edges) = AreEdges edges
+IsWithin (Neighbours near) = AreNeighbours near
+
 -- what is said of a new communicator is what the kind asks for, within its limits
-abbrev pub IsMaking : Makes → Making → Type 0
-IsMaking M.Nothing Nothing = Unit {0}
-IsMaking M.Nothing (Split colour key) = ⊥
-IsMaking M.Nothing (Group ranks) = ⊥
-IsMaking M.Colour Nothing = ⊥
-IsMaking M.Colour (Split colour key) = IsColour colour
-IsMaking M.Colour (Group ranks) = ⊥
-IsMaking M.Group Nothing = ⊥
-IsMaking M.Group (Split colour key) = ⊥
-IsMaking M.Group (Group ranks) = AreRanks ranks
+pub record IsMaking (makes : Makes) (making : Making) : Type 0 where
+  pub sort : makes_of making ≡ makes
+  pub within : IsWithin making
 
 -- it has the fields of its kind and a mode of its family, and not too many items
 pub record IsPost (given : Given) : Type 0 where
@@ -98,16 +110,50 @@ abbrev pub colour_in : Making → Option ℕ
 colour_in Nothing = None
 colour_in (Split colour key) = colour
 colour_in (Group ranks) = None
+colour_in (Edges edges) = None
+colour_in (Neighbours near) = None
 
 abbrev pub key_in : Making → ℤ
 key_in Nothing = pos 0
 key_in (Split colour key) = key
 key_in (Group ranks) = pos 0
+key_in (Edges edges) = pos 0
+key_in (Neighbours near) = pos 0
 
 abbrev pub group_in : Making → List ℕ
 group_in Nothing = []
 group_in (Split colour key) = []
 group_in (Group ranks) = ranks
+group_in (Edges edges) = []
+group_in (Neighbours near) = []
+
+abbrev pub weighted_in : Making → Bool
+weighted_in Nothing = false
+weighted_in (Split colour key) = false
+weighted_in (Group ranks) = false
+weighted_in (Edges edges) = edges.weighted
+weighted_in (Neighbours near) = near.weighted
+
+abbrev pub edges_in : Making → List Edge
+edges_in Nothing = []
+edges_in (Split colour key) = []
+edges_in (Group ranks) = []
+edges_in (Edges edges) = edges.edges
+edges_in (Neighbours near) = []
+
+abbrev pub sources_in : Making → List Neighbour
+sources_in Nothing = []
+sources_in (Split colour key) = []
+sources_in (Group ranks) = []
+sources_in (Edges edges) = []
+sources_in (Neighbours near) = near.sources
+
+abbrev pub destinations_in : Making → List Neighbour
+destinations_in Nothing = []
+destinations_in (Split colour key) = []
+destinations_in (Group ranks) = []
+destinations_in (Edges edges) = []
+destinations_in (Neighbours near) = near.destinations
 
 -- the colour, of a post that has one and in which it isn't undefined
 abbrev pub colour_of : Given → Option ℕ
@@ -120,6 +166,21 @@ key_of given = key_in given.making
 -- the ranks of the group, of a post that has one
 abbrev pub group_of : Given → List ℕ
 group_of given = group_in given.making
+
+-- whether edges have weights, of a post that has a part of a graph
+abbrev pub weighted_of : Given → Bool
+weighted_of given = weighted_in given.making
+
+-- the edges, of a post that has any
+abbrev pub edges_of : Given → List Edge
+edges_of given = edges_in given.making
+
+-- the member's own sources and destinations, of a post that has them
+abbrev pub sources_of : Given → List Neighbour
+sources_of given = sources_in given.making
+
+abbrev pub destinations_of : Given → List Neighbour
+destinations_of given = destinations_in given.making
 
 -- what stands where nothing is given
 abbrev pub nothing_given : Given

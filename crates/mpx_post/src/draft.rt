@@ -2,20 +2,22 @@ ghost use Rattle.std.specs.Prelude.{◌≡◌, ◌≤◌, ◌&&◌, ◌||◌, na
 ghost use Rattle.mpx_num.specs.Operations.{fits};
 ghost use Rattle.mpx_post.specs.Kinds.{family_of, fields_of, is_gathered, kind_of, makes_communicators};
 ghost use Rattle.mpx_post.specs.Blocks.{blocks_sent};
-ghost use Rattle.mpx_post.specs.Drafts.{Checks, at, are_ranks, has_colour_and_key, is_misplaced, most_steps, ranks_in, checked, checked_at, is_rank as is_rank_of, is_drafted_root, are_so_many, sent_counts, received_counts, drafted_numbers, misfill, first_that_holds, place_refusals, shape_refusals};
+ghost use Rattle.mpx_post.specs.Drafts.{misfill};
+ghost use Rattle.mpx_post.specs.Drafts.{Checks, asked_first, at, are_edges, are_ranks, edge_count, graph_of, has_colour_and_key, is_misfilled, is_misplaced, most_steps, ranks_in, checked, checked_at, is_rank as is_rank_of, is_drafted_root, are_so_many, sent_counts, received_counts, drafted_numbers, first_that_holds, place_refusals};
+ghost use Rattle.mpx_post.specs.Graphs.{most_edges};
 
-use crate::birth::Birth;
 use crate::counts::are_counts;
-use crate::kinds::{Call, Makes, Sent};
-use crate::making_fields::{
-    are_ranks, given_making, is_colour, is_gathered, is_key, makes_communicators,
-};
+use crate::drafted_edges::DraftedGraph;
+use crate::graph_fields::{are_edges, edge_count};
+use crate::making_fields::{are_ranks, given_making, is_colour, is_key};
 use crate::post::Post;
 use crate::post_fields::{
     given_counts, given_items, given_op, given_root, is_misfill, is_rank, where_had,
 };
 use join_core::OutOfMemory;
+use mpx_birth::Birth;
 use mpx_group::Proc;
+use mpx_kind::{Call, Makes, Sent};
 use mpx_name::Name;
 use mpx_num::{Numbers, Op, Ty, op_fits};
 use std::alloc::Global;
@@ -43,6 +45,8 @@ pub struct Draft {
     pub key: i128,
     /// The ranks of a new communicator's members.
     pub group: Numbers,
+    /// The edges of a new graph, or the caller's neighbours in it; none stands for no edges, and none weighted.
+    pub graph: Option<DraftedGraph>,
 }
 
 /// Where a post would stand.
@@ -103,6 +107,12 @@ pub enum PostError {
     /// Calls of `create_group` are made on gatherings, and no others.
     #[error("BadGroup")]
     BadGroup,
+    /// An edge goes from or to no rank of the communicator, or its weight is out of its limit.
+    #[error("BadEdge")]
+    BadEdge,
+    /// There are over 512 edges.
+    #[error("TooManyEdges")]
+    TooManyEdges,
     /// A tag, a colour or a key is out of its limit.
     #[error("BadTag")]
     BadTag,
@@ -140,6 +150,7 @@ impl Draft {
             colour: self.colour,
             key: self.key,
             group: self.group.copy()?,
+            graph: copied(&self.graph)?,
         })
     }
 
@@ -169,7 +180,14 @@ impl Draft {
             return Err(refusal);
         }
         let group = self.group.as_slice();
-        match given_making(alloc, fields.makes, self.colour, self.key, group) {
+        match given_making(
+            alloc,
+            fields.makes,
+            self.colour,
+            self.key,
+            group,
+            &self.graph,
+        ) {
             Ok(making) => match given_counts(alloc, sent, received) {
                 Ok((scounts, rcounts)) => Ok(Post::new(
                     kind, mode, root, op, scounts, rcounts, items, making,
@@ -183,7 +201,7 @@ impl Draft {
     // Why its root, its operation or its counts refuse it.
     fn shape_refusal(&self, size: usize, rank: u8) -> Option<PostError>
         requires { size ≤ 64 }
-        ensures { result ≡ first_that_holds (shape_refusals size rank self.now) }
+        ensures { result ≡ first_that_holds (asked_first size rank self.now (is_misfilled size rank self.now)) }
     {
         if self.has_wrong_root(size) {
             return Some(PostError::RootOutOfRange);
@@ -214,6 +232,13 @@ impl Draft {
         }
         if self.has_bad_group(size, at) {
             return Some(PostError::BadGroup);
+        }
+        let makes = self.call.kind().fields().makes;
+        if !are_edges(makes, size, &self.graph) {
+            return Some(PostError::BadEdge);
+        }
+        if 512 < edge_count(makes, &self.graph) {
+            return Some(PostError::TooManyEdges);
         }
         if !self.has_colour_and_key() {
             return Some(PostError::BadTag);
@@ -282,7 +307,7 @@ impl Draft {
     fn is_too_deep(&self, at: &At) -> bool
         ensures { result ≡ (makes_communicators (family_of (kind_of self.now.call)) && nat_le most_steps at.now.depth) }
     {
-        makes_communicators(self.call.kind()) & (8 <= at.depth)
+        self.call.kind().makes_communicators() & (8 <= at.depth)
     }
 
     // Whether the call isn't made on such a context, or the group has a rank out of range or twice.
@@ -290,7 +315,7 @@ impl Draft {
         requires { size ≤ 64 }
         ensures { result ≡ (is_misplaced at.now.gathering (is_gathered (family_of (kind_of self.now.call))) || not (are_ranks size (ranks_in (fields_of (kind_of self.now.call)).makes self.now))) }
     {
-        let misplaced = at.gathering != is_gathered(self.call.kind());
+        let misplaced = at.gathering != self.call.kind().is_gathered();
         misplaced | !are_ranks(size, self.ranks())
     }
 
@@ -302,6 +327,8 @@ impl Draft {
             Makes::Group => self.group.as_slice(),
             Makes::Nothing => &[],
             Makes::Colour => &[],
+            Makes::Edges => &[],
+            Makes::Neighbours => &[],
         }
     }
 
@@ -313,6 +340,8 @@ impl Draft {
             Makes::Colour => is_colour(self.colour) & is_key(self.key),
             Makes::Nothing => true,
             Makes::Group => true,
+            Makes::Edges => true,
+            Makes::Neighbours => true,
         }
     }
 
@@ -326,5 +355,15 @@ impl Draft {
         ensures { result.now ≡ received_counts self.now }
     {
         where_had(self.call.kind().fields().rcounts.is_had(), &self.rcounts)
+    }
+}
+
+// The same graph once more, shared, where there is one.
+fn copied(graph: &Option<DraftedGraph>) -> Result<Option<DraftedGraph>, OutOfMemory>
+    ensures { IfOk result (λ copied. copied ≡ graph.now) }
+{
+    match graph {
+        None => Ok(None),
+        Some(graph) => Ok(Some(graph.copy()?)),
     }
 }

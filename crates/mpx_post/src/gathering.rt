@@ -1,14 +1,15 @@
 ghost use Rattle.std.specs.Prelude.{◌≡◌, ◌≢◌, ◌<◌, ◌≤◌, ◌^◌, [], length, true, false, IfOk};
 ghost use Rattle.std.specs.List.{list_all};
 ghost use Rattle.mpx_group.specs.Group.{has_twice};
+ghost use Rattle.mpx_post.specs.Births.{of_members};
 ghost use Rattle.mpx_post.specs.Drafts.{is_rank as is_rank_of};
 ghost use Rattle.mpx_post.specs.Gatherings.{ChecksGathering, gathering, is_bad_group, members_at};
 
-use crate::birth::Birth;
 use crate::draft::PostError;
 use crate::making_fields::{given_tag, is_tag};
 use crate::post_fields::place_of;
 use join_core::OutOfMemory;
+use mpx_birth::Birth;
 use mpx_group::{Group, Proc};
 use std::alloc::Global;
 use std::marker::Model;
@@ -84,13 +85,10 @@ impl Gathering {
 
     /// How a communicator of these members comes to be.
     pub fn birth(&self, alloc: Global) -> Result<Birth, OutOfMemory>
-        ensures { IfOk result (λ birth. birth ≡ record { members = self.now.members }) }
+        ensures { IfOk result (λ birth. birth ≡ of_members self.now.members) }
     {
         let members = Vec::from_slice(alloc, self.members.members())?;
-        match Birth::new(members) {
-            Some(birth) => Ok(birth),
-            None => unreachable!(),
-        }
+        Birth::of_members(alloc, members)
     }
 }
 

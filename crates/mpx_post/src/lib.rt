@@ -1,20 +1,21 @@
 //! What a process gives to a call: drafts, posts and the rows that they make.
 //!
-//! A [`Kind`] of call has one row in a table (`specs/Kinds.antt`): which fields its posts have, how many counts, and how
-//! their items are cut into blocks; and one row that says its [`Family`], by which its value is found. A post is seen by contracts as the record of its fields (`specs/Posts.antt`), a row as
-//! the list of its posts in rank order (`specs/Rows.antt`), and a communicator as the list of its members
-//! (`specs/Births.antt`). A draft is accepted or refused by one list of conditions in the order in which they are told
+//! A [`Kind`] of call has one row in a table (`mpx_kind`): which fields its posts have, how many counts, and how their items
+//! are cut into blocks; and one row that says its [`Family`], by which its value is found. A post is seen by contracts as the
+//! record of its fields (`specs/Posts.antt`), a row as the list of its posts in rank order (`specs/Rows.antt`), and a
+//! communicator as its members and their topology (`mpx_birth`). A draft is accepted or refused by one list of conditions in the order in which they are told
 //! (`specs/Drafts.antt`), and a row is fine where the posts of all ranks agree (`specs/Agreement.antt`).
 //!
 //! In the order of reading: [`Birth`], [`Kind`], [`Draft`] with [`Draft::check`], [`Post`], [`Row`], [`Value`].
 #![tactic(auto)]
 
-mod birth;
 mod block;
 mod counts;
 mod draft;
+mod drafted_edges;
 mod gathering;
-mod kinds;
+mod graph_fields;
+mod graph_parts;
 mod making;
 mod making_fields;
 mod post;
@@ -23,15 +24,17 @@ mod ranks;
 mod row;
 mod value;
 
-pub use birth::Birth;
 pub use block::Block;
 pub use counts::Counts;
 pub use draft::{At, Draft, MOST_CALLS, PostError};
+pub use drafted_edges::{DraftedEdge, DraftedGraph, DraftedNeighbour};
 pub use gathering::Gathering;
-pub use kinds::{
+pub use graph_parts::{Edges, OwnNeighbours};
+pub use making::Making;
+pub use mpx_birth::{Birth, Edge, Neighbour, Neighbours, Topology};
+pub use mpx_kind::{
     Call, Exchange, Family, Fields, Kind, Makes, Mode, NewCommunicator, Number, Reduction, Sent,
 };
-pub use making::Making;
 pub use post::Post;
 pub use ranks::Ranks;
 pub use row::Row;

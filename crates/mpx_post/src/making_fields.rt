@@ -1,40 +1,17 @@
 // What a draft says of a new communicator.
-ghost use Rattle.std.specs.Prelude.{◌≡◌, ◌<◌, ◌≤◌, ◌^◌, true, IfOk};
+ghost use Rattle.std.specs.Prelude.{◌≡◌, ◌<◌, ◌≤◌, ◌^◌, true, unwrap_or, IfOk};
 ghost use Rattle.std.specs.Option.{option_map_or};
-ghost use Rattle.mpx_post.specs.Kinds.{family_of, is_gathered as is_gathered_of, makes_communicators as makes_communicators_of};
-ghost use Rattle.mpx_post.specs.Drafts.{are_ranks as are_ranks_of, making_of, natural, naturals, is_colour as is_colour_of, is_key as is_key_of, is_rank as is_rank_of, is_tag as is_tag_of};
+ghost use Rattle.mpx_post.specs.Graphs.{most_edges, no_graph};
+ghost use Rattle.mpx_post.specs.Drafts.{are_edges, are_ranks as are_ranks_of, edge_count, making_of, natural, naturals, is_colour as is_colour_of, is_key as is_key_of, is_rank as is_rank_of, is_tag as is_tag_of};
 
-use crate::kinds::{Family, Kind, Makes, NewCommunicator};
+use crate::drafted_edges::DraftedGraph;
+use crate::graph_fields::{given_edges, given_neighbours, given_rank};
 use crate::making::Making;
 use crate::post_fields::place_of;
 use crate::ranks::Ranks;
 use join_core::OutOfMemory;
+use mpx_kind::Makes;
 use std::alloc::Global;
-
-// Whether calls of the kind make communicators.
-pub(crate) fn makes_communicators(kind: Kind) -> bool
-    ensures { result ≡ makes_communicators_of (family_of kind) }
-{
-    match kind.family() {
-        Family::Exchange(_) => false,
-        Family::Reduction(_) => false,
-        Family::NewCommunicator(_) => true,
-    }
-}
-
-// Whether calls of the kind are made on gatherings.
-pub(crate) fn is_gathered(kind: Kind) -> bool
-    ensures { result ≡ is_gathered_of (family_of kind) }
-{
-    match kind.family() {
-        Family::Exchange(_) => false,
-        Family::Reduction(_) => false,
-        Family::NewCommunicator(NewCommunicator::Dup) => false,
-        Family::NewCommunicator(NewCommunicator::Split) => false,
-        Family::NewCommunicator(NewCommunicator::Create) => false,
-        Family::NewCommunicator(NewCommunicator::CreateGroup) => true,
-    }
-}
 
 // Whether these are ranks of so many, none twice.
 pub(crate) fn are_ranks(size: usize, ranks: &[i128]) -> bool
@@ -92,11 +69,14 @@ pub(crate) fn given_making(
     colour: Option<i128>,
     key: i128,
     group: &[i128],
+    graph: &Option<DraftedGraph>,
 ) -> Result<Making, OutOfMemory>
     requires colour { makes ≡ Makes.Colour → option_map_or is_colour_of colour true ≡ true }
     requires key { makes ≡ Makes.Colour → is_key_of key ≡ true }
     requires group { makes ≡ Makes.Group → are_ranks_of 64 group.now ≡ true }
-    ensures { IfOk result (λ making. making ≡ making_of makes colour key group.now) }
+    requires edges { are_edges makes 64 (unwrap_or graph.now no_graph) ≡ true }
+    requires few { edge_count makes (unwrap_or graph.now no_graph) ≤ most_edges }
+    ensures { IfOk result (λ making. making ≡ making_of makes colour key group.now (unwrap_or graph.now no_graph)) }
 {
     match makes {
         Makes::Nothing => Ok(Making::Nothing),
@@ -105,6 +85,8 @@ pub(crate) fn given_making(
             key: key as i32,
         }),
         Makes::Group => Ok(Making::Group(given_ranks(alloc, group)?)),
+        Makes::Edges => Ok(Making::Edges(given_edges(alloc, graph)?)),
+        Makes::Neighbours => Ok(Making::Neighbours(given_neighbours(alloc, graph)?)),
     }
 }
 
@@ -115,15 +97,6 @@ fn given_colour(colour: i128) -> u32
     ensures small { result < 2 ^ 31 }
 {
     colour as u32
-}
-
-// The rank.
-fn given_rank(rank: i128) -> u8
-    requires { is_rank_of 64 rank ≡ true }
-    ensures value { result ≡ natural rank }
-    ensures small { result < 64 }
-{
-    rank as u8
 }
 
 fn given_ranks(alloc: Global, group: &[i128]) -> Result<Ranks, OutOfMemory>

@@ -3,13 +3,15 @@ ghost use Rattle.std.specs.Option.{option_copied};
 ghost use Rattle.mpx_num.specs.ItemList.{ItemList};
 ghost use Rattle.mpx_post.specs.Kinds.{fields_of};
 ghost use Rattle.mpx_post.specs.Ranks.{AreRanks};
-ghost use Rattle.mpx_post.specs.Posts.{Given, IsColour, IsPost, colour_of, count_of, few_items, group_of, key_of};
-ghost use Rattle.mpx_post.specs.Equality.{same_making, same_option, same_items};
+ghost use Rattle.mpx_post.specs.Posts.{Given, IsColour, IsPost, colour_of, count_of, destinations_of, edges_of, few_items, group_of, key_of, sources_of, weighted_of};
+ghost use Rattle.mpx_post.specs.Equality.{same_option, same_items};
+ghost use Rattle.mpx_post.specs.Graphs.{AreEdges, AreNeighbours};
 
 use crate::counts::Counts;
-use crate::kinds::{Kind, Mode};
 use crate::making::Making;
 use join_core::{Exact, OutOfMemory};
+use mpx_birth::{Edge, Neighbour};
+use mpx_kind::{Kind, Mode};
 use mpx_num::{Items, Op};
 use std::alloc::Global;
 use std::marker::Model;
@@ -58,7 +60,7 @@ impl Exact for Post {
             & (self.scounts.as_slice() == other.scounts.as_slice())
             & (self.rcounts.as_slice() == other.rcounts.as_slice())
             & are_same(&self.items, &other.items)
-            & have_same_making(&self.making, &other.making)
+            & self.making.same(&other.making)
     }
 
     fn copy(&self, alloc: Global) -> Result<Post, OutOfMemory> {
@@ -166,22 +168,14 @@ impl Post {
         ensures value { result ≡ colour_of self.now }
         ensures small { IsColour result }
     {
-        match &self.making {
-            Making::Split { colour, .. } => *colour,
-            Making::Nothing => None,
-            Making::Group(_) => None,
-        }
+        self.making.colour()
     }
 
     /// The key by which the members of a new communicator are ordered, where the kind asks for it, else 0.
     pub fn key(&self) -> i32
         ensures { result ≡ key_of self.now }
     {
-        match &self.making {
-            Making::Split { key, .. } => *key,
-            Making::Nothing => 0,
-            Making::Group(_) => 0,
-        }
+        self.making.key()
     }
 
     /// The ranks of a new communicator's members, none twice, where the kind asks for them, else none.
@@ -189,11 +183,38 @@ impl Post {
         ensures value { result.now ≡ group_of self.now }
         ensures ranks { AreRanks result.now }
     {
-        match &self.making {
-            Making::Group(ranks) => ranks.as_slice(),
-            Making::Nothing => &[],
-            Making::Split { .. } => &[],
-        }
+        self.making.group()
+    }
+
+    /// Whether its edges have weights, where the kind makes a graph, else false.
+    pub fn weighted(&self) -> bool
+        ensures { result ≡ weighted_of self.now }
+    {
+        self.making.weighted()
+    }
+
+    /// The edges of a new graph, at most 512, where the kind asks for them, else none.
+    pub fn edges(&self) -> &[Edge]
+        ensures value { result.now ≡ edges_of self.now }
+        ensures edges { AreEdges (record { weighted = weighted_of self.now; edges = edges_of self.now }) }
+    {
+        self.making.edges()
+    }
+
+    /// From whom edges of a new graph come to the member, where the kind asks for that, else none.
+    pub fn sources(&self) -> &[Neighbour]
+        ensures value { result.now ≡ sources_of self.now }
+        ensures neighbours { AreNeighbours (record { weighted = weighted_of self.now; sources = sources_of self.now; destinations = destinations_of self.now }) }
+    {
+        self.making.sources()
+    }
+
+    /// To whom edges of a new graph go from the member, where the kind asks for that, else none.
+    pub fn destinations(&self) -> &[Neighbour]
+        ensures value { result.now ≡ destinations_of self.now }
+        ensures neighbours { AreNeighbours (record { weighted = weighted_of self.now; sources = sources_of self.now; destinations = destinations_of self.now }) }
+    {
+        self.making.destinations()
     }
 
     /// How many items it gives.
@@ -226,21 +247,5 @@ fn copied(items: &Option<Items>) -> Result<Option<Items>, OutOfMemory>
     match items {
         None => Ok(None),
         Some(items) => Ok(Some(items.copy()?)),
-    }
-}
-
-// Whether both say the same of a new communicator.
-fn have_same_making(left: &Making, right: &Making) -> bool
-    ensures { result ≡ same_making left.now right.now }
-{
-    match (left, right) {
-        (Making::Nothing, Making::Nothing) => true,
-        (Making::Split { colour, key }, Making::Split { colour: c, key: k }) => {
-            (*colour == *c) & (*key == *k)
-        }
-        (Making::Group(ranks), Making::Group(others)) => ranks.as_slice() == others.as_slice(),
-        (Making::Nothing, Making::Split { .. } | Making::Group(_)) => false,
-        (Making::Split { .. }, Making::Nothing | Making::Group(_)) => false,
-        (Making::Group(_), Making::Nothing | Making::Split { .. }) => false,
     }
 }

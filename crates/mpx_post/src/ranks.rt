@@ -40,7 +40,7 @@ impl Ranks {
     }
 
     /// The same ranks once more.
-    pub fn copy(&self, alloc: Global) -> Result<Ranks, OutOfMemory>
+    pub(crate) fn copy(&self, alloc: Global) -> Result<Ranks, OutOfMemory>
         ensures { IfOk result (λ copied. copied ≡ self.now) }
     {
         let list = Vec::from_slice(alloc, &self.list)?;

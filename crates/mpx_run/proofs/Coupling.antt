@@ -7,7 +7,7 @@ use Rattle.std.proofs.lemmas.Option.{same_Some}
 use Rattle.std.proofs.lemmas.Bool.Decides.{nat_tests}
 use Rattle.mpx_name.specs.Name.{Name, same_name}
 use Rattle.mpx_post.specs.Posts.{Given}
-use Rattle.mpx_post.specs.Births.{BirthView}
+use Rattle.mpx_post.specs.Births.{BirthView, of_members}
 use Rattle.mpx_post.specs.Drafts.{at, checked}
 use Rattle.mpx_post.specs.Gatherings.{GatheringView, gathering}
 use Rattle.mpx_post.specs.declared.draft.Draft.{Draft}
@@ -220,22 +220,22 @@ module _ (w : WorldView) (u : Upheld w) (p : ℕ) (name : Name) where
       let node_is : (new.each p).node ≡ open_gathering_node name g (w.each p).node = gathers_node asked.tag asked.ranks g accepted in
       let made_is : (new.each p).made ≡ (w.each p).made = made_happens w h tt p in
       let there : IsTrue (is_some ((new.each p).node.opened at_new)) = gathering_opened w p name asked.tag asked.ranks g accepted in
-      let born : births new at_new ≡ Some (record { members = g.members }) = ap (option_and_then (gathered g.members)) (births_grow w new later name birth b) ∙ gathered_there birth p (length name) asked.tag asked.ranks g e in
-      let d = driven_post new (upheld_happens w h u tt) p at_new (record { members = g.members }) there born draft in
-      let moved : Driven new p (Posts p at_new draft ∷ []) (post_on p (w.each p).made draft at_new (record { members = g.members })) (tried_gathered name draft (Ok g) (w.each p).node)
-      = subst (λ (n : NodeView). Driven new p (Posts p at_new draft ∷ []) (post_on p (w.each p).made draft at_new (record { members = g.members })) (tried_post at_new (checked_on n at_new draft) n)) node_is
-      (subst (λ ms. Driven new p (Posts p at_new draft ∷ []) (post_on p ms draft at_new (record { members = g.members })) (tried_post at_new (checked_on (new.each p).node at_new draft) (new.each p).node)) made_is d) in
+      let born : births new at_new ≡ Some (of_members g.members) = ap (option_and_then (gathered g.members)) (births_grow w new later name birth b) ∙ gathered_there birth p (length name) asked.tag asked.ranks g e in
+      let d = driven_post new (upheld_happens w h u tt) p at_new (of_members g.members) there born draft in
+      let moved : Driven new p (Posts p at_new draft ∷ []) (post_on p (w.each p).made draft at_new (of_members g.members)) (tried_gathered name draft (Ok g) (w.each p).node)
+      = subst (λ (n : NodeView). Driven new p (Posts p at_new draft ∷ []) (post_on p (w.each p).made draft at_new (of_members g.members)) (tried_post at_new (checked_on n at_new draft) n)) node_is
+      (subst (λ ms. Driven new p (Posts p at_new draft ∷ []) (post_on p ms draft at_new (of_members g.members)) (tried_post at_new (checked_on (new.each p).node at_new draft) (new.each p).node)) made_is d) in
       record {
         follows = record {
           upheld = moved.follows.upheld;
           later = later_then w new (goes_on_world new (Posts p at_new draft ∷ [])) later moved.follows.later;
-          here = moved.follows.here ∙ ap (λ ms. ms ++ added_by (post_on p (w.each p).made draft at_new (record { members = g.members }))) made_is;
+          here = moved.follows.here ∙ ap (λ ms. ms ++ added_by (post_on p (w.each p).made draft at_new (of_members g.members))) made_is;
           others = λ q d. moved.follows.others q d ∙ made_happens w h tt q;
         };
         node = moved.node;
         nodes = λ q other. moved.nodes q other ∙ ap (λ (x : ProcessView). x.node) (each_other w p (gathers name asked.tag asked.ranks) q other);
         parts = moved.parts;
-        answer = moved.answer ∙ ap (λ ms. answered ms (post_on p (w.each p).made draft at_new (record { members = g.members }))) made_is;
+        answer = moved.answer ∙ ap (λ ms. answered ms (post_on p (w.each p).made draft at_new (of_members g.members))) made_is;
       }
 
   driven_gathers : (birth : BirthView) → IsTrue (is_some ((w.each p).node.opened name)) → births w name ≡ Some birth → (draft : Draft) (asked : Asked) (x : Result GatheringView PostError) → gathering birth p (length name) asked.tag asked.ranks ≡ x

@@ -265,9 +265,6 @@ pub receives : (b : Look) (old new : RankView) → new ≡ record old { node = l
 receives b old new e script ranks size processes frames p i at got run =
     subst (λ (r : RankView). IsUnderWay script ranks size (set processes p r) frames) (sym e) (run_takes script ranks size processes frames p old i b at got run)
 
-pub receives_nothing : (b : Look) (r : RankView) → Receives b r r
-receives_nothing b r script ranks size processes frames p i at got run = keeps_itself r script ranks size processes frames p at run
-
 -- A RANK'S MOVES
 
 pub moves_then : (a b c : RankView) → Moves a b → Moves b c → Moves a c

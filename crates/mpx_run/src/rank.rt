@@ -6,7 +6,7 @@ ghost use Rattle.mpx_script.specs.Evaluation.{bound_at_start};
 ghost use Rattle.mpx_run.specs.Running.{KeepsNode, Tries, binds, communicator_in, given_name, names_in, tried_on, tried_post};
 ghost use Rattle.mpx_run.specs.Shown.{bound_of, wait_of};
 
-use join_core::{Exact, Join, OutOfMemory};
+use join_core::{Exact, OutOfMemory};
 use mpx_board::Board;
 use mpx_group::Proc;
 use mpx_name::Name;
@@ -98,13 +98,10 @@ impl<'a> Rank<'a> {
         prune_all(&mut self.node, &self.contexts)
     }
 
-    /// Takes a frame: a part below its board changes nothing.
+    /// Takes a frame.
     pub(crate) fn receive(&mut self, alloc: Global, part: &Board) -> Result<(), OutOfMemory>
         ensures { OnOk result (Receives (look part.now) (rank_of self.old) (rank_of self.new)) }
     {
-        if part.leq(self.node.board()) {
-            return Ok(());
-        }
         self.node.take(alloc, part)?;
         Ok(())
     }
@@ -397,6 +394,8 @@ fn is_want_of_memory(refusal: PostError) -> bool
         PostError::CallsUsedUp => false,
         PostError::DepthUsedUp => false,
         PostError::BadGroup => false,
+        PostError::BadEdge => false,
+        PostError::TooManyEdges => false,
         PostError::BadTag => false,
     }
 }

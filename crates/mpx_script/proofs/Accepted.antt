@@ -3,9 +3,10 @@ use Rattle.std.proofs.Common.{◌≡◌, Bool, true, false, not, ◌&&◌, ◌||
 use Rattle.std.specs.List.{list_any}
 use Rattle.std.specs.Option.{option_map}
 use Rattle.mpx_num.specs.Text.{number_of}
-use Rattle.mpx_post.specs.declared.kinds.Kind.{Kind}
+use Rattle.mpx_kind.specs.declared.kinds.Kind.{Kind}
 use Rattle.mpx_post.specs.Kinds.{fields_of}
-use Rattle.mpx_script.specs.Grammar.{NewSyntax, CallSyntax, fails, is_number, is_list, is_one, colour_named, list_named, rcounts_named, has_strange_number, has_strange_list}
+use Rattle.mpx_post.specs.Graphs.{GraphView}
+use Rattle.mpx_script.specs.Grammar.{NewSyntax, CallSyntax, fails, is_number, is_list, is_one, colour_named, list_named, rcounts_named, has_strange_number, has_strange_list, has_strange_new_list, graph_in}
 use Rattle.mpx_script.specs.Sentences.{IsRefusal, draft_refusal, fields_refusal, read_at}
 use Rattle.mpx_script.specs.declared.faults.LineError.{LineError}
 use Rattle.mpx_script.specs.declared.faults.LineError.TheVariants.{Fault, OutOfMemory}
@@ -62,7 +63,7 @@ module _ (kind : Kind) (new : NewSyntax) (p : CallSyntax) where
     refusal_of_key h = rw (read_says colour_named None new.colour colour at_colour, read_nothing number_of (pos 0) new.key h) refl
 
     module _ (key : ℤ) (at_key : read_at number_of (pos 0) new.key ≡ Some key) where
-      behind_choice : draft_refusal kind new p ≡ cond (has_strange_number (fields_of kind) p) (Some BadNumber) (cond (has_strange_list (fields_of kind) p || fails is_list new.ranks) (Some BadList) None)
+      behind_choice : draft_refusal kind new p ≡ cond (has_strange_number (fields_of kind) p) (Some BadNumber) (cond (has_strange_list (fields_of kind) p || has_strange_new_list new) (Some BadList) None)
       behind_choice = rw (read_says colour_named None new.colour colour at_colour, read_says number_of (pos 0) new.key key at_key) refl
 
       pub refusal_of_fields : (e : LineError) → IsRefusal (fields_refusal kind p) e → IsRefusal (draft_refusal kind new p) e
@@ -73,5 +74,9 @@ module _ (kind : Kind) (new : NewSyntax) (p : CallSyntax) where
       pub refusal_of_ranks : fields_refusal kind p ≡ None → read_at list_named [] new.ranks ≡ None → draft_refusal kind new p ≡ Some BadList
       refusal_of_ranks fine h = behind_choice ∙ ranks_left _ _ _ fine ∙ rw (read_nothing list_named [] new.ranks h) refl
 
-      pub draft_accepted : (group : List ℤ) → fields_refusal kind p ≡ None → read_at list_named [] new.ranks ≡ Some group → draft_refusal kind new p ≡ None
-      draft_accepted group fine h = behind_choice ∙ ranks_left _ _ _ fine ∙ rw (read_says list_named [] new.ranks group h) refl
+      module _ (group : List ℤ) (fine : fields_refusal kind p ≡ None) (at_ranks : read_at list_named [] new.ranks ≡ Some group) where
+        pub refusal_of_graph : graph_in new ≡ None → draft_refusal kind new p ≡ Some BadList
+        refusal_of_graph h = behind_choice ∙ ranks_left _ _ _ fine ∙ rw (read_says list_named [] new.ranks group at_ranks, h) refl
+
+        pub draft_accepted : (graph : Option GraphView) → graph_in new ≡ Some graph → draft_refusal kind new p ≡ None
+        draft_accepted graph h = behind_choice ∙ ranks_left _ _ _ fine ∙ rw (read_says list_named [] new.ranks group at_ranks, h) refl

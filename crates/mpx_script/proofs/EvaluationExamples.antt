@@ -4,8 +4,8 @@ use Rattle.mpx_num.specs.declared.types.Ty.TheVariants.{I64}
 use Rattle.mpx_num.specs.declared.operations.Op.TheVariants.{Sum}
 use Rattle.mpx_num.specs.Wrapping.{into_range}
 use Rattle.mpx_num.specs.Operations.{combined, elementwise}
-use Rattle.mpx_post.specs.declared.kinds.Kind.{Kind}
-use Rattle.mpx_post.specs.declared.kinds.Kind.TheVariants as K
+use Rattle.mpx_kind.specs.declared.kinds.Kind.{Kind}
+use Rattle.mpx_kind.specs.declared.kinds.Kind.TheVariants as K
 use Rattle.mpx_post.specs.declared.draft.PostError.TheVariants.{RootOutOfRange, ItemOutOfRange}
 use Rattle.mpx_post.specs.Drafts.{checked}
 use Rattle.mpx_post.specs.Kinds.{blocking}
@@ -23,7 +23,7 @@ use Rattle.mpx_script.specs.Evaluation.{start, moves}
 
 -- a blocking call of 64-bit numbers
 abbrev call : Kind → (root : ℤ) → (rcounts items : List ℤ) → Statement
-call kind root rcounts items = Call (codes "world") (record { call = blocking kind; root = root; op = Sum; ty = I64; scounts = []; rcounts = rcounts; items = items; colour = None; key = pos 0; group = [] })
+call kind root rcounts items = Call (codes "world") (record { call = blocking kind; root = root; op = Sum; ty = I64; scounts = []; rcounts = rcounts; items = items; colour = None; key = pos 0; group = []; graph = None })
 
 abbrev sum : List ℤ → Statement
 sum items = call K.Allreduce (pos 0) [] items

@@ -1,14 +1,17 @@
 -- Scripts and what they are read as.
-use Rattle.std.proofs.Common.{◌≡◌, ℕ, List, [], ◌∷◌, ◌++◌, codes, map, pos, negsuc, Some, None, Result, Ok, Err, refl}
+use Rattle.std.proofs.Common.{◌≡◌, ℕ, true, false, List, [], ◌∷◌, ◌++◌, codes, map, pos, negsuc, Some, None, Result, Ok, Err, refl}
 use Rattle.mpx_num.specs.Text.{number_of, magnitude}
 use Rattle.mpx_num.specs.declared.types.Ty.TheVariants.{I8, I32, I64, U8, U64, TwoInt}
 use Rattle.mpx_num.specs.declared.operations.Op.TheVariants.{Sum, Max}
-use Rattle.mpx_post.specs.declared.kinds.Kind.{Kind}
-use Rattle.mpx_post.specs.declared.kinds.Kind.TheVariants.{Barrier, Bcast, Gatherv, Scatterv, Allreduce, ReduceScatter, Dup, Split, Create}
+use Rattle.mpx_kind.specs.declared.kinds.Kind.{Kind}
+use Rattle.mpx_kind.specs.declared.kinds.Kind.TheVariants.{Barrier, Bcast, Gatherv, Scatterv, Allreduce, ReduceScatter, Dup, Split, Create, DistGraph, DistGraphAdjacent}
 use Rattle.mpx_post.specs.declared.draft.Draft.{Draft}
+use Rattle.mpx_post.specs.declared.drafted_edges.DraftedEdge.{DraftedEdge}
+use Rattle.mpx_post.specs.declared.drafted_edges.DraftedNeighbour.{DraftedNeighbour}
+use Rattle.mpx_post.specs.Graphs.{GraphView, no_graph}
 use Rattle.mpx_post.specs.Kinds.{blocking}
 use Rattle.mpx_script.specs.Words.{words, counts, is_ascii}
-use Rattle.mpx_script.specs.Grammar.{ranks_number, kind_named, operation_named, type_named, list_named, new_in, call_in, label_of, statements_in, is_name, colour_named, lacks_ranks, has_ranks_out_of_range, has_rank_out_of_range, is_unknown, has_wrong_words, has_bad_number, has_bad_list, has_bad_name, has_unknown_name, has_taken_name, names_rank, statement_in}
+use Rattle.mpx_script.specs.Grammar.{ranks_number, kind_named, operation_named, type_named, list_named, new_in, call_in, label_of, statements_in, is_name, colour_named, edge_named, neighbour_named, is_weighted, entries_in, edges_graph, neighbours_graph, graph_in, lacks_ranks, has_ranks_out_of_range, has_rank_out_of_range, is_unknown, has_wrong_words, has_bad_number, has_bad_list, has_bad_name, has_unknown_name, has_taken_name, names_rank, statement_in}
 use Rattle.mpx_script.specs.ScriptView.{ScriptView}
 use Rattle.mpx_script.specs.Reading.{reading}
 use Rattle.mpx_script.specs.declared.statement.Statement.{Statement}
@@ -31,7 +34,7 @@ refused_at line what = Err (record { line = line; what = what })
 
 -- a draft that tells its kind alone
 abbrev blank : Kind → Draft
-blank kind = record { call = blocking kind; root = pos 0; op = Sum; ty = I8; scounts = []; rcounts = []; items = []; colour = None; key = pos 0; group = [] }
+blank kind = record { call = blocking kind; root = pos 0; op = Sum; ty = I8; scounts = []; rcounts = []; items = []; colour = None; key = pos 0; group = []; graph = None }
 
 sum_of : List ℕ → Statement
 sum_of items = Call (codes "world") (record (blank Allreduce) { ty = I64; items = map pos items })
@@ -43,6 +46,19 @@ says draft = Ok (record { ranks = 1; statements = (Call (codes "world") draft �
 -- one rank with this statement that makes a communicator
 makes : Statement → Result ScriptView ScriptError
 makes statement = Ok (record { ranks = 1; statements = (statement ∷ []) ∷ [] })
+
+-- a graph of any edges, and one of a rank's own neighbours, for `a`
+of_edges : GraphView → Statement
+of_edges graph = New (codes "world") (record (blank DistGraph) { graph = Some graph }) (codes "a")
+
+of_neighbours : GraphView → Statement
+of_neighbours graph = New (codes "world") (record (blank DistGraphAdjacent) { graph = Some graph }) (codes "a")
+
+edge : (source destination weight : ℕ) → DraftedEdge
+edge source destination weight = record { source = pos source; destination = pos destination; weight = pos weight }
+
+neighbour : (rank weight : ℕ) → DraftedNeighbour
+neighbour rank weight = record { rank = pos rank; weight = pos weight }
 
 -- scripts that are read, and first refusals
 record Examples : Type 0 where
@@ -76,6 +92,17 @@ record Examples : Type 0 where
   no_colour : reading (alone (codes "0: split world undefined 0 -> null")) ≡ makes (New (codes "world") (blank Split) (codes "null"))
   create : reading (alone (codes "0: create world 2,0 -> a")) ≡ makes (New (codes "world") (record (blank Create) { group = pos 2 ∷ pos 0 ∷ [] }) (codes "a"))
   create_group : reading (alone (codes "0: create_group world 9 - -> a")) ≡ makes (CreateGroup (codes "world") (pos 9) [] (codes "a"))
+  edges : reading (alone (codes "0: dist_graph world 0>1,2>2 -> a")) ≡ makes (of_edges (record no_graph { edges = edge 0 1 0 ∷ edge 2 2 0 ∷ [] }))
+  weighted_edge : reading (alone (codes "0: dist_graph world 3>1:7 -> a")) ≡ makes (of_edges (record no_graph { weighted = true; edges = edge 3 1 7 ∷ [] }))
+  no_edges : reading (alone (codes "0: dist_graph world - -> a")) ≡ makes (of_edges no_graph)
+  no_weighted_edges : reading (alone (codes "0: dist_graph world -w -> a")) ≡ makes (of_edges (record no_graph { weighted = true }))
+  neighbours : reading (alone (codes "0: dist_graph_adjacent world 1,2 - -> a")) ≡ makes (of_neighbours (record no_graph { sources = neighbour 1 0 ∷ neighbour 2 0 ∷ [] }))
+  weighted_neighbour : reading (alone (codes "0: dist_graph_adjacent world -w 2:5 -> a")) ≡ makes (of_neighbours (record no_graph { weighted = true; destinations = neighbour 2 5 ∷ [] }))
+  mixed_edges : reading (alone (codes "0: dist_graph world 0>1:2,1>2 -> a")) ≡ refused_at 2 BadList
+  mixed_neighbours : reading (alone (codes "0: dist_graph_adjacent world 1:2 - -> a")) ≡ refused_at 2 BadList
+  edge_without_end : reading (alone (codes "0: dist_graph world 0,1 -> a")) ≡ refused_at 2 BadList
+  edge_for_a_neighbour : reading (alone (codes "0: dist_graph_adjacent world 0>1 - -> a")) ≡ refused_at 2 BadList
+  one_list_left_out : reading (alone (codes "0: dist_graph_adjacent world 0 -> a")) ≡ refused_at 2 WrongWords
   bound_before : reading (script (codes "ranks 1" ∷ codes "*: dup world -> a" ∷ codes "0: barrier a" ∷ [])) ≡ Ok (record { ranks = 1; statements = (New (codes "world") (blank Dup) (codes "a") ∷ Call (codes "a") (blank Barrier) ∷ []) ∷ [] })
   bound_elsewhere : reading (script (codes "ranks 2" ∷ codes "0: dup world -> a" ∷ codes "*: barrier a" ∷ [])) ≡ refused_at 3 NameUnknown
   bound_already : reading (script (codes "ranks 2" ∷ codes "1: dup world -> a" ∷ codes "*: dup world -> a" ∷ [])) ≡ refused_at 3 NameTaken
@@ -90,7 +117,7 @@ record Examples : Type 0 where
   strange_name : reading (alone (codes "0: dup nope -> Zz")) ≡ refused_at 2 BadName
 
 examples : Examples
-unfolding script alone refused_at sum_of says makes number_of magnitude words counts is_ascii ranks_number kind_named operation_named type_named list_named new_in call_in label_of statements_in is_name colour_named lacks_ranks has_ranks_out_of_range has_rank_out_of_range is_unknown has_wrong_words has_bad_number has_bad_list has_bad_name has_unknown_name has_taken_name names_rank statement_in reading
+unfolding script alone refused_at sum_of says makes of_edges of_neighbours edge neighbour number_of magnitude words counts is_ascii ranks_number kind_named operation_named type_named list_named new_in call_in label_of statements_in is_name colour_named edge_named neighbour_named is_weighted entries_in edges_graph neighbours_graph graph_in lacks_ranks has_ranks_out_of_range has_rank_out_of_range is_unknown has_wrong_words has_bad_number has_bad_list has_bad_name has_unknown_name has_taken_name names_rank statement_in reading
 examples = record {
   three_ranks = refl;
   every_rank = refl;
@@ -117,6 +144,17 @@ examples = record {
   no_colour = refl;
   create = refl;
   create_group = refl;
+  edges = refl;
+  weighted_edge = refl;
+  no_edges = refl;
+  no_weighted_edges = refl;
+  neighbours = refl;
+  weighted_neighbour = refl;
+  mixed_edges = refl;
+  mixed_neighbours = refl;
+  edge_without_end = refl;
+  edge_for_a_neighbour = refl;
+  one_list_left_out = refl;
   bound_before = refl;
   bound_elsewhere = refl;
   bound_already = refl;

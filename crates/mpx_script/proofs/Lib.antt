@@ -1,4 +1,5 @@
 pub mod Splits
+pub mod Entries
 pub mod Refusals
 pub mod Accepted
 pub mod Added

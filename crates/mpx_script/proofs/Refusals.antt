@@ -4,16 +4,16 @@ use Rattle.std.specs.Prelude.{option_and_then, unwrap_or}
 use Rattle.std.specs.Option.{option_map, option_map_or}
 use Rattle.std.proofs.lemmas.Option.{same_Some}
 use Rattle.mpx_num.specs.Text.{number_of}
-use Rattle.mpx_post.specs.declared.kinds.Kind.{Kind}
-use Rattle.mpx_post.specs.declared.kinds.Kind.TheVariants as K
-use Rattle.mpx_post.specs.declared.kinds.Family.{Family}
-use Rattle.mpx_post.specs.declared.kinds.Family.TheVariants as F
-use Rattle.mpx_post.specs.declared.kinds.NewCommunicator.TheVariants as N
+use Rattle.mpx_kind.specs.declared.kinds.Kind.{Kind}
+use Rattle.mpx_kind.specs.declared.kinds.Kind.TheVariants as K
+use Rattle.mpx_kind.specs.declared.kinds.Family.{Family}
+use Rattle.mpx_kind.specs.declared.kinds.Family.TheVariants as F
+use Rattle.mpx_kind.specs.declared.kinds.NewCommunicator.TheVariants as N
 use Rattle.mpx_post.specs.declared.draft.Draft.{Draft}
 use Rattle.mpx_post.specs.Kinds.{family_of, fields_of}
 use Rattle.mpx_script.specs.Statements.{target_of, word_of}
 use Rattle.mpx_script.specs.Words.{words, counts, is_ascii}
-use Rattle.mpx_script.specs.Grammar.{DirectiveSyntax, NewSyntax, CallSyntax, directive_in, new_in, call_in, kind_named, kind_in, label_in, fields_in, shape_asked, shape_in, shape_of, new_syntax_in, call_syntax_in, ranks_meant, ranks_labelled, statements_in, statement_in, statement_of, statement_said, said as said_by, draft_in, is_name, is_list, fails, lacks, lacks_name, has_name, has_rank_out_of_range, is_past, is_unknown, has_unknown_word, has_wrong_words, has_wrong_new_words, has_wrong_count, has_strange_choice, has_strange_number, has_strange_list, has_bad_number, has_bad_list, has_bad_name, has_unknown_name, has_taken_name}
+use Rattle.mpx_script.specs.Grammar.{DirectiveSyntax, NewSyntax, CallSyntax, directive_in, new_in, call_in, kind_named, kind_in, label_in, fields_in, shape_asked, shape_in, shape_of, new_syntax_in, call_syntax_in, ranks_meant, ranks_labelled, statements_in, statement_in, statement_of, statement_said, said as said_by, draft_in, is_name, fails, lacks, lacks_name, has_name, has_rank_out_of_range, is_past, is_unknown, has_unknown_word, has_wrong_words, has_wrong_new_words, has_wrong_count, has_strange_choice, has_strange_number, has_strange_list, has_strange_new_list, has_bad_number, has_bad_list, has_bad_name, has_unknown_name, has_taken_name}
 use Rattle.mpx_script.specs.Reading.{refusal, first_holding, plain_context, statements_limit}
 use Rattle.mpx_script.specs.Sentences.{IsRefusal, statement_refusal, names_refusal, call_refusal, draft_refusal, read_at}
 use Rattle.mpx_script.specs.declared.statement.Statement.{Statement}
@@ -48,7 +48,7 @@ module _ (kind : Kind) (word : List ℕ) (new : NewSyntax) (call : CallSyntax) (
   refusal_of_tag tag = rw (known, named, full, read_nothing number_of (pos 0) new.tag tag)
 
   module _ (tag : ℤ) (numbered : read_at number_of (pos 0) new.tag ≡ Some tag) where
-    after_tag : call_refusal kind (Some word) new call ≡ cond (has_strange_choice new || has_strange_number (fields_of kind) call) (Some BadNumber) (cond (has_strange_list (fields_of kind) call || fails is_list new.ranks) (Some BadList) (cond (not (is_name word) || fails is_name new.target) (Some BadName) None))
+    after_tag : call_refusal kind (Some word) new call ≡ cond (has_strange_choice new || has_strange_number (fields_of kind) call) (Some BadNumber) (cond (has_strange_list (fields_of kind) call || has_strange_new_list new) (Some BadList) (cond (not (is_name word) || fails is_name new.target) (Some BadName) None))
     after_tag = rw (known, named, full, read_says number_of (pos 0) new.tag tag numbered)
 
     -- then as its draft
@@ -120,6 +120,8 @@ word_said (F.NewCommunicator N.Dup) on draft tag target = refl
 word_said (F.NewCommunicator N.Split) on draft tag target = refl
 word_said (F.NewCommunicator N.Create) on draft tag target = refl
 word_said (F.NewCommunicator N.CreateGroup) on draft tag target = refl
+word_said (F.NewCommunicator N.DistGraph) on draft tag target = refl
+word_said (F.NewCommunicator N.DistGraphAdjacent) on draft tag target = refl
 
 there_is : (word : Option (List ℕ)) → is_none word ≡ false → Some (unwrap_or word []) ≡ word
 there_is None h = cc
@@ -133,6 +135,8 @@ target_said (F.NewCommunicator N.Dup) ws on draft tag h = there_is _ h
 target_said (F.NewCommunicator N.Split) ws on draft tag h = there_is _ h
 target_said (F.NewCommunicator N.Create) ws on draft tag h = there_is _ h
 target_said (F.NewCommunicator N.CreateGroup) ws on draft tag h = there_is _ h
+target_said (F.NewCommunicator N.DistGraph) ws on draft tag h = there_is _ h
+target_said (F.NewCommunicator N.DistGraphAdjacent) ws on draft tag h = there_is _ h
 
 said_of_some : (kind : Option Kind) (means : Kind → Statement) (statement : Statement) → option_map means kind ≡ Some statement → (known : Kind) × (kind ≡ Some known) × (means known ≡ statement)
 said_of_some None means statement h = cc

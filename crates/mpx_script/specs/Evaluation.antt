@@ -1,6 +1,6 @@
 -- The evaluation of a script: what stands after any list of moves that no move extends.
 use Rattle.std.specs.Prelude.{◌≡◌, ℕ, zero, suc, ◌+◌, ◌==◌, ◌≤◌, cond, List, [], ◌∷◌, ◌++◌, codes, Option, Some, None, slice_get, unwrap_or}
-use Rattle.mpx_post.specs.Births.{BirthView, upto}
+use Rattle.mpx_post.specs.Births.{BirthView, of_members, upto}
 use Rattle.mpx_value.specs.Histories.{History, history_of, Results, results_of}
 use Rattle.mpx_script.specs.declared.statement.Statement.{Statement}
 use Rattle.mpx_script.specs.Ranks.{Bindings, Communicator, Local, step, doing, weights}
@@ -10,7 +10,7 @@ abbrev pub State : Type 0
 State = (rank : ℕ) → Local
 
 abbrev pub world_of : ℕ → BirthView
-world_of ranks = record { members = upto ranks }
+world_of ranks = of_members (upto ranks)
 
 -- before any statement one word is bound: `world`
 abbrev pub bound_at_start : ℕ → Bindings

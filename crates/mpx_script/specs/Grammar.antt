@@ -1,22 +1,26 @@
 -- The grammar of a script, line by line.
-use Rattle.std.specs.Prelude.{ℕ, ◌-◌, nat_lt, nat_le, Bool, true, false, not, ◌==◌, ◌||◌, ◌&&◌, cond, List, [], ◌∷◌, length, take, drop, slice_index, slice_index_or, slice_get, codes, bytes_eq, Option, Some, None, is_some, is_none, unwrap_or, option_and_then, ℤ, pos, negsuc, if◌then◌else◌}
-use Rattle.std.specs.List.{filter_map, list_all, list_any, range_with_len, slice_split}
+use Rattle.std.specs.Prelude.{ℕ, ◌+◌, ◌-◌, nat_lt, nat_le, Bool, true, false, not, ◌==◌, ◌||◌, ◌&&◌, cond, List, [], ◌∷◌, length, take, drop, slice_index, slice_index_or, slice_get, codes, bytes_eq, Option, Some, None, is_some, is_none, unwrap_or, option_and_then, ℤ, pos, negsuc, if◌then◌else◌}
+use Rattle.std.specs.Bool.{beq}
+use Rattle.std.specs.List.{filter_map, list_all, list_any, position_or_len, range_with_len, slice_split}
 use Rattle.std.specs.Option.{option_map, option_map_or}
 use Rattle.mpx_num.specs.Text.{number_of}
 use Rattle.mpx_num.specs.declared.types.Ty.{Ty}
 use Rattle.mpx_num.specs.declared.types.Ty.TheVariants as T
 use Rattle.mpx_num.specs.declared.operations.Op.{Op}
 use Rattle.mpx_num.specs.declared.operations.Op.TheVariants as O
-use Rattle.mpx_post.specs.declared.kinds.Kind.{Kind}
-use Rattle.mpx_post.specs.declared.kinds.Kind.TheVariants as K
-use Rattle.mpx_post.specs.declared.kinds.Family.{Family}
-use Rattle.mpx_post.specs.declared.kinds.Family.TheVariants as F
-use Rattle.mpx_post.specs.declared.kinds.NewCommunicator.{NewCommunicator}
-use Rattle.mpx_post.specs.declared.kinds.NewCommunicator.TheVariants as N
-use Rattle.mpx_post.specs.declared.kinds.Number.{Number}
-use Rattle.mpx_post.specs.declared.kinds.Number.TheVariants.{Zero, One, OneAtRoot, Members, MembersAtRoot}
-use Rattle.mpx_post.specs.declared.kinds.Fields.{Fields}
+use Rattle.mpx_kind.specs.declared.kinds.Kind.{Kind}
+use Rattle.mpx_kind.specs.declared.kinds.Kind.TheVariants as K
+use Rattle.mpx_kind.specs.declared.kinds.Family.{Family}
+use Rattle.mpx_kind.specs.declared.kinds.Family.TheVariants as F
+use Rattle.mpx_kind.specs.declared.kinds.NewCommunicator.{NewCommunicator}
+use Rattle.mpx_kind.specs.declared.kinds.NewCommunicator.TheVariants as N
+use Rattle.mpx_kind.specs.declared.kinds.Number.{Number}
+use Rattle.mpx_kind.specs.declared.kinds.Number.TheVariants.{Zero, One, OneAtRoot, Members, MembersAtRoot}
+use Rattle.mpx_kind.specs.declared.kinds.Fields.{Fields}
 use Rattle.mpx_post.specs.declared.draft.Draft.{Draft}
+use Rattle.mpx_post.specs.declared.drafted_edges.DraftedEdge.{DraftedEdge}
+use Rattle.mpx_post.specs.declared.drafted_edges.DraftedNeighbour.{DraftedNeighbour}
+use Rattle.mpx_post.specs.Graphs.{GraphView}
 use Rattle.mpx_post.specs.Kinds.{blocking, family_of, fields_of, is_had}
 use Rattle.mpx_post.specs.Rows.{all_of}
 use Rattle.mpx_script.specs.Statements.{target_of}
@@ -58,7 +62,8 @@ named [] word = None
 named (entry ∷ more) word = if bytes_eq word entry.0 then Some entry.1 else named more word
 
 -- STATEMENTS: a word for each kind of call. The words of a statement are `STATEMENT COMMUNICATOR`, and behind them in the
--- order `COLOUR KEY TAG RANKS -> NAME` and `ROOT OPERATION TYPE SCOUNTS RCOUNTS ITEMS` those that its kind has.
+-- order `COLOUR KEY TAG RANKS EDGES SOURCES DESTINATIONS -> NAME` and `ROOT OPERATION TYPE SCOUNTS RCOUNTS ITEMS` those that
+-- its kind has.
 
 unfoldable pub kind_named : List ℕ → Option Kind
 kind_named word = named (
@@ -82,6 +87,8 @@ kind_named word = named (
     ∷ (codes "split", K.Split)
     ∷ (codes "create", K.Create)
     ∷ (codes "create_group", K.CreateGroup)
+    ∷ (codes "dist_graph", K.DistGraph)
+    ∷ (codes "dist_graph_adjacent", K.DistGraphAdjacent)
     ∷ []) word
 
 unfoldable pub operation_named : List ℕ → Option Op
@@ -113,18 +120,20 @@ type_named word = named (
     ∷ (codes "2int", T.TwoInt)
     ∷ []) word
 
--- which words a kind of call has, beside the fields of its posts: a colour and a key, a tag, a list of ranks, and `->` with
--- the name for the new communicator
+-- which words a kind of call has, beside the fields of its posts: a colour and a key, a tag, a list of ranks, one of edges,
+-- lists of sources and destinations, and `->` with the name for the new communicator
 abbrev pub shape_of_new : NewCommunicator → Shape
-shape_of_new N.Dup = record { colour = false; tag = false; ranks = false; target = true }
-shape_of_new N.Split = record { colour = true; tag = false; ranks = false; target = true }
-shape_of_new N.Create = record { colour = false; tag = false; ranks = true; target = true }
-shape_of_new N.CreateGroup = record { colour = false; tag = true; ranks = true; target = true }
+shape_of_new N.Dup = record { colour = false; tag = false; ranks = false; edges = false; neighbours = false; target = true }
+shape_of_new N.Split = record { colour = true; tag = false; ranks = false; edges = false; neighbours = false; target = true }
+shape_of_new N.Create = record { colour = false; tag = false; ranks = true; edges = false; neighbours = false; target = true }
+shape_of_new N.CreateGroup = record { colour = false; tag = true; ranks = true; edges = false; neighbours = false; target = true }
+shape_of_new N.DistGraph = record { colour = false; tag = false; ranks = false; edges = true; neighbours = false; target = true }
+shape_of_new N.DistGraphAdjacent = record { colour = false; tag = false; ranks = false; edges = false; neighbours = true; target = true }
 
 -- other calls have none of them
 abbrev pub shape_in : Family → Shape
-shape_in (F.Exchange exchange) = record { colour = false; tag = false; ranks = false; target = false }
-shape_in (F.Reduction reduction) = record { colour = false; tag = false; ranks = false; target = false }
+shape_in (F.Exchange exchange) = record { colour = false; tag = false; ranks = false; edges = false; neighbours = false; target = false }
+shape_in (F.Reduction reduction) = record { colour = false; tag = false; ranks = false; edges = false; neighbours = false; target = false }
 shape_in (F.NewCommunicator new) = shape_of_new new
 
 abbrev pub shape_of : Kind → Shape
@@ -136,6 +145,9 @@ pub record NewSyntax : Type 0 where
   pub key : Option (List ℕ)
   pub tag : Option (List ℕ)
   pub ranks : Option (List ℕ)
+  pub edges : Option (List ℕ)
+  pub sources : Option (List ℕ)
+  pub destinations : Option (List ℕ)
   pub arrow : Option (List ℕ)
   pub target : Option (List ℕ)
   pub behind : List (List ℕ)
@@ -163,13 +175,19 @@ new_in shape words =
     let at_key : List (List ℕ) = words_after shape.colour words in
     let at_tag : List (List ℕ) = words_after shape.colour at_key in
     let at_ranks : List (List ℕ) = words_after shape.tag at_tag in
-    let at_arrow : List (List ℕ) = words_after shape.ranks at_ranks in
+    let at_edges : List (List ℕ) = words_after shape.ranks at_ranks in
+    let at_sources : List (List ℕ) = words_after shape.edges at_edges in
+    let at_destinations : List (List ℕ) = words_after shape.neighbours at_sources in
+    let at_arrow : List (List ℕ) = words_after shape.neighbours at_destinations in
     let at_target : List (List ℕ) = words_after shape.target at_arrow in
     record {
       colour = next_word shape.colour words;
       key = next_word shape.colour at_key;
       tag = next_word shape.tag at_tag;
       ranks = next_word shape.ranks at_ranks;
+      edges = next_word shape.edges at_edges;
+      sources = next_word shape.neighbours at_sources;
+      destinations = next_word shape.neighbours at_destinations;
       arrow = next_word shape.target at_arrow;
       target = next_word shape.target at_target;
       behind = words_after shape.target at_target;
@@ -254,6 +272,72 @@ list_named word = if bytes_eq word (codes "-") then Some [] else all_of number_o
 -- a count, where the kind has just one, or a list of counts
 abbrev pub rcounts_named : Number → List ℕ → Option (List ℤ)
 rcounts_named number word = if is_one number then option_map (λ count. count ∷ []) (number_of word) else list_named word
+
+-- LISTS OF A GRAPH: entries with commas between them, in all of them a weight or in none
+
+-- what stands before the first such byte, and what behind it
+abbrev pub parted : ℕ → List ℕ → Option (List ℕ × List ℕ)
+parted byte word =
+    let place : ℕ = position_or_len (λ b. b == byte) word in
+    if nat_lt place (length word) then Some (take place word, drop (place + 1) word) else None
+
+-- an entry without its weight, and the weight, which stands behind `:` (58); it is 0 in a list without weights
+abbrev pub weighed : (weighted : Bool) → List ℕ → Option (List ℕ × ℤ)
+weighed false word = Some (word, pos 0)
+weighed true word = do
+  parts ← parted 58 word
+  weight ← number_of parts.1
+  Some (parts.0, weight)
+
+-- `S>D` or `S>D:W`, where `>` is 62
+unfoldable pub edge_named : (weighted : Bool) → List ℕ → Option DraftedEdge
+edge_named weighted word = do
+  entry ← weighed weighted word
+  ends ← parted 62 entry.0
+  source ← number_of ends.0
+  destination ← number_of ends.1
+  Some (record { source = source; destination = destination; weight = entry.1 })
+
+-- `R` or `R:W`
+unfoldable pub neighbour_named : (weighted : Bool) → List ℕ → Option DraftedNeighbour
+neighbour_named weighted word = do
+  entry ← weighed weighted word
+  rank ← number_of entry.0
+  Some (record { rank = rank; weight = entry.1 })
+
+-- `-` stands for no entries and no weights, `-w` for no entries and weights
+abbrev pub has_no_entries : List ℕ → Bool
+has_no_entries word = bytes_eq word (codes "-") || bytes_eq word (codes "-w")
+
+-- else a list has weights if a `:` stands in it
+unfoldable pub is_weighted : List ℕ → Bool
+is_weighted word = bytes_eq word (codes "-w") || list_any (λ byte. byte == 58) word
+
+unfoldable pub entries_in : List ℕ → List (List ℕ)
+entries_in word = if has_no_entries word then [] else slice_split (λ byte. byte == 44) word
+
+-- any edges
+unfoldable pub edges_graph : List ℕ → Option GraphView
+edges_graph word = do
+  edges ← all_of (edge_named (is_weighted word)) (entries_in word)
+  Some (record { weighted = is_weighted word; edges = edges; sources = []; destinations = [] })
+
+-- a rank's own sources and destinations, where both lists have weights or neither has
+unfoldable pub neighbours_graph : (sources destinations : List ℕ) → Option GraphView
+neighbours_graph from to = do
+  sources ← all_of (neighbour_named (is_weighted from)) (entries_in from)
+  destinations ← all_of (neighbour_named (is_weighted to)) (entries_in to)
+  if beq (is_weighted from) (is_weighted to) then Some (record { weighted = is_weighted from; edges = []; sources = sources; destinations = destinations }) else None
+
+-- the graph of these words, if the kind has them; none where they are no lists of one
+abbrev pub graph_at : (edges sources destinations : Option (List ℕ)) → Option (Option GraphView)
+graph_at (Some edges) sources destinations = option_map Some (edges_graph edges)
+graph_at None (Some sources) (Some destinations) = option_map Some (neighbours_graph sources destinations)
+graph_at None (Some sources) None = Some None
+graph_at None None destinations = Some None
+
+unfoldable pub graph_in : NewSyntax → Option (Option GraphView)
+graph_in new = graph_at new.edges new.sources new.destinations
 
 -- a to z
 abbrev pub is_small_letter : ℕ → Bool
@@ -362,8 +446,12 @@ is_list word = is_some (list_named word)
 abbrev pub has_strange_list : Fields → CallSyntax → Bool
 has_strange_list fields call = fails is_list call.scounts || (not (is_one fields.rcounts) && fails is_list call.rcounts)
 
+-- ranks are no list, or the words of a graph are none
+abbrev pub has_strange_new_list : NewSyntax → Bool
+has_strange_new_list new = fails is_list new.ranks || is_none (graph_in new)
+
 unfoldable pub has_bad_list : DirectiveSyntax → Bool
-has_bad_list directive = has_strange_list (fields_in directive) (call_syntax_in directive) || fails is_list (new_syntax_in directive).ranks
+has_bad_list directive = has_strange_list (fields_in directive) (call_syntax_in directive) || has_strange_new_list (new_syntax_in directive)
 
 unfoldable pub has_bad_name : DirectiveSyntax → Bool
 has_bad_name directive = fails is_name directive.communicator || fails is_name (new_syntax_in directive).target
@@ -407,7 +495,7 @@ names_rank rank directive = is_meant rank (label_in directive)
 abbrev pub said : {A : Type 0} → (List ℕ → Option A) → A → Option (List ℕ) → A
 said meaning other word = unwrap_or (option_and_then meaning word) other
 
--- the draft of a blocking call by its fields; a field that the kind hasn't is 0, sum, i8 or no counts
+-- the draft of a blocking call by its fields; a field that the kind hasn't is 0, sum, i8, no counts or no graph
 abbrev pub call_draft_in : Kind → CallSyntax → Draft
 call_draft_in kind call = record {
   call = blocking kind;
@@ -420,6 +508,7 @@ call_draft_in kind call = record {
   colour = None;
   key = pos 0;
   group = [];
+  graph = None;
 }
 
 -- with what it says of a new communicator
@@ -428,6 +517,7 @@ draft_in kind new call = record (call_draft_in kind call) {
   colour = said colour_named None new.colour;
   key = said number_of (pos 0) new.key;
   group = said list_named [] new.ranks;
+  graph = unwrap_or (graph_in new) None;
 }
 
 -- the statement of a kind's family on a communicator, with this draft, this tag and this name for the new communicator
@@ -438,6 +528,8 @@ statement_of (F.NewCommunicator N.Dup) on draft tag target = New on draft target
 statement_of (F.NewCommunicator N.Split) on draft tag target = New on draft target
 statement_of (F.NewCommunicator N.Create) on draft tag target = New on draft target
 statement_of (F.NewCommunicator N.CreateGroup) on draft tag target = CreateGroup on tag draft.group target
+statement_of (F.NewCommunicator N.DistGraph) on draft tag target = New on draft target
+statement_of (F.NewCommunicator N.DistGraphAdjacent) on draft tag target = New on draft target
 
 abbrev pub statement_said : Kind → Option (List ℕ) → NewSyntax → CallSyntax → Statement
 statement_said kind communicator new call = statement_of (family_of kind) (unwrap_or communicator []) (draft_in kind new call) (said number_of (pos 0) new.tag) (unwrap_or new.target [])

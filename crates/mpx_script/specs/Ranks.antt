@@ -6,7 +6,7 @@ use Rattle.mpx_post.specs.Posts.{Given}
 use Rattle.mpx_post.specs.declared.draft.Draft.{Draft}
 use Rattle.mpx_post.specs.declared.draft.PostError.{PostError}
 use Rattle.mpx_post.specs.declared.draft.PostError.TheVariants.{NotMember}
-use Rattle.mpx_post.specs.Births.{BirthView}
+use Rattle.mpx_post.specs.Births.{BirthView, of_members}
 use Rattle.mpx_post.specs.Drafts.{at, checked}
 use Rattle.mpx_post.specs.Gatherings.{GatheringView, gathering}
 use Rattle.mpx_post.specs.Rows.{all_of}
@@ -75,7 +75,7 @@ post_on me made draft name birth = made_on name (checked birth me (at name (next
 
 -- what it comes to on a gathering below a context, which may be refused itself
 abbrev pub post_gathered : (me : ℕ) → List Made → Draft → Name → Result GatheringView PostError → Result Made PostError
-post_gathered me made draft parent (Ok g) = post_on me made draft (Gathering g.tag g.members ∷ parent) (record { members = g.members })
+post_gathered me made draft parent (Ok g) = post_on me made draft (Gathering g.tag g.members ∷ parent) (of_members g.members)
 post_gathered me made draft parent (Err refusal) = Err refusal
 
 abbrev pub attempt_in : (me : ℕ) → List Made → Draft → Option Gathers → Name → BirthView → Result Made PostError

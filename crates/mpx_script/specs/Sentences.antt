@@ -1,9 +1,9 @@
 -- What the reader learns from one line.
 use Rattle.std.specs.Prelude.{◌≡◌, ℕ, ◌+◌, ◌-◌, ◌<◌, ◌≤◌, true, false, ◌&&◌, List, [], ◌∷◌, ◌||◌, is_none, nat_le, nat_lt, Option, Some, None, IsSomeAnd}
-use Rattle.mpx_post.specs.declared.kinds.Kind.{Kind}
+use Rattle.mpx_kind.specs.declared.kinds.Kind.{Kind}
 use Rattle.mpx_post.specs.Kinds.{fields_of}
 use Rattle.mpx_script.specs.Words.{counts}
-use Rattle.mpx_script.specs.Grammar.{DirectiveSyntax, NewSyntax, CallSyntax, directive_in, ranks_in, statements_in, names_rank, statement_in, is_unknown, has_wrong_words, has_bad_number, has_bad_list, has_bad_name, has_unknown_name, has_taken_name, has_unknown_word, has_wrong_new_words, has_wrong_count, has_strange_choice, has_strange_new_number, has_strange_number, has_strange_list, fails, is_name, is_list, shape_of}
+use Rattle.mpx_script.specs.Grammar.{DirectiveSyntax, NewSyntax, CallSyntax, directive_in, ranks_in, statements_in, names_rank, statement_in, is_unknown, has_wrong_words, has_bad_number, has_bad_list, has_bad_name, has_unknown_name, has_taken_name, has_unknown_word, has_wrong_new_words, has_wrong_count, has_strange_choice, has_strange_new_number, has_strange_number, has_strange_list, has_strange_new_list, fails, is_name, shape_of}
 use Rattle.mpx_script.specs.Reading.{statements_limit, first_holding}
 use Rattle.mpx_script.specs.declared.faults.ScriptFault.{ScriptFault}
 use Rattle.mpx_script.specs.declared.faults.ScriptFault.TheVariants.{UnknownStatement, WrongWords, BadNumber, BadList, BadName, NameUnknown, NameTaken}
@@ -60,7 +60,7 @@ fields_refusal kind call = first_holding (
 abbrev pub draft_refusal : Kind → NewSyntax → CallSyntax → Option ScriptFault
 draft_refusal kind new call = first_holding (
     (BadNumber, has_strange_choice new || has_strange_number (fields_of kind) call)
-    ∷ (BadList, has_strange_list (fields_of kind) call || fails is_list new.ranks)
+    ∷ (BadList, has_strange_list (fields_of kind) call || has_strange_new_list new)
     ∷ [])
 
 -- what a statement of this kind is refused for, with this communicator and these words behind it
@@ -69,7 +69,7 @@ call_refusal kind communicator new call = first_holding (
     (UnknownStatement, has_unknown_word call)
     ∷ (WrongWords, is_none communicator || has_wrong_new_words (shape_of kind) new || has_wrong_count (fields_of kind) call)
     ∷ (BadNumber, has_strange_new_number new || has_strange_number (fields_of kind) call)
-    ∷ (BadList, has_strange_list (fields_of kind) call || fails is_list new.ranks)
+    ∷ (BadList, has_strange_list (fields_of kind) call || has_strange_new_list new)
     ∷ (BadName, fails is_name communicator || fails is_name new.target)
     ∷ [])
 

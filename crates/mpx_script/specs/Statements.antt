@@ -3,14 +3,14 @@ use Rattle.std.specs.Prelude.{ℕ, ℤ, pos, List, [], Option, Some, None}
 use Rattle.mpx_num.specs.declared.types.Ty.TheVariants.{I8}
 use Rattle.mpx_num.specs.declared.operations.Op.TheVariants.{Sum}
 use Rattle.mpx_post.specs.declared.draft.Draft.{Draft}
-use Rattle.mpx_post.specs.declared.kinds.Call.TheVariants as C
-use Rattle.mpx_post.specs.declared.kinds.NewCommunicator.TheVariants as N
+use Rattle.mpx_kind.specs.declared.kinds.Call.TheVariants as C
+use Rattle.mpx_kind.specs.declared.kinds.NewCommunicator.TheVariants as N
 use Rattle.mpx_script.specs.declared.statement.Statement.{Statement}
 use Rattle.mpx_script.specs.declared.statement.Statement.TheVariants.{Call, New, CreateGroup}
 
 -- the draft of create_group, whose kind has no fields
 abbrev pub create_group_draft : Draft
-create_group_draft = record { call = C.NewCommunicator N.CreateGroup; root = pos 0; op = Sum; ty = I8; scounts = []; rcounts = []; items = []; colour = None; key = pos 0; group = [] }
+create_group_draft = record { call = C.NewCommunicator N.CreateGroup; root = pos 0; op = Sum; ty = I8; scounts = []; rcounts = []; items = []; colour = None; key = pos 0; group = []; graph = None }
 
 -- the draft that it posts
 abbrev pub draft_of : Statement → Draft

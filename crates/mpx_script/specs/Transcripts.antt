@@ -26,6 +26,8 @@ fault_name F.Root = codes "Root"
 fault_name F.Op = codes "Op"
 fault_name F.ItemType = codes "ItemType"
 fault_name F.Amount = codes "Amount"
+fault_name F.Weights = codes "Weights"
+fault_name F.Edges = codes "Edges"
 fault_name F.Groups = codes "Groups"
 
 abbrev pub refusal_name : PostError → List ℕ
@@ -39,6 +41,8 @@ refusal_name R.TooManyItems = codes "TooManyItems"
 refusal_name R.CallsUsedUp = codes "CallsUsedUp"
 refusal_name R.DepthUsedUp = codes "DepthUsedUp"
 refusal_name R.BadGroup = codes "BadGroup"
+refusal_name R.BadEdge = codes "BadEdge"
+refusal_name R.TooManyEdges = codes "TooManyEdges"
 refusal_name R.BadTag = codes "BadTag"
 refusal_name R.OutOfMemory = codes "OutOfMemory"
 

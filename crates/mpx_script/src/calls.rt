@@ -9,6 +9,7 @@ ghost use Rattle.mpx_script.specs.Sentences.{IsRefusal, draft_refusal, fields_re
 
 use crate::faults::{LineError, ScriptFault};
 use crate::grammar::{colour_named, is_one, list_named, operation_named, type_named};
+use crate::graphs::graph_in;
 use crate::syntax::{CallSyntax, NewSyntax};
 use crate::words::first_word;
 use mpx_num::{Numbers, Op, Ty, parse_number};
@@ -137,11 +138,12 @@ fn call_draft_in(alloc: Global, kind: Kind, call: &CallSyntax<'_>) -> Result<Dra
         colour: None,
         key: 0,
         group: Numbers::new(alloc, Vec::new(alloc))?,
+        graph: None,
     })
 }
 
 /// The draft of a blocking call by its words.
-#[tactic(auto, using(crate::proofs::Accepted::refusal_of_colour, crate::proofs::Accepted::refusal_of_key, crate::proofs::Accepted::refusal_of_fields, crate::proofs::Accepted::refusal_of_ranks, crate::proofs::Accepted::draft_accepted))]
+#[tactic(auto, using(crate::proofs::Accepted::refusal_of_colour, crate::proofs::Accepted::refusal_of_key, crate::proofs::Accepted::refusal_of_fields, crate::proofs::Accepted::refusal_of_ranks, crate::proofs::Accepted::refusal_of_graph, crate::proofs::Accepted::draft_accepted))]
 pub fn draft_in(
     alloc: Global,
     kind: Kind,
@@ -165,10 +167,14 @@ pub fn draft_in(
     let Some(group) = list_at(alloc, new.ranks)? else {
         return Err(LineError::Fault(ScriptFault::BadList));
     };
+    let Some(graph) = graph_in(alloc, new)? else {
+        return Err(LineError::Fault(ScriptFault::BadList));
+    };
     Ok(Draft {
         colour,
         key,
         group,
+        graph,
         ..draft
     })
 }

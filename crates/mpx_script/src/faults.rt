@@ -29,7 +29,8 @@ pub enum ScriptFault {
     /// The word of a root, of a single count, of an item, of a key or of a tag is no number, or a colour's word is neither
     /// a number nor `undefined`.
     BadNumber,
-    /// The word of a list is no list of numbers.
+    /// The word of a list is no list of numbers, of edges or of neighbours, or the weights of some entries are missing; of
+    /// sources and destinations also where one list alone has weights.
     BadList,
     /// The communicator's word or that for the new one is no name.
     BadName,

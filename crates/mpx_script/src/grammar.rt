@@ -112,6 +112,8 @@ pub fn kind_named(word: &[u8]) -> Option<Kind>
             (b"split".as_slice(), Kind::Split),
             (b"create".as_slice(), Kind::Create),
             (b"create_group".as_slice(), Kind::CreateGroup),
+            (b"dist_graph".as_slice(), Kind::DistGraph),
+            (b"dist_graph_adjacent".as_slice(), Kind::DistGraphAdjacent),
         ],
         word,
     )
@@ -241,6 +243,10 @@ pub struct Shape {
     pub tag: bool,
     /// A list of ranks.
     pub ranks: bool,
+    /// A list of edges.
+    pub edges: bool,
+    /// A list of sources and one of destinations.
+    pub neighbours: bool,
     /// `->` and the name for the new communicator.
     pub target: bool,
 }
@@ -254,6 +260,8 @@ pub fn shape_of(kind: Kind) -> Shape
             colour: false,
             tag: false,
             ranks: false,
+            edges: false,
+            neighbours: false,
             target: false,
         },
         Family::NewCommunicator(new) => shape_of_new(new),
@@ -267,6 +275,8 @@ fn shape_of_new(new: NewCommunicator) -> Shape
         colour: false,
         tag: false,
         ranks: false,
+        edges: false,
+        neighbours: false,
         target: true,
     };
     match new {
@@ -282,6 +292,14 @@ fn shape_of_new(new: NewCommunicator) -> Shape
         NewCommunicator::CreateGroup => Shape {
             tag: true,
             ranks: true,
+            ..nothing
+        },
+        NewCommunicator::DistGraph => Shape {
+            edges: true,
+            ..nothing
+        },
+        NewCommunicator::DistGraphAdjacent => Shape {
+            neighbours: true,
             ..nothing
         },
     }

@@ -14,6 +14,7 @@ mod calls;
 mod evaluation;
 mod faults;
 mod grammar;
+mod graphs;
 mod rank_statements;
 mod reader;
 mod report;

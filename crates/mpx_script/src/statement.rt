@@ -108,5 +108,6 @@ fn create_group_draft(alloc: Global) -> Result<Draft, OutOfMemory>
         colour: None,
         key: 0,
         group: none,
+        graph: None,
     })
 }

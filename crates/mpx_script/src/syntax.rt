@@ -88,13 +88,17 @@ impl DirectiveSyntax<'_> {
     }
 }
 
-/// The words of a call that makes communicators: `COLOUR KEY TAG RANKS -> TARGET`, where the kind has them.
+/// The words of a call that makes communicators: `COLOUR KEY TAG RANKS EDGES SOURCES DESTINATIONS -> TARGET`, where the kind
+/// has them.
 #[derive(Drop)]
 pub struct NewSyntax<'a> {
     pub colour: Option<&'a [u8]>,
     pub key: Option<&'a [u8]>,
     pub tag: Option<&'a [u8]>,
     pub ranks: Option<&'a [u8]>,
+    pub edges: Option<&'a [u8]>,
+    pub sources: Option<&'a [u8]>,
+    pub destinations: Option<&'a [u8]>,
     pub arrow: Option<&'a [u8]>,
     pub target: Option<&'a [u8]>,
     /// The line behind these words.
@@ -113,6 +117,9 @@ impl<'a> Model for NewSyntax<'a> {
       key = option_copied p.key;
       tag = option_copied p.tag;
       ranks = option_copied p.ranks;
+      edges = option_copied p.edges;
+      sources = option_copied p.sources;
+      destinations = option_copied p.destinations;
       arrow = option_copied p.arrow;
       target = option_copied p.target;
       behind = words p.behind.now;
@@ -128,6 +135,9 @@ pub fn new_in(shape: Shape, line: &[u8]) -> NewSyntax<'_>
     let (key, rest) = next_word(shape.colour, rest);
     let (tag, rest) = next_word(shape.tag, rest);
     let (ranks, rest) = next_word(shape.ranks, rest);
+    let (edges, rest) = next_word(shape.edges, rest);
+    let (sources, rest) = next_word(shape.neighbours, rest);
+    let (destinations, rest) = next_word(shape.neighbours, rest);
     let (arrow, rest) = next_word(shape.target, rest);
     let (target, behind) = next_word(shape.target, rest);
     NewSyntax {
@@ -135,6 +145,9 @@ pub fn new_in(shape: Shape, line: &[u8]) -> NewSyntax<'_>
         key,
         tag,
         ranks,
+        edges,
+        sources,
+        destinations,
         arrow,
         target,
         behind,

@@ -80,6 +80,8 @@ fn name_of_fault(what: FaultKind) -> &'static str
         FaultKind::Op => "Op",
         FaultKind::ItemType => "ItemType",
         FaultKind::Amount => "Amount",
+        FaultKind::Weights => "Weights",
+        FaultKind::Edges => "Edges",
         FaultKind::Groups => "Groups",
     }
 }
@@ -98,6 +100,8 @@ fn name_of_refusal(refusal: PostError) -> &'static str
         PostError::CallsUsedUp => "CallsUsedUp",
         PostError::DepthUsedUp => "DepthUsedUp",
         PostError::BadGroup => "BadGroup",
+        PostError::BadEdge => "BadEdge",
+        PostError::TooManyEdges => "TooManyEdges",
         PostError::BadTag => "BadTag",
         PostError::OutOfMemory => "OutOfMemory",
     }

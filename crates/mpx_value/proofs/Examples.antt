@@ -1,16 +1,20 @@
 -- The communicators of small rows, and what they give each rank.
-use Rattle.std.proofs.Common.{◌≡◌, ℕ, zero, suc, ℤ, pos, negsuc, List, [], ◌∷◌, Option, Some, None, refl}
+use Rattle.std.proofs.Common.{◌≡◌, ℕ, zero, suc, ℤ, pos, negsuc, true, false, List, [], ◌∷◌, Option, Some, None, refl}
 use Rattle.mpx_name.specs.declared.steps.Step.TheVariants.{Child, Gathering}
 use Rattle.mpx_name.specs.Name.{Name}
 use Rattle.mpx_match.specs.declared.faults.FaultKind.{FaultKind}
 use Rattle.mpx_match.specs.declared.faults.FaultKind.TheVariants.{Amount, Groups, Kind}
 use Rattle.mpx_match.specs.Verdicts.{verdict}
-use Rattle.mpx_post.specs.declared.kinds.Kind as K
-use Rattle.mpx_post.specs.declared.kinds.Kind.TheVariants.{Dup, Split, Create, CreateGroup}
-use Rattle.mpx_post.specs.declared.kinds.Mode.TheVariants.{Blocking}
+use Rattle.mpx_kind.specs.declared.kinds.Kind as K
+use Rattle.mpx_kind.specs.declared.kinds.Kind.TheVariants.{Dup, Split, Create, CreateGroup, DistGraph, DistGraphAdjacent}
+use Rattle.mpx_kind.specs.declared.kinds.Mode.TheVariants.{Blocking}
 use Rattle.mpx_post.specs.declared.making.Making.{Making}
 use Rattle.mpx_post.specs.declared.making.Making.TheVariants as M
-use Rattle.mpx_post.specs.Births.{BirthView, upto}
+use Rattle.mpx_birth.specs.declared.edges.Edge.{Edge}
+use Rattle.mpx_birth.specs.declared.edges.Neighbour.{Neighbour}
+use Rattle.mpx_post.specs.Topologies.{Near, TopologyView}
+use Rattle.mpx_graph.specs.Graphs.{adjacent, general}
+use Rattle.mpx_post.specs.Births.{BirthView, of_members as of, upto}
 use Rattle.mpx_post.specs.Posts.{Given}
 use Rattle.mpx_post.specs.Rows.{RowView}
 use Rattle.mpx_value.specs.declared.outcomes.Outcome.{Outcome}
@@ -29,9 +33,6 @@ create group = given Create (M.Group group)
 
 abbrev plain : K.Kind → Given
 plain kind = given kind M.Nothing
-
-abbrev of : List ℕ → BirthView
-of members = record { members = members }
 
 -- what call 3 on the world of so many ranks gives this rank
 abbrev told : ℕ → RowView → (rank : ℕ) → Outcome
@@ -58,6 +59,38 @@ one_group = create (2 ∷ 0 ∷ []) ∷ create [] ∷ create (2 ∷ 0 ∷ []) �
 
 abbrev two_groups : RowView
 two_groups = create (2 ∷ 0 ∷ []) ∷ create (1 ∷ []) ∷ create (2 ∷ 0 ∷ []) ∷ []
+
+abbrev edge : (source destination : ℕ) → Edge
+edge source destination = record { source = source; destination = destination; weight = 0 }
+
+abbrev to : (rank weight : ℕ) → Neighbour
+to rank weight = record { rank = rank; weight = weight }
+
+abbrev dist_graph : List Edge → Given
+dist_graph edges = given DistGraph (M.Edges (record { weighted = false; edges = edges }))
+
+abbrev adjacent_graph : (sources destinations : List Neighbour) → Given
+adjacent_graph sources destinations = given DistGraphAdjacent (M.Neighbours (record { weighted = true; sources = sources; destinations = destinations }))
+
+abbrev near : (sources destinations : List Neighbour) → Near
+near sources destinations = record { sources = sources; destinations = destinations }
+
+-- rank 1 gives no edge, and each of the others one that isn't its own
+abbrev edges_of_others : RowView
+edges_of_others = dist_graph (edge 1 2 ∷ edge 2 2 ∷ []) ∷ dist_graph [] ∷ dist_graph (edge 0 2 ∷ edge 1 2 ∷ []) ∷ []
+
+abbrev all_to_2 : TopologyView
+all_to_2 = record { weighted = false; ranks = near [] (to 2 0 ∷ []) ∷ near [] (to 2 0 ∷ to 2 0 ∷ []) ∷ near (to 1 0 ∷ to 2 0 ∷ to 0 0 ∷ to 1 0 ∷ []) (to 2 0 ∷ []) ∷ [] }
+
+abbrev own_neighbours : RowView
+own_neighbours = adjacent_graph [] (to 1 5 ∷ to 1 0 ∷ []) ∷ adjacent_graph (to 0 0 ∷ to 0 5 ∷ []) [] ∷ []
+
+abbrev one_way : TopologyView
+one_way = record { weighted = true; ranks = near [] (to 1 5 ∷ to 1 0 ∷ []) ∷ near (to 0 0 ∷ to 0 5 ∷ []) [] ∷ [] }
+
+-- three processes and their graph
+abbrev graph : BirthView
+graph = record { members = 4 ∷ 5 ∷ 9 ∷ []; topology = Some all_to_2 }
 
 abbrev deep : ℕ → Name
 deep zero = []
@@ -94,13 +127,24 @@ record Examples : Type 0 where
   mixed : told 2 (plain Dup ∷ split None (pos 0) ∷ []) 0 ≡ fault Kind 1
   -- below the gathering of processes 4 and 2 with tag 9
   gathered : value (of (4 ∷ 2 ∷ [])) (plain CreateGroup ∷ plain CreateGroup ∷ []) (Gathering 9 (4 ∷ 2 ∷ []) ∷ []) 0 1 ≡ NewComm (Child 0 0 ∷ Gathering 9 (4 ∷ 2 ∷ []) ∷ []) 2 1
+  -- a graph has its parent's members, and its topology has their ranks
+  graph1 : told 3 edges_of_others 1 ≡ comm 0 3 1
+  graphs : children (of (4 ∷ 5 ∷ 9 ∷ [])) edges_of_others [] 3 ≡ record { colour = 0; birth = graph } ∷ []
+  adjacent1 : told 2 own_neighbours 1 ≡ comm 0 2 1
+  adjacents : children (of (9 ∷ 4 ∷ [])) own_neighbours [] 3 ≡ record { colour = 0; birth = record { members = 9 ∷ 4 ∷ []; topology = Some one_way } } ∷ []
+  -- dup keeps the topology, and no other keeps it
+  graph_dup : children graph (plain Dup ∷ plain Dup ∷ plain Dup ∷ []) [] 3 ≡ record { colour = 0; birth = graph } ∷ []
+  graph_split : children graph reversed [] 3 ≡ record { colour = 7; birth = of (9 ∷ 5 ∷ 4 ∷ []) } ∷ []
+  graph_create : children graph one_group [] 3 ≡ record { colour = 2; birth = of (9 ∷ 4 ∷ []) } ∷ []
+  graph_group : children graph (plain CreateGroup ∷ plain CreateGroup ∷ plain CreateGroup ∷ []) [] 3 ≡ record { colour = 0; birth = of (4 ∷ 5 ∷ 9 ∷ []) } ∷ []
+  graph_anew : children graph (dist_graph [] ∷ dist_graph [] ∷ dist_graph [] ∷ []) [] 3 ≡ record { colour = 0; birth = record { members = 4 ∷ 5 ∷ 9 ∷ []; topology = Some (record { weighted = false; ranks = near [] [] ∷ near [] [] ∷ near [] [] ∷ [] }) } } ∷ []
   -- the eighth step, and no ninth
   eighth : value (of (upto 2)) (plain Dup ∷ plain Dup ∷ []) (deep 7) 0 1 ≡ NewComm (deep 8) 2 1
   ninth : value (of (upto 2)) (plain Dup ∷ plain Dup ∷ []) (deep 8) 0 1 ≡ fault Amount 0
   no_ninth : children (of (upto 2)) (plain Dup ∷ plain Dup ∷ []) (deep 8) 0 ≡ []
 
 examples : Examples
-unfolding value children verdict
+unfolding value children verdict general adjacent
 examples = record {
   split0 = refl;
   split1 = refl;
@@ -125,6 +169,15 @@ examples = record {
   dup1 = refl;
   mixed = refl;
   gathered = refl;
+  graph1 = refl;
+  graphs = refl;
+  adjacent1 = refl;
+  adjacents = refl;
+  graph_dup = refl;
+  graph_split = refl;
+  graph_create = refl;
+  graph_group = refl;
+  graph_anew = refl;
   eighth = refl;
   ninth = refl;
   no_ninth = refl;

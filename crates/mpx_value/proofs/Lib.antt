@@ -1,9 +1,9 @@
 pub mod Examples
-pub mod Sorting
 pub mod Filtering
 pub mod Colours
 pub mod Rising
 pub mod Ranks
+pub mod Topologies
 pub mod NewCommunicators
 pub mod Within
 pub mod Growth

@@ -15,10 +15,10 @@ use Rattle.mpx_match.specs.declared.faults.Verdict.TheVariants as V
 use Rattle.mpx_match.specs.Verdicts.{verdict}
 use Rattle.mpx_fold.specs.Folds.{fold_value}
 use Rattle.mpx_move.specs.Moves.{move_value}
-use Rattle.mpx_post.specs.declared.kinds.Family.{Family}
-use Rattle.mpx_post.specs.declared.kinds.Family.TheVariants as F
-use Rattle.mpx_post.specs.declared.kinds.NewCommunicator.{NewCommunicator}
-use Rattle.mpx_post.specs.declared.kinds.NewCommunicator.TheVariants as N
+use Rattle.mpx_kind.specs.declared.kinds.Family.{Family}
+use Rattle.mpx_kind.specs.declared.kinds.Family.TheVariants as F
+use Rattle.mpx_kind.specs.declared.kinds.NewCommunicator.{NewCommunicator}
+use Rattle.mpx_kind.specs.declared.kinds.NewCommunicator.TheVariants as N
 use Rattle.mpx_post.specs.declared.value.Value.{Value}
 use Rattle.mpx_post.specs.declared.value.Value.TheVariants as G
 use Rattle.mpx_post.specs.Births.{BirthView, rank_in, upto}
@@ -52,6 +52,8 @@ rise_by N.Create birth row =
     AllPairs-map (λ (x y : ChildView). x.colour < y.colour) (group_child birth row) (filter (leads row) (upto (length row)))
     (AllPairs-filter (λ (m n : ℕ). m < n) (leads row) (upto (length row)) (rise-upto (length row)))
 rise_by N.CreateGroup birth row = alone _
+rise_by N.DistGraph birth row = alone _
+rise_by N.DistGraphAdjacent birth row = alone _
 
 rise_in : (family : Family) (birth : BirthView) (row : RowView) → Rise (children_in family birth row)
 rise_in (F.Exchange exchange) birth row = none

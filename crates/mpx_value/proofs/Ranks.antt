@@ -19,9 +19,9 @@ use Rattle.mpx_post.specs.Rows.{RowView}
 use Rattle.mpx_post.specs.Agreement.{IsFine, post_at}
 use Rattle.mpx_post.proofs.Agreement.{fits_parts}
 use Rattle.mpx_value.specs.Children.{ChildView, colours_of, gives_colour, lower_key, named_children, processes, ranks_with}
-use Rattle.mpx_value.specs.Orders.{ordered}
+use Rattle.mpx_birth.specs.Orders.{ordered}
 use Rattle.mpx_value.proofs.Rising.{All-ordered, All-rising, below-upto, length-upto}
-use Rattle.mpx_value.proofs.Sorting.{length-ordered}
+use Rattle.mpx_birth.proofs.Sorting.{length-ordered}
 
 -- one more rank
 pub filter_upto : (p : ℕ → Bool) (n : ℕ) → filter p (upto (n + 1)) ≡ filter p (upto n) ++ cond (p n) (n ∷ []) []

@@ -1,5 +1,5 @@
 -- The members of children are members of the birth.
-use Rattle.std.proofs.Common.{◌≡◌, ℕ, ◌<◌, Bool, true, false, List, [], length, cond, arith}
+use Rattle.std.proofs.Common.{◌≡◌, ℕ, ◌<◌, Bool, true, false, List, [], length, cond, Option, Some, None, arith}
 use Rattle.std.specs.Prelude.{filter}
 use Rattle.std.specs.List.{All}
 use Rattle.std.proofs.lemmas.List.Elements.{All-cons, All-filter, All-map, All-nil, All-weaker}
@@ -9,16 +9,18 @@ use Rattle.mpx_match.specs.declared.faults.Verdict.{Verdict}
 use Rattle.mpx_match.specs.declared.faults.Verdict.TheVariants as V
 use Rattle.mpx_match.specs.Verdicts.{IsFirstFault, questions, verdict}
 use Rattle.mpx_match.proofs.FirstFault.{fine, verdict-is_first}
-use Rattle.mpx_post.specs.declared.kinds.Family.{Family}
-use Rattle.mpx_post.specs.declared.kinds.Family.TheVariants as F
-use Rattle.mpx_post.specs.declared.kinds.NewCommunicator.{NewCommunicator}
-use Rattle.mpx_post.specs.declared.kinds.NewCommunicator.TheVariants as N
+use Rattle.mpx_kind.specs.declared.kinds.Family.{Family}
+use Rattle.mpx_kind.specs.declared.kinds.Family.TheVariants as F
+use Rattle.mpx_kind.specs.declared.kinds.NewCommunicator.{NewCommunicator}
+use Rattle.mpx_kind.specs.declared.kinds.NewCommunicator.TheVariants as N
 use Rattle.mpx_post.specs.Births.{BirthView, upto}
+use Rattle.mpx_post.specs.Topologies.{TopologyView}
+use Rattle.mpx_graph.specs.Graphs.{adjacent, general}
 use Rattle.mpx_post.specs.Kinds.{family_of}
 use Rattle.mpx_post.specs.Posts.{group_of}
 use Rattle.mpx_post.specs.Rows.{RowView}
 use Rattle.mpx_post.specs.Agreement.{IsFine, first_of, post_at}
-use Rattle.mpx_value.specs.Children.{ChildView, children, children_by, children_in, colours_of, group_child, has_room, leads, split_child, unless_fault}
+use Rattle.mpx_value.specs.Children.{ChildView, children, children_by, children_in, colours_of, group_child, has_room, leads, only_child, split_child, unless_fault}
 use Rattle.mpx_value.proofs.Rising.{below-upto}
 use Rattle.mpx_value.proofs.Ranks.{group_ranks, has-members, has-processes, split_ranks}
 
@@ -29,8 +31,12 @@ module _ (birth : BirthView) (row : RowView) (long : length row ≡ length birth
   below : (ranks : List ℕ) → All (λ r. r < length row) ranks → All (λ r. r < length birth.members) ranks
   below ranks all = All-weaker (λ r. r < length row) (λ r. r < length birth.members) (λ r l. omega arith) ranks all
 
+  -- one child of all members, whatever its topology
+  all_members : (topology : Option TopologyView) → All Within (only_child (record { members = birth.members; topology = topology }))
+  all_members topology = All-cons Within (record { colour = 0; birth = record { members = birth.members; topology = topology } }) [] (has-members birth.members) (All-nil Within)
+
   by_kind : (new : NewCommunicator) → IsFine row → All Within (children_by new birth row)
-  by_kind N.Dup is = All-cons Within (record { colour = 0; birth = birth }) [] (has-members birth.members) (All-nil Within)
+  by_kind N.Dup is = all_members birth.topology
   by_kind N.Split is =
       All-map Within (split_child birth row) (colours_of row) (λ k d l. has-processes birth.members _ (below _ (split_ranks row _)))
   by_kind N.Create is =
@@ -38,7 +44,9 @@ module _ (birth : BirthView) (row : RowView) (long : length row ≡ length birth
       (All-filter (leads row) (λ rank. Within (group_child birth row rank)) (upto (length row))
       (All-weaker (λ r. r < length row) (λ rank. Within (group_child birth row rank))
       (λ rank l. has-processes birth.members (group_of (post_at row rank)) (below _ (group_ranks row rank is l))) (upto (length row)) (below-upto (length row))))
-  by_kind N.CreateGroup is = All-cons Within (record { colour = 0; birth = birth }) [] (has-members birth.members) (All-nil Within)
+  by_kind N.CreateGroup is = all_members None
+  by_kind N.DistGraph is = all_members (Some (general row))
+  by_kind N.DistGraphAdjacent is = all_members (Some (adjacent row))
 
   by_family : (family : Family) → IsFine row → All Within (children_in family birth row)
   by_family (F.Exchange exchange) is = All-nil Within

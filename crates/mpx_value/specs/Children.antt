@@ -1,16 +1,18 @@
--- The communicators that a call makes (MPI 4.1, section 7.4.2).
+-- The communicators that a call makes (MPI 4.1, sections 7.4.2 and 8.5.4).
 use Rattle.std.specs.Prelude.{◌≡◌, ℕ, ◌==◌, nat_eq, nat_lt, Bool, false, cond, List, [], ◌∷◌, map, length, filter, slice_get, slice_index_or, Option, Some, None}
 use Rattle.std.specs.List.{filter_map}
 use Rattle.std.specs.Option.{option_eq}
 use Rattle.std.specs.Ordering.{int_cmp, is_lt}
 use Rattle.mpx_name.specs.declared.steps.Step.TheVariants.{Child}
 use Rattle.mpx_name.specs.Name.{Name}
-use Rattle.mpx_post.specs.declared.kinds.Family.{Family}
-use Rattle.mpx_post.specs.declared.kinds.Family.TheVariants as F
-use Rattle.mpx_post.specs.declared.kinds.NewCommunicator.{NewCommunicator}
-use Rattle.mpx_post.specs.declared.kinds.NewCommunicator.TheVariants as N
+use Rattle.mpx_kind.specs.declared.kinds.Family.{Family}
+use Rattle.mpx_kind.specs.declared.kinds.Family.TheVariants as F
+use Rattle.mpx_kind.specs.declared.kinds.NewCommunicator.{NewCommunicator}
+use Rattle.mpx_kind.specs.declared.kinds.NewCommunicator.TheVariants as N
 use Rattle.mpx_post.specs.Kinds.{family_of}
-use Rattle.mpx_post.specs.Births.{BirthView, rank_in, upto}
+use Rattle.mpx_post.specs.Births.{BirthView, of_members, rank_in, upto}
+use Rattle.mpx_post.specs.Topologies.{TopologyView}
+use Rattle.mpx_graph.specs.Graphs.{adjacent, general}
 use Rattle.mpx_post.specs.Posts.{colour_of, group_of, key_of}
 use Rattle.mpx_post.specs.Rows.{RowView}
 use Rattle.mpx_post.specs.Agreement.{first_of, post_at}
@@ -18,7 +20,7 @@ use Rattle.mpx_post.specs.Drafts.{most_steps}
 use Rattle.mpx_match.specs.declared.faults.Verdict.{Verdict}
 use Rattle.mpx_match.specs.declared.faults.Verdict.TheVariants as V
 use Rattle.mpx_match.specs.Verdicts.{verdict}
-use Rattle.mpx_value.specs.Orders.{ordered, rising}
+use Rattle.mpx_birth.specs.Orders.{ordered, rising}
 
 -- a communicator that a call makes, told from its sisters by a colour
 pub record ChildView : Type 0 where
@@ -31,12 +33,18 @@ processes members ranks = map (λ rank. slice_index_or members rank 0) ranks
 
 -- the child of this colour of the members with these ranks, in this order
 abbrev pub child_of_ranks : BirthView → (colour : ℕ) → (ranks : List ℕ) → ChildView
-child_of_ranks birth colour ranks = record { colour = colour; birth = record { members = processes birth.members ranks } }
+child_of_ranks birth colour ranks = record { colour = colour; birth = of_members (processes birth.members ranks) }
 
--- MPI_COMM_DUP and MPI_COMM_CREATE_GROUP: one child of all members
+-- one child
 
-abbrev pub whole : BirthView → List ChildView
-whole birth = record { colour = 0; birth = birth } ∷ []
+abbrev pub only_child : BirthView → List ChildView
+only_child birth = record { colour = 0; birth = birth } ∷ []
+
+-- MPI_COMM_DUP: the same members with the same topology; MPI_COMM_CREATE_GROUP: the same members; MPI_DIST_GRAPH_CREATE and
+-- MPI_DIST_GRAPH_CREATE_ADJACENT: the same members with the topology of what they give
+
+abbrev pub with_topology : BirthView → TopologyView → BirthView
+with_topology birth topology = record { members = birth.members; topology = Some topology }
 
 -- MPI_COMM_SPLIT: a child for each colour that is given, of the members that give it, by their keys, ties by their rank
 
@@ -80,10 +88,12 @@ created birth row = map (group_child birth row) (filter (leads row) (upto (lengt
 -- ALL KINDS
 
 abbrev pub children_by : NewCommunicator → BirthView → RowView → List ChildView
-children_by N.Dup birth row = whole birth
+children_by N.Dup birth row = only_child birth
 children_by N.Split birth row = split birth row
 children_by N.Create birth row = created birth row
-children_by N.CreateGroup birth row = whole birth
+children_by N.CreateGroup birth row = only_child (of_members birth.members)
+children_by N.DistGraph birth row = only_child (with_topology birth (general row))
+children_by N.DistGraphAdjacent birth row = only_child (with_topology birth (adjacent row))
 
 -- the other families make none
 abbrev pub children_in : Family → BirthView → RowView → List ChildView

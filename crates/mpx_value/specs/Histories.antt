@@ -6,7 +6,7 @@ use Rattle.mpx_group.specs.Group.{has, has_twice}
 use Rattle.mpx_name.specs.declared.steps.Step.TheVariants.{Child, Gathering}
 use Rattle.mpx_name.specs.Name.{Name, same_name}
 use Rattle.mpx_post.specs.Posts.{Given}
-use Rattle.mpx_post.specs.Births.{BirthView, rank_in, upto}
+use Rattle.mpx_post.specs.Births.{BirthView, of_members, rank_in, upto}
 use Rattle.mpx_post.specs.Rows.{RowView, all_of}
 use Rattle.mpx_value.specs.declared.outcomes.Outcome.{Outcome}
 use Rattle.mpx_value.specs.declared.outcomes.Outcome.TheVariants.{Nothing, Absent, Items, NewComm, Null, Fault}
@@ -52,11 +52,11 @@ abbrev pub may_gather : List ℕ → BirthView → Bool
 may_gather members birth = nat_lt 0 (length members) && (not (has_twice members) && list_all (has birth.members) members)
 
 abbrev pub gathered : List ℕ → BirthView → Option BirthView
-gathered members birth = cond (may_gather members birth) (Some (record { members = members })) None
+gathered members birth = cond (may_gather members birth) (Some (of_members members)) None
 
 -- the birth of a context, where the history has all that made it: the world's members are the ranks
 abbrev pub birth_of : History → (ranks : ℕ) → Name → Option BirthView
-birth_of h ranks [] = Some (record { members = upto ranks })
+birth_of h ranks [] = Some (of_members (upto ranks))
 birth_of h ranks (Child call colour ∷ parent) = option_and_then (child_of h parent call colour) (birth_of h ranks parent)
 birth_of h ranks (Gathering tag members ∷ parent) = option_and_then (gathered members) (birth_of h ranks parent)
 

@@ -1,4 +1,3 @@
-pub mod Orders
 pub mod Children
 pub mod Colours
 pub mod Values

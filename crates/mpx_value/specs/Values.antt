@@ -1,4 +1,4 @@
--- What a call gives its members (MPI 4.1, sections 6.3 to 6.11 and 7.4.2).
+-- What a call gives its members (MPI 4.1, sections 6.3 to 6.11, 7.4.2 and 8.5.4).
 use Rattle.std.specs.Prelude.{ℕ, cond, List, [], ◌∷◌, length, slice_index_or}
 use Rattle.std.specs.Option.{option_map_or}
 use Rattle.mpx_match.specs.declared.faults.FaultKind.TheVariants.{Amount}
@@ -9,8 +9,8 @@ use Rattle.mpx_fold.specs.Folds.{fold_value}
 use Rattle.mpx_move.specs.Moves.{move_value}
 use Rattle.mpx_post.specs.declared.value.Value.{Value}
 use Rattle.mpx_post.specs.declared.value.Value.TheVariants as G
-use Rattle.mpx_post.specs.declared.kinds.Family.{Family}
-use Rattle.mpx_post.specs.declared.kinds.Family.TheVariants as F
+use Rattle.mpx_kind.specs.declared.kinds.Family.{Family}
+use Rattle.mpx_kind.specs.declared.kinds.Family.TheVariants as F
 use Rattle.mpx_post.specs.Kinds.{family_of}
 use Rattle.mpx_name.specs.Name.{Name}
 use Rattle.mpx_post.specs.Births.{BirthView, rank_in}

@@ -3,17 +3,19 @@ ghost use Rattle.std.specs.List.{All};
 ghost use Rattle.mpx_name.specs.declared.steps.Step.TheVariants.{Child};
 ghost use Rattle.mpx_match.specs.Verdicts.{verdict};
 ghost use Rattle.mpx_post.specs.Agreement.{IsFine};
+ghost use Rattle.mpx_post.specs.Births.{of_members};
 ghost use Rattle.mpx_post.specs.Drafts.{most_calls, most_steps};
-ghost use Rattle.mpx_post.specs.Kinds.{family_of, makes_communicators};
-ghost use Rattle.mpx_value.specs.Children.{children, has_room as has_room_for, named_children, processes, whole};
+ghost use Rattle.mpx_graph.specs.Graphs.{adjacent, general};
+ghost use Rattle.mpx_value.specs.Children.{children, has_room as has_room_for, named_children, only_child, processes, with_topology};
 
 use crate::groups::created;
 use crate::splits::split;
-use join_core::OutOfMemory;
+use join_core::{Exact, OutOfMemory};
+use mpx_graph::{topology_adjacent, topology_general};
 use mpx_group::Proc;
 use mpx_match::{Verdict, verdict};
 use mpx_name::{Name, NameError};
-use mpx_post::{Birth, Family, Kind, NewCommunicator, Row};
+use mpx_post::{Birth, Family, NewCommunicator, Row};
 use std::alloc::Global;
 
 // So many steps a name has at most.
@@ -35,7 +37,7 @@ pub fn children(
     ensures { IfOk result (λ made. made.items ≡ named_children name.now call (children birth.now row.now name.now call)) }
 {
     prove!(0 < row.len());
-    if !makes_communicators(row.post(0).kind()) {
+    if !row.post(0).kind().makes_communicators() {
         return Ok(Vec::new(alloc));
     }
     match verdict(row) {
@@ -47,17 +49,6 @@ pub fn children(
                 Ok(Vec::new(alloc))
             }
         }
-    }
-}
-
-// Whether calls of the kind make communicators.
-fn makes_communicators(kind: Kind) -> bool
-    ensures { result ≡ makes_communicators (family_of kind) }
-{
-    match kind.family() {
-        Family::Exchange(_) => false,
-        Family::Reduction(_) => false,
-        Family::NewCommunicator(_) => true,
     }
 }
 
@@ -88,27 +79,57 @@ pub(crate) fn made(
     match row.post(0).kind().family() {
         Family::Exchange(_) => Ok(Vec::new(alloc)),
         Family::Reduction(_) => Ok(Vec::new(alloc)),
-        Family::NewCommunicator(NewCommunicator::Dup) => whole(alloc, birth, name, call),
-        Family::NewCommunicator(NewCommunicator::Split) => split(alloc, birth, row, name, call),
-        Family::NewCommunicator(NewCommunicator::Create) => created(alloc, birth, row, name, call),
-        Family::NewCommunicator(NewCommunicator::CreateGroup) => whole(alloc, birth, name, call),
+        Family::NewCommunicator(new) => match new {
+            NewCommunicator::Dup => only_child(alloc, birth.copy(alloc)?, name, call),
+            NewCommunicator::Split => split(alloc, birth, row, name, call),
+            NewCommunicator::Create => created(alloc, birth, row, name, call),
+            NewCommunicator::CreateGroup => {
+                only_child(alloc, birth.without_topology()?, name, call)
+            }
+            NewCommunicator::DistGraph => {
+                only_child(alloc, general_graph(alloc, birth, row)?, name, call)
+            }
+            NewCommunicator::DistGraphAdjacent => {
+                only_child(alloc, adjacent_graph(alloc, birth, row)?, name, call)
+            }
+        },
     }
 }
 
-// One communicator of all members.
-fn whole(
+// The same members with the topology of all edges that they give.
+fn general_graph(alloc: Global, birth: &Birth, row: &Row<'_>) -> Result<Birth, OutOfMemory>
+    requires fine { IsFine row.now }
+    requires members { length row.now ≡ length birth.now.members }
+    ensures { IfOk result (λ graph. graph ≡ with_topology birth.now (general row.now)) }
+{
+    let topology = topology_general(alloc, row)?;
+    birth.with_topology(topology)
+}
+
+// The same members with the topology of the neighbours that each names as its own.
+fn adjacent_graph(alloc: Global, birth: &Birth, row: &Row<'_>) -> Result<Birth, OutOfMemory>
+    requires fine { IsFine row.now }
+    requires members { length row.now ≡ length birth.now.members }
+    ensures { IfOk result (λ graph. graph ≡ with_topology birth.now (adjacent row.now)) }
+{
+    let topology = topology_adjacent(alloc, row)?;
+    birth.with_topology(topology)
+}
+
+// The one communicator that came to be so.
+fn only_child(
     alloc: Global,
-    birth: &Birth,
+    birth: Birth,
     name: &Name,
     call: u32,
 ) -> Result<Vec<(Name, Birth)>, OutOfMemory>
     requires room { length name.now < most_steps }
     requires call { call < most_calls }
-    ensures { IfOk result (λ made. made.items ≡ named_children name.now call (whole birth.now)) }
+    ensures { IfOk result (λ made. made.items ≡ named_children name.now call (only_child birth)) }
 {
-    let members = Vec::from_slice(alloc, birth.members())?;
+    let name = child_name(alloc, name, call, 0)?;
     let mut made = Vec::new(alloc);
-    made.push(child(alloc, name, call, 0, members)?)?;
+    made.push((name, birth))?;
     Ok(made)
 }
 
@@ -125,13 +146,11 @@ pub(crate) fn child(
     requires colour { colour < 2 ^ 31 }
     requires some { 0 < length members.items }
     requires few { length members.items ≤ 64 }
-    ensures { IfOk result (λ child. child ≡ (Child call colour ∷ name.now, record { members = members.items })) }
+    ensures { IfOk result (λ child. child ≡ (Child call colour ∷ name.now, of_members members.items)) }
 {
     let name = child_name(alloc, name, call, colour)?;
-    match Birth::new(members) {
-        None => unreachable!(),
-        Some(birth) => Ok((name, birth)),
-    }
+    let birth = Birth::of_members(alloc, members)?;
+    Ok((name, birth))
 }
 
 fn child_name(alloc: Global, name: &Name, call: u32, colour: u32) -> Result<Name, OutOfMemory>

@@ -11,7 +11,7 @@ pub enum Outcome {
     Absent,
     /// The items that the member gets.
     Items(Items),
-    /// A new communicator (MPI 4.1 section 7.4.2): its name, how many members it has, and the member's rank in it.
+    /// A new communicator (MPI 4.1 sections 7.4.2 and 8.5.4): its name, how many members it has, and the member's rank in it.
     NewComm { name: Name, size: u8, rank: u8 },
     /// The null communicator: the member is in none that the call made.
     Null,

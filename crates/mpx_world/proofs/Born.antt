@@ -12,7 +12,7 @@ use Rattle.join_core.specs.Flat.{known}
 use Rattle.mpx_group.specs.Group.{has, has_twice}
 use Rattle.mpx_name.specs.declared.steps.Step.TheVariants.{Child}
 use Rattle.mpx_name.specs.Name.{Name, same_name}
-use Rattle.mpx_post.specs.Births.{BirthView, rank_in}
+use Rattle.mpx_post.specs.Births.{BirthView, of_members, rank_in}
 use Rattle.mpx_post.specs.Gatherings.{GatheringView, gathering}
 use Rattle.mpx_post.specs.Rows.{RowView, all_of}
 use Rattle.mpx_board.specs.Boards.{Look, told, row_on, only, Born}
@@ -110,19 +110,19 @@ gathers_is (Some v) None me parent tag ranks g e = cc e
 gathers_is (Some v) (Some birth) me parent tag ranks g e = (birth, refl, e)
 
 -- members that gather may do so
-pub gathered_there : (birth : BirthView) (me depth : ℕ) (tag : ℤ) (ranks : List ℤ) (g : GatheringView) → gathering birth me depth tag ranks ≡ Ok g → gathered g.members birth ≡ Some (record { members = g.members })
+pub gathered_there : (birth : BirthView) (me depth : ℕ) (tag : ℤ) (ranks : List ℤ) (g : GatheringView) → gathering birth me depth tag ranks ≡ Ok g → gathered g.members birth ≡ Some (of_members g.members)
 gathered_there birth me depth tag ranks g e =
     let a = gathers birth me depth tag ranks g e in
     let l : 0 < length g.members = some_is_more g.members a.some in
     let more : nat_lt 0 (length g.members) ≡ true = grind (arith, nat_tests, l) in
     let may : (nat_lt 0 (length g.members) && (not (has_twice g.members) && list_all (has birth.members) g.members)) ≡ true =
     and_from _ _ more (and_from _ _ (ap not a.distinct) a.members) in
-    ap (λ b. cond b (Some (record { members = g.members })) None) may
+    ap (λ b. cond b (Some (of_members g.members)) None) may
 
 -- what a board that tells the truth lets gather is born
-pub gathering_born : (w : WorldView) (node : NodeView) (parent : Name) (tag : ℤ) (ranks : List ℤ) (g : GatheringView) → LookSo w node.board → gathers_on node parent tag ranks ≡ Ok g → births w (gathering_name parent g) ≡ Some (record { members = g.members })
+pub gathering_born : (w : WorldView) (node : NodeView) (parent : Name) (tag : ℤ) (ranks : List ℤ) (g : GatheringView) → LookSo w node.board → gathers_on node parent tag ranks ≡ Ok g → births w (gathering_name parent g) ≡ Some (of_members g.members)
 gathering_born w node parent tag ranks g s e =
     let is = gathers_is (node.opened parent) (told (node.board.contexts parent).birth) node.me parent tag ranks g e in
-    then_some (gathered g.members) (births w parent) is.0 (record { members = g.members })
+    then_some (gathered g.members) (births w parent) is.0 (of_members g.members)
     (told_agrees (node.board.contexts parent).birth (births w parent) is.0 (s.contexts_so parent).birth_so is.1)
     (gathered_there is.0 node.me (length parent) tag ranks g is.2)

@@ -242,6 +242,8 @@ fn is_want_of_memory(refusal: PostError) -> bool
         PostError::CallsUsedUp => false,
         PostError::DepthUsedUp => false,
         PostError::BadGroup => false,
+        PostError::BadEdge => false,
+        PostError::TooManyEdges => false,
         PostError::BadTag => false,
     }
 }

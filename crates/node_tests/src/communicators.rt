@@ -1,7 +1,7 @@
 // Communicators that calls and gatherings make: their births are facts, and a harvest opens them.
 ghost use Rattle.std.specs.Prelude.{◌<◌};
 
-use crate::making::new_of;
+use crate::making::post_on;
 use join_core::Exact;
 use mpx_board::{Board, PruneError};
 use mpx_group::Proc;
@@ -12,17 +12,11 @@ use mpx_value::Outcome;
 use std::alloc::Global;
 use std::process::Abort;
 use std::test::Fail;
+use test_drafts::{Drafted, just};
 
-fn dups(
-    rt: &impl Abort,
-    alloc: Global,
-    node: &mut Node,
-    name: &Name,
-    call: u32,
-) -> Result<(), Fail> {
-    let draft = new_of(alloc, Kind::Dup, &[])?;
-    assert_eq!(rt; node.post(alloc, name, draft), Ok(call));
-    Ok(())
+fn dups(rt: &impl Abort, alloc: Global, node: &mut Node, name: &Name, call: u32) {
+    let told = post_on(alloc, node, name, &just(Kind::Dup));
+    assert_eq!(rt; told, Ok(call));
 }
 
 // Whether the result of the call is this communicator, with so many members and this rank.
@@ -41,52 +35,83 @@ fn dupped(rt: &impl Abort, alloc: Global, me: Proc) -> Result<Node, Fail>
     requires { me < 3 }
 {
     let mut node = Node::new(alloc, me, 3, 3)?;
-    dups(rt, alloc, &mut node, &Name::world(alloc), 0)?;
+    dups(rt, alloc, &mut node, &Name::world(alloc), 0);
     Ok(node)
 }
 
-// Neither birth nor front is told of the child, only posts on it.
-fn holds_posts_alone(
-    rt: &impl Abort,
-    alloc: Global,
-    node: &mut Node,
-    child: &Name,
-) -> Result<(), Fail> {
+// Neither birth nor front is told of the child, only posts on it by ranks 0 and 1.
+fn holds_posts_alone(rt: &impl Abort, alloc: Global, node: &mut Node, child: &Name) {
     assert!(rt; node.board().holds(child, 0, Proc::new(0)).is_some());
+    assert!(rt; node.board().holds(child, 0, Proc::new(1)).is_some());
     assert!(rt; node.board().birth(child).is_none());
     assert_eq!(rt; node.harvest(alloc, child), Ok(Harvest::NotOpened));
     assert_eq!(rt; node.prune(child, 0), Err(PruneError::NoBirth));
-    Ok(())
 }
 
-fn opens_the_child(
-    rt: &impl Abort,
-    alloc: Global,
-    node: &mut Node,
-    child: &Name,
-    rank: u8,
-) -> Result<(), Fail> {
+fn opens_the_child(rt: &impl Abort, alloc: Global, node: &mut Node, child: &Name, rank: u8) {
     let world = Name::world(alloc);
-    assert_eq!(rt; node.harvest(alloc, &world)?, Harvest::Done(0));
+    assert_eq!(rt; node.harvest(alloc, &world), Ok(Harvest::Done(0)));
     assert!(rt; gave(node, &world, 0, child, (3, rank)));
     assert!(rt; node.board().birth(child).is_some());
     assert_eq!(rt; node.harvest(alloc, child), Ok(Harvest::NotYet));
-    Ok(())
 }
 
-// Rank 0 takes the other boards, harvests its dup and posts on the child.
+// A rank takes the other boards, harvests its dup and posts on the child.
 fn goes_ahead(
     rt: &impl Abort,
     alloc: Global,
     node: &mut Node,
     others: &[&Board],
     child: &Name,
+    rank: u8,
 ) -> Result<(), Fail> {
     for other in others {
         node.take(alloc, other)?;
     }
-    opens_the_child(rt, alloc, node, child, 0)?;
-    dups(rt, alloc, node, child, 0)
+    opens_the_child(rt, alloc, node, child, rank);
+    dups(rt, alloc, node, child, 0);
+    Ok(())
+}
+
+// Adds to the posts the process's post on the child, of which another board tells.
+fn add_early(
+    alloc: Global,
+    posts: &mut Board,
+    other: &Board,
+    child: &Name,
+    process: Proc,
+) -> Result<(), Fail> {
+    let post = other.holds(child, 0, process).ok_or("no post")?;
+    let copied = post.copy(alloc)?;
+    Ok(posts.add_post(alloc, child, 0, process, copied)?)
+}
+
+// Takes the posts on the child of ranks 0 and 1, and nothing else.
+fn takes_early(
+    alloc: Global,
+    node: &mut Node,
+    first: &Board,
+    second: &Board,
+    child: &Name,
+) -> Result<(), Fail> {
+    let mut posts = Board::new(alloc);
+    add_early(alloc, &mut posts, first, child, Proc::new(0))?;
+    add_early(alloc, &mut posts, second, child, Proc::new(1))?;
+    Ok(node.take(alloc, &posts)?)
+}
+
+// The posts on the child count with the own one, once the birth is known.
+fn goes_on_below(
+    rt: &impl Abort,
+    alloc: Global,
+    node: &mut Node,
+    child: &Name,
+) -> Result<(), Fail> {
+    let below = child.child(alloc, 0, 0)?;
+    dups(rt, alloc, node, child, 0);
+    assert_eq!(rt; node.harvest(alloc, child), Ok(Harvest::Done(0)));
+    assert!(rt; gave(node, child, 0, &below, (3, 2)));
+    Ok(())
 }
 
 // Rank 2 takes the posts on the child first, and then all.
@@ -94,53 +119,78 @@ fn comes_behind(
     rt: &impl Abort,
     alloc: Global,
     node: &mut Node,
-    ahead: &Board,
+    first: &Board,
+    second: &Board,
     child: &Name,
 ) -> Result<(), Fail> {
-    let mut posts = Board::new(alloc);
-    let post = ahead.holds(child, 0, Proc::new(0)).ok_or("no post")?;
-    posts
-        .add_post(alloc, child, 0, Proc::new(0), post.copy(alloc)?)
-        .ok()
-        .ok_or("posted")?;
-    node.take(alloc, &posts)?;
-    holds_posts_alone(rt, alloc, node, child)?;
-    node.take(alloc, ahead)?;
-    opens_the_child(rt, alloc, node, child, 2)
+    takes_early(alloc, node, first, second, child)?;
+    holds_posts_alone(rt, alloc, node, child);
+    node.take(alloc, first)?;
+    node.take(alloc, second)?;
+    opens_the_child(rt, alloc, node, child, 2);
+    goes_on_below(rt, alloc, node, child)
+}
+
+fn meet_on_the_child(
+    rt: &impl Abort,
+    alloc: Global,
+    first: &mut Node,
+    second: &mut Node,
+    third: &mut Node,
+) -> Result<(), Fail> {
+    let child = Name::world(alloc).child(alloc, 0, 0)?;
+    goes_ahead(
+        rt,
+        alloc,
+        first,
+        &[second.board(), third.board()],
+        &child,
+        0,
+    )?;
+    goes_ahead(
+        rt,
+        alloc,
+        second,
+        &[first.board(), third.board()],
+        &child,
+        1,
+    )?;
+    comes_behind(rt, alloc, third, first.board(), second.board(), &child)
 }
 
 #[test]
 fn posts_on_a_child_may_come_before_its_birth(rt: HostRuntime) -> Result<(), Fail> {
     let alloc = rt.alloc();
-    let child = Name::world(alloc).child(alloc, 0, 0).ok().ok_or("no name")?;
     let mut first = dupped(&rt, alloc, Proc::new(0))?;
-    let second = dupped(&rt, alloc, Proc::new(1))?;
+    let mut second = dupped(&rt, alloc, Proc::new(1))?;
     let mut third = dupped(&rt, alloc, Proc::new(2))?;
-    goes_ahead(
-        &rt,
-        alloc,
-        &mut first,
-        &[second.board(), third.board()],
-        &child,
-    )?;
-    comes_behind(&rt, alloc, &mut third, first.board(), &child)
+    meet_on_the_child(&rt, alloc, &mut first, &mut second, &mut third)
+}
+
+// Opened once more, the gathering has the same name and the post on it.
+fn opens_again(
+    rt: &impl Abort,
+    alloc: Global,
+    node: &mut Node,
+    tag: i128,
+    name: &Name,
+) -> Result<(), Fail> {
+    let again = node.open_gathering(alloc, &Name::world(alloc), tag, &[0, 2])?;
+    assert!(rt; *name == again);
+    assert_eq!(rt; node.posted(name), 1);
+    Ok(())
 }
 
 // A rank of four opens the gathering of ranks 0 and 2, twice by one name, and posts on it.
 fn gathers(rt: &impl Abort, alloc: Global, node: &mut Node, tag: i128) -> Result<Name, Fail> {
-    let world = Name::world(alloc);
-    let name = node
-        .open_gathering(alloc, &world, tag, &[0, 2])
-        .ok()
-        .ok_or("refused")?;
-    let draft = new_of(alloc, Kind::CreateGroup, &[0, 1])?;
-    assert_eq!(rt; node.post(alloc, &name, draft), Ok(0));
-    let again = node
-        .open_gathering(alloc, &world, tag, &[0, 2])
-        .ok()
-        .ok_or("refused")?;
-    assert!(rt; name == again);
-    assert_eq!(rt; node.posted(&name), 1);
+    let name = node.open_gathering(alloc, &Name::world(alloc), tag, &[0, 2])?;
+    let drafted = Drafted {
+        group: &[0, 1],
+        ..just(Kind::CreateGroup)
+    };
+    let told = post_on(alloc, node, &name, &drafted);
+    assert_eq!(rt; told, Ok(0));
+    opens_again(rt, alloc, node, tag, &name)?;
     Ok(name)
 }
 
@@ -151,10 +201,25 @@ fn gets_its_rank(
     name: &Name,
     rank: u8,
 ) -> Result<(), Fail> {
-    let child = name.child(alloc, 0, 0).ok().ok_or("no name")?;
-    assert_eq!(rt; node.harvest(alloc, name)?, Harvest::Done(0));
+    let child = name.child(alloc, 0, 0)?;
+    assert_eq!(rt; node.harvest(alloc, name), Ok(Harvest::Done(0)));
     assert!(rt; gave(node, name, 0, &child, (2, rank)));
     Ok(())
+}
+
+fn meet_on_a_gathering(
+    rt: &impl Abort,
+    alloc: Global,
+    first: &mut Node,
+    third: &mut Node,
+) -> Result<(), Fail> {
+    let name = gathers(rt, alloc, first, 9)?;
+    let same = gathers(rt, alloc, third, 9)?;
+    assert!(rt; name == same);
+    first.take(alloc, third.board())?;
+    third.take(alloc, first.board())?;
+    gets_its_rank(rt, alloc, first, &name, 0)?;
+    gets_its_rank(rt, alloc, third, &name, 1)
 }
 
 #[test]
@@ -162,53 +227,65 @@ fn a_gathering_makes_a_communicator(rt: HostRuntime) -> Result<(), Fail> {
     let alloc = rt.alloc();
     let mut first = Node::new(alloc, Proc::new(0), 4, 4)?;
     let mut third = Node::new(alloc, Proc::new(2), 4, 4)?;
-    let name = gathers(&rt, alloc, &mut first, 9)?;
-    let same = gathers(&rt, alloc, &mut third, 9)?;
-    assert!(rt; name == same);
-    first.take(alloc, third.board())?;
-    third.take(alloc, first.board())?;
-    gets_its_rank(&rt, alloc, &mut first, &name, 0)?;
-    gets_its_rank(&rt, alloc, &mut third, &name, 1)
+    meet_on_a_gathering(&rt, alloc, &mut first, &mut third)
 }
 
 // Two orders of one list are two gatherings.
-#[test]
-fn gatherings_keep_their_order(rt: HostRuntime) -> Result<(), Fail> {
-    let alloc = rt.alloc();
+fn keeps_orders_apart(rt: &impl Abort, alloc: Global, node: &mut Node) -> Result<(), Fail> {
     let world = Name::world(alloc);
-    let mut node = Node::new(alloc, Proc::new(0), 4, 4)?;
-    let one = node
-        .open_gathering(alloc, &world, 9, &[0, 2])
-        .ok()
-        .ok_or("refused")?;
-    let other = node
-        .open_gathering(alloc, &world, 9, &[2, 0])
-        .ok()
-        .ok_or("refused")?;
+    let one = node.open_gathering(alloc, &world, 9, &[0, 2])?;
+    let other = node.open_gathering(alloc, &world, 9, &[2, 0])?;
     assert!(rt; one != other);
     Ok(())
 }
 
+#[test]
+fn gatherings_keep_their_order(rt: HostRuntime) -> Result<(), Fail> {
+    let alloc = rt.alloc();
+    let mut node = Node::new(alloc, Proc::new(0), 4, 4)?;
+    keeps_orders_apart(&rt, alloc, &mut node)
+}
+
+fn refusal(
+    alloc: Global,
+    node: &mut Node,
+    name: &Name,
+    tag: i128,
+    ranks: &[i128],
+) -> Option<PostError> {
+    match node.open_gathering(alloc, name, tag, ranks) {
+        Ok(_) => None,
+        Err(refusal) => Some(refusal),
+    }
+}
+
 // A bad group is told before a bad tag, and no member before both.
+fn refuses_in_order(
+    rt: &impl Abort,
+    alloc: Global,
+    node: &mut Node,
+    world: &Name,
+    unopened: &Name,
+) {
+    for (name, tag, ranks, wanted) in [
+        (unopened, -1, [0, 0].as_slice(), PostError::NotMember),
+        (world, -1, [0, 0].as_slice(), PostError::BadGroup),
+        (world, -1, [0, 4].as_slice(), PostError::BadGroup),
+        (world, -1, [1, 2].as_slice(), PostError::BadGroup),
+        (world, -1, [0, 2].as_slice(), PostError::BadTag),
+        (world, 32_768, [0, 2].as_slice(), PostError::BadTag),
+    ] {
+        assert_eq!(rt; refusal(alloc, node, name, tag, ranks), Some(wanted));
+    }
+}
+
 #[test]
 fn gatherings_are_refused_in_order(rt: HostRuntime) -> Result<(), Fail> {
     let alloc = rt.alloc();
     let world = Name::world(alloc);
-    let unopened = world.child(alloc, 0, 0).ok().ok_or("no name")?;
+    let unopened = world.child(alloc, 0, 0)?;
     let mut node = Node::new(alloc, Proc::new(0), 4, 4)?;
-    for (name, tag, ranks, refusal) in [
-        (&unopened, -1, [0, 0].as_slice(), PostError::NotMember),
-        (&world, -1, [0, 0].as_slice(), PostError::BadGroup),
-        (&world, -1, [0, 4].as_slice(), PostError::BadGroup),
-        (&world, -1, [1, 2].as_slice(), PostError::BadGroup),
-        (&world, -1, [0, 2].as_slice(), PostError::BadTag),
-        (&world, 32_768, [0, 2].as_slice(), PostError::BadTag),
-    ] {
-        assert_eq!(rt;
-            node.open_gathering(alloc, name, tag, ranks).err(),
-            Some(refusal)
-        );
-    }
+    refuses_in_order(&rt, alloc, &mut node, &world, &unopened);
     Ok(())
 }
 
@@ -216,12 +293,12 @@ fn gatherings_are_refused_in_order(rt: HostRuntime) -> Result<(), Fail> {
 fn goes_down(rt: &impl Abort, alloc: Global, node: &mut Node) -> Result<(), Fail> {
     let mut name = Name::world(alloc);
     for _ in 0..8 {
-        dups(rt, alloc, node, &name, 0)?;
-        assert_eq!(rt; node.harvest(alloc, &name)?, Harvest::Done(0));
-        name = name.child(alloc, 0, 0).ok().ok_or("no name")?;
+        dups(rt, alloc, node, &name, 0);
+        assert_eq!(rt; node.harvest(alloc, &name), Ok(Harvest::Done(0)));
+        name = name.child(alloc, 0, 0)?;
     }
-    let draft = new_of(alloc, Kind::Dup, &[])?;
-    assert_eq!(rt; node.post(alloc, &name, draft), Err(PostError::DepthUsedUp));
+    let told = post_on(alloc, node, &name, &just(Kind::Dup));
+    assert_eq!(rt; told, Err(PostError::DepthUsedUp));
     Ok(())
 }
 

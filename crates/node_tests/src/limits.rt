@@ -5,44 +5,67 @@ use mpx_group::Proc;
 use mpx_name::Name;
 use mpx_post::{At, Birth, Post, PostError};
 use std::alloc::Global;
-use std::test::Fail;
+use test_drafts::check;
 
-// What a world of two makes of a sum of so many numbers that are all this one, after so many calls.
-fn checked(
+// What a world of two makes of a sum of these numbers, after so many calls.
+fn checked(alloc: Global, me: Proc, call: u32, nums: &[i128]) -> Result<Post, PostError> {
+    let at = At::on(&Name::world(alloc), call);
+    match Birth::world(alloc, 2) {
+        Ok(world) => check(alloc, &world, me, &at, &sum_of(nums)),
+        Err(_) => Err(PostError::OutOfMemory),
+    }
+}
+
+// What it makes of so many numbers that are all this one.
+fn repeated(
     alloc: Global,
     me: Proc,
     call: u32,
     number: i128,
     count: usize,
-) -> Result<Result<Post, PostError>, Fail> {
-    let nums = vec![in alloc; number; count]?;
-    let draft = sum_of(alloc, &nums)?;
-    let world = Birth::world(alloc, 2)?;
-    Ok(draft.check(alloc, &world, me, &At::on(&Name::world(alloc), call)))
+) -> Result<Post, PostError> {
+    match vec![in alloc; number; count] {
+        Ok(nums) => checked(alloc, me, call, &nums),
+        Err(_) => Err(PostError::OutOfMemory),
+    }
+}
+
+fn is_copied(alloc: Global, post: &Post) -> bool {
+    match post.copy(alloc) {
+        Ok(copied) => copied.same(post),
+        Err(_) => false,
+    }
+}
+
+fn is_posted(alloc: Global, me: Proc, call: u32, number: i128, count: usize) -> bool {
+    match repeated(alloc, me, call, number, count) {
+        Ok(post) => is_copied(alloc, &post),
+        Err(_) => false,
+    }
 }
 
 // As many items and calls as there may be.
 #[test]
-fn posts_at_the_limits(rt: HostRuntime) -> Result<(), Fail> {
-    let alloc = rt.alloc();
-    for (me, call, number, count) in [
-        (Proc::new(0), 0, 7, 4096),
-        (Proc::new(1), 4_294_967_294, -9223372036854775808, 0),
-    ] {
-        let post = checked(alloc, me, call, number, count)?
-            .ok()
-            .ok_or("refused")?;
-        assert!(rt; post.copy(alloc)?.same(&post));
+fn posts_at_the_limits(rt: HostRuntime) {
+    let (one, other) = (Proc::new(0), Proc::new(1));
+    let last = 4_294_967_294;
+    assert!(rt; is_posted(rt.alloc(), one, 0, 7, 4096));
+    assert!(rt; is_posted(rt.alloc(), other, last, -9223372036854775808, 0));
+}
+
+fn refusal(alloc: Global, me: Proc, call: u32, number: i128, count: usize) -> Option<PostError> {
+    match repeated(alloc, me, call, number, count) {
+        Ok(_) => None,
+        Err(refusal) => Some(refusal),
     }
-    Ok(())
 }
 
 #[test]
-fn refusals_beyond_the_limits(rt: HostRuntime) -> Result<(), Fail> {
+fn refusals_beyond_the_limits(rt: HostRuntime) {
     let one_too_large = 9223372036854775808;
     let last = 4_294_967_295;
     let me = Proc::new(0);
-    for (me, call, number, count, refusal) in [
+    for (me, call, number, count, wanted) in [
         (me, 0, 7, 4097, PostError::TooManyItems),
         (me, 0, one_too_large, 1, PostError::ItemOutOfRange),
         (me, last, one_too_large, 4097, PostError::ItemOutOfRange),
@@ -56,8 +79,7 @@ fn refusals_beyond_the_limits(rt: HostRuntime) -> Result<(), Fail> {
             PostError::NotMember,
         ),
     ] {
-        let told = checked(rt.alloc(), me, call, number, count)?.err();
-        assert_eq!(rt; told, Some(refusal));
+        let told = refusal(rt.alloc(), me, call, number, count);
+        assert_eq!(rt; told, Some(wanted));
     }
-    Ok(())
 }

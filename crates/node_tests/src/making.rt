@@ -4,40 +4,40 @@ ghost use Rattle.std.specs.Prelude.{◌<◌};
 use mpx_group::Proc;
 use mpx_name::Name;
 use mpx_node::Node;
-use mpx_num::{Numbers, Op, Ty};
-use mpx_post::{Call, Draft, Kind};
+use mpx_num::Ty;
+use mpx_post::{Kind, PostError};
 use std::alloc::Global;
 use std::process::Abort;
 use std::test::Fail;
+use test_drafts::{Drafted, draft, just};
 
-pub fn sum_of(alloc: Global, nums: &[i128]) -> Result<Draft, Fail> {
-    Ok(Draft {
-        call: Call::blocking(Kind::Allreduce),
-        root: 0,
-        op: Op::Sum,
+pub fn sum_of(items: &[i128]) -> Drafted<'_> {
+    Drafted {
         ty: Ty::I64,
-        scounts: Numbers::new(alloc, Vec::new(alloc))?,
-        rcounts: Numbers::new(alloc, Vec::new(alloc))?,
-        items: Numbers::new(alloc, Vec::from_slice(alloc, nums)?)?,
-        colour: None,
-        key: 0,
-        group: Numbers::new(alloc, Vec::new(alloc))?,
-    })
+        items,
+        ..just(Kind::Allreduce)
+    }
+}
+
+// What the node answers to this as its next call.
+pub fn post_on(
+    alloc: Global,
+    node: &mut Node,
+    name: &Name,
+    drafted: &Drafted<'_>,
+) -> Result<u32, PostError> {
+    match draft(alloc, drafted) {
+        Ok(draft) => node.post(alloc, name, draft),
+        Err(_) => Err(PostError::OutOfMemory),
+    }
 }
 
 // The node gives these numbers to its next call on the world, which is this one.
-pub fn post(
-    rt: &impl Abort,
-    alloc: Global,
-    node: &mut Node,
-    call: u32,
-    nums: &[i128],
-) -> Result<(), Fail> {
+pub fn post(rt: &impl Abort, alloc: Global, node: &mut Node, call: u32, nums: &[i128]) {
     let world = Name::world(alloc);
-    let draft = sum_of(alloc, nums)?;
-    assert_eq!(rt; node.post(alloc, &world, draft), Ok(call));
+    let told = post_on(alloc, node, &world, &sum_of(nums));
+    assert_eq!(rt; told, Ok(call));
     assert!(rt; node.posted(&world) > call);
-    Ok(())
 }
 
 // A rank of so many beside one relay, with these calls posted.
@@ -53,15 +53,7 @@ pub fn posted(
 {
     let mut node = Node::new(alloc, me, ranks, ranks + 1)?;
     for (call, nums) in posts {
-        post(rt, alloc, &mut node, *call, nums)?;
+        post(rt, alloc, &mut node, *call, nums);
     }
     Ok(node)
-}
-
-// What makes communicators: a kind of call, and the ranks of a group where it has one.
-pub fn new_of(alloc: Global, kind: Kind, ranks: &[i128]) -> Result<Draft, Fail> {
-    let mut draft = sum_of(alloc, &[])?;
-    draft.call = Call::blocking(kind);
-    draft.group = Numbers::new(alloc, Vec::from_slice(alloc, ranks)?)?;
-    Ok(draft)
 }

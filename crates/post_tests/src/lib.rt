@@ -8,6 +8,8 @@ mod making;
 #[cfg(test)]
 mod new_communicators;
 #[cfg(test)]
+mod pairs;
+#[cfg(test)]
 mod posts;
 #[cfg(test)]
 mod refusals;

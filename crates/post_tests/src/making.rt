@@ -1,26 +1,11 @@
-//! Drafts and posts that the tests use.
+//! What posts of drafts tell, and why drafts are refused, in a communicator of two. No function owns two posts: each exit
+//! of a function walks the drop of all that it owns.
 use mpx_group::Proc;
-use mpx_num::{Numbers, Op, Ty};
-use mpx_post::{At, Birth, Call, Draft, Kind, Post, PostError};
+use mpx_num::Op;
+use mpx_post::{At, Birth, Kind, Mode, Post, PostError};
 use std::alloc::Global;
-use std::test::Fail;
-
-// What a process drafts.
-#[derive(Clone, Copy)]
-pub struct Drafted {
-    pub kind: Kind,
-    pub root: i128,
-    pub op: Op,
-    pub ty: Ty,
-    pub scounts: &'static [i128],
-    pub rcounts: &'static [i128],
-    pub items: &'static [i128],
-    pub colour: Option<i128>,
-    pub key: i128,
-    pub group: &'static [i128],
-}
-
-const NO: &[i128] = &[];
+use std::process::Abort;
+use test_drafts::{Drafted, check};
 
 // The process with this number, which is below 64.
 pub fn proc(number: u8) -> Proc {
@@ -28,41 +13,6 @@ pub fn proc(number: u8) -> Proc {
         return Proc::new(number);
     }
     Proc::new(0)
-}
-
-// A draft of the kind that has no lists, with the sum and 32 bits.
-pub fn just(kind: Kind, root: i128) -> Drafted {
-    Drafted {
-        kind,
-        root,
-        op: Op::Sum,
-        ty: Ty::I32,
-        scounts: NO,
-        rcounts: NO,
-        items: NO,
-        colour: None,
-        key: 0,
-        group: NO,
-    }
-}
-
-fn numbers(alloc: Global, list: &[i128]) -> Result<Numbers, Fail> {
-    Ok(Numbers::new(alloc, Vec::from_slice(alloc, list)?)?)
-}
-
-pub fn draft(alloc: Global, drafted: &Drafted) -> Result<Draft, Fail> {
-    Ok(Draft {
-        call: Call::blocking(drafted.kind),
-        root: drafted.root,
-        op: drafted.op,
-        ty: drafted.ty,
-        scounts: numbers(alloc, drafted.scounts)?,
-        rcounts: numbers(alloc, drafted.rcounts)?,
-        items: numbers(alloc, drafted.items)?,
-        colour: drafted.colour,
-        key: drafted.key,
-        group: numbers(alloc, drafted.group)?,
-    })
 }
 
 // A call of world with this number.
@@ -74,24 +24,102 @@ pub fn in_world(call: u32) -> At {
     }
 }
 
-// What a communicator of two makes of a draft of the process with this number.
-pub fn check(
+// What is made of what the process with this number drafts there.
+pub fn post_at(
     alloc: Global,
     number: u8,
     at: &At,
-    draft: Draft,
-) -> Result<Result<Post, PostError>, Fail> {
-    let pair = Birth::world(alloc, 2)?;
-    Ok(draft.check(alloc, &pair, proc(number), at))
+    drafted: &Drafted<'_>,
+) -> Result<Post, PostError> {
+    match Birth::world(alloc, 2) {
+        Ok(pair) => check(alloc, &pair, proc(number), at, drafted),
+        Err(_) => Err(PostError::OutOfMemory),
+    }
 }
 
-// What it makes of the draft of process 0 there.
-pub fn post_at(alloc: Global, at: &At, drafted: &Drafted) -> Result<Post, Fail> {
-    let made = check(alloc, 0, at, draft(alloc, drafted)?)?;
-    Ok(made.ok().ok_or("refused")?)
+// What is made of what process 0 drafts as the first call of world.
+pub fn post(alloc: Global, drafted: &Drafted<'_>) -> Result<Post, PostError> {
+    post_at(alloc, 0, &in_world(0), drafted)
 }
 
-// What it makes of the draft of process 0 as the first call of world.
-pub fn post(alloc: Global, drafted: &Drafted) -> Result<Post, Fail> {
-    post_at(alloc, &in_world(0), drafted)
+fn refusal(alloc: Global, number: u8, at: &At, drafted: &Drafted<'_>) -> Option<PostError> {
+    match post_at(alloc, number, at, drafted) {
+        Ok(_) => None,
+        Err(refusal) => Some(refusal),
+    }
+}
+
+// That what each of these processes drafts there is refused so, or not at all.
+pub fn check_refusals(
+    rt: &impl Abort,
+    alloc: Global,
+    table: &[(u8, At, Drafted<'_>, Option<PostError>)],
+) {
+    for (i, row) in table.iter().enumerate() {
+        let (number, at, drafted, wanted) = row;
+        assert_eq!(rt; refusal(alloc, *number, at, drafted), *wanted, "row {i}");
+    }
+}
+
+// What a post tells: beside the sums of all its send counts and of rank 0's receive count, that it blocks.
+#[derive(Clone, Copy)]
+pub struct Told<'a> {
+    pub kind: Kind,
+    pub root: Option<u8>,
+    pub op: Option<Op>,
+    pub has_items: bool,
+    pub count: usize,
+    pub sent: usize,
+    pub received_first: usize,
+    pub rcounts: &'a [u16],
+    pub colour: Option<u32>,
+    pub key: i32,
+    pub group: &'a [u8],
+}
+
+// The kind, and nothing else.
+pub fn kind_alone(kind: Kind) -> Told<'static> {
+    Told {
+        kind,
+        root: None,
+        op: None,
+        has_items: false,
+        count: 0,
+        sent: 0,
+        received_first: 0,
+        rcounts: &[],
+        colour: None,
+        key: 0,
+        group: &[],
+    }
+}
+
+fn is_told(post: &Post, wanted: &Told<'_>) -> bool {
+    (post.kind() == wanted.kind)
+        & (post.mode() == Mode::Blocking)
+        & (post.root() == wanted.root)
+        & (post.op() == wanted.op)
+        & (post.items().is_some() == wanted.has_items)
+        & (post.count() == wanted.count)
+        & (post.scounts().sum() == wanted.sent)
+        & (post.rcounts().sum_before(1) == wanted.received_first)
+        & (post.rcounts().as_slice() == wanted.rcounts)
+        & (post.colour() == wanted.colour)
+        & (post.key() == wanted.key)
+        & (post.group() == wanted.group)
+}
+
+fn tells(alloc: Global, at: &At, drafted: &Drafted<'_>, wanted: &Told<'_>) -> bool {
+    match post_at(alloc, 0, at, drafted) {
+        Ok(post) => is_told(&post, wanted),
+        Err(_) => false,
+    }
+}
+
+// That the post of what process 0 drafts there tells this.
+pub fn check_told(rt: &impl Abort, alloc: Global, table: &[(At, Drafted<'_>, Told<'_>)]) {
+    for (i, row) in table.iter().enumerate() {
+        let (at, drafted, wanted) = row;
+        assert!(rt; tells(alloc, at, drafted, wanted), "row {i}");
+    }
 }

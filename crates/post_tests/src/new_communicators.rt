@@ -1,11 +1,12 @@
 //! Posts of calls that make communicators: what they tell, and why drafts of them are refused.
-use crate::making::{Drafted, check, draft, in_world, just, post, post_at, proc};
-use join_core::Exact;
+use crate::making::{Told, check_refusals, check_told, in_world, kind_alone, proc};
+use crate::pairs::{check_draft_copies, check_pairs};
 use mpx_group::Group;
 use mpx_name::Name;
-use mpx_post::{At, Kind, Mode, Post, PostError};
+use mpx_post::{At, Kind, PostError};
 use std::alloc::Global;
 use std::test::Fail;
+use test_drafts::{Drafted, just};
 
 // A call of a context with so many steps that is a gathering or none.
 fn on(call: u32, depth: usize, gathering: bool) -> At {
@@ -16,192 +17,168 @@ fn on(call: u32, depth: usize, gathering: bool) -> At {
     }
 }
 
-fn split(colour: Option<i128>, key: i128) -> Drafted {
+fn split(colour: Option<i128>, key: i128) -> Drafted<'static> {
     Drafted {
         colour,
         key,
-        ..just(Kind::Split, 0)
+        ..just(Kind::Split)
     }
 }
 
-fn create(group: &'static [i128]) -> Drafted {
+fn create(group: &'static [i128]) -> Drafted<'static> {
     Drafted {
         group,
-        ..just(Kind::Create, 0)
+        ..just(Kind::Create)
     }
-}
-
-// Why the draft of process 0 is refused there.
-fn refusal(alloc: Global, at: &At, drafted: &Drafted) -> Result<Option<PostError>, Fail> {
-    Ok(check(alloc, 0, at, draft(alloc, drafted)?)?.err())
-}
-
-// What a post says of a new communicator.
-fn said(post: &Post) -> (Option<u32>, i32, usize) {
-    (post.colour(), post.key(), post.group().len())
 }
 
 #[test]
-fn dups_say_nothing(rt: HostRuntime) -> Result<(), Fail> {
-    let drafted = Drafted {
+fn dups_and_calls_of_create_group_say_nothing(rt: HostRuntime) {
+    let dup = Drafted {
+        root: 7,
         colour: Some(-1),
         key: 2147483648,
         group: &[9, 9],
-        ..just(Kind::Dup, 7)
+        ..just(Kind::Dup)
     };
-    let dup = post(rt.alloc(), &drafted)?;
-    assert_eq!(rt; (dup.kind(), dup.mode()), (Kind::Dup, Mode::Blocking));
-    assert_eq!(rt; (dup.root(), dup.op(), dup.count()), (None, None, 0));
-    assert_eq!(rt; said(&dup), (None, 0, 0));
-    Ok(())
-}
-
-#[test]
-fn splits_have_a_colour_and_a_key(rt: HostRuntime) -> Result<(), Fail> {
-    for (drafted, wanted) in [
-        (split(Some(0), 0), (Some(0), 0, 0)),
-        (
-            split(Some(2147483647), -2147483648),
-            (Some(2147483647), -2147483648, 0),
-        ),
-        (split(None, 2147483647), (None, 2147483647, 0)),
-    ] {
-        assert_eq!(rt; said(&post(rt.alloc(), &drafted)?), wanted);
-    }
-    Ok(())
-}
-
-#[test]
-fn creates_have_a_group(rt: HostRuntime) -> Result<(), Fail> {
-    let alloc = rt.alloc();
-    let reversed = post(alloc, &create(&[1, 0]))?;
-    assert_eq!(rt; reversed.group(), &[1, 0][..]);
-    let empty = post(alloc, &create(&[]))?;
-    assert_eq!(rt; said(&empty), (None, 0, 0));
-    Ok(())
-}
-
-#[test]
-fn gatherings_have_calls_of_create_group(rt: HostRuntime) -> Result<(), Fail> {
-    let created = post_at(rt.alloc(), &on(0, 1, true), &just(Kind::CreateGroup, 0))?;
-    assert_eq!(rt;
-        (created.kind(), created.mode()),
-        (Kind::CreateGroup, Mode::Blocking)
+    let create_group = just(Kind::CreateGroup);
+    check_told(
+        &rt,
+        rt.alloc(),
+        &[
+            (in_world(0), dup, kind_alone(Kind::Dup)),
+            (on(0, 1, true), create_group, kind_alone(Kind::CreateGroup)),
+        ],
     );
-    assert_eq!(rt; said(&created), (None, 0, 0));
-    Ok(())
+}
+
+fn has_split(colour: Option<u32>, key: i32) -> Told<'static> {
+    Told {
+        colour,
+        key,
+        ..kind_alone(Kind::Split)
+    }
+}
+
+fn has_created(group: &'static [u8]) -> Told<'static> {
+    Told {
+        group,
+        ..kind_alone(Kind::Create)
+    }
 }
 
 #[test]
-fn limits_of_colours_and_keys(rt: HostRuntime) -> Result<(), Fail> {
-    for drafted in [
-        split(Some(2147483648), 0),
-        split(Some(-1), 0),
-        split(None, 2147483648),
-        split(Some(0), -2147483649),
-    ] {
-        let told = refusal(rt.alloc(), &in_world(0), &drafted)?;
-        assert_eq!(rt; told, Some(PostError::BadTag));
-    }
-    Ok(())
+fn splits_have_a_colour_and_a_key_and_creates_a_group(rt: HostRuntime) {
+    let at = in_world(0);
+    let (most, least_key) = (2147483647, -2147483648);
+    check_told(
+        &rt,
+        rt.alloc(),
+        &[
+            (at, split(Some(0), 0), has_split(Some(0), 0)),
+            (
+                at,
+                split(Some(2147483647), -2147483648),
+                has_split(Some(most), least_key),
+            ),
+            (at, split(None, 2147483647), has_split(None, 2147483647)),
+            (at, create(&[1, 0]), has_created(&[1, 0])),
+            (at, create(&[]), has_created(&[])),
+        ],
+    );
 }
 
 #[test]
-fn ranks_of_groups(rt: HostRuntime) -> Result<(), Fail> {
-    for group in [&[2][..], &[-1][..], &[0, 0][..], &[1, 0, 1][..]] {
-        let told = refusal(rt.alloc(), &in_world(0), &create(group))?;
-        assert_eq!(rt; told, Some(PostError::BadGroup));
-    }
-    Ok(())
+fn limits_of_colours_keys_and_groups(rt: HostRuntime) {
+    use PostError::{BadGroup, BadTag};
+    let at = in_world(0);
+    check_refusals(
+        &rt,
+        rt.alloc(),
+        &[
+            (0, at, split(Some(2147483648), 0), Some(BadTag)),
+            (0, at, split(Some(-1), 0), Some(BadTag)),
+            (0, at, split(None, 2147483648), Some(BadTag)),
+            (0, at, split(Some(0), -2147483649), Some(BadTag)),
+            (0, at, create(&[2]), Some(BadGroup)),
+            (0, at, create(&[-1]), Some(BadGroup)),
+            (0, at, create(&[0, 0]), Some(BadGroup)),
+            (0, at, create(&[1, 0, 1]), Some(BadGroup)),
+        ],
+    );
 }
 
 #[test]
-fn calls_have_their_contexts(rt: HostRuntime) -> Result<(), Fail> {
-    for (kind, gathering) in [
-        (Kind::CreateGroup, false),
-        (Kind::Barrier, true),
-        (Kind::Dup, true),
-        (Kind::Split, true),
-        (Kind::Create, true),
-    ] {
-        let told = refusal(rt.alloc(), &on(0, 1, gathering), &just(kind, 0))?;
-        assert_eq!(rt; told, Some(PostError::BadGroup));
-    }
-    Ok(())
+fn calls_have_their_contexts(rt: HostRuntime) {
+    use PostError::BadGroup;
+    let (plain, gathering) = (on(0, 1, false), on(0, 1, true));
+    check_refusals(
+        &rt,
+        rt.alloc(),
+        &[
+            (0, plain, just(Kind::CreateGroup), Some(BadGroup)),
+            (0, gathering, just(Kind::Barrier), Some(BadGroup)),
+            (0, gathering, just(Kind::Dup), Some(BadGroup)),
+            (0, gathering, just(Kind::Split), Some(BadGroup)),
+            (0, gathering, just(Kind::Create), Some(BadGroup)),
+        ],
+    );
 }
 
 #[test]
-fn refusals_in_their_order(rt: HostRuntime) -> Result<(), Fail> {
-    for (at, drafted, wanted) in [
-        (
-            on(4294967295, 8, true),
-            just(Kind::Dup, 0),
-            Some(PostError::CallsUsedUp),
-        ),
-        (
-            on(0, 8, true),
-            just(Kind::Dup, 0),
-            Some(PostError::DepthUsedUp),
-        ),
-        (
-            on(0, 8, false),
-            create(&[0, 0]),
-            Some(PostError::DepthUsedUp),
-        ),
-        (
-            on(0, 7, true),
-            split(Some(-1), 0),
-            Some(PostError::BadGroup),
-        ),
-        (on(0, 7, false), split(Some(-1), 0), Some(PostError::BadTag)),
-        (on(0, 7, false), just(Kind::Dup, 0), None),
-        (on(0, 8, false), just(Kind::Barrier, 0), None),
-    ] {
-        assert_eq!(rt; refusal(rt.alloc(), &at, &drafted)?, wanted);
-    }
-    Ok(())
+fn refusals_in_their_order(rt: HostRuntime) {
+    use PostError::{BadGroup, BadTag, CallsUsedUp, DepthUsedUp};
+    let dup = just(Kind::Dup);
+    check_refusals(
+        &rt,
+        rt.alloc(),
+        &[
+            (0, on(4294967295, 8, true), dup, Some(CallsUsedUp)),
+            (0, on(0, 8, true), dup, Some(DepthUsedUp)),
+            (0, on(0, 8, false), create(&[0, 0]), Some(DepthUsedUp)),
+            (0, on(0, 7, true), split(Some(-1), 0), Some(BadGroup)),
+            (0, on(0, 7, false), split(Some(-1), 0), Some(BadTag)),
+            (0, on(0, 7, false), dup, None),
+            (0, on(0, 8, false), just(Kind::Barrier), None),
+        ],
+    );
 }
 
 #[test]
 fn posts_differ_in_what_they_say(rt: HostRuntime) -> Result<(), Fail> {
-    let alloc = rt.alloc();
-    for (drafted, other) in [
-        (split(Some(3), 1), split(Some(4), 1)),
-        (split(Some(3), 1), split(Some(3), 2)),
-        (split(Some(0), 1), split(None, 1)),
-        (create(&[0, 1]), create(&[1, 0])),
-        (create(&[0, 1]), create(&[0])),
-    ] {
-        let one = post(alloc, &drafted)?;
-        assert!(rt; !one.same(&post(alloc, &other)?));
-        assert!(rt; one.same(&post(alloc, &drafted)?));
-        let copied = one.copy(alloc)?;
-        assert!(rt; copied.same(&one));
-        assert_eq!(rt; said(&copied), said(&one));
-    }
-    Ok(())
+    check_pairs(
+        &rt,
+        rt.alloc(),
+        &[
+            (split(Some(3), 1), split(Some(4), 1)),
+            (split(Some(3), 1), split(Some(3), 2)),
+            (split(Some(0), 1), split(None, 1)),
+            (create(&[0, 1]), create(&[1, 0])),
+            (create(&[0, 1]), create(&[0])),
+        ],
+    )
 }
 
 #[test]
 fn drafts_are_copied(rt: HostRuntime) -> Result<(), Fail> {
-    let alloc = rt.alloc();
-    let copied = draft(alloc, &split(Some(5), -6))?.copy()?;
-    assert_eq!(rt;
-        (copied.call.kind(), copied.colour, copied.key),
-        (Kind::Split, Some(5), -6)
-    );
-    let created = draft(alloc, &create(&[1, 0]))?.copy()?;
-    assert_eq!(rt; created.group.as_slice(), &[1, 0][..]);
-    Ok(())
+    check_draft_copies(
+        &rt,
+        rt.alloc(),
+        &[split(Some(5), -6), create(&[1, 0]), just(Kind::Barrier)],
+    )
+}
+
+// Where call 0 stands of the gathering of process 1 alone below a child of world.
+fn gathered(alloc: Global) -> Result<At, Fail> {
+    let members = Group::new(vec![in alloc; proc(1)]?)?;
+    let child = Name::world(alloc).child(alloc, 0, 0)?;
+    Ok(At::on(&child.gathering(alloc, 9, &members)?, 0))
 }
 
 #[test]
 fn places_of_calls(rt: HostRuntime) -> Result<(), Fail> {
     let alloc = rt.alloc();
-    let world = Name::world(alloc);
-    assert_eq!(rt; At::on(&world, 3), on(3, 0, false));
-    let members = Group::new(vec![in alloc; proc(1)]?)?;
-    let gathering = world.child(alloc, 0, 0)?.gathering(alloc, 9, &members)?;
-    assert_eq!(rt; At::on(&gathering, 0), on(0, 2, true));
+    assert_eq!(rt; At::on(&Name::world(alloc), 3), on(3, 0, false));
+    assert_eq!(rt; gathered(alloc)?, on(0, 2, true));
     Ok(())
 }

@@ -1,36 +1,32 @@
 //! Refusals of drafts, with values from outside.
-use crate::making::{Drafted, check, draft, in_world, just};
+use crate::making::{check_refusals, in_world};
 use mpx_num::{Op, Ty};
 use mpx_post::{Kind, PostError};
-use std::alloc::Global;
-use std::test::Fail;
+use test_drafts::{Drafted, just};
 
-// Why the first call of the process with this number is refused.
-fn refusal(alloc: Global, number: u8, drafted: &Drafted) -> Result<Option<PostError>, Fail> {
-    let draft = draft(alloc, drafted)?;
-    Ok(check(alloc, number, &in_world(0), draft)?.err())
-}
-
-fn reduce(root: i128, op: Op) -> Drafted {
+fn reduce(root: i128, op: Op) -> Drafted<'static> {
     Drafted {
+        root,
         op,
         items: &[1],
-        ..just(Kind::Reduce, root)
+        ..just(Kind::Reduce)
     }
 }
 
 #[test]
-fn members_roots_and_operations(rt: HostRuntime) -> Result<(), Fail> {
-    for (number, root, op, wanted) in [
-        (2, 2, Op::Sum, PostError::NotMember),
-        (0, 2, Op::Maxloc, PostError::RootOutOfRange),
-        (0, -1, Op::Sum, PostError::RootOutOfRange),
-        (0, 0, Op::Maxloc, PostError::OpNotForType),
-    ] {
-        let told = refusal(rt.alloc(), number, &reduce(root, op))?;
-        assert_eq!(rt; told, Some(wanted));
-    }
-    Ok(())
+fn members_roots_and_operations(rt: HostRuntime) {
+    use PostError::{NotMember, OpNotForType, RootOutOfRange};
+    let at = in_world(0);
+    check_refusals(
+        &rt,
+        rt.alloc(),
+        &[
+            (2, at, reduce(2, Op::Sum), Some(NotMember)),
+            (0, at, reduce(2, Op::Maxloc), Some(RootOutOfRange)),
+            (0, at, reduce(-1, Op::Sum), Some(RootOutOfRange)),
+            (0, at, reduce(0, Op::Maxloc), Some(OpNotForType)),
+        ],
+    );
 }
 
 // Blocks of so many items, that each rank sends to all.
@@ -38,105 +34,90 @@ fn exchanged(
     scounts: &'static [i128],
     rcounts: &'static [i128],
     items: &'static [i128],
-) -> Drafted {
+) -> Drafted<'static> {
     Drafted {
         scounts,
         rcounts,
         items,
-        ..just(Kind::Alltoallv, 0)
+        ..just(Kind::Alltoallv)
     }
-}
-
-#[test]
-fn lengths_of_exchanges(rt: HostRuntime) -> Result<(), Fail> {
-    for (drafted, wanted) in [
-        (exchanged(&[1, 2], &[1], &[7]), PostError::CountsLength),
-        (
-            exchanged(&[1, 1], &[5000, 1], &[7, 8]),
-            PostError::TooManyItems,
-        ),
-        (exchanged(&[1, 1], &[5000, 1], &[7]), PostError::ItemsLength),
-    ] {
-        let told = refusal(rt.alloc(), 0, &drafted)?;
-        assert_eq!(rt; told, Some(wanted));
-    }
-    Ok(())
 }
 
 // What is received at the first root, of which so many items are told.
-fn received(kind: Kind, rcounts: &'static [i128], items: &'static [i128]) -> Drafted {
+fn received(kind: Kind, rcounts: &'static [i128], items: &'static [i128]) -> Drafted<'static> {
     Drafted {
         rcounts,
         items,
-        ..just(kind, 0)
+        ..just(kind)
     }
 }
 
 #[test]
-fn lengths_of_one_block(rt: HostRuntime) -> Result<(), Fail> {
-    for (number, drafted, wanted) in [
-        (
-            0,
-            received(Kind::Bcast, &[4096], &[]),
-            PostError::ItemsLength,
-        ),
-        (
-            0,
-            received(Kind::Bcast, &[4097], &[]),
-            PostError::TooManyItems,
-        ),
-        (
-            1,
-            received(Kind::Scatter, &[1], &[7]),
-            PostError::ItemsLength,
-        ),
-    ] {
-        let told = refusal(rt.alloc(), number, &drafted)?;
-        assert_eq!(rt; told, Some(wanted));
-    }
-    Ok(())
-}
-
-#[test]
-fn items_outside_their_type(rt: HostRuntime) -> Result<(), Fail> {
-    for (kind, ty, items, wanted) in [
-        (
-            Kind::Gather,
-            Ty::TwoInt,
-            [i128::MAX].as_slice(),
-            PostError::ItemsLength,
-        ),
-        (
-            Kind::Allgather,
-            Ty::I8,
-            [128].as_slice(),
-            PostError::ItemOutOfRange,
-        ),
-    ] {
-        let drafted = Drafted {
-            ty,
-            items,
-            ..just(kind, 0)
-        };
-        let told = refusal(rt.alloc(), 0, &drafted)?;
-        assert_eq!(rt; told, Some(wanted));
-    }
-    Ok(())
-}
-
-// Why a barrier is refused after so many calls.
-fn refused_after(alloc: Global, call: u32) -> Result<Option<PostError>, Fail> {
-    let draft = draft(alloc, &just(Kind::Barrier, 0))?;
-    Ok(check(alloc, 0, &in_world(call), draft)?.err())
-}
-
-#[test]
-fn calls_are_used_up(rt: HostRuntime) -> Result<(), Fail> {
-    let alloc = rt.alloc();
-    assert_eq!(rt; refused_after(alloc, 4294967294)?, None);
-    assert_eq!(rt;
-        refused_after(alloc, 4294967295)?,
-        Some(PostError::CallsUsedUp)
+fn lengths(rt: HostRuntime) {
+    use PostError::{CountsLength, ItemsLength, TooManyItems};
+    let at = in_world(0);
+    check_refusals(
+        &rt,
+        rt.alloc(),
+        &[
+            (0, at, exchanged(&[1, 2], &[1], &[7]), Some(CountsLength)),
+            (
+                0,
+                at,
+                exchanged(&[1, 1], &[5000, 1], &[7, 8]),
+                Some(TooManyItems),
+            ),
+            (
+                0,
+                at,
+                exchanged(&[1, 1], &[5000, 1], &[7]),
+                Some(ItemsLength),
+            ),
+            (
+                0,
+                at,
+                received(Kind::Bcast, &[4096], &[]),
+                Some(ItemsLength),
+            ),
+            (
+                0,
+                at,
+                received(Kind::Bcast, &[4097], &[]),
+                Some(TooManyItems),
+            ),
+            (
+                1,
+                at,
+                received(Kind::Scatter, &[1], &[7]),
+                Some(ItemsLength),
+            ),
+        ],
     );
-    Ok(())
+}
+
+fn typed(kind: Kind, ty: Ty, items: &'static [i128]) -> Drafted<'static> {
+    Drafted {
+        ty,
+        items,
+        ..just(kind)
+    }
+}
+
+#[test]
+fn items_and_calls(rt: HostRuntime) {
+    use PostError::{CallsUsedUp, ItemOutOfRange, ItemsLength};
+    let at = in_world(0);
+    let cut = typed(Kind::Gather, Ty::TwoInt, &[i128::MAX]);
+    let wide = typed(Kind::Allgather, Ty::I8, &[128]);
+    let barrier = just(Kind::Barrier);
+    check_refusals(
+        &rt,
+        rt.alloc(),
+        &[
+            (0, at, cut, Some(ItemsLength)),
+            (0, at, wide, Some(ItemOutOfRange)),
+            (0, in_world(4294967294), barrier, None),
+            (0, in_world(4294967295), barrier, Some(CallsUsedUp)),
+        ],
+    );
 }

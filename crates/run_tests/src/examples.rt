@@ -167,7 +167,7 @@ fn what_does_not_fit(rt: HostRuntime) -> Result<(), Fail> {
 
 #[test]
 fn communicators(rt: HostRuntime) -> Result<(), Fail> {
-    let table: [Row; 6] = [
+    let table: [Row; 8] = [
         // create.job
         (
             b"# Two groups at once, each in the order in which its members give it; rank 4 gives none and gets the null communicator, on\n# which every call is refused. Ranks 0 and 1 then disagree on a group, which all ranks are told.\nranks 5\n0: create world 2,0 -> team\n1: create world 1,3 -> team\n2: create world 2,0 -> team\n3: create world 1,3 -> team\n4: create world - -> team\n0: bcast team 1 i32 1 7\n1: bcast team 1 i32 1\n2: bcast team 1 i32 1\n3: bcast team 1 i32 1 8\n4: barrier team\n0: create world 0,1 -> pair\n1: create world 1,0 -> pair\n2: create world - -> pair\n3: create world - -> pair\n4: create world - -> pair\n",
@@ -185,6 +185,18 @@ fn communicators(rt: HostRuntime) -> Result<(), Fail> {
             b"# Communicators of communicators: of all ranks but the last, then the halves of that, backwards, and one more.\nranks 5\n0: split world 0 0 -> most\n1: split world 0 0 -> most\n2: split world 0 0 -> most\n3: split world 0 0 -> most\n4: split world undefined 0 -> most\n0: split most 0 9 -> half\n1: split most 0 8 -> half\n2: split most 1 7 -> half\n3: split most 1 6 -> half\n0: dup half -> twin\n1: dup half -> twin\n2: dup half -> twin\n3: dup half -> twin\n4: dup most -> twin\n0: scan twin sum u8 1\n1: scan twin sum u8 2\n2: scan twin sum u8 3\n3: scan twin sum u8 4\n",
             Came::Finished,
             b"0: comm 4 0\n0: comm 2 1\n0: comm 2 1\n0: 3\n1: comm 4 1\n1: comm 2 0\n1: comm 2 0\n1: 2\n2: comm 4 2\n2: comm 2 1\n2: comm 2 1\n2: 7\n3: comm 4 3\n3: comm 2 0\n3: comm 2 0\n3: 4\n4: null\n4: refused NotMember\n",
+        ),
+        // dist_graph.job
+        (
+            b"# Edges between three ranks, each given by any of them: the graph is a communicator of all, and so is its duplicate. Then one\n# rank gives weights and another gives none.\nranks 3\n0: dist_graph world 1>2,2>2 -> graph\n1: dist_graph world - -> graph\n2: dist_graph world 0>2,1>2 -> graph\n*: dup graph -> twin\n*: allreduce twin sum i64 7\n0: dist_graph world 0>1:5,0>1:0 -> mixed\n1: dist_graph world - -> mixed\n2: dist_graph world -w -> mixed\n*: barrier mixed\n",
+            Came::Finished,
+            b"0: comm 3 0\n0: comm 3 0\n0: 21\n0: fault Weights at 1\n0: refused NotMember\n1: comm 3 1\n1: comm 3 1\n1: 21\n1: fault Weights at 1\n1: refused NotMember\n2: comm 3 2\n2: comm 3 2\n2: 21\n2: fault Weights at 1\n2: refused NotMember\n",
+        ),
+        // dist_graph_adjacent.job
+        (
+            b"# A ring, of which each rank names its own sources and destinations; weights of the same edges in another order; and an edge\n# that one end alone tells.\nranks 3\n0: dist_graph_adjacent world 2 1 -> ring\n1: dist_graph_adjacent world 0 2 -> ring\n2: dist_graph_adjacent world 1 0 -> ring\n*: allreduce ring sum i64 1\n0: dist_graph_adjacent world -w 1:4,1:9 -> pair\n1: dist_graph_adjacent world 0:9,0:4 -w -> pair\n2: dist_graph_adjacent world -w -w -> pair\n0: dist_graph_adjacent world - 1 -> lost\n1: dist_graph_adjacent world - - -> lost\n2: dist_graph_adjacent world - - -> lost\n0: dist_graph_adjacent world 3 - -> bad\n*: barrier world\n",
+            Came::Finished,
+            b"0: comm 3 0\n0: 3\n0: comm 3 0\n0: fault Edges at 0\n0: refused BadEdge\n0: ok\n1: comm 3 1\n1: 3\n1: comm 3 1\n1: fault Edges at 0\n1: ok\n2: comm 3 2\n2: 3\n2: comm 3 2\n2: fault Edges at 0\n2: ok\n",
         ),
         // dup.job
         (

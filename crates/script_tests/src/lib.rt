@@ -3,6 +3,8 @@
 #![tactic(auto)]
 
 #[cfg(test)]
+mod graphs;
+#[cfg(test)]
 mod lines;
 #[cfg(test)]
 mod making;
@@ -10,3 +12,5 @@ mod making;
 mod reading;
 #[cfg(test)]
 mod refusing;
+#[cfg(test)]
+mod scripts;

@@ -1,16 +1,29 @@
 //! Lines of transcripts as their readers see them, and the draft of a statement.
+use crate::scripts::{Said, is_said};
 use join_core::OutOfMemory;
 use mpx_name::Name;
 use mpx_num::{Items, Numbers, Op, Ty};
-use mpx_post::{Call, Draft, Kind, NewCommunicator, PostError};
+use mpx_post::{Call, Kind, NewCommunicator, PostError};
 use mpx_script::{Statement, Word, line, refused_line};
 use mpx_value::{Fault, FaultKind, Outcome};
 use std::alloc::Global;
 use std::test::Fail;
+use test_drafts::{Drafted, Edges, draft, just, says};
+
+fn has_line(alloc: Global, outcome: &Outcome, wanted: &str) -> bool {
+    match line(alloc, outcome) {
+        Ok(text) => text.as_str() == wanted,
+        Err(_) => false,
+    }
+}
+
+fn items(alloc: Global, numbers: &[i128]) -> Result<Outcome, Fail> {
+    let list = Numbers::new(alloc, Vec::from_slice(alloc, numbers)?)?;
+    Ok(Outcome::Items(Items::new(Ty::I64, list)?))
+}
 
 #[test]
 fn lines_of_items(rt: HostRuntime) -> Result<(), Fail> {
-    let alloc = rt.alloc();
     let table: [(&[i128], &str); 4] = [
         ([].as_slice(), "empty"),
         ([-7].as_slice(), "-7"),
@@ -21,23 +34,26 @@ fn lines_of_items(rt: HostRuntime) -> Result<(), Fail> {
         ),
     ];
     for (numbers, wanted) in table {
-        let list = Numbers::new(alloc, Vec::from_slice(alloc, numbers)?)?;
-        let outcome = Outcome::Items(Items::new(Ty::I64, list)?);
-        assert_eq!(rt; line(alloc, &outcome)?.as_str(), wanted);
+        let outcome = items(rt.alloc(), numbers)?;
+        assert!(rt; has_line(rt.alloc(), &outcome, wanted), "{wanted}");
     }
     Ok(())
 }
 
 #[test]
-fn lines_without_items(rt: HostRuntime) -> Result<(), Fail> {
+fn lines_without_items(rt: HostRuntime) {
     let alloc = rt.alloc();
-    assert_eq!(rt; line(alloc, &Outcome::Nothing)?.as_str(), "ok");
-    assert_eq!(rt; line(alloc, &Outcome::Absent)?.as_str(), "none");
-    Ok(())
+    assert!(rt; has_line(alloc, &Outcome::Nothing, "ok"));
+    assert!(rt; has_line(alloc, &Outcome::Absent, "none"));
+    assert!(rt; has_line(alloc, &Outcome::Null, "null"));
+}
+
+fn fault_line(alloc: Global, what: FaultKind, rank: u8, wanted: &str) -> bool {
+    has_line(alloc, &Outcome::Fault(Fault { what, rank }), wanted)
 }
 
 #[test]
-fn lines_of_faults(rt: HostRuntime) -> Result<(), Fail> {
+fn lines_of_faults(rt: HostRuntime) {
     for (what, rank, wanted) in [
         (FaultKind::Kind, 0, "fault Kind at 0"),
         (FaultKind::Mode, 1, "fault Mode at 1"),
@@ -45,16 +61,23 @@ fn lines_of_faults(rt: HostRuntime) -> Result<(), Fail> {
         (FaultKind::Op, 2, "fault Op at 2"),
         (FaultKind::ItemType, 3, "fault ItemType at 3"),
         (FaultKind::Amount, 10, "fault Amount at 10"),
+        (FaultKind::Weights, 1, "fault Weights at 1"),
+        (FaultKind::Edges, 2, "fault Edges at 2"),
         (FaultKind::Groups, 0, "fault Groups at 0"),
     ] {
-        let outcome = Outcome::Fault(Fault { what, rank });
-        assert_eq!(rt; line(rt.alloc(), &outcome)?.as_str(), wanted);
+        assert!(rt; fault_line(rt.alloc(), what, rank, wanted), "{wanted}");
     }
-    Ok(())
+}
+
+fn has_refused_line(alloc: Global, refusal: PostError, wanted: &str) -> bool {
+    match refused_line(alloc, refusal) {
+        Ok(text) => text.as_str() == wanted,
+        Err(_) => false,
+    }
 }
 
 #[test]
-fn lines_of_refusals(rt: HostRuntime) -> Result<(), Fail> {
+fn lines_of_refusals(rt: HostRuntime) {
     for (refusal, wanted) in [
         (PostError::NotMember, "refused NotMember"),
         (PostError::RootOutOfRange, "refused RootOutOfRange"),
@@ -66,108 +89,134 @@ fn lines_of_refusals(rt: HostRuntime) -> Result<(), Fail> {
         (PostError::CallsUsedUp, "refused CallsUsedUp"),
         (PostError::DepthUsedUp, "refused DepthUsedUp"),
         (PostError::BadGroup, "refused BadGroup"),
+        (PostError::BadEdge, "refused BadEdge"),
+        (PostError::TooManyEdges, "refused TooManyEdges"),
         (PostError::BadTag, "refused BadTag"),
         (PostError::OutOfMemory, "refused OutOfMemory"),
     ] {
-        assert_eq!(rt; refused_line(rt.alloc(), refusal)?.as_str(), wanted);
+        assert!(rt; has_refused_line(rt.alloc(), refusal, wanted), "{wanted}");
     }
-    Ok(())
+}
+
+fn communicator_line(alloc: Global, size: u8, rank: u8, wanted: &str) -> bool {
+    let outcome = Outcome::NewComm {
+        name: Name::world(alloc),
+        size,
+        rank,
+    };
+    has_line(alloc, &outcome, wanted)
 }
 
 #[test]
-fn lines_of_communicators(rt: HostRuntime) -> Result<(), Fail> {
-    let alloc = rt.alloc();
+fn lines_of_communicators(rt: HostRuntime) {
     for (size, rank, wanted) in [
         (1, 0, "comm 1 0"),
         (3, 2, "comm 3 2"),
         (64, 63, "comm 64 63"),
     ] {
-        let outcome = Outcome::NewComm {
-            name: Name::world(alloc),
-            size,
-            rank,
-        };
-        assert_eq!(rt; line(alloc, &outcome)?.as_str(), wanted);
+        assert!(rt;
+            communicator_line(rt.alloc(), size, rank, wanted),
+            "{wanted}"
+        );
     }
-    assert_eq!(rt; line(alloc, &Outcome::Null)?.as_str(), "null");
-    Ok(())
 }
 
-fn list(alloc: Global, numbers: &[i128]) -> Result<Numbers, OutOfMemory> {
-    Ok(Numbers::new(alloc, Vec::from_slice(alloc, numbers)?)?)
-}
-
-fn draft(alloc: Global, call: Call) -> Result<Draft, OutOfMemory> {
-    Ok(Draft {
+fn drafted(call: Call) -> Drafted<'static> {
+    Drafted {
         call,
         root: 5,
         op: Op::Max,
         ty: Ty::U8,
-        scounts: list(alloc, [1].as_slice())?,
-        rcounts: list(alloc, [2, 3].as_slice())?,
-        items: list(alloc, [9, 12].as_slice())?,
+        scounts: &[1],
+        rcounts: &[2, 3],
+        items: &[9, 12],
         colour: Some(7),
         key: -4,
-        group: list(alloc, [1, 0].as_slice())?,
-    })
+        group: &[1, 0],
+        graph: Some(Edges {
+            weighted: true,
+            edges: &[],
+            sources: &[(3, 8)],
+            destinations: &[],
+        }),
+    }
+}
+
+fn made(alloc: Global, said: &Said<'_>) -> Result<Statement, OutOfMemory> {
+    match said {
+        Said::Call(on, drafted) => {
+            let on = Word::new(alloc, on)?;
+            Ok(Statement::Call {
+                on,
+                draft: draft(alloc, drafted)?,
+            })
+        }
+        Said::New(on, drafted, to) => {
+            let on = Word::new(alloc, on)?;
+            let to = Word::new(alloc, to)?;
+            Ok(Statement::New {
+                on,
+                draft: draft(alloc, drafted)?,
+                to,
+            })
+        }
+        Said::CreateGroup(on, tag, ranks, to) => {
+            let on = Word::new(alloc, on)?;
+            let to = Word::new(alloc, to)?;
+            let ranks = Numbers::new(alloc, Vec::from_slice(alloc, ranks)?)?;
+            Ok(Statement::CreateGroup {
+                on,
+                tag: *tag,
+                ranks,
+                to,
+            })
+        }
+    }
+}
+
+fn has_draft(alloc: Global, statement: &Statement, wanted: &Drafted<'_>) -> bool {
+    match statement.draft(alloc) {
+        Ok(draft) => says(&draft, wanted),
+        Err(_) => false,
+    }
+}
+
+// Whether what the statement is made of is what it tells: its words, and the draft that it posts.
+fn tells(
+    alloc: Global,
+    said: &Said<'_>,
+    on: &[u8],
+    to: Option<&[u8]>,
+    posted: &Drafted<'_>,
+) -> bool {
+    match made(alloc, said) {
+        Ok(statement) => {
+            is_said(&statement, said)
+                & (statement.on().as_bytes() == on)
+                & (statement.target().map(|word| word.as_bytes()) == to)
+                & has_draft(alloc, &statement, posted)
+        }
+        Err(_) => false,
+    }
 }
 
 #[test]
-fn draft_of_a_call(rt: HostRuntime) -> Result<(), Fail> {
+fn drafts_of_statements(rt: HostRuntime) {
     let alloc = rt.alloc();
-    let statement = Statement::Call {
-        on: Word::new(alloc, b"world")?,
-        draft: draft(alloc, Call::blocking(Kind::ReduceScatter))?,
-    };
-    assert_eq!(rt; statement.on().as_bytes(), b"world".as_slice());
-    assert!(rt; statement.target().is_none());
-    let draft = statement.draft(alloc)?;
-    assert_eq!(rt; draft.call, Call::blocking(Kind::ReduceScatter));
-    assert_eq!(rt; draft.root, 5);
-    assert_eq!(rt; draft.op, Op::Max);
-    assert_eq!(rt; draft.ty, Ty::U8);
-    assert_eq!(rt; draft.scounts.as_slice(), [1].as_slice());
-    assert_eq!(rt; draft.rcounts.as_slice(), [2, 3].as_slice());
-    assert_eq!(rt; draft.items.as_slice(), [9, 12].as_slice());
-    assert_eq!(rt; draft.colour, Some(7));
-    assert_eq!(rt; draft.key, -4);
-    assert_eq!(rt; draft.group.as_slice(), [1, 0].as_slice());
-    Ok(())
-}
+    let (all, some) = (b"all".as_slice(), b"some".as_slice());
 
-#[test]
-fn draft_of_a_call_that_makes_communicators(rt: HostRuntime) -> Result<(), Fail> {
-    let alloc = rt.alloc();
-    let call = Call::NewCommunicator(NewCommunicator::Split);
-    let statement = Statement::New {
-        on: Word::new(alloc, b"all")?,
-        draft: draft(alloc, call)?,
-        to: Word::new(alloc, b"some")?,
-    };
-    assert_eq!(rt; statement.on().as_bytes(), b"all".as_slice());
-    assert_eq!(rt; statement.draft(alloc)?.call, call);
-    let target = statement.target().map(|to| to.as_bytes());
-    assert_eq!(rt; target, Some(b"some".as_slice()));
-    Ok(())
-}
+    let scatter = drafted(Call::blocking(Kind::ReduceScatter));
+    let call = Said::Call(b"world", scatter);
+    assert!(rt; tells(alloc, &call, b"world", None, &scatter));
 
-#[test]
-fn draft_of_create_group(rt: HostRuntime) -> Result<(), Fail> {
-    let alloc = rt.alloc();
-    let statement = Statement::CreateGroup {
-        on: Word::new(alloc, b"all")?,
-        tag: 9,
-        ranks: list(alloc, [2, 0].as_slice())?,
-        to: Word::new(alloc, b"some")?,
+    let split = drafted(Call::NewCommunicator(NewCommunicator::Split));
+    let new = Said::New(all, split, some);
+    assert!(rt; tells(alloc, &new, all, Some(some), &split));
+
+    let create_group = Drafted {
+        ty: Ty::I8,
+        ..just(Kind::CreateGroup)
     };
-    assert_eq!(rt; statement.on().as_bytes(), b"all".as_slice());
-    let draft = statement.draft(alloc)?;
-    assert_eq!(rt;
-        draft.call,
-        Call::NewCommunicator(NewCommunicator::CreateGroup)
-    );
-    assert!(rt; draft.group.as_slice().is_empty());
-    let target = statement.target().map(|to| to.as_bytes());
-    assert_eq!(rt; target, Some(b"some".as_slice()));
-    Ok(())
+    let gathering = Said::CreateGroup(all, 9, &[2, 0], some);
+    assert!(rt; tells(alloc, &gathering, all, Some(some), &create_group));
 }

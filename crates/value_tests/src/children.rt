@@ -1,21 +1,14 @@
 //! The communicators that calls make, and what they give each rank: values from MPI 4.1 section 7.4.2, and that the calls
 //! succeed.
+use crate::making::{lent, posts_of};
 use mpx_group::{Group, Proc};
 use mpx_name::Name;
-use mpx_num::{Numbers, Op, Ty};
-use mpx_post::{At, Birth, Call, Draft, NewCommunicator, Post, Row};
+use mpx_post::{At, Birth, Kind, Post, Row};
 use mpx_value::{Fault, FaultKind, Outcome, children, outcome};
 use std::alloc::Global;
+use std::process::Abort;
 use std::test::Fail;
-
-// What one rank posts.
-#[derive(Clone, Copy)]
-struct Drafted {
-    new: NewCommunicator,
-    colour: Option<i128>,
-    key: i128,
-    group: &'static [i128],
-}
+use test_drafts::{Drafted, birth, just};
 
 // What a call gives one rank: a communicator by its colour, its size and the rank in it.
 #[derive(Clone, Copy)]
@@ -33,32 +26,19 @@ const NO: &[i128] = &[];
 // The number of the call.
 const CALL: u32 = 3;
 
-fn plain(new: NewCommunicator) -> Drafted {
-    Drafted {
-        new,
-        colour: None,
-        key: 0,
-        group: NO,
-    }
-}
-
-fn split(colour: Option<i128>, key: i128) -> Drafted {
+fn split(colour: Option<i128>, key: i128) -> Drafted<'static> {
     Drafted {
         colour,
         key,
-        ..plain(NewCommunicator::Split)
+        ..just(Kind::Split)
     }
 }
 
-fn create(group: &'static [i128]) -> Drafted {
+fn create(group: &'static [i128]) -> Drafted<'static> {
     Drafted {
         group,
-        ..plain(NewCommunicator::Create)
+        ..just(Kind::Create)
     }
-}
-
-fn numbers(alloc: Global, list: &[i128]) -> Result<Numbers, Fail> {
-    Ok(Numbers::new(alloc, Vec::from_slice(alloc, list)?)?)
 }
 
 // The communicator of these processes.
@@ -69,41 +49,10 @@ fn born(alloc: Global, members: &[u8]) -> Result<Birth, Fail> {
             processes.push(Proc::new(member))?;
         }
     }
-    match Birth::new(processes) {
+    match birth(alloc, processes) {
         None => Err("no birth")?,
         Some(birth) => Ok(birth),
     }
-}
-
-fn post_of(
-    alloc: Global,
-    birth: &Birth,
-    me: Proc,
-    at: &At,
-    posted: &Drafted,
-) -> Result<Post, Fail> {
-    let draft = Draft {
-        call: Call::NewCommunicator(posted.new),
-        root: 0,
-        op: Op::Sum,
-        ty: Ty::I32,
-        scounts: numbers(alloc, NO)?,
-        rcounts: numbers(alloc, NO)?,
-        items: numbers(alloc, NO)?,
-        colour: posted.colour,
-        key: posted.key,
-        group: numbers(alloc, posted.group)?,
-    };
-    Ok(draft.check(alloc, birth, me, at)?)
-}
-
-// What all members post there.
-fn posts_of(alloc: Global, birth: &Birth, at: &At, posted: &[Drafted]) -> Result<Vec<Post>, Fail> {
-    let mut posts = Vec::new(alloc);
-    for (me, one) in birth.members().iter().zip(posted) {
-        posts.push(post_of(alloc, birth, *me, at, one)?)?;
-    }
-    Ok(posts)
 }
 
 // Whether the outcome is this, of the call on this name.
@@ -126,6 +75,14 @@ fn is_given(alloc: Global, name: &Name, outcome: &Outcome, given: Given) -> Resu
     }
 }
 
+fn are(processes: &[Proc], numbers: &[u8]) -> bool {
+    processes.len() == numbers.len()
+        && processes
+            .iter()
+            .zip(numbers)
+            .all(|(process, number)| process.number() == *number)
+}
+
 // Whether the call on this name with these posts gives the ranks this.
 fn give(
     alloc: Global,
@@ -135,14 +92,8 @@ fn give(
     given: &[Given],
 ) -> Result<bool, Fail> {
     let size = birth.members().len();
-    if posts.len() != size || given.len() != size {
-        return Ok(false);
-    }
-    let mut lent = Vec::new(alloc);
-    for post in posts {
-        lent.push(post)?;
-    }
-    if lent.len() != size {
+    let lent = lent(alloc, posts)?;
+    if lent.len() != size || given.len() != size {
         return Ok(false);
     }
     let row = Row::new(lent);
@@ -150,6 +101,21 @@ fn give(
     for (rank, wanted) in given.iter().enumerate() {
         let outcome = outcome(alloc, birth, &row, name, CALL, rank as u8)?;
         same &= is_given(alloc, name, &outcome, *wanted)?;
+    }
+    Ok(same)
+}
+
+// Whether these are the communicators of the call on this name.
+fn are_made(
+    alloc: Global,
+    name: &Name,
+    made: &[(Name, Birth)],
+    wanted: &[Child],
+) -> Result<bool, Fail> {
+    let mut same = made.len() == wanted.len();
+    for ((new, birth), (colour, members)) in made.iter().zip(wanted) {
+        same &= *new == name.child(alloc, CALL, u32::from(*colour))?;
+        same &= are(birth.members(), members);
     }
     Ok(same)
 }
@@ -162,125 +128,165 @@ fn make(
     posts: &[Post],
     wanted: &[Child],
 ) -> Result<bool, Fail> {
-    let size = birth.members().len();
-    let mut lent = Vec::new(alloc);
-    for post in posts {
-        lent.push(post)?;
-    }
-    if lent.len() != size {
+    let lent = lent(alloc, posts)?;
+    if lent.len() != birth.members().len() {
         return Ok(false);
     }
     let made = children(alloc, birth, &Row::new(lent), name, CALL)?;
-    let mut same = made.len() == wanted.len();
-    for ((new, birth), (colour, members)) in made.iter().zip(wanted) {
-        same &= *new == name.child(alloc, CALL, u32::from(*colour))?;
-        same &= are(birth.members(), members);
-    }
-    Ok(same)
+    are_made(alloc, name, &made, wanted)
 }
 
-fn are(processes: &[Proc], numbers: &[u8]) -> bool {
-    processes.len() == numbers.len()
-        && processes
-            .iter()
-            .zip(numbers)
-            .all(|(process, number)| process.number() == *number)
+// What members post, the communicators that their call makes, and what it gives them.
+#[derive(Clone, Copy)]
+struct Case<'a> {
+    posted: &'a [Drafted<'a>],
+    made: &'a [Child],
+    given: &'a [Given],
 }
 
-// Whether the call on the world's name makes these communicators and gives the ranks this.
-fn is_so(
+// That it is so of the call on this name, with posts that are made there.
+fn check_on(
+    rt: &impl Abort,
     alloc: Global,
     birth: &Birth,
-    posted: &[Drafted],
-    wanted: &[Child],
-    given: &[Given],
-) -> Result<bool, Fail> {
+    name: &Name,
+    at: &At,
+    case: Case<'_>,
+) -> Result<(), Fail> {
+    let posts = posts_of(alloc, birth, at, case.posted)?;
+    let makes = make(alloc, birth, name, &posts, case.made)?;
+    let gives = give(alloc, birth, name, &posts, case.given)?;
+    assert!(rt; makes);
+    assert!(rt; gives);
+    Ok(())
+}
+
+// That it is so of the call on the world's name in the communicator of these processes.
+fn check_case(rt: &impl Abort, alloc: Global, members: &[u8], case: Case<'_>) -> Result<(), Fail> {
     let world = Name::world(alloc);
-    let posts = posts_of(alloc, birth, &At::on(&world, CALL), posted)?;
-    let made = make(alloc, birth, &world, &posts, wanted)?;
-    Ok(made && give(alloc, birth, &world, &posts, given)?)
+    let at = At::on(&world, CALL);
+    let birth = born(alloc, members)?;
+    check_on(rt, alloc, &birth, &world, &at, case)
 }
 
 #[test]
 fn splits_by_colour(rt: HostRuntime) -> Result<(), Fail> {
     use Given::{Comm, Null};
     let alloc = rt.alloc();
-    let posted = [
-        split(Some(1), 5),
-        split(Some(0), 0),
-        split(Some(1), 5),
-        split(None, 0),
-    ];
-    let made: [Child; 2] = [(0, &[1]), (1, &[0, 2])];
-    let given = [Comm(1, 2, 0), Comm(0, 1, 0), Comm(1, 2, 1), Null];
-    assert!(rt; is_so(alloc, &born(alloc, &[0, 1, 2, 3])?, &posted, &made, &given)?);
-
-    let nobody = [split(None, 1), split(None, 0)];
-    assert!(rt; is_so(alloc, &born(alloc, &[0, 1])?, &nobody, &[], &[Null, Null])?);
-    Ok(())
+    let by_colour = Case {
+        posted: &[
+            split(Some(1), 5),
+            split(Some(0), 0),
+            split(Some(1), 5),
+            split(None, 0),
+        ],
+        made: &[(0, &[1]), (1, &[0, 2])],
+        given: &[Comm(1, 2, 0), Comm(0, 1, 0), Comm(1, 2, 1), Null],
+    };
+    check_case(&rt, alloc, &[0, 1, 2, 3], by_colour)?;
+    let nobody = Case {
+        posted: &[split(None, 1), split(None, 0)],
+        made: &[],
+        given: &[Null, Null],
+    };
+    check_case(&rt, alloc, &[0, 1], nobody)
 }
 
 #[test]
 fn splits_by_key(rt: HostRuntime) -> Result<(), Fail> {
     use Given::Comm;
     let alloc = rt.alloc();
-    let birth = born(alloc, &[4, 5, 9])?;
-
-    let reversed = [split(Some(7), 1), split(Some(7), 0), split(Some(7), -5)];
-    let made: [Child; 1] = [(7, &[9, 5, 4])];
-    let given = [Comm(7, 3, 2), Comm(7, 3, 1), Comm(7, 3, 0)];
-    assert!(rt; is_so(alloc, &birth, &reversed, &made, &given)?);
-
-    let equal = [split(Some(7), 1), split(Some(7), 1), split(Some(7), 1)];
-    let made: [Child; 1] = [(7, &[4, 5, 9])];
-    let given = [Comm(7, 3, 0), Comm(7, 3, 1), Comm(7, 3, 2)];
-    assert!(rt; is_so(alloc, &birth, &equal, &made, &given)?);
-    Ok(())
+    let reversed = Case {
+        posted: &[split(Some(7), 1), split(Some(7), 0), split(Some(7), -5)],
+        made: &[(7, &[9, 5, 4])],
+        given: &[Comm(7, 3, 2), Comm(7, 3, 1), Comm(7, 3, 0)],
+    };
+    check_case(&rt, alloc, &[4, 5, 9], reversed)?;
+    let equal = Case {
+        posted: &[split(Some(7), 1), split(Some(7), 1), split(Some(7), 1)],
+        made: &[(7, &[4, 5, 9])],
+        given: &[Comm(7, 3, 0), Comm(7, 3, 1), Comm(7, 3, 2)],
+    };
+    check_case(&rt, alloc, &[4, 5, 9], equal)
 }
 
 #[test]
 fn creates_of_groups(rt: HostRuntime) -> Result<(), Fail> {
     use Given::{Comm, Fault, Null};
     let alloc = rt.alloc();
-    let birth = born(alloc, &[0, 1, 2])?;
+    let one = Case {
+        posted: &[create(&[2, 0]), create(NO), create(&[2, 0])],
+        made: &[(2, &[2, 0])],
+        given: &[Comm(2, 2, 1), Null, Comm(2, 2, 0)],
+    };
+    check_case(&rt, alloc, &[0, 1, 2], one)?;
+    let two = Case {
+        posted: &[create(&[2, 0]), create(&[1]), create(&[2, 0])],
+        made: &[(1, &[1]), (2, &[2, 0])],
+        given: &[Comm(2, 2, 1), Comm(1, 1, 0), Comm(2, 2, 0)],
+    };
+    check_case(&rt, alloc, &[0, 1, 2], two)?;
+    let differ = Case {
+        posted: &[create(&[0, 1]), create(&[1, 0]), create(NO)],
+        made: &[],
+        given: &[Fault(FaultKind::Groups, 0); 3],
+    };
+    check_case(&rt, alloc, &[0, 1, 2], differ)
+}
 
-    let one = [create(&[2, 0]), create(NO), create(&[2, 0])];
-    let made: [Child; 1] = [(2, &[2, 0])];
-    let given = [Comm(2, 2, 1), Null, Comm(2, 2, 0)];
-    assert!(rt; is_so(alloc, &birth, &one, &made, &given)?);
+// The gathering below the world with tag 9 of the members.
+fn gathering(alloc: Global, birth: &Birth) -> Result<Name, Fail> {
+    let members = Group::new(Vec::from_slice(alloc, birth.members())?)?;
+    if members.size() == 0 {
+        Err("no members")?;
+    }
+    Ok(Name::world(alloc).gathering(alloc, 9, &members)?)
+}
 
-    let two = [create(&[2, 0]), create(&[1]), create(&[2, 0])];
-    let made: [Child; 2] = [(1, &[1]), (2, &[2, 0])];
-    let given = [Comm(2, 2, 1), Comm(1, 1, 0), Comm(2, 2, 0)];
-    assert!(rt; is_so(alloc, &birth, &two, &made, &given)?);
-
-    let differ = [create(&[0, 1]), create(&[1, 0]), create(NO)];
-    let told = [Fault(FaultKind::Groups, 0); 3];
-    assert!(rt; is_so(alloc, &birth, &differ, &[], &told)?);
-    Ok(())
+// That it is so of the call on that gathering.
+fn check_gathering(
+    rt: &impl Abort,
+    alloc: Global,
+    birth: &Birth,
+    case: Case<'_>,
+) -> Result<(), Fail> {
+    let name = gathering(alloc, birth)?;
+    check_on(rt, alloc, birth, &name, &At::on(&name, CALL), case)
 }
 
 #[test]
 fn communicators_of_all(rt: HostRuntime) -> Result<(), Fail> {
     use Given::Comm;
     let alloc = rt.alloc();
+    let dup = Case {
+        posted: &[just(Kind::Dup); 2],
+        made: &[(0, &[4, 2])],
+        given: &[Comm(0, 2, 0), Comm(0, 2, 1)],
+    };
+    let create_group = Case {
+        posted: &[just(Kind::CreateGroup); 2],
+        ..dup
+    };
+    check_case(&rt, alloc, &[4, 2], dup)?;
     let birth = born(alloc, &[4, 2])?;
-    let made: [Child; 1] = [(0, &[4, 2])];
-    let given = [Comm(0, 2, 0), Comm(0, 2, 1)];
+    check_gathering(&rt, alloc, &birth, create_group)
+}
 
-    let dup = [plain(NewCommunicator::Dup); 2];
-    assert!(rt; is_so(alloc, &birth, &dup, &made, &given)?);
-
-    let members = Group::new(Vec::from_slice(alloc, birth.members())?)?;
-    if members.size() == 0 {
-        Err("no members")?;
+// The name so many steps below the world.
+fn below(alloc: Global, steps: usize) -> Result<Name, Fail> {
+    let mut name = Name::world(alloc);
+    for _ in 0..steps {
+        name = name.child(alloc, 0, 0)?;
     }
-    let name = Name::world(alloc).gathering(alloc, 9, &members)?;
-    let create_group = [plain(NewCommunicator::CreateGroup); 2];
-    let posts = posts_of(alloc, &birth, &At::on(&name, CALL), &create_group)?;
-    assert!(rt; make(alloc, &birth, &name, &posts, &made)?);
-    assert!(rt; give(alloc, &birth, &name, &posts, &given)?);
-    Ok(())
+    Ok(name)
+}
+
+// That it is so of the call on the name so many steps below the world, with posts of two ranks that are made on the world.
+fn check_below(rt: &impl Abort, alloc: Global, steps: usize, case: Case<'_>) -> Result<(), Fail> {
+    let at = At::on(&Name::world(alloc), CALL);
+    let birth = born(alloc, &[0, 1])?;
+    let name = below(alloc, steps)?;
+    check_on(rt, alloc, &birth, &name, &at, case)
 }
 
 // Below a name of seven steps there is an eighth, and no ninth.
@@ -288,29 +294,16 @@ fn communicators_of_all(rt: HostRuntime) -> Result<(), Fail> {
 fn no_ninth_step(rt: HostRuntime) -> Result<(), Fail> {
     use Given::{Comm, Fault};
     let alloc = rt.alloc();
-    let birth = born(alloc, &[0, 1])?;
-    let world = Name::world(alloc);
-    let dup = [plain(NewCommunicator::Dup); 2];
-    let posts = posts_of(alloc, &birth, &At::on(&world, CALL), &dup)?;
-    let mut name = world;
-    for _ in 0..7 {
-        name = name.child(alloc, 0, 0)?;
-    }
-    let made: [Child; 1] = [(0, &[0, 1])];
-    assert!(rt; make(alloc, &birth, &name, &posts, &made)?);
-    assert!(rt;
-        give(
-            alloc,
-            &birth,
-            &name,
-            &posts,
-            &[Comm(0, 2, 0), Comm(0, 2, 1)]
-        )?
-    );
-
-    let full = name.child(alloc, 0, 0)?;
-    assert!(rt; make(alloc, &birth, &full, &posts, &[])?);
-    let told = [Fault(FaultKind::Amount, 0); 2];
-    assert!(rt; give(alloc, &birth, &full, &posts, &told)?);
-    Ok(())
+    let eighth = Case {
+        posted: &[just(Kind::Dup); 2],
+        made: &[(0, &[0, 1])],
+        given: &[Comm(0, 2, 0), Comm(0, 2, 1)],
+    };
+    check_below(&rt, alloc, 7, eighth)?;
+    let ninth = Case {
+        made: &[],
+        given: &[Fault(FaultKind::Amount, 0); 2],
+        ..eighth
+    };
+    check_below(&rt, alloc, 8, ninth)
 }

@@ -4,6 +4,10 @@
 #[cfg(test)]
 mod children;
 #[cfg(test)]
+mod edges;
+#[cfg(test)]
+mod making;
+#[cfg(test)]
 mod values;
 #[cfg(test)]
 mod verdicts;

@@ -1,9 +1,9 @@
 use Rattle.std.proofs.Common.{◌∙◌, ℕ, List, length, take, sum, ap, arith}
 use Rattle.mpx_post.specs.Posts.{Given}
-use Rattle.mpx_post.specs.declared.kinds.Family.TheVariants as F
-use Rattle.mpx_post.specs.declared.kinds.Reduction.TheVariants as R
+use Rattle.mpx_kind.specs.declared.kinds.Family.TheVariants as F
+use Rattle.mpx_kind.specs.declared.kinds.Reduction.TheVariants as R
 use Rattle.mpx_post.specs.Agreement.{count_at, first_of}
-use Rattle.mpx_post.proofs.Families.{kind_is}
+use Rattle.mpx_kind.proofs.Families.{kind_is}
 use Rattle.mpx_fold.proofs.Places.{counted_place, a_count_each}
 use Rattle.mpx_fold.proofs.folds.counted_block.Goals as goal
 

@@ -1,9 +1,9 @@
 use Rattle.std.proofs.Common.{◌∙◌, ℕ, ◌*◌, List, length, ap, arith}
 use Rattle.mpx_post.specs.Posts.{Given}
-use Rattle.mpx_post.specs.declared.kinds.Family.TheVariants as F
-use Rattle.mpx_post.specs.declared.kinds.Reduction.TheVariants as R
+use Rattle.mpx_kind.specs.declared.kinds.Family.TheVariants as F
+use Rattle.mpx_kind.specs.declared.kinds.Reduction.TheVariants as R
 use Rattle.mpx_post.specs.Agreement.{count_at, first_of}
-use Rattle.mpx_post.proofs.Families.{kind_is}
+use Rattle.mpx_kind.proofs.Families.{kind_is}
 use Rattle.mpx_fold.proofs.Places.{equal_place, one_count}
 use Rattle.mpx_fold.proofs.folds.equal_block.Goals as goal
 

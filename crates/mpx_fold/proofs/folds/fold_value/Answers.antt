@@ -1,13 +1,13 @@
 use Rattle.std.proofs.Common.{◌≡◌, ℕ, ◌∙◌, ap, sym, subst}
 use Rattle.std.specs.Result.{IfOk}
-use Rattle.mpx_post.specs.declared.kinds.Kind.{Kind}
-use Rattle.mpx_post.specs.declared.kinds.Family.{Family}
+use Rattle.mpx_kind.specs.declared.kinds.Kind.{Kind}
+use Rattle.mpx_kind.specs.declared.kinds.Family.{Family}
 use Rattle.mpx_post.specs.declared.value.Value.{Value}
 use Rattle.mpx_post.specs.Kinds.{family_of, fields_of}
 use Rattle.mpx_post.specs.Posts.{Given}
 use Rattle.mpx_post.specs.Rows.{RowView}
 use Rattle.mpx_post.specs.Agreement.{first_of}
-use Rattle.mpx_post.proofs.Families.{kind_is}
+use Rattle.mpx_kind.proofs.Families.{kind_is}
 use Rattle.mpx_fold.specs.Folds.{fold_in, fold_value}
 use Rattle.mpx_fold.proofs.Contributions.{reduction_has_op}
 use Rattle.mpx_fold.proofs.folds.fold_value.Goals as goal

@@ -5,9 +5,9 @@ use Rattle.std.specs.Prelude.{unwrap_or}
 use Rattle.std.proofs.lemmas.Bool.{cond-true, cond-false}
 use Rattle.std.proofs.lemmas.Bool.Decides.{nat_tests}
 use Rattle.join_core.specs.declared.memory.OutOfMemory.{OutOfMemory}
-use Rattle.mpx_post.specs.declared.kinds.Kind.{Kind}
-use Rattle.mpx_post.specs.declared.kinds.Family.TheVariants as F
-use Rattle.mpx_post.specs.declared.kinds.Reduction.TheVariants.{Reduce}
+use Rattle.mpx_kind.specs.declared.kinds.Kind.{Kind}
+use Rattle.mpx_kind.specs.declared.kinds.Family.TheVariants as F
+use Rattle.mpx_kind.specs.declared.kinds.Reduction.TheVariants.{Reduce}
 use Rattle.mpx_post.specs.declared.value.Value.{Value}
 use Rattle.mpx_post.specs.declared.value.Value.TheVariants.{Nothing, Absent}
 use Rattle.mpx_post.specs.Kinds.{family_of, fields_of}
@@ -15,7 +15,7 @@ use Rattle.mpx_post.specs.Posts.{Given, root_of}
 use Rattle.mpx_post.specs.Rows.{RowView}
 use Rattle.mpx_post.specs.Values.{as_items}
 use Rattle.mpx_post.specs.Agreement.{first_of}
-use Rattle.mpx_post.proofs.Families.{kind_is}
+use Rattle.mpx_kind.proofs.Families.{kind_is}
 use Rattle.mpx_fold.specs.Folds.{all_folded, folded}
 use Rattle.mpx_fold.proofs.folds.value_of.Goals as goal
 

@@ -1,5 +1,5 @@
 use Rattle.std.proofs.Common.{◌≡◌, sum}
-use Rattle.mpx_post.specs.declared.kinds.Sent.TheVariants.{Rcounts}
+use Rattle.mpx_kind.specs.declared.kinds.Sent.TheVariants.{Rcounts}
 use Rattle.mpx_post.specs.Kinds.{fields_of, number_in}
 use Rattle.mpx_post.specs.Agreement.{is_root}
 use Rattle.mpx_post.proofs.Sums.{sum-repeated}

@@ -1,6 +1,6 @@
 use Rattle.std.proofs.Common.{◌≡◌, ◌∙◌, ℕ, ◌*◌, List, Bool, length, take, sum, ap, sym, arith}
-use Rattle.mpx_post.specs.declared.kinds.Kind.{Kind}
-use Rattle.mpx_post.specs.declared.kinds.Fields.{Fields}
+use Rattle.mpx_kind.specs.declared.kinds.Kind.{Kind}
+use Rattle.mpx_kind.specs.declared.kinds.Fields.{Fields}
 use Rattle.mpx_post.specs.Kinds.{fields_of, is_had}
 use Rattle.mpx_post.specs.Posts.{Given}
 use Rattle.mpx_post.specs.Agreement.{count_at}

@@ -3,9 +3,9 @@ use Rattle.std.specs.Result.{IfOk}
 use Rattle.std.proofs.lemmas.Bool.{cond-true, cond-false, false≢true}
 use Rattle.std.proofs.lemmas.Bool.Decides.{nat_tests}
 use Rattle.join_core.specs.declared.memory.OutOfMemory.{OutOfMemory}
-use Rattle.mpx_post.specs.declared.kinds.Exchange.{Exchange}
-use Rattle.mpx_post.specs.declared.kinds.Exchange.TheVariants.{Gather}
-use Rattle.mpx_post.specs.declared.kinds.Kind.{Kind}
+use Rattle.mpx_kind.specs.declared.kinds.Exchange.{Exchange}
+use Rattle.mpx_kind.specs.declared.kinds.Exchange.TheVariants.{Gather}
+use Rattle.mpx_kind.specs.declared.kinds.Kind.{Kind}
 use Rattle.mpx_post.specs.declared.value.Value.{Value}
 use Rattle.mpx_post.specs.declared.value.Value.TheVariants.{Nothing, Items}
 use Rattle.mpx_post.specs.Kinds.{exchange_kind, fields_of}

@@ -3,7 +3,7 @@ use Rattle.std.specs.Prelude.{filter}
 use Rattle.std.proofs.lemmas.List.{append-nil}
 use Rattle.mpx_name.specs.declared.steps.Step.TheVariants.{Child}
 use Rattle.mpx_name.specs.Name.{Name}
-use Rattle.mpx_post.specs.Births.{BirthView, upto}
+use Rattle.mpx_post.specs.Births.{BirthView, of_members, upto}
 use Rattle.mpx_post.specs.Posts.{group_of}
 use Rattle.mpx_post.specs.Rows.{RowView}
 use Rattle.mpx_value.specs.Children.{group_child, leads, named_children, processes}
@@ -42,7 +42,7 @@ unfolding made_upto
 loop-rank-preserved c = elim c.if-leads.branch [
   | then-leads+in_ok-members+in_ok-child+in_ok-push w ↦
       let group = w.group.ensures.value ∙ ap group_of w.post.ensures.value in
-      let child = w.in_ok-child.ensures ∙ ap (λ (members : List ℕ). let new : Name × BirthView = (Child c.args.call c.loop-rank.rank ∷ c.args.name.now, record { members = members }) in new) (w.in_ok-members.ensures ∙ ap (processes c.args.birth.now.members) group) in
+      let child = w.in_ok-child.ensures ∙ ap (λ (members : List ℕ). let new : Name × BirthView = (Child c.args.call c.loop-rank.rank ∷ c.args.name.now, of_members members) in new) (w.in_ok-members.ensures ∙ ap (processes c.args.birth.now.members) group) in
       one_more c.args.name.now c.args.call c.args.birth.now c.args.row.now c.loop-rank.rank c.loop-rank.made.items c.if-leads.made.items c.loop-rank.invariant (sym c.leads.ensures ∙ w.if-leads.true)
       (ap (λ v. v.items) w.made-is ∙ w.in_ok-push.ensures.items ∙ ap (λ (new : Name × BirthView). c.loop-rank.made.items ++ new ∷ []) child)
   | else-leads w ↦

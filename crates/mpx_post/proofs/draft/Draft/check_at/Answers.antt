@@ -5,7 +5,7 @@ use Rattle.std.specs.Prelude.{◌&&◌}
 use Rattle.std.specs.List.{list_all}
 use Rattle.mpx_post.specs.Drafts.{drafted_making, given_by, is_count, natural, naturals, received_counts, sent_counts, where_had}
 use Rattle.mpx_post.specs.Kinds.{fields_of, kind_of}
-use Rattle.mpx_post.proofs.Checks.{accepted, few_received, few_sent, group_is_fine, making_is_fine, refused_by_counts, refused_by_items, refused_by_place, refused_by_shape}
+use Rattle.mpx_post.proofs.Checks.{accepted, edges_are_few, edges_are_fine, few_received, few_sent, group_is_fine, making_is_fine, refused_by_counts, refused_by_items, refused_by_place, refused_by_shape}
 use Rattle.mpx_post.proofs.Makings.{has_mode}
 use Rattle.mpx_post.proofs.Refusals.{items_passed, is_some-where_had, few_given}
 use Rattle.mpx_post.proofs.draft.Draft.check_at.Goals as goal
@@ -37,6 +37,18 @@ given_making-requires-clause-group c =
     let place = sym c.place_refusal-place_refusal.ensures ∙ c.in_default-place_refusal.is in
     let group = group_is_fine c.args.size c.args.rank c.args.at.now c.args.self c.requires place in
     rw (c.fields-fields.ensures, c.kind.ensures, c.as_slice-group.ensures) group
+
+pub given_making-requires-clause-edges : goal.given_making-requires-clause-edges
+given_making-requires-clause-edges c =
+    let place = sym c.place_refusal-place_refusal.ensures ∙ c.in_default-place_refusal.is in
+    let edges = edges_are_fine c.args.size c.args.rank c.args.at.now c.args.self c.requires place in
+    rw (c.fields-fields.ensures, c.kind.ensures) edges
+
+pub given_making-requires-clause-few : goal.given_making-requires-clause-few
+given_making-requires-clause-few c =
+    let place = sym c.place_refusal-place_refusal.ensures ∙ c.in_default-place_refusal.is in
+    let few = edges_are_few c.args.size c.args.rank c.args.at.now c.args.self place in
+    rw (c.fields-fields.ensures, c.kind.ensures) few
 
 pub given_counts-requires-clause-few_sent : goal.given_counts-requires-clause-few_sent
 given_counts-requires-clause-few_sent c =

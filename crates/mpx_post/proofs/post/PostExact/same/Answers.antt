@@ -15,4 +15,4 @@ returns c =
     let ops : c.eq-4.result ≡ same_operations left.op right.op = c.eq-4.ensures ∙ options_test _ same_operation operations_test left.op right.op in
     let scounts : c.eq-5.result ≡ pointwise nat_eq left.scounts right.scounts = rw (c.as_slice.ensures.value, c.as_slice-2.ensures.value) at c.eq-5.ensures in
     let rcounts : c.eq-6.result ≡ pointwise nat_eq left.rcounts right.rcounts = rw (c.as_slice-3.ensures.value, c.as_slice-4.ensures.value) at c.eq-6.ensures in
-    rw (← c.self.view_is, ← c.other.view_is, kinds, modes, roots, ops, scounts, rcounts, c.are_same.ensures, c.have_same_making.ensures) (simp and_assoc)
+    rw (← c.self.view_is, ← c.other.view_is, kinds, modes, roots, ops, scounts, rcounts, c.are_same.ensures, c.same.ensures) (simp and_assoc)

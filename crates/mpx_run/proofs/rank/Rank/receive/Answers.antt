@@ -2,11 +2,8 @@ use Rattle.std.proofs.Common.{ap}
 use Rattle.mpx_board.specs.Looks.{look}
 use Rattle.mpx_run.specs.Running.{RankView}
 use Rattle.mpx_run.specs.Shown.{rank_of}
-use Rattle.mpx_run.proofs.Running.{receives, receives_nothing}
+use Rattle.mpx_run.proofs.Running.{receives}
 use Rattle.mpx_run.proofs.rank.Rank.receive.Goals as goal
-
-pub returns-then-leq : goal.returns-then-leq
-returns-then-leq c = receives_nothing (look c.args.part.now) (rank_of c.args.self.now)
 
 pub returns : goal.returns
 returns c =

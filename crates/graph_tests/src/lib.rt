@@ -1,0 +1,7 @@
+//! Tests of the topologies of distributed graphs, with values from outside.
+#![tactic(auto)]
+
+#[cfg(test)]
+mod rows;
+#[cfg(test)]
+mod topologies;

@@ -1,0 +1,4 @@
+pub mod Orders
+pub mod Edges
+pub mod Topologies
+pub mod Births

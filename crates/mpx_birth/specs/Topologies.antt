@@ -1,0 +1,81 @@
+-- Topologies: for each rank its sources and its destinations (MPI 4.1, sections 8.5.4 and 8.5.5).
+use Rattle.std.specs.Prelude.{◌≡◌, ℕ, ◌==◌, ◌&&◌, Bool, List, [], slice_index_or, refl}
+use Rattle.std.proofs.Common.{ap}
+use Rattle.std.specs.Bool.{Decides, beq}
+use Rattle.std.specs.Cmp.{booleans_Decides}
+use Rattle.std.proofs.lemmas.Bool.Decides.{Decides-and, Decides-eqb, Decides-like}
+use Rattle.std.proofs.lemmas.Slice.Eq.{slice_eq-Decides}
+use lib.Pointwise.{pointwise}
+use Rattle.mpx_birth.specs.declared.edges.Neighbour.{Neighbour}
+use Rattle.mpx_birth.specs.Edges.{often}
+
+-- the neighbours of one rank
+pub record Near : Type 0 where
+  pub sources : List Neighbour
+  pub destinations : List Neighbour
+
+pub record TopologyView : Type 0 where
+  pub weighted : Bool
+  pub ranks : List Near
+
+abbrev pub nobody : Near
+nobody = record { sources = []; destinations = [] }
+
+abbrev pub sources_in : List Near → ℕ → List Neighbour
+sources_in ranks rank = (slice_index_or ranks rank nobody).sources
+
+abbrev pub destinations_in : List Near → ℕ → List Neighbour
+destinations_in ranks rank = (slice_index_or ranks rank nobody).destinations
+
+abbrev pub sources_at : TopologyView → ℕ → List Neighbour
+sources_at topology rank = sources_in topology.ranks rank
+
+abbrev pub destinations_at : TopologyView → ℕ → List Neighbour
+destinations_at topology rank = destinations_in topology.ranks rank
+
+-- j stands among i's destinations as often as i among j's sources. So no rank stands there that is none of the ranks.
+pub record Agrees (ranks : List Near) : Type 0 where
+  pub both : (i j : ℕ) → often j (destinations_in ranks i) ≡ often i (sources_in ranks j)
+
+-- EQUALITY
+
+abbrev pub same_neighbour : Neighbour → Neighbour → Bool
+same_neighbour a b = (a.rank == b.rank) && (a.weight == b.weight)
+
+abbrev pub same_neighbours : List Neighbour → List Neighbour → Bool
+same_neighbours xs ys = pointwise same_neighbour xs ys
+
+abbrev pub same_near : Near → Near → Bool
+same_near a b = same_neighbours a.sources b.sources && same_neighbours a.destinations b.destinations
+
+abbrev pub same_nears : List Near → List Near → Bool
+same_nears xs ys = pointwise same_near xs ys
+
+abbrev pub same_topology : TopologyView → TopologyView → Bool
+same_topology a b = beq a.weighted b.weighted && same_nears a.ranks b.ranks
+
+-- Each of these tests decides whether the two are equal
+
+pub neighbour_decided : (a b : Neighbour) → Decides (same_neighbour a b) (a ≡ b)
+neighbour_decided a b =
+    Decides-like _
+    (λ e. λ i. record { rank = e.0 i; weight = e.1 i })
+    (λ e. (ap (λ (n : Neighbour). n.rank) e, ap (λ (n : Neighbour). n.weight) e))
+    (Decides-and _ _ (Decides-eqb a.rank b.rank) (Decides-eqb a.weight b.weight))
+
+pub neighbours_decided : (xs ys : List Neighbour) → Decides (same_neighbours xs ys) (xs ≡ ys)
+neighbours_decided xs ys = slice_eq-Decides neighbour_decided xs ys (same_neighbours xs ys) refl
+
+near_decided : (a b : Near) → Decides (same_near a b) (a ≡ b)
+near_decided a b =
+    Decides-like _
+    (λ e. λ i. record { sources = e.0 i; destinations = e.1 i })
+    (λ e. (ap (λ (n : Near). n.sources) e, ap (λ (n : Near). n.destinations) e))
+    (Decides-and _ _ (neighbours_decided a.sources b.sources) (neighbours_decided a.destinations b.destinations))
+
+pub topologies_decided : (a b : TopologyView) → Decides (same_topology a b) (a ≡ b)
+topologies_decided a b =
+    Decides-like _
+    (λ e. λ i. record { weighted = e.0 i; ranks = e.1 i })
+    (λ e. (ap (λ (t : TopologyView). t.weighted) e, ap (λ (t : TopologyView). t.ranks) e))
+    (Decides-and _ _ (booleans_Decides a.weighted b.weighted) (slice_eq-Decides near_decided a.ranks b.ranks (same_nears a.ranks b.ranks) refl))

@@ -1,0 +1,154 @@
+ghost use Rattle.std.specs.Prelude.{◌≡◌, ◌<◌, ◌≤◌, IfOk, Some, length};
+ghost use Rattle.std.specs.Option.{option_copied};
+ghost use Rattle.mpx_birth.specs.Births.{fits_topology, of_members, rank_in, same_topologies, upto};
+
+use crate::topology::Topology;
+use join_core::{Exact, OutOfMemory};
+use mpx_group::Proc;
+use std::alloc::Global;
+use std::marker::Model;
+use std::sync::Arc;
+
+/// How a communicator came to be: its members, 1 to 64, in rank order, and their topology where it is a distributed graph
+/// (MPI 4.1 sections 7.2 and 8.5). Copies share both.
+#[derive(Debug, Drop)]
+pub struct Birth {
+    members: Arc<Vec<Proc>>,
+    topology: Option<Topology>,
+}
+
+impl Model for Birth {
+    ghost use Rattle.std.specs.Arc.{arc_value};
+    ghost use Rattle.mpx_birth.specs.Births.{BirthView, IsBirth};
+
+    ghost Value = { BirthView };
+
+    ghost view = { λ b. record { members = (arc_value b.members).items; topology = b.topology } };
+
+    ghost invariant = { λ b. IsBirth (record { members = (arc_value b.members).items; topology = b.topology }) };
+}
+
+impl Exact for Birth {
+    ghost use Rattle.join_core.specs.Laws.{never_joined};
+    ghost use Rattle.mpx_birth.specs.Births.{BirthView, same_birth, birth_equality};
+
+    ghost View = { BirthView };
+
+    ghost view = { λ b. b };
+
+    ghost equal = { same_birth };
+
+    ghost joining = { never_joined };
+
+    fn same(&self, other: &Birth) -> bool {
+        (self.members() == other.members()) & are_same(&self.topology, &other.topology)
+    }
+
+    fn copy(&self, alloc: Global) -> Result<Birth, OutOfMemory> {
+        let _alloc = alloc;
+        Ok(Birth {
+            members: Arc::try_clone(&self.members)?,
+            topology: copied(&self.topology)?,
+        })
+    }
+
+    ghost equality = { birth_equality };
+}
+
+impl Birth {
+    /// The communicator `world`, whose members are the processes below `ranks`.
+    pub fn world(alloc: Global, ranks: u8) -> Result<Birth, OutOfMemory>
+        requires some { 0 < ranks }
+        requires few { ranks ≤ 64 }
+        ensures { IfOk result (λ birth. birth ≡ of_members (upto ranks)) }
+    {
+        let mut members = Vec::new(alloc);
+        for rank in 0..ranks {
+            members.push(Proc::new(rank))?;
+        }
+        Birth::of_members(alloc, members)
+    }
+
+    /// The communicator of these members in this order, without a topology.
+    pub fn of_members(alloc: Global, members: Vec<Proc>) -> Result<Birth, OutOfMemory>
+        requires some { 0 < length members.items }
+        requires few { length members.items ≤ 64 }
+        ensures { IfOk result (λ birth. birth ≡ of_members members.items) }
+    {
+        match Arc::new(alloc, members) {
+            Ok(members) => Ok(Birth {
+                members,
+                topology: None,
+            }),
+            Err(_) => Err(OutOfMemory),
+        }
+    }
+
+    /// The same members with this topology of as many ranks.
+    pub fn with_topology(&self, topology: Topology) -> Result<Birth, OutOfMemory>
+        requires { length topology.ranks ≡ length self.now.members }
+        ensures { IfOk result (λ birth. birth ≡ record { members = self.now.members; topology = Some topology }) }
+    {
+        Ok(Birth {
+            members: Arc::try_clone(&self.members)?,
+            topology: Some(topology),
+        })
+    }
+
+    /// The same members without a topology.
+    pub fn without_topology(&self) -> Result<Birth, OutOfMemory>
+        ensures { IfOk result (λ birth. birth ≡ of_members self.now.members) }
+    {
+        Ok(Birth {
+            members: Arc::try_clone(&self.members)?,
+            topology: None,
+        })
+    }
+
+    /// The members, 1 to 64, in rank order.
+    pub fn members(&self) -> &[Proc]
+        ensures value { result.now ≡ self.now.members }
+        ensures some { 0 < length result.now }
+        ensures small { length result.now ≤ 64 }
+    {
+        self.members.as_slice()
+    }
+
+    /// The topology, which has as many ranks, of a distributed graph.
+    pub fn topology(&self) -> Option<&Topology>
+        ensures value { option_copied result ≡ self.now.topology }
+        ensures ranks { fits_topology (length self.now.members) self.now.topology }
+    {
+        self.topology.as_ref()
+    }
+
+    /// The rank of the process, where it is a member.
+    pub fn rank_of(&self, process: Proc) -> Option<u8>
+        ensures { result ≡ rank_in process self.now.members }
+    {
+        let place = self.members.iter().position(|member| *member == process)?;
+        Some(place as u8)
+    }
+}
+
+// Whether both have none, or the same topology.
+fn are_same(left: &Option<Topology>, right: &Option<Topology>) -> bool
+    ensures { result ≡ same_topologies left.now right.now }
+{
+    match (left, right) {
+        (None, None) => true,
+        (None, Some(_)) => false,
+        (Some(_), None) => false,
+        (Some(left), Some(right)) => left.same(right),
+    }
+}
+
+// The same topology once more, shared, where there is one.
+fn copied(topology: &Option<Topology>) -> Result<Option<Topology>, OutOfMemory>
+    ensures { IfOk result (λ copied. copied ≡ topology.now) }
+{
+    match topology {
+        None => Ok(None),
+        Some(topology) => Ok(Some(topology.copy()?)),
+    }
+}

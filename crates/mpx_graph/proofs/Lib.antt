@@ -1,0 +1,6 @@
+pub mod Counting
+pub mod Pairs
+pub mod Graphs
+pub mod Fine
+pub mod Adjacent
+pub mod Examples

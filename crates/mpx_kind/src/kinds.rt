@@ -1,0 +1,393 @@
+ghost use Rattle.std.specs.Prelude.{◌≡◌, ◌≤◌};
+ghost use Rattle.mpx_kind.specs.Kinds.{blocking, exchange_kind, family_of, fields_of, is_gathered, is_had, kind_of, makes_communicators, making, mode_of, new_communicator_kind, number_in, reduction_kind};
+
+/// The kinds of calls (MPI 4.1 sections 6.3 to 6.12, 7.4 and 8.5).
+#[derive(Clone, Copy, Debug, PartialEq, Eq)]
+pub enum Kind {
+    /// `MPI_BARRIER` (section 6.3).
+    Barrier,
+    /// `MPI_BCAST` (section 6.4).
+    Bcast,
+    /// `MPI_GATHER` (section 6.5).
+    Gather,
+    /// `MPI_GATHERV` (section 6.5).
+    Gatherv,
+    /// `MPI_SCATTER` (section 6.6).
+    Scatter,
+    /// `MPI_SCATTERV` (section 6.6).
+    Scatterv,
+    /// `MPI_ALLGATHER` (section 6.7).
+    Allgather,
+    /// `MPI_ALLGATHERV` (section 6.7).
+    Allgatherv,
+    /// `MPI_ALLTOALL` (section 6.8).
+    Alltoall,
+    /// `MPI_ALLTOALLV` (section 6.8).
+    Alltoallv,
+    /// `MPI_REDUCE` (section 6.9.1).
+    Reduce,
+    /// `MPI_ALLREDUCE` (section 6.9.6).
+    Allreduce,
+    /// `MPI_REDUCE_SCATTER_BLOCK` (section 6.10.1).
+    ReduceScatterBlock,
+    /// `MPI_REDUCE_SCATTER` (section 6.10.2).
+    ReduceScatter,
+    /// `MPI_SCAN` (section 6.11.1).
+    Scan,
+    /// `MPI_EXSCAN` (section 6.11.2).
+    Exscan,
+    /// `MPI_COMM_DUP` (section 7.4.2).
+    Dup,
+    /// `MPI_COMM_SPLIT` (section 7.4.2).
+    Split,
+    /// `MPI_COMM_CREATE` (section 7.4.2).
+    Create,
+    /// `MPI_COMM_CREATE_GROUP` (section 7.4.2).
+    CreateGroup,
+    /// `MPI_DIST_GRAPH_CREATE` (section 8.5.4).
+    DistGraph,
+    /// `MPI_DIST_GRAPH_CREATE_ADJACENT` (section 8.5.4).
+    DistGraphAdjacent,
+}
+
+/// The kinds that move items as they are (MPI 4.1 sections 6.3 to 6.8).
+#[derive(Clone, Copy, Debug, PartialEq, Eq)]
+pub enum Exchange {
+    Barrier,
+    Bcast,
+    Gather,
+    Gatherv,
+    Scatter,
+    Scatterv,
+    Allgather,
+    Allgatherv,
+    Alltoall,
+    Alltoallv,
+}
+
+/// The kinds that combine items (MPI 4.1 sections 6.9 to 6.11).
+#[derive(Clone, Copy, Debug, PartialEq, Eq)]
+pub enum Reduction {
+    Reduce,
+    Allreduce,
+    ReduceScatterBlock,
+    ReduceScatter,
+    Scan,
+    Exscan,
+}
+
+/// The kinds that make communicators (MPI 4.1 sections 7.4.2 and 8.5.4).
+#[derive(Clone, Copy, Debug, PartialEq, Eq)]
+pub enum NewCommunicator {
+    Dup,
+    Split,
+    Create,
+    CreateGroup,
+    DistGraph,
+    DistGraphAdjacent,
+}
+
+/// The families of kinds: the values of each are found in a way of its own.
+#[derive(Clone, Copy, Debug, PartialEq, Eq)]
+pub enum Family {
+    Exchange(Exchange),
+    Reduction(Reduction),
+    NewCommunicator(NewCommunicator),
+}
+
+/// Whether a call blocks. Blocking and nonblocking calls don't match (MPI 4.1 section 6.12).
+#[derive(Clone, Copy, Debug, PartialEq, Eq)]
+pub enum Mode {
+    Blocking,
+    Nonblocking,
+}
+
+/// A kind of call with its mode: calls that make communicators only block.
+#[derive(Clone, Copy, Debug, PartialEq, Eq)]
+pub enum Call {
+    Exchange(Exchange, Mode),
+    Reduction(Reduction, Mode),
+    NewCommunicator(NewCommunicator),
+}
+
+/// What a post says of the communicator that its call makes.
+#[derive(Clone, Copy, Debug, PartialEq, Eq)]
+pub enum Makes {
+    /// Nothing.
+    Nothing,
+    /// A colour, which may be undefined, and a key.
+    Colour,
+    /// The ranks of a group.
+    Group,
+    /// Any edges between ranks.
+    Edges,
+    /// The member's own sources and destinations.
+    Neighbours,
+}
+
+/// A number that depends on the communicator's size and on who asks.
+#[derive(Clone, Copy, Debug, PartialEq, Eq)]
+pub enum Number {
+    Zero,
+    One,
+    /// 1 at the root, 0 elsewhere.
+    OneAtRoot,
+    /// The communicator's size.
+    Members,
+    /// The communicator's size at the root, 0 elsewhere.
+    MembersAtRoot,
+}
+
+/// How the items that a member sends are cut into blocks.
+#[derive(Clone, Copy, Debug, PartialEq, Eq)]
+pub enum Sent {
+    /// There may be any number of items.
+    Any,
+    /// The send counts, so often, are the blocks' numbers of items.
+    Scounts(Number),
+    /// The receive counts, so often, are the blocks' numbers of items.
+    Rcounts(Number),
+}
+
+/// What the posts of a kind have.
+#[derive(Clone, Copy, Debug, PartialEq, Eq)]
+pub struct Fields {
+    pub root: bool,
+    pub op: bool,
+    pub items: bool,
+    /// How many send counts there are.
+    pub scounts: Number,
+    /// How many receive counts there are.
+    pub rcounts: Number,
+    pub sent: Sent,
+    pub makes: Makes,
+}
+
+impl Kind {
+    /// Its family, and which of the family's kinds it is.
+    pub fn family(self) -> Family
+        ensures { result ≡ family_of self }
+    {
+        match self {
+            Kind::Barrier => Family::Exchange(Exchange::Barrier),
+            Kind::Bcast => Family::Exchange(Exchange::Bcast),
+            Kind::Gather => Family::Exchange(Exchange::Gather),
+            Kind::Gatherv => Family::Exchange(Exchange::Gatherv),
+            Kind::Scatter => Family::Exchange(Exchange::Scatter),
+            Kind::Scatterv => Family::Exchange(Exchange::Scatterv),
+            Kind::Allgather => Family::Exchange(Exchange::Allgather),
+            Kind::Allgatherv => Family::Exchange(Exchange::Allgatherv),
+            Kind::Alltoall => Family::Exchange(Exchange::Alltoall),
+            Kind::Alltoallv => Family::Exchange(Exchange::Alltoallv),
+            Kind::Reduce => Family::Reduction(Reduction::Reduce),
+            Kind::Allreduce => Family::Reduction(Reduction::Allreduce),
+            Kind::ReduceScatterBlock => Family::Reduction(Reduction::ReduceScatterBlock),
+            Kind::ReduceScatter => Family::Reduction(Reduction::ReduceScatter),
+            Kind::Scan => Family::Reduction(Reduction::Scan),
+            Kind::Exscan => Family::Reduction(Reduction::Exscan),
+            Kind::Dup => Family::NewCommunicator(NewCommunicator::Dup),
+            Kind::Split => Family::NewCommunicator(NewCommunicator::Split),
+            Kind::Create => Family::NewCommunicator(NewCommunicator::Create),
+            Kind::CreateGroup => Family::NewCommunicator(NewCommunicator::CreateGroup),
+            Kind::DistGraph => Family::NewCommunicator(NewCommunicator::DistGraph),
+            Kind::DistGraphAdjacent => Family::NewCommunicator(NewCommunicator::DistGraphAdjacent),
+        }
+    }
+
+    /// What its posts have.
+    pub fn fields(self) -> Fields
+        ensures { result ≡ fields_of self }
+    {
+        use Number::{Members, MembersAtRoot, One, OneAtRoot, Zero};
+        use Sent::{Any, Rcounts, Scounts};
+        match self {
+            Kind::Barrier => having(false, false, false, Zero, Zero, Any),
+            Kind::Bcast => having(true, false, true, Zero, One, Rcounts(OneAtRoot)),
+            Kind::Gather => having(true, false, true, Zero, Zero, Any),
+            Kind::Gatherv => having(true, false, true, Zero, MembersAtRoot, Any),
+            Kind::Scatter => having(true, false, true, Zero, One, Rcounts(MembersAtRoot)),
+            Kind::Scatterv => having(true, false, true, MembersAtRoot, One, Scounts(OneAtRoot)),
+            Kind::Allgather => having(false, false, true, Zero, Zero, Any),
+            Kind::Allgatherv => having(false, false, true, Zero, Members, Any),
+            Kind::Alltoall => having(false, false, true, Zero, One, Rcounts(Members)),
+            Kind::Alltoallv => having(false, false, true, Members, Members, Scounts(One)),
+            Kind::Reduce => having(true, true, true, Zero, Zero, Any),
+            Kind::Allreduce => having(false, true, true, Zero, Zero, Any),
+            Kind::ReduceScatterBlock => having(false, true, true, Zero, One, Rcounts(Members)),
+            Kind::ReduceScatter => having(false, true, true, Zero, Members, Rcounts(One)),
+            Kind::Scan => having(false, true, true, Zero, Zero, Any),
+            Kind::Exscan => having(false, true, true, Zero, Zero, Any),
+            Kind::Dup => making(Makes::Nothing),
+            Kind::Split => making(Makes::Colour),
+            Kind::Create => making(Makes::Group),
+            Kind::CreateGroup => making(Makes::Nothing),
+            Kind::DistGraph => making(Makes::Edges),
+            Kind::DistGraphAdjacent => making(Makes::Neighbours),
+        }
+    }
+
+    /// Whether its calls make communicators.
+    pub fn makes_communicators(self) -> bool
+        ensures { result ≡ makes_communicators (family_of self) }
+    {
+        match self.family() {
+            Family::Exchange(_) => false,
+            Family::Reduction(_) => false,
+            Family::NewCommunicator(_) => true,
+        }
+    }
+
+    /// Whether its calls are made on gatherings, on which no others are.
+    pub fn is_gathered(self) -> bool
+        ensures { result ≡ is_gathered (family_of self) }
+    {
+        match self.family() {
+            Family::Exchange(_) => false,
+            Family::Reduction(_) => false,
+            Family::NewCommunicator(new) => new == NewCommunicator::CreateGroup,
+        }
+    }
+}
+
+impl Call {
+    /// The blocking call of a kind.
+    pub fn blocking(kind: Kind) -> Call
+        ensures { result ≡ blocking kind }
+    {
+        match kind.family() {
+            Family::Exchange(exchange) => Call::Exchange(exchange, Mode::Blocking),
+            Family::Reduction(reduction) => Call::Reduction(reduction, Mode::Blocking),
+            Family::NewCommunicator(new) => Call::NewCommunicator(new),
+        }
+    }
+
+    /// Its kind.
+    pub fn kind(self) -> Kind
+        ensures { result ≡ kind_of self }
+    {
+        match self {
+            Call::Exchange(exchange, _) => exchange.kind(),
+            Call::Reduction(reduction, _) => reduction.kind(),
+            Call::NewCommunicator(new) => new.kind(),
+        }
+    }
+
+    /// Its mode.
+    pub fn mode(self) -> Mode
+        ensures { result ≡ mode_of self }
+    {
+        match self {
+            Call::Exchange(_, mode) => mode,
+            Call::Reduction(_, mode) => mode,
+            Call::NewCommunicator(_) => Mode::Blocking,
+        }
+    }
+}
+
+impl Exchange {
+    /// It as one of all kinds.
+    pub fn kind(self) -> Kind
+        ensures { result ≡ exchange_kind self }
+    {
+        match self {
+            Exchange::Barrier => Kind::Barrier,
+            Exchange::Bcast => Kind::Bcast,
+            Exchange::Gather => Kind::Gather,
+            Exchange::Gatherv => Kind::Gatherv,
+            Exchange::Scatter => Kind::Scatter,
+            Exchange::Scatterv => Kind::Scatterv,
+            Exchange::Allgather => Kind::Allgather,
+            Exchange::Allgatherv => Kind::Allgatherv,
+            Exchange::Alltoall => Kind::Alltoall,
+            Exchange::Alltoallv => Kind::Alltoallv,
+        }
+    }
+}
+
+impl Reduction {
+    /// It as one of all kinds.
+    pub fn kind(self) -> Kind
+        ensures { result ≡ reduction_kind self }
+    {
+        match self {
+            Reduction::Reduce => Kind::Reduce,
+            Reduction::Allreduce => Kind::Allreduce,
+            Reduction::ReduceScatterBlock => Kind::ReduceScatterBlock,
+            Reduction::ReduceScatter => Kind::ReduceScatter,
+            Reduction::Scan => Kind::Scan,
+            Reduction::Exscan => Kind::Exscan,
+        }
+    }
+}
+
+impl NewCommunicator {
+    /// It as one of all kinds.
+    pub fn kind(self) -> Kind
+        ensures { result ≡ new_communicator_kind self }
+    {
+        match self {
+            NewCommunicator::Dup => Kind::Dup,
+            NewCommunicator::Split => Kind::Split,
+            NewCommunicator::Create => Kind::Create,
+            NewCommunicator::CreateGroup => Kind::CreateGroup,
+            NewCommunicator::DistGraph => Kind::DistGraph,
+            NewCommunicator::DistGraphAdjacent => Kind::DistGraphAdjacent,
+        }
+    }
+}
+
+fn having(root: bool, op: bool, items: bool, scounts: Number, rcounts: Number, sent: Sent) -> Fields
+    ensures { result ≡ record { root = root; op = op; items = items; scounts = scounts; rcounts = rcounts; sent = sent; makes = Makes.Nothing } }
+{
+    Fields {
+        root,
+        op,
+        items,
+        scounts,
+        rcounts,
+        sent,
+        makes: Makes::Nothing,
+    }
+}
+
+fn making(makes: Makes) -> Fields
+    ensures { result ≡ making makes }
+{
+    Fields {
+        root: false,
+        op: false,
+        items: false,
+        scounts: Number::Zero,
+        rcounts: Number::Zero,
+        sent: Sent::Any,
+        makes,
+    }
+}
+
+impl Number {
+    /// The number in a communicator of this size, at the root or elsewhere.
+    pub fn of(self, size: usize, at_root: bool) -> usize
+        ensures { result ≡ number_in self size at_root }
+    {
+        match self {
+            Number::Zero => 0,
+            Number::One => 1,
+            Number::OneAtRoot => { if at_root { 1 } else { 0 } }
+            Number::Members => size,
+            Number::MembersAtRoot => { if at_root { size } else { 0 } }
+        }
+    }
+
+    /// Whether a kind with so many counts has that list at all.
+    pub fn is_had(self) -> bool
+        ensures { result ≡ is_had self }
+    {
+        match self {
+            Number::Zero => false,
+            Number::One => true,
+            Number::OneAtRoot => true,
+            Number::Members => true,
+            Number::MembersAtRoot => true,
+        }
+    }
+}

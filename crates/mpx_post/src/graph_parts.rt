@@ -1,0 +1,135 @@
+// What a post says of a graph.
+ghost use Rattle.std.specs.Prelude.{◌≡◌, IfOk};
+ghost use Rattle.mpx_post.specs.Graphs.{AreEdges, AreNeighbours};
+
+use join_core::OutOfMemory;
+use mpx_birth::{Edge, Neighbour, Neighbours};
+use std::alloc::Global;
+use std::marker::Model;
+use std::sync::Arc;
+
+/// The edges that a member gives to `MPI_DIST_GRAPH_CREATE`, also between others, at most 512 (MPI 4.1 section 8.5.4).
+/// Copies share them.
+#[derive(Debug, Drop)]
+pub struct Edges {
+    weighted: bool,
+    list: Arc<Vec<Edge>>,
+}
+
+impl Model for Edges {
+    ghost use Rattle.std.specs.Arc.{arc_value};
+    ghost use Rattle.mpx_post.specs.Graphs.{AreEdges, EdgesView};
+
+    ghost Value = { EdgesView };
+
+    ghost view = { λ e. record { weighted = e.weighted; edges = (arc_value e.list).items } };
+
+    ghost invariant = { λ e. AreEdges (record { weighted = e.weighted; edges = (arc_value e.list).items }) };
+}
+
+impl Edges {
+    // These edges.
+    pub(crate) fn new(alloc: Global, weighted: bool, list: Vec<Edge>) -> Result<Edges, OutOfMemory>
+        requires { AreEdges (record { weighted = weighted; edges = list.items }) }
+        ensures { IfOk result (λ edges. edges ≡ record { weighted = weighted; edges = list.items }) }
+    {
+        match Arc::new(alloc, list) {
+            Ok(list) => Ok(Edges { weighted, list }),
+            Err(_) => Err(OutOfMemory),
+        }
+    }
+
+    // Whether they have weights.
+    pub(crate) fn weighted(&self) -> bool
+        ensures { result ≡ self.now.weighted }
+    {
+        self.weighted
+    }
+
+    // The edges.
+    pub(crate) fn as_slice(&self) -> &[Edge]
+        ensures value { result.now ≡ self.now.edges }
+        ensures edges { AreEdges self.now }
+    {
+        self.list.as_slice()
+    }
+
+    // The same edges once more, shared.
+    pub(crate) fn copy(&self) -> Result<Edges, OutOfMemory>
+        ensures { IfOk result (λ copied. copied ≡ self.now) }
+    {
+        Ok(Edges {
+            weighted: self.weighted,
+            list: Arc::try_clone(&self.list)?,
+        })
+    }
+}
+
+/// The sources and destinations that a member names as its own for `MPI_DIST_GRAPH_CREATE_ADJACENT`, at most 512 together
+/// (MPI 4.1 section 8.5.4). Copies share them.
+#[derive(Debug, Drop)]
+pub struct OwnNeighbours {
+    weighted: bool,
+    near: Arc<Neighbours>,
+}
+
+impl Model for OwnNeighbours {
+    ghost use Rattle.std.specs.Arc.{arc_value};
+    ghost use Rattle.mpx_post.specs.Graphs.{AreNeighbours, NeighboursView};
+
+    ghost Value = { NeighboursView };
+
+    ghost view = { λ n. record { weighted = n.weighted; sources = (arc_value n.near).sources; destinations = (arc_value n.near).destinations } };
+
+    ghost invariant = { λ n. AreNeighbours (record { weighted = n.weighted; sources = (arc_value n.near).sources; destinations = (arc_value n.near).destinations }) };
+}
+
+impl OwnNeighbours {
+    // These neighbours.
+    pub(crate) fn new(
+        alloc: Global,
+        weighted: bool,
+        near: Neighbours,
+    ) -> Result<OwnNeighbours, OutOfMemory>
+        requires { AreNeighbours (record { weighted = weighted; sources = near.sources; destinations = near.destinations }) }
+        ensures { IfOk result (λ own. own ≡ record { weighted = weighted; sources = near.sources; destinations = near.destinations }) }
+    {
+        match Arc::new(alloc, near) {
+            Ok(near) => Ok(OwnNeighbours { weighted, near }),
+            Err(_) => Err(OutOfMemory),
+        }
+    }
+
+    // Whether their edges have weights.
+    pub(crate) fn weighted(&self) -> bool
+        ensures { result ≡ self.now.weighted }
+    {
+        self.weighted
+    }
+
+    // From whom edges come, in the order given.
+    pub(crate) fn sources(&self) -> &[Neighbour]
+        ensures value { result.now ≡ self.now.sources }
+        ensures neighbours { AreNeighbours self.now }
+    {
+        self.near.sources()
+    }
+
+    // To whom edges go, in the order given.
+    pub(crate) fn destinations(&self) -> &[Neighbour]
+        ensures value { result.now ≡ self.now.destinations }
+        ensures neighbours { AreNeighbours self.now }
+    {
+        self.near.destinations()
+    }
+
+    // The same neighbours once more, shared.
+    pub(crate) fn copy(&self) -> Result<OwnNeighbours, OutOfMemory>
+        ensures { IfOk result (λ copied. copied ≡ self.now) }
+    {
+        Ok(OwnNeighbours {
+            weighted: self.weighted,
+            near: Arc::try_clone(&self.near)?,
+        })
+    }
+}
