@@ -4,22 +4,30 @@ ghost use Rattle.std.specs.Prelude.{◌<◌};
 use mpx_board::{AddPostError, Board};
 use mpx_group::Proc;
 use mpx_name::Name;
-use mpx_num::Ty;
-use mpx_post::{At, Birth, Kind, Post};
+use mpx_num::{Numbers, Op, Ty};
+use mpx_post::{At, Birth, Call, Draft, Kind, Post};
 use std::alloc::Global;
 use std::test::Fail;
-use test_drafts::{Drafted, check, just};
 
 // A post of these numbers.
 pub fn post_of(alloc: Global, nums: &[i128]) -> Result<Post, Fail> {
-    let drafted = Drafted {
+    let world = Birth::world(alloc, 1)?;
+    let draft = Draft {
+        call: Call::blocking(Kind::Allreduce),
+        root: 0,
+        op: Op::Sum,
         ty: Ty::I64,
-        items: nums,
-        ..just(Kind::Allreduce)
+        scounts: Numbers::new(alloc, Vec::new(alloc))?,
+        rcounts: Numbers::new(alloc, Vec::new(alloc))?,
+        items: Numbers::new(alloc, Vec::from_slice(alloc, nums)?)?,
+        colour: None,
+        key: 0,
+        group: Numbers::new(alloc, Vec::new(alloc))?,
+        graph: None,
     };
     let at = At::on(&Name::world(alloc), 0);
-    let world = Birth::world(alloc, 1)?;
-    Ok(check(alloc, &world, Proc::new(0), &at, &drafted)?)
+    let made = draft.check(alloc, &world, Proc::new(0), &at);
+    Ok(made.ok().ok_or("refused")?)
 }
 
 // What the board answers to this post of the process.

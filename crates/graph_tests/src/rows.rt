@@ -6,10 +6,28 @@ use mpx_graph::{
 };
 use mpx_group::Proc;
 use mpx_match::{Verdict, verdict};
-use mpx_post::{At, Birth, Kind, Post, PostError, Row, Topology};
+use mpx_num::{Numbers, Op, Ty};
+use mpx_post::{
+    At, Birth, Call, Draft, DraftedEdge, DraftedGraph, DraftedNeighbour, NewCommunicator, Post,
+    Row, Topology,
+};
 use std::alloc::Global;
 use std::test::Fail;
-use test_drafts::{Drafted, Edges, check, just};
+
+// A source, a destination and a weight.
+pub type Edge = (i128, i128, i128);
+
+// A rank and a weight.
+pub type Neighbour = (i128, i128);
+
+// What one member gives.
+#[derive(Clone, Copy)]
+pub struct Given<'a> {
+    pub weighted: bool,
+    pub edges: &'a [Edge],
+    pub sources: &'a [Neighbour],
+    pub destinations: &'a [Neighbour],
+}
 
 // The neighbours of one rank: ranks with weights.
 #[derive(Clone, Copy)]
@@ -18,27 +36,67 @@ pub struct Near<'a> {
     pub destinations: &'a [(u8, u32)],
 }
 
+fn numbers(alloc: Global) -> Result<Numbers, Fail> {
+    Ok(Numbers::new(alloc, Vec::new(alloc))?)
+}
+
+fn edges_of(alloc: Global, edges: &[Edge]) -> Result<Vec<DraftedEdge>, Fail> {
+    let mut drafted = Vec::new(alloc);
+    for &(source, destination, weight) in edges {
+        drafted.push(DraftedEdge {
+            source,
+            destination,
+            weight,
+        })?;
+    }
+    Ok(drafted)
+}
+
+fn neighbours_of(alloc: Global, neighbours: &[Neighbour]) -> Result<Vec<DraftedNeighbour>, Fail> {
+    let mut drafted = Vec::new(alloc);
+    for &(rank, weight) in neighbours {
+        drafted.push(DraftedNeighbour { rank, weight })?;
+    }
+    Ok(drafted)
+}
+
+fn graph_of(alloc: Global, given: &Given<'_>) -> Result<DraftedGraph, Fail> {
+    let edges = edges_of(alloc, given.edges)?;
+    let sources = neighbours_of(alloc, given.sources)?;
+    let destinations = neighbours_of(alloc, given.destinations)?;
+    Ok(DraftedGraph::new(alloc, given.weighted, edges, sources, destinations)?)
+}
+
 fn post_of(
     alloc: Global,
     birth: &Birth,
     me: Proc,
-    kind: Kind,
-    given: &Edges<'_>,
-) -> Result<Post, PostError> {
-    let drafted = Drafted {
-        graph: Some(*given),
-        ..just(kind)
+    new: NewCommunicator,
+    given: &Given<'_>,
+) -> Result<Post, Fail> {
+    let draft = Draft {
+        call: Call::NewCommunicator(new),
+        root: 0,
+        op: Op::Sum,
+        ty: Ty::I32,
+        scounts: numbers(alloc)?,
+        rcounts: numbers(alloc)?,
+        items: numbers(alloc)?,
+        colour: None,
+        key: 0,
+        group: numbers(alloc)?,
+        graph: Some(graph_of(alloc, given)?),
     };
     let first = At {
         call: 0,
         depth: 0,
         gathering: false,
     };
-    check(alloc, birth, me, &first, &drafted)
+    Ok(draft.check(alloc, birth, me, &first)?)
 }
 
 // The topology of a row of so many posts.
-fn topology(alloc: Global, kind: Kind, posts: &[Post]) -> Result<Topology, Fail> {
+fn topology(alloc: Global, new: NewCommunicator, posts: &[Post]) -> Result<Topology, Fail> {
     let mut lent = Vec::new(alloc);
     for post in posts {
         lent.push(post)?;
@@ -48,8 +106,8 @@ fn topology(alloc: Global, kind: Kind, posts: &[Post]) -> Result<Topology, Fail>
     }
     let row = Row::new(lent);
     match verdict(&row) {
-        Verdict::Fine => match kind {
-            Kind::DistGraph => Ok(topology_general(alloc, &row)?),
+        Verdict::Fine => match new {
+            NewCommunicator::DistGraph => Ok(topology_general(alloc, &row)?),
             _ => Ok(topology_adjacent(alloc, &row)?),
         },
         Verdict::Fault(_) => Err("not fine")?,
@@ -57,16 +115,21 @@ fn topology(alloc: Global, kind: Kind, posts: &[Post]) -> Result<Topology, Fail>
 }
 
 // The topology that so many ranks make, of what each gives.
-pub fn made(alloc: Global, ranks: u8, kind: Kind, row: &[Edges<'_>]) -> Result<Topology, Fail>
+pub fn made(
+    alloc: Global,
+    ranks: u8,
+    new: NewCommunicator,
+    row: &[Given<'_>],
+) -> Result<Topology, Fail>
     requires some { 0 < ranks }
     requires few { ranks ≤ 64 }
 {
     let birth = Birth::world(alloc, ranks)?;
     let mut posts = Vec::new(alloc);
     for (me, given) in birth.members().iter().zip(row) {
-        posts.push(post_of(alloc, &birth, *me, kind, given)?)?;
+        posts.push(post_of(alloc, &birth, *me, new, given)?)?;
     }
-    topology(alloc, kind, &posts)
+    topology(alloc, new, &posts)
 }
 
 // Whether these are the neighbours.

@@ -1,14 +1,13 @@
 //! Which neighbours graphs give each rank: values from MPI 4.1 section 8.5.4, and that the calls succeed.
-use crate::rows::{Near, is_so, made};
+use crate::rows::{Edge, Given, Near, Neighbour, is_so, made};
 use mpx_graph::{counts, destinations, sources};
-use mpx_post::{Kind, Topology};
+use mpx_post::{NewCommunicator, Topology};
 use std::alloc::Global;
 use std::test::Fail;
-use test_drafts::Edges;
 
 // Any edges.
-fn gives(weighted: bool, edges: &[(i128, i128, i128)]) -> Edges<'_> {
-    Edges {
+fn gives(weighted: bool, edges: &[Edge]) -> Given<'_> {
+    Given {
         weighted,
         edges,
         sources: &[],
@@ -17,12 +16,8 @@ fn gives(weighted: bool, edges: &[(i128, i128, i128)]) -> Edges<'_> {
 }
 
 // A member's own neighbours.
-fn names<'a>(
-    weighted: bool,
-    sources: &'a [(i128, i128)],
-    destinations: &'a [(i128, i128)],
-) -> Edges<'a> {
-    Edges {
+fn names<'a>(weighted: bool, sources: &'a [Neighbour], destinations: &'a [Neighbour]) -> Given<'a> {
+    Given {
         weighted,
         edges: &[],
         sources,
@@ -41,7 +36,7 @@ fn beside<'a>(sources: &'a [(u8, u32)], destinations: &'a [(u8, u32)]) -> Near<'
 #[test]
 fn graphs_of_any_edges(rt: HostRuntime) -> Result<(), Fail> {
     let alloc = rt.alloc();
-    let general = Kind::DistGraph;
+    let general = NewCommunicator::DistGraph;
 
     // edges between others, and one twice
     let row = [
@@ -82,7 +77,7 @@ fn graphs_of_any_edges(rt: HostRuntime) -> Result<(), Fail> {
 #[test]
 fn graphs_of_own_neighbours(rt: HostRuntime) -> Result<(), Fail> {
     let alloc = rt.alloc();
-    let adjacent = Kind::DistGraphAdjacent;
+    let adjacent = NewCommunicator::DistGraphAdjacent;
 
     let row = [names(false, &[], &[(1, 0)]), names(false, &[(0, 0)], &[])];
     let wanted = [beside(&[], &[(1, 0)]), beside(&[(0, 0)], &[])];
@@ -107,7 +102,7 @@ fn weight(from: u8, to: u8) -> i128 {
 }
 
 // The edges from each of 64 ranks to each.
-fn all_edges(alloc: Global) -> Result<Vec<(i128, i128, i128)>, Fail> {
+fn all_edges(alloc: Global) -> Result<Vec<Edge>, Fail> {
     let mut edges = Vec::new(alloc);
     for from in 0..64u8 {
         for to in 0..64u8 {
@@ -118,7 +113,7 @@ fn all_edges(alloc: Global) -> Result<Vec<(i128, i128, i128)>, Fail> {
 }
 
 // The sources of each of the 64 ranks, or the destinations.
-fn all_neighbours(alloc: Global, sources: bool) -> Result<Vec<(i128, i128)>, Fail> {
+fn all_neighbours(alloc: Global, sources: bool) -> Result<Vec<Neighbour>, Fail> {
     let mut neighbours = Vec::new(alloc);
     for rank in 0..64u8 {
         for other in 0..64u8 {
@@ -139,7 +134,7 @@ fn all_given(alloc: Global) -> Result<Topology, Fail> {
     for edges in edges.chunks(64) {
         row.push(gives(true, edges))?;
     }
-    made(alloc, 64, Kind::DistGraph, &row)
+    made(alloc, 64, NewCommunicator::DistGraph, &row)
 }
 
 fn all_named(alloc: Global) -> Result<Topology, Fail> {
@@ -149,7 +144,7 @@ fn all_named(alloc: Global) -> Result<Topology, Fail> {
     for (sources, destinations) in sources.chunks(64).zip(destinations.chunks(64)) {
         row.push(names(true, sources, destinations))?;
     }
-    made(alloc, 64, Kind::DistGraphAdjacent, &row)
+    made(alloc, 64, NewCommunicator::DistGraphAdjacent, &row)
 }
 
 // Ranks and weights: those of the first, and how much more those of each further one are.
@@ -204,7 +199,7 @@ fn most_given(alloc: Global) -> Result<Topology, Fail> {
         edges.push((2, 1, i128::from(weight)))?;
     }
     let row = [gives(true, &[]), gives(true, &[]), gives(true, &edges)];
-    made(alloc, 3, Kind::DistGraph, &row)
+    made(alloc, 3, NewCommunicator::DistGraph, &row)
 }
 
 fn has_most(topology: &Topology) -> bool {

@@ -1,15 +1,13 @@
 //! What processes do in the tests, and what they are told.
-use join_core::OutOfMemory;
 use mpx_group::Proc;
 use mpx_name::Name;
-use mpx_num::Numbers;
-use mpx_post::{Draft, Kind};
+use mpx_num::{Numbers, Op, Ty};
+use mpx_post::{Call, Draft, Kind};
 use mpx_value::Outcome;
 use mpx_world::{Cut, Event, Names, Reply, World};
 use std::alloc::Global;
 use std::process::Abort;
 use std::test::Fail;
-use test_drafts::{Drafted, draft, just};
 
 // What a process does, on the context of all where it names one.
 #[derive(Clone, Copy)]
@@ -38,12 +36,20 @@ pub fn proc(number: u8) -> Proc {
     Proc::new(0)
 }
 
-fn sum_of(alloc: Global, number: i128) -> Result<Draft, OutOfMemory> {
-    let drafted = Drafted {
-        items: &[number],
-        ..just(Kind::Allreduce)
-    };
-    draft(alloc, &drafted)
+fn sum_of(alloc: Global, number: i128) -> Result<Draft, Fail> {
+    Ok(Draft {
+        call: Call::blocking(Kind::Allreduce),
+        root: 0,
+        op: Op::Sum,
+        ty: Ty::I32,
+        scounts: Numbers::new(alloc, Vec::new(alloc))?,
+        rcounts: Numbers::new(alloc, Vec::new(alloc))?,
+        items: Numbers::new(alloc, Vec::from_slice(alloc, &[number])?)?,
+        colour: None,
+        key: 0,
+        group: Numbers::new(alloc, Vec::new(alloc))?,
+        graph: None,
+    })
 }
 
 fn event(alloc: Global, proc: Proc, act: Act) -> Result<Event, Fail> {
