@@ -2,7 +2,7 @@
 """A second opinion on gossipmpi: reads and evaluates a job script, without sharing any code with the program.
 
 It refuses what the program refuses, with the same line on the standard error and exit status 2, by the grammar and the order
-of refusals in docs/MODEL.md, limits of bytes and of statements included. It evaluates the calls by MPI 4.1's text, for all 22
+of refusals in docs/MODEL.md, limits of bytes and of statements included. It evaluates the calls by MPI 4.1's text, for all 26
 kinds, 9 types and 12 operations, on every communicator, with the refusals of posts and the faults of rows, and tells which
 ranks wait (exit status 3). It knows nothing of usage, want of memory, and readers or writers that fail.
 
@@ -27,7 +27,12 @@ PLACES = {  # the words behind the communicator; the last is any number of items
     "reduce_scatter": "op ty rcounts items", "scan": "op ty items", "exscan": "op ty items",
     "dup": "arrow target", "split": "colour key arrow target", "create": "list arrow target",
     "create_group": "tag list arrow target", "dist_graph": "edges arrow target",
-    "dist_graph_adjacent": "sources destinations arrow target"}
+    "dist_graph_adjacent": "sources destinations arrow target",
+    "neighbor_allgather": "ty count items", "neighbor_allgatherv": "ty rcounts items",
+    "neighbor_alltoall": "ty scount count items", "neighbor_alltoallv": "ty scounts rcounts items",
+    "sources": [], "destinations": []}
+LOCAL = ["sources", "destinations"]
+NEAR = ["neighbor_allgather", "neighbor_allgatherv", "neighbor_alltoall", "neighbor_alltoallv"]
 MAKERS = ["dup", "split", "create", "create_group", "dist_graph", "dist_graph_adjacent"]
 PLACES = {k: (v.split() if v else []) for k, v in PLACES.items()}
 
@@ -133,7 +138,7 @@ def statement_refusal(words, bound):
         ("UnknownStatement", wrong(["op"], OPS.__contains__) or wrong(["ty"], TYPES.__contains__)),
         ("WrongWords", name is None or len(at) < len(names) or (behind and "items" not in PLACES[kind])
          or wrong(["arrow"], "->".__eq__)),
-        ("BadNumber", wrong(["root", "count", "key", "tag"], is_number) or not all(map(is_number, behind))
+        ("BadNumber", wrong(["root", "count", "scount", "key", "tag"], is_number) or not all(map(is_number, behind))
          or wrong(["colour"], lambda word: word == "undefined" or is_number(word))),
         ("BadList", wrong(["scounts", "rcounts", "list"], is_list) or wrong(["edges"], lambda word: ends(word, 2))
          or wrong(["sources", "destinations"], lambda word: ends(word, 1))
@@ -189,8 +194,8 @@ def parse(words):
         word, rest = rest[0], rest[1:]
         if place == "root":
             call["root"] = int(word)
-        elif place == "count":
-            call["rcounts"] = [int(word)]
+        elif place in ("count", "scount"):
+            call["rcounts" if place == "count" else "scounts"] = [int(word)]
         elif place in ("key", "tag"):
             call[place] = int(word)
         elif place == "colour":
@@ -204,35 +209,40 @@ def parse(words):
     return call
 
 
-def expected(call, n, me):
+def expected(call, n, me, graph):
     """(length of scounts, length of rcounts, counts that the items stand on or None)"""
     k, at = call["kind"], call["root"] == me
     s, r = call["scounts"], call["rcounts"]
+    come, go = (len(graph[1][me]), len(graph[2][me])) if graph else (0, 0)
     return {"barrier": (0, 0, None), "bcast": (0, 1, r if at else []), "gather": (0, 0, None),
             "gatherv": (0, n if at else 0, None), "scatter": (0, 1, r * n if at else []),
             "scatterv": (n if at else 0, 1, s if at else []), "allgather": (0, 0, None), "allgatherv": (0, n, None),
             "alltoall": (0, 1, r * n), "alltoallv": (n, n, s), "reduce_scatter_block": (0, 1, r * n),
-            "reduce_scatter": (0, n, r)}.get(k, (0, 0, None))
+            "reduce_scatter": (0, n, r), "neighbor_allgather": (0, 1, None), "neighbor_allgatherv": (0, come, None),
+            "neighbor_alltoall": (1, 1, s * go), "neighbor_alltoallv": (go, come, s)}.get(k, (0, 0, None))
 
 
-def refusal(call, n, me, depth):
+def refusal(call, n, me, depth, graph):
     if call["root"] is not None and not 0 <= call["root"] < n:
         return "RootOutOfRange"
     if call["op"] and (call["op"] in ("maxloc", "minloc")) != (call["ty"] == "2int"):
         return "OpNotForType"
-    ls, lr, stand = expected(call, n, me)
-    if len(call["scounts"]) != ls or len(call["rcounts"]) != lr:
+    stray = call["kind"] in NEAR and graph is None
+    ls, lr, stand = expected(call, n, me, graph)
+    if not stray and (len(call["scounts"]) != ls or len(call["rcounts"]) != lr):
         return "CountsLength"
     width = 2 if call["ty"] == "2int" else 1
     good = lambda c: 0 <= c <= 4096
-    if len(call["items"]) % width:
+    if not stray and len(call["items"]) % width:
         return "ItemsLength"
-    if stand is not None and all(map(good, stand)) and sum(stand) * width != len(call["items"]):
+    if not stray and stand is not None and all(map(good, stand)) and sum(stand) * width != len(call["items"]):
         return "ItemsLength"
     if any(not least(call["ty"]) <= x <= greatest(call["ty"]) for x in call["items"]):
         return "ItemOutOfRange"
     if len(call["items"]) > 4096 * width or not all(map(good, call["scounts"] + call["rcounts"])):
         return "TooManyItems"
+    if stray:
+        return "NoTopology"
     if call["kind"] in MAKERS and depth >= STEPS:
         return "DepthUsedUp"
     if call["kind"] == "create" and not are_ranks(call["list"], n):
@@ -275,7 +285,22 @@ def blocks(xs, counts):
     return out
 
 
-def fault(row):
+def meets(graph, i, k):
+    """Where the edge at place k among i's destinations stands among the sources of the rank that it goes to: at the place
+    where i stands for the same time."""
+    j = graph[2][i][k][0]
+    time = sum(near[0] == j for near in graph[2][i][:k])
+    return j, [l for l, near in enumerate(graph[1][j]) if near[0] == i][time]
+
+
+def edge_differs(row, graph, i, k):
+    j, l = meets(graph, i, k)
+    kind, mine, theirs = row[0]["kind"], row[i], row[j]["rcounts"]
+    sent = {"neighbor_alltoall": lambda: mine["scounts"][0], "neighbor_alltoallv": lambda: mine["scounts"][k]}.get(kind, lambda: len(items(mine)))()
+    return sent != theirs[0 if kind in ("neighbor_allgather", "neighbor_alltoall") else l]
+
+
+def fault(row, graph):
     n, first = len(row), row[0]
     for what, field in (("Kind", "kind"), ("Root", "root"), ("Op", "op"), ("ItemType", "ty")):
         for i, c in enumerate(row):
@@ -295,6 +320,7 @@ def fault(row):
             "alltoallv": lambda: any(c["scounts"][j] != row[j]["rcounts"][i] for j in range(n)),
             "reduce_scatter": lambda: c["rcounts"] != first["rcounts"],
             **{maker: lambda: False for maker in MAKERS},
+            **{near: lambda: any(edge_differs(row, graph, i, k) for k in range(len(graph[2][i]))) for near in NEAR},
         }.get(k, lambda: size[i] != size[0])()
         if bad:
             return "Amount", i
@@ -312,22 +338,37 @@ def fault(row):
     return None
 
 
-def new_communicator(row, name, members, call, me):
-    """The name and the members of the communicator that the member with this rank gets, or None."""
+def topology(row):
+    """Whether edges have weights, and each rank's sources and destinations: pairs of a rank and a list of the weight, if any."""
+    n = len(row)
+    if row[0]["kind"] == "dist_graph":
+        edges = [edge for call in row for edge in call["edges"]]
+        come = [[(s, w) for s, d, *w in edges if d == r] for r in range(n)]
+        go = [[(d, w) for s, d, *w in edges if s == r] for r in range(n)]
+    else:
+        come = [[(s, w) for s, *w in call["sources"]] for call in row]
+        go = [[(d, w) for d, *w in call["destinations"]] for call in row]
+    return row[0]["weighted"], come, go
+
+
+def new_communicator(row, name, members, graph, call, me):
+    """The name, the members and the topology of the communicator that the member with this rank gets, or None."""
     kind = row[0]["kind"]
+    if kind in ("dist_graph", "dist_graph_adjacent"):
+        graph = topology(row)
     if kind in ("dup", "create_group", "dist_graph", "dist_graph_adjacent"):
-        return name + (("child", call, 0),), members
+        return name + (("child", call, 0),), members, None if kind == "create_group" else graph
     if kind == "split":
         colour = row[me]["colour"]
         if colour is None:
             return None
         ranks = sorted((r for r in range(len(row)) if row[r]["colour"] == colour), key=lambda r: (row[r]["key"], r))
-        return name + (("child", call, colour),), [members[r] for r in ranks]
+        return name + (("child", call, colour),), [members[r] for r in ranks], None
     ranks = row[me]["list"]  # create: a member of another's group has given the same group
-    return (name + (("child", call, ranks[0]),), [members[r] for r in ranks]) if me in ranks else None
+    return (name + (("child", call, ranks[0]),), [members[r] for r in ranks], None) if me in ranks else None
 
 
-def value(row, me):
+def value(row, me, graph):
     n, first = len(row), row[0]
     k, r, given = first["kind"], first["root"], [items(c) for c in row]
 
@@ -354,6 +395,17 @@ def value(row, me):
             counts = row[j]["scounts"] if k == "alltoallv" else row[j]["rcounts"] * n
             out += blocks(given[j], counts)[me]
         return out
+    if k in ("neighbor_allgather", "neighbor_allgatherv"):
+        return [x for near in graph[1][me] for x in given[near[0]]]
+    if k in ("neighbor_alltoall", "neighbor_alltoallv"):
+        found = {}  # by the place among the sources
+        for j in range(n):
+            counts = row[j]["scounts"] if k == "neighbor_alltoallv" else row[j]["scounts"] * len(graph[2][j])
+            for place, block in enumerate(blocks(given[j], counts)):
+                to, at = meets(graph, j, place)
+                if to == me:
+                    found[at] = block
+        return [x for at in range(len(graph[1][me])) for x in found[at]]
     if k == "reduce":
         return fold(n) if me == r else None
     if k == "allreduce":
@@ -377,51 +429,58 @@ def line(x):
 
 
 def evaluate(todo):
-    """Each context is its name, a tuple of steps, and its members' processes."""
+    """Each context is its name, a tuple of steps, its members' processes and its topology or None."""
     n = len(todo)
     out, posts = [[] for _ in range(n)], {}  # posts of a context and a process, in order
-    bound = [{"world": ((), list(range(n)))} for _ in range(n)]
+    bound = [{"world": ((), list(range(n)), None)} for _ in range(n)]
     place, waits = [0] * n, [None] * n
 
     def post(p, words):
-        """Why the statement is refused, or None where its post is made."""
+        """Why the statement is refused, or None where its post is made or its answer printed."""
         call, context = parse(words), bound[p][words[1]]
         if call["target"]:
             bound[p][call["target"]] = None
         if context is None:
             return "NotMember"
-        name, members = context
+        name, members, graph = context
+        if call["kind"] in LOCAL:
+            if graph is None:
+                return "NoTopology"
+            near = graph[1 + LOCAL.index(call["kind"])][members.index(p)]
+            out[p].append(" ".join(":".join(map(str, [rank] + weight)) for rank, weight in near) or "empty")
+            return None
         if call["kind"] == "create_group":
             why = gathering_refusal(call, len(members), members.index(p), len(name))
             if why:
                 return why
             members = [members[r] for r in call["list"]]
             name += (("gathering", call["tag"], tuple(members)),)
+            graph = None
             call["list"] = []
-        why = refusal(call, len(members), members.index(p), len(name))
+        why = refusal(call, len(members), members.index(p), len(name), graph)
         if why:
             return why
         mine = posts.setdefault((name, p), [])
-        waits[p] = (name, members, len(mine), call["target"])
+        waits[p] = (name, members, graph, len(mine), call["target"])
         mine.append(call)
         return None
 
     def hear(p):
         """Whether the row that the rank waits for is whole."""
-        name, members, k, target = waits[p]
+        name, members, graph, k, target = waits[p]
         lists = [posts.get((name, q), []) for q in members]
         if any(len(calls) <= k for calls in lists):
             return False
         row, me = [calls[k] for calls in lists], members.index(p)
-        wrong = fault(row)
+        wrong = fault(row, graph)
         if wrong:
             out[p].append("fault %s at %d" % wrong)
         elif row[0]["kind"] in MAKERS:
-            made = new_communicator(row, name, members, k, me)
+            made = new_communicator(row, name, members, graph, k, me)
             bound[p][target] = made
             out[p].append("comm %d %d" % (len(made[1]), made[1].index(p)) if made else "null")
         else:
-            out[p].append(line(value(row, me)))
+            out[p].append(line(value(row, me, graph)))
         waits[p] = None
         return True
 
@@ -441,23 +500,40 @@ def evaluate(todo):
     return text, [p for p in range(n) if waits[p] or place[p] < len(todo[p])]
 
 
-def random_call(rng, members, wild):
-    """The words of a call that moves items behind the communicator's, for each of these processes."""
+def random_call(rng, members, graph, wild):
+    """The words of a call that moves items behind the communicator's, for each of these processes. The graph is what the
+    communicator's is taken for, if it has one."""
     n = len(members)
-    kind, ty = rng.choice([k for k in PLACES if k not in MAKERS]), rng.choice(list(TYPES))
+    kind, ty = rng.choice([k for k in PLACES if k not in MAKERS + LOCAL + (NEAR if graph is None and rng.random() < 0.9 else [])]), rng.choice(list(TYPES))
+    if graph is not None and rng.random() < 0.7:
+        kind = rng.choice(NEAR)
     op = rng.choice(["maxloc", "minloc"] if ty == "2int" else ["max", "min", "sum", "prod", "land", "lor", "lxor", "band", "bor", "bxor"])
     root, c, width = rng.randrange(n), rng.randint(0, 3), 2 if ty == "2int" else 1
     send = [[rng.randint(0, 3) for _ in range(n)] for _ in range(n)]
     vector = [rng.randint(0, 3) for _ in range(n)]
+    come, go = (graph[1], graph[2]) if graph else ([[]] * n, [[]] * n)
+    sizes = [[rng.randint(0, 3) for _ in go[p]] for p in range(n)]
+    awaited = [[0] * len(come[p]) for p in range(n)]
+    for p in range(n if graph else 0):
+        for k in range(len(go[p])):
+            j, l = meets(graph, p, k)
+            awaited[j][l] = sizes[p][k]
     for p in range(n):
         at = p == root
         count = {"bcast": c if at else 0, "gather": c, "gatherv": vector[p], "scatter": n * c if at else 0,
                  "scatterv": sum(vector) if at else 0, "allgather": c, "allgatherv": vector[p], "alltoall": n * c,
-                 "alltoallv": sum(send[p]), "reduce_scatter_block": n * c, "reduce_scatter": sum(vector)}.get(kind, c)
+                 "alltoallv": sum(send[p]), "reduce_scatter_block": n * c, "reduce_scatter": sum(vector),
+                 "neighbor_allgatherv": vector[p], "neighbor_alltoall": c * len(go[p]), "neighbor_alltoallv": sum(sizes[p])}.get(kind, c)
         text = lambda xs: ",".join(map(str, xs)) or "-"
         words = {"root": str(root), "op": op, "ty": ty, "count": str(vector[p] if kind == "scatterv" else c),
                  "scounts": text(send[p]) if kind == "alltoallv" else (text(vector) if at else "-"),
                  "rcounts": text([send[j][p] for j in range(n)]) if kind == "alltoallv" else (text(vector) if at or kind != "gatherv" else "-")}
+        if kind in NEAR:
+            words.update(scount=str(c), scounts=text(sizes[p]), rcounts=text(awaited[p] if kind == "neighbor_alltoallv" else [vector[near[0]] for near in come[p]]))
+            if rng.random() < 0.04 * wild:
+                words[rng.choice(["scounts", "rcounts"])] = text([rng.randint(-1, 3) for _ in range(rng.randint(0, 3))])
+            if rng.random() < 0.03 * wild:
+                words["scount"] = str(rng.choice([-1, 0, 2, 4097]))
         pick = lambda: rng.choice([least(ty), greatest(ty), 0, 1, -1 if TYPES[ty][1] else 2, rng.randint(least(ty), greatest(ty))])
         # now and then something that doesn't fit
         if rng.random() < 0.04 * wild:
@@ -477,8 +553,9 @@ def random_call(rng, members, wild):
         yield members[p], kind, behind
 
 
-def random_making(rng, members, wild):
-    """The words of a call that makes communicators, before the arrow, for each of these processes; and who is in each one."""
+def random_making(rng, members, graph, wild):
+    """The words of a call that makes communicators, before the arrow, for each of these processes; and who is in each one, with
+    its graph, if any."""
     n = len(members)
     kind = rng.choice(MAKERS)
     text = lambda xs: ",".join(map(str, xs)) or "-"
@@ -490,7 +567,7 @@ def random_making(rng, members, wild):
     lines, made = [], {}
     weighted = rng.random() < 0.5
     weight = lambda: rng.choice([0, 1, 5, 2147483647])
-    graph = [(rng.randrange(n), rng.randrange(n), weight()) for _ in range(rng.choice([0, 1, n, 3 * n]))]
+    drawn = [(rng.randrange(n), rng.randrange(n), weight()) for _ in range(rng.choice([0, 1, n, 3 * n]))]
 
     def told(entries):
         has = weighted != strange()
@@ -511,15 +588,15 @@ def random_making(rng, members, wild):
         if kind == "dup":
             behind, colour = [], 0
         elif kind == "dist_graph":
-            edges = [edge for edge in graph if edge[2] % n == r]
+            edges = [edge for edge in drawn if edge[2] % n == r]
             if strange():
                 edges.append(rng.choice([(n, 0, 0), (0, -1, 0), (0, 0, 2147483648), (0, 0, -1)]))
             if strange():
                 edges = (edges or [(0, 0, 0)]) * 513
             behind, colour = [told([("%d>%d" % edge[:2], edge[2]) for edge in edges])], 0
         elif kind == "dist_graph_adjacent":
-            sources = [(str(s), w) for s, d, w in graph if d == r]
-            destinations = [(str(d), w) for s, d, w in graph if s == r]
+            sources = [(str(s), w) for s, d, w in drawn if d == r]
+            destinations = [(str(d), w) for s, d, w in drawn if s == r]
             rng.shuffle(sources)
             if strange() and sources:
                 sources.pop()
@@ -535,7 +612,12 @@ def random_making(rng, members, wild):
             lines.append((members[r], kind, behind))
             if colour != "undefined":
                 made.setdefault(colour, []).append(members[r])
-    return lines, list(made.values())
+    if kind in ("dist_graph", "dist_graph_adjacent"):
+        said = [[kind, "world"] + behind + ["->", "g"] for _, _, behind in lines]
+        calls = [parse(words) for words in said if statement_refusal(words, [{"world"}]) is None]
+        if len(calls) == n and not any(refusal(call, n, r, 0, None) for r, call in enumerate(calls)) and fault(calls, None) is None:
+            return lines, [(members, topology(calls))]
+    return lines, [(group, graph if kind == "dup" else None) for group in made.values()]
 
 
 def random_script(seed):
@@ -543,20 +625,22 @@ def random_script(seed):
     n = rng.randint(1, 6)
     out = ["ranks %d" % n]
     wild = rng.choice([0, 0, 1])  # whether some calls are to be refused, or don't fit together
-    words = {"world": [list(range(n))]}  # about which processes share a communicator under each word
+    words = {"world": [(list(range(n)), None)]}  # about which processes share a communicator under each word, with its graph
     makes = rng.choice([0.0, 0.1, 0.3, 0.6])
     for number in range(rng.randint(1, 12)):
         word = rng.choice(list(words))
         target = "c%d" % number
-        for members in words[word]:
+        for members, graph in words[word]:
+            if rng.random() < 0.15:
+                out.append("%d: %s %s" % (rng.choice(members), rng.choice(LOCAL), word))
             if rng.random() < makes:
-                lines, made = random_making(rng, members, wild)
+                lines, made = random_making(rng, members, graph, wild)
                 words.setdefault(target, [])
                 words[target] += made
                 for p, kind, behind in lines:
                     out.append(" ".join(["%d:" % p, kind, word] + behind + ["->", target]))
             else:
-                for p, kind, behind in random_call(rng, members, wild):
+                for p, kind, behind in random_call(rng, members, graph, wild):
                     out.append(" ".join(["%d:" % p, kind, word] + behind).rstrip())
         if rng.random() < 0.05:
             p = rng.randrange(n)  # a call that nobody answers, or on a null communicator
@@ -569,7 +653,7 @@ NUMBERS = ["", "-", "x", "+1", "1.5", "1,2", "1,", "-0", "007", "i32", "->", "1\
            "-9223372036854775808", "-9223372036854775809", "--1", "1_0"]
 LISTS = ["-", "-w", "0>1", "0>1:2", "0>1:2,1>0", "1:2,0", "0>1>2", "0>", ">1", "0>1:", "1:", "1:2:3", "0 >1", "1,,2", "1,x", ",", "1,", ",1", "--", "1,-1", "0,00", "1", "x", "1,18446744073709551616", "1,\x0b2"]
 NAMES = ["c0", "c1", "c9", "world", "undefined", "->", "Zz", "worlds", "a_1", "_a", "a" * 32, "a" * 33, "1a", "null", "world\r", "World", "w-1", "world:"]
-OTHERS = ["dup", "split", "create", "create_group", "dist_graph", "dist_graph_adjacent", "idup", "undefined", "i33", "f64", "i32", "sum", "avg", "maxloc", "barrier", "ibcast", "Barrier", "ranks", "scan", "gatherv"]
+OTHERS = ["neighbor_alltoall", "neighbor_allgatherv", "sources", "destinations", "isources", "ineighbor_alltoall", "dup", "split", "create", "create_group", "dist_graph", "dist_graph_adjacent", "idup", "undefined", "i33", "f64", "i32", "sum", "avg", "maxloc", "barrier", "ibcast", "Barrier", "ranks", "scan", "gatherv"]
 LABELS = ["*:", "9:", "-1:", "00:", "-0:", "0", "0:barrier", ":", "+0:", "99999999999999999999:", "#", "\xe9", "0::", "*"]
 LINES = ["", "# a", "#", "\t# \xff", "\r", "ranks 1", "0:", "*:", "9:", "x: y", "\x0b", "0: barrier", "0: barrier world 1", "0: barrier world "]
 OPENINGS = ["", "ranks", "ranks 0", "ranks 65", "ranks 64", "ranks -1", "ranks 2 3", "ranks x", "Ranks 2", "\tranks  3 ", "ranks 3\r"]

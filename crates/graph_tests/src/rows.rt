@@ -96,7 +96,12 @@ fn post_of(
 }
 
 // The topology of a row of so many posts.
-fn topology(alloc: Global, new: NewCommunicator, posts: &[Post]) -> Result<Topology, Fail> {
+fn topology(
+    alloc: Global,
+    birth: &Birth,
+    new: NewCommunicator,
+    posts: &[Post],
+) -> Result<Topology, Fail> {
     let mut lent = Vec::new(alloc);
     for post in posts {
         lent.push(post)?;
@@ -105,7 +110,7 @@ fn topology(alloc: Global, new: NewCommunicator, posts: &[Post]) -> Result<Topol
         Err("no row")?;
     }
     let row = Row::new(lent);
-    match verdict(&row) {
+    match verdict(birth, &row) {
         Verdict::Fine => match new {
             NewCommunicator::DistGraph => Ok(topology_general(alloc, &row)?),
             _ => Ok(topology_adjacent(alloc, &row)?),
@@ -129,7 +134,7 @@ pub fn made(
     for (me, given) in birth.members().iter().zip(row) {
         posts.push(post_of(alloc, &birth, *me, new, given)?)?;
     }
-    topology(alloc, new, &posts)
+    topology(alloc, &birth, new, &posts)
 }
 
 // Whether these are the neighbours.

@@ -1,5 +1,5 @@
 -- Topologies: for each rank its sources and its destinations (MPI 4.1, sections 8.5.4 and 8.5.5).
-use Rattle.std.specs.Prelude.{◌≡◌, ℕ, ◌==◌, ◌&&◌, Bool, List, [], slice_index_or, refl}
+use Rattle.std.specs.Prelude.{◌≡◌, ℕ, ◌==◌, ◌≤◌, ◌&&◌, Bool, List, [], length, slice_index_or, Option, Some, None, refl}
 use Rattle.std.proofs.Common.{ap}
 use Rattle.std.specs.Bool.{Decides, beq}
 use Rattle.std.specs.Cmp.{booleans_Decides}
@@ -36,6 +36,37 @@ destinations_at topology rank = destinations_in topology.ranks rank
 -- j stands among i's destinations as often as i among j's sources. So no rank stands there that is none of the ranks.
 pub record Agrees (ranks : List Near) : Type 0 where
   pub both : (i j : ℕ) → often j (destinations_in ranks i) ≡ often i (sources_in ranks j)
+
+-- so many neighbours stand on one side of a rank at most: each of 64 members tells of 512 edges
+abbrev pub most_neighbours : ℕ
+most_neighbours = 32768
+
+pub record IsFew (near : Near) : Type 0 where
+  pub sources : length near.sources ≤ most_neighbours
+  pub destinations : length near.destinations ≤ most_neighbours
+
+-- a topology: both ends tell an edge, and there aren't too many
+pub record IsTopology (ranks : List Near) : Type 0 where
+  pub agree : Agrees ranks
+  pub few : length ranks ≤ 64
+  pub each : (rank : ℕ) → IsFew (slice_index_or ranks rank nobody)
+
+-- it keeps this, where there is one
+abbrev pub IsKept : Option TopologyView → Type 0
+IsKept None = Unit {0}
+IsKept (Some topology) = IsTopology topology.ranks
+
+-- how many edges come to a rank, none where there is no topology
+
+abbrev pub indegree_in : Option TopologyView → ℕ → ℕ
+indegree_in None rank = 0
+indegree_in (Some topology) rank = length (sources_at topology rank)
+
+-- how many go from it
+
+abbrev pub outdegree_in : Option TopologyView → ℕ → ℕ
+outdegree_in None rank = 0
+outdegree_in (Some topology) rank = length (destinations_at topology rank)
 
 -- EQUALITY
 

@@ -1,6 +1,7 @@
 ghost use Rattle.std.specs.Prelude.{◌≡◌, ◌<◌, ◌≤◌, IfOk, Some, length};
 ghost use Rattle.std.specs.Option.{option_copied};
 ghost use Rattle.mpx_birth.specs.Births.{fits_topology, of_members, rank_in, same_topologies, upto};
+ghost use Rattle.mpx_birth.specs.Topologies.{IsKept, indegree_in, most_neighbours, outdegree_in};
 
 use crate::topology::Topology;
 use join_core::{Exact, OutOfMemory};
@@ -118,8 +119,37 @@ impl Birth {
     pub fn topology(&self) -> Option<&Topology>
         ensures value { option_copied result ≡ self.now.topology }
         ensures ranks { fits_topology (length self.now.members) self.now.topology }
+        ensures kept { IsKept self.now.topology }
     {
-        self.topology.as_ref()
+        match &self.topology {
+            None => None,
+            Some(topology) => {
+                prove!(topology.size() <= 64);
+                Some(topology)
+            }
+        }
+    }
+
+    /// How many edges of its topology come to this rank, 0 without one (MPI 4.1 section 8.5.5).
+    pub fn indegree(&self, rank: u8) -> usize
+        ensures value { result ≡ indegree_in self.now.topology rank }
+        ensures few { result ≤ most_neighbours }
+    {
+        match &self.topology {
+            None => 0,
+            Some(topology) => topology.sources(rank).len(),
+        }
+    }
+
+    /// How many edges of its topology go from this rank, 0 without one (MPI 4.1 section 8.5.5).
+    pub fn outdegree(&self, rank: u8) -> usize
+        ensures value { result ≡ outdegree_in self.now.topology rank }
+        ensures few { result ≤ most_neighbours }
+    {
+        match &self.topology {
+            None => 0,
+            Some(topology) => topology.destinations(rank).len(),
+        }
     }
 
     /// The rank of the process, where it is a member.

@@ -1,6 +1,6 @@
 ghost use Rattle.std.specs.Prelude.{◌≡◌, ◌≤◌, ◌++◌, ◌∷◌, ◌&&◌, [], IfOk, OnOk, OnErr, length, nat_eq};
 ghost use Rattle.std.specs.Arc.{arc_value};
-ghost use Rattle.mpx_birth.specs.Topologies.{Agrees, destinations_at, nobody, same_near, same_nears, same_topology, sources_at};
+ghost use Rattle.mpx_birth.specs.Topologies.{Agrees, IsTopology, destinations_at, most_neighbours, nobody, same_near, same_nears, same_topology, sources_at};
 
 use crate::edges::Neighbour;
 use join_core::OutOfMemory;
@@ -94,7 +94,7 @@ impl Neighbours {
 }
 
 /// The neighbours of each rank of a communicator, which copies share (MPI 4.1 section 8.5.4). A rank stands among another's
-/// destinations as often as that one among its sources.
+/// destinations as often as that one among its sources. At most 32,768 stand on one side of a rank.
 #[derive(Debug, Drop)]
 pub struct Topology {
     weighted: bool,
@@ -102,15 +102,14 @@ pub struct Topology {
 }
 
 impl Model for Topology {
-    ghost use Rattle.std.specs.Prelude.{◌≤◌, length};
     ghost use Rattle.std.specs.Arc.{arc_value};
-    ghost use Rattle.mpx_birth.specs.Topologies.{Agrees, TopologyView};
+    ghost use Rattle.mpx_birth.specs.Topologies.{IsTopology, TopologyView};
 
     ghost Value = { TopologyView };
 
     ghost view = { λ t. record { weighted = t.weighted; ranks = (arc_value t.ranks).items } };
 
-    ghost invariant = { λ t. Agrees (arc_value t.ranks).items × (length (arc_value t.ranks).items ≤ 64) };
+    ghost invariant = { λ t. IsTopology (arc_value t.ranks).items };
 }
 
 impl Topology {
@@ -120,8 +119,7 @@ impl Topology {
         weighted: bool,
         ranks: Vec<Neighbours>,
     ) -> Result<Topology, OutOfMemory>
-        requires agree { Agrees ranks.items }
-        requires few { length ranks.items ≤ 64 }
+        requires { IsTopology ranks.items }
         ensures { IfOk result (λ topology. topology ≡ record { weighted = weighted; ranks = ranks.items }) }
     {
         match Arc::new(alloc, ranks) {
@@ -140,7 +138,7 @@ impl Topology {
     /// How many ranks it has, at most 64.
     pub fn size(&self) -> usize
         ensures size { result ≡ length self.now.ranks }
-        ensures small { result ≤ 64 }
+        ensures kept { IsTopology self.now.ranks }
     {
         self.ranks.len()
     }
@@ -149,6 +147,7 @@ impl Topology {
     pub fn sources(&self, rank: u8) -> &[Neighbour]
         ensures value { result.now ≡ sources_at self.now rank }
         ensures agree { Agrees self.now.ranks }
+        ensures few { length result.now ≤ most_neighbours }
     {
         match self.ranks.get(usize::from(rank)) {
             None => &[],
@@ -160,6 +159,7 @@ impl Topology {
     pub fn destinations(&self, rank: u8) -> &[Neighbour]
         ensures value { result.now ≡ destinations_at self.now rank }
         ensures agree { Agrees self.now.ranks }
+        ensures few { length result.now ≤ most_neighbours }
     {
         match self.ranks.get(usize::from(rank)) {
             None => &[],

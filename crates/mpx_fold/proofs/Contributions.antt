@@ -6,7 +6,7 @@ use Rattle.mpx_num.specs.Operations.{fits}
 use Rattle.mpx_num.specs.Types.{item_len}
 use Rattle.mpx_num.specs.ItemList.{AreItems, is_whole}
 use Rattle.mpx_kind.specs.declared.kinds.Kind.{Kind}
-use Rattle.mpx_kind.specs.declared.kinds.Kind.TheVariants.{Barrier, Bcast, Gather, Gatherv, Scatter, Scatterv, Allgather, Allgatherv, Alltoall, Alltoallv, Reduce, Allreduce, ReduceScatterBlock, ReduceScatter, Scan, Exscan, Dup, Split, Create, CreateGroup, DistGraph, DistGraphAdjacent}
+use Rattle.mpx_kind.specs.declared.kinds.Kind.TheVariants.{Barrier, Bcast, Gather, Gatherv, Scatter, Scatterv, Allgather, Allgatherv, Alltoall, Alltoallv, Reduce, Allreduce, ReduceScatterBlock, ReduceScatter, Scan, Exscan, Dup, Split, Create, CreateGroup, DistGraph, DistGraphAdjacent, NeighborAllgather, NeighborAllgatherv, NeighborAlltoall, NeighborAlltoallv}
 use Rattle.mpx_kind.specs.declared.kinds.Family.TheVariants as F
 use Rattle.mpx_kind.specs.declared.kinds.Reduction.{Reduction}
 use Rattle.mpx_kind.specs.declared.kinds.Reduction.TheVariants as R
@@ -44,28 +44,28 @@ same_by_blocks given first size n t e f g =
     ∙ eqb-true (sum (repeated n first.rcounts) * item_len (type_of first)) _ g
 
 module _ (row : RowView) (rank : ℕ) (fine : IsFine row) (l : rank < length row) where
-  here : Agrees row rank
-  here = fine.each rank l
+  here : Agrees fine.topology row rank
+  here = fine.with.each rank l
 
-  start : Agrees row 0
-  start = fine.each 0 (omega arith)
+  start : Agrees fine.topology row 0
+  start = fine.with.each 0 (omega arith)
 
   by_count : IsWhole (post_at row rank) → IsWhole (first_of row) → count_of (post_at row rank) ≡ count_of (first_of row) → length (numbers_of (post_at row rank)) ≡ length (numbers_of (first_of row))
   by_count w v e = same_by_count (post_at row rank) (first_of row) (same_type row rank fine l) w v e
 
-  as_many_by : (kind : Kind) → (first_of row).kind ≡ kind → AmountsAgree kind row rank (post_at row rank) → (fields_of kind).op ≡ true → IsWhole (post_at row rank) → IsWhole (first_of row) → length (numbers_of (post_at row rank)) ≡ length (numbers_of (first_of row))
+  as_many_by : (kind : Kind) → (first_of row).kind ≡ kind → AmountsAgree fine.topology kind row rank (post_at row rank) → (fields_of kind).op ≡ true → IsWhole (post_at row rank) → IsWhole (first_of row) → length (numbers_of (post_at row rank)) ≡ length (numbers_of (first_of row))
   as_many_by Reduce is e op w v = by_count w v e
   as_many_by Allreduce is e op w v = by_count w v e
   as_many_by Scan is e op w v = by_count w v e
   as_many_by Exscan is e op w v = by_count w v e
   as_many_by ReduceScatterBlock is e op w v =
       let size = length row in
-      let one = rcounts_as ReduceScatterBlock size rank (post_at row rank) (here.kind ∙ is) here.fit in
-      let alone = rcounts_as ReduceScatterBlock size 0 (first_of row) is start.fit in
-      same_by_blocks (post_at row rank) (first_of row) size size (same_type row rank fine l) (same_alone _ _ one alone e) (filled_as ReduceScatterBlock size rank (post_at row rank) (here.kind ∙ is) here.fit) (filled_as ReduceScatterBlock size 0 (first_of row) is start.fit)
+      let one = rcounts_as fine.topology ReduceScatterBlock size rank (post_at row rank) (here.kind ∙ is) here.fit in
+      let alone = rcounts_as fine.topology ReduceScatterBlock size 0 (first_of row) is start.fit in
+      same_by_blocks (post_at row rank) (first_of row) size size (same_type row rank fine l) (same_alone _ _ one alone e) (filled_as fine.topology ReduceScatterBlock size rank (post_at row rank) (here.kind ∙ is) here.fit) (filled_as fine.topology ReduceScatterBlock size 0 (first_of row) is start.fit)
   as_many_by ReduceScatter is e op w v =
       let size = length row in
-      same_by_blocks (post_at row rank) (first_of row) size 1 (same_type row rank fine l) e (filled_as ReduceScatter size rank (post_at row rank) (here.kind ∙ is) here.fit) (filled_as ReduceScatter size 0 (first_of row) is start.fit)
+      same_by_blocks (post_at row rank) (first_of row) size 1 (same_type row rank fine l) e (filled_as fine.topology ReduceScatter size rank (post_at row rank) (here.kind ∙ is) here.fit) (filled_as fine.topology ReduceScatter size 0 (first_of row) is start.fit)
   as_many_by Barrier is e op w v = cc op
   as_many_by Bcast is e op w v = cc op
   as_many_by Gather is e op w v = cc op
@@ -82,6 +82,10 @@ module _ (row : RowView) (rank : ℕ) (fine : IsFine row) (l : rank < length row
   as_many_by CreateGroup is e op w v = cc op
   as_many_by DistGraph is e op w v = cc op
   as_many_by DistGraphAdjacent is e op w v = cc op
+  as_many_by NeighborAllgather is e op w v = cc op
+  as_many_by NeighborAllgatherv is e op w v = cc op
+  as_many_by NeighborAlltoall is e op w v = cc op
+  as_many_by NeighborAlltoallv is e op w v = cc op
 
   -- each gives as many numbers as rank 0
   pub as_many : reduces row ≡ true → AreItems (type_of (first_of row)) (numbers_of (post_at row rank)) → AreItems (type_of (first_of row)) (numbers_of (first_of row)) → length (numbers_of (post_at row rank)) ≡ length (numbers_of (first_of row))
@@ -89,7 +93,7 @@ module _ (row : RowView) (rank : ℕ) (fine : IsFine row) (l : rank < length row
 
 -- the operation fits the type
 pub fits_first : (row : RowView) (op : Op) → IsFine row → 0 < length row → (first_of row).op ≡ Some op → fits op (type_of (first_of row)) ≡ true
-fits_first row op fine l e = rw e at (fits_parts (length row) 0 (first_of row) (fine.each 0 l).fit).type
+fits_first row op fine l e = rw e at (fits_parts fine.topology (length row) 0 (first_of row) (fine.with.each 0 l).fit).type
 
 -- a reduction has an operation
 pub reduction_has_op : (reduction : Reduction) → (fields_of (kind_in (F.Reduction reduction))).op ≡ true

@@ -23,6 +23,7 @@ pub fn fold_value(alloc: Global, row: &Row<'_>, rank: u8) -> Result<Value, OutOf
         Family::Reduction(reduction) => value_of(alloc, row, reduction, rank),
         Family::Exchange(_) => Ok(Value::Nothing),
         Family::NewCommunicator(_) => Ok(Value::Nothing),
+        Family::Neighbourhood(_) => Ok(Value::Nothing),
     }
 }
 

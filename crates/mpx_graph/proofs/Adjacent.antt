@@ -1,13 +1,12 @@
 -- The graph of the neighbours that members name.
-use Rattle.std.proofs.Common.{◌≡◌, ℕ, ◌<◌, ◌≤◌, suc, Bool, true, false, List, [], ◌∷◌, length, cond, map, refl, sym, ap, ◌∙◌, inl, inr, arith}
+use Rattle.std.proofs.Common.{◌≡◌, ℕ, ◌<◌, ◌≤◌, List, [], ◌∷◌, ◌++◌, ◌+◌, take, length, map, sym, ap, ◌∙◌, inl, inr, arith}
 use Rattle.std.specs.List.{filter}
 use Rattle.std.specs.Ordering.{is_lt, nat_cmp}
 use Rattle.std.proofs.lemmas.Bool.{cases_lt, ne_eqb}
-use Rattle.std.proofs.lemmas.List.{get_or_past, length-map}
+use Rattle.std.proofs.lemmas.List.{get_or_past, length-map, map_push, take_more}
 use Rattle.std.proofs.Math.ListN.{get_or-map}
 use Rattle.mpx_birth.specs.declared.edges.Neighbour.{Neighbour}
 use Rattle.mpx_birth.specs.Edges.{is_rank, often, weights_of}
-use Rattle.mpx_birth.specs.Orders.{ordered, placed}
 use Rattle.mpx_birth.specs.Topologies.{Near, Agrees, sources_in, destinations_in}
 use Rattle.mpx_post.specs.Posts.{Given, destinations_of, nothing_given, sources_of}
 use Rattle.mpx_post.specs.Rows.{RowView}
@@ -27,10 +26,14 @@ often-far : (size rank : ℕ) (ns : List Neighbour) → size ≤ rank → AreBel
 often-far size rank ns far all =
     ap length (none_pass (is_rank rank) ns (λ k d l. ne_eqb _ _ (λ e. let below = all k d l in omega arith)))
 
+-- one member's neighbours more
+pub near_given-more : (row : RowView) (rank : ℕ) → rank < length row → map near_given (take (rank + 1) row) ≡ map near_given (take rank row) ++ near_given (post_at row rank) ∷ []
+near_given-more row rank l = ap (map near_given) (take_more row rank nothing_given l) ∙ map_push near_given (take rank row) (post_at row rank)
+
 module _ (row : RowView) (fine : IsFine row) where
   told_alike : (i j : ℕ) → i < length row → j < length row → often j (destinations_of (post_at row i)) ≡ often i (sources_of (post_at row j))
   told_alike i j l m =
-      sym (often-weights j (destinations_of (post_at row i))) ∙ ap length ((fine.each i l).edges j m) ∙ often-weights i (sources_of (post_at row j))
+      sym (often-weights j (destinations_of (post_at row i))) ∙ ap length ((fine.with.each i l).edges j m) ∙ often-weights i (sources_of (post_at row j))
 
   both_told : (i j : ℕ) → often j (destinations_of (post_at row i)) ≡ often i (sources_of (post_at row j))
   both_told i j = elim (cases_lt i (length row)) [

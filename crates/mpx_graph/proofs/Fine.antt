@@ -29,7 +29,7 @@ below size ns t = All-weaker _ _ (λ n u. ltb-true n.rank size u) ns (AllPass-fr
 
 module _ (row : RowView) (fine : IsFine row) (rank : ℕ) (l : rank < length row) where
   fitting : fits_edges (length row) (post_at row rank) ≡ true
-  fitting = (fits_parts (length row) rank (post_at row rank) (fine.each rank l).fit).edges
+  fitting = (fits_parts fine.topology (length row) rank (post_at row rank) (fine.with.each rank l).fit).edges
 
   pub edges-between : All (IsBetween (length row)) (edges_of (post_at row rank))
   edges-between =

@@ -1,7 +1,7 @@
--- The kinds of calls: one row each of what its posts have, and one of its family (MPI 4.1, sections 6.3 to 6.12, 7.4 and 8.5).
+-- The kinds of calls: one row each of what its posts have, and one of its family (MPI 4.1, sections 6.3 to 6.12, 7.4, 8.5 and 8.6).
 use Rattle.std.specs.Prelude.{ℕ, Bool, true, false, cond}
 use Rattle.mpx_kind.specs.declared.kinds.Kind.{Kind}
-use Rattle.mpx_kind.specs.declared.kinds.Kind.TheVariants.{Barrier, Bcast, Gather, Gatherv, Scatter, Scatterv, Allgather, Allgatherv, Alltoall, Alltoallv, Reduce, Allreduce, ReduceScatterBlock, ReduceScatter, Scan, Exscan, Dup, Split, Create, CreateGroup, DistGraph, DistGraphAdjacent}
+use Rattle.mpx_kind.specs.declared.kinds.Kind.TheVariants.{Barrier, Bcast, Gather, Gatherv, Scatter, Scatterv, Allgather, Allgatherv, Alltoall, Alltoallv, Reduce, Allreduce, ReduceScatterBlock, ReduceScatter, Scan, Exscan, Dup, Split, Create, CreateGroup, DistGraph, DistGraphAdjacent, NeighborAllgather, NeighborAllgatherv, NeighborAlltoall, NeighborAlltoallv}
 use Rattle.mpx_kind.specs.declared.kinds.Family.{Family}
 use Rattle.mpx_kind.specs.declared.kinds.Family.TheVariants as F
 use Rattle.mpx_kind.specs.declared.kinds.Exchange.{Exchange}
@@ -10,6 +10,8 @@ use Rattle.mpx_kind.specs.declared.kinds.Reduction.{Reduction}
 use Rattle.mpx_kind.specs.declared.kinds.Reduction.TheVariants as R
 use Rattle.mpx_kind.specs.declared.kinds.NewCommunicator.{NewCommunicator}
 use Rattle.mpx_kind.specs.declared.kinds.NewCommunicator.TheVariants as N
+use Rattle.mpx_kind.specs.declared.kinds.Neighbourhood.{Neighbourhood}
+use Rattle.mpx_kind.specs.declared.kinds.Neighbourhood.TheVariants as H
 use Rattle.mpx_kind.specs.declared.kinds.Mode.{Mode}
 use Rattle.mpx_kind.specs.declared.kinds.Mode.TheVariants.{Blocking, Nonblocking}
 use Rattle.mpx_kind.specs.declared.kinds.Call.{Call}
@@ -17,18 +19,21 @@ use Rattle.mpx_kind.specs.declared.kinds.Call.TheVariants as C
 use Rattle.mpx_kind.specs.declared.kinds.Makes.{Makes}
 use Rattle.mpx_kind.specs.declared.kinds.Makes.TheVariants as M
 use Rattle.mpx_kind.specs.declared.kinds.Number.{Number}
-use Rattle.mpx_kind.specs.declared.kinds.Number.TheVariants.{Zero, One, OneAtRoot, Members, MembersAtRoot}
+use Rattle.mpx_kind.specs.declared.kinds.Number.TheVariants.{Zero, One, OneAtRoot, Members, MembersAtRoot, Indegree, Outdegree}
+use Rattle.mpx_kind.specs.declared.kinds.Seat.{Seat}
 use Rattle.mpx_kind.specs.declared.kinds.Sent.{Sent}
 use Rattle.mpx_kind.specs.declared.kinds.Sent.TheVariants.{Any, Scounts, Rcounts}
 use Rattle.mpx_kind.specs.declared.kinds.Fields.{Fields}
 
--- such a number in a communicator of this size, at the root or elsewhere
-abbrev pub number_in : Number → (size : ℕ) → (at_root : Bool) → ℕ
-number_in Zero size at_root = 0
-number_in One size at_root = 1
-number_in OneAtRoot size at_root = cond at_root 1 0
-number_in Members size at_root = size
-number_in MembersAtRoot size at_root = cond at_root size 0
+-- such a number for a member
+abbrev pub number_in : Number → Seat → ℕ
+number_in Zero seat = 0
+number_in One seat = 1
+number_in OneAtRoot seat = cond seat.at_root 1 0
+number_in Members seat = seat.size
+number_in MembersAtRoot seat = cond seat.at_root seat.size 0
+number_in Indegree seat = seat.indegree
+number_in Outdegree seat = seat.outdegree
 
 -- whether a kind has such a list of counts at all
 abbrev pub is_had : Number → Bool
@@ -37,6 +42,8 @@ is_had One = true
 is_had OneAtRoot = true
 is_had Members = true
 is_had MembersAtRoot = true
+is_had Indegree = true
+is_had Outdegree = true
 
 abbrev having : (root op items : Bool) (scounts rcounts : Number) → Sent → Fields
 having root op items scounts rcounts sent = record { root = root; op = op; items = items; scounts = scounts; rcounts = rcounts; sent = sent; makes = M.Nothing }
@@ -70,6 +77,10 @@ fields_of Create = making M.Group
 fields_of CreateGroup = making M.Nothing
 fields_of DistGraph = making M.Edges
 fields_of DistGraphAdjacent = making M.Neighbours
+fields_of NeighborAllgather = having false false true Zero One Any
+fields_of NeighborAllgatherv = having false false true Zero Indegree Any
+fields_of NeighborAlltoall = having false false true One One (Scounts Outdegree)
+fields_of NeighborAlltoallv = having false false true Outdegree Indegree (Scounts One)
 
 -- the family of each kind, and which of the family's kinds it is
 abbrev pub family_of : Kind → Family
@@ -95,6 +106,10 @@ family_of Create = F.NewCommunicator N.Create
 family_of CreateGroup = F.NewCommunicator N.CreateGroup
 family_of DistGraph = F.NewCommunicator N.DistGraph
 family_of DistGraphAdjacent = F.NewCommunicator N.DistGraphAdjacent
+family_of NeighborAllgather = F.Neighbourhood H.Allgather
+family_of NeighborAllgatherv = F.Neighbourhood H.Allgatherv
+family_of NeighborAlltoall = F.Neighbourhood H.Alltoall
+family_of NeighborAlltoallv = F.Neighbourhood H.Alltoallv
 
 -- KINDS OF A FAMILY
 
@@ -126,23 +141,32 @@ new_communicator_kind N.CreateGroup = CreateGroup
 new_communicator_kind N.DistGraph = DistGraph
 new_communicator_kind N.DistGraphAdjacent = DistGraphAdjacent
 
+abbrev pub neighbourhood_kind : Neighbourhood → Kind
+neighbourhood_kind H.Allgather = NeighborAllgather
+neighbourhood_kind H.Allgatherv = NeighborAllgatherv
+neighbourhood_kind H.Alltoall = NeighborAlltoall
+neighbourhood_kind H.Alltoallv = NeighborAlltoallv
+
 -- CALLS
 
 abbrev pub kind_of : Call → Kind
 kind_of (C.Exchange exchange mode) = exchange_kind exchange
 kind_of (C.Reduction reduction mode) = reduction_kind reduction
 kind_of (C.NewCommunicator new) = new_communicator_kind new
+kind_of (C.Neighbourhood exchange mode) = neighbourhood_kind exchange
 
 -- calls that make communicators only block
 abbrev pub mode_of : Call → Mode
 mode_of (C.Exchange exchange mode) = mode
 mode_of (C.Reduction reduction mode) = mode
 mode_of (C.NewCommunicator new) = Blocking
+mode_of (C.Neighbourhood exchange mode) = mode
 
 abbrev blocking_in : Family → Call
 blocking_in (F.Exchange exchange) = C.Exchange exchange Blocking
 blocking_in (F.Reduction reduction) = C.Reduction reduction Blocking
 blocking_in (F.NewCommunicator new) = C.NewCommunicator new
+blocking_in (F.Neighbourhood exchange) = C.Neighbourhood exchange Blocking
 
 -- the blocking call of a kind
 abbrev pub blocking : Kind → Call
@@ -154,12 +178,21 @@ may_be Blocking family = true
 may_be Nonblocking (F.Exchange exchange) = true
 may_be Nonblocking (F.Reduction reduction) = true
 may_be Nonblocking (F.NewCommunicator new) = false
+may_be Nonblocking (F.Neighbourhood exchange) = true
 
 -- whether calls of the family make communicators
 abbrev pub makes_communicators : Family → Bool
 makes_communicators (F.Exchange exchange) = false
 makes_communicators (F.Reduction reduction) = false
 makes_communicators (F.NewCommunicator new) = true
+makes_communicators (F.Neighbourhood exchange) = false
+
+-- whether calls of the family go along the edges of a topology
+abbrev pub needs_topology : Family → Bool
+needs_topology (F.Exchange exchange) = false
+needs_topology (F.Reduction reduction) = false
+needs_topology (F.NewCommunicator new) = false
+needs_topology (F.Neighbourhood exchange) = true
 
 -- whether calls of the family are made on gatherings, as those of create_group are, and no others
 abbrev pub is_gathered : Family → Bool
@@ -171,3 +204,4 @@ is_gathered (F.NewCommunicator N.Create) = false
 is_gathered (F.NewCommunicator N.CreateGroup) = true
 is_gathered (F.NewCommunicator N.DistGraph) = false
 is_gathered (F.NewCommunicator N.DistGraphAdjacent) = false
+is_gathered (F.Neighbourhood exchange) = false

@@ -1,7 +1,7 @@
 ghost use Rattle.std.specs.Prelude.{◌≡◌, ◌≤◌};
-ghost use Rattle.mpx_kind.specs.Kinds.{blocking, exchange_kind, family_of, fields_of, is_gathered, is_had, kind_of, makes_communicators, making, mode_of, new_communicator_kind, number_in, reduction_kind};
+ghost use Rattle.mpx_kind.specs.Kinds.{blocking, exchange_kind, family_of, fields_of, is_gathered, is_had, kind_of, makes_communicators, making, mode_of, needs_topology, neighbourhood_kind, new_communicator_kind, number_in, reduction_kind};
 
-/// The kinds of calls (MPI 4.1 sections 6.3 to 6.12, 7.4 and 8.5).
+/// The kinds of calls (MPI 4.1 sections 6.3 to 6.12, 7.4, 8.5 and 8.6).
 #[derive(Clone, Copy, Debug, PartialEq, Eq)]
 pub enum Kind {
     /// `MPI_BARRIER` (section 6.3).
@@ -48,6 +48,14 @@ pub enum Kind {
     DistGraph,
     /// `MPI_DIST_GRAPH_CREATE_ADJACENT` (section 8.5.4).
     DistGraphAdjacent,
+    /// `MPI_NEIGHBOR_ALLGATHER` (section 8.6.1).
+    NeighborAllgather,
+    /// `MPI_NEIGHBOR_ALLGATHERV` (section 8.6.1).
+    NeighborAllgatherv,
+    /// `MPI_NEIGHBOR_ALLTOALL` (section 8.6.2).
+    NeighborAlltoall,
+    /// `MPI_NEIGHBOR_ALLTOALLV` (section 8.6.2).
+    NeighborAlltoallv,
 }
 
 /// The kinds that move items as they are (MPI 4.1 sections 6.3 to 6.8).
@@ -87,12 +95,22 @@ pub enum NewCommunicator {
     DistGraphAdjacent,
 }
 
+/// The kinds that move items along the edges of a topology (MPI 4.1 section 8.6).
+#[derive(Clone, Copy, Debug, PartialEq, Eq)]
+pub enum Neighbourhood {
+    Allgather,
+    Allgatherv,
+    Alltoall,
+    Alltoallv,
+}
+
 /// The families of kinds: the values of each are found in a way of its own.
 #[derive(Clone, Copy, Debug, PartialEq, Eq)]
 pub enum Family {
     Exchange(Exchange),
     Reduction(Reduction),
     NewCommunicator(NewCommunicator),
+    Neighbourhood(Neighbourhood),
 }
 
 /// Whether a call blocks. Blocking and nonblocking calls don't match (MPI 4.1 section 6.12).
@@ -108,6 +126,7 @@ pub enum Call {
     Exchange(Exchange, Mode),
     Reduction(Reduction, Mode),
     NewCommunicator(NewCommunicator),
+    Neighbourhood(Neighbourhood, Mode),
 }
 
 /// What a post says of the communicator that its call makes.
@@ -125,7 +144,20 @@ pub enum Makes {
     Neighbours,
 }
 
-/// A number that depends on the communicator's size and on who asks.
+/// What of a member its numbers of counts depend on.
+#[derive(Clone, Copy, Debug, PartialEq, Eq)]
+pub struct Seat {
+    /// The communicator's size.
+    pub size: usize,
+    /// Whether the member is the root that its post names.
+    pub at_root: bool,
+    /// How many edges of the communicator's topology come to the member, 0 without one (MPI 4.1 section 8.5.5).
+    pub indegree: usize,
+    /// How many go from it.
+    pub outdegree: usize,
+}
+
+/// A number that depends on the communicator and on who asks.
 #[derive(Clone, Copy, Debug, PartialEq, Eq)]
 pub enum Number {
     Zero,
@@ -136,6 +168,10 @@ pub enum Number {
     Members,
     /// The communicator's size at the root, 0 elsewhere.
     MembersAtRoot,
+    /// How many edges come to the member.
+    Indegree,
+    /// How many edges go from the member.
+    Outdegree,
 }
 
 /// How the items that a member sends are cut into blocks.
@@ -191,6 +227,10 @@ impl Kind {
             Kind::CreateGroup => Family::NewCommunicator(NewCommunicator::CreateGroup),
             Kind::DistGraph => Family::NewCommunicator(NewCommunicator::DistGraph),
             Kind::DistGraphAdjacent => Family::NewCommunicator(NewCommunicator::DistGraphAdjacent),
+            Kind::NeighborAllgather => Family::Neighbourhood(Neighbourhood::Allgather),
+            Kind::NeighborAllgatherv => Family::Neighbourhood(Neighbourhood::Allgatherv),
+            Kind::NeighborAlltoall => Family::Neighbourhood(Neighbourhood::Alltoall),
+            Kind::NeighborAlltoallv => Family::Neighbourhood(Neighbourhood::Alltoallv),
         }
     }
 
@@ -198,7 +238,7 @@ impl Kind {
     pub fn fields(self) -> Fields
         ensures { result ≡ fields_of self }
     {
-        use Number::{Members, MembersAtRoot, One, OneAtRoot, Zero};
+        use Number::{Indegree, Members, MembersAtRoot, One, OneAtRoot, Outdegree, Zero};
         use Sent::{Any, Rcounts, Scounts};
         match self {
             Kind::Barrier => having(false, false, false, Zero, Zero, Any),
@@ -223,6 +263,12 @@ impl Kind {
             Kind::CreateGroup => making(Makes::Nothing),
             Kind::DistGraph => making(Makes::Edges),
             Kind::DistGraphAdjacent => making(Makes::Neighbours),
+            Kind::NeighborAllgather => having(false, false, true, Zero, One, Any),
+            Kind::NeighborAllgatherv => having(false, false, true, Zero, Indegree, Any),
+            Kind::NeighborAlltoall => having(false, false, true, One, One, Scounts(Outdegree)),
+            Kind::NeighborAlltoallv => {
+                having(false, false, true, Outdegree, Indegree, Scounts(One))
+            }
         }
     }
 
@@ -234,6 +280,7 @@ impl Kind {
             Family::Exchange(_) => false,
             Family::Reduction(_) => false,
             Family::NewCommunicator(_) => true,
+            Family::Neighbourhood(_) => false,
         }
     }
 
@@ -245,6 +292,19 @@ impl Kind {
             Family::Exchange(_) => false,
             Family::Reduction(_) => false,
             Family::NewCommunicator(new) => new == NewCommunicator::CreateGroup,
+            Family::Neighbourhood(_) => false,
+        }
+    }
+
+    /// Whether its calls go along the edges of a topology, so that a communicator without one has none of them.
+    pub fn needs_topology(self) -> bool
+        ensures { result ≡ needs_topology (family_of self) }
+    {
+        match self.family() {
+            Family::Exchange(_) => false,
+            Family::Reduction(_) => false,
+            Family::NewCommunicator(_) => false,
+            Family::Neighbourhood(_) => true,
         }
     }
 }
@@ -258,6 +318,7 @@ impl Call {
             Family::Exchange(exchange) => Call::Exchange(exchange, Mode::Blocking),
             Family::Reduction(reduction) => Call::Reduction(reduction, Mode::Blocking),
             Family::NewCommunicator(new) => Call::NewCommunicator(new),
+            Family::Neighbourhood(exchange) => Call::Neighbourhood(exchange, Mode::Blocking),
         }
     }
 
@@ -269,6 +330,7 @@ impl Call {
             Call::Exchange(exchange, _) => exchange.kind(),
             Call::Reduction(reduction, _) => reduction.kind(),
             Call::NewCommunicator(new) => new.kind(),
+            Call::Neighbourhood(exchange, _) => exchange.kind(),
         }
     }
 
@@ -280,6 +342,7 @@ impl Call {
             Call::Exchange(_, mode) => mode,
             Call::Reduction(_, mode) => mode,
             Call::NewCommunicator(_) => Mode::Blocking,
+            Call::Neighbourhood(_, mode) => mode,
         }
     }
 }
@@ -336,6 +399,20 @@ impl NewCommunicator {
     }
 }
 
+impl Neighbourhood {
+    /// It as one of all kinds.
+    pub fn kind(self) -> Kind
+        ensures { result ≡ neighbourhood_kind self }
+    {
+        match self {
+            Neighbourhood::Allgather => Kind::NeighborAllgather,
+            Neighbourhood::Allgatherv => Kind::NeighborAllgatherv,
+            Neighbourhood::Alltoall => Kind::NeighborAlltoall,
+            Neighbourhood::Alltoallv => Kind::NeighborAlltoallv,
+        }
+    }
+}
+
 fn having(root: bool, op: bool, items: bool, scounts: Number, rcounts: Number, sent: Sent) -> Fields
     ensures { result ≡ record { root = root; op = op; items = items; scounts = scounts; rcounts = rcounts; sent = sent; makes = Makes.Nothing } }
 {
@@ -365,16 +442,18 @@ fn making(makes: Makes) -> Fields
 }
 
 impl Number {
-    /// The number in a communicator of this size, at the root or elsewhere.
-    pub fn of(self, size: usize, at_root: bool) -> usize
-        ensures { result ≡ number_in self size at_root }
+    /// The number for this member.
+    pub fn of(self, seat: &Seat) -> usize
+        ensures { result ≡ number_in self seat.now }
     {
         match self {
             Number::Zero => 0,
             Number::One => 1,
-            Number::OneAtRoot => { if at_root { 1 } else { 0 } }
-            Number::Members => size,
-            Number::MembersAtRoot => { if at_root { size } else { 0 } }
+            Number::OneAtRoot => { if seat.at_root { 1 } else { 0 } }
+            Number::Members => seat.size,
+            Number::MembersAtRoot => { if seat.at_root { seat.size } else { 0 } }
+            Number::Indegree => seat.indegree,
+            Number::Outdegree => seat.outdegree,
         }
     }
 
@@ -388,6 +467,8 @@ impl Number {
             Number::OneAtRoot => true,
             Number::Members => true,
             Number::MembersAtRoot => true,
+            Number::Indegree => true,
+            Number::Outdegree => true,
         }
     }
 }

@@ -5,5 +5,6 @@
 mod kinds;
 
 pub use kinds::{
-    Call, Exchange, Family, Fields, Kind, Makes, Mode, NewCommunicator, Number, Reduction, Sent,
+    Call, Exchange, Family, Fields, Kind, Makes, Mode, Neighbourhood, NewCommunicator, Number,
+    Reduction, Seat, Sent,
 };

@@ -1,28 +1,43 @@
 -- The tests decide in what posts differ.
-use Rattle.std.proofs.Common.{◌≡◌, ℕ, zero, suc, ◌<◌, nat_eq, Bool, true, false, not, ◌||◌, is_some, List, [], ◌∷◌, length, Option, Some, None, refl, subst}
+use Rattle.std.proofs.Common.{◌≡◌, ℕ, zero, suc, ◌<◌, nat_eq, Bool, true, false, not, ◌||◌, is_some, List, [], ◌∷◌, length, Option, Some, None, inl, inr, refl, sym, ◌∙◌, subst}
 use Rattle.std.specs.Prelude.{slice_get}
 use Rattle.std.specs.List.{list_any}
 use Rattle.std.proofs.lemmas.Option.{same_Some}
 use Rattle.std.specs.Bool.{Decides}
 use Rattle.std.specs.Cmp.{booleans_Decides}
-use Rattle.std.proofs.lemmas.Bool.{false≢true}
+use Rattle.std.proofs.lemmas.Bool.{cases_Bool, false_from_ne_true, false≢true}
 use Rattle.std.proofs.lemmas.Bool.Decides.{Decides-eqb}
 use Rattle.mpx_kind.specs.declared.kinds.Kind as K
-use Rattle.mpx_kind.specs.declared.kinds.Kind.TheVariants.{Barrier, Bcast, Gather, Gatherv, Scatter, Scatterv, Allgather, Allgatherv, Alltoall, Alltoallv, Reduce, Allreduce, ReduceScatterBlock, ReduceScatter, Scan, Exscan, Dup, Split, Create, CreateGroup, DistGraph, DistGraphAdjacent}
+use Rattle.mpx_kind.specs.declared.kinds.Kind.TheVariants.{Barrier, Bcast, Gather, Gatherv, Scatter, Scatterv, Allgather, Allgatherv, Alltoall, Alltoallv, Reduce, Allreduce, ReduceScatterBlock, ReduceScatter, Scan, Exscan, Dup, Split, Create, CreateGroup, DistGraph, DistGraphAdjacent, NeighborAllgather, NeighborAllgatherv, NeighborAlltoall, NeighborAlltoallv}
 use Rattle.mpx_post.specs.Posts.{Given, group_of}
 use Rattle.mpx_post.specs.Rows.{RowView}
-use Rattle.mpx_post.specs.Agreement.{post_at, first_of, AmountsAgree}
+use Rattle.mpx_kind.specs.declared.kinds.Neighbourhood.{Neighbourhood}
+use Rattle.mpx_kind.specs.declared.kinds.Neighbourhood.TheVariants as H
+use Rattle.mpx_post.specs.Births.{upto}
+use Rattle.mpx_post.specs.Topologies.{IsKept, TopologyView, destinations_at}
+use Rattle.mpx_meet.specs.Places.{rank_at, taken_at}
+use Rattle.mpx_meet.proofs.Meeting.{taken_meets, taken_of}
+use Rattle.mpx_post.specs.Agreement.{AlongEdges, AmountsAgree, awaited_on, first_of, post_at, sent_on}
 use Rattle.mpx_post.specs.Equality.{same_operation, kinds_decided, modes_decided, operations_decided, options_decided, types_decided, numbers_decided}
 use Rattle.mpx_match.specs.declared.verdicts.Question.{Question}
 use Rattle.mpx_match.specs.declared.verdicts.Question.TheVariants.{Fit, Kind, Mode, Root, Op, ItemType, Amount, Weights, Edges, Groups}
 use Rattle.mpx_match.specs.Faults.{Agrees}
-use Rattle.mpx_match.specs.Questions.{amounts_differ, is_faulty, least_rank}
+use Rattle.mpx_match.specs.Questions.{along_edges_differ, amounts_differ, edge_differs, is_faulty, least_rank}
+use Rattle.mpx_match.proofs.Below.{none_below, some_below}
 use Rattle.mpx_match.proofs.Least.{least_rank-passes, least_rank-none}
 
 -- the test says whether this does not hold
 pub record Refutes (test : Bool) (P : Type 0) : Type 0 where
   pub holds : test ≡ false → P
   pub fails : test ≡ true → P → ⊥
+
+-- the same, where the second needs something
+pub record RefutesWhere (Kept : Type 0) (test : Bool) (P : Type 0) : Type 0 where
+  pub holds : test ≡ false → P
+  pub fails : Kept → test ≡ true → P → ⊥
+
+anyway : {Kept : Type 0} {test : Bool} {P : Type 0} → Refutes test P → RefutesWhere Kept test P
+anyway r = record { holds = r.holds; fails = λ kept. r.fails }
 
 not_same : (same : Bool) {P : Type 0} → Decides same P → Refutes (not same) P
 not_same true decided = record { holds = λ e. decided.0 refl; fails = λ e. cc e }
@@ -38,30 +53,6 @@ of_posts test P row each = by_rank (least_rank test row) refl where
   by_rank None e = record { holds = λ t j l. (each j).holds (least_rank-none test row e j l); fails = λ t. cc t }
   by_rank (Some j) e = let found = least_rank-passes test row j e in record { holds = λ t. cc t; fails = λ t all. (each j).fails found.1 (all j found.0) }
 
-pub amounts_decided : (kind : K.Kind) (row : RowView) (rank : ℕ) (given : Given) → Refutes (amounts_differ kind row rank given) (AmountsAgree kind row rank given)
-amounts_decided Barrier row rank given = record { holds = λ e. tt; fails = λ e. cc e }
-amounts_decided Bcast row rank given = not_same _ (Decides-eqb _ _)
-amounts_decided Gather row rank given = not_same _ (Decides-eqb _ _)
-amounts_decided Gatherv row rank given = not_same _ (Decides-eqb _ _)
-amounts_decided Scatter row rank given = not_same _ (Decides-eqb _ _)
-amounts_decided Scatterv row rank given = not_same _ (Decides-eqb _ _)
-amounts_decided Allgather row rank given = not_same _ (Decides-eqb _ _)
-amounts_decided Allgatherv row rank given = of_posts _ _ row (λ j. not_same _ (Decides-eqb _ _))
-amounts_decided Alltoall row rank given = not_same _ (Decides-eqb _ _)
-amounts_decided Alltoallv row rank given = of_posts _ _ row (λ j. not_same _ (Decides-eqb _ _))
-amounts_decided Reduce row rank given = not_same _ (Decides-eqb _ _)
-amounts_decided Allreduce row rank given = not_same _ (Decides-eqb _ _)
-amounts_decided ReduceScatterBlock row rank given = not_same _ (Decides-eqb _ _)
-amounts_decided ReduceScatter row rank given = not_same _ (numbers_decided _ _)
-amounts_decided Scan row rank given = not_same _ (Decides-eqb _ _)
-amounts_decided Exscan row rank given = not_same _ (Decides-eqb _ _)
-amounts_decided Dup row rank given = record { holds = λ e. tt; fails = λ e. cc e }
-amounts_decided Split row rank given = record { holds = λ e. tt; fails = λ e. cc e }
-amounts_decided Create row rank given = record { holds = λ e. tt; fails = λ e. cc e }
-amounts_decided CreateGroup row rank given = record { holds = λ e. tt; fails = λ e. cc e }
-amounts_decided DistGraph row rank given = record { holds = λ e. tt; fails = λ e. cc e }
-amounts_decided DistGraphAdjacent row rank given = record { holds = λ e. tt; fails = λ e. cc e }
-
 -- of each of these
 of_each : (test : ℕ → Bool) (P : ℕ → Type 0) → ((x : ℕ) → Refutes (test x) (P x)) → (xs : List ℕ) → Refutes (list_any test xs) ((place x : ℕ) → slice_get xs place ≡ Some x → P x)
 of_each test P each [] = record { holds = λ e place x at. cc at; fails = λ e. cc e }
@@ -76,14 +67,64 @@ of_each test P each (y ∷ ys) = by_test (test y) refl (of_each test P each ys) 
     by_place zero x at later = subst P (same_Some y x at) ((each y).holds e)
     by_place (suc i) x at later = later i x at
 
-pub decided : (question : Question) (row : RowView) (rank : ℕ) → Refutes (is_faulty question row rank (post_at row rank)) (Agrees question row rank)
-decided Fit row rank = not_same _ (same_test _)
-decided Kind row rank = not_same _ (kinds_decided _ _)
-decided Mode row rank = not_same _ (modes_decided _ _)
-decided Root row rank = not_same _ (options_decided nat_eq Decides-eqb _ _)
-decided Op row rank = not_same _ (options_decided same_operation operations_decided _ _)
-decided ItemType row rank = not_same _ (types_decided _ _)
-decided Amount row rank = amounts_decided (first_of row).kind row rank (post_at row rank)
-decided Weights row rank = not_same _ (booleans_Decides _ _)
-decided Edges row rank = of_posts _ _ row (λ other. not_same _ (numbers_decided _ _))
-decided Groups row rank = of_each _ _ (λ member. not_same _ (numbers_decided _ _)) (group_of (post_at row rank))
+-- of each number below one
+of_below : (test : ℕ → Bool) (P : ℕ → Type 0) → ((k : ℕ) → Refutes (test k) (P k)) → (n : ℕ) → Refutes (list_any test (upto n)) ((k : ℕ) → k < n → P k)
+of_below test P each n = record {
+  holds = λ none k l. elim (cases_Bool (test k)) [
+    | inl t ↦ absurd (false≢true (sym none ∙ some_below test n k l t))
+    | inr f ↦ (each k).holds f
+  ];
+  fails = λ some all. false≢true (sym (none_below test n (λ k l. false_from_ne_true (test k) (λ t. (each k).fails t (all k l)))) ∙ some);
+}
+
+-- on each edge from the member
+along_edges_decided : (topology : Option TopologyView) (exchange : Neighbourhood) (row : RowView) (rank : ℕ) (given : Given) → RefutesWhere (IsKept topology) (along_edges_differ exchange topology row rank given) (AlongEdges exchange topology row rank given)
+along_edges_decided None exchange row rank given = record { holds = λ e. tt; fails = λ kept e. cc e }
+along_edges_decided (Some topology) exchange row rank given =
+    let each = of_below (edge_differs exchange topology row rank given) (λ place. sent_on exchange given place ≡ awaited_on exchange (post_at row (rank_at (destinations_at topology rank) place)) (taken_at topology rank place)) (λ place. not_same _ (Decides-eqb _ _)) (length (destinations_at topology rank)) in
+    record {
+      holds = λ none place other theirs meet.
+          each.holds none place meet.sent_within
+          ∙ (λ i. awaited_on exchange (post_at row (meet.sent_to i)) (sym (taken_of topology rank place other theirs meet) i));
+      fails = λ kept some all. each.fails some (λ place l. all place _ _ (taken_meets topology kept.agree rank place l));
+    }
+
+pub amounts_decided : (topology : Option TopologyView) (kind : K.Kind) (row : RowView) (rank : ℕ) (given : Given) → RefutesWhere (IsKept topology) (amounts_differ topology kind row rank given) (AmountsAgree topology kind row rank given)
+amounts_decided topology Barrier row rank given = record { holds = λ e. tt; fails = λ kept e. cc e }
+amounts_decided topology Bcast row rank given = anyway (not_same _ (Decides-eqb _ _))
+amounts_decided topology Gather row rank given = anyway (not_same _ (Decides-eqb _ _))
+amounts_decided topology Gatherv row rank given = anyway (not_same _ (Decides-eqb _ _))
+amounts_decided topology Scatter row rank given = anyway (not_same _ (Decides-eqb _ _))
+amounts_decided topology Scatterv row rank given = anyway (not_same _ (Decides-eqb _ _))
+amounts_decided topology Allgather row rank given = anyway (not_same _ (Decides-eqb _ _))
+amounts_decided topology Allgatherv row rank given = anyway (of_posts _ _ row (λ j. not_same _ (Decides-eqb _ _)))
+amounts_decided topology Alltoall row rank given = anyway (not_same _ (Decides-eqb _ _))
+amounts_decided topology Alltoallv row rank given = anyway (of_posts _ _ row (λ j. not_same _ (Decides-eqb _ _)))
+amounts_decided topology Reduce row rank given = anyway (not_same _ (Decides-eqb _ _))
+amounts_decided topology Allreduce row rank given = anyway (not_same _ (Decides-eqb _ _))
+amounts_decided topology ReduceScatterBlock row rank given = anyway (not_same _ (Decides-eqb _ _))
+amounts_decided topology ReduceScatter row rank given = anyway (not_same _ (numbers_decided _ _))
+amounts_decided topology Scan row rank given = anyway (not_same _ (Decides-eqb _ _))
+amounts_decided topology Exscan row rank given = anyway (not_same _ (Decides-eqb _ _))
+amounts_decided topology Dup row rank given = record { holds = λ e. tt; fails = λ kept e. cc e }
+amounts_decided topology Split row rank given = record { holds = λ e. tt; fails = λ kept e. cc e }
+amounts_decided topology Create row rank given = record { holds = λ e. tt; fails = λ kept e. cc e }
+amounts_decided topology CreateGroup row rank given = record { holds = λ e. tt; fails = λ kept e. cc e }
+amounts_decided topology DistGraph row rank given = record { holds = λ e. tt; fails = λ kept e. cc e }
+amounts_decided topology DistGraphAdjacent row rank given = record { holds = λ e. tt; fails = λ kept e. cc e }
+amounts_decided topology NeighborAllgather row rank given = along_edges_decided topology H.Allgather row rank given
+amounts_decided topology NeighborAllgatherv row rank given = along_edges_decided topology H.Allgatherv row rank given
+amounts_decided topology NeighborAlltoall row rank given = along_edges_decided topology H.Alltoall row rank given
+amounts_decided topology NeighborAlltoallv row rank given = along_edges_decided topology H.Alltoallv row rank given
+
+pub decided : (topology : Option TopologyView) (question : Question) (row : RowView) (rank : ℕ) → RefutesWhere (IsKept topology) (is_faulty topology question row rank (post_at row rank)) (Agrees topology question row rank)
+decided topology Fit row rank = anyway (not_same _ (same_test _))
+decided topology Kind row rank = anyway (not_same _ (kinds_decided _ _))
+decided topology Mode row rank = anyway (not_same _ (modes_decided _ _))
+decided topology Root row rank = anyway (not_same _ (options_decided nat_eq Decides-eqb _ _))
+decided topology Op row rank = anyway (not_same _ (options_decided same_operation operations_decided _ _))
+decided topology ItemType row rank = anyway (not_same _ (types_decided _ _))
+decided topology Amount row rank = amounts_decided topology (first_of row).kind row rank (post_at row rank)
+decided topology Weights row rank = anyway (not_same _ (booleans_Decides _ _))
+decided topology Edges row rank = anyway (of_posts _ _ row (λ other. not_same _ (numbers_decided _ _)))
+decided topology Groups row rank = anyway (of_each _ _ (λ member. not_same _ (numbers_decided _ _)) (group_of (post_at row rank)))

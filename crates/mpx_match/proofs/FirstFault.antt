@@ -1,7 +1,8 @@
 -- The computed verdict is the first fault.
 use Rattle.std.proofs.Common.{◌≡◌, ℕ, List, [], ◌∷◌, Option, Some, None, inl, inr, refl}
 use Rattle.mpx_post.specs.Rows.{RowView}
-use Rattle.mpx_post.specs.Agreement.{IsFine}
+use Rattle.mpx_post.specs.Agreement.{IsFineWith}
+use Rattle.mpx_post.specs.Topologies.{IsKept, TopologyView}
 use Rattle.mpx_match.specs.declared.faults.Verdict.TheVariants.{Fine}
 use Rattle.mpx_match.specs.declared.verdicts.Question.{Question}
 use Rattle.mpx_match.specs.declared.verdicts.Question.TheVariants as Q
@@ -10,46 +11,53 @@ use Rattle.mpx_match.specs.Verdicts.{AllAgree, IsFirstFault, IsLeast, answers, f
 use Rattle.mpx_match.proofs.Decisions.{decided}
 use Rattle.mpx_match.proofs.Least.{least_rank-passes, least_rank-none}
 
-least : (question : Question) (row : RowView) (rank : ℕ) → answer question row ≡ Some rank → IsLeast question row rank
-least question row rank e =
-    let found = least_rank-passes (is_faulty question row) row rank e in
+least : (topology : Option TopologyView) → IsKept topology → (question : Question) (row : RowView) (rank : ℕ) → answer topology question row ≡ Some rank → IsLeast topology question row rank
+least topology kept question row rank e =
+    let found = least_rank-passes (is_faulty topology question row) row rank e in
     record {
       within = found.0;
-      differs = (decided question row rank).fails found.1;
-      least = λ lower l. (decided question row lower).holds (found.2 lower l);
+      differs = (decided topology question row rank).fails kept found.1;
+      least = λ lower l. (decided topology question row lower).holds (found.2 lower l);
     }
 
-all_agree : (question : Question) (row : RowView) → answer question row ≡ None → AllAgree question row
-all_agree question row e rank l = (decided question row rank).holds (least_rank-none (is_faulty question row) row e rank l)
+all_agree : (topology : Option TopologyView) (question : Question) (row : RowView) → answer topology question row ≡ None → AllAgree topology question row
+all_agree topology question row e rank l = (decided topology question row rank).holds (least_rank-none (is_faulty topology question row) row e rank l)
 
-is_first : (asked : List Question) (row : RowView) → IsFirstFault asked row (first_fault (answers asked row))
-is_first [] row = refl
-is_first (question ∷ more) row = by_answer (answer question row) refl (is_first more row) where
-  by_answer : (o : Option ℕ) → answer question row ≡ o → IsFirstFault more row (first_fault (answers more row)) → IsFirstFault (question ∷ more) row (or_else (told_as question) o (first_fault (answers more row)))
-  by_answer (Some rank) e later = inl (refl, least question row rank e)
-  by_answer None e later = inr (all_agree question row e, later)
+is_first : (topology : Option TopologyView) → IsKept topology → (asked : List Question) (row : RowView) → IsFirstFault topology asked row (first_fault (answers topology asked row))
+is_first topology kept [] row = refl
+is_first topology kept (question ∷ more) row = by_answer (answer topology question row) refl (is_first topology kept more row) where
+  by_answer : (o : Option ℕ) → answer topology question row ≡ o → IsFirstFault topology more row (first_fault (answers topology more row)) → IsFirstFault topology (question ∷ more) row (or_else (told_as question) o (first_fault (answers topology more row)))
+  by_answer (Some rank) e later = inl (refl, least topology kept question row rank e)
+  by_answer None e later = inr (all_agree topology question row e, later)
 
-pub verdict-is_first : (row : RowView) → IsFirstFault questions row (verdict row)
+pub verdict-is_first : (topology : Option TopologyView) → IsKept topology → (row : RowView) → IsFirstFault topology questions row (verdict topology row)
 unfolding verdict
-verdict-is_first row = is_first questions row
+verdict-is_first topology kept row = is_first topology kept questions row
 
-after : (question : Question) (more : List Question) (row : RowView) → IsFirstFault (question ∷ more) row Fine → AllAgree question row × IsFirstFault more row Fine
-after question more row (inl told) = absurd told
-after question more row (inr rest) = rest
+after : (topology : Option TopologyView) (question : Question) (more : List Question) (row : RowView) → IsFirstFault topology (question ∷ more) row Fine → AllAgree topology question row × IsFirstFault topology more row Fine
+after topology question more row (inl told) = absurd told
+after topology question more row (inr rest) = rest
 
--- where there is no fault, the row is fine
-pub fine : (row : RowView) → IsFirstFault questions row Fine → IsFine row
-fine row none =
-    let fits = after Q.Fit (Q.Kind ∷ Q.Mode ∷ Q.Root ∷ Q.Op ∷ Q.ItemType ∷ Q.Amount ∷ Q.Weights ∷ Q.Edges ∷ Q.Groups ∷ []) row none in
-    let kinds = after Q.Kind (Q.Mode ∷ Q.Root ∷ Q.Op ∷ Q.ItemType ∷ Q.Amount ∷ Q.Weights ∷ Q.Edges ∷ Q.Groups ∷ []) row fits.1 in
-    let modes = after Q.Mode (Q.Root ∷ Q.Op ∷ Q.ItemType ∷ Q.Amount ∷ Q.Weights ∷ Q.Edges ∷ Q.Groups ∷ []) row kinds.1 in
-    let roots = after Q.Root (Q.Op ∷ Q.ItemType ∷ Q.Amount ∷ Q.Weights ∷ Q.Edges ∷ Q.Groups ∷ []) row modes.1 in
-    let ops = after Q.Op (Q.ItemType ∷ Q.Amount ∷ Q.Weights ∷ Q.Edges ∷ Q.Groups ∷ []) row roots.1 in
-    let types = after Q.ItemType (Q.Amount ∷ Q.Weights ∷ Q.Edges ∷ Q.Groups ∷ []) row ops.1 in
-    let amounts = after Q.Amount (Q.Weights ∷ Q.Edges ∷ Q.Groups ∷ []) row types.1 in
-    let weights = after Q.Weights (Q.Edges ∷ Q.Groups ∷ []) row amounts.1 in
-    let edges = after Q.Edges (Q.Groups ∷ []) row weights.1 in
-    let groups = after Q.Groups [] row edges.1 in
+-- where there is no fault, all agree
+settled : (topology : Option TopologyView) (asked : List Question) (row : RowView) → first_fault (answers topology asked row) ≡ Fine → IsFirstFault topology asked row Fine
+settled topology [] row e = refl
+settled topology (question ∷ more) row e = by_answer (answer topology question row) refl (settled topology more row) e where
+  by_answer : (o : Option ℕ) → answer topology question row ≡ o → (first_fault (answers topology more row) ≡ Fine → IsFirstFault topology more row Fine) → or_else (told_as question) o (first_fault (answers topology more row)) ≡ Fine → IsFirstFault topology (question ∷ more) row Fine
+  by_answer (Some rank) is later e = cc e
+  by_answer None is later e = inr (all_agree topology question row is, later e)
+
+fine : (topology : Option TopologyView) (row : RowView) → IsFirstFault topology questions row Fine → IsFineWith topology row
+fine topology row none =
+    let fits = after topology Q.Fit (Q.Kind ∷ Q.Mode ∷ Q.Root ∷ Q.Op ∷ Q.ItemType ∷ Q.Amount ∷ Q.Weights ∷ Q.Edges ∷ Q.Groups ∷ []) row none in
+    let kinds = after topology Q.Kind (Q.Mode ∷ Q.Root ∷ Q.Op ∷ Q.ItemType ∷ Q.Amount ∷ Q.Weights ∷ Q.Edges ∷ Q.Groups ∷ []) row fits.1 in
+    let modes = after topology Q.Mode (Q.Root ∷ Q.Op ∷ Q.ItemType ∷ Q.Amount ∷ Q.Weights ∷ Q.Edges ∷ Q.Groups ∷ []) row kinds.1 in
+    let roots = after topology Q.Root (Q.Op ∷ Q.ItemType ∷ Q.Amount ∷ Q.Weights ∷ Q.Edges ∷ Q.Groups ∷ []) row modes.1 in
+    let ops = after topology Q.Op (Q.ItemType ∷ Q.Amount ∷ Q.Weights ∷ Q.Edges ∷ Q.Groups ∷ []) row roots.1 in
+    let types = after topology Q.ItemType (Q.Amount ∷ Q.Weights ∷ Q.Edges ∷ Q.Groups ∷ []) row ops.1 in
+    let amounts = after topology Q.Amount (Q.Weights ∷ Q.Edges ∷ Q.Groups ∷ []) row types.1 in
+    let weights = after topology Q.Weights (Q.Edges ∷ Q.Groups ∷ []) row amounts.1 in
+    let edges = after topology Q.Edges (Q.Groups ∷ []) row weights.1 in
+    let groups = after topology Q.Groups [] row edges.1 in
     record {
       each = λ rank l. record {
         fit = fits.0 rank l;
@@ -64,3 +72,8 @@ fine row none =
         groups = groups.0 rank l;
       };
     }
+
+-- and the row is fine
+pub verdict-fine : (topology : Option TopologyView) (row : RowView) → verdict topology row ≡ Fine → IsFineWith topology row
+unfolding verdict
+verdict-fine topology row e = fine topology row (settled topology questions row e)

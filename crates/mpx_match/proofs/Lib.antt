@@ -1,4 +1,6 @@
 pub mod Least
+pub mod Below
+pub mod Ends
 pub mod Decisions
 pub mod FirstFault
 pub mod Examples

@@ -1,6 +1,7 @@
 -- The verdict of a row: its first fault, with the least rank that differs.
 use Rattle.std.specs.Prelude.{◌≡◌, ℕ, ◌<◌, ◌⊎◌, List, [], ◌∷◌, length, map, Option, Some, None}
 use Rattle.mpx_post.specs.Rows.{RowView}
+use Rattle.mpx_post.specs.Topologies.{TopologyView}
 use Rattle.mpx_match.specs.declared.faults.FaultKind.{FaultKind}
 use Rattle.mpx_match.specs.declared.faults.FaultKind.TheVariants.{Kind, Mode, Root, Op, ItemType, Amount, Weights, Edges, Groups}
 use Rattle.mpx_match.specs.declared.faults.Verdict.{Verdict}
@@ -27,25 +28,27 @@ told_as Q.Weights = Weights
 told_as Q.Edges = Edges
 told_as Q.Groups = Groups
 
+-- in a communicator with this topology
+
 -- the posts of all members agree in this
-abbrev pub AllAgree : Question → RowView → Type 0
-AllAgree question row = (rank : ℕ) → rank < length row → Agrees question row rank
+abbrev pub AllAgree : Option TopologyView → Question → RowView → Type 0
+AllAgree topology question row = (rank : ℕ) → rank < length row → Agrees topology question row rank
 
 -- this is the least rank that differs in this
-pub record IsLeast (question : Question) (row : RowView) (rank : ℕ) : Type 0 where
+pub record IsLeast (topology : Option TopologyView) (question : Question) (row : RowView) (rank : ℕ) : Type 0 where
   pub within : rank < length row
-  pub differs : Differs question row rank
-  pub least : (lower : ℕ) → lower < rank → Agrees question row lower
+  pub differs : Differs topology question row rank
+  pub least : (lower : ℕ) → lower < rank → Agrees topology question row lower
 
 -- the verdict is the fault of the least rank that differs in this
-abbrev pub Tells : Question → RowView → Verdict → Type 0
-Tells question row Fine = ⊥
-Tells question row (Fault fault) = (fault.what ≡ told_as question) × IsLeast question row fault.rank
+abbrev pub Tells : Option TopologyView → Question → RowView → Verdict → Type 0
+Tells topology question row Fine = ⊥
+Tells topology question row (Fault fault) = (fault.what ≡ told_as question) × IsLeast topology question row fault.rank
 
 -- the verdict is the first fault of a row to which these questions are put in this order, and fine where there is none
-abbrev pub IsFirstFault : List Question → RowView → Verdict → Type 0
-IsFirstFault [] row verdict = verdict ≡ Fine
-IsFirstFault (question ∷ more) row verdict = Tells question row verdict ⊎ (AllAgree question row × IsFirstFault more row verdict)
+abbrev pub IsFirstFault : Option TopologyView → List Question → RowView → Verdict → Type 0
+IsFirstFault topology [] row verdict = verdict ≡ Fine
+IsFirstFault topology (question ∷ more) row verdict = Tells topology question row verdict ⊎ (AllAgree topology question row × IsFirstFault topology more row verdict)
 
 -- THE SAME, COMPUTED
 
@@ -59,8 +62,9 @@ abbrev pub first_fault : List (FaultKind × Option ℕ) → Verdict
 first_fault [] = Fine
 first_fault (asked ∷ more) = or_else asked.0 asked.1 (first_fault more)
 
-abbrev pub answers : List Question → RowView → List (FaultKind × Option ℕ)
-answers asked row = map (λ question. (told_as question, answer question row)) asked
+abbrev pub answers : Option TopologyView → List Question → RowView → List (FaultKind × Option ℕ)
+answers topology asked row = map (λ question. (told_as question, answer topology question row)) asked
 
-unfoldable pub verdict : RowView → Verdict
-verdict row = first_fault (answers questions row)
+-- the verdict of a row, in a communicator with this topology
+unfoldable pub verdict : Option TopologyView → RowView → Verdict
+verdict topology row = first_fault (answers topology questions row)

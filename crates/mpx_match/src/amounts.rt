@@ -1,14 +1,15 @@
-ghost use Rattle.std.specs.Prelude.{◌≡◌, ◌<◌, length};
+ghost use Rattle.std.specs.Prelude.{◌≡◌, ◌<◌, Some, None, length};
 ghost use Rattle.mpx_post.specs.Posts.{count_of, root_of};
-ghost use Rattle.mpx_post.specs.Agreement.{count_at, post_at};
-ghost use Rattle.mpx_match.specs.Questions.{amounts_differ as differ};
+ghost use Rattle.mpx_post.specs.Agreement.{awaited_on, count_at, post_at, sent_on};
+ghost use Rattle.mpx_match.specs.Questions.{along_edges_differ, amounts_differ as differ};
 
-use mpx_post::{Counts, Kind, Post, Row};
+use mpx_meet::Pass;
+use mpx_post::{Birth, Counts, Kind, Neighbourhood, Post, Row, Topology};
 
 /// Whether the amounts of the post of this rank differ from what the kind asks of them.
-pub(crate) fn amounts_differ(row: &Row<'_>, kind: Kind, rank: usize) -> bool
+pub(crate) fn amounts_differ(birth: &Birth, row: &Row<'_>, kind: Kind, rank: usize) -> bool
     requires { rank < length row.now }
-    ensures { result ≡ differ kind row.now rank (post_at row.now rank) }
+    ensures { result ≡ differ birth.now.topology kind row.now rank (post_at row.now rank) }
 {
     let root = root_of(row.post(0));
     match kind {
@@ -29,12 +30,69 @@ pub(crate) fn amounts_differ(row: &Row<'_>, kind: Kind, rank: usize) -> bool
         Kind::ReduceScatter => {
             row.post(rank).rcounts().as_slice() != row.post(0).rcounts().as_slice()
         }
+        Kind::NeighborAllgather => along_edges(birth, row, Neighbourhood::Allgather, rank),
+        Kind::NeighborAllgatherv => along_edges(birth, row, Neighbourhood::Allgatherv, rank),
+        Kind::NeighborAlltoall => along_edges(birth, row, Neighbourhood::Alltoall, rank),
+        Kind::NeighborAlltoallv => along_edges(birth, row, Neighbourhood::Alltoallv, rank),
+    }
+}
+
+// Whether on some edge from this rank another number of items is awaited than sent.
+fn along_edges(birth: &Birth, row: &Row<'_>, exchange: Neighbourhood, rank: usize) -> bool
+    requires { rank < length row.now }
+    ensures { result ≡ along_edges_differ exchange birth.now.topology row.now rank (post_at row.now rank) }
+{
+    match birth.topology() {
+        None => false,
+        Some(topology) => {
+            prove!(row.len() <= 64);
+            along_each(topology, row, exchange, rank as u8)
+        }
+    }
+}
+
+fn along_each(topology: &Topology, row: &Row<'_>, exchange: Neighbourhood, rank: u8) -> bool
+    requires { rank < length row.now }
+    ensures { result ≡ along_edges_differ exchange (Some topology.now) row.now rank (post_at row.now rank) }
+{
+    prove!(topology.size() <= 64);
+    let destinations = topology.destinations(rank);
+    let mut pass = Pass::new();
+    for place in 0..destinations.len() {
+        let other = destinations[place].rank;
+        let taken = pass.meet(rank, other, topology.sources(other));
+        let sent = sent_on(row, exchange, usize::from(rank), place);
+        if sent != awaited_on(row, exchange, usize::from(other), taken) {
+            return true;
+        }
+    }
+    false
+}
+
+// How many items this rank sends on the edge at this place among its destinations.
+fn sent_on(row: &Row<'_>, exchange: Neighbourhood, rank: usize, place: usize) -> usize
+    ensures { result ≡ sent_on exchange (post_at row.now rank) place }
+{
+    match exchange {
+        Neighbourhood::Allgather | Neighbourhood::Allgatherv => given(row, rank),
+        Neighbourhood::Alltoall => sent(row, rank, 0),
+        Neighbourhood::Alltoallv => sent(row, rank, place),
+    }
+}
+
+// How many items this rank awaits on the edge at this place among its sources.
+fn awaited_on(row: &Row<'_>, exchange: Neighbourhood, rank: usize, place: usize) -> usize
+    ensures { result ≡ awaited_on exchange (post_at row.now rank) place }
+{
+    match exchange {
+        Neighbourhood::Allgather | Neighbourhood::Alltoall => received(row, rank, 0),
+        Neighbourhood::Allgatherv | Neighbourhood::Alltoallv => received(row, rank, place),
     }
 }
 
 // Whether some receiver awaits another number of items of this rank than it gives.
 fn allgatherv_differs(row: &Row<'_>, rank: usize) -> bool
-    ensures { result ≡ differ Kind.Allgatherv row.now rank (post_at row.now rank) }
+    ensures { result ≡ differ None Kind.Allgatherv row.now rank (post_at row.now rank) }
 {
     for receiver in 0..row.len() {
         if given(row, rank) != received(row, receiver, rank) {
@@ -46,7 +104,7 @@ fn allgatherv_differs(row: &Row<'_>, rank: usize) -> bool
 
 // Whether some receiver awaits another number of items of this rank than it sends it.
 fn alltoallv_differs(row: &Row<'_>, rank: usize) -> bool
-    ensures { result ≡ differ Kind.Alltoallv row.now rank (post_at row.now rank) }
+    ensures { result ≡ differ None Kind.Alltoallv row.now rank (post_at row.now rank) }
 {
     for receiver in 0..row.len() {
         if sent(row, rank, receiver) != received(row, receiver, rank) {

@@ -2,33 +2,68 @@ ghost use Rattle.std.specs.Prelude.{◌≡◌, ◌≤◌, ◌*◌, ◌==◌, ◌
 ghost use Rattle.std.specs.List.{list_all};
 ghost use Rattle.mpx_num.specs.Types.{item_len};
 ghost use Rattle.mpx_post.specs.Posts.{numbers_of, type_of};
-ghost use Rattle.mpx_post.specs.Agreement.{blocks_of, fill, fits_edges, fits_group, fits_root, fits_type, is_fit, is_root};
+ghost use Rattle.mpx_post.specs.Agreement.{blocks_of, fill, fits_counts, fits_edges, fits_group, fits_root, fits_type, is_fit, is_root, seat_of};
+ghost use Rattle.mpx_post.specs.Seats.{lacks_topology};
+ghost use Rattle.mpx_post.specs.Topologies.{most_neighbours};
 
 use mpx_num::{Ty, op_fits};
-use mpx_post::{Edge, Neighbour, Post, Sent};
+use mpx_post::{Birth, Edge, Kind, Neighbour, Post, Seat, Sent};
 
-/// Whether a post fits a communicator of this size, as the post of this rank.
-pub(crate) fn fits(size: usize, rank: usize, post: &Post) -> bool
+/// Whether a post fits a communicator that came to be so and has so many members, as the post of this rank.
+pub(crate) fn fits(birth: &Birth, size: usize, rank: u8, post: &Post) -> bool
     requires { size ≤ 64 }
-    ensures { result ≡ is_fit size rank post.now }
+    ensures { result ≡ is_fit birth.now.topology size rank post.now }
 {
-    let fields = post.kind().fields();
-    let at_root = is_root(rank, post);
     fits_root(size, post)
         && fits_type(post)
-        && post.scounts().as_slice().len() == fields.scounts.of(size, at_root)
-        && post.rcounts().as_slice().len() == fields.rcounts.of(size, at_root)
-        && are_filled(size, rank, post)
+        && fits_counts(&seat(birth, size, rank, post), post)
         && fits_group(size, post)
         && fits_edges(size, post)
+        && !lacks_topology(birth, post.kind())
 }
 
-fn is_root(rank: usize, post: &Post) -> bool
+// What the numbers of its counts depend on.
+fn seat(birth: &Birth, size: usize, rank: u8, post: &Post) -> Seat
+    requires { size ≤ 64 }
+    ensures value { result ≡ seat_of birth.now.topology size rank post.now }
+    ensures size { result.size ≤ 64 }
+    ensures sources { result.indegree ≤ most_neighbours }
+    ensures destinations { result.outdegree ≤ most_neighbours }
+{
+    Seat {
+        size,
+        at_root: is_root(rank, post),
+        indegree: birth.indegree(rank),
+        outdegree: birth.outdegree(rank),
+    }
+}
+
+// Whether its calls go along edges, and the communicator has none.
+fn lacks_topology(birth: &Birth, kind: Kind) -> bool
+    ensures { result ≡ lacks_topology birth.now.topology kind }
+{
+    kind.needs_topology() & birth.topology().is_none()
+}
+
+// As many counts and items are given as the kind asks for.
+fn fits_counts(seat: &Seat, post: &Post) -> bool
+    requires size { seat.now.size ≤ 64 }
+    requires sources { seat.now.indegree ≤ most_neighbours }
+    requires destinations { seat.now.outdegree ≤ most_neighbours }
+    ensures { result ≡ fits_counts seat.now post.now }
+{
+    let fields = post.kind().fields();
+    post.scounts().as_slice().len() == fields.scounts.of(seat)
+        && post.rcounts().as_slice().len() == fields.rcounts.of(seat)
+        && are_filled(seat, post)
+}
+
+fn is_root(rank: u8, post: &Post) -> bool
     ensures { result ≡ is_root rank post.now }
 {
     match post.root() {
         None => false,
-        Some(root) => usize::from(root) == rank,
+        Some(root) => root == rank,
     }
 }
 
@@ -60,15 +95,16 @@ fn type_of(post: &Post) -> Ty
 }
 
 // As many items are given as the blocks have.
-fn are_filled(size: usize, rank: usize, post: &Post) -> bool
-    requires { size ≤ 64 }
-    ensures { result ≡ fill (blocks_of size rank post.now) post.now }
+fn are_filled(seat: &Seat, post: &Post) -> bool
+    requires size { seat.now.size ≤ 64 }
+    requires sources { seat.now.indegree ≤ most_neighbours }
+    requires destinations { seat.now.outdegree ≤ most_neighbours }
+    ensures { result ≡ fill (blocks_of seat.now post.now) post.now }
 {
-    let at_root = is_root(rank, post);
     match post.kind().fields().sent {
         Sent::Any => true,
-        Sent::Scounts(number) => gives(post, number.of(size, at_root) * post.scounts().sum()),
-        Sent::Rcounts(number) => gives(post, number.of(size, at_root) * post.rcounts().sum()),
+        Sent::Scounts(number) => gives(post, number.of(seat) * post.scounts().sum()),
+        Sent::Rcounts(number) => gives(post, number.of(seat) * post.rcounts().sum()),
     }
 }
 

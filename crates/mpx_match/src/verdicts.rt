@@ -1,7 +1,7 @@
 ghost use Rattle.std.specs.Prelude.{◌≡◌, ◌<◌, true, None, length};
-ghost use Rattle.mpx_post.specs.Agreement.{IsFine, post_at};
+ghost use Rattle.mpx_post.specs.Agreement.{IsFineWith, post_at};
 ghost use Rattle.mpx_post.specs.Equality.{same_types as have_same_types};
-ghost use Rattle.mpx_match.specs.Questions.{answer, is_faulty as faulty};
+ghost use Rattle.mpx_match.specs.Questions.{answer, edges_differ, is_faulty as faulty, least_rank};
 ghost use Rattle.mpx_match.specs.Verdicts.{IsFirstFault, questions, told_as as told, verdict};
 
 use crate::amounts::amounts_differ;
@@ -9,7 +9,7 @@ use crate::edges::{edges_differ, names_no_neighbours};
 use crate::faults::{Fault, FaultKind, Verdict};
 use crate::fits::fits;
 use crate::groups::groups_differ;
-use mpx_post::{Post, Row};
+use mpx_post::{Birth, Post, Row};
 
 // What is asked of each post of a row.
 #[derive(Clone, Copy)]
@@ -36,18 +36,22 @@ enum Question {
     Groups,
 }
 
-/// Whether the posts of a row fit together, or their first fault. It takes no memory.
-pub fn verdict(row: &Row<'_>) -> Verdict
-    ensures first { IsFirstFault questions row.now result }
-    ensures fine { result ≡ Verdict.Fine → IsFine row.now }
-    ensures computed { result ≡ verdict row.now }
+/// Whether the posts of a row fit a communicator that came to be so, and together, or their first fault. It takes no memory.
+pub fn verdict(birth: &Birth, row: &Row<'_>) -> Verdict
+    ensures first { IsFirstFault birth.now.topology questions row.now result }
+    ensures fine { result ≡ Verdict.Fine → IsFineWith birth.now.topology row.now }
+    ensures computed { result ≡ verdict birth.now.topology row.now }
 {
-    first_fault(row)
+    prove!(match birth.topology() {
+        None => true,
+        Some(topology) => topology.size() <= 64,
+    });
+    first_fault(birth, row)
 }
 
 // The first fault, by the questions in their order.
-fn first_fault(row: &Row<'_>) -> Verdict
-    ensures { result ≡ verdict row.now }
+fn first_fault(birth: &Birth, row: &Row<'_>) -> Verdict
+    ensures { result ≡ verdict birth.now.topology row.now }
 {
     let questions = [
         Question::Fit,
@@ -62,7 +66,7 @@ fn first_fault(row: &Row<'_>) -> Verdict
         Question::Groups,
     ];
     for question in questions {
-        if let Some(rank) = least_rank(row, question) {
+        if let Some(rank) = least_rank(birth, row, question) {
             return Verdict::Fault(Fault {
                 what: told_as(question),
                 rank,
@@ -91,14 +95,14 @@ fn told_as(question: Question) -> FaultKind
 }
 
 // The least rank of whose post the answer is yes.
-fn least_rank(row: &Row<'_>, question: Question) -> Option<u8>
-    ensures { result ≡ answer question row.now }
+fn least_rank(birth: &Birth, row: &Row<'_>, question: Question) -> Option<u8>
+    ensures { result ≡ answer birth.now.topology question row.now }
 {
     if is_settled(row, question) {
         return None;
     }
     for rank in 0..row.len() {
-        if is_faulty(row, question, rank) {
+        if is_faulty(birth, row, question, rank) {
             return Some(rank as u8);
         }
     }
@@ -107,7 +111,7 @@ fn least_rank(row: &Row<'_>, question: Question) -> Option<u8>
 
 // Whether one look at each post tells that there is none.
 fn is_settled(row: &Row<'_>, question: Question) -> bool
-    ensures { result ≡ true → answer question row.now ≡ None }
+    ensures { result ≡ true → (question ≡ Question.Edges) × (least_rank (edges_differ row.now) row.now ≡ None) }
 {
     match question {
         Question::Edges => names_no_neighbours(row),
@@ -116,20 +120,20 @@ fn is_settled(row: &Row<'_>, question: Question) -> bool
 }
 
 // The answer for the post of this rank.
-fn is_faulty(row: &Row<'_>, question: Question, rank: usize) -> bool
+fn is_faulty(birth: &Birth, row: &Row<'_>, question: Question, rank: usize) -> bool
     requires { rank < length row.now }
-    ensures { result ≡ faulty question row.now rank (post_at row.now rank) }
+    ensures { result ≡ faulty birth.now.topology question row.now rank (post_at row.now rank) }
 {
     let post = row.post(rank);
     let first = row.post(0);
     match question {
-        Question::Fit => !fits(row.len(), rank, post),
+        Question::Fit => !fits(birth, row.len(), rank as u8, post),
         Question::Kind => post.kind() != first.kind(),
         Question::Mode => post.mode() != first.mode(),
         Question::Root => post.root() != first.root(),
         Question::Op => post.op() != first.op(),
         Question::ItemType => !same_types(post, first),
-        Question::Amount => amounts_differ(row, first.kind(), rank),
+        Question::Amount => amounts_differ(birth, row, first.kind(), rank),
         Question::Weights => post.weighted() != first.weighted(),
         Question::Edges => edges_differ(row, rank),
         Question::Groups => groups_differ(row, post),

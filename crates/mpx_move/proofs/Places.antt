@@ -1,5 +1,5 @@
 -- Where the block for a receiver stands.
-use Rattle.std.proofs.Common.{◌≡◌, ℕ, ◌*◌, ◌<◌, Bool, true, false, List, [], ◌∷◌, Some, ℤ, length, cond, take, drop, sum, unwrap_or, refl, sym, ap, ◌∙◌, append-nil, eqb-true, arith}
+use Rattle.std.proofs.Common.{◌≡◌, ℕ, ◌*◌, ◌<◌, Bool, true, false, List, [], ◌∷◌, Option, Some, None, ℤ, length, cond, take, drop, sum, unwrap_or, refl, sym, ap, ◌∙◌, append-nil, eqb-true, arith}
 use Rattle.mpx_num.specs.declared.types.Ty.{Ty}
 use Rattle.mpx_num.specs.Types.{item_len}
 use Rattle.mpx_kind.specs.declared.kinds.Kind.{Kind}
@@ -8,7 +8,8 @@ use Rattle.mpx_post.specs.Kinds.{fields_of, is_had}
 use Rattle.mpx_post.specs.Posts.{Given, type_of, numbers_of}
 use Rattle.mpx_post.specs.Blocks.{IsBlock, block_at, blocks_sent, part, repeated}
 use Rattle.mpx_post.specs.Rows.{RowView}
-use Rattle.mpx_post.specs.Agreement.{count_at, fill, is_fit, is_root, post_at, IsFine}
+use Rattle.mpx_post.specs.Topologies.{TopologyView}
+use Rattle.mpx_post.specs.Agreement.{count_at, fill, is_fit, is_root, post_at, seat_of, IsFine}
 use Rattle.mpx_post.proofs.Blocks.{block_at-part, block_at-repeated, block_within, count_alone, filled_as, length-repeated, rcounts_as, repeated_within}
 use Rattle.mpx_post.specs.declared.block.Block.{Block}
 use Rattle.mpx_move.specs.Moves.{counts_sent}
@@ -16,7 +17,7 @@ use Rattle.mpx_move.specs.Senders.{IsSender, sends_blocks}
 
 -- the blocks' numbers of items, by the kind
 abbrev pub sent_as : Kind → (size sender : ℕ) → Given → List ℕ
-sent_as kind size sender given = unwrap_or (blocks_sent (fields_of kind).sent size (is_root sender given) given.scounts given.rcounts) []
+sent_as kind size sender given = unwrap_or (blocks_sent (fields_of kind).sent (seat_of None size sender given) given.scounts given.rcounts) []
 
 -- one count, which all blocks have
 by_one : (given : Given) (size receiver n first count : ℕ) → receiver < size → length given.rcounts ≡ 1 → length (repeated n given.rcounts) ≡ size → fill (Some (repeated n given.rcounts)) given ≡ true → first ≡ receiver * count → count ≡ count_at given.rcounts 0 → IsBlock (type_of given) (repeated n given.rcounts) receiver (length (numbers_of given)) (record { first = first; count = count })
@@ -45,10 +46,10 @@ by_root : (root : Bool) (size : ℕ) (counts : List ℕ) → 0 < size → length
 by_root true size counts l each = append-nil counts
 by_root false size counts l each = absurd (omega arith)
 
-module _ (given : Given) (size sender : ℕ) (fit : is_fit size sender given ≡ true) where
+module _ (topology : Option TopologyView) (given : Given) (size sender : ℕ) (fit : is_fit topology size sender given ≡ true) where
   one_count : (kind : Kind) → given.kind ≡ kind → sends_blocks kind ≡ true → is_had (fields_of kind).scounts ≡ false → length given.rcounts ≡ 1
-  one_count Scatter is sends had = rcounts_as Scatter size sender given is fit
-  one_count Alltoall is sends had = rcounts_as Alltoall size sender given is fit
+  one_count Scatter is sends had = rcounts_as topology Scatter size sender given is fit
+  one_count Alltoall is sends had = rcounts_as topology Alltoall size sender given is fit
   one_count Scatterv is sends had = cc had
   one_count Alltoallv is sends had = cc had
   one_count kind is sends had = cc sends
@@ -62,15 +63,15 @@ module _ (given : Given) (size sender : ℕ) (fit : is_fit size sender given ≡
 
   module _ (receiver first count : ℕ) (l : receiver < size) where
     equal_block : (kind : Kind) → given.kind ≡ kind → sends_blocks kind ≡ true → is_had (fields_of kind).scounts ≡ false → length (sent_as kind size sender given) ≡ size → first ≡ receiver * count → count ≡ count_at given.rcounts 0 → IsBlock (type_of given) (sent_as kind size sender given) receiver (length (numbers_of given)) (record { first = first; count = count })
-    equal_block Scatter is sends had each f e = by_one given size receiver _ first count l (one_count Scatter is sends had) each (filled_as Scatter size sender given is fit) f e
-    equal_block Alltoall is sends had each f e = by_one given size receiver _ first count l (one_count Alltoall is sends had) each (filled_as Alltoall size sender given is fit) f e
+    equal_block Scatter is sends had each f e = by_one given size receiver _ first count l (one_count Scatter is sends had) each (filled_as topology Scatter size sender given is fit) f e
+    equal_block Alltoall is sends had each f e = by_one given size receiver _ first count l (one_count Alltoall is sends had) each (filled_as topology Alltoall size sender given is fit) f e
     equal_block Scatterv is sends had each f e = cc had
     equal_block Alltoallv is sends had each f e = cc had
     equal_block kind is sends had each f e = cc sends
 
     counted_block : (kind : Kind) → given.kind ≡ kind → sends_blocks kind ≡ true → is_had (fields_of kind).scounts ≡ true → length (sent_as kind size sender given) ≡ size → first ≡ sum (take receiver given.scounts) → count ≡ count_at given.scounts receiver → IsBlock (type_of given) (sent_as kind size sender given) receiver (length (numbers_of given)) (record { first = first; count = count })
-    counted_block Scatterv is sends had each f e = by_each given size receiver _ first count l (sent_scounts Scatterv (omega arith) sends had each) each (filled_as Scatterv size sender given is fit) f e
-    counted_block Alltoallv is sends had each f e = by_each given size receiver _ first count l (sent_scounts Alltoallv (omega arith) sends had each) each (filled_as Alltoallv size sender given is fit) f e
+    counted_block Scatterv is sends had each f e = by_each given size receiver _ first count l (sent_scounts Scatterv (omega arith) sends had each) each (filled_as topology Scatterv size sender given is fit) f e
+    counted_block Alltoallv is sends had each f e = by_each given size receiver _ first count l (sent_scounts Alltoallv (omega arith) sends had each) each (filled_as topology Alltoallv size sender given is fit) f e
     counted_block Scatter is sends had each f e = cc had
     counted_block Alltoall is sends had each f e = cc had
     counted_block kind is sends had each f e = cc sends
@@ -81,17 +82,17 @@ part_of given block ty nums t e = rw (t, e)
 
 module _ (row : RowView) (sender : ℕ) (fine : IsFine row) (l : sender < length row) (sends : IsSender row sender) where
   of_kind : sends_blocks (post_at row sender).kind ≡ true
-  of_kind = ap sends_blocks (fine.each sender l).kind ∙ sends.kind
+  of_kind = ap sends_blocks (fine.with.each sender l).kind ∙ sends.kind
 
   pub one_received : is_had (fields_of (post_at row sender).kind).scounts ≡ false → length (post_at row sender).rcounts ≡ 1
-  one_received had = one_count (post_at row sender) (length row) sender (fine.each sender l).fit (post_at row sender).kind refl of_kind had
+  one_received had = one_count fine.topology (post_at row sender) (length row) sender (fine.with.each sender l).fit (post_at row sender).kind refl of_kind had
 
   pub each_sent : is_had (fields_of (post_at row sender).kind).scounts ≡ true → length (post_at row sender).scounts ≡ length row
-  each_sent had = ap length (sym (sent_scounts (post_at row sender) (length row) sender (fine.each sender l).fit (post_at row sender).kind (omega arith) of_kind had sends.each)) ∙ sends.each
+  each_sent had = ap length (sym (sent_scounts fine.topology (post_at row sender) (length row) sender (fine.with.each sender l).fit (post_at row sender).kind (omega arith) of_kind had sends.each)) ∙ sends.each
 
   module _ (receiver first count : ℕ) (r : receiver < length row) where
     pub equal_place : is_had (fields_of (post_at row sender).kind).scounts ≡ false → first ≡ receiver * count → count ≡ count_at (post_at row sender).rcounts 0 → IsBlock (type_of (post_at row sender)) (counts_sent row sender) receiver (length (numbers_of (post_at row sender))) (record { first = first; count = count })
-    equal_place had f e = equal_block (post_at row sender) (length row) sender (fine.each sender l).fit receiver first count r (post_at row sender).kind refl of_kind had sends.each f e
+    equal_place had f e = equal_block fine.topology (post_at row sender) (length row) sender (fine.with.each sender l).fit receiver first count r (post_at row sender).kind refl of_kind had sends.each f e
 
     pub counted_place : is_had (fields_of (post_at row sender).kind).scounts ≡ true → first ≡ sum (take receiver (post_at row sender).scounts) → count ≡ count_at (post_at row sender).scounts receiver → IsBlock (type_of (post_at row sender)) (counts_sent row sender) receiver (length (numbers_of (post_at row sender))) (record { first = first; count = count })
-    counted_place had f e = counted_block (post_at row sender) (length row) sender (fine.each sender l).fit receiver first count r (post_at row sender).kind refl of_kind had sends.each f e
+    counted_place had f e = counted_block fine.topology (post_at row sender) (length row) sender (fine.with.each sender l).fit receiver first count r (post_at row sender).kind refl of_kind had sends.each f e

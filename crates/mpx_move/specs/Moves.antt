@@ -1,5 +1,5 @@
 -- What exchanges of blocks give (MPI 4.1, sections 6.3 to 6.8).
-use Rattle.std.specs.Prelude.{ℕ, ◌==◌, List, [], ℤ, length, cond, unwrap_or}
+use Rattle.std.specs.Prelude.{ℕ, ◌==◌, List, [], ℤ, length, cond, unwrap_or, None}
 use Rattle.std.specs.List.{flat_map}
 use Rattle.mpx_kind.specs.declared.kinds.Family.{Family}
 use Rattle.mpx_kind.specs.declared.kinds.Family.TheVariants as F
@@ -11,7 +11,7 @@ use Rattle.mpx_post.specs.Births.{upto}
 use Rattle.mpx_post.specs.Kinds.{family_of}
 use Rattle.mpx_post.specs.Posts.{root_of, type_of, numbers_of}
 use Rattle.mpx_post.specs.Rows.{RowView}
-use Rattle.mpx_post.specs.Agreement.{post_at, first_of, root_post, blocks_of}
+use Rattle.mpx_post.specs.Agreement.{post_at, first_of, root_post, blocks_of, seat_of}
 use Rattle.mpx_post.specs.Blocks.{block_at}
 use Rattle.mpx_post.specs.Values.{as_items}
 
@@ -21,7 +21,7 @@ joined row = flat_map numbers_of row
 
 -- the blocks' numbers of items of what the member with this rank sends
 abbrev pub counts_sent : RowView → ℕ → List ℕ
-counts_sent row sender = unwrap_or (blocks_of (length row) sender (post_at row sender)) []
+counts_sent row sender = unwrap_or (blocks_of (seat_of None (length row) sender (post_at row sender)) (post_at row sender)) []
 
 -- the block of it that is for this receiver
 abbrev pub block_for : RowView → (receiver sender : ℕ) → List ℤ

@@ -22,6 +22,7 @@ pub fn move_value(alloc: Global, row: &Row<'_>, rank: u8) -> Result<Value, OutOf
         Family::Exchange(exchange) => value_of(alloc, row, exchange, rank),
         Family::Reduction(_) => Ok(Value::Nothing),
         Family::NewCommunicator(_) => Ok(Value::Nothing),
+        Family::Neighbourhood(_) => Ok(Value::Nothing),
     }
 }
 

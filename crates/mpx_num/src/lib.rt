@@ -19,4 +19,4 @@ pub use laws::{into_range_is_unique, printed_numbers_are_read_back, sums_wrap_on
 pub use numbers::Numbers;
 pub use operations::{Op, op_fits};
 pub use text::{parse_number, print_number, push_number};
-pub use types::Ty;
+pub use types::{Ty, is_in_range};

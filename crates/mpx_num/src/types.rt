@@ -69,7 +69,8 @@ fn span(ty: Ty) -> u128
     }
 }
 
-pub(crate) fn is_in_range(ty: Ty, number: i128) -> bool
+/// Whether the number is one of the type.
+pub fn is_in_range(ty: Ty, number: i128) -> bool
     ensures yes { OnTrue result (IsInRange ty number) }
     ensures no { OnFalse result (IsOutOfRange ty number) }
 {

@@ -1,5 +1,5 @@
 -- Blocks by their places: each begins where those before it end.
-use Rattle.std.proofs.Common.{◌≡◌, ℕ, zero, suc, ◌+◌, ◌*◌, ◌<◌, ◌≤◌, List, [], ◌∷◌, ℤ, true, length, take, drop, replicate, sum, refl, sym, subst, ap, ◌∙◌, arith}
+use Rattle.std.proofs.Common.{◌≡◌, ℕ, zero, suc, ◌+◌, ◌*◌, ◌<◌, ◌≤◌, List, [], ◌∷◌, ℤ, true, length, take, drop, replicate, sum, Option, refl, sym, subst, ap, ◌∙◌, arith}
 use Rattle.std.proofs.Math.Nat.{add-mul, mul-le-mul_right}
 use Rattle.std.proofs.lemmas.List.{drop-drop, get_or-replicate, length-replicate, take-replicate}
 use Rattle.std.proofs.lemmas.List.Folds.{sum_by-replicate}
@@ -10,7 +10,8 @@ use Rattle.mpx_kind.specs.declared.kinds.Kind.{Kind}
 use Rattle.mpx_post.specs.Blocks.{block_at, blocks_sent, repeated}
 use Rattle.mpx_post.specs.Kinds.{fields_of, number_in}
 use Rattle.mpx_post.specs.Posts.{Given}
-use Rattle.mpx_post.specs.Agreement.{count_at, fill, is_fit, is_root}
+use Rattle.mpx_post.specs.Topologies.{TopologyView}
+use Rattle.mpx_post.specs.Agreement.{count_at, fill, is_fit, seat_of}
 use Rattle.mpx_post.proofs.Agreement.{fits_parts}
 
 -- so many items, from a place on
@@ -69,12 +70,12 @@ count_alone (count ∷ next ∷ counts) e = absurd (omega arith)
 
 -- A POST THAT FITS, BY ITS KIND
 
-module _ (kind : Kind) (size rank : ℕ) (given : Given) (is : given.kind ≡ kind) (fit : is_fit size rank given ≡ true) where
-  pub scounts_as : length given.scounts ≡ number_in (fields_of kind).scounts size (is_root rank given)
-  scounts_as = subst (λ (k : Kind). length given.scounts ≡ number_in (fields_of k).scounts size (is_root rank given)) is (fits_parts size rank given fit).scounts
+module _ (topology : Option TopologyView) (kind : Kind) (size rank : ℕ) (given : Given) (is : given.kind ≡ kind) (fit : is_fit topology size rank given ≡ true) where
+  pub scounts_as : length given.scounts ≡ number_in (fields_of kind).scounts (seat_of topology size rank given)
+  scounts_as = subst (λ (k : Kind). length given.scounts ≡ number_in (fields_of k).scounts (seat_of topology size rank given)) is (fits_parts topology size rank given fit).scounts
 
-  pub rcounts_as : length given.rcounts ≡ number_in (fields_of kind).rcounts size (is_root rank given)
-  rcounts_as = subst (λ (k : Kind). length given.rcounts ≡ number_in (fields_of k).rcounts size (is_root rank given)) is (fits_parts size rank given fit).rcounts
+  pub rcounts_as : length given.rcounts ≡ number_in (fields_of kind).rcounts (seat_of topology size rank given)
+  rcounts_as = subst (λ (k : Kind). length given.rcounts ≡ number_in (fields_of k).rcounts (seat_of topology size rank given)) is (fits_parts topology size rank given fit).rcounts
 
-  pub filled_as : fill (blocks_sent (fields_of kind).sent size (is_root rank given) given.scounts given.rcounts) given ≡ true
-  filled_as = subst (λ (k : Kind). fill (blocks_sent (fields_of k).sent size (is_root rank given) given.scounts given.rcounts) given ≡ true) is (fits_parts size rank given fit).filled
+  pub filled_as : fill (blocks_sent (fields_of kind).sent (seat_of topology size rank given) given.scounts given.rcounts) given ≡ true
+  filled_as = subst (λ (k : Kind). fill (blocks_sent (fields_of k).sent (seat_of topology size rank given) given.scounts given.rcounts) given ≡ true) is (fits_parts topology size rank given fit).filled

@@ -11,7 +11,7 @@ use Rattle.mpx_post.specs.Agreement.{first_of, post_at, IsFine}
 use Rattle.mpx_post.proofs.Agreement.{same_type}
 
 pub items_there : (row : RowView) (rank : ℕ) → IsFine row → rank < length row → (fields_of (first_of row).kind).items ≡ true → (fields_of (post_at row rank).kind).items ≡ true
-items_there row rank fine l items = ap (λ (kind : Kind). (fields_of kind).items) (fine.each rank l).kind ∙ items
+items_there row rank fine l items = ap (λ (kind : Kind). (fields_of kind).items) (fine.with.each rank l).kind ∙ items
 
 pub items_are : (row : RowView) (rank : ℕ) (items : ItemList) → IsFine row → rank < length row → Some items ≡ (post_at row rank).items → items ≡ record { ty = type_of (first_of row); nums = numbers_of (post_at row rank) }
 items_are row rank items fine l e =

@@ -15,10 +15,12 @@ use Rattle.mpx_kind.specs.declared.kinds.Family.TheVariants as F
 use Rattle.mpx_kind.specs.declared.kinds.Makes.{Makes}
 use Rattle.mpx_kind.specs.declared.kinds.Makes.TheVariants as M
 use Rattle.mpx_kind.specs.declared.kinds.Mode.TheVariants.{Blocking, Nonblocking}
+use Rattle.mpx_kind.specs.declared.kinds.Neighbourhood.{Neighbourhood}
+use Rattle.mpx_kind.specs.declared.kinds.Neighbourhood.TheVariants as H
 use Rattle.mpx_kind.specs.declared.kinds.Reduction.{Reduction}
 use Rattle.mpx_kind.specs.declared.kinds.Reduction.TheVariants as R
 use Rattle.mpx_post.specs.Drafts.{are_edges, are_ranks, edge_count, is_colour, is_rank, making_of, natural, naturals}
-use Rattle.mpx_post.specs.Kinds.{exchange_kind, family_of, kind_of, may_be, mode_of, reduction_kind}
+use Rattle.mpx_post.specs.Kinds.{exchange_kind, family_of, kind_of, may_be, mode_of, reduction_kind, neighbourhood_kind}
 use Rattle.mpx_post.specs.Graphs.{GraphView, most_edges}
 use Rattle.mpx_post.specs.Posts.{IsColour, IsMaking}
 use Rattle.mpx_post.specs.Ranks.{AreRanks}
@@ -61,6 +63,12 @@ reduction_family R.ReduceScatter = refl
 reduction_family R.Scan = refl
 reduction_family R.Exscan = refl
 
+neighbourhood_family : (exchange : Neighbourhood) → family_of (neighbourhood_kind exchange) ≡ F.Neighbourhood exchange
+neighbourhood_family H.Allgather = refl
+neighbourhood_family H.Allgatherv = refl
+neighbourhood_family H.Alltoall = refl
+neighbourhood_family H.Alltoallv = refl
+
 -- a call has a mode of its family
 pub has_mode : (call : Call) → may_be (mode_of call) (family_of (kind_of call)) ≡ true
 has_mode (C.Exchange exchange Blocking) = refl
@@ -68,6 +76,8 @@ has_mode (C.Exchange exchange Nonblocking) = ap (may_be Nonblocking) (exchange_f
 has_mode (C.Reduction reduction Blocking) = refl
 has_mode (C.Reduction reduction Nonblocking) = ap (may_be Nonblocking) (reduction_family reduction)
 has_mode (C.NewCommunicator new) = refl
+has_mode (C.Neighbourhood exchange Blocking) = refl
+has_mode (C.Neighbourhood exchange Nonblocking) = ap (may_be Nonblocking) (neighbourhood_family exchange)
 
 -- MAKINGS
 

@@ -1,4 +1,4 @@
--- When the posts of a row fit together (MPI 4.1, sections 6.2 to 6.12, 7.4 and 8.5).
+-- When the posts of a row fit together (MPI 4.1, sections 6.2 to 6.12, 7.4, 8.5 and 8.6).
 use Rattle.std.specs.Prelude.{◌≡◌, ℕ, ◌*◌, ◌<◌, ◌==◌, ◌&&◌, nat_lt, Bool, true, false, List, length, Option, Some, None, slice_get, slice_index_or, not}
 use Rattle.std.specs.List.{sum, list_all}
 use Rattle.mpx_group.specs.Group.{has_twice}
@@ -8,8 +8,14 @@ use Rattle.mpx_num.specs.ItemList.{ItemList}
 use Rattle.mpx_num.specs.Types.{item_len}
 use Rattle.mpx_num.specs.Operations.{fits}
 use Rattle.mpx_kind.specs.declared.kinds.Kind.{Kind}
-use Rattle.mpx_kind.specs.declared.kinds.Kind.TheVariants.{Barrier, Bcast, Gather, Gatherv, Scatter, Scatterv, Allgather, Allgatherv, Alltoall, Alltoallv, Reduce, Allreduce, ReduceScatterBlock, ReduceScatter, Scan, Exscan, Dup, Split, Create, CreateGroup, DistGraph, DistGraphAdjacent}
+use Rattle.mpx_kind.specs.declared.kinds.Kind.TheVariants.{Barrier, Bcast, Gather, Gatherv, Scatter, Scatterv, Allgather, Allgatherv, Alltoall, Alltoallv, Reduce, Allreduce, ReduceScatterBlock, ReduceScatter, Scan, Exscan, Dup, Split, Create, CreateGroup, DistGraph, DistGraphAdjacent, NeighborAllgather, NeighborAllgatherv, NeighborAlltoall, NeighborAlltoallv}
+use Rattle.mpx_kind.specs.declared.kinds.Neighbourhood.{Neighbourhood}
+use Rattle.mpx_kind.specs.declared.kinds.Neighbourhood.TheVariants as H
+use Rattle.mpx_kind.specs.declared.kinds.Seat.{Seat}
 use Rattle.mpx_post.specs.Kinds.{fields_of, number_in}
+use Rattle.mpx_post.specs.Seats.{lacks_topology, seat_at}
+use Rattle.mpx_post.specs.Topologies.{TopologyView}
+use Rattle.mpx_meet.specs.Places.{Meet}
 use Rattle.mpx_post.specs.Posts.{Given, nothing_given, root_of, type_of, numbers_of, count_of, destinations_of, edges_of, group_of, sources_of, weighted_of}
 use Rattle.mpx_birth.specs.declared.edges.Edge.{Edge}
 use Rattle.mpx_birth.specs.declared.edges.Neighbour.{Neighbour}
@@ -57,9 +63,13 @@ fits_root size given = option_map_or (λ root. nat_lt root size) given.root true
 abbrev pub fits_type : Given → Bool
 fits_type given = option_map_or (λ op. fits op (type_of given)) given.op true
 
+-- what the numbers of its counts depend on, as the post of the member with this rank
+abbrev pub seat_of : Option TopologyView → (size rank : ℕ) → Given → Seat
+seat_of topology size rank given = seat_at topology size rank (is_root rank given)
+
 -- the blocks that the member sends, by their numbers of items, where its kind tells them
-abbrev pub blocks_of : (size rank : ℕ) → Given → Option (List ℕ)
-blocks_of size rank given = blocks_sent (fields_of given.kind).sent size (is_root rank given) given.scounts given.rcounts
+abbrev pub blocks_of : Seat → Given → Option (List ℕ)
+blocks_of seat given = blocks_sent (fields_of given.kind).sent seat given.scounts given.rcounts
 
 -- as many numbers as the blocks have
 abbrev pub fill : Option (List ℕ) → Given → Bool
@@ -76,43 +86,72 @@ fits_edges size given = list_all (λ (e : Edge). nat_lt e.source size && nat_lt 
     && (list_all (λ (n : Neighbour). nat_lt n.rank size) (sources_of given)
     && list_all (λ (n : Neighbour). nat_lt n.rank size) (destinations_of given))
 
--- the post could be the member's with this rank: none of RootOutOfRange, OpNotForType, CountsLength, ItemsLength and, for
--- ranks out of range or twice, BadGroup and BadEdge holds of it
-abbrev pub is_fit : (size rank : ℕ) → Given → Bool
-is_fit size rank given = fits_root size given
+-- as many counts and items as the kind asks for
+abbrev pub fits_counts : Seat → Given → Bool
+fits_counts seat given = (length given.scounts == number_in (fields_of given.kind).scounts seat)
+    && ((length given.rcounts == number_in (fields_of given.kind).rcounts seat)
+    && fill (blocks_of seat given) given)
+
+-- the post could be that of the member with this rank, of so many, in a communicator with this topology: none of
+-- RootOutOfRange, OpNotForType, CountsLength, ItemsLength, NoTopology and, for ranks out of range or twice, BadGroup and
+-- BadEdge holds of it
+abbrev pub is_fit : Option TopologyView → (size rank : ℕ) → Given → Bool
+is_fit topology size rank given = fits_root size given
     && (fits_type given
-    && ((length given.scounts == number_in (fields_of given.kind).scounts size (is_root rank given))
-    && ((length given.rcounts == number_in (fields_of given.kind).rcounts size (is_root rank given))
-    && (fill (blocks_of size rank given) given
+    && (fits_counts (seat_of topology size rank given) given
     && (fits_group size given
-    && fits_edges size given)))))
+    && (fits_edges size given
+    && not (lacks_topology topology given.kind)))))
 
 -- WHAT AGREES
 
+-- how many items are sent on the edge at this place among the sender's destinations
+abbrev pub sent_on : Neighbourhood → Given → (place : ℕ) → ℕ
+sent_on H.Allgather given place = count_of given
+sent_on H.Allgatherv given place = count_of given
+sent_on H.Alltoall given place = count_at given.scounts 0
+sent_on H.Alltoallv given place = count_at given.scounts place
+
+-- how many items are awaited on the edge at this place among the receiver's sources
+abbrev pub awaited_on : Neighbourhood → Given → (place : ℕ) → ℕ
+awaited_on H.Allgather given place = received given
+awaited_on H.Allgatherv given place = count_at given.rcounts place
+awaited_on H.Alltoall given place = received given
+awaited_on H.Alltoallv given place = count_at given.rcounts place
+
+-- on each edge from the member as many items are awaited at its other end as are sent (MPI 4.1 section 8.6)
+abbrev pub AlongEdges : Neighbourhood → Option TopologyView → RowView → ℕ → Given → Type 0
+AlongEdges exchange None row rank given = Unit {0}
+AlongEdges exchange (Some topology) row rank given = (place other theirs : ℕ) → Meet topology rank place other theirs → sent_on exchange given place ≡ awaited_on exchange (post_at row other) theirs
+
 -- the amounts of the member's post are what its kind asks of them
-abbrev pub AmountsAgree : Kind → RowView → ℕ → Given → Type 0
-AmountsAgree Barrier row rank given = Unit {0}
-AmountsAgree Bcast row rank given = received given ≡ received (first_of row)
-AmountsAgree Gather row rank given = count_of given ≡ count_of (root_post row)
-AmountsAgree Gatherv row rank given = count_of given ≡ count_at (root_post row).rcounts rank
-AmountsAgree Scatter row rank given = received given ≡ received (root_post row)
-AmountsAgree Scatterv row rank given = received given ≡ count_at (root_post row).scounts rank
-AmountsAgree Allgather row rank given = count_of given ≡ count_of (first_of row)
-AmountsAgree Allgatherv row rank given = (receiver : ℕ) → receiver < length row → count_of given ≡ count_at (post_at row receiver).rcounts rank
-AmountsAgree Alltoall row rank given = received given ≡ received (first_of row)
-AmountsAgree Alltoallv row rank given = (receiver : ℕ) → receiver < length row → count_at given.scounts receiver ≡ count_at (post_at row receiver).rcounts rank
-AmountsAgree Reduce row rank given = count_of given ≡ count_of (first_of row)
-AmountsAgree Allreduce row rank given = count_of given ≡ count_of (first_of row)
-AmountsAgree ReduceScatterBlock row rank given = received given ≡ received (first_of row)
-AmountsAgree ReduceScatter row rank given = given.rcounts ≡ (first_of row).rcounts
-AmountsAgree Scan row rank given = count_of given ≡ count_of (first_of row)
-AmountsAgree Exscan row rank given = count_of given ≡ count_of (first_of row)
-AmountsAgree Dup row rank given = Unit {0}
-AmountsAgree Split row rank given = Unit {0}
-AmountsAgree Create row rank given = Unit {0}
-AmountsAgree CreateGroup row rank given = Unit {0}
-AmountsAgree DistGraph row rank given = Unit {0}
-AmountsAgree DistGraphAdjacent row rank given = Unit {0}
+abbrev pub AmountsAgree : Option TopologyView → Kind → RowView → ℕ → Given → Type 0
+AmountsAgree topology Barrier row rank given = Unit {0}
+AmountsAgree topology Bcast row rank given = received given ≡ received (first_of row)
+AmountsAgree topology Gather row rank given = count_of given ≡ count_of (root_post row)
+AmountsAgree topology Gatherv row rank given = count_of given ≡ count_at (root_post row).rcounts rank
+AmountsAgree topology Scatter row rank given = received given ≡ received (root_post row)
+AmountsAgree topology Scatterv row rank given = received given ≡ count_at (root_post row).scounts rank
+AmountsAgree topology Allgather row rank given = count_of given ≡ count_of (first_of row)
+AmountsAgree topology Allgatherv row rank given = (receiver : ℕ) → receiver < length row → count_of given ≡ count_at (post_at row receiver).rcounts rank
+AmountsAgree topology Alltoall row rank given = received given ≡ received (first_of row)
+AmountsAgree topology Alltoallv row rank given = (receiver : ℕ) → receiver < length row → count_at given.scounts receiver ≡ count_at (post_at row receiver).rcounts rank
+AmountsAgree topology Reduce row rank given = count_of given ≡ count_of (first_of row)
+AmountsAgree topology Allreduce row rank given = count_of given ≡ count_of (first_of row)
+AmountsAgree topology ReduceScatterBlock row rank given = received given ≡ received (first_of row)
+AmountsAgree topology ReduceScatter row rank given = given.rcounts ≡ (first_of row).rcounts
+AmountsAgree topology Scan row rank given = count_of given ≡ count_of (first_of row)
+AmountsAgree topology Exscan row rank given = count_of given ≡ count_of (first_of row)
+AmountsAgree topology Dup row rank given = Unit {0}
+AmountsAgree topology Split row rank given = Unit {0}
+AmountsAgree topology Create row rank given = Unit {0}
+AmountsAgree topology CreateGroup row rank given = Unit {0}
+AmountsAgree topology DistGraph row rank given = Unit {0}
+AmountsAgree topology DistGraphAdjacent row rank given = Unit {0}
+AmountsAgree topology NeighborAllgather row rank given = AlongEdges H.Allgather topology row rank given
+AmountsAgree topology NeighborAllgatherv row rank given = AlongEdges H.Allgatherv topology row rank given
+AmountsAgree topology NeighborAlltoall row rank given = AlongEdges H.Alltoall topology row rank given
+AmountsAgree topology NeighborAlltoallv row rank given = AlongEdges H.Alltoallv topology row rank given
 
 -- each member of the group that the post gives, if any, gives the same group (MPI 4.1 section 7.4.2)
 abbrev pub GroupsAgree : RowView → Given → Type 0
@@ -123,19 +162,24 @@ GroupsAgree row given = (place member : ℕ) → slice_get (group_of given) plac
 abbrev pub EdgesAgree : RowView → (rank : ℕ) → Given → Type 0
 EdgesAgree row rank given = (other : ℕ) → other < length row → weights_of other (destinations_of given) ≡ weights_of rank (sources_of (post_at row other))
 
--- the post of the member with this rank fits the communicator and agrees with the others
-pub record Agrees (row : RowView) (rank : ℕ) : Type 0 where
-  pub fit : is_fit (length row) rank (post_at row rank) ≡ true
+-- the post of the member with this rank fits a communicator with this topology and agrees with the others
+pub record Agrees (topology : Option TopologyView) (row : RowView) (rank : ℕ) : Type 0 where
+  pub fit : is_fit topology (length row) rank (post_at row rank) ≡ true
   pub kind : (post_at row rank).kind ≡ (first_of row).kind
   pub mode : (post_at row rank).mode ≡ (first_of row).mode
   pub root : (post_at row rank).root ≡ (first_of row).root
   pub op : (post_at row rank).op ≡ (first_of row).op
   pub ty : type_given (post_at row rank) ≡ type_given (first_of row)
-  pub amounts : AmountsAgree (first_of row).kind row rank (post_at row rank)
+  pub amounts : AmountsAgree topology (first_of row).kind row rank (post_at row rank)
   pub weights : weighted_of (post_at row rank) ≡ weighted_of (first_of row)
   pub edges : EdgesAgree row rank (post_at row rank)
   pub groups : GroupsAgree row (post_at row rank)
 
 -- the posts of all members do
+pub record IsFineWith (topology : Option TopologyView) (row : RowView) : Type 0 where
+  pub each : (rank : ℕ) → rank < length row → Agrees topology row rank
+
+-- they do in some communicator. What they give is the same in all of them, but along edges.
 pub record IsFine (row : RowView) : Type 0 where
-  pub each : (rank : ℕ) → rank < length row → Agrees row rank
+  pub topology : Option TopologyView
+  pub with : IsFineWith topology row

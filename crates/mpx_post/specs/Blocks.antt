@@ -1,8 +1,9 @@
 -- Items in blocks.
-use Rattle.std.specs.Prelude.{◌≡◌, ℕ, zero, suc, ◌+◌, ◌*◌, ◌≤◌, Bool, List, [], ◌∷◌, ◌++◌, ℤ, take, drop, Option, Some, None, slice_index_or}
+use Rattle.std.specs.Prelude.{◌≡◌, ℕ, zero, suc, ◌+◌, ◌*◌, ◌≤◌, List, [], ◌∷◌, ◌++◌, ℤ, take, drop, Option, Some, None, slice_index_or}
 use Rattle.mpx_num.specs.declared.types.Ty.{Ty}
 use Rattle.mpx_num.specs.Types.{item_len}
 use Rattle.mpx_post.specs.declared.block.Block.{Block}
+use Rattle.mpx_kind.specs.declared.kinds.Seat.{Seat}
 use Rattle.mpx_kind.specs.declared.kinds.Sent.{Sent}
 use Rattle.mpx_kind.specs.declared.kinds.Sent.TheVariants.{Any, Scounts, Rcounts}
 use Rattle.mpx_post.specs.Kinds.{number_in}
@@ -13,10 +14,10 @@ repeated zero xs = []
 repeated (suc n) xs = xs ++ repeated n xs
 
 -- the numbers of items of the blocks that a member sends, where the kind tells them
-abbrev pub blocks_sent : {A : Type 0} → Sent → (size : ℕ) → (at_root : Bool) → (scounts rcounts : List A) → Option (List A)
-blocks_sent Any size at_root scounts rcounts = None
-blocks_sent (Scounts number) size at_root scounts rcounts = Some (repeated (number_in number size at_root) scounts)
-blocks_sent (Rcounts number) size at_root scounts rcounts = Some (repeated (number_in number size at_root) rcounts)
+abbrev pub blocks_sent : {A : Type 0} → Sent → Seat → (scounts rcounts : List A) → Option (List A)
+blocks_sent Any seat scounts rcounts = None
+blocks_sent (Scounts number) seat scounts rcounts = Some (repeated (number_in number seat) scounts)
+blocks_sent (Rcounts number) seat scounts rcounts = Some (repeated (number_in number seat) rcounts)
 
 -- numbers cut into blocks of so many items each, one after the other
 abbrev pub blocks : Ty → List ℕ → List ℤ → List (List ℤ)

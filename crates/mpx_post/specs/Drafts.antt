@@ -1,4 +1,4 @@
--- Which drafts are refused, and what post another one makes (MPI 4.1, sections 6.2 to 6.12, 7.4 and 8.5).
+-- Which drafts are refused, and what post another one makes (MPI 4.1, sections 6.2 to 6.12, 7.4, 8.5 and 8.6).
 use Rattle.std.specs.Prelude.{◌≡◌, ℕ, ◌+◌, ◌*◌, ◌^◌, ℤ, pos, negsuc, int_le, ◌==◌, ◌&&◌, ◌||◌, Bool, true, false, not, nat_lt, nat_le, List, [], ◌∷◌, ◌++◌, length, map, cond, unwrap_or, Option, Some, None, Result, Ok, Err}
 use Rattle.std.specs.List.{list_all, sum}
 use Rattle.std.specs.Option.{option_map, option_map_or}
@@ -11,8 +11,9 @@ use Rattle.mpx_num.specs.declared.types.Ty.TheVariants.{I32}
 use Rattle.mpx_post.specs.declared.draft.At.{At}
 use Rattle.mpx_post.specs.declared.draft.Draft.{Draft}
 use Rattle.mpx_post.specs.declared.draft.PostError.{PostError}
-use Rattle.mpx_post.specs.declared.draft.PostError.TheVariants.{NotMember, RootOutOfRange, OpNotForType, CountsLength, ItemsLength, ItemOutOfRange, TooManyItems, CallsUsedUp, DepthUsedUp, BadGroup, BadEdge, TooManyEdges, BadTag, OutOfMemory}
+use Rattle.mpx_post.specs.declared.draft.PostError.TheVariants.{NotMember, RootOutOfRange, OpNotForType, CountsLength, ItemsLength, ItemOutOfRange, TooManyItems, NoTopology, CallsUsedUp, DepthUsedUp, BadGroup, BadEdge, TooManyEdges, BadTag, OutOfMemory}
 use Rattle.mpx_kind.specs.declared.kinds.Number.{Number}
+use Rattle.mpx_kind.specs.declared.kinds.Seat.{Seat}
 use Rattle.mpx_kind.specs.declared.kinds.Makes.{Makes}
 use Rattle.mpx_kind.specs.declared.kinds.Makes.TheVariants as M
 use Rattle.mpx_post.specs.declared.making.Making.{Making}
@@ -20,6 +21,7 @@ use Rattle.mpx_post.specs.declared.making.Making.TheVariants.{Nothing, Split, Gr
 use Rattle.mpx_group.specs.Group.{has_twice}
 use Rattle.mpx_name.specs.Name.{Name, is_gathering}
 use Rattle.mpx_post.specs.Births.{BirthView, rank_in}
+use Rattle.mpx_post.specs.Seats.{lacks_topology, seat_at}
 use Rattle.mpx_post.specs.Kinds.{family_of, fields_of, number_in, is_had, kind_of, mode_of, makes_communicators, is_gathered}
 use Rattle.mpx_post.specs.Blocks.{blocks_sent}
 use Rattle.mpx_birth.specs.declared.edges.Edge.{Edge}
@@ -73,6 +75,10 @@ graph_of draft = unwrap_or draft.graph no_graph
 abbrev pub is_drafted_root : ℕ → Draft → Bool
 is_drafted_root rank draft = (fields_of (kind_of draft.call)).root && int_eq draft.root (pos rank)
 
+-- what the numbers of its counts depend on, as the draft of the member with this rank
+abbrev pub drafted_seat : BirthView → (rank : ℕ) → Draft → Seat
+drafted_seat birth rank draft = seat_at birth.topology (length birth.members) rank (is_drafted_root rank draft)
+
 -- REFUSALS
 
 -- whether z is a number of the type
@@ -96,8 +102,8 @@ abbrev pub is_rank : ℕ → ℤ → Bool
 is_rank size z = int_le (pos 0) z && nat_lt (natural z) size
 
 -- there are so many of them as this number is
-abbrev pub are_so_many : List ℤ → Number → (size : ℕ) → (at_root : Bool) → Bool
-are_so_many counts number size at_root = length counts == number_in number size at_root
+abbrev pub are_so_many : List ℤ → Number → Seat → Bool
+are_so_many counts number seat = length counts == number_in number seat
 
 -- another number of items than the blocks have. It isn't asked where a block's count is out of its limit
 abbrev pub misfill : Option (List ℤ) → Ty → List ℤ → Bool
@@ -171,25 +177,36 @@ place_refusals size at draft =
     ∷ []
 
 -- of the root, the operation and the counts, and whether there are more or fewer items than these tell
-abbrev pub asked_first : (size rank : ℕ) → Draft → (misfilled : Bool) → List (Bool × PostError)
-asked_first size rank draft misfilled =
-    ((fields_of (kind_of draft.call)).root && not (is_rank size draft.root), RootOutOfRange)
+abbrev pub asked_first : Seat → Draft → (misfilled : Bool) → List (Bool × PostError)
+asked_first seat draft misfilled =
+    ((fields_of (kind_of draft.call)).root && not (is_rank seat.size draft.root), RootOutOfRange)
     ∷ ((fields_of (kind_of draft.call)).op && not (fits draft.op draft.ty), OpNotForType)
-    ∷ (not (are_so_many (sent_counts draft) (fields_of (kind_of draft.call)).scounts size (is_drafted_root rank draft) && are_so_many (received_counts draft) (fields_of (kind_of draft.call)).rcounts size (is_drafted_root rank draft)), CountsLength)
+    ∷ (not (are_so_many (sent_counts draft) (fields_of (kind_of draft.call)).scounts seat && are_so_many (received_counts draft) (fields_of (kind_of draft.call)).rcounts seat), CountsLength)
     ∷ (misfilled, ItemsLength)
     ∷ []
 
 -- whether there are more or fewer items than the counts tell
-abbrev pub is_misfilled : (size rank : ℕ) → Draft → Bool
-is_misfilled size rank draft = misfill (blocks_sent (fields_of (kind_of draft.call)).sent size (is_drafted_root rank draft) (sent_counts draft) (received_counts draft)) draft.ty (drafted_numbers draft)
+abbrev pub is_misfilled : Seat → Draft → Bool
+is_misfilled seat draft = misfill (blocks_sent (fields_of (kind_of draft.call)).sent seat (sent_counts draft) (received_counts draft)) draft.ty (drafted_numbers draft)
 
--- why the member with this rank, of so many, may not post this as its next call, in the order in which it is told
-abbrev pub refusals : (size rank : ℕ) → At → Draft → List (Bool × PostError)
-refusals size rank at draft =
-    asked_first size rank draft (not (is_whole draft.ty (drafted_numbers draft)) || is_misfilled size rank draft)
-    ++ (not (list_all (is_of draft.ty) (drafted_numbers draft)), ItemOutOfRange)
+-- of the numbers, how many items they are, and the counts
+abbrev pub number_refusals : Draft → List (Bool × PostError)
+number_refusals draft =
+    (not (list_all (is_of draft.ty) (drafted_numbers draft)), ItemOutOfRange)
     ∷ (nat_lt (most_items * item_len draft.ty) (length (drafted_numbers draft)) || not (list_all is_count (sent_counts draft) && list_all is_count (received_counts draft)), TooManyItems)
-    ∷ place_refusals size at draft
+    ∷ []
+
+-- why a member may not post this as its next call, in the order in which it is told
+abbrev pub refusals : Seat → At → Draft → List (Bool × PostError)
+refusals seat at draft =
+    asked_first seat draft (not (is_whole draft.ty (drafted_numbers draft)) || is_misfilled seat draft)
+    ++ number_refusals draft
+    ++ place_refusals seat.size at draft
+
+-- why none may be posted along edges where there is no topology: how many counts there are and how many items they tell is
+-- not asked
+abbrev pub stray_refusals : Draft → List (Bool × PostError)
+stray_refusals draft = number_refusals draft ++ (true, NoTopology) ∷ []
 
 -- the value, where the kind has it
 abbrev pub where_had : {A : Type 0} → Bool → A → Option A
@@ -232,13 +249,20 @@ abbrev pub unless : {A E : Type 0} → Option E → A → Result A E
 unless None a = Ok a
 unless (Some e) a = Err e
 
-abbrev pub checked_at : Option ℕ → (size : ℕ) → At → Draft → Result Given PostError
-checked_at None size at draft = Err NotMember
-checked_at (Some rank) size at draft = unless (first_that_holds (refusals size rank at draft)) (given_by draft)
+-- what the draft of a member comes to
+abbrev pub checked_in : Seat → At → Draft → Result Given PostError
+checked_in seat at draft = unless (first_that_holds (refusals seat at draft)) (given_by draft)
+
+abbrev pub checked_at : Option ℕ → BirthView → At → Draft → Result Given PostError
+checked_at None birth at draft = Err NotMember
+checked_at (Some rank) birth at draft =
+    cond (lacks_topology birth.topology (kind_of draft.call))
+    (unless (first_that_holds (stray_refusals draft)) (given_by draft))
+    (checked_in (drafted_seat birth rank draft) at draft)
 
 -- what a draft comes to: its first refusal, or its post
 unfoldable pub checked : BirthView → ℕ → At → Draft → Result Given PostError
-checked birth me at draft = checked_at (rank_in me birth.members) (length birth.members) at draft
+checked birth me at draft = checked_at (rank_in me birth.members) birth at draft
 
 -- the refusal of a draft, or its post, or want of memory in the place of the post
 abbrev pub Checks : Result Given PostError → Result Given PostError → Type 0

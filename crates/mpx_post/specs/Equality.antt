@@ -15,7 +15,7 @@ use Rattle.mpx_num.specs.declared.operations.Op.{Op}
 use Rattle.mpx_num.specs.declared.operations.Op.TheVariants.{Max, Min, Sum, Prod, Land, Lor, Lxor, Band, Bor, Bxor, Maxloc, Minloc}
 use Rattle.mpx_num.specs.ItemList.{ItemList}
 use Rattle.mpx_kind.specs.declared.kinds.Kind.{Kind}
-use Rattle.mpx_kind.specs.declared.kinds.Kind.TheVariants.{Barrier, Bcast, Gather, Gatherv, Scatter, Scatterv, Allgather, Allgatherv, Alltoall, Alltoallv, Reduce, Allreduce, ReduceScatterBlock, ReduceScatter, Scan, Exscan, Dup, Split, Create, CreateGroup, DistGraph, DistGraphAdjacent}
+use Rattle.mpx_kind.specs.declared.kinds.Kind.TheVariants.{Barrier, Bcast, Gather, Gatherv, Scatter, Scatterv, Allgather, Allgatherv, Alltoall, Alltoallv, Reduce, Allreduce, ReduceScatterBlock, ReduceScatter, Scan, Exscan, Dup, Split, Create, CreateGroup, DistGraph, DistGraphAdjacent, NeighborAllgather, NeighborAllgatherv, NeighborAlltoall, NeighborAlltoallv}
 use Rattle.mpx_kind.specs.declared.kinds.Mode.{Mode}
 use Rattle.mpx_kind.specs.declared.kinds.Mode.TheVariants.{Blocking, Nonblocking}
 use Rattle.mpx_post.specs.declared.making.Making.{Making}
@@ -52,6 +52,10 @@ place_of_kind Create = 18
 place_of_kind CreateGroup = 19
 place_of_kind DistGraph = 20
 place_of_kind DistGraphAdjacent = 21
+place_of_kind NeighborAllgather = 22
+place_of_kind NeighborAllgatherv = 23
+place_of_kind NeighborAlltoall = 24
+place_of_kind NeighborAlltoallv = 25
 
 abbrev place_of_type : Ty → ℕ
 place_of_type I8 = 0
@@ -157,7 +161,7 @@ decided_by_place place at_place back a b =
     (λ t. sym (back a) ∙ ap at_place (places.0 t) ∙ back b, λ e. places.1 (ap place e))
 
 kind_at : ℕ → Kind
-kind_at n = cond (n == 0) Barrier (cond (n == 1) Bcast (cond (n == 2) Gather (cond (n == 3) Gatherv (cond (n == 4) Scatter (cond (n == 5) Scatterv (cond (n == 6) Allgather (cond (n == 7) Allgatherv (cond (n == 8) Alltoall (cond (n == 9) Alltoallv (cond (n == 10) Reduce (cond (n == 11) Allreduce (cond (n == 12) ReduceScatterBlock (cond (n == 13) ReduceScatter (cond (n == 14) Scan (cond (n == 15) Exscan (cond (n == 16) Dup (cond (n == 17) Split (cond (n == 18) Create (cond (n == 19) CreateGroup (cond (n == 20) DistGraph DistGraphAdjacent))))))))))))))))))))
+kind_at n = cond (n == 0) Barrier (cond (n == 1) Bcast (cond (n == 2) Gather (cond (n == 3) Gatherv (cond (n == 4) Scatter (cond (n == 5) Scatterv (cond (n == 6) Allgather (cond (n == 7) Allgatherv (cond (n == 8) Alltoall (cond (n == 9) Alltoallv (cond (n == 10) Reduce (cond (n == 11) Allreduce (cond (n == 12) ReduceScatterBlock (cond (n == 13) ReduceScatter (cond (n == 14) Scan (cond (n == 15) Exscan (cond (n == 16) Dup (cond (n == 17) Split (cond (n == 18) Create (cond (n == 19) CreateGroup (cond (n == 20) DistGraph (cond (n == 21) DistGraphAdjacent (cond (n == 22) NeighborAllgather (cond (n == 23) NeighborAllgatherv (cond (n == 24) NeighborAlltoall NeighborAlltoallv))))))))))))))))))))))))
 
 kind_at-place : (kind : Kind) → kind_at (place_of_kind kind) ≡ kind
 unfolding kind_at
@@ -183,6 +187,10 @@ kind_at-place Create = refl
 kind_at-place CreateGroup = refl
 kind_at-place DistGraph = refl
 kind_at-place DistGraphAdjacent = refl
+kind_at-place NeighborAllgather = refl
+kind_at-place NeighborAllgatherv = refl
+kind_at-place NeighborAlltoall = refl
+kind_at-place NeighborAlltoallv = refl
 
 type_at : ℕ → Ty
 type_at n = cond (n == 0) I8 (cond (n == 1) I16 (cond (n == 2) I32 (cond (n == 3) I64 (cond (n == 4) U8 (cond (n == 5) U16 (cond (n == 6) U32 (cond (n == 7) U64 TwoInt)))))))

@@ -103,9 +103,9 @@ pub(crate) fn are_counts(numbers: &[i128]) -> bool
 // The sum of numbers, which are counts.
 pub(crate) fn total(numbers: &[i128]) -> usize
     requires counts { list_all is_count numbers.now ≡ true }
-    requires few { length numbers.now ≤ 64 }
+    requires few { length numbers.now ≤ most_counts }
     ensures value { result ≡ sum (naturals numbers.now) }
-    ensures small { result ≤ 64 * most_items }
+    ensures small { result ≤ most_counts * most_items }
 {
     let mut total: usize = 0;
     for &number in numbers {

@@ -1,9 +1,11 @@
 ghost use Rattle.std.specs.Prelude.{◌≡◌, ◌≤◌, ◌&&◌, ◌||◌, nat_le, Some, not, length, IfOk};
 ghost use Rattle.mpx_num.specs.Operations.{fits};
 ghost use Rattle.mpx_post.specs.Kinds.{family_of, fields_of, is_gathered, kind_of, makes_communicators};
+ghost use Rattle.mpx_post.specs.Seats.{lacks_topology};
+ghost use Rattle.mpx_post.specs.Topologies.{most_neighbours};
 ghost use Rattle.mpx_post.specs.Blocks.{blocks_sent};
 ghost use Rattle.mpx_post.specs.Drafts.{misfill};
-ghost use Rattle.mpx_post.specs.Drafts.{Checks, asked_first, at, are_edges, are_ranks, edge_count, graph_of, has_colour_and_key, is_misfilled, is_misplaced, most_steps, ranks_in, checked, checked_at, is_rank as is_rank_of, is_drafted_root, are_so_many, sent_counts, received_counts, drafted_numbers, first_that_holds, place_refusals};
+ghost use Rattle.mpx_post.specs.Drafts.{Checks, asked_first, at, are_edges, are_ranks, edge_count, graph_of, has_colour_and_key, is_misfilled, is_misplaced, most_steps, ranks_in, checked, checked_in, is_rank as is_rank_of, is_drafted_root, are_so_many, drafted_seat, sent_counts, received_counts, drafted_numbers, first_that_holds, place_refusals, stray_refusals};
 ghost use Rattle.mpx_post.specs.Graphs.{most_edges};
 
 use crate::counts::are_counts;
@@ -12,12 +14,12 @@ use crate::graph_fields::{are_edges, edge_count};
 use crate::making_fields::{are_ranks, given_making, is_colour, is_key};
 use crate::post::Post;
 use crate::post_fields::{
-    given_counts, given_items, given_op, given_root, is_misfill, is_rank, where_had,
+    are_all_of, given_counts, given_items, given_op, given_root, is_misfill, is_rank, where_had,
 };
 use join_core::OutOfMemory;
 use mpx_birth::Birth;
 use mpx_group::Proc;
-use mpx_kind::{Call, Makes, Sent};
+use mpx_kind::{Call, Makes, Seat, Sent};
 use mpx_name::Name;
 use mpx_num::{Numbers, Op, Ty, op_fits};
 use std::alloc::Global;
@@ -97,6 +99,9 @@ pub enum PostError {
     /// There are over 4,096 items, or a count is outside 0 to 4,096.
     #[error("TooManyItems")]
     TooManyItems,
+    /// The communicator has no topology, along whose edges the kind's calls go.
+    #[error("NoTopology")]
+    NoTopology,
     /// 4,294,967,295 calls are made.
     #[error("CallsUsedUp")]
     CallsUsedUp,
@@ -131,7 +136,13 @@ impl Draft {
     {
         match birth.rank_of(me) {
             None => Err(PostError::NotMember),
-            Some(rank) => self.check_at(alloc, birth.members().len(), rank, at),
+            Some(rank) => {
+                if self.lacks_topology(birth) {
+                    return Err(self.stray_refusal());
+                }
+                let seat = self.seat(birth, rank);
+                self.check_in(alloc, &seat, at)
+            }
         }
     }
 
@@ -154,14 +165,55 @@ impl Draft {
         })
     }
 
-    // The post of this draft, or why the member with this rank, of so many, may not post it.
-    fn check_at(self, alloc: Global, size: usize, rank: u8, at: &At) -> Result<Post, PostError>
-        requires { size ≤ 64 }
-        ensures { Checks (checked_at (Some rank) size at.now self) result }
+    // Whether its calls go along edges, and the communicator has none.
+    fn lacks_topology(&self, birth: &Birth) -> bool
+        ensures { result ≡ lacks_topology birth.now.topology (kind_of self.now.call) }
     {
-        if let Some(refusal) = self.shape_refusal(size, rank) {
+        self.call.kind().needs_topology() & birth.topology().is_none()
+    }
+
+    // Why it is refused where it lacks a topology.
+    fn stray_refusal(&self) -> PostError
+        ensures { first_that_holds (stray_refusals self.now) ≡ Some result }
+    {
+        let fields = self.call.kind().fields();
+        let numbers = where_had(fields.items, &self.items);
+        if !are_all_of(self.ty, numbers) {
+            return PostError::ItemOutOfRange;
+        }
+        let many = 4096 * self.ty.item_len() < numbers.len();
+        if many || !(are_counts(self.sent_counts()) & are_counts(self.received_counts())) {
+            return PostError::TooManyItems;
+        }
+        PostError::NoTopology
+    }
+
+    // What the numbers of its counts depend on, as the draft of the member with this rank.
+    fn seat(&self, birth: &Birth, rank: u8) -> Seat
+        ensures value { result ≡ drafted_seat birth.now rank self.now }
+        ensures size { result.size ≤ 64 }
+        ensures sources { result.indegree ≤ most_neighbours }
+        ensures destinations { result.outdegree ≤ most_neighbours }
+    {
+        Seat {
+            size: birth.members().len(),
+            at_root: self.is_root(rank),
+            indegree: birth.indegree(rank),
+            outdegree: birth.outdegree(rank),
+        }
+    }
+
+    // The post of this draft, or why the member may not post it.
+    fn check_in(self, alloc: Global, seat: &Seat, at: &At) -> Result<Post, PostError>
+        requires size { seat.now.size ≤ 64 }
+        requires sources { seat.now.indegree ≤ most_neighbours }
+        requires destinations { seat.now.outdegree ≤ most_neighbours }
+        ensures { Checks (checked_in seat.now at.now self) result }
+    {
+        if let Some(refusal) = self.shape_refusal(seat) {
             return Err(refusal);
         }
+        let size = seat.size;
         let place_refusal = self.place_refusal(size, at);
         let fields = self.call.kind().fields();
         let (kind, mode) = (self.call.kind(), self.call.mode());
@@ -199,21 +251,22 @@ impl Draft {
     }
 
     // Why its root, its operation or its counts refuse it.
-    fn shape_refusal(&self, size: usize, rank: u8) -> Option<PostError>
-        requires { size ≤ 64 }
-        ensures { result ≡ first_that_holds (asked_first size rank self.now (is_misfilled size rank self.now)) }
+    fn shape_refusal(&self, seat: &Seat) -> Option<PostError>
+        requires size { seat.now.size ≤ 64 }
+        requires sources { seat.now.indegree ≤ most_neighbours }
+        requires destinations { seat.now.outdegree ≤ most_neighbours }
+        ensures { result ≡ first_that_holds (asked_first seat.now self.now (is_misfilled seat.now self.now)) }
     {
-        if self.has_wrong_root(size) {
+        if self.has_wrong_root(seat.size) {
             return Some(PostError::RootOutOfRange);
         }
         if self.has_wrong_op() {
             return Some(PostError::OpNotForType);
         }
-        let at_root = self.is_root(rank);
-        if self.has_wrong_lengths(size, at_root) {
+        if self.has_wrong_lengths(seat) {
             return Some(PostError::CountsLength);
         }
-        if self.is_misfilled(size, at_root) {
+        if self.is_misfilled(seat) {
             return Some(PostError::ItemsLength);
         }
         None
@@ -264,41 +317,33 @@ impl Draft {
         self.call.kind().fields().root & (self.root == i128::from(rank))
     }
 
-    fn has_wrong_lengths(&self, size: usize, at_root: bool) -> bool
-        ensures { result ≡ not (are_so_many (sent_counts self.now) (fields_of (kind_of self.now.call)).scounts size at_root && are_so_many (received_counts self.now) (fields_of (kind_of self.now.call)).rcounts size at_root) }
+    fn has_wrong_lengths(&self, seat: &Seat) -> bool
+        ensures { result ≡ not (are_so_many (sent_counts self.now) (fields_of (kind_of self.now.call)).scounts seat.now && are_so_many (received_counts self.now) (fields_of (kind_of self.now.call)).rcounts seat.now) }
     {
         let fields = self.call.kind().fields();
-        let sent = self.sent_counts().len() == fields.scounts.of(size, at_root);
-        let received = self.received_counts().len() == fields.rcounts.of(size, at_root);
+        let sent = self.sent_counts().len() == fields.scounts.of(seat);
+        let received = self.received_counts().len() == fields.rcounts.of(seat);
         !(sent & received)
     }
 
     // Whether there are more or fewer items than its counts tell.
-    fn is_misfilled(&self, size: usize, at_root: bool) -> bool
-        requires size { size ≤ 64 }
-        requires sent { length (sent_counts self.now) ≤ 64 }
-        requires received { length (received_counts self.now) ≤ 64 }
-        ensures { result ≡ misfill (blocks_sent (fields_of (kind_of self.now.call)).sent size at_root (sent_counts self.now) (received_counts self.now)) self.now.ty (drafted_numbers self.now) }
+    fn is_misfilled(&self, seat: &Seat) -> bool
+        requires size { seat.now.size ≤ 64 }
+        requires sources { seat.now.indegree ≤ most_neighbours }
+        requires destinations { seat.now.outdegree ≤ most_neighbours }
+        requires sent { length (sent_counts self.now) ≤ most_neighbours }
+        requires received { length (received_counts self.now) ≤ most_neighbours }
+        ensures { result ≡ is_misfilled seat.now self.now }
     {
         let fields = self.call.kind().fields();
         let numbers = where_had(fields.items, &self.items).len();
         match fields.sent {
             Sent::Any => false,
             Sent::Scounts(number) => {
-                is_misfill(
-                    self.sent_counts(),
-                    number.of(size, at_root),
-                    self.ty,
-                    numbers,
-                )
+                is_misfill(self.sent_counts(), number.of(seat), self.ty, numbers)
             }
             Sent::Rcounts(number) => {
-                is_misfill(
-                    self.received_counts(),
-                    number.of(size, at_root),
-                    self.ty,
-                    numbers,
-                )
+                is_misfill(self.received_counts(), number.of(seat), self.ty, numbers)
             }
         }
     }

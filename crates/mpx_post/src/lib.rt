@@ -33,7 +33,8 @@ pub use graph_parts::{Edges, OwnNeighbours};
 pub use making::Making;
 pub use mpx_birth::{Birth, Edge, Neighbour, Neighbours, Topology};
 pub use mpx_kind::{
-    Call, Exchange, Family, Fields, Kind, Makes, Mode, NewCommunicator, Number, Reduction, Sent,
+    Call, Exchange, Family, Fields, Kind, Makes, Mode, Neighbourhood, NewCommunicator, Number,
+    Reduction, Seat, Sent,
 };
 pub use post::Post;
 pub use ranks::Ranks;

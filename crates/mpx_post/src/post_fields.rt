@@ -5,13 +5,14 @@ ghost use Rattle.mpx_num.specs.Types.{item_len};
 ghost use Rattle.mpx_num.specs.ItemList.{is_whole};
 ghost use Rattle.mpx_post.specs.Blocks.{repeated};
 ghost use Rattle.mpx_post.specs.Posts.{most_items};
+ghost use Rattle.mpx_post.specs.Topologies.{most_neighbours};
 ghost use Rattle.mpx_post.specs.Drafts.{first_that_holds, is_count, is_of, is_rank as is_rank_of, natural, naturals, unless, where_had as where_had_of};
 ghost use Rattle.mpx_post.specs.declared.draft.PostError.TheVariants.{ItemsLength, ItemOutOfRange, TooManyItems};
 
 use crate::counts::{Counts, are_counts, total};
 use crate::draft::PostError;
 use join_core::OutOfMemory;
-use mpx_num::{Items, ItemsError, Numbers, Op, Ty};
+use mpx_num::{Items, ItemsError, Numbers, Op, Ty, is_in_range};
 use std::alloc::Global;
 
 // The numbers of a list that the kind has, and none of one that it hasn't.
@@ -25,6 +26,13 @@ pub(crate) fn is_rank(size: usize, root: i128) -> bool
     ensures { result ≡ is_rank_of size root }
 {
     0 <= root && root < size as i128
+}
+
+// Whether all are numbers of the type.
+pub(crate) fn are_all_of(ty: Ty, numbers: &[i128]) -> bool
+    ensures { result ≡ list_all (is_of ty) numbers.now }
+{
+    numbers.iter().all(|&number| is_in_range(ty, number))
 }
 
 // The place in a list of so many that a rank of them has.
@@ -43,8 +51,8 @@ pub(crate) fn place_of(size: usize, rank: i128) -> Option<usize>
 // Whether blocks of so many items each, all of them so many times over, have another number of numbers. It isn't so where
 // a block's count is out of its limit.
 pub(crate) fn is_misfill(counts: &[i128], times: usize, ty: Ty, numbers: usize) -> bool
-    requires few { length counts.now ≤ 64 }
-    requires times { times ≤ 64 }
+    requires few { length counts.now ≤ most_neighbours }
+    requires times { times ≤ most_neighbours }
     ensures { result ≡ (list_all is_count (repeated times counts.now) && not (sum (naturals (repeated times counts.now)) * item_len ty == numbers)) }
 {
     if times == 0 {
@@ -100,8 +108,8 @@ pub(crate) fn given_counts(
 ) -> Result<(Counts, Counts), OutOfMemory>
     requires sent { list_all is_count sent.now ≡ true }
     requires received { list_all is_count received.now ≡ true }
-    requires few_sent { length sent.now ≤ 64 }
-    requires few_received { length received.now ≤ 64 }
+    requires few_sent { length sent.now ≤ most_neighbours }
+    requires few_received { length received.now ≤ most_neighbours }
     ensures { IfOk result (λ given. (given.0 ≡ naturals sent.now) × (given.1 ≡ naturals received.now)) }
 {
     let scounts = Counts::new(alloc, sent)?;

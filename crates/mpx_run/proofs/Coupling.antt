@@ -3,9 +3,8 @@ use Rattle.std.proofs.Common.{◌≡◌, ℕ, ℤ, ◌<◌, ◌≤◌, Bool, tru
 use Rattle.std.specs.Prelude.{slice_get, nat_lt, is_some, IsTrue, Result, Ok, Err, option_and_then, if◌then◌else◌}
 use Rattle.std.specs.Option.{option_map}
 use Rattle.std.specs.Str.{bytes_eq}
-use Rattle.std.proofs.lemmas.Option.{same_Some}
 use Rattle.std.proofs.lemmas.Bool.Decides.{nat_tests}
-use Rattle.mpx_name.specs.Name.{Name, same_name}
+use Rattle.mpx_name.specs.Name.{Name}
 use Rattle.mpx_post.specs.Posts.{Given}
 use Rattle.mpx_post.specs.Births.{BirthView, of_members}
 use Rattle.mpx_post.specs.Drafts.{at, checked}
@@ -16,11 +15,11 @@ use Rattle.mpx_post.specs.declared.draft.PostError.TheVariants.{NotMember}
 use Rattle.mpx_board.specs.Boards.{told}
 use Rattle.mpx_value.specs.declared.outcomes.Outcome.{Outcome}
 use Rattle.mpx_value.specs.declared.outcomes.Outcome.TheVariants.{Nothing, Absent, Items, NewComm, Null, Fault}
-use Rattle.mpx_value.specs.Histories.{Answer, Made, answer_with, gathered, birth_of, posts_on, outcome_of, outcomes_by, Results, Within, results_of, value_for}
+use Rattle.mpx_value.specs.Histories.{Answer, Made, answer_with, gathered, birth_of, posts_on, outcomes_by, Results, Within, results_of, value_for}
 use Rattle.mpx_node.specs.declared.finished.Finished.{Finished}
-use Rattle.mpx_node.specs.Nodes.{NodeView, OpenedView, opened_at_start, posted_by, posted_on, post_at, results_on, checked_by, checked_on, gathering_name, gathers_by, gathers_on, open_gathering_node}
+use Rattle.mpx_node.specs.Nodes.{NodeView, OpenedView, opened_at_start, posted_by, posted_on, results_on, checked_by, checked_on, gathering_name, gathers_by, gathers_on, open_gathering_node}
 use Rattle.mpx_world.specs.Worlds.{ProcessView, WorldView, history, births, at_process, gathers, makes, opens_gathering, posts, Happening, Posts, Gathers, IsNoPost, happens, MayHappen}
-use Rattle.mpx_world.specs.Worlds.{goes_on as goes_on_world, start as start_world}
+use Rattle.mpx_world.specs.Worlds.{goes_on as goes_on_world}
 use Rattle.mpx_world.specs.Soundness.{IsValue}
 use Rattle.mpx_world.proofs.Lists.{same_number, name_itself}
 use Rattle.mpx_world.proofs.Later.{Later, births_grow, later_happens, later_itself, later_then, made_happens}
@@ -28,21 +27,25 @@ use Rattle.mpx_world.proofs.Truth.{told_agrees}
 use Rattle.mpx_world.proofs.Steps.{Holds, board_so, holds_happens, holds_start, at_here}
 use Rattle.mpx_world.proofs.Born.{gathered_there}
 use Rattle.mpx_world.proofs.Opened.{AllIn, gathering_opened, in_happens, in_start}
+use Rattle.mpx_script.specs.declared.statement.Posting.{Posting}
+use Rattle.mpx_script.specs.declared.statement.Side.{Side}
 use Rattle.mpx_script.specs.declared.statement.Statement.{Statement}
-use Rattle.mpx_script.specs.Statements.{Gathers as Asked, draft_of, gathers_of, target_of, word_of}
+use Rattle.mpx_script.specs.declared.statement.Statement.TheVariants.{Post, Ask}
+use Rattle.mpx_script.specs.Statements.{Gathers as Asked, bound_to, draft_of, gathers_of, posted_on as word_of}
 use Rattle.mpx_script.specs.Grammar.{named}
-use Rattle.mpx_script.specs.Ranks.{Bindings, Bound, Communicator, NullCommunicator, Todo, Do, Await, Local, attempt, attempt_in, attempt_on, bind, bound_by, made_on, next_call, done, post_gathered, post_on, step}
+use Rattle.mpx_script.specs.Ranks.{Bound, Communicator, NullCommunicator, Todo, Do, Await, Local, answer_on, attempt, attempt_in, attempt_on, bind, bound_by, made_on, next_call, done, post_gathered, post_on, step}
+use Rattle.mpx_script.specs.Ranks.{answered as answered_rank}
 use Rattle.mpx_script.specs.Evaluation.{State, start, bound_at_start, world_of, statements_of, known, or_stay, goes_on, move, moves, IsReached}
 use Rattle.mpx_script.specs.Evaluation.{history as history_of_ranks}
 use Rattle.mpx_script.specs.Told.{CarriesOut, none}
 use Rattle.mpx_script.proofs.Fronts.{append-nil}
-use Rattle.mpx_script.proofs.Steps.{heard, posted, turned_down, step_ends, step_hears, step_waits, step_posts, step_refused}
+use Rattle.mpx_script.proofs.Steps.{heard, posted, told_near, turned_down, step_asks, step_ends, step_hears, step_waits, step_posts, step_refused}
 use Rattle.mpx_script.proofs.Ways.{step-grows}
 use Rattle.mpx_script.proofs.Ahead.{goes_on_cases}
 use Rattle.mpx_script.proofs.Ends.{goes_on-at}
 use Rattle.mpx_script.proofs.Tells.{carries_out-grows, step-carries_out, carried_out-tell, each-me, each-bound, given_by, mapped_some, named-bound}
 use Rattle.mpx_run.specs.Systems.{System, node_births, node_tells, posts_bound, posts_gathered, posts_in, posts_of, Doing, Nets, Drives, does, does_all, MayDo, MayDoAll, start_system, TellsResults}
-use Rattle.mpx_run.specs.Running.{Tried, name_of, tried, tried_gathered, tried_in, tried_post}
+use Rattle.mpx_run.specs.Running.{Tried, communicator_in, name_of, names_in, neighbours_in, neighbours_on, tried, tried_gathered, tried_in, tried_post}
 
 -- WORLDS
 
@@ -250,12 +253,23 @@ module _ (w : WorldView) (u : Upheld w) (p : ℕ) (name : Name) where
       let x = gathering birth p (length name) asked.tag asked.ranks in
       subst (λ y. Driven w p (posts_gathered p draft name asked x) (post_gathered p (w.each p).made draft name x) (tried_gathered name draft y (w.each p).node)) (sym (gathers_so w u p name birth t b asked.tag asked.ranks)) (driven_gathers birth t b draft asked x refl)
 
+-- a word's communicator is opened, and came to be as its binding says
+abbrev pub IsBoundSo : WorldView → (p : ℕ) → Option Bound → Type 0
+IsBoundSo w p bound = (name : Name) (birth : BirthView) → bound ≡ Some (Communicator name birth) → IsTrue (is_some ((w.each p).node.opened name)) × (births w name ≡ Some birth)
+
 -- a statement on what its word is bound to
-driven_bound : (w : WorldView) → Upheld w → (p : ℕ) (statement : Statement) (bound : Option Bound) → ((name : Name) (birth : BirthView) → bound ≡ Some (Communicator name birth) → IsTrue (is_some ((w.each p).node.opened name)) × (births w name ≡ Some birth))
-    → Driven w p (posts_bound p statement bound) (attempt_on p (w.each p).made statement bound) (tried statement (option_map name_of bound) (w.each p).node)
-driven_bound w u p statement None h = driven_nothing w u p NotMember
-driven_bound w u p statement (Some NullCommunicator) h = driven_nothing w u p NotMember
-driven_bound w u p statement (Some (Communicator name birth)) h = let x = h name birth refl in driven_in w u p name birth x.0 x.1 (draft_of statement) (gathers_of statement)
+driven_bound : (w : WorldView) → Upheld w → (p : ℕ) (posting : Posting) (bound : Option Bound) → IsBoundSo w p bound
+    → Driven w p (posts_bound p posting bound) (attempt_on p (w.each p).made posting bound) (tried posting (option_map name_of bound) (w.each p).node)
+driven_bound w u p posting None h = driven_nothing w u p NotMember
+driven_bound w u p posting (Some NullCommunicator) h = driven_nothing w u p NotMember
+driven_bound w u p posting (Some (Communicator name birth)) h = let x = h name birth refl in driven_in w u p name birth x.0 x.1 (draft_of posting) (gathers_of posting)
+
+-- the neighbours that a node knows of are those of what the word is bound to
+neighbours_bound : (w : WorldView) → Upheld w → (p me : ℕ) (side : Side) (bound : Option Bound) → IsBoundSo w p bound
+    → neighbours_on me side (communicator_in (option_map name_of bound)) (w.each p).node ≡ answer_on me side bound
+neighbours_bound w u p me side None h = refl
+neighbours_bound w u p me side (Some NullCommunicator) h = refl
+neighbours_bound w u p me side (Some (Communicator name birth)) h = let x = h name birth refl in ap (neighbours_in me side) (birth_told w u p name birth x.0 x.1)
 
 -- A WORLD AND ITS RANKS
 
@@ -284,23 +298,27 @@ module _ (script : List (List Statement)) (ranks : ℕ) (s : System) (c : Couple
       ∙ value_known s.world p name k found.0 value ∙ ap Some found.2
 
   -- what a rank's word is bound to is opened, and came to be as the bindings say
-  pub bound_so : (p : ℕ) → p < ranks → (statement : Statement) (name : Name) (birth : BirthView) → named (s.ranks p).bound (word_of statement) ≡ Some (Communicator name birth)
-      → IsTrue (is_some ((s.world.each p).node.opened name)) × (births s.world name ≡ Some birth)
-  bound_so p l statement name birth e = (
-    c.opened p l (word_of statement) name birth e,
-    (λ i. birth_of (one_history i) (c.size i) name) ∙ (each-bound script ranks s.ranks c.reached p l (word_of statement) name birth e).born,
+  pub bound_so : (p : ℕ) → p < ranks → (word : List ℕ) → IsBoundSo s.world p (named (s.ranks p).bound word)
+  bound_so p l word name birth e = (
+    c.opened p l word name birth e,
+    (λ i. birth_of (one_history i) (c.size i) name) ∙ (each-bound script ranks s.ranks c.reached p l word name birth e).born,
   )
 
   -- what a rank's next statement comes to, by the posts of its process
-  abbrev pub attempt_at : ℕ → Statement → Result Made PostError
-  attempt_at p statement = attempt_on p (s.world.each p).made statement (named (s.ranks p).bound (word_of statement))
+  abbrev pub attempt_at : ℕ → Posting → Result Made PostError
+  attempt_at p posting = attempt_on p (s.world.each p).made posting (named (s.ranks p).bound (word_of posting))
 
-  pub attempts_same : (p : ℕ) (statement : Statement) → attempt (s.ranks p).me (s.ranks p).bound (s.ranks p).made statement ≡ attempt_at p statement
-  attempts_same p statement = λ i. attempt_on (each-me script ranks s.ranks c.reached p i) (sym (c.made p) i) statement (named (s.ranks p).bound (word_of statement))
+  pub attempts_same : (p : ℕ) (posting : Posting) → attempt (s.ranks p).me (s.ranks p).bound (s.ranks p).made posting ≡ attempt_at p posting
+  attempts_same p posting = λ i. attempt_on (each-me script ranks s.ranks c.reached p i) (sym (c.made p) i) posting (named (s.ranks p).bound (word_of posting))
 
-  pub driven : (p : ℕ) → p < ranks → (statement : Statement)
-      → Driven s.world p (posts_bound p statement (named (s.ranks p).bound (word_of statement))) (attempt_at p statement) (tried statement (option_map name_of (named (s.ranks p).bound (word_of statement))) (s.world.each p).node)
-  driven p l statement = driven_bound s.world c.upheld p statement (named (s.ranks p).bound (word_of statement)) (bound_so p l statement)
+  pub driven : (p : ℕ) → p < ranks → (posting : Posting)
+      → Driven s.world p (posts_bound p posting (named (s.ranks p).bound (word_of posting))) (attempt_at p posting) (tried posting (option_map name_of (named (s.ranks p).bound (word_of posting))) (s.world.each p).node)
+  driven p l posting = driven_bound s.world c.upheld p posting (named (s.ranks p).bound (word_of posting)) (bound_so p l (word_of posting))
+
+  -- a rank that asks for neighbours is answered by what its node knows
+  pub neighbours_same : (p : ℕ) → p < ranks → (on : List ℕ) (side : Side)
+      → neighbours_on (s.ranks p).me side (communicator_in (names_in (s.ranks p).bound on)) (s.world.each p).node ≡ answered_rank (s.ranks p).me (s.ranks p).bound on side
+  neighbours_same p l on side = neighbours_bound s.world c.upheld p (s.ranks p).me side (named (s.ranks p).bound on) (bound_so p l on)
 
 -- A RANK'S MOVE
 
@@ -392,15 +410,21 @@ module _ (script : List (List Statement)) (ranks : ℕ) (s : System) (c : Couple
   abbrev driven_to : (p : ℕ) → List Happening → System
   driven_to p hs = record { world = goes_on_world s.world hs; ranks = goes_on s.ranks p (node_tells (s.world.each p).node) }
 
-  couples_posts : (p : ℕ) → p < ranks → (statement : Statement) (rest : List Todo) → (s.ranks p).todo ≡ Do statement ∷ rest → (hs : List Happening) (t : Tried) (o : Result Made PostError) → attempt_at script ranks s c p statement ≡ o → Driven s.world p hs o t → Couples script ranks (driven_to p hs)
-  couples_posts p l statement rest e hs t (Ok m) f d =
-      couples_move p l (goes_on_world s.world hs) (m ∷ []) (done (s.ranks p) (posted (s.ranks p) (target_of statement) rest m))
-      (step_posts (node_tells (s.world.each p).node) (s.ranks p) statement rest m e (attempts_same script ranks s c p statement ∙ f)) refl d.follows
+  couples_posts : (p : ℕ) → p < ranks → (posting : Posting) (rest : List Todo) → (s.ranks p).todo ≡ Do (Post posting) ∷ rest → (hs : List Happening) (t : Tried) (o : Result Made PostError) → attempt_at script ranks s c p posting ≡ o → Driven s.world p hs o t → Couples script ranks (driven_to p hs)
+  couples_posts p l posting rest e hs t (Ok m) f d =
+      couples_move p l (goes_on_world s.world hs) (m ∷ []) (done (s.ranks p) (posted (s.ranks p) (bound_to posting) rest m))
+      (step_posts (node_tells (s.world.each p).node) (s.ranks p) posting rest m e (attempts_same script ranks s c p posting ∙ f)) refl d.follows
       (λ word name birth h. (d.follows.later.kept p).opened_kept name (c.opened p l word name birth h))
-  couples_posts p l statement rest e hs t (Err refusal) f d =
-      couples_move p l (goes_on_world s.world hs) [] (done (s.ranks p) (turned_down (s.ranks p) (target_of statement) rest refusal))
-      (step_refused (node_tells (s.world.each p).node) (s.ranks p) statement rest refusal e (attempts_same script ranks s c p statement ∙ f)) refl d.follows
-      (bound_more p l (goes_on_world s.world hs) d.follows.later (target_of statement) NullCommunicator (λ name birth is. cc is))
+  couples_posts p l posting rest e hs t (Err refusal) f d =
+      couples_move p l (goes_on_world s.world hs) [] (done (s.ranks p) (turned_down (s.ranks p) (bound_to posting) rest refusal))
+      (step_refused (node_tells (s.world.each p).node) (s.ranks p) posting rest refusal e (attempts_same script ranks s c p posting ∙ f)) refl d.follows
+      (bound_more p l (goes_on_world s.world hs) d.follows.later (bound_to posting) NullCommunicator (λ name birth is. cc is))
+
+  couples_asks : (p : ℕ) → p < ranks → (on : List ℕ) (side : Side) (rest : List Todo) → (s.ranks p).todo ≡ Do (Ask on side) ∷ rest → Couples script ranks (driven_to p [])
+  couples_asks p l on side rest e =
+      couples_move p l s.world [] (done (s.ranks p) (told_near (s.ranks p) on side rest))
+      (step_asks (node_tells (s.world.each p).node) (s.ranks p) on side rest e) refl (follows_itself s.world c.upheld p)
+      (c.opened p l)
 
   -- what an answer binds a word to is opened
   pub answer_opened : (p : ℕ) (from : Name) (call : ℕ) (answer : Answer) → node_tells (s.world.each p).node from call ≡ Some answer → (name : Name) (birth : BirthView) → bound_by answer.outcome answer.born ≡ Communicator name birth → IsTrue (is_some ((s.world.each p).node.opened name))
@@ -426,7 +450,8 @@ module _ (script : List (List Statement)) (ranks : ℕ) (s : System) (c : Couple
   couples_drive : (p : ℕ) → p < ranks → (todo : List Todo) → (s.ranks p).todo ≡ todo → Couples script ranks (driven_to p (posts_of p (s.ranks p).bound todo))
   couples_drive p l [] e = couples_stay p (step_ends (node_tells (s.world.each p).node) (s.ranks p) e)
   couples_drive p l (Await name call target ∷ rest) e = couples_hears p l name call target rest e (node_tells (s.world.each p).node name call) refl
-  couples_drive p l (Do statement ∷ rest) e = couples_posts p l statement rest e _ _ (attempt_at script ranks s c p statement) refl (driven script ranks s c p l statement)
+  couples_drive p l (Do (Post posting) ∷ rest) e = couples_posts p l posting rest e _ _ (attempt_at script ranks s c p posting) refl (driven script ranks s c p l posting)
+  couples_drive p l (Do (Ask on side) ∷ rest) e = couples_asks p l on side rest e
 
   pub couples_does : (d : Doing) → MayDo ranks s d → Couples script ranks (does s d)
   couples_does (Nets h) m = couples_net h m.0 m.1

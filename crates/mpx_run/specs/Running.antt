@@ -9,19 +9,22 @@ use Rattle.mpx_post.specs.Posts.{Given}
 use Rattle.mpx_post.specs.declared.draft.Draft.{Draft}
 use Rattle.mpx_post.specs.declared.draft.PostError.{PostError}
 use Rattle.mpx_post.specs.declared.draft.PostError.TheVariants.{NotMember, OutOfMemory}
+use Rattle.mpx_post.specs.Births.{BirthView, rank_in}
 use Rattle.mpx_post.specs.Gatherings.{GatheringView}
 use Rattle.mpx_board.specs.Boards.{Look}
 use Rattle.mpx_value.specs.declared.outcomes.Outcome.{Outcome}
 use Rattle.mpx_value.specs.declared.outcomes.Outcome.TheVariants.{Nothing, Absent, Items, NewComm, Null, Fault}
 use Rattle.mpx_node.specs.Nodes.{NodeView, add_result, checked_on, children_on, front_on, gathering_name, gathers_on, next_result, open_gathering_node, post_at, posted_on, start_node}
 use Rattle.mpx_node.specs.declared.finished.Finished.{Finished}
+use Rattle.mpx_script.specs.declared.statement.Posting.{Posting}
+use Rattle.mpx_script.specs.declared.statement.Side.{Side}
 use Rattle.mpx_script.specs.declared.statement.Statement.{Statement}
 use Rattle.mpx_script.specs.Statements.{Gathers as Asked, draft_of, gathers_of}
 use Rattle.mpx_script.specs.Grammar.{named}
-use Rattle.mpx_script.specs.Ranks.{Bindings, Bound, Communicator, NullCommunicator, Todo, Await, Local, doing}
+use Rattle.mpx_script.specs.Ranks.{Bindings, Bound, Communicator, NullCommunicator, Line, Refused, Todo, Await, Local, doing, told_to}
 use Rattle.mpx_script.specs.Evaluation.{bound_at_start}
 use Rattle.mpx_script.specs.Transcripts.{line_text}
-use Rattle.mpx_run.specs.Systems.{System, Leads, start_system}
+use Rattle.mpx_run.specs.Systems.{System, Leads, node_births, start_system}
 
 -- a call whose outcome is awaited, and the word that its new communicator gets
 pub record WaitView : Type 0 where
@@ -33,8 +36,9 @@ pub record WaitView : Type 0 where
 abbrev pub Names : Type 0
 Names = List ℕ → Option (Option Name)
 
--- its node, what its words are bound to, the statements that are left, what it waits for, and the lines so far
+-- who it is, its node, what its words are bound to, the statements that are left, what it waits for, and the lines so far
 pub record RankView : Type 0 where
+  pub me : ℕ
   pub node : NodeView
   pub bound : Names
   pub todo : List Statement
@@ -69,9 +73,9 @@ abbrev pub binds : Option (List ℕ) → Option Name → Names → Names
 binds None to bound word = bound word
 binds (Some new) to bound word = cond (bytes_eq word new) (Some (or_new (bound word) to)) (bound word)
 
--- STATEMENTS
+-- POSTS
 
--- what the node has of a statement, and what comes of it: the context and the number of the call, or the refusal
+-- what the node has of a statement that posts, and what comes of it: the context and the number of the call, or the refusal
 pub record Tried : Type 0 where
   pub node : NodeView
   pub answer : Result (Name × ℕ) PostError
@@ -93,18 +97,30 @@ abbrev pub communicator_in : Option (Option Name) → Option Name
 communicator_in None = None
 communicator_in (Some to) = to
 
-abbrev pub tried_on : Statement → Option Name → NodeView → Tried
-tried_on statement None node = record { node = node; answer = Err NotMember }
-tried_on statement (Some name) node = tried_in (draft_of statement) (gathers_of statement) name node
+abbrev pub tried_on : Posting → Option Name → NodeView → Tried
+tried_on posting None node = record { node = node; answer = Err NotMember }
+tried_on posting (Some name) node = tried_in (draft_of posting) (gathers_of posting) name node
 
 -- a statement is tried on what its word is bound to
-abbrev pub tried : Statement → Option (Option Name) → NodeView → Tried
-tried statement bound node = tried_on statement (communicator_in bound) node
+abbrev pub tried : Posting → Option (Option Name) → NodeView → Tried
+tried posting bound node = tried_on posting (communicator_in bound) node
 
 -- it is answered so and done, or memory was wanting
 abbrev pub Tries : Tried → Result (Name × ℕ) PostError → NodeView → Type 0
 Tries t (Ok call) new = (t.answer ≡ Ok call) × (new ≡ t.node)
 Tries t (Err refusal) new = (refusal ≡ OutOfMemory → ⊥) → (t.answer ≡ Err refusal) × (new ≡ t.node)
+
+-- NEIGHBOURS
+
+-- the line of a statement that asks for them, where it is known how the communicator came to be
+abbrev pub neighbours_in : (me : ℕ) → Side → Option BirthView → Line
+neighbours_in me side None = Refused NotMember
+neighbours_in me side (Some birth) = told_to side birth (rank_in me birth.members)
+
+-- the same by what the node knows of the communicator that its word is bound to
+abbrev pub neighbours_on : (me : ℕ) → Side → Option Name → NodeView → Line
+neighbours_on me side None node = Refused NotMember
+neighbours_on me side (Some name) node = neighbours_in me side (node_births node name)
 
 -- WHERE A RANK STANDS
 
@@ -142,6 +158,7 @@ harvested name r = record r { node = stored name (next_result r.node name) r.nod
 
 -- the rank stands there in its script
 pub record Stands (r : RankView) (s : Local) : Type 0 where
+  pub me : r.me ≡ s.me
   pub bound : (word : List ℕ) → r.bound word ≡ names_in s.bound word
   pub todo : s.todo ≡ todo_of r.waits r.todo
   pub lines : r.lines ≡ map line_text s.lines
@@ -183,6 +200,7 @@ Receives b old new = (script : List (List Statement)) (ranks size : ℕ) (proces
 
 -- process p at the start
 pub record StartsAt (script : List (List Statement)) (ranks p : ℕ) (r : RankView) : Type 0 where
+  pub me : r.me ≡ p
   pub node : r.node ≡ start_node p ranks
   pub bound : (word : List ℕ) → r.bound word ≡ names_in (bound_at_start ranks) word
   pub todo : p < ranks → slice_get script p ≡ Some r.todo

@@ -13,8 +13,10 @@ use Rattle.mpx_node.specs.declared.finished.Finished.{Finished}
 use Rattle.mpx_node.specs.Nodes.{NodeView, gathering_name, results_on}
 use Rattle.mpx_world.specs.Worlds.{WorldView, Happening, Posts, Gathers, IsNoPost, happens, MayHappen}
 use Rattle.mpx_world.specs.Worlds.{goes_on as goes_on_world, start as start_world}
+use Rattle.mpx_script.specs.declared.statement.Posting.{Posting}
 use Rattle.mpx_script.specs.declared.statement.Statement.{Statement}
-use Rattle.mpx_script.specs.Statements.{Gathers as Asked, draft_of, gathers_of, word_of}
+use Rattle.mpx_script.specs.declared.statement.Statement.TheVariants.{Post, Ask}
+use Rattle.mpx_script.specs.Statements.{Gathers as Asked, draft_of, gathers_of, posted_on}
 use Rattle.mpx_script.specs.Grammar.{named}
 use Rattle.mpx_script.specs.Ranks.{Bindings, Bound, Communicator, NullCommunicator, Todo, Do, Await, Local, Told}
 use Rattle.mpx_script.specs.Evaluation.{State, start, goes_on}
@@ -40,16 +42,17 @@ abbrev pub posts_in : ℕ → Draft → Option Asked → Name → BirthView → 
 posts_in p draft None name birth = Posts p name draft ∷ []
 posts_in p draft (Some asked) name birth = posts_gathered p draft name asked (gathering birth p (length name) asked.tag asked.ranks)
 
--- what a statement gives a node to post on what its word is bound to
-abbrev pub posts_bound : ℕ → Statement → Option Bound → List Happening
-posts_bound p statement None = []
-posts_bound p statement (Some NullCommunicator) = []
-posts_bound p statement (Some (Communicator name birth)) = posts_in p (draft_of statement) (gathers_of statement) name birth
+-- what a statement that posts gives a node to post on what its word is bound to
+abbrev pub posts_bound : ℕ → Posting → Option Bound → List Happening
+posts_bound p posting None = []
+posts_bound p posting (Some NullCommunicator) = []
+posts_bound p posting (Some (Communicator name birth)) = posts_in p (draft_of posting) (gathers_of posting) name birth
 
 -- what the next move of a rank gives its node to post
 abbrev pub posts_of : ℕ → Bindings → List Todo → List Happening
 posts_of p bound [] = []
-posts_of p bound (Do statement ∷ rest) = posts_bound p statement (named bound (word_of statement))
+posts_of p bound (Do (Post posting) ∷ rest) = posts_bound p posting (named bound (posted_on posting))
+posts_of p bound (Do (Ask on side) ∷ rest) = []
 posts_of p bound (Await name call target ∷ rest) = []
 
 -- something that makes no post, or a rank's next move by what its node tells, with the posts that it makes there

@@ -8,6 +8,7 @@
 mod bytes;
 mod end;
 mod laws;
+mod neighbours;
 mod options;
 mod rank;
 mod report;

@@ -1,11 +1,13 @@
-ghost use Rattle.std.specs.Prelude.{◌≡◌, ◌<◌, ◌≤◌, ◌↔◌, ℕ, List, IfOk, OnOk, IsTrue, Some, None, [], false, map, string_bytes};
+ghost use Rattle.std.specs.Prelude.{◌≡◌, ◌<◌, ◌≤◌, ◌↔◌, ◌∷◌, ℕ, List, IfOk, OnOk, IsTrue, Some, None, [], false, map, string_bytes};
 ghost use Rattle.std.specs.Option.{option_copied};
 ghost use Rattle.mpx_node.specs.Nodes.{Opens, checked_on, gathers_on};
 ghost use Rattle.mpx_node.specs.Shown.{node_of};
+ghost use Rattle.mpx_script.specs.declared.statement.Statement.TheVariants.{Ask, Post};
 ghost use Rattle.mpx_script.specs.Evaluation.{bound_at_start};
 ghost use Rattle.mpx_run.specs.Running.{KeepsNode, Tries, binds, communicator_in, given_name, names_in, tried_on, tried_post};
 ghost use Rattle.mpx_run.specs.Shown.{bound_of, wait_of};
 
+use crate::neighbours::own_neighbours_line;
 use join_core::{Exact, OutOfMemory};
 use mpx_board::Board;
 use mpx_group::Proc;
@@ -13,7 +15,7 @@ use mpx_name::Name;
 use mpx_node::Node;
 use mpx_num::Numbers;
 use mpx_post::{Draft, PostError};
-use mpx_script::{Statement, Word, line, refused_line};
+use mpx_script::{Posting, Side, Statement, Word, line, refused_line};
 use mpx_value::Outcome;
 use std::alloc::Global;
 use std::collections::BTreeMap;
@@ -26,10 +28,11 @@ struct Wait<'a> {
     target: Option<&'a Word>,
 }
 
-/// A process of a run: its node, the contexts that it looks at, what its words are bound to (None: the null communicator),
-/// the statements that are left, the call whose outcome it waits for, and its lines. A relay has no statements.
+/// A process of a run: who it is, its node, the contexts that it looks at, what its words are bound to (None: the null
+/// communicator), the statements that are left, the call whose outcome it waits for, and its lines. A relay has no statements.
 #[derive(Drop)]
 pub(crate) struct Rank<'a> {
+    me: Proc,
     node: Node,
     contexts: Vec<Name>,
     bound: BTreeMap<Word, Option<Name>>,
@@ -56,17 +59,20 @@ impl<'a> Rank<'a> {
         requires ranks { ranks ≤ processes }
         requires few { processes ≤ 64 }
         requires me { me < processes }
+        ensures me { IfOk result (λ rank. (rank_of rank).me ≡ me) }
         ensures node { IfOk result (λ rank. (rank_of rank).node ≡ start_node me ranks) }
         ensures bound { IfOk result (λ rank. (word : List ℕ) → (rank_of rank).bound word ≡ names_in (bound_at_start ranks) word) }
         ensures todo { IfOk result (λ rank. (rank_of rank).todo ≡ todo.now) }
         ensures waits { IfOk result (λ rank. (rank_of rank).waits ≡ None) }
         ensures lines { IfOk result (λ rank. (rank_of rank).lines ≡ []) }
     {
-        let node = Node::new(alloc, Proc::new(me), ranks, processes)?;
+        let me = Proc::new(me);
+        let node = Node::new(alloc, me, ranks, processes)?;
         let mut contexts = Vec::new(alloc);
         contexts.push(Name::world(alloc))?;
         let bound = world_alone(alloc)?;
         Ok(Rank {
+            me,
             node,
             contexts,
             bound,
@@ -128,15 +134,15 @@ impl<'a> Rank<'a> {
         (self.node, self.lines)
     }
 
-    // One move: the next post with its refusal's line, or the line of the outcome that the rank waits for, once its node
-    // holds it. It answers whether there was one.
+    // One move: the line of the outcome that the rank waits for, once its node holds it, else the next statement. It answers
+    // whether there was one.
     fn move_on(&mut self, alloc: Global) -> Result<bool, OutOfMemory>
         ensures moves { OnOk result (Moves (rank_of self.old) (rank_of self.new)) }
         ensures less { IfOk result (λ moved. IsTrue moved → left_of (rank_of self.new) < left_of (rank_of self.old)) }
     {
         match self.waits.take() {
             Some(wait) => self.hear(alloc, wait),
-            None => self.post_next(alloc),
+            None => self.do_next(alloc),
         }
     }
 
@@ -159,8 +165,8 @@ impl<'a> Rank<'a> {
         Ok(true)
     }
 
-    // Posts the next statement.
-    fn post_next(&mut self, alloc: Global) -> Result<bool, OutOfMemory>
+    // The next statement: its post or the line of its refusal, or the line of the neighbours that it asks for.
+    fn do_next(&mut self, alloc: Global) -> Result<bool, OutOfMemory>
         requires { (rank_of self.old).waits ≡ None }
         ensures moves { OnOk result (Moves (rank_of self.old) (rank_of self.new)) }
         ensures less { IfOk result (λ moved. IsTrue moved → left_of (rank_of self.new) < left_of (rank_of self.old)) }
@@ -168,14 +174,33 @@ impl<'a> Rank<'a> {
         let Some((statement, rest)) = self.todo.split_first() else {
             return Ok(false);
         };
-        let on = context_of(&self.bound, statement.on());
-        match attempt(alloc, &mut self.node, on, statement) {
+        match statement {
+            Statement::Post(posting) => self.post_next(alloc, posting, rest)?,
+            Statement::Ask { on, side } => self.ask_next(alloc, on, *side, rest)?,
+        }
+        Ok(true)
+    }
+
+    // Posts the next statement.
+    fn post_next(
+        &mut self,
+        alloc: Global,
+        posting: &'a Posting,
+        rest: &'a [Statement],
+    ) -> Result<(), OutOfMemory>
+        requires waits { (rank_of self.old).waits ≡ None }
+        requires todo { (rank_of self.old).todo ≡ Post posting.now ∷ rest.now }
+        ensures moves { OnOk result (Moves (rank_of self.old) (rank_of self.new)) }
+        ensures less { OnOk result (left_of (rank_of self.new) < left_of (rank_of self.old)) }
+    {
+        self.todo = rest;
+        let on = context_of(&self.bound, posting.on());
+        match attempt(alloc, &mut self.node, on, posting) {
             Ok((name, call)) => {
                 look_at_gathering(alloc, &mut self.contexts, &name, call)?;
-                self.todo = rest;
-                let target = statement.target();
+                let target = posting.target();
                 self.waits = Some(Wait { name, call, target });
-                Ok(true)
+                Ok(())
             }
             Err(refusal) => {
                 if is_want_of_memory(refusal) {
@@ -183,11 +208,30 @@ impl<'a> Rank<'a> {
                 }
                 let text = refused_line(alloc, refusal)?;
                 self.lines.push(text)?;
-                bind(alloc, &mut self.bound, statement.target(), None)?;
-                self.todo = rest;
-                Ok(true)
+                bind(alloc, &mut self.bound, posting.target(), None)?;
+                Ok(())
             }
         }
+    }
+
+    // Tells the neighbours that the next statement asks for.
+    fn ask_next(
+        &mut self,
+        alloc: Global,
+        on: &Word,
+        side: Side,
+        rest: &'a [Statement],
+    ) -> Result<(), OutOfMemory>
+        requires waits { (rank_of self.old).waits ≡ None }
+        requires todo { (rank_of self.old).todo ≡ Ask on.now side ∷ rest.now }
+        ensures moves { OnOk result (Moves (rank_of self.old) (rank_of self.new)) }
+        ensures less { OnOk result (left_of (rank_of self.new) < left_of (rank_of self.old)) }
+    {
+        let on = context_of(&self.bound, on);
+        let text = own_neighbours_line(alloc, &self.node, self.me, on, side)?;
+        self.lines.push(text)?;
+        self.todo = rest;
+        Ok(())
     }
 }
 
@@ -227,28 +271,29 @@ fn context_of<'m>(bound: &'m BTreeMap<Word, Option<Name>>, word: &Word) -> Optio
     }
 }
 
-// What a node has of a statement on what its word is bound to: the context and the number of the call, or the refusal.
+// What a node has of a statement that posts, on what its word is bound to: the context and the number of the call, or the
+// refusal.
 fn attempt(
     alloc: Global,
     node: &mut Node,
     on: Option<&Name>,
-    statement: &Statement,
+    posting: &Posting,
 ) -> Result<(Name, u32), PostError>
-    ensures { Tries (tried_on statement.now (option_copied on.entry) (node_of node.old)) result (node_of node.new) }
+    ensures { Tries (tried_on posting.now (option_copied on.entry) (node_of node.old)) result (node_of node.new) }
 {
     let Some(on) = on else {
         return Err(PostError::NotMember);
     };
-    let Ok(draft) = statement.draft(alloc) else {
+    let Ok(draft) = posting.draft(alloc) else {
         return Err(PostError::OutOfMemory);
     };
-    match statement {
-        Statement::CreateGroup { tag, ranks, .. } => {
+    match posting {
+        Posting::CreateGroup { tag, ranks, .. } => {
             let name = open_gathering(alloc, node, on, tag, ranks)?;
             post(alloc, node, name, draft)
         }
-        Statement::Call { .. } => post_on(alloc, node, on, draft),
-        Statement::New { .. } => post_on(alloc, node, on, draft),
+        Posting::Call { .. } => post_on(alloc, node, on, draft),
+        Posting::New { .. } => post_on(alloc, node, on, draft),
     }
 }
 
@@ -391,6 +436,7 @@ fn is_want_of_memory(refusal: PostError) -> bool
         PostError::ItemsLength => false,
         PostError::ItemOutOfRange => false,
         PostError::TooManyItems => false,
+        PostError::NoTopology => false,
         PostError::CallsUsedUp => false,
         PostError::DepthUsedUp => false,
         PostError::BadGroup => false,

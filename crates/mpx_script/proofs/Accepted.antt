@@ -1,13 +1,12 @@
 -- The words of a call that is accepted.
-use Rattle.std.proofs.Common.{◌≡◌, Bool, true, false, not, ◌&&◌, ◌||◌, cond, List, [], ◌∷◌, ℕ, ℤ, pos, Option, Some, None, is_some, refl, ap, ◌∙◌}
+use Rattle.std.proofs.Common.{◌≡◌, Bool, true, false, not, ◌||◌, cond, List, [], ℕ, ℤ, pos, Option, Some, None, is_some, refl, ap, ◌∙◌}
 use Rattle.std.specs.List.{list_any}
-use Rattle.std.specs.Option.{option_map}
 use Rattle.mpx_num.specs.Text.{number_of}
 use Rattle.mpx_kind.specs.declared.kinds.Kind.{Kind}
 use Rattle.mpx_post.specs.Kinds.{fields_of}
 use Rattle.mpx_post.specs.Graphs.{GraphView}
-use Rattle.mpx_script.specs.Grammar.{NewSyntax, CallSyntax, fails, is_number, is_list, is_one, colour_named, list_named, rcounts_named, has_strange_number, has_strange_list, has_strange_new_list, graph_in}
-use Rattle.mpx_script.specs.Sentences.{IsRefusal, draft_refusal, fields_refusal, read_at}
+use Rattle.mpx_script.specs.Grammar.{NewSyntax, CallSyntax, fails, is_number, colour_named, list_named, has_strange_count, has_strange_number, has_strange_list, has_strange_new_list, graph_in}
+use Rattle.mpx_script.specs.Sentences.{IsRefusal, counts_refusal, draft_refusal, fields_refusal, read_at}
 use Rattle.mpx_script.specs.declared.faults.LineError.{LineError}
 use Rattle.mpx_script.specs.declared.faults.LineError.TheVariants.{Fault, OutOfMemory}
 use Rattle.mpx_script.specs.declared.faults.ScriptFault.{ScriptFault}
@@ -23,25 +22,15 @@ pub read_nothing : {A : Type 0} (meaning : List ℕ → Option A) (other : A) (w
 read_nothing meaning other None h = cc
 read_nothing meaning other (Some word) h = ap (λ said. not (is_some said)) h
 
-mapped_some : (number : Option ℤ) (x : List ℤ) → option_map (λ count. count ∷ []) number ≡ Some x → not (is_some number) ≡ false
-mapped_some None x h = cc
-mapped_some (Some z) x h = refl
+fields_of_counts : (counts lists : Bool) → cond (counts || false) (Some BadNumber) (cond lists (Some BadList) None) ≡ cond counts (Some BadNumber) (cond lists (Some BadList) None)
+fields_of_counts true lists = refl
+fields_of_counts false lists = refl
 
--- receive counts that say something are one number, or a list
-rcounts_says : (one : Bool) (word : Option (List ℕ)) (x : List ℤ) → read_at (λ word. cond one (option_map (λ count. count ∷ []) (number_of word)) (list_named word)) [] word ≡ Some x → ((one && fails is_number word) ≡ false) × ((not one && fails is_list word) ≡ false)
-rcounts_says true None x h = (refl, refl)
-rcounts_says false None x h = (refl, refl)
-rcounts_says true (Some word) x h = (mapped_some (number_of word) x h, refl)
-rcounts_says false (Some word) x h = (refl, ap (λ said. not (is_some said)) h)
-
-pub fields_accepted : (kind : Kind) (p : CallSyntax) (root : ℤ) (scounts rcounts : List ℤ) → read_at number_of (pos 0) p.root ≡ Some root → list_any (λ word. not (is_number word)) p.items ≡ false → read_at (rcounts_named (fields_of kind).rcounts) [] p.rcounts ≡ Some rcounts → read_at list_named [] p.scounts ≡ Some scounts → fields_refusal kind p ≡ None
-fields_accepted kind p root scounts rcounts at_root items at_rcounts at_scounts =
-    let received = rcounts_says (is_one (fields_of kind).rcounts) p.rcounts rcounts at_rcounts in
+-- a call whose root and whose items are numbers is refused as its counts
+pub refusal_of_counts : (kind : Kind) (p : CallSyntax) (root : ℤ) → read_at number_of (pos 0) p.root ≡ Some root → list_any (λ word. not (is_number word)) p.items ≡ false → fields_refusal kind p ≡ counts_refusal (fields_of kind) p
+refusal_of_counts kind p root at_root items =
     let root_says = read_says number_of (pos 0) p.root root at_root in
-    let sent_says = read_says list_named [] p.scounts scounts at_scounts in
-    let numbers : has_strange_number (fields_of kind) p ≡ false = rw (root_says, received.0, items) in
-    let lists : has_strange_list (fields_of kind) p ≡ false = rw (sent_says, received.1) in
-    rw (numbers, lists)
+    rw (root_says, items) (fields_of_counts (has_strange_count (fields_of kind) p) (has_strange_list (fields_of kind) p))
 
 first_kept : (numbers lists ranks : Bool) (what : ScriptFault) → cond numbers (Some BadNumber) (cond lists (Some BadList) None) ≡ Some what → cond numbers (Some BadNumber) (cond (lists || ranks) (Some BadList) None) ≡ Some what
 first_kept true lists ranks what h = h

@@ -1,12 +1,13 @@
 -- The evaluation of small scripts.
-use Rattle.std.proofs.Common.{◌≡◌, ℕ, ℤ, ◌-◌, ◌^◌, pos, negsuc, List, [], ◌∷◌, codes, None, refl}
+use Rattle.std.proofs.Common.{◌≡◌, ℕ, ℤ, ◌-◌, ◌^◌, pos, negsuc, List, [], ◌∷◌, codes, true, Some, None, refl}
 use Rattle.mpx_num.specs.declared.types.Ty.TheVariants.{I64}
 use Rattle.mpx_num.specs.declared.operations.Op.TheVariants.{Sum}
 use Rattle.mpx_num.specs.Wrapping.{into_range}
 use Rattle.mpx_num.specs.Operations.{combined, elementwise}
 use Rattle.mpx_kind.specs.declared.kinds.Kind.{Kind}
 use Rattle.mpx_kind.specs.declared.kinds.Kind.TheVariants as K
-use Rattle.mpx_post.specs.declared.draft.PostError.TheVariants.{RootOutOfRange, ItemOutOfRange}
+use Rattle.mpx_name.specs.declared.steps.Step.TheVariants.{Child}
+use Rattle.mpx_post.specs.declared.draft.PostError.TheVariants.{NoTopology, NotMember, RootOutOfRange, ItemOutOfRange}
 use Rattle.mpx_post.specs.Drafts.{checked}
 use Rattle.mpx_post.specs.Kinds.{blocking}
 use Rattle.mpx_match.specs.declared.faults.FaultKind.{FaultKind}
@@ -15,21 +16,29 @@ use Rattle.mpx_match.specs.Verdicts.{verdict}
 use Rattle.mpx_fold.specs.Folds.{fold_value}
 use Rattle.mpx_move.specs.Moves.{move_value}
 use Rattle.mpx_value.specs.declared.outcomes.Outcome.TheVariants as O
+use Rattle.mpx_graph.specs.Graphs.{general}
+use Rattle.mpx_value.specs.Children.{children}
 use Rattle.mpx_value.specs.Values.{value}
+use Rattle.mpx_script.specs.declared.statement.Posting.TheVariants.{Call, New}
+use Rattle.mpx_script.specs.declared.statement.Side.TheVariants.{Sources, Destinations}
 use Rattle.mpx_script.specs.declared.statement.Statement.{Statement}
-use Rattle.mpx_script.specs.declared.statement.Statement.TheVariants.{Call}
-use Rattle.mpx_script.specs.Ranks.{Line, Told, Refused}
+use Rattle.mpx_script.specs.declared.statement.Statement.TheVariants.{Post, Ask}
+use Rattle.mpx_script.specs.Ranks.{Line, Near, Told, Refused}
 use Rattle.mpx_script.specs.Evaluation.{start, moves}
 
 -- a blocking call of 64-bit numbers
 abbrev call : Kind → (root : ℤ) → (rcounts items : List ℤ) → Statement
-call kind root rcounts items = Call (codes "world") (record { call = blocking kind; root = root; op = Sum; ty = I64; scounts = []; rcounts = rcounts; items = items; colour = None; key = pos 0; group = []; graph = None })
+call kind root rcounts items = Post (Call (codes "world") (record { call = blocking kind; root = root; op = Sum; ty = I64; scounts = []; rcounts = rcounts; items = items; colour = None; key = pos 0; group = []; graph = None }))
 
 abbrev sum : List ℤ → Statement
 sum items = call K.Allreduce (pos 0) [] items
 
 abbrev barrier : Statement
 barrier = call K.Barrier (pos 0) [] []
+
+-- a graph of the world, for `loop`, with an edge from rank 0 to itself
+abbrev loop : Statement
+loop = Post (New (codes "world") (record { call = blocking K.DistGraph; root = pos 0; op = Sum; ty = I64; scounts = []; rcounts = []; items = []; colour = None; key = pos 0; group = []; graph = Some (record { weighted = true; edges = record { source = pos 0; destination = pos 0; weight = pos 5 } ∷ []; sources = []; destinations = [] }) }) (codes "loop"))
 
 -- what a call of the world gave
 abbrev tells_items : (call : ℕ) → List ℤ → Line
@@ -43,6 +52,10 @@ lines_after : List ℕ → (first second : List Statement) → List (List Line)
 lines_after order first second =
     let script : List (List Statement) = first ∷ second ∷ [] in
     (moves 2 order (start script 2) 0).lines ∷ (moves 2 order (start script 2) 1).lines ∷ []
+
+-- the lines of a rank that is alone, with these statements
+lines_alone : List ℕ → List Statement → List Line
+lines_alone order statements = (moves 1 order (start (statements ∷ []) 1) 0).lines
 
 record Examples : Type 0 where
   -- 1 and 2 make 3, and the greatest number and 1 make the least
@@ -67,9 +80,14 @@ record Examples : Type 0 where
       ≡ (tells_items 0 (pos 1 ∷ pos 3 ∷ []) ∷ []) ∷ (tells_items 0 (pos 2 ∷ pos 4 ∷ []) ∷ []) ∷ []
   -- a barrier and a sum don't match
   kinds : lines_after (0 ∷ 1 ∷ 1 ∷ 0 ∷ []) (barrier ∷ []) (sum [] ∷ []) ≡ (tells_fault 0 F.Kind 1 ∷ []) ∷ (tells_fault 0 F.Kind 1 ∷ []) ∷ []
+  -- the world has no neighbours to tell
+  no_topology : lines_alone (0 ∷ 0 ∷ []) (Ask (codes "world") Sources ∷ Ask (codes "other") Destinations ∷ []) ≡ Refused NoTopology ∷ Refused NotMember ∷ []
+  -- who has an edge to itself is its own source
+  own_source : lines_alone (0 ∷ 0 ∷ 0 ∷ []) (loop ∷ Ask (codes "loop") Sources ∷ [])
+      ≡ Told [] 0 (O.NewComm (Child 0 0 ∷ []) 1 0) ∷ Near true (record { rank = 0; weight = 5 } ∷ []) ∷ []
 
 examples : Examples
-unfolding lines_after checked value verdict fold_value move_value elementwise combined into_range
+unfolding lines_after lines_alone children general checked value verdict fold_value move_value elementwise combined into_range
 examples = record {
   sums = refl;
   alone = refl;
@@ -79,4 +97,6 @@ examples = record {
   roots = refl;
   blocks = refl;
   kinds = refl;
+  no_topology = refl;
+  own_source = refl;
 }

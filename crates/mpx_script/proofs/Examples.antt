@@ -1,21 +1,24 @@
 -- Scripts and what they are read as.
-use Rattle.std.proofs.Common.{◌≡◌, ℕ, true, false, List, [], ◌∷◌, ◌++◌, codes, map, pos, negsuc, Some, None, Result, Ok, Err, refl}
+use Rattle.std.proofs.Common.{◌≡◌, ℕ, true, List, [], ◌∷◌, ◌++◌, codes, map, pos, negsuc, Some, None, Result, Ok, Err, refl}
 use Rattle.mpx_num.specs.Text.{number_of, magnitude}
 use Rattle.mpx_num.specs.declared.types.Ty.TheVariants.{I8, I32, I64, U8, U64, TwoInt}
 use Rattle.mpx_num.specs.declared.operations.Op.TheVariants.{Sum, Max}
 use Rattle.mpx_kind.specs.declared.kinds.Kind.{Kind}
-use Rattle.mpx_kind.specs.declared.kinds.Kind.TheVariants.{Barrier, Bcast, Gatherv, Scatterv, Allreduce, ReduceScatter, Dup, Split, Create, DistGraph, DistGraphAdjacent}
+use Rattle.mpx_kind.specs.declared.kinds.Kind.TheVariants.{Barrier, Bcast, Gatherv, Scatterv, Allreduce, ReduceScatter, Dup, Split, Create, DistGraph, DistGraphAdjacent, NeighborAlltoall, NeighborAlltoallv}
 use Rattle.mpx_post.specs.declared.draft.Draft.{Draft}
 use Rattle.mpx_post.specs.declared.drafted_edges.DraftedEdge.{DraftedEdge}
 use Rattle.mpx_post.specs.declared.drafted_edges.DraftedNeighbour.{DraftedNeighbour}
 use Rattle.mpx_post.specs.Graphs.{GraphView, no_graph}
 use Rattle.mpx_post.specs.Kinds.{blocking}
 use Rattle.mpx_script.specs.Words.{words, counts, is_ascii}
-use Rattle.mpx_script.specs.Grammar.{ranks_number, kind_named, operation_named, type_named, list_named, new_in, call_in, label_of, statements_in, is_name, colour_named, edge_named, neighbour_named, is_weighted, entries_in, edges_graph, neighbours_graph, graph_in, lacks_ranks, has_ranks_out_of_range, has_rank_out_of_range, is_unknown, has_wrong_words, has_bad_number, has_bad_list, has_bad_name, has_unknown_name, has_taken_name, names_rank, statement_in}
+use Rattle.mpx_script.specs.Grammar.{ranks_number, kind_named, side_named, operation_named, type_named, list_named, new_in, call_in, label_of, statements_in, is_name, colour_named, edge_named, neighbour_named, is_weighted, entries_in, edges_graph, neighbours_graph, graph_in, lacks_ranks, has_ranks_out_of_range, has_rank_out_of_range, is_unknown, has_wrong_words, has_bad_number, has_bad_list, has_bad_name, has_unknown_name, has_taken_name, names_rank, statement_in}
 use Rattle.mpx_script.specs.ScriptView.{ScriptView}
 use Rattle.mpx_script.specs.Reading.{reading}
+use Rattle.mpx_script.specs.declared.statement.Posting.{Posting}
+use Rattle.mpx_script.specs.declared.statement.Posting.TheVariants.{Call, New, CreateGroup}
+use Rattle.mpx_script.specs.declared.statement.Side.TheVariants.{Sources, Destinations}
 use Rattle.mpx_script.specs.declared.statement.Statement.{Statement}
-use Rattle.mpx_script.specs.declared.statement.Statement.TheVariants.{Call, New, CreateGroup}
+use Rattle.mpx_script.specs.declared.statement.Statement.TheVariants.{Post, Ask}
 use Rattle.mpx_script.specs.declared.faults.ScriptFault.{ScriptFault}
 use Rattle.mpx_script.specs.declared.faults.ScriptFault.TheVariants.{NoRanksLine, RanksOutOfRange, RankOutOfRange, UnknownStatement, WrongWords, BadNumber, BadList, BadName, NameUnknown, NameTaken}
 use Rattle.mpx_script.specs.declared.faults.ScriptError.{ScriptError}
@@ -37,21 +40,21 @@ abbrev blank : Kind → Draft
 blank kind = record { call = blocking kind; root = pos 0; op = Sum; ty = I8; scounts = []; rcounts = []; items = []; colour = None; key = pos 0; group = []; graph = None }
 
 sum_of : List ℕ → Statement
-sum_of items = Call (codes "world") (record (blank Allreduce) { ty = I64; items = map pos items })
+sum_of items = Post (Call (codes "world") (record (blank Allreduce) { ty = I64; items = map pos items }))
 
 -- one rank with this statement
 says : Draft → Result ScriptView ScriptError
-says draft = Ok (record { ranks = 1; statements = (Call (codes "world") draft ∷ []) ∷ [] })
+says draft = Ok (record { ranks = 1; statements = (Post (Call (codes "world") draft) ∷ []) ∷ [] })
 
 -- one rank with this statement that makes a communicator
-makes : Statement → Result ScriptView ScriptError
-makes statement = Ok (record { ranks = 1; statements = (statement ∷ []) ∷ [] })
+makes : Posting → Result ScriptView ScriptError
+makes posting = Ok (record { ranks = 1; statements = (Post posting ∷ []) ∷ [] })
 
 -- a graph of any edges, and one of a rank's own neighbours, for `a`
-of_edges : GraphView → Statement
+of_edges : GraphView → Posting
 of_edges graph = New (codes "world") (record (blank DistGraph) { graph = Some graph }) (codes "a")
 
-of_neighbours : GraphView → Statement
+of_neighbours : GraphView → Posting
 of_neighbours graph = New (codes "world") (record (blank DistGraphAdjacent) { graph = Some graph }) (codes "a")
 
 edge : (source destination weight : ℕ) → DraftedEdge
@@ -103,7 +106,7 @@ record Examples : Type 0 where
   edge_without_end : reading (alone (codes "0: dist_graph world 0,1 -> a")) ≡ refused_at 2 BadList
   edge_for_a_neighbour : reading (alone (codes "0: dist_graph_adjacent world 0>1 - -> a")) ≡ refused_at 2 BadList
   one_list_left_out : reading (alone (codes "0: dist_graph_adjacent world 0 -> a")) ≡ refused_at 2 WrongWords
-  bound_before : reading (script (codes "ranks 1" ∷ codes "*: dup world -> a" ∷ codes "0: barrier a" ∷ [])) ≡ Ok (record { ranks = 1; statements = (New (codes "world") (blank Dup) (codes "a") ∷ Call (codes "a") (blank Barrier) ∷ []) ∷ [] })
+  bound_before : reading (script (codes "ranks 1" ∷ codes "*: dup world -> a" ∷ codes "0: barrier a" ∷ [])) ≡ Ok (record { ranks = 1; statements = (Post (New (codes "world") (blank Dup) (codes "a")) ∷ Post (Call (codes "a") (blank Barrier)) ∷ []) ∷ [] })
   bound_elsewhere : reading (script (codes "ranks 2" ∷ codes "0: dup world -> a" ∷ codes "*: barrier a" ∷ [])) ≡ refused_at 3 NameUnknown
   bound_already : reading (script (codes "ranks 2" ∷ codes "1: dup world -> a" ∷ codes "*: dup world -> a" ∷ [])) ≡ refused_at 3 NameTaken
   bound_later : reading (alone (codes "0: dup a -> a")) ≡ refused_at 2 NameUnknown
@@ -115,9 +118,16 @@ record Examples : Type 0 where
   tag_and_list : reading (alone (codes "0: create_group world 1,2 x -> a")) ≡ refused_at 2 BadNumber
   strange_rank : reading (alone (codes "0: create_group world 1 0,x -> a")) ≡ refused_at 2 BadList
   strange_name : reading (alone (codes "0: dup nope -> Zz")) ≡ refused_at 2 BadName
+  counts_of_neighbours : reading (alone (codes "0: neighbor_alltoall world i32 1 2 5")) ≡ says (record (blank NeighborAlltoall) { ty = I32; scounts = pos 1 ∷ []; rcounts = pos 2 ∷ []; items = pos 5 ∷ [] })
+  lists_of_neighbours : reading (alone (codes "0: neighbor_alltoallv world i32 1,0 - 5")) ≡ says (record (blank NeighborAlltoallv) { ty = I32; scounts = pos 1 ∷ pos 0 ∷ []; items = pos 5 ∷ [] })
+  list_for_a_send_count : reading (alone (codes "0: neighbor_alltoall world i32 1,0 x 5")) ≡ refused_at 2 BadNumber
+  asked : reading (script (codes "ranks 2" ∷ codes "*: sources world" ∷ codes "1: destinations world" ∷ []))
+      ≡ Ok (record { ranks = 2; statements = (Ask (codes "world") Sources ∷ []) ∷ (Ask (codes "world") Sources ∷ Ask (codes "world") Destinations ∷ []) ∷ [] })
+  word_behind_sources : reading (alone (codes "0: sources world world")) ≡ refused_at 2 WrongWords
+  nonblocking_sources : reading (alone (codes "0: isources world")) ≡ refused_at 2 UnknownStatement
 
 examples : Examples
-unfolding script alone refused_at sum_of says makes of_edges of_neighbours edge neighbour number_of magnitude words counts is_ascii ranks_number kind_named operation_named type_named list_named new_in call_in label_of statements_in is_name colour_named edge_named neighbour_named is_weighted entries_in edges_graph neighbours_graph graph_in lacks_ranks has_ranks_out_of_range has_rank_out_of_range is_unknown has_wrong_words has_bad_number has_bad_list has_bad_name has_unknown_name has_taken_name names_rank statement_in reading
+unfolding script alone refused_at sum_of says makes of_edges of_neighbours edge neighbour number_of magnitude words counts is_ascii ranks_number kind_named side_named operation_named type_named list_named new_in call_in label_of statements_in is_name colour_named edge_named neighbour_named is_weighted entries_in edges_graph neighbours_graph graph_in lacks_ranks has_ranks_out_of_range has_rank_out_of_range is_unknown has_wrong_words has_bad_number has_bad_list has_bad_name has_unknown_name has_taken_name names_rank statement_in reading
 examples = record {
   three_ranks = refl;
   every_rank = refl;
@@ -167,4 +177,10 @@ examples = record {
   tag_and_list = refl;
   strange_rank = refl;
   strange_name = refl;
+  counts_of_neighbours = refl;
+  lists_of_neighbours = refl;
+  list_for_a_send_count = refl;
+  asked = refl;
+  word_behind_sources = refl;
+  nonblocking_sources = refl;
 }

@@ -5,9 +5,11 @@ use Rattle.std.proofs.lemmas.Option.{same_Some}
 use Rattle.mpx_name.specs.Name.{Name}
 use Rattle.mpx_post.specs.declared.draft.PostError.{PostError}
 use Rattle.mpx_value.specs.Histories.{Answer, Made, Results}
-use Rattle.mpx_script.specs.declared.statement.Statement.{Statement}
-use Rattle.mpx_script.specs.Statements.{target_of}
-use Rattle.mpx_script.specs.Ranks.{Todo, Do, Await, Local, Act, NullCommunicator, Told, Refused, attempt, bind, bound_by, done, next_call, next_of, posts_or_refuses, step_by, step, weights}
+use Rattle.mpx_script.specs.declared.statement.Posting.{Posting}
+use Rattle.mpx_script.specs.declared.statement.Side.{Side}
+use Rattle.mpx_script.specs.declared.statement.Statement.TheVariants.{Post, Ask}
+use Rattle.mpx_script.specs.Statements.{bound_to}
+use Rattle.mpx_script.specs.Ranks.{Todo, Do, Await, Local, Act, NullCommunicator, Told, Refused, answered, attempt, bind, bound_by, done, next_call, next_of, posts_or_refuses, step_by, step, weights}
 
 -- it hears an answer
 abbrev pub heard : Local → Name → (call : ℕ) → (target : Option (List ℕ)) → List Todo → Answer → Act
@@ -21,6 +23,10 @@ posted s target rest m = record { bound = s.bound; todo = Await m.name (next_cal
 abbrev pub turned_down : Local → (target : Option (List ℕ)) → List Todo → PostError → Act
 turned_down s target rest refusal = record { bound = bind target NullCommunicator s.bound; todo = rest; made = []; lines = Refused refusal ∷ [] }
 
+-- it is told its neighbours
+abbrev pub told_near : Local → (on : List ℕ) → Side → List Todo → Act
+told_near s on side rest = record { bound = s.bound; todo = rest; made = []; lines = answered s.me s.bound on side ∷ [] }
+
 module _ (r : Results) (s : Local) where
   pub step_ends : s.todo ≡ [] → step r s ≡ None
   step_ends e = ap (λ todo. step_by r s (next_of s todo)) e
@@ -31,24 +37,28 @@ module _ (r : Results) (s : Local) where
   pub step_waits : (name : Name) (call : ℕ) (target : Option (List ℕ)) (rest : List Todo) → s.todo ≡ Await name call target ∷ rest → r name call ≡ None → step r s ≡ None
   step_waits name call target rest e f = ap (λ todo. step_by r s (next_of s todo)) e ∙ rw f
 
-  pub step_posts : (statement : Statement) (rest : List Todo) (m : Made) → s.todo ≡ Do statement ∷ rest → attempt s.me s.bound s.made statement ≡ Ok m → step r s ≡ Some (done s (posted s (target_of statement) rest m))
-  step_posts statement rest m e f = ap (λ todo. step_by r s (next_of s todo)) e ∙ ap (λ x. step_by r s (posts_or_refuses s rest (target_of statement) x)) f
+  pub step_posts : (posting : Posting) (rest : List Todo) (m : Made) → s.todo ≡ Do (Post posting) ∷ rest → attempt s.me s.bound s.made posting ≡ Ok m → step r s ≡ Some (done s (posted s (bound_to posting) rest m))
+  step_posts posting rest m e f = ap (λ todo. step_by r s (next_of s todo)) e ∙ ap (λ x. step_by r s (posts_or_refuses s rest (bound_to posting) x)) f
 
-  pub step_refused : (statement : Statement) (rest : List Todo) (refusal : PostError) → s.todo ≡ Do statement ∷ rest → attempt s.me s.bound s.made statement ≡ Err refusal → step r s ≡ Some (done s (turned_down s (target_of statement) rest refusal))
-  step_refused statement rest refusal e f = ap (λ todo. step_by r s (next_of s todo)) e ∙ ap (λ x. step_by r s (posts_or_refuses s rest (target_of statement) x)) f
+  pub step_refused : (posting : Posting) (rest : List Todo) (refusal : PostError) → s.todo ≡ Do (Post posting) ∷ rest → attempt s.me s.bound s.made posting ≡ Err refusal → step r s ≡ Some (done s (turned_down s (bound_to posting) rest refusal))
+  step_refused posting rest refusal e f = ap (λ todo. step_by r s (next_of s todo)) e ∙ ap (λ x. step_by r s (posts_or_refuses s rest (bound_to posting) x)) f
+
+  pub step_asks : (on : List ℕ) (side : Side) (rest : List Todo) → s.todo ≡ Do (Ask on side) ∷ rest → step r s ≡ Some (done s (told_near s on side rest))
+  step_asks on side rest e = ap (λ todo. step_by r s (next_of s todo)) e
 
 -- what holds of a rank after each kind of step holds after its step
 module _ (r : Results) (s : Local) (P : Local → Type 0)
-    (posts : (statement : Statement) (rest : List Todo) (m : Made) → s.todo ≡ Do statement ∷ rest → attempt s.me s.bound s.made statement ≡ Ok m → P (done s (posted s (target_of statement) rest m)))
-    (refuses : (statement : Statement) (rest : List Todo) (refusal : PostError) → s.todo ≡ Do statement ∷ rest → attempt s.me s.bound s.made statement ≡ Err refusal → P (done s (turned_down s (target_of statement) rest refusal)))
+    (posts : (posting : Posting) (rest : List Todo) (m : Made) → s.todo ≡ Do (Post posting) ∷ rest → attempt s.me s.bound s.made posting ≡ Ok m → P (done s (posted s (bound_to posting) rest m)))
+    (refuses : (posting : Posting) (rest : List Todo) (refusal : PostError) → s.todo ≡ Do (Post posting) ∷ rest → attempt s.me s.bound s.made posting ≡ Err refusal → P (done s (turned_down s (bound_to posting) rest refusal)))
+    (asks : (on : List ℕ) (side : Side) (rest : List Todo) → s.todo ≡ Do (Ask on side) ∷ rest → P (done s (told_near s on side rest)))
     (hears : (name : Name) (call : ℕ) (target : Option (List ℕ)) (rest : List Todo) (answer : Answer) → s.todo ≡ Await name call target ∷ rest → r name call ≡ Some answer → P (done s (heard s name call target rest answer)))
     (t : Local) (e : step r s ≡ Some t) where
   at : (u : Local) → step r s ≡ Some u → P u → P t
   at u f h = subst P (same_Some u t (sym f ∙ e)) h
 
-  by_attempt : (statement : Statement) (rest : List Todo) → s.todo ≡ Do statement ∷ rest → (o : Result Made PostError) → attempt s.me s.bound s.made statement ≡ o → P t
-  by_attempt statement rest todo (Ok m) f = at (done s (posted s (target_of statement) rest m)) (step_posts r s statement rest m todo f) (posts statement rest m todo f)
-  by_attempt statement rest todo (Err refusal) f = at (done s (turned_down s (target_of statement) rest refusal)) (step_refused r s statement rest refusal todo f) (refuses statement rest refusal todo f)
+  by_attempt : (posting : Posting) (rest : List Todo) → s.todo ≡ Do (Post posting) ∷ rest → (o : Result Made PostError) → attempt s.me s.bound s.made posting ≡ o → P t
+  by_attempt posting rest todo (Ok m) f = at (done s (posted s (bound_to posting) rest m)) (step_posts r s posting rest m todo f) (posts posting rest m todo f)
+  by_attempt posting rest todo (Err refusal) f = at (done s (turned_down s (bound_to posting) rest refusal)) (step_refused r s posting rest refusal todo f) (refuses posting rest refusal todo f)
 
   by_answer : (name : Name) (call : ℕ) (target : Option (List ℕ)) (rest : List Todo) → s.todo ≡ Await name call target ∷ rest → (o : Option Answer) → r name call ≡ o → P t
   by_answer name call target rest todo None f = cc (e, step_waits r s name call target rest todo f)
@@ -56,7 +66,8 @@ module _ (r : Results) (s : Local) (P : Local → Type 0)
 
   by_todo : (todo : List Todo) → s.todo ≡ todo → P t
   by_todo [] f = cc (e, step_ends r s f)
-  by_todo (Do statement ∷ rest) f = by_attempt statement rest f (attempt s.me s.bound s.made statement) refl
+  by_todo (Do (Ask on side) ∷ rest) f = at (done s (told_near s on side rest)) (step_asks r s on side rest f) (asks on side rest f)
+  by_todo (Do (Post posting) ∷ rest) f = by_attempt posting rest f (attempt s.me s.bound s.made posting) refl
   by_todo (Await name call target ∷ rest) f = by_answer name call target rest f (r name call) refl
 
   pub step_cases : P t
@@ -65,8 +76,8 @@ module _ (r : Results) (s : Local) (P : Local → Type 0)
 module _ (r : Results) (s t : Local) (e : step r s ≡ Some t) where
   -- a step doesn't change who it is
   pub step-keeps : t.me ≡ s.me
-  step-keeps = step_cases r s (λ u. u.me ≡ s.me) (λ x rest m todo f. refl) (λ x rest refusal todo f. refl) (λ name call target rest answer todo f. refl) t e
+  step-keeps = step_cases r s (λ u. u.me ≡ s.me) (λ x rest m todo f. refl) (λ x rest refusal todo f. refl) (λ on side rest todo. refl) (λ name call target rest answer todo f. refl) t e
 
   -- and leaves less to do
   pub step-lowers : weights t.todo < weights s.todo
-  step-lowers = step_cases r s (λ u. weights u.todo < weights s.todo) (λ x rest m todo f. rw todo (omega arith)) (λ x rest refusal todo f. rw todo (omega arith)) (λ name call target rest answer todo f. rw todo (omega arith)) t e
+  step-lowers = step_cases r s (λ u. weights u.todo < weights s.todo) (λ x rest m todo f. rw todo (omega arith)) (λ x rest refusal todo f. rw todo (omega arith)) (λ on side rest todo. rw todo (omega arith)) (λ name call target rest answer todo f. rw todo (omega arith)) t e

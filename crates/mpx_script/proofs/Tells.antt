@@ -10,19 +10,23 @@ use Rattle.std.proofs.lemmas.Option.{option_and_then_some, same_Some}
 use Rattle.mpx_name.specs.Name.{Name}
 use Rattle.mpx_post.specs.declared.draft.PostError.{PostError}
 use Rattle.mpx_post.specs.Births.{BirthView, rank_in, upto}
+use Rattle.mpx_post.specs.Topologies.{TopologyView}
 use Rattle.mpx_value.specs.declared.outcomes.Outcome.{Outcome}
 use Rattle.mpx_value.specs.declared.outcomes.Outcome.TheVariants.{Nothing, Absent, Items, NewComm, Null, Fault}
 use Rattle.mpx_value.specs.Histories.{Answer, Made, Results, Within, answer_with, birth_of, row_of, value_for, outcome_of, outcomes_by}
 use Rattle.mpx_value.specs.Values.{value}
 use Rattle.mpx_value.proofs.Growth.{results-grow, birth-grows, new-born}
+use Rattle.mpx_script.specs.declared.statement.Posting.{Posting}
+use Rattle.mpx_script.specs.declared.statement.Side.{Side}
 use Rattle.mpx_script.specs.declared.statement.Statement.{Statement}
-use Rattle.mpx_script.specs.Statements.{target_of}
+use Rattle.mpx_script.specs.declared.statement.Statement.TheVariants.{Post, Ask}
+use Rattle.mpx_script.specs.Statements.{bound_to}
 use Rattle.mpx_script.specs.Grammar.{named}
-use Rattle.mpx_script.specs.Ranks.{Bindings, Bound, Communicator, NullCommunicator, Line, Told, Refused, Local, attempt, bind, bound_by, done, doing, next, next_call, step}
+use Rattle.mpx_script.specs.Ranks.{Bindings, Bound, Communicator, NullCommunicator, Line, Told, Refused, Local, answer_on, answered, told_by, told_to, attempt, bind, bound_by, done, doing, next, next_call, step}
 use Rattle.mpx_script.specs.Evaluation.{State, start, bound_at_start, world_of, history, known, move, moves, statements_of, IsReached, IsPrefixOf}
-use Rattle.mpx_script.specs.Told.{Passes, none, accepted, refused, IsWaiting, CarriesOut, IsToldOf, IsMemberOf}
+use Rattle.mpx_script.specs.Told.{Passes, none, accepted, refused, asked, IsWaiting, CarriesOut, IsToldOf, IsMemberOf}
 use Rattle.mpx_script.proofs.Fronts.{append-nil, prefix_itself, history-grows}
-use Rattle.mpx_script.proofs.Steps.{heard, posted, turned_down, step_cases, step_ends, step_hears, step_waits, step_posts, step_refused, step-keeps}
+use Rattle.mpx_script.proofs.Steps.{heard, posted, told_near, turned_down, step_asks, step_cases, step_ends, step_hears, step_waits, step_posts, step_refused, step-keeps}
 use Rattle.mpx_script.proofs.Ways.{step_by-adds}
 use Rattle.mpx_script.proofs.Ahead.{goes_on_cases}
 
@@ -34,28 +38,52 @@ module _ (r : Results) (me : ℕ) where
   passes-grow more w before after earlier xs ms lines none = none
   passes-grow more w before after earlier xs ms lines (accepted a k p) = accepted a (w _ _ _ k) (passes-grow more w _ after _ _ _ _ p)
   passes-grow more w before after earlier xs ms lines (refused a p) = refused a (passes-grow more w _ after _ _ _ _ p)
+  passes-grow more w before after earlier xs ms lines (asked p) = asked (passes-grow more w _ after _ _ _ _ p)
 
   -- one statement more, which is accepted
-  passes-accepted : (x : Statement) (now : List Made) (m : Made) (answer : Answer) (after : Bindings) → attempt me after now x ≡ Ok m → r m.name (next_call m.name now) ≡ Some answer
+  passes-accepted : (x : Posting) (now : List Made) (m : Made) (answer : Answer) (after : Bindings) → attempt me after now x ≡ Ok m → r m.name (next_call m.name now) ≡ Some answer
       → (before : Bindings) (earlier : List Made) (xs : List Statement) (ms : List Made) (lines : List Line) → Passes r me before earlier xs after ms lines → now ≡ earlier ++ ms
-      → Passes r me before earlier (xs ++ x ∷ []) (bind (target_of x) (bound_by answer.outcome answer.born) after) (ms ++ m ∷ []) (lines ++ Told m.name (next_call m.name now) answer.outcome ∷ [])
-  passes-accepted x now m answer after a k before earlier xs ms lines none e = subst (λ (now_made : List Made). Passes r me before now_made (x ∷ []) (bind (target_of x) (bound_by answer.outcome answer.born) before) (m ∷ []) (Told m.name (next_call m.name now) answer.outcome ∷ [])) (e ∙ append-nil earlier) (accepted a k none)
+      → Passes r me before earlier (xs ++ Post x ∷ []) (bind (bound_to x) (bound_by answer.outcome answer.born) after) (ms ++ m ∷ []) (lines ++ Told m.name (next_call m.name now) answer.outcome ∷ [])
+  passes-accepted x now m answer after a k before earlier xs ms lines none e = subst (λ (now_made : List Made). Passes r me before now_made (Post x ∷ []) (bind (bound_to x) (bound_by answer.outcome answer.born) before) (m ∷ []) (Told m.name (next_call m.name now) answer.outcome ∷ [])) (e ∙ append-nil earlier) (accepted a k none)
   passes-accepted x now m answer after a k before earlier xs ms lines (accepted {further = further} {m = first} b j p) e = accepted b j (passes-accepted x now m answer after a k _ _ _ _ _ p (e ∙ sym (append_assoc earlier (first ∷ []) further)))
   passes-accepted x now m answer after a k before earlier xs ms lines (refused b p) e = refused b (passes-accepted x now m answer after a k _ _ _ _ _ p e)
+  passes-accepted x now m answer after a k before earlier xs ms lines (asked p) e = asked (passes-accepted x now m answer after a k _ _ _ _ _ p e)
 
   -- one statement more, which is refused
-  passes-refused : (x : Statement) (now : List Made) (refusal : PostError) (after : Bindings) → attempt me after now x ≡ Err refusal
+  passes-refused : (x : Posting) (now : List Made) (refusal : PostError) (after : Bindings) → attempt me after now x ≡ Err refusal
       → (before : Bindings) (earlier : List Made) (xs : List Statement) (ms : List Made) (lines : List Line) → Passes r me before earlier xs after ms lines → now ≡ earlier ++ ms
-      → Passes r me before earlier (xs ++ x ∷ []) (bind (target_of x) NullCommunicator after) ms (lines ++ Refused refusal ∷ [])
-  passes-refused x now refusal after a before earlier xs ms lines none e = subst (λ (now_made : List Made). Passes r me before now_made (x ∷ []) (bind (target_of x) NullCommunicator before) [] (Refused refusal ∷ [])) (e ∙ append-nil earlier) (refused a none)
+      → Passes r me before earlier (xs ++ Post x ∷ []) (bind (bound_to x) NullCommunicator after) ms (lines ++ Refused refusal ∷ [])
+  passes-refused x now refusal after a before earlier xs ms lines none e = subst (λ (now_made : List Made). Passes r me before now_made (Post x ∷ []) (bind (bound_to x) NullCommunicator before) [] (Refused refusal ∷ [])) (e ∙ append-nil earlier) (refused a none)
   passes-refused x now refusal after a before earlier xs ms lines (accepted {further = further} {m = first} b j p) e = accepted b j (passes-refused x now refusal after a _ _ _ _ _ p (e ∙ sym (append_assoc earlier (first ∷ []) further)))
   passes-refused x now refusal after a before earlier xs ms lines (refused b p) e = refused b (passes-refused x now refusal after a _ _ _ _ _ p e)
+  passes-refused x now refusal after a before earlier xs ms lines (asked p) e = asked (passes-refused x now refusal after a _ _ _ _ _ p e)
+
+  -- one more, which asks for neighbours
+  passes-asked : (on : List ℕ) (side : Side) (before after : Bindings) (earlier : List Made) (xs : List Statement) (ms : List Made) (lines : List Line) → Passes r me before earlier xs after ms lines → Passes r me before earlier (xs ++ Ask on side ∷ []) after ms (lines ++ answered me after on side ∷ [])
+  passes-asked on side before after earlier xs ms lines none = asked none
+  passes-asked on side before after earlier xs ms lines (accepted a k p) = accepted a k (passes-asked on side _ after _ _ _ _ p)
+  passes-asked on side before after earlier xs ms lines (refused a p) = refused a (passes-asked on side _ after _ _ _ _ p)
+  passes-asked on side before after earlier xs ms lines (asked p) = asked (passes-asked on side _ after _ _ _ _ p)
 
 -- the answer of a call that a line tells
 pub record Tells (r : Results) (name : Name) (call : ℕ) (outcome : Outcome) : Type 0 where
   pub answer : Answer
   pub known_as : r name call ≡ Some answer
   pub is : answer.outcome ≡ outcome
+
+-- the line of neighbours tells no call
+near_by : (side : Side) (topology : Option TopologyView) (rank : ℕ) (name : Name) (call : ℕ) (outcome : Outcome) → told_by side topology rank ≡ Told name call outcome → ⊥
+near_by side None rank name call outcome e = cc e
+near_by side (Some topology) rank name call outcome e = cc e
+
+near_to : (side : Side) (birth : BirthView) (rank : Option ℕ) (name : Name) (call : ℕ) (outcome : Outcome) → told_to side birth rank ≡ Told name call outcome → ⊥
+near_to side birth None name call outcome e = cc e
+near_to side birth (Some rank) name call outcome e = near_by side birth.topology rank name call outcome e
+
+near_on : (me : ℕ) (side : Side) (bound : Option Bound) (name : Name) (call : ℕ) (outcome : Outcome) → answer_on me side bound ≡ Told name call outcome → ⊥
+near_on me side None name call outcome e = cc e
+near_on me side (Some NullCommunicator) name call outcome e = cc e
+near_on me side (Some (Communicator on birth)) name call outcome e = near_to side birth (rank_in me birth.members) name call outcome e
 
 -- what a line tells is known
 passes-tell : (r : Results) (me : ℕ) (before after : Bindings) (earlier : List Made) (xs : List Statement) (ms : List Made) (lines : List Line) → Passes r me before earlier xs after ms lines → (i : ℕ) (name : Name) (call : ℕ) (outcome : Outcome) → slice_get lines i ≡ Some (Told name call outcome) → Tells r name call outcome
@@ -64,24 +92,35 @@ passes-tell r me before after earlier xs ms lines (accepted {m = m} {answer = an
 passes-tell r me before after earlier xs ms lines (accepted a k p) (suc i) name call outcome e = passes-tell r me _ _ _ _ _ _ p i name call outcome e
 passes-tell r me before after earlier xs ms lines (refused a p) zero name call outcome e = cc e
 passes-tell r me before after earlier xs ms lines (refused a p) (suc i) name call outcome e = passes-tell r me _ _ _ _ _ _ p i name call outcome e
+passes-tell r me before after earlier xs ms lines (asked {on = on} {side = side} p) zero name call outcome e = absurd (near_on me side (named before on) name call outcome (same_Some (answered me before on side) (Told name call outcome) e))
+passes-tell r me before after earlier xs ms lines (asked p) (suc i) name call outcome e = passes-tell r me _ _ _ _ _ _ p i name call outcome e
 
 -- RANKS
 
 pub carries_out-grows : (r more : Results) → Within r more → (first : Bindings) (xs : List Statement) (s : Local) → CarriesOut r first xs s → CarriesOut more first xs s
 carries_out-grows r more w first xs s (inl h) = inl (record { passed = h.passed; left = h.left; all = h.all; todo = h.todo; passes = passes-grow r s.me more w _ _ _ _ _ _ h.passes })
-carries_out-grows r more w first xs s (inr h) = inr (record { passed = h.passed; statement = h.statement; left = h.left; all = h.all; earlier = h.earlier; last = h.last; made = h.made; accepts = h.accepts; todo = h.todo; passes = passes-grow r s.me more w _ _ _ _ _ _ h.passes })
+carries_out-grows r more w first xs s (inr h) = inr (record { passed = h.passed; posting = h.posting; left = h.left; all = h.all; earlier = h.earlier; last = h.last; made = h.made; accepts = h.accepts; todo = h.todo; passes = passes-grow r s.me more w _ _ _ _ _ _ h.passes })
 
 module _ (r : Results) (first : Bindings) (xs : List Statement) (s : Local) where
   -- it goes on to its next statement
   ready-steps : (passed left : List Statement) → passed ++ left ≡ xs → s.todo ≡ doing left → Passes r s.me first [] passed s.bound s.made s.lines → (t : Local) → step r s ≡ Some t → CarriesOut r first xs t
   ready-steps passed [] all todo passes t e = cc (e, step_ends r s todo)
-  ready-steps passed (x ∷ left) all todo passes t e = by_attempt (attempt s.me s.bound s.made x) refl where
+  ready-steps passed (Ask on side ∷ left) all todo passes t e =
+      let to : done s (told_near s on side (doing left)) ≡ t = same_Some (done s (told_near s on side (doing left))) t (sym (step_asks r s on side (doing left) todo) ∙ e) in
+      subst (CarriesOut r first xs) to (inl (record {
+        passed = passed ++ Ask on side ∷ [];
+        left = left;
+        all = append_assoc passed (Ask on side ∷ []) left ∙ all;
+        todo = refl;
+        passes = subst (λ ms. Passes r s.me first [] (passed ++ Ask on side ∷ []) s.bound ms (s.lines ++ answered s.me s.bound on side ∷ [])) (sym (append-nil s.made)) (passes-asked r s.me on side first s.bound [] passed s.made s.lines passes);
+      }))
+  ready-steps passed (Post x ∷ left) all todo passes t e = by_attempt (attempt s.me s.bound s.made x) refl where
     by_attempt : (o : Result Made PostError) → attempt s.me s.bound s.made x ≡ o → CarriesOut r first xs t
     by_attempt (Ok m) f =
-        let to : done s (posted s (target_of x) (doing left) m) ≡ t = same_Some (done s (posted s (target_of x) (doing left) m)) t (sym (step_posts r s x (doing left) m todo f) ∙ e) in
+        let to : done s (posted s (bound_to x) (doing left) m) ≡ t = same_Some (done s (posted s (bound_to x) (doing left) m)) t (sym (step_posts r s x (doing left) m todo f) ∙ e) in
         subst (CarriesOut r first xs) to (inr (record {
           passed = passed;
-          statement = x;
+          posting = x;
           left = left;
           all = all;
           earlier = s.made;
@@ -92,29 +131,29 @@ module _ (r : Results) (first : Bindings) (xs : List Statement) (s : Local) wher
           passes = subst (λ lines. Passes r s.me first [] passed s.bound s.made lines) (sym (append-nil s.lines)) passes;
         }))
     by_attempt (Err refusal) f =
-        let to : done s (turned_down s (target_of x) (doing left) refusal) ≡ t = same_Some (done s (turned_down s (target_of x) (doing left) refusal)) t (sym (step_refused r s x (doing left) refusal todo f) ∙ e) in
+        let to : done s (turned_down s (bound_to x) (doing left) refusal) ≡ t = same_Some (done s (turned_down s (bound_to x) (doing left) refusal)) t (sym (step_refused r s x (doing left) refusal todo f) ∙ e) in
         subst (CarriesOut r first xs) to (inl (record {
-          passed = passed ++ x ∷ [];
+          passed = passed ++ Post x ∷ [];
           left = left;
-          all = append_assoc passed (x ∷ []) left ∙ all;
+          all = append_assoc passed (Post x ∷ []) left ∙ all;
           todo = refl;
-          passes = subst (λ ms. Passes r s.me first [] (passed ++ x ∷ []) (bind (target_of x) NullCommunicator s.bound) ms (s.lines ++ Refused refusal ∷ [])) (sym (append-nil s.made)) (passes-refused r s.me x s.made refusal s.bound f first [] passed s.made s.lines passes refl);
+          passes = subst (λ ms. Passes r s.me first [] (passed ++ Post x ∷ []) (bind (bound_to x) NullCommunicator s.bound) ms (s.lines ++ Refused refusal ∷ [])) (sym (append-nil s.made)) (passes-refused r s.me x s.made refusal s.bound f first [] passed s.made s.lines passes refl);
         }))
 
   -- it hears what it waits for
   waiting-steps : IsWaiting r first xs s → (t : Local) → step r s ≡ Some t → CarriesOut r first xs t
   waiting-steps h t e = by_answer (r h.last.name (next_call h.last.name h.earlier)) refl where
     by_answer : (o : Option Answer) → r h.last.name (next_call h.last.name h.earlier) ≡ o → CarriesOut r first xs t
-    by_answer None f = cc (e, step_waits r s h.last.name (next_call h.last.name h.earlier) (target_of h.statement) (doing h.left) h.todo f)
+    by_answer None f = cc (e, step_waits r s h.last.name (next_call h.last.name h.earlier) (bound_to h.posting) (doing h.left) h.todo f)
     by_answer (Some answer) f =
-        let act = heard s h.last.name (next_call h.last.name h.earlier) (target_of h.statement) (doing h.left) answer in
-        let to : done s act ≡ t = same_Some (done s act) t (sym (step_hears r s h.last.name (next_call h.last.name h.earlier) (target_of h.statement) (doing h.left) answer h.todo f) ∙ e) in
+        let act = heard s h.last.name (next_call h.last.name h.earlier) (bound_to h.posting) (doing h.left) answer in
+        let to : done s act ≡ t = same_Some (done s act) t (sym (step_hears r s h.last.name (next_call h.last.name h.earlier) (bound_to h.posting) (doing h.left) answer h.todo f) ∙ e) in
         subst (CarriesOut r first xs) to (inl (record {
-          passed = h.passed ++ h.statement ∷ [];
+          passed = h.passed ++ Post h.posting ∷ [];
           left = h.left;
-          all = append_assoc h.passed (h.statement ∷ []) h.left ∙ h.all;
+          all = append_assoc h.passed (Post h.posting ∷ []) h.left ∙ h.all;
           todo = refl;
-          passes = subst (λ ms. Passes r s.me first [] (h.passed ++ h.statement ∷ []) (bind (target_of h.statement) (bound_by answer.outcome answer.born) s.bound) ms (s.lines ++ Told h.last.name (next_call h.last.name h.earlier) answer.outcome ∷ [])) (sym (append-nil s.made ∙ h.made)) (passes-accepted r s.me h.statement h.earlier h.last answer s.bound h.accepts f first [] h.passed h.earlier s.lines h.passes refl);
+          passes = subst (λ ms. Passes r s.me first [] (h.passed ++ Post h.posting ∷ []) (bind (bound_to h.posting) (bound_by answer.outcome answer.born) s.bound) ms (s.lines ++ Told h.last.name (next_call h.last.name h.earlier) answer.outcome ∷ [])) (sym (append-nil s.made ∙ h.made)) (passes-accepted r s.me h.posting h.earlier h.last answer s.bound h.accepts f first [] h.passed h.earlier s.lines h.passes refl);
         }))
 
   pub step-carries_out : (t : Local) → CarriesOut r first xs s → step r s ≡ Some t → CarriesOut r first xs t
@@ -216,7 +255,8 @@ module _ (ranks : ℕ) (s : State) (p : ℕ) where
   step_there : AreThere ranks s p (s p).bound → (t : Local) → step (known ranks s p) (s p) ≡ Some t → AreThere ranks s p t.bound
   step_there before t e = step_cases (known ranks s p) (s p) (λ u. AreThere ranks s p u.bound)
       (λ x rest m todo f. before)
-      (λ x rest refusal todo f. bound_there (s p).bound (target_of x) NullCommunicator before (λ name birth is. cc is))
+      (λ x rest refusal todo f. bound_there (s p).bound (bound_to x) NullCommunicator before (λ name birth is. cc is))
+      (λ on side rest todo. before)
       (λ from call target rest answer todo f. bound_there (s p).bound target (bound_by answer.outcome answer.born) before (told_there from call answer f))
       t e
 
@@ -268,7 +308,8 @@ moved_there ranks s p q bound h word name birth e =
 step_world : (r : Results) (s : Local) (b : Bound) → named s.bound (codes "world") ≡ Some b → (t : Local) → step r s ≡ Some t → named t.bound (codes "world") ≡ Some b
 step_world r s b h t e = step_cases r s (λ u. named u.bound (codes "world") ≡ Some b)
     (λ x rest m todo f. h)
-    (λ x rest refusal todo f. named-stays s.bound (target_of x) NullCommunicator (codes "world") b h)
+    (λ x rest refusal todo f. named-stays s.bound (bound_to x) NullCommunicator (codes "world") b h)
+    (λ on side rest todo. h)
     (λ from call target rest answer todo f. named-stays s.bound target (bound_by answer.outcome answer.born) (codes "world") b h)
     t e
 

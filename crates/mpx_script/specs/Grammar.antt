@@ -15,7 +15,7 @@ use Rattle.mpx_kind.specs.declared.kinds.Family.TheVariants as F
 use Rattle.mpx_kind.specs.declared.kinds.NewCommunicator.{NewCommunicator}
 use Rattle.mpx_kind.specs.declared.kinds.NewCommunicator.TheVariants as N
 use Rattle.mpx_kind.specs.declared.kinds.Number.{Number}
-use Rattle.mpx_kind.specs.declared.kinds.Number.TheVariants.{Zero, One, OneAtRoot, Members, MembersAtRoot}
+use Rattle.mpx_kind.specs.declared.kinds.Number.TheVariants.{Zero, One, OneAtRoot, Members, MembersAtRoot, Indegree, Outdegree}
 use Rattle.mpx_kind.specs.declared.kinds.Fields.{Fields}
 use Rattle.mpx_post.specs.declared.draft.Draft.{Draft}
 use Rattle.mpx_post.specs.declared.drafted_edges.DraftedEdge.{DraftedEdge}
@@ -27,8 +27,12 @@ use Rattle.mpx_script.specs.Statements.{target_of}
 use Rattle.mpx_script.specs.declared.grammar.Label.{Label}
 use Rattle.mpx_script.specs.declared.grammar.Label.TheVariants.{Every, Numbered}
 use Rattle.mpx_script.specs.declared.grammar.Shape.{Shape}
+use Rattle.mpx_script.specs.declared.statement.Posting.{Posting}
+use Rattle.mpx_script.specs.declared.statement.Posting.TheVariants.{Call, New, CreateGroup}
+use Rattle.mpx_script.specs.declared.statement.Side.{Side}
+use Rattle.mpx_script.specs.declared.statement.Side.TheVariants.{Sources, Destinations}
 use Rattle.mpx_script.specs.declared.statement.Statement.{Statement}
-use Rattle.mpx_script.specs.declared.statement.Statement.TheVariants.{Call, New, CreateGroup}
+use Rattle.mpx_script.specs.declared.statement.Statement.TheVariants.{Post, Ask}
 
 infixl 10 ◌>>=◌
 abbrev pub ◌>>=◌ : {A B : Type 0} → Option A → (A → Option B) → Option B
@@ -61,7 +65,8 @@ abbrev pub named : {A : Type 0} → List (List ℕ × A) → List ℕ → Option
 named [] word = None
 named (entry ∷ more) word = if bytes_eq word entry.0 then Some entry.1 else named more word
 
--- STATEMENTS: a word for each kind of call. The words of a statement are `STATEMENT COMMUNICATOR`, and behind them in the
+-- STATEMENTS: a word for each kind of call, and one for each side of a rank's neighbours, behind which just a communicator
+-- stands. The words of a statement that posts are `STATEMENT COMMUNICATOR`, and behind them in the
 -- order `COLOUR KEY TAG RANKS EDGES SOURCES DESTINATIONS -> NAME` and `ROOT OPERATION TYPE SCOUNTS RCOUNTS ITEMS` those that
 -- its kind has.
 
@@ -89,6 +94,16 @@ kind_named word = named (
     ∷ (codes "create_group", K.CreateGroup)
     ∷ (codes "dist_graph", K.DistGraph)
     ∷ (codes "dist_graph_adjacent", K.DistGraphAdjacent)
+    ∷ (codes "neighbor_allgather", K.NeighborAllgather)
+    ∷ (codes "neighbor_allgatherv", K.NeighborAllgatherv)
+    ∷ (codes "neighbor_alltoall", K.NeighborAlltoall)
+    ∷ (codes "neighbor_alltoallv", K.NeighborAlltoallv)
+    ∷ []) word
+
+unfoldable pub side_named : List ℕ → Option Side
+side_named word = named (
+    (codes "sources", Sources)
+    ∷ (codes "destinations", Destinations)
     ∷ []) word
 
 unfoldable pub operation_named : List ℕ → Option Op
@@ -135,6 +150,7 @@ abbrev pub shape_in : Family → Shape
 shape_in (F.Exchange exchange) = record { colour = false; tag = false; ranks = false; edges = false; neighbours = false; target = false }
 shape_in (F.Reduction reduction) = record { colour = false; tag = false; ranks = false; edges = false; neighbours = false; target = false }
 shape_in (F.NewCommunicator new) = shape_of_new new
+shape_in (F.Neighbourhood exchange) = record { colour = false; tag = false; ranks = false; edges = false; neighbours = false; target = false }
 
 abbrev pub shape_of : Kind → Shape
 shape_of kind = shape_in (family_of kind)
@@ -223,7 +239,11 @@ directive_in words = record { label = slice_get words 0; statement = slice_get w
 abbrev pub kind_in : DirectiveSyntax → Option Kind
 kind_in directive = option_and_then kind_named directive.statement
 
--- what the posts of its kind have. A statement that isn't known asks for no words
+-- the side of one that asks for neighbours
+abbrev pub side_in : DirectiveSyntax → Option Side
+side_in directive = option_and_then side_named directive.statement
+
+-- what the posts of its kind have. A statement of no kind has none of their words
 abbrev pub fields_in : DirectiveSyntax → Fields
 fields_in directive = fields_of (unwrap_or (kind_in directive) K.Barrier)
 
@@ -264,14 +284,16 @@ is_one One = true
 is_one OneAtRoot = false
 is_one Members = false
 is_one MembersAtRoot = false
+is_one Indegree = false
+is_one Outdegree = false
 
 -- numbers with commas (44) between them, or `-` for none
 unfoldable pub list_named : List ℕ → Option (List ℤ)
 list_named word = if bytes_eq word (codes "-") then Some [] else all_of number_of (slice_split (λ byte. byte == 44) word)
 
--- a count, where the kind has just one, or a list of counts
-abbrev pub rcounts_named : Number → List ℕ → Option (List ℤ)
-rcounts_named number word = if is_one number then option_map (λ count. count ∷ []) (number_of word) else list_named word
+-- a count, where the kind has just one of them, or a list of counts
+abbrev pub counts_named : Number → List ℕ → Option (List ℤ)
+counts_named number word = if is_one number then option_map (λ count. count ∷ []) (number_of word) else list_named word
 
 -- LISTS OF A GRAPH: entries with commas between them, in all of them a weight or in none
 
@@ -389,7 +411,7 @@ has_unknown_word call = fails (λ word. is_some (operation_named word)) call.ope
 
 -- no `R: STATEMENT`, or another statement, operation or type
 unfoldable pub is_unknown : DirectiveSyntax → Bool
-is_unknown directive = is_none (label_in directive) || is_none (kind_in directive) || has_unknown_word (call_syntax_in directive)
+is_unknown directive = is_none (label_in directive) || (is_none (kind_in directive) && is_none (side_in directive)) || has_unknown_word (call_syntax_in directive)
 
 -- a word is asked for and isn't there
 abbrev pub lacks : Bool → Option (List ℕ) → Bool
@@ -429,10 +451,18 @@ has_strange_choice new = fails (λ word. is_some (colour_named word)) new.colour
 abbrev pub has_strange_new_number : NewSyntax → Bool
 has_strange_new_number new = fails is_number new.tag || has_strange_choice new
 
+-- counts are none
+abbrev pub are_strange : Number → Option (List ℕ) → Bool
+are_strange number word = fails (λ word. is_some (counts_named number word)) word
+
+-- a single count is no number
+abbrev pub has_strange_count : Fields → CallSyntax → Bool
+has_strange_count fields call = (is_one fields.scounts && are_strange fields.scounts call.scounts) || (is_one fields.rcounts && are_strange fields.rcounts call.rcounts)
+
 -- a root, a single count or an item is no number
 abbrev pub has_strange_number : Fields → CallSyntax → Bool
 has_strange_number fields call = fails is_number call.root
-    || (is_one fields.rcounts && fails is_number call.rcounts)
+    || has_strange_count fields call
     || list_any (λ word. not (is_number word)) call.items
 
 unfoldable pub has_bad_number : DirectiveSyntax → Bool
@@ -444,7 +474,7 @@ is_list word = is_some (list_named word)
 
 -- send counts or receive counts are no list
 abbrev pub has_strange_list : Fields → CallSyntax → Bool
-has_strange_list fields call = fails is_list call.scounts || (not (is_one fields.rcounts) && fails is_list call.rcounts)
+has_strange_list fields call = (not (is_one fields.scounts) && are_strange fields.scounts call.scounts) || (not (is_one fields.rcounts) && are_strange fields.rcounts call.rcounts)
 
 -- ranks are no list, or the words of a graph are none
 abbrev pub has_strange_new_list : NewSyntax → Bool
@@ -502,8 +532,8 @@ call_draft_in kind call = record {
   root = said number_of (pos 0) call.root;
   op = said operation_named O.Sum call.operation;
   ty = said type_named T.I8 call.ty;
-  scounts = said list_named [] call.scounts;
-  rcounts = said (rcounts_named (fields_of kind).rcounts) [] call.rcounts;
+  scounts = said (counts_named (fields_of kind).scounts) [] call.scounts;
+  rcounts = said (counts_named (fields_of kind).rcounts) [] call.rcounts;
   items = filter_map number_of call.items;
   colour = None;
   key = pos 0;
@@ -520,22 +550,29 @@ draft_in kind new call = record (call_draft_in kind call) {
   graph = unwrap_or (graph_in new) None;
 }
 
--- the statement of a kind's family on a communicator, with this draft, this tag and this name for the new communicator
-abbrev pub statement_of : Family → (on : List ℕ) → Draft → (tag : ℤ) → (target : List ℕ) → Statement
-statement_of (F.Exchange exchange) on draft tag target = Call on draft
-statement_of (F.Reduction reduction) on draft tag target = Call on draft
-statement_of (F.NewCommunicator N.Dup) on draft tag target = New on draft target
-statement_of (F.NewCommunicator N.Split) on draft tag target = New on draft target
-statement_of (F.NewCommunicator N.Create) on draft tag target = New on draft target
-statement_of (F.NewCommunicator N.CreateGroup) on draft tag target = CreateGroup on tag draft.group target
-statement_of (F.NewCommunicator N.DistGraph) on draft tag target = New on draft target
-statement_of (F.NewCommunicator N.DistGraphAdjacent) on draft tag target = New on draft target
+-- what a statement of a kind's family posts on a communicator, with this draft, this tag and this name for the new one
+abbrev pub posting_of : Family → (on : List ℕ) → Draft → (tag : ℤ) → (target : List ℕ) → Posting
+posting_of (F.Exchange exchange) on draft tag target = Call on draft
+posting_of (F.Reduction reduction) on draft tag target = Call on draft
+posting_of (F.NewCommunicator N.Dup) on draft tag target = New on draft target
+posting_of (F.NewCommunicator N.Split) on draft tag target = New on draft target
+posting_of (F.NewCommunicator N.Create) on draft tag target = New on draft target
+posting_of (F.NewCommunicator N.CreateGroup) on draft tag target = CreateGroup on tag draft.group target
+posting_of (F.NewCommunicator N.DistGraph) on draft tag target = New on draft target
+posting_of (F.NewCommunicator N.DistGraphAdjacent) on draft tag target = New on draft target
+posting_of (F.Neighbourhood exchange) on draft tag target = Call on draft
 
-abbrev pub statement_said : Kind → Option (List ℕ) → NewSyntax → CallSyntax → Statement
-statement_said kind communicator new call = statement_of (family_of kind) (unwrap_or communicator []) (draft_in kind new call) (said number_of (pos 0) new.tag) (unwrap_or new.target [])
+abbrev pub posting_said : Kind → Option (List ℕ) → NewSyntax → CallSyntax → Posting
+posting_said kind communicator new call = posting_of (family_of kind) (unwrap_or communicator []) (draft_in kind new call) (said number_of (pos 0) new.tag) (unwrap_or new.target [])
+
+-- a statement of a kind posts, and one of a side asks for the neighbours there
+abbrev pub statement_by : Option Kind → Option Side → DirectiveSyntax → Option Statement
+statement_by (Some kind) side directive = Some (Post (posting_said kind directive.communicator (new_syntax_in directive) (call_syntax_in directive)))
+statement_by None (Some side) directive = Some (Ask (unwrap_or directive.communicator []) side)
+statement_by None None directive = None
 
 unfoldable pub statement_in : DirectiveSyntax → Option Statement
-statement_in directive = option_map (λ kind. statement_said kind directive.communicator (new_syntax_in directive) (call_syntax_in directive)) (kind_in directive)
+statement_in directive = statement_by (kind_in directive) (side_in directive) directive
 
 -- what the line gives the rank
 abbrev pub given_to : ℕ → DirectiveSyntax → Option Statement

@@ -1,26 +1,33 @@
 -- One rank of a script, as an automaton over the answers that it asks for.
-use Rattle.std.specs.Prelude.{ℕ, ◌+◌, List, [], ◌∷◌, ◌++◌, length, Option, Some, None, option_and_then, Result, Ok, Err}
+use Rattle.std.specs.Prelude.{ℕ, ◌+◌, Bool, List, [], ◌∷◌, ◌++◌, length, Option, Some, None, option_and_then, Result, Ok, Err}
 use Rattle.mpx_name.specs.declared.steps.Step.TheVariants.{Gathering}
 use Rattle.mpx_name.specs.Name.{Name}
 use Rattle.mpx_post.specs.Posts.{Given}
 use Rattle.mpx_post.specs.declared.draft.Draft.{Draft}
 use Rattle.mpx_post.specs.declared.draft.PostError.{PostError}
-use Rattle.mpx_post.specs.declared.draft.PostError.TheVariants.{NotMember}
-use Rattle.mpx_post.specs.Births.{BirthView, of_members}
+use Rattle.mpx_post.specs.declared.draft.PostError.TheVariants.{NoTopology, NotMember}
+use Rattle.mpx_birth.specs.declared.edges.Neighbour.{Neighbour}
+use Rattle.mpx_post.specs.Births.{BirthView, of_members, rank_in}
+use Rattle.mpx_post.specs.Topologies.{TopologyView, destinations_at, sources_at}
 use Rattle.mpx_post.specs.Drafts.{at, checked}
 use Rattle.mpx_post.specs.Gatherings.{GatheringView, gathering}
 use Rattle.mpx_post.specs.Rows.{all_of}
 use Rattle.mpx_value.specs.declared.outcomes.Outcome.{Outcome}
 use Rattle.mpx_value.specs.declared.outcomes.Outcome.TheVariants.{Nothing, Absent, Items, NewComm, Null, Fault}
 use Rattle.mpx_value.specs.Histories.{Made, posts_on, Answer, Results}
+use Rattle.mpx_script.specs.declared.statement.Posting.{Posting}
+use Rattle.mpx_script.specs.declared.statement.Side.{Side}
+use Rattle.mpx_script.specs.declared.statement.Side.TheVariants.{Sources, Destinations}
 use Rattle.mpx_script.specs.declared.statement.Statement.{Statement}
-use Rattle.mpx_script.specs.Statements.{Gathers, draft_of, gathers_of, target_of, word_of}
+use Rattle.mpx_script.specs.declared.statement.Statement.TheVariants.{Post, Ask}
+use Rattle.mpx_script.specs.Statements.{Gathers, bound_to, draft_of, gathers_of, posted_on}
 use Rattle.mpx_script.specs.Grammar.{named}
 
--- a line of a transcript: what a call of a context gave, or why a post was refused
+-- a line of a transcript: what a call of a context gave, why a post was refused, or neighbours, with weights or without
 pub data Line : Type 0 where
   Told : Name → (call : ℕ) → Outcome → Line
   Refused : PostError → Line
+  Near : (weighted : Bool) → List Neighbour → Line
 
 -- what a word is bound to: a communicator with its birth, or the null communicator
 pub data Bound : Type 0 where
@@ -82,15 +89,40 @@ abbrev pub attempt_in : (me : ℕ) → List Made → Draft → Option Gathers �
 attempt_in me made draft None name birth = post_on me made draft name birth
 attempt_in me made draft (Some g) name birth = post_gathered me made draft name (gathering birth me (length name) g.tag g.ranks)
 
--- what a statement comes to on what its word is bound to: a post, or why there is none
-abbrev pub attempt_on : (me : ℕ) → List Made → Statement → Option Bound → Result Made PostError
-attempt_on me made statement None = Err NotMember
-attempt_on me made statement (Some NullCommunicator) = Err NotMember
-attempt_on me made statement (Some (Communicator name birth)) = attempt_in me made (draft_of statement) (gathers_of statement) name birth
+-- what a statement that posts comes to on what its word is bound to: a post, or why there is none
+abbrev pub attempt_on : (me : ℕ) → List Made → Posting → Option Bound → Result Made PostError
+attempt_on me made posting None = Err NotMember
+attempt_on me made posting (Some NullCommunicator) = Err NotMember
+attempt_on me made posting (Some (Communicator name birth)) = attempt_in me made (draft_of posting) (gathers_of posting) name birth
 
--- what a statement of a rank comes to, with these bindings and after these posts
-abbrev pub attempt : (me : ℕ) → Bindings → List Made → Statement → Result Made PostError
-attempt me bound made statement = attempt_on me made statement (named bound (word_of statement))
+-- what such a statement of a rank comes to, with these bindings and after these posts
+abbrev pub attempt : (me : ℕ) → Bindings → List Made → Posting → Result Made PostError
+attempt me bound made posting = attempt_on me made posting (named bound (posted_on posting))
+
+-- the neighbours of a rank on one side
+abbrev pub neighbours_at : Side → TopologyView → (rank : ℕ) → List Neighbour
+neighbours_at Sources topology rank = sources_at topology rank
+neighbours_at Destinations topology rank = destinations_at topology rank
+
+-- the line that tells them, in a communicator with this topology
+abbrev pub told_by : Side → Option TopologyView → (rank : ℕ) → Line
+told_by side None rank = Refused NoTopology
+told_by side (Some topology) rank = Near topology.weighted (neighbours_at side topology rank)
+
+-- the same for a member
+abbrev pub told_to : Side → BirthView → (rank : Option ℕ) → Line
+told_to side birth None = Refused NotMember
+told_to side birth (Some rank) = told_by side birth.topology rank
+
+-- what a statement that asks for neighbours prints on what its word is bound to
+abbrev pub answer_on : (me : ℕ) → Side → Option Bound → Line
+answer_on me side None = Refused NotMember
+answer_on me side (Some NullCommunicator) = Refused NotMember
+answer_on me side (Some (Communicator name birth)) = told_to side birth (rank_in me birth.members)
+
+-- what such a statement of a rank prints, with these bindings
+abbrev pub answered : (me : ℕ) → Bindings → (on : List ℕ) → Side → Line
+answered me bound on side = answer_on me side (named bound on)
 
 -- the communicator that a call gave, the null communicator where it gave none
 abbrev pub bound_by : Outcome → Option BirthView → Bound
@@ -126,7 +158,8 @@ posts_or_refuses s rest target (Err refusal) = at_once (record { bound = bind ta
 
 abbrev pub next_of : Local → List Todo → Next
 next_of s [] = End
-next_of s (Do statement ∷ rest) = posts_or_refuses s rest (target_of statement) (attempt s.me s.bound s.made statement)
+next_of s (Do (Post posting) ∷ rest) = posts_or_refuses s rest (bound_to posting) (attempt s.me s.bound s.made posting)
+next_of s (Do (Ask on side) ∷ rest) = at_once (record { bound = s.bound; todo = rest; made = []; lines = answered s.me s.bound on side ∷ [] })
 next_of s (Await name call target ∷ rest) = awaits name call (λ (answer : Answer). record { bound = bind target (bound_by answer.outcome answer.born) s.bound; todo = rest; made = []; lines = Told name call answer.outcome ∷ [] })
 
 abbrev pub next : Local → Next

@@ -1,5 +1,5 @@
 -- What a report says, as text.
-use Rattle.std.specs.Prelude.{◌≡◌, ℕ, zero, suc, ◌+◌, Bool, true, false, cond, List, [], ◌∷◌, ◌++◌, map, string_bytes}
+use Rattle.std.specs.Prelude.{ℕ, zero, suc, Bool, true, false, cond, List, [], ◌∷◌, ◌++◌, map, string_bytes}
 use Rattle.mpx_script.specs.Ranks.{Todo}
 use Rattle.mpx_script.specs.Evaluation.{State}
 use Rattle.mpx_script.specs.Transcripts.{line_text}

@@ -1,9 +1,10 @@
 -- What the reader learns from one line.
-use Rattle.std.specs.Prelude.{◌≡◌, ℕ, ◌+◌, ◌-◌, ◌<◌, ◌≤◌, true, false, ◌&&◌, List, [], ◌∷◌, ◌||◌, is_none, nat_le, nat_lt, Option, Some, None, IsSomeAnd}
+use Rattle.std.specs.Prelude.{◌≡◌, ℕ, ◌+◌, ◌-◌, ◌<◌, ◌≤◌, true, false, ◌&&◌, List, [], ◌∷◌, ◌||◌, ◌==◌, not, length, is_none, nat_le, nat_lt, Option, Some, None, IsSomeAnd}
+use Rattle.mpx_kind.specs.declared.kinds.Fields.{Fields}
 use Rattle.mpx_kind.specs.declared.kinds.Kind.{Kind}
 use Rattle.mpx_post.specs.Kinds.{fields_of}
 use Rattle.mpx_script.specs.Words.{counts}
-use Rattle.mpx_script.specs.Grammar.{DirectiveSyntax, NewSyntax, CallSyntax, directive_in, ranks_in, statements_in, names_rank, statement_in, is_unknown, has_wrong_words, has_bad_number, has_bad_list, has_bad_name, has_unknown_name, has_taken_name, has_unknown_word, has_wrong_new_words, has_wrong_count, has_strange_choice, has_strange_new_number, has_strange_number, has_strange_list, has_strange_new_list, fails, is_name, shape_of}
+use Rattle.mpx_script.specs.Grammar.{DirectiveSyntax, NewSyntax, CallSyntax, directive_in, ranks_in, statements_in, names_rank, statement_in, is_unknown, has_wrong_words, has_bad_number, has_bad_list, has_bad_name, has_unknown_name, has_taken_name, has_unknown_word, has_wrong_new_words, has_wrong_count, has_strange_choice, has_strange_new_number, has_strange_count, has_strange_number, has_strange_list, has_strange_new_list, fails, is_name, shape_of}
 use Rattle.mpx_script.specs.Reading.{statements_limit, first_holding}
 use Rattle.mpx_script.specs.declared.faults.ScriptFault.{ScriptFault}
 use Rattle.mpx_script.specs.declared.faults.ScriptFault.TheVariants.{UnknownStatement, WrongWords, BadNumber, BadList, BadName, NameUnknown, NameTaken}
@@ -49,6 +50,13 @@ names_refusal bound ranks directive = first_holding (
     ∷ (NameTaken, has_taken_name bound ranks directive)
     ∷ [])
 
+-- what a call's counts are refused for
+abbrev pub counts_refusal : Fields → CallSyntax → Option ScriptFault
+counts_refusal fields call = first_holding (
+    (BadNumber, has_strange_count fields call)
+    ∷ (BadList, has_strange_list fields call)
+    ∷ [])
+
 -- what the numbers and lists of a call's fields are refused for
 abbrev pub fields_refusal : Kind → CallSyntax → Option ScriptFault
 fields_refusal kind call = first_holding (
@@ -71,6 +79,13 @@ call_refusal kind communicator new call = first_holding (
     ∷ (BadNumber, has_strange_new_number new || has_strange_number (fields_of kind) call)
     ∷ (BadList, has_strange_list (fields_of kind) call || has_strange_new_list new)
     ∷ (BadName, fails is_name communicator || fails is_name new.target)
+    ∷ [])
+
+-- what a statement that asks for neighbours is refused for, with this communicator and these words behind it
+abbrev pub ask_refusal : Option (List ℕ) → List (List ℕ) → Option ScriptFault
+ask_refusal communicator behind = first_holding (
+    (WrongWords, is_none communicator || not (length behind == 0))
+    ∷ (BadName, fails is_name communicator)
     ∷ [])
 
 -- what a word says: the other value where there is no word, and None where the word says nothing

@@ -8,8 +8,11 @@ use Rattle.mpx_value.specs.declared.outcomes.Outcome.{Outcome}
 use Rattle.mpx_value.specs.Histories.{Made, Answer, Results, birth_of, row_of}
 use Rattle.mpx_value.specs.Values.{value}
 use Rattle.mpx_script.specs.declared.statement.Statement.{Statement}
-use Rattle.mpx_script.specs.Statements.{target_of}
-use Rattle.mpx_script.specs.Ranks.{Line, Told, Refused, Bindings, NullCommunicator, Await, Local, next_call, attempt, bind, bound_by, doing}
+use Rattle.mpx_script.specs.declared.statement.Posting.{Posting}
+use Rattle.mpx_script.specs.declared.statement.Side.{Side}
+use Rattle.mpx_script.specs.declared.statement.Statement.TheVariants.{Post, Ask}
+use Rattle.mpx_script.specs.Statements.{bound_to}
+use Rattle.mpx_script.specs.Ranks.{Line, Told, Refused, Bindings, NullCommunicator, Await, Local, next_call, answered, attempt, bind, bound_by, doing}
 use Rattle.mpx_script.specs.Evaluation.{State, history}
 
 -- all members of the context have posted to the call, and this is what it gives the process as one of them
@@ -31,15 +34,19 @@ pub record IsMemberOf (ranks : ℕ) (s : State) (process : ℕ) (name : Name) (b
 -- a process with these bindings that has made some posts passes these statements, and then has other bindings, has made
 -- these further posts and has these further lines: of each statement its post and the line of that call's outcome, or the
 -- line of its refusal and no post; and its word, where it has one, is bound to the communicator that the call gave, else to
--- the null communicator
+-- the null communicator. A statement that asks for neighbours has just a line: those of the communicator that its word is
+-- bound to then
 pub data Passes (known : Results) (me : ℕ) : (before : Bindings) (earlier : List Made) → List Statement → (after : Bindings) (further : List Made) → List Line → Type 0 where
   none : {bound : Bindings} {earlier : List Made} → Passes known me bound earlier [] bound [] []
-  accepted : {bound after : Bindings} {earlier further : List Made} {statement : Statement} {rest : List Statement} {m : Made} {answer : Answer} {lines : List Line} → attempt me bound earlier statement ≡ Ok m → known m.name (next_call m.name earlier) ≡ Some answer
-      → Passes known me (bind (target_of statement) (bound_by answer.outcome answer.born) bound) (earlier ++ m ∷ []) rest after further lines
-      → Passes known me bound earlier (statement ∷ rest) after (m ∷ further) (Told m.name (next_call m.name earlier) answer.outcome ∷ lines)
-  refused : {bound after : Bindings} {earlier further : List Made} {statement : Statement} {rest : List Statement} {refusal : PostError} {lines : List Line} → attempt me bound earlier statement ≡ Err refusal
-      → Passes known me (bind (target_of statement) NullCommunicator bound) earlier rest after further lines
-      → Passes known me bound earlier (statement ∷ rest) after further (Refused refusal ∷ lines)
+  accepted : {bound after : Bindings} {earlier further : List Made} {posting : Posting} {rest : List Statement} {m : Made} {answer : Answer} {lines : List Line} → attempt me bound earlier posting ≡ Ok m → known m.name (next_call m.name earlier) ≡ Some answer
+      → Passes known me (bind (bound_to posting) (bound_by answer.outcome answer.born) bound) (earlier ++ m ∷ []) rest after further lines
+      → Passes known me bound earlier (Post posting ∷ rest) after (m ∷ further) (Told m.name (next_call m.name earlier) answer.outcome ∷ lines)
+  refused : {bound after : Bindings} {earlier further : List Made} {posting : Posting} {rest : List Statement} {refusal : PostError} {lines : List Line} → attempt me bound earlier posting ≡ Err refusal
+      → Passes known me (bind (bound_to posting) NullCommunicator bound) earlier rest after further lines
+      → Passes known me bound earlier (Post posting ∷ rest) after further (Refused refusal ∷ lines)
+  asked : {bound after : Bindings} {earlier further : List Made} {on : List ℕ} {side : Side} {rest : List Statement} {lines : List Line}
+      → Passes known me bound earlier rest after further lines
+      → Passes known me bound earlier (Ask on side ∷ rest) after further (answered me bound on side ∷ lines)
 
 -- it started with the first bindings, has passed the first of these statements and begun none of the others
 pub record IsReady (known : Results) (first : Bindings) (statements : List Statement) (s : Local) : Type 0 where
@@ -52,14 +59,14 @@ pub record IsReady (known : Results) (first : Bindings) (statements : List State
 -- it has passed the first of these statements, made the post of the next one, and waits for the outcome of that call
 pub record IsWaiting (known : Results) (first : Bindings) (statements : List Statement) (s : Local) : Type 0 where
   pub passed : List Statement
-  pub statement : Statement
+  pub posting : Posting
   pub left : List Statement
-  pub all : passed ++ statement ∷ left ≡ statements
+  pub all : passed ++ Post posting ∷ left ≡ statements
   pub earlier : List Made
   pub last : Made
   pub made : s.made ≡ earlier ++ last ∷ []
-  pub accepts : attempt s.me s.bound earlier statement ≡ Ok last
-  pub todo : s.todo ≡ Await last.name (next_call last.name earlier) (target_of statement) ∷ doing left
+  pub accepts : attempt s.me s.bound earlier posting ≡ Ok last
+  pub todo : s.todo ≡ Await last.name (next_call last.name earlier) (bound_to posting) ∷ doing left
   pub passes : Passes known s.me first [] passed s.bound earlier s.lines
 
 -- from the first bindings it carries out these statements in their order

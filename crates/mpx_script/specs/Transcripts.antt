@@ -1,5 +1,5 @@
 -- The text of a transcript.
-use Rattle.std.specs.Prelude.{ℕ, zero, suc, ℤ, pos, List, [], ◌∷◌, ◌++◌, codes}
+use Rattle.std.specs.Prelude.{ℕ, zero, suc, ℤ, pos, Bool, true, false, List, [], ◌∷◌, ◌++◌, codes}
 use Rattle.mpx_num.specs.Text.{number_text}
 use Rattle.mpx_post.specs.declared.draft.PostError.{PostError}
 use Rattle.mpx_post.specs.declared.draft.PostError.TheVariants as R
@@ -7,7 +7,8 @@ use Rattle.mpx_match.specs.declared.faults.FaultKind.{FaultKind}
 use Rattle.mpx_match.specs.declared.faults.FaultKind.TheVariants as F
 use Rattle.mpx_value.specs.declared.outcomes.Outcome.{Outcome}
 use Rattle.mpx_value.specs.declared.outcomes.Outcome.TheVariants as O
-use Rattle.mpx_script.specs.Ranks.{Line, Told, Refused}
+use Rattle.mpx_birth.specs.declared.edges.Neighbour.{Neighbour}
+use Rattle.mpx_script.specs.Ranks.{Line, Near, Refused, Told}
 
 -- each number with a space before it
 abbrev pub spaced : List ℤ → List ℕ
@@ -38,6 +39,7 @@ refusal_name R.CountsLength = codes "CountsLength"
 refusal_name R.ItemsLength = codes "ItemsLength"
 refusal_name R.ItemOutOfRange = codes "ItemOutOfRange"
 refusal_name R.TooManyItems = codes "TooManyItems"
+refusal_name R.NoTopology = codes "NoTopology"
 refusal_name R.CallsUsedUp = codes "CallsUsedUp"
 refusal_name R.DepthUsedUp = codes "DepthUsedUp"
 refusal_name R.BadGroup = codes "BadGroup"
@@ -54,10 +56,26 @@ outcome_text (O.NewComm name size rank) = codes "comm " ++ number_text (pos size
 outcome_text O.Null = codes "null"
 outcome_text (O.Fault fault) = codes "fault " ++ fault_name fault.what ++ codes " at " ++ number_text (pos fault.rank)
 
+-- a neighbour's rank, and behind `:` (58) its weight, where edges have weights
+abbrev pub neighbour_text : (weighted : Bool) → Neighbour → List ℕ
+neighbour_text false neighbour = number_text (pos neighbour.rank)
+neighbour_text true neighbour = number_text (pos neighbour.rank) ++ 58 ∷ number_text (pos neighbour.weight)
+
+-- each with a space before it
+abbrev pub spaced_neighbours : (weighted : Bool) → List Neighbour → List ℕ
+spaced_neighbours weighted [] = []
+spaced_neighbours weighted (n ∷ ns) = (32 ∷ neighbour_text weighted n) ++ spaced_neighbours weighted ns
+
+-- neighbours with one space between them
+abbrev pub neighbours_text : (weighted : Bool) → List Neighbour → List ℕ
+neighbours_text weighted [] = codes "empty"
+neighbours_text weighted (n ∷ ns) = neighbour_text weighted n ++ spaced_neighbours weighted ns
+
 -- the place of an outcome isn't printed
 abbrev pub line_text : Line → List ℕ
 line_text (Told name call outcome) = outcome_text outcome
 line_text (Refused refusal) = codes "refused " ++ refusal_name refusal
+line_text (Near weighted neighbours) = neighbours_text weighted neighbours
 
 -- each line of a rank as `RANK: LINE`
 abbrev pub rank_text : ℕ → List (List ℕ) → List ℕ

@@ -4,8 +4,8 @@ ghost use Rattle.std.specs.List.{filter_map, list_any};
 ghost use Rattle.std.specs.Option.{option_copied};
 ghost use Rattle.mpx_num.specs.Text.{number_of};
 ghost use Rattle.mpx_script.specs.Words.{words};
-ghost use Rattle.mpx_script.specs.Grammar.{is_number, is_one, list_named, rcounts_named, operation_named, type_named, colour_named, said, call_draft_in, draft_in};
-ghost use Rattle.mpx_script.specs.Sentences.{IsRefusal, draft_refusal, fields_refusal, read_at};
+ghost use Rattle.mpx_script.specs.Grammar.{is_number, is_one, list_named, counts_named, operation_named, type_named, colour_named, said, call_draft_in, draft_in};
+ghost use Rattle.mpx_script.specs.Sentences.{IsRefusal, counts_refusal, draft_refusal, fields_refusal, read_at};
 
 use crate::faults::{LineError, ScriptFault};
 use crate::grammar::{colour_named, is_one, list_named, operation_named, type_named};
@@ -13,7 +13,7 @@ use crate::graphs::graph_in;
 use crate::syntax::{CallSyntax, NewSyntax};
 use crate::words::first_word;
 use mpx_num::{Numbers, Op, Ty, parse_number};
-use mpx_post::{Call, Draft, Kind, Number};
+use mpx_post::{Call, Draft, Fields, Kind, Number};
 use std::alloc::{AllocError, Global};
 
 /// The number of a word, 0 where there is none, or None where the word is no number.
@@ -26,7 +26,7 @@ pub fn number_at(word: Option<&[u8]>) -> Option<i128>
     }
 }
 
-/// The colour of a word, none where there is no word, or None where the word is no colour.
+// The colour of a word, none where there is no word, or None where the word is no colour.
 fn colour_at(word: Option<&[u8]>) -> Option<Option<i128>>
     ensures { result ≡ read_at colour_named None (option_copied word.entry) }
 {
@@ -36,7 +36,7 @@ fn colour_at(word: Option<&[u8]>) -> Option<Option<i128>>
     }
 }
 
-/// The numbers of a list, none where there is no word, or None where the word is no list.
+// The numbers of a list, none where there is no word, or None where the word is no list.
 fn list_at(alloc: Global, word: Option<&[u8]>) -> Result<Option<Numbers>, AllocError>
     ensures { IfOk result (λ found. found ≡ read_at list_named [] (option_copied word.entry)) }
 {
@@ -46,9 +46,9 @@ fn list_at(alloc: Global, word: Option<&[u8]>) -> Result<Option<Numbers>, AllocE
     }
 }
 
-/// The receive counts of a word: one number, where the kind has just one, or a list.
-fn rcounts_named(alloc: Global, number: Number, word: &[u8]) -> Result<Option<Numbers>, AllocError>
-    ensures { IfOk result (λ found. found ≡ rcounts_named number word.now) }
+// The counts of a word: one number, where the kind has just one of them, or a list.
+fn counts_named(alloc: Global, number: Number, word: &[u8]) -> Result<Option<Numbers>, AllocError>
+    ensures { IfOk result (λ found. found ≡ counts_named number word.now) }
 {
     if !is_one(number) {
         return list_named(alloc, word);
@@ -60,21 +60,42 @@ fn rcounts_named(alloc: Global, number: Number, word: &[u8]) -> Result<Option<Nu
     Ok(Some(Numbers::new(alloc, counts)?))
 }
 
-/// The receive counts of a word, none where there is no word.
-fn rcounts_at(
+// The counts of a word, none where there is no word.
+fn counts_at(
     alloc: Global,
     number: Number,
     word: Option<&[u8]>,
 ) -> Result<Option<Numbers>, AllocError>
-    ensures { IfOk result (λ found. found ≡ read_at (rcounts_named number) [] (option_copied word.entry)) }
+    ensures { IfOk result (λ found. found ≡ read_at (counts_named number) [] (option_copied word.entry)) }
 {
     match word {
-        Some(word) => rcounts_named(alloc, number, word),
+        Some(word) => counts_named(alloc, number, word),
         None => Ok(Some(Numbers::new(alloc, Vec::new(alloc))?)),
     }
 }
 
-/// The operation of a word, the sum where there is none.
+// The send counts and the receive counts of a call with these fields.
+fn counts_in(
+    alloc: Global,
+    fields: Fields,
+    call: &CallSyntax<'_>,
+) -> Result<(Numbers, Numbers), LineError>
+    ensures accepted { OnOk result (counts_refusal fields call.now ≡ None) }
+    ensures sent { IfOk result (λ counts. read_at (counts_named fields.scounts) [] call.now.scounts ≡ Some counts.0) }
+    ensures received { IfOk result (λ counts. read_at (counts_named fields.rcounts) [] call.now.rcounts ≡ Some counts.1) }
+    ensures refused { IfErr result (IsRefusal (counts_refusal fields call.now)) }
+{
+    let scounts = counts_at(alloc, fields.scounts, call.scounts)?;
+    let rcounts = counts_at(alloc, fields.rcounts, call.rcounts)?;
+    match (scounts, rcounts) {
+        (Some(scounts), Some(rcounts)) => Ok((scounts, rcounts)),
+        (None, _) if is_one(fields.scounts) => Err(LineError::Fault(ScriptFault::BadNumber)),
+        (_, None) if is_one(fields.rcounts) => Err(LineError::Fault(ScriptFault::BadNumber)),
+        _ => Err(LineError::Fault(ScriptFault::BadList)),
+    }
+}
+
+// The operation of a word, the sum where there is none.
 fn operation_at(word: Option<&[u8]>) -> Op
     ensures { result ≡ said operation_named Op.Sum (option_copied word.entry) }
 {
@@ -82,14 +103,14 @@ fn operation_at(word: Option<&[u8]>) -> Op
         .unwrap_or(Op::Sum)
 }
 
-/// The type of a word, `i8` where there is none.
+// The type of a word, `i8` where there is none.
 fn type_at(word: Option<&[u8]>) -> Ty
     ensures { result ≡ said type_named Ty.I8 (option_copied word.entry) }
 {
     word.and_then(|word| type_named(word)).unwrap_or(Ty::I8)
 }
 
-/// The numbers that a line's words stand for, or None where a word is no number.
+// The numbers that a line's words stand for, or None where a word is no number.
 fn numbers_in(alloc: Global, line: &[u8]) -> Result<Option<Numbers>, AllocError>
     ensures { IfOk result (λ found. MatchOption found
         (list_any (λ word. not (is_number word)) (words line.now) ≡ true)
@@ -108,24 +129,21 @@ fn numbers_in(alloc: Global, line: &[u8]) -> Result<Option<Numbers>, AllocError>
     Ok(Some(Numbers::new(alloc, numbers)?))
 }
 
-/// The draft of a blocking call by the words of its fields.
+// The draft of a blocking call by the words of its fields.
 fn call_draft_in(alloc: Global, kind: Kind, call: &CallSyntax<'_>) -> Result<Draft, LineError>
     ensures accepted { OnOk result (fields_refusal kind call.now ≡ None) }
     ensures draft { IfOk result (λ draft. draft ≡ call_draft_in kind call.now) }
     ensures refused { IfErr result (IsRefusal (fields_refusal kind call.now)) }
 {
-    let number = kind.fields().rcounts;
     let Some(root) = number_at(call.root) else {
         return Err(LineError::Fault(ScriptFault::BadNumber));
     };
     let Some(items) = numbers_in(alloc, call.items)? else {
         return Err(LineError::Fault(ScriptFault::BadNumber));
     };
-    let Some(rcounts) = rcounts_at(alloc, number, call.rcounts)? else {
-        return Err(LineError::Fault(rcounts_fault(number)));
-    };
-    let Some(scounts) = list_at(alloc, call.scounts)? else {
-        return Err(LineError::Fault(ScriptFault::BadList));
+    let (scounts, rcounts) = match counts_in(alloc, kind.fields(), call) {
+        Ok(counts) => counts,
+        Err(e) => return Err(e),
     };
     Ok(Draft {
         call: Call::blocking(kind),
@@ -177,15 +195,4 @@ pub fn draft_in(
         graph,
         ..draft
     })
-}
-
-/// What receive counts are refused for that say nothing.
-fn rcounts_fault(number: Number) -> ScriptFault
-    ensures { result ≡ (if is_one number then ScriptFault.BadNumber else ScriptFault.BadList) }
-{
-    if is_one(number) {
-        ScriptFault::BadNumber
-    } else {
-        ScriptFault::BadList
-    }
 }

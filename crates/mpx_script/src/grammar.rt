@@ -1,9 +1,10 @@
 // What a single word of a script means.
 ghost use Rattle.std.specs.Prelude.{◌≡◌, map, IfOk};
-ghost use Rattle.mpx_script.specs.Grammar.{below, rank_count, ranks_number, label_of, named, kind_named, operation_named, type_named, list_named, is_one, is_small_letter, is_name_byte, is_name, colour_named, is_arrow, shape_in, shape_of, shape_of_new};
+ghost use Rattle.mpx_script.specs.Grammar.{below, rank_count, ranks_number, label_of, named, kind_named, side_named, operation_named, type_named, list_named, is_one, is_small_letter, is_name_byte, is_name, colour_named, is_arrow, shape_in, shape_of, shape_of_new};
 ghost use Rattle.mpx_script.specs.Words.{words};
 ghost use Rattle.std.specs.List.{list_all};
 
+use crate::statement::Side;
 use crate::words::first_word;
 use mpx_num::{Numbers, Op, Ty, parse_number};
 use mpx_post::{Family, Kind, NewCommunicator, Number};
@@ -73,7 +74,7 @@ pub fn label_of(word: &[u8]) -> Option<Label>
     Some(Label::Numbered(number))
 }
 
-/// What a table has for a word.
+// What a table has for a word.
 fn named<T: Copy>(table: &[(&[u8], T)], word: &[u8]) -> Option<T>
     ensures { result ≡ named (map (λ entry. (entry.0.now, entry.1)) table.now) word.now }
 {
@@ -114,6 +115,24 @@ pub fn kind_named(word: &[u8]) -> Option<Kind>
             (b"create_group".as_slice(), Kind::CreateGroup),
             (b"dist_graph".as_slice(), Kind::DistGraph),
             (b"dist_graph_adjacent".as_slice(), Kind::DistGraphAdjacent),
+            (b"neighbor_allgather".as_slice(), Kind::NeighborAllgather),
+            (b"neighbor_allgatherv".as_slice(), Kind::NeighborAllgatherv),
+            (b"neighbor_alltoall".as_slice(), Kind::NeighborAlltoall),
+            (b"neighbor_alltoallv".as_slice(), Kind::NeighborAlltoallv),
+        ],
+        word,
+    )
+}
+
+/// The side of a statement's word that asks for neighbours.
+#[tactic(auto, unfolding(crate::specs::Grammar::side_named))]
+pub fn side_named(word: &[u8]) -> Option<Side>
+    ensures { result ≡ side_named word.now }
+{
+    named(
+        &[
+            (b"sources".as_slice(), Side::Sources),
+            (b"destinations".as_slice(), Side::Destinations),
         ],
         word,
     )
@@ -256,7 +275,7 @@ pub fn shape_of(kind: Kind) -> Shape
     ensures { result ≡ shape_of kind }
 {
     match kind.family() {
-        Family::Exchange(_) | Family::Reduction(_) => Shape {
+        Family::Exchange(_) | Family::Reduction(_) | Family::Neighbourhood(_) => Shape {
             colour: false,
             tag: false,
             ranks: false,

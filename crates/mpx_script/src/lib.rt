@@ -7,7 +7,7 @@
 //!
 //! What a script's ranks print is its evaluation (`specs/Evaluation.antt`), whose laws are [`every_script_has_an_evaluation`],
 //! [`evaluations_are_one`], [`whatever_is_reached_is_a_beginning`], [`ranks_carry_out_their_statements`] and
-//! [`lines_tell_the_values_of_all_posts`]; [`line`] and [`refused_line`] write a line of it.
+//! [`lines_tell_the_values_of_all_posts`]; [`line`], [`refused_line`] and [`neighbours_line`] write a line of it.
 #![tactic(auto)]
 
 mod calls;
@@ -34,7 +34,7 @@ pub use faults::{ReadScriptError, ScriptError, ScriptFault};
 pub use reader::read_script;
 pub use report::Report;
 pub use script::Script;
-pub use statement::Statement;
+pub use statement::{Posting, Side, Statement};
 pub use told::{lines_tell_the_values_of_all_posts, ranks_carry_out_their_statements};
-pub use transcript::{line, refused_line};
+pub use transcript::{line, neighbours_line, refused_line};
 pub use word::Word;

@@ -163,9 +163,11 @@ fn read_lines(alloc: Global, text: &[u8]) -> Result<Script, ReadScriptError>
 /// Reads a script: at most 1,048,576 bytes of ASCII, line by line. Empty lines and lines whose first word begins with
 /// `#` are passed over; the first other line is `ranks N`, and each further line `R: STATEMENT`, or `*: STATEMENT` for
 /// every rank. A statement is `KIND C ROOT OPERATION TYPE SCOUNTS RCOUNTS ITEMS` without the words that calls of its
-/// kind don't have, or makes a communicator (MPI 4.1 section 7.4.2), where the list `L` has ranks of `C`:
-/// `dup C -> D`, `split C COLOUR KEY -> D` with a number or `undefined` for the colour, `create C L -> D` or
-/// `create_group C TAG L -> D`. `C` is `world` or a name that an earlier statement of the rank binds, and `D` a name that
+/// kind don't have, or makes a communicator (MPI 4.1 sections 7.4.2 and 8.5.4), where the list `L` has ranks of `C`:
+/// `dup C -> D`, `split C COLOUR KEY -> D` with a number or `undefined` for the colour, `create C L -> D`,
+/// `create_group C TAG L -> D`, `dist_graph C EDGES -> D` with edges `S>D` or `S>D:W`, or
+/// `dist_graph_adjacent C SOURCES DESTINATIONS -> D` with neighbours `R` or `R:W`; or it asks for the rank's own neighbours in `C`
+/// on one side (section 8.5.5): `sources C` or `destinations C`. `C` is `world` or a name that an earlier statement of the rank binds, and `D` a name that
 /// none does: a small letter, then small letters, digits or `_`, at most 32 bytes. See `specs/Grammar.antt`.
 ///
 /// The refusal is that of the least line that has one, and the first of [`ScriptFault`] that holds of it.

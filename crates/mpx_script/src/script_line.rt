@@ -1,22 +1,22 @@
 // What one line of a script says, or why it is refused.
-ghost use Rattle.std.specs.Prelude.{◌≡◌, ◌+◌, ◌-◌, ◌<◌, ◌≤◌, ℕ, List, [], ◌∷◌, ◌||◌, not, map, true, false, is_none, None, Some, IfOk, OnOk, IfErr};
+ghost use Rattle.std.specs.Prelude.{◌≡◌, ◌+◌, ◌-◌, ◌<◌, ◌≤◌, ℕ, List, [], ◌∷◌, ◌||◌, not, map, true, false, is_none, None, Some, IfOk, OnOk, IfErr, unwrap_or};
 ghost use Rattle.std.specs.List.{range_with_len};
 ghost use Rattle.std.specs.Option.{option_copied, option_map_or};
 ghost use Rattle.mpx_post.specs.Kinds.{family_of};
 ghost use Rattle.mpx_script.specs.Statements.{target_of, word_of};
 ghost use Rattle.mpx_script.specs.PartialScripts.{ranks_of_script, bound_of_script};
 ghost use Rattle.mpx_script.specs.Words.{words, counts, is_ascii};
-ghost use Rattle.mpx_script.specs.Grammar.{directive_in, fails, has_name, is_name, label_in, lacks_name, names_bound, ranks_in, statement_in, statement_of, statement_said};
+ghost use Rattle.mpx_script.specs.Grammar.{directive_in, fails, has_name, is_name, label_in, lacks_name, names_bound, ranks_in, posting_of, posting_said, statement_in};
 ghost use Rattle.mpx_script.specs.Reading.{first_holding, refusal, plain_context, bounded_context};
-ghost use Rattle.mpx_script.specs.Sentences.{IsAssignment, Says, IsRefusal, statement_refusal, call_refusal};
+ghost use Rattle.mpx_script.specs.Sentences.{IsAssignment, Says, IsRefusal, ask_refusal, statement_refusal, call_refusal};
 
 use crate::calls::{draft_in, number_at};
 use crate::faults::{LineError, ScriptFault};
 use crate::grammar::{is_name, rank_count, ranks_number, shape_of};
 use crate::script::Script;
-use crate::statement::Statement;
+use crate::statement::{Posting, Side, Statement};
 use crate::syntax::{
-    CallSyntax, DirectiveSyntax, NewSyntax, call_in, directive_in, new_in, ranks_named,
+    CallSyntax, DirectiveSyntax, NewSyntax, call_in, directive_in, has_words, new_in, ranks_named,
 };
 use crate::word::Word;
 use crate::words::{counts, is_ascii};
@@ -45,7 +45,7 @@ pub enum Sentence {
     Further(Assignment),
 }
 
-/// The number of ranks on the first line that counts.
+// The number of ranks on the first line that counts.
 #[tactic(auto, unfolding(crate::specs::Grammar::lacks_ranks, crate::specs::Grammar::has_ranks_out_of_range))]
 fn opening_line(line: &[u8]) -> Result<u8, LineError>
     requires ascii { is_ascii line.now ≡ true }
@@ -63,30 +63,30 @@ fn opening_line(line: &[u8]) -> Result<u8, LineError>
     Ok(ranks)
 }
 
-/// The statement of a kind on a communicator, with its draft, its tag and the name for the new communicator.
-fn statement_of(
+// What a statement of a kind posts on a communicator, with its draft, its tag and the name for the new communicator.
+fn posting_of(
     alloc: Global,
     kind: Kind,
     on: &[u8],
     draft: Draft,
     tag: i128,
     target: &[u8],
-) -> Result<Statement, OutOfMemory>
-    ensures { IfOk result (λ statement. statement ≡ statement_of (family_of kind) on.now draft tag target.now) }
+) -> Result<Posting, OutOfMemory>
+    ensures { IfOk result (λ posting. posting ≡ posting_of (family_of kind) on.now draft tag target.now) }
 {
     let on = Word::new(alloc, on)?;
     let Family::NewCommunicator(new) = kind.family() else {
-        return Ok(Statement::Call { on, draft });
+        return Ok(Posting::Call { on, draft });
     };
     let to = Word::new(alloc, target)?;
     if new == NewCommunicator::CreateGroup {
         let ranks = draft.group;
-        return Ok(Statement::CreateGroup { on, tag, ranks, to });
+        return Ok(Posting::CreateGroup { on, tag, ranks, to });
     }
-    Ok(Statement::New { on, draft, to })
+    Ok(Posting::New { on, draft, to })
 }
 
-/// The statement of a kind by its words.
+// What a statement of a kind posts, by its words.
 #[tactic(auto, using(crate::proofs::Refusals::refusal_of_tag, crate::proofs::Refusals::refusal_of_draft, crate::proofs::Refusals::refusal_of_name))]
 fn call_of(
     alloc: Global,
@@ -94,9 +94,9 @@ fn call_of(
     communicator: Option<&[u8]>,
     new: &NewSyntax<'_>,
     call: &CallSyntax<'_>,
-) -> Result<Statement, LineError>
+) -> Result<Posting, LineError>
     ensures accepted { OnOk result (call_refusal kind (option_copied communicator.entry) new.now call.now ≡ None) }
-    ensures statement { IfOk result (λ statement. statement ≡ statement_said kind (option_copied communicator.entry) new.now call.now) }
+    ensures posting { IfOk result (λ posting. posting ≡ posting_said kind (option_copied communicator.entry) new.now call.now) }
     ensures refused { IfErr result (IsRefusal (call_refusal kind (option_copied communicator.entry) new.now call.now)) }
 {
     if call.has_unknown_word() {
@@ -119,18 +119,42 @@ fn call_of(
         return Err(LineError::Fault(ScriptFault::BadName));
     }
     let target = new.target.unwrap_or(&[]);
-    Ok(statement_of(alloc, kind, communicator, draft, tag, target)?)
+    Ok(posting_of(alloc, kind, communicator, draft, tag, target)?)
 }
 
-/// Whether the communicator's word or that for the new one is no name.
+// Whether the communicator's word or that for the new one is no name.
 fn are_bad_names(communicator: &[u8], target: Option<&[u8]>) -> bool
     ensures { result ≡ (not (is_name communicator.now) || fails is_name (option_copied target.entry)) }
 {
     !is_name(communicator) || target.is_some_and(|word| !is_name(word))
 }
 
-/// The statement behind a label, whatever is bound.
-#[tactic(auto, using(crate::proofs::Refusals::refusal_of_kind, crate::proofs::Refusals::refusal_of_no_kind), unfolding(crate::specs::Grammar::statement_in))]
+// The statement of a side by its communicator and the line behind it.
+fn ask_of(
+    alloc: Global,
+    side: Side,
+    communicator: Option<&[u8]>,
+    behind: &[u8],
+) -> Result<Statement, LineError>
+    ensures accepted { OnOk result (ask_refusal (option_copied communicator.entry) (words behind.now) ≡ None) }
+    ensures statement { IfOk result (λ statement. statement ≡ Statement.Ask (unwrap_or (option_copied communicator.entry) []) side) }
+    ensures refused { IfErr result (IsRefusal (ask_refusal (option_copied communicator.entry) (words behind.now))) }
+{
+    let Some(communicator) = communicator else {
+        return Err(LineError::Fault(ScriptFault::WrongWords));
+    };
+    if has_words(behind) {
+        return Err(LineError::Fault(ScriptFault::WrongWords));
+    }
+    if !is_name(communicator) {
+        return Err(LineError::Fault(ScriptFault::BadName));
+    }
+    let on = Word::new(alloc, communicator)?;
+    Ok(Statement::Ask { on, side })
+}
+
+// The statement behind a label, whatever is bound.
+#[tactic(auto, using(crate::proofs::Refusals::refusal_of_kind, crate::proofs::Refusals::refusal_of_side, crate::proofs::Refusals::refusal_of_no_word), unfolding(crate::specs::Grammar::statement_in))]
 fn statement_in(alloc: Global, directive: &DirectiveSyntax<'_>) -> Result<Statement, LineError>
     requires { is_none (label_in directive.now) ≡ false }
     ensures accepted { OnOk result (statement_refusal directive.now ≡ None) }
@@ -138,28 +162,32 @@ fn statement_in(alloc: Global, directive: &DirectiveSyntax<'_>) -> Result<Statem
     ensures refused { IfErr result (IsRefusal (statement_refusal directive.now)) }
 {
     let Some(kind) = directive.kind() else {
-        return Err(LineError::Fault(ScriptFault::UnknownStatement));
+        let Some(side) = directive.side() else {
+            return Err(LineError::Fault(ScriptFault::UnknownStatement));
+        };
+        return ask_of(alloc, side, directive.communicator, directive.behind);
     };
     let new = new_in(shape_of(kind), directive.behind);
     let call = call_in(kind.fields(), new.behind);
-    call_of(alloc, kind, directive.communicator, &new, &call)
+    let posting = call_of(alloc, kind, directive.communicator, &new, &call)?;
+    Ok(Statement::Post(posting))
 }
 
-/// Whether one of the ranks from the one on and below the other hasn't bound the word.
+// Whether one of the ranks from the one on and below the other hasn't bound the word.
 fn lacks_name(script: &Script, from: u8, to: u8, word: &[u8]) -> bool
     ensures { result ≡ lacks_name (map names_bound script.now.statements) (range_with_len from (to - from)) word.now }
 {
     (from..to).any(|rank| !script.has_bound(rank, word))
 }
 
-/// Whether one of them has.
+// Whether one of them has.
 fn has_name(script: &Script, from: u8, to: u8, word: &[u8]) -> bool
     ensures { result ≡ has_name (map names_bound script.now.statements) (range_with_len from (to - from)) word.now }
 {
     (from..to).any(|rank| script.has_bound(rank, word))
 }
 
-/// What a statement's names are refused for at these ranks.
+// What a statement's names are refused for at these ranks.
 fn names_fault(script: &Script, from: u8, to: u8, statement: &Statement) -> Option<ScriptFault>
     ensures { result ≡ (let ranks : List ℕ = range_with_len from (to - from) in first_holding (
         (ScriptFault.NameUnknown, lacks_name (map names_bound script.now.statements) ranks (word_of statement.now))
@@ -177,7 +205,7 @@ fn names_fault(script: &Script, from: u8, to: u8, statement: &Statement) -> Opti
     }
 }
 
-/// The statement of a further line.
+// The statement of a further line.
 #[tactic(auto, using(crate::proofs::Refusals::refusal_of_many, crate::proofs::Refusals::count_of_statement), unfolding(crate::specs::Grammar::names_rank))]
 fn further_line(
     alloc: Global,

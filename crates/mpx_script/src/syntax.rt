@@ -2,13 +2,14 @@
 ghost use Rattle.std.specs.Prelude.{◌≡◌, ◌==◌, ◌+◌, ◌-◌, ◌<◌, ◌≤◌, ℕ, ◌&&◌, ◌⊎◌, true, false, not, None, Some, IfOk, IfErr, nat_le, nat_lt, is_none, length};
 ghost use Rattle.std.specs.Option.{option_copied};
 ghost use Rattle.mpx_script.specs.Words.{words};
-ghost use Rattle.mpx_script.specs.Grammar.{directive_in, kind_in, label_in, new_in, call_in, ranks_meant, ranks_labelled, statements_in, is_past, is_meant, lacks, has_unknown_word, has_wrong_new_words, has_wrong_count};
+ghost use Rattle.mpx_script.specs.Grammar.{directive_in, kind_in, label_in, side_in, new_in, call_in, ranks_meant, ranks_labelled, statements_in, is_past, is_meant, lacks, has_unknown_word, has_wrong_new_words, has_wrong_count};
 ghost use Rattle.std.specs.List.{range_with_len};
 
 use crate::faults::{LineError, ScriptFault};
 use crate::grammar::{
-    Label, Shape, below, is_arrow, kind_named, label_of, operation_named, type_named,
+    Label, Shape, below, is_arrow, kind_named, label_of, operation_named, side_named, type_named,
 };
+use crate::statement::Side;
 use crate::words::{first_word, next_word};
 use mpx_post::{Fields, Kind};
 use std::marker::Model;
@@ -83,6 +84,16 @@ impl DirectiveSyntax<'_> {
     {
         match self.statement {
             Some(word) => kind_named(word),
+            None => None,
+        }
+    }
+
+    /// The side of a statement that asks for neighbours.
+    pub fn side(&self) -> Option<Side>
+        ensures { result ≡ side_in self.now }
+    {
+        match self.statement {
+            Some(word) => side_named(word),
             None => None,
         }
     }
@@ -237,14 +248,15 @@ impl CallSyntax<'_> {
     }
 }
 
-/// Whether a word is asked for and isn't there.
+// Whether a word is asked for and isn't there.
 fn lacks(asked: bool, word: Option<&[u8]>) -> bool
     ensures { result ≡ lacks asked (option_copied word.entry) }
 {
     asked && word.is_none()
 }
 
-fn has_words(line: &[u8]) -> bool
+/// Whether a word stands in the line.
+pub fn has_words(line: &[u8]) -> bool
     ensures { result ≡ not (length (words line.now) == 0) }
 {
     first_word(line).0.is_some()

@@ -18,7 +18,8 @@ pub fn lines_tell_the_values_of_all_posts()
 
 /// After any list of moves a rank has passed the first of its statements, in their order. Each of these was accepted, and
 /// then its post is the next one that the rank made, and its line tells the outcome of that very call; or it was refused,
-/// and then its line says why, and there is no post. The rank has made no other post, but for that of the statement whose
+/// and then its line says why, and there is no post. A statement that asks for neighbours has no post, and its line tells them
+/// by the communicator that its word is bound to. The rank has made no other post, but for that of the statement whose
 /// outcome it waits for, and has no other line. One that has nothing left to do has passed all of its statements.
 ///
 /// `world` is bound to the communicator of all ranks. A word of a statement is bound to the communicator that its call gave,

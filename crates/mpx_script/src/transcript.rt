@@ -1,12 +1,12 @@
 // The text of a line of a transcript.
-ghost use Rattle.std.specs.Prelude.{◌≡◌, ◌++◌, ◌∷◌, IfOk, pos, codes, string_bytes};
+ghost use Rattle.std.specs.Prelude.{◌≡◌, ◌++◌, ◌∷◌, IfOk, OnOk, pos, codes, string_bytes};
 ghost use Rattle.mpx_num.specs.Text.{number_text};
-ghost use Rattle.mpx_script.specs.Ranks.{Refused};
-ghost use Rattle.mpx_script.specs.Transcripts.{fault_name, line_text, numbers_text, outcome_text, refusal_name};
+ghost use Rattle.mpx_script.specs.Ranks.{Near, Refused};
+ghost use Rattle.mpx_script.specs.Transcripts.{fault_name, line_text, neighbour_text, numbers_text, outcome_text, refusal_name};
 
 use join_core::OutOfMemory;
 use mpx_num::push_number;
-use mpx_post::PostError;
+use mpx_post::{Neighbour, PostError};
 use mpx_value::{FaultKind, Outcome};
 use std::alloc::Global;
 
@@ -33,6 +33,43 @@ pub fn refused_line(alloc: Global, refusal: PostError) -> Result<String, OutOfMe
     let mut text = String::from_str(alloc, "refused ")?;
     text.push_str(name_of_refusal(refusal))?;
     Ok(text)
+}
+
+/// The line of a transcript that tells neighbours: their ranks, or with weights `RANK:WEIGHT`, with one space between them;
+/// `empty` where there are none.
+pub fn neighbours_line(
+    alloc: Global,
+    weighted: bool,
+    neighbours: &[Neighbour],
+) -> Result<String, OutOfMemory>
+    ensures { IfOk result (λ text. string_bytes text ≡ line_text (Near weighted neighbours.now)) }
+{
+    let Some((first, rest)) = neighbours.split_first() else {
+        return Ok(String::from_str(alloc, "empty")?);
+    };
+    let mut text = String::new(alloc);
+    push_neighbour(&mut text, weighted, *first)?;
+    for neighbour in rest {
+        text.push_str(" ")?;
+        push_neighbour(&mut text, weighted, *neighbour)?;
+    }
+    Ok(text)
+}
+
+// Appends a neighbour's rank, and its weight, where edges have weights.
+fn push_neighbour(
+    text: &mut String,
+    weighted: bool,
+    neighbour: Neighbour,
+) -> Result<(), OutOfMemory>
+    ensures { OnOk result (string_bytes text.new ≡ string_bytes text.old ++ neighbour_text weighted neighbour) }
+{
+    push_number(text, i128::from(neighbour.rank))?;
+    if weighted {
+        text.push_str(":")?;
+        push_number(text, i128::from(neighbour.weight))?;
+    }
+    Ok(())
 }
 
 fn numbers_line(alloc: Global, numbers: &[i128]) -> Result<String, OutOfMemory>
@@ -97,6 +134,7 @@ fn name_of_refusal(refusal: PostError) -> &'static str
         PostError::ItemsLength => "ItemsLength",
         PostError::ItemOutOfRange => "ItemOutOfRange",
         PostError::TooManyItems => "TooManyItems",
+        PostError::NoTopology => "NoTopology",
         PostError::CallsUsedUp => "CallsUsedUp",
         PostError::DepthUsedUp => "DepthUsedUp",
         PostError::BadGroup => "BadGroup",

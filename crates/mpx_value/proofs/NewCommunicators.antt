@@ -15,6 +15,7 @@ use Rattle.mpx_match.specs.declared.faults.Verdict.TheVariants as V
 use Rattle.mpx_match.specs.Verdicts.{verdict}
 use Rattle.mpx_fold.specs.Folds.{fold_value}
 use Rattle.mpx_move.specs.Moves.{move_value}
+use Rattle.mpx_neigh.specs.Neighbourhoods.{neigh_value}
 use Rattle.mpx_kind.specs.declared.kinds.Family.{Family}
 use Rattle.mpx_kind.specs.declared.kinds.Family.TheVariants as F
 use Rattle.mpx_kind.specs.declared.kinds.NewCommunicator.{NewCommunicator}
@@ -59,6 +60,7 @@ rise_in : (family : Family) (birth : BirthView) (row : RowView) → Rise (childr
 rise_in (F.Exchange exchange) birth row = none
 rise_in (F.Reduction reduction) birth row = none
 rise_in (F.NewCommunicator new) birth row = rise_by new birth row
+rise_in (F.Neighbourhood exchange) birth row = none
 
 rise_unless : (v : Verdict) (made : List ChildView) → Rise made → Rise (unless_fault v made)
 rise_unless V.Fine made rise = rise
@@ -71,7 +73,7 @@ rise_where false made rise = none
 pub colours_rise : (birth : BirthView) (row : RowView) (name : Name) (call : ℕ) → Rise (children birth row name call)
 unfolding children
 colours_rise birth row name call =
-    rise_where (has_room name) _ (rise_unless (verdict row) _ (rise_in (family_of (first_of row).kind) birth row))
+    rise_where (has_room name) _ (rise_unless (verdict birth.topology row) _ (rise_in (family_of (first_of row).kind) birth row))
 
 exact : (made : List ChildView) (place : ℕ) (x : ChildView) → Rise made → slice_get made place ≡ Some x → of_colour x.colour made ≡ Some x.birth
 exact [] place x rise e = cc e
@@ -119,6 +121,7 @@ by_room false birth row name call process new size rank e = cc e
 by_family : (family : Family) (birth : BirthView) (row : RowView) (name : Name) (call at : ℕ) (new : Name) (size rank : ℕ) → given_in family birth row name call at ≡ NewComm new size rank → told_new birth row name call (get_or birth.members at 0) ≡ NewComm new size rank
 by_family (F.Exchange exchange) birth row name call at new size rank e = absurd (by_value (move_value row at) new size rank e)
 by_family (F.Reduction reduction) birth row name call at new size rank e = absurd (by_value (fold_value row at) new size rank e)
+by_family (F.Neighbourhood exchange) birth row name call at new size rank e = absurd (by_value (neigh_value birth.topology row at) new size rank e)
 by_family (F.NewCommunicator made) birth row name call at new size rank e = e
 
 by_verdict : (v : Verdict) (given : Outcome) (new : Name) (size rank : ℕ) → or_fault v given ≡ NewComm new size rank → given ≡ NewComm new size rank
@@ -129,7 +132,7 @@ at_rank : (birth : BirthView) (row : RowView) (name : Name) (call at : ℕ) (new
 unfolding value
 at_rank birth row name call at new size rank e =
     by_room (has_room name) birth row name call (get_or birth.members at 0) new size rank
-    (by_family (family_of (first_of row).kind) birth row name call at new size rank (by_verdict (verdict row) _ new size rank e))
+    (by_family (family_of (first_of row).kind) birth row name call at new size rank (by_verdict (verdict birth.topology row) _ new size rank e))
 
 -- what a row gives a process as its new communicator is one of the children
 pub new_communicator : (birth : BirthView) (me : ℕ) (row : RowView) (name : Name) (call : ℕ) (new : Name) (size rank : ℕ) → value_for birth me row name call ≡ Some (NewComm new size rank) → IsNewCommunicator birth row name call me new size rank

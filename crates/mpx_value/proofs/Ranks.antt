@@ -34,13 +34,13 @@ split_ranks row colour =
 
 pub group_ranks : (row : RowView) (rank : ℕ) → IsFine row → rank < length row → All (λ r. r < length row) (group_of (post_at row rank))
 group_ranks row rank fine l =
-    let group = (fits_parts (length row) rank (post_at row rank) (fine.each rank l).fit).group in
+    let group = (fits_parts fine.topology (length row) rank (post_at row rank) (fine.with.each rank l).fit).group in
     All-weaker (λ r. nat_lt r (length row) ≡ true) (λ r. r < length row) (λ r t. ltb-true r (length row) t) _
     (AllPass-from_list_all (λ r. nat_lt r (length row)) (group_of (post_at row rank)) (and_parts _ _ group).1)
 
 pub group_few : (row : RowView) (rank : ℕ) → IsFine row → rank < length row → length (group_of (post_at row rank)) ≤ length row
 group_few row rank fine l =
-    let group = (fits_parts (length row) rank (post_at row rank) (fine.each rank l).fit).group in
+    let group = (fits_parts fine.topology (length row) rank (post_at row rank) (fine.with.each rank l).fit).group in
     length_distinct (length row) (group_of (post_at row rank)) (not-true _ (and_parts _ _ group).0) (group_ranks row rank fine l)
 
 -- the processes with ranks among the members are members

@@ -1,5 +1,5 @@
 -- The members of children are members of the birth.
-use Rattle.std.proofs.Common.{◌≡◌, ℕ, ◌<◌, Bool, true, false, List, [], length, cond, Option, Some, None, arith}
+use Rattle.std.proofs.Common.{◌≡◌, ℕ, ◌<◌, Bool, true, false, List, [], length, cond, Option, Some, None, refl, arith}
 use Rattle.std.specs.Prelude.{filter}
 use Rattle.std.specs.List.{All}
 use Rattle.std.proofs.lemmas.List.Elements.{All-cons, All-filter, All-map, All-nil, All-weaker}
@@ -7,8 +7,9 @@ use Rattle.mpx_group.specs.Group.{has}
 use Rattle.mpx_name.specs.Name.{Name}
 use Rattle.mpx_match.specs.declared.faults.Verdict.{Verdict}
 use Rattle.mpx_match.specs.declared.faults.Verdict.TheVariants as V
-use Rattle.mpx_match.specs.Verdicts.{IsFirstFault, questions, verdict}
-use Rattle.mpx_match.proofs.FirstFault.{fine, verdict-is_first}
+use Rattle.mpx_match.specs.Verdicts.{verdict}
+use Rattle.mpx_match.proofs.FirstFault.{verdict-fine}
+use Rattle.mpx_post.proofs.Agreement.{fine_with}
 use Rattle.mpx_kind.specs.declared.kinds.Family.{Family}
 use Rattle.mpx_kind.specs.declared.kinds.Family.TheVariants as F
 use Rattle.mpx_kind.specs.declared.kinds.NewCommunicator.{NewCommunicator}
@@ -52,10 +53,11 @@ module _ (birth : BirthView) (row : RowView) (long : length row ≡ length birth
   by_family (F.Exchange exchange) is = All-nil Within
   by_family (F.Reduction reduction) is = All-nil Within
   by_family (F.NewCommunicator new) is = by_kind new is
+  by_family (F.Neighbourhood exchange) is = All-nil Within
 
-  by_verdict : (v : Verdict) → IsFirstFault questions row v → All Within (unless_fault v (children_in (family_of (first_of row).kind) birth row))
-  by_verdict V.Fine first = by_family (family_of (first_of row).kind) (fine row first)
-  by_verdict (V.Fault fault) first = All-nil Within
+  by_verdict : (v : Verdict) → (v ≡ V.Fine → IsFine row) → All Within (unless_fault v (children_in (family_of (first_of row).kind) birth row))
+  by_verdict V.Fine fine = by_family (family_of (first_of row).kind) (fine refl)
+  by_verdict (V.Fault fault) fine = All-nil Within
 
   by_room : (b : Bool) (made : List ChildView) → All Within made → All Within (cond b made [])
   by_room true made all = all
@@ -64,4 +66,4 @@ module _ (birth : BirthView) (row : RowView) (long : length row ≡ length birth
 pub children_within : (birth : BirthView) (row : RowView) (name : Name) (call : ℕ) → length row ≡ length birth.members → All (λ (x : ChildView). All (λ p. has birth.members p ≡ true) x.birth.members) (children birth row name call)
 unfolding children
 children_within birth row name call long =
-    by_room birth row long (has_room name) _ (by_verdict birth row long (verdict row) (verdict-is_first row))
+    by_room birth row long (has_room name) _ (by_verdict birth row long (verdict birth.topology row) (λ e. fine_with birth.topology row (verdict-fine birth.topology row e)))

@@ -100,6 +100,7 @@ abbrev pub children_in : Family → BirthView → RowView → List ChildView
 children_in (F.Exchange exchange) birth row = []
 children_in (F.Reduction reduction) birth row = []
 children_in (F.NewCommunicator new) birth row = children_by new birth row
+children_in (F.Neighbourhood exchange) birth row = []
 
 -- none where the posts don't fit together
 abbrev pub unless_fault : Verdict → List ChildView → List ChildView
@@ -112,7 +113,7 @@ has_room name = nat_lt (length name) most_steps
 
 -- what the call with this row makes, in rising order of colours
 unfoldable pub children : BirthView → RowView → Name → (call : ℕ) → List ChildView
-children birth row name call = cond (has_room name) (unless_fault (verdict row) (children_in (family_of (first_of row).kind) birth row)) []
+children birth row name call = cond (has_room name) (unless_fault (verdict birth.topology row) (children_in (family_of (first_of row).kind) birth row)) []
 
 -- the one of this colour
 abbrev pub of_colour : ℕ → List ChildView → Option BirthView

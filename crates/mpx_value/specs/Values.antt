@@ -1,4 +1,4 @@
--- What a call gives its members (MPI 4.1, sections 6.3 to 6.11, 7.4.2 and 8.5.4).
+-- What a call gives its members (MPI 4.1, sections 6.3 to 6.11, 7.4.2, 8.5.4 and 8.6).
 use Rattle.std.specs.Prelude.{ℕ, cond, List, [], ◌∷◌, length, slice_index_or}
 use Rattle.std.specs.Option.{option_map_or}
 use Rattle.mpx_match.specs.declared.faults.FaultKind.TheVariants.{Amount}
@@ -7,6 +7,7 @@ use Rattle.mpx_match.specs.declared.faults.Verdict.TheVariants as V
 use Rattle.mpx_match.specs.Verdicts.{verdict}
 use Rattle.mpx_fold.specs.Folds.{fold_value}
 use Rattle.mpx_move.specs.Moves.{move_value}
+use Rattle.mpx_neigh.specs.Neighbourhoods.{neigh_value}
 use Rattle.mpx_post.specs.declared.value.Value.{Value}
 use Rattle.mpx_post.specs.declared.value.Value.TheVariants as G
 use Rattle.mpx_kind.specs.declared.kinds.Family.{Family}
@@ -39,6 +40,7 @@ abbrev pub given_in : Family → BirthView → RowView → Name → (call rank :
 given_in (F.Exchange exchange) birth row name call rank = outcome_of (move_value row rank)
 given_in (F.Reduction reduction) birth row name call rank = outcome_of (fold_value row rank)
 given_in (F.NewCommunicator new) birth row name call rank = new_communicator birth row name call (slice_index_or birth.members rank 0)
+given_in (F.Neighbourhood exchange) birth row name call rank = outcome_of (neigh_value birth.topology row rank)
 
 abbrev pub given_to : BirthView → RowView → Name → (call rank : ℕ) → Outcome
 given_to birth row name call rank = given_in (family_of (first_of row).kind) birth row name call rank
@@ -50,4 +52,4 @@ or_fault (V.Fault fault) given = Fault fault
 
 -- what the call gives the member with this rank
 unfoldable pub value : BirthView → RowView → Name → (call rank : ℕ) → Outcome
-value birth row name call rank = or_fault (verdict row) (given_to birth row name call rank)
+value birth row name call rank = or_fault (verdict birth.topology row) (given_to birth row name call rank)

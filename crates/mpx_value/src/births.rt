@@ -40,7 +40,7 @@ pub fn children(
     if !row.post(0).kind().makes_communicators() {
         return Ok(Vec::new(alloc));
     }
-    match verdict(row) {
+    match verdict(birth, row) {
         Verdict::Fault(_) => Ok(Vec::new(alloc)),
         Verdict::Fine => {
             if has_room(name) {
@@ -69,7 +69,7 @@ pub(crate) fn made(
     call: u32,
 ) -> Result<Vec<(Name, Birth)>, OutOfMemory>
     requires fine { IsFine row.now }
-    requires verdict { verdict row.now ≡ Verdict.Fine }
+    requires verdict { verdict birth.now.topology row.now ≡ Verdict.Fine }
     requires room { length name.now < most_steps }
     requires members { length row.now ≡ length birth.now.members }
     requires call { call < most_calls }
@@ -79,6 +79,7 @@ pub(crate) fn made(
     match row.post(0).kind().family() {
         Family::Exchange(_) => Ok(Vec::new(alloc)),
         Family::Reduction(_) => Ok(Vec::new(alloc)),
+        Family::Neighbourhood(_) => Ok(Vec::new(alloc)),
         Family::NewCommunicator(new) => match new {
             NewCommunicator::Dup => only_child(alloc, birth.copy(alloc)?, name, call),
             NewCommunicator::Split => split(alloc, birth, row, name, call),

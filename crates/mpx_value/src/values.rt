@@ -1,6 +1,6 @@
 ghost use Rattle.std.specs.Prelude.{◌≡◌, ◌<◌, IfOk, length};
 ghost use Rattle.mpx_match.specs.Verdicts.{verdict};
-ghost use Rattle.mpx_post.specs.Agreement.{IsFine};
+ghost use Rattle.mpx_post.specs.Agreement.{IsFine, IsFineWith};
 ghost use Rattle.mpx_post.specs.Drafts.{most_calls};
 ghost use Rattle.mpx_value.specs.Values.{given_to, new_communicator, outcome_of, told, value};
 
@@ -12,6 +12,7 @@ use mpx_group::Proc;
 use mpx_match::{Fault, FaultKind, Verdict, verdict};
 use mpx_move::move_value;
 use mpx_name::Name;
+use mpx_neigh::neigh_value;
 use mpx_post::{Birth, Family, Row, Value};
 use std::alloc::Global;
 
@@ -31,7 +32,7 @@ pub fn outcome(
     requires call { call < most_calls }
     ensures { IfOk result (λ outcome. outcome ≡ value birth.now row.now name.now call rank) }
 {
-    match verdict(row) {
+    match verdict(birth, row) {
         Verdict::Fault(fault) => Ok(Outcome::Fault(fault)),
         Verdict::Fine => given_to(alloc, birth, row, name, call, rank),
     }
@@ -46,8 +47,8 @@ fn given_to(
     call: u32,
     rank: u8,
 ) -> Result<Outcome, OutOfMemory>
-    requires fine { IsFine row.now }
-    requires verdict { verdict row.now ≡ Verdict.Fine }
+    requires fine { IsFineWith birth.now.topology row.now }
+    requires verdict { verdict birth.now.topology row.now ≡ Verdict.Fine }
     requires members { length row.now ≡ length birth.now.members }
     requires rank { rank < length row.now }
     requires call { call < most_calls }
@@ -56,6 +57,7 @@ fn given_to(
     match row.post(0).kind().family() {
         Family::Exchange(_) => Ok(outcome_of(move_value(alloc, row, rank)?)),
         Family::Reduction(_) => Ok(outcome_of(fold_value(alloc, row, rank)?)),
+        Family::Neighbourhood(_) => Ok(outcome_of(neigh_value(alloc, birth, row, rank)?)),
         Family::NewCommunicator(_) => {
             let process = birth.members()[usize::from(rank)];
             new_communicator(alloc, birth, row, name, call, process)
@@ -83,7 +85,7 @@ fn new_communicator(
     process: Proc,
 ) -> Result<Outcome, OutOfMemory>
     requires fine { IsFine row.now }
-    requires verdict { verdict row.now ≡ Verdict.Fine }
+    requires verdict { verdict birth.now.topology row.now ≡ Verdict.Fine }
     requires members { length row.now ≡ length birth.now.members }
     requires call { call < most_calls }
     ensures { IfOk result (λ outcome. outcome ≡ new_communicator birth.now row.now name.now call process) }

@@ -239,6 +239,7 @@ fn is_want_of_memory(refusal: PostError) -> bool
         PostError::ItemsLength => false,
         PostError::ItemOutOfRange => false,
         PostError::TooManyItems => false,
+        PostError::NoTopology => false,
         PostError::CallsUsedUp => false,
         PostError::DepthUsedUp => false,
         PostError::BadGroup => false,

@@ -1,6 +1,6 @@
 ghost use Rattle.std.specs.Prelude.{◌≡◌, IfOk};
 
-use mpx_num::{Items, ItemsError, Numbers, Op, Ty, apply, op_fits};
+use mpx_num::{Items, ItemsError, Numbers, Op, Ty, apply, is_in_range, op_fits};
 use std::alloc::Global;
 use std::process::Abort;
 use std::test::Fail;
@@ -48,7 +48,9 @@ fn ends_of_the_ranges(rt: HostRuntime) -> Result<(), Fail> {
     ] {
         let ends = items(&rt, rt.alloc(), ty, &[low, high])?;
         assert_eq!(rt; ends.ty(), ty);
+        assert!(rt; is_in_range(ty, low) && is_in_range(ty, high));
         for past in [low - 1, high + 1, i128::MIN, i128::MAX] {
+            assert!(rt; !is_in_range(ty, past));
             let list = Numbers::new(rt.alloc(), vec![in rt.alloc(); 0, past]?)?;
             assert_eq!(rt;
                 Items::new(ty, list).err(),

@@ -121,3 +121,49 @@ fn items_and_calls(rt: HostRuntime) {
         ],
     );
 }
+
+fn along_edges(ty: Ty, scounts: &'static [i128], items: &'static [i128]) -> Drafted<'static> {
+    Drafted {
+        ty,
+        scounts,
+        items,
+        ..just(Kind::NeighborAlltoallv)
+    }
+}
+
+// Without a topology the counts and the number of items are not asked for, but each number is.
+#[test]
+fn no_edges_to_go_along(rt: HostRuntime) {
+    use PostError::{ItemOutOfRange, NoTopology, NotMember, TooManyItems};
+    let at = in_world(0);
+    let one = along_edges(Ty::I32, &[1], &[7]);
+    check_refusals(
+        &rt,
+        rt.alloc(),
+        &[
+            (0, at, one, Some(NoTopology)),
+            (0, at, along_edges(Ty::I32, &[1, 2], &[7]), Some(NoTopology)),
+            (
+                0,
+                at,
+                along_edges(Ty::TwoInt, &[1], &[7, 8, 9]),
+                Some(NoTopology),
+            ),
+            (
+                0,
+                at,
+                along_edges(Ty::I8, &[1], &[128]),
+                Some(ItemOutOfRange),
+            ),
+            (
+                0,
+                at,
+                along_edges(Ty::I32, &[4097], &[7]),
+                Some(TooManyItems),
+            ),
+            (0, at, along_edges(Ty::I32, &[-1], &[7]), Some(TooManyItems)),
+            (0, in_world(4294967295), one, Some(NoTopology)),
+            (2, at, one, Some(NotMember)),
+        ],
+    );
+}

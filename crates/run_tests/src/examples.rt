@@ -220,3 +220,41 @@ fn communicators(rt: HostRuntime) -> Result<(), Fail> {
     check_runs(&rt, rt.alloc(), table.as_slice());
     Ok(())
 }
+
+#[test]
+fn neighbourhoods(rt: HostRuntime) -> Result<(), Fail> {
+    let table: [Row; 5] = [
+        // neighbor_allgather.job
+        (
+            b"# Every rank gets what each of its sources gives, once for each edge. COUNT is how many items come along one edge.\nranks 3\n0: dist_graph world 0>1,1>2,2>0,0>1 -> ring\n1: dist_graph world - -> ring\n2: dist_graph world - -> ring\n*: sources ring\n0: neighbor_allgather ring i32 2 1 2\n1: neighbor_allgather ring i32 2 3 4\n2: neighbor_allgather ring i32 2 5 6\n",
+            Came::Finished,
+            b"0: comm 3 0\n0: 2\n0: 5 6\n1: comm 3 1\n1: 0 0\n1: 1 2 1 2\n2: comm 3 2\n2: 1\n2: 3 4\n",
+        ),
+        // neighbor_allgatherv.job
+        (
+            b"# As neighbor_allgather, with another number of items from each source, in the order of the sources.\nranks 3\n0: dist_graph world 0>2,1>2,2>2 -> star\n1: dist_graph world - -> star\n2: dist_graph world - -> star\n0: neighbor_allgatherv star u8 - 1\n1: neighbor_allgatherv star u8 -\n2: neighbor_allgatherv star u8 1,0,2 8 9\n",
+            Came::Finished,
+            b"0: comm 3 0\n0: empty\n1: comm 3 1\n1: empty\n2: comm 3 2\n2: 1 8 9\n",
+        ),
+        // neighbor_alltoall.job
+        (
+            b"# The k-th block goes to the k-th destination. Two edges from rank 1 to rank 2 and one from rank 2 to itself: edges that are\n# told twice meet in their order at both ends.\nranks 3\n0: dist_graph world 1>2,2>2 -> graph\n1: dist_graph world - -> graph\n2: dist_graph world 0>2,1>2 -> graph\n2: sources graph\n0: neighbor_alltoall graph i32 1 1 5\n1: neighbor_alltoall graph i32 1 1 10 11\n2: neighbor_alltoall graph i32 1 1 30\n",
+            Came::Finished,
+            b"0: comm 3 0\n0: empty\n1: comm 3 1\n1: empty\n2: comm 3 2\n2: 1 2 0 1\n2: 10 30 5 11\n",
+        ),
+        // neighbor_alltoallv.job
+        (
+            b"# As neighbor_alltoall, with a number of items for each edge, which both of its ends tell; where they don't, the sender is at\n# fault.\nranks 2\n0: dist_graph_adjacent world - 1,1 -> double\n1: dist_graph_adjacent world 0,0 - -> double\n0: neighbor_alltoallv double i32 1,2 - 7 8 9\n1: neighbor_alltoallv double i32 - 1,2\n0: neighbor_alltoallv double i32 1,2 - 7 8 9\n1: neighbor_alltoallv double i32 - 2,1\n",
+            Came::Finished,
+            b"0: comm 2 0\n0: empty\n0: fault Amount at 0\n1: comm 2 1\n1: 7 8 9\n1: fault Amount at 0\n",
+        ),
+        // neighbours.job
+        (
+            b"# A rank's own neighbours, with weights where the graph has them. A duplicate keeps them; a split has none, and world has none.\nranks 2\n0: dist_graph world 0>1:5,0>1:0 -> graph\n1: dist_graph world -w -> graph\n*: dup graph -> twin\n0: destinations twin\n1: sources twin\n0: sources twin\n*: split graph 0 0 -> plain\n*: destinations plain\n1: sources world\n0: neighbor_allgather plain i32 1 5\n",
+            Came::Finished,
+            b"0: comm 2 0\n0: comm 2 0\n0: 1:5 1:0\n0: empty\n0: comm 2 0\n0: refused NoTopology\n0: refused NoTopology\n1: comm 2 1\n1: comm 2 1\n1: 0:5 0:0\n1: comm 2 1\n1: refused NoTopology\n1: refused NoTopology\n",
+        ),
+    ];
+    check_runs(&rt, rt.alloc(), table.as_slice());
+    Ok(())
+}

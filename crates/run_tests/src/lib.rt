@@ -12,6 +12,8 @@ mod kinds;
 #[cfg(test)]
 mod making;
 #[cfg(test)]
+mod neighbourhoods;
+#[cfg(test)]
 mod runs;
 #[cfg(test)]
 mod simulated;

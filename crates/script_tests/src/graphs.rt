@@ -1,7 +1,7 @@
 //! Statements that make distributed graphs: what they say, and what they are refused for.
 use crate::scripts::check_further_lines;
 use mpx_post::{Call, DraftedEdge, DraftedNeighbour, Kind};
-use mpx_script::{Script, ScriptFault, Statement, read_script};
+use mpx_script::{Posting, Script, ScriptFault, Statement, read_script};
 use std::alloc::Global;
 use std::process::Abort;
 use std::test::Fail;
@@ -57,7 +57,7 @@ fn neighbour(rank: i128, weight: i128) -> DraftedNeighbour {
 /// Whether the rank's only statement makes that of `world`, for `a`.
 fn makes(script: &Script, rank: u8, wanted: Drawn<'_>) -> bool {
     match script.statements(rank) {
-        [Statement::New { on, draft, to }] => {
+        [Statement::Post(Posting::New { on, draft, to })] => {
             let said = match &draft.graph {
                 Some(graph) => {
                     graph.weighted() == wanted.weighted

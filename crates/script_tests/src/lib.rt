@@ -9,6 +9,8 @@ mod lines;
 #[cfg(test)]
 mod making;
 #[cfg(test)]
+mod neighbours;
+#[cfg(test)]
 mod reading;
 #[cfg(test)]
 mod refusing;

@@ -3,8 +3,8 @@ use crate::scripts::{Said, is_said};
 use join_core::OutOfMemory;
 use mpx_name::Name;
 use mpx_num::{Items, Numbers, Op, Ty};
-use mpx_post::{Call, Kind, NewCommunicator, PostError};
-use mpx_script::{Statement, Word, line, refused_line};
+use mpx_post::{Call, Kind, Neighbour, NewCommunicator, PostError};
+use mpx_script::{Posting, Side, Statement, Word, line, neighbours_line, refused_line};
 use mpx_value::{Fault, FaultKind, Outcome};
 use std::alloc::Global;
 use std::test::Fail;
@@ -86,6 +86,7 @@ fn lines_of_refusals(rt: HostRuntime) {
         (PostError::ItemsLength, "refused ItemsLength"),
         (PostError::ItemOutOfRange, "refused ItemOutOfRange"),
         (PostError::TooManyItems, "refused TooManyItems"),
+        (PostError::NoTopology, "refused NoTopology"),
         (PostError::CallsUsedUp, "refused CallsUsedUp"),
         (PostError::DepthUsedUp, "refused DepthUsedUp"),
         (PostError::BadGroup, "refused BadGroup"),
@@ -121,6 +122,43 @@ fn lines_of_communicators(rt: HostRuntime) {
     }
 }
 
+fn near(rank: u8, weight: u32) -> Neighbour {
+    Neighbour { rank, weight }
+}
+
+fn has_neighbours_line(
+    alloc: Global,
+    weighted: bool,
+    neighbours: &[Neighbour],
+    wanted: &str,
+) -> bool {
+    match neighbours_line(alloc, weighted, neighbours) {
+        Ok(text) => text.as_str() == wanted,
+        Err(_) => false,
+    }
+}
+
+#[test]
+fn lines_of_neighbours(rt: HostRuntime) {
+    for (weighted, neighbours, wanted) in [
+        (false, [].as_slice(), "empty"),
+        (true, [].as_slice(), "empty"),
+        (false, [near(63, 0)].as_slice(), "63"),
+        (true, [near(63, 4294967295)].as_slice(), "63:4294967295"),
+        (
+            false,
+            [near(1, 0), near(2, 0), near(0, 0), near(1, 0)].as_slice(),
+            "1 2 0 1",
+        ),
+        (true, [near(1, 5), near(1, 0)].as_slice(), "1:5 1:0"),
+    ] {
+        assert!(rt;
+            has_neighbours_line(rt.alloc(), weighted, neighbours, wanted),
+            "{wanted}"
+        );
+    }
+}
+
 fn drafted(call: Call) -> Drafted<'static> {
     Drafted {
         call,
@@ -146,38 +184,42 @@ fn made(alloc: Global, said: &Said<'_>) -> Result<Statement, OutOfMemory> {
     match said {
         Said::Call(on, drafted) => {
             let on = Word::new(alloc, on)?;
-            Ok(Statement::Call {
-                on,
-                draft: draft(alloc, drafted)?,
-            })
+            let draft = draft(alloc, drafted)?;
+            Ok(Statement::Post(Posting::Call { on, draft }))
         }
         Said::New(on, drafted, to) => {
             let on = Word::new(alloc, on)?;
             let to = Word::new(alloc, to)?;
-            Ok(Statement::New {
-                on,
-                draft: draft(alloc, drafted)?,
-                to,
-            })
+            let draft = draft(alloc, drafted)?;
+            Ok(Statement::Post(Posting::New { on, draft, to }))
         }
         Said::CreateGroup(on, tag, ranks, to) => {
             let on = Word::new(alloc, on)?;
             let to = Word::new(alloc, to)?;
             let ranks = Numbers::new(alloc, Vec::from_slice(alloc, ranks)?)?;
-            Ok(Statement::CreateGroup {
+            Ok(Statement::Post(Posting::CreateGroup {
                 on,
                 tag: *tag,
                 ranks,
                 to,
-            })
+            }))
+        }
+        Said::Ask(on, side) => {
+            let on = Word::new(alloc, on)?;
+            Ok(Statement::Ask { on, side: *side })
         }
     }
 }
 
-fn has_draft(alloc: Global, statement: &Statement, wanted: &Drafted<'_>) -> bool {
-    match statement.draft(alloc) {
-        Ok(draft) => says(&draft, wanted),
-        Err(_) => false,
+// Whether the statement posts this, or nothing.
+fn has_draft(alloc: Global, statement: &Statement, wanted: Option<&Drafted<'_>>) -> bool {
+    match (statement, wanted) {
+        (Statement::Post(posting), Some(drafted)) => match posting.draft(alloc) {
+            Ok(draft) => says(&draft, drafted),
+            Err(_) => false,
+        },
+        (Statement::Ask { .. }, None) => true,
+        _ => false,
     }
 }
 
@@ -187,7 +229,7 @@ fn tells(
     said: &Said<'_>,
     on: &[u8],
     to: Option<&[u8]>,
-    posted: &Drafted<'_>,
+    posted: Option<&Drafted<'_>>,
 ) -> bool {
     match made(alloc, said) {
         Ok(statement) => {
@@ -207,16 +249,19 @@ fn drafts_of_statements(rt: HostRuntime) {
 
     let scatter = drafted(Call::blocking(Kind::ReduceScatter));
     let call = Said::Call(b"world", scatter);
-    assert!(rt; tells(alloc, &call, b"world", None, &scatter));
+    assert!(rt; tells(alloc, &call, b"world", None, Some(&scatter)));
 
     let split = drafted(Call::NewCommunicator(NewCommunicator::Split));
     let new = Said::New(all, split, some);
-    assert!(rt; tells(alloc, &new, all, Some(some), &split));
+    assert!(rt; tells(alloc, &new, all, Some(some), Some(&split)));
 
     let create_group = Drafted {
         ty: Ty::I8,
         ..just(Kind::CreateGroup)
     };
     let gathering = Said::CreateGroup(all, 9, &[2, 0], some);
-    assert!(rt; tells(alloc, &gathering, all, Some(some), &create_group));
+    assert!(rt; tells(alloc, &gathering, all, Some(some), Some(&create_group)));
+
+    let ask = Said::Ask(some, Side::Destinations);
+    assert!(rt; tells(alloc, &ask, some, None, None));
 }

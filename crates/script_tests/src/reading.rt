@@ -1,26 +1,9 @@
 //! Scripts that are read: what their statements say, and how many a script may have.
-use crate::scripts::{Said, check_lines, full_script, of_type, reads, sizes};
+use crate::scripts::{Said, blocks, check_lines, full_script, of_type, reads, sizes};
 use mpx_num::{Op, Ty};
 use mpx_post::Kind;
 use std::test::Fail;
 use test_drafts::Drafted;
-
-// A call on `world` of some kind and type with these send counts, receive counts and items.
-fn blocks<'a>(
-    kind: Kind,
-    ty: Ty,
-    scounts: &'a [i128],
-    rcounts: &'a [i128],
-    items: &'a [i128],
-) -> Said<'a> {
-    let drafted = Drafted {
-        scounts,
-        rcounts,
-        items,
-        ..of_type(kind, ty)
-    };
-    Said::Call(b"world", drafted)
-}
 
 #[test]
 fn calls_without_operation(rt: HostRuntime) {

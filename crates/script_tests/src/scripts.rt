@@ -1,7 +1,9 @@
 //! What scripts say, and why they are refused. One function owns the script that is read, and one the text of a line.
 use mpx_num::Ty;
 use mpx_post::Kind;
-use mpx_script::{ReadScriptError, Script, ScriptError, ScriptFault, Statement, read_script};
+use mpx_script::{
+    Posting, ReadScriptError, Script, ScriptError, ScriptFault, Side, Statement, read_script,
+};
 use std::alloc::{AllocError, Global};
 use std::process::Abort;
 use test_drafts::{Drafted, just, says};
@@ -14,6 +16,8 @@ pub enum Said<'a> {
     New(&'a [u8], Drafted<'a>, &'a [u8]),
     /// With the tag, the ranks and the new name.
     CreateGroup(&'a [u8], i128, &'a [i128], &'a [u8]),
+    /// With the side.
+    Ask(&'a [u8], Side),
 }
 
 /// What a call drafts that tells its kind and its type alone.
@@ -21,25 +25,52 @@ pub fn of_type(kind: Kind, ty: Ty) -> Drafted<'static> {
     Drafted { ty, ..just(kind) }
 }
 
+/// A call on `world` of some kind and type with these send counts, receive counts and items.
+pub fn blocks<'a>(
+    kind: Kind,
+    ty: Ty,
+    scounts: &'a [i128],
+    rcounts: &'a [i128],
+    items: &'a [i128],
+) -> Said<'a> {
+    let drafted = Drafted {
+        scounts,
+        rcounts,
+        items,
+        ..of_type(kind, ty)
+    };
+    Said::Call(b"world", drafted)
+}
+
 /// A duplication.
 pub fn dup<'a>(on: &'a [u8], to: &'a [u8]) -> Said<'a> {
     Said::New(on, of_type(Kind::Dup, Ty::I8), to)
 }
 
-/// Whether the statement says this.
-pub fn is_said(statement: &Statement, said: &Said<'_>) -> bool {
-    match (statement, said) {
-        (Statement::Call { on, draft }, Said::Call(word, drafted)) => {
+fn is_posted(posting: &Posting, said: &Said<'_>) -> bool {
+    match (posting, said) {
+        (Posting::Call { on, draft }, Said::Call(word, drafted)) => {
             (on.as_bytes() == *word) & says(draft, drafted)
         }
-        (Statement::New { on, draft, to }, Said::New(word, drafted, name)) => {
+        (Posting::New { on, draft, to }, Said::New(word, drafted, name)) => {
             (on.as_bytes() == *word) & says(draft, drafted) & (to.as_bytes() == *name)
         }
-        (Statement::CreateGroup { on, tag, ranks, to }, Said::CreateGroup(word, t, list, name)) => {
+        (Posting::CreateGroup { on, tag, ranks, to }, Said::CreateGroup(word, t, list, name)) => {
             (on.as_bytes() == *word)
                 & (*tag == *t)
                 & (ranks.as_slice() == *list)
                 & (to.as_bytes() == *name)
+        }
+        _ => false,
+    }
+}
+
+/// Whether the statement says this.
+pub fn is_said(statement: &Statement, said: &Said<'_>) -> bool {
+    match (statement, said) {
+        (Statement::Post(posting), _) => is_posted(posting, said),
+        (Statement::Ask { on, side }, Said::Ask(word, wanted)) => {
+            (on.as_bytes() == *word) & (*side == *wanted)
         }
         _ => false,
     }

@@ -55,7 +55,7 @@ fn post_of<'a>(
     check(alloc, birth, me, &first, &drafted)
 }
 
-fn verdict_among(alloc: Global, posts: &[Post]) -> Result<Verdict, Fail> {
+fn verdict_among(alloc: Global, birth: &Birth, posts: &[Post]) -> Result<Verdict, Fail> {
     let mut row = Vec::new(alloc);
     for post in posts {
         row.push(post)?;
@@ -63,7 +63,7 @@ fn verdict_among(alloc: Global, posts: &[Post]) -> Result<Verdict, Fail> {
     if row.is_empty() || row.len() > 64 {
         Err("no row")?;
     }
-    Ok(verdict(&Row::new(row)))
+    Ok(verdict(birth, &Row::new(row)))
 }
 
 // The verdict of the row of what the first ranks of a communicator of three name.
@@ -80,7 +80,7 @@ fn verdict_of(alloc: Global, named: &[Own]) -> Result<Verdict, Fail> {
             own.destinations,
         )?)?;
     }
-    verdict_among(alloc, &posts)
+    verdict_among(alloc, &birth, &posts)
 }
 
 fn verdict_of_three(alloc: Global, named: [Own; 3]) -> Result<Verdict, Fail> {
@@ -186,6 +186,6 @@ fn all_pairs_of_many_ranks(rt: HostRuntime) -> Result<(), Fail> {
     for me in birth.members() {
         posts.push(post_of(alloc, &birth, *me, true, &sources, &destinations)?)?;
     }
-    assert_eq!(rt; verdict_among(alloc, &posts)?, Verdict::Fine);
+    assert_eq!(rt; verdict_among(alloc, &birth, &posts)?, Verdict::Fine);
     Ok(())
 }

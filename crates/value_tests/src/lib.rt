@@ -8,6 +8,8 @@ mod edges;
 #[cfg(test)]
 mod making;
 #[cfg(test)]
+mod neighbourhoods;
+#[cfg(test)]
 mod values;
 #[cfg(test)]
 mod verdicts;

@@ -43,18 +43,18 @@ fn bcast(root: i128) -> Drafted<'static> {
     }
 }
 
-fn verdict_of_posts(alloc: Global, posts: &[Post]) -> Result<Verdict, Fail> {
+fn verdict_of_posts(alloc: Global, birth: &Birth, posts: &[Post]) -> Result<Verdict, Fail> {
     let row = lent(alloc, posts)?;
     if row.is_empty() || row.len() > 64 {
         Err("no row")?;
     }
-    Ok(verdict(&Row::new(row)))
+    Ok(verdict(birth, &Row::new(row)))
 }
 
 fn verdict_of(alloc: Global, birth: &Birth, calls: &[Drafted<'_>]) -> Result<Verdict, Fail> {
     let at = At::on(&Name::world(alloc), 0);
     let posts = posts_of(alloc, birth, &at, calls)?;
-    verdict_of_posts(alloc, &posts)
+    verdict_of_posts(alloc, birth, &posts)
 }
 
 // The verdict of the row of what the first ranks of a world of three post.

@@ -40,3 +40,7 @@ returns-in-Exchange c =
 pub returns-in-NewCommunicator : goal.returns-in-NewCommunicator
 returns-in-NewCommunicator c =
     by_family c.args.row.now c.args.rank _ (first_family c.args.row.now _ _ _ _ c.post.ensures.value c.kind.ensures c.family.ensures c.in-NewCommunicator.is)
+
+pub returns-in-Neighbourhood : goal.returns-in-Neighbourhood
+returns-in-Neighbourhood c =
+    by_family c.args.row.now c.args.rank _ (first_family c.args.row.now _ _ _ _ c.post.ensures.value c.kind.ensures c.family.ensures c.in-Neighbourhood.is)

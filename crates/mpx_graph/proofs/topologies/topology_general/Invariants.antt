@@ -1,5 +1,6 @@
-use Rattle.std.proofs.Common.{◌≡◌, ◌<◌, ℕ, vec_len, take, length, get_or}
+use Rattle.std.proofs.Common.{◌≡◌, ◌<◌, ◌≤◌, ◌*◌, ℕ, vec_len, take, length, get_or}
 use Rattle.mpx_birth.specs.Topologies.{nobody}
+use Rattle.mpx_post.specs.Graphs.{most_edges}
 use Rattle.mpx_graph.specs.Graphs.{all_edges, graph_among}
 use Rattle.mpx_graph.proofs.topologies.topology_general.Given as goal
 
@@ -13,4 +14,5 @@ abbrev pub invariant-loop-rank-2 : goal.invariant-loop-rank-2
 invariant-loop-rank-2 l = record {
   long : vec_len l.ranks ≡ length l.row;
   graph : l.ranks.items ≡ graph_among (length l.row) (all_edges (take l.rank l.row));
+  few : length (all_edges (take l.rank l.row)) ≤ most_edges * l.rank;
 }

@@ -1,8 +1,8 @@
-use Rattle.std.proofs.Common.{◌≡◌, ap, sym, ◌∙◌, subst, Some}
+use Rattle.std.proofs.Common.{◌≡◌, ap, sym, ◌∙◌, subst}
 use Rattle.std.specs.Option.{option_copied}
 use Rattle.mpx_node.specs.Nodes.{gathers_on}
 use Rattle.mpx_node.specs.Shown.{node_of}
-use Rattle.mpx_script.specs.declared.statement.Statement.TheVariants.{CreateGroup}
+use Rattle.mpx_script.specs.declared.statement.Posting.TheVariants.{CreateGroup}
 use Rattle.mpx_script.specs.Statements.{create_group_draft, draft_of}
 use Rattle.mpx_run.specs.Running.{Tries, tried_on, tried_gathered}
 use Rattle.mpx_run.proofs.Bindings.{tries_gathered}

@@ -13,4 +13,4 @@ returns-in-Some-clause-moves c =
 pub returns-in-None-clause-moves : goal.returns-in-None-clause-moves
 returns-in-None-clause-moves c =
     let waits : c.args.self.now.waits ≡ None = sym c.take.ensures.value ∙ c.in-None.is in
-    subst (λ o. OnOk c.post_next.result (Moves (let r : RankView = record (rank_of c.args.self.now) { waits = option_map wait_of o } in r) (rank_of c.post_next.new.self))) (c.take.ensures.after ∙ sym waits) c.post_next.ensures.moves
+    subst (λ o. OnOk c.do_next.result (Moves (let r : RankView = record (rank_of c.args.self.now) { waits = option_map wait_of o } in r) (rank_of c.do_next.new.self))) (c.take.ensures.after ∙ sym waits) c.do_next.ensures.moves

@@ -1,0 +1,4 @@
+pub mod Turns
+pub mod Meeting
+pub mod Passes
+pub mod Examples

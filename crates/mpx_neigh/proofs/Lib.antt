@@ -1,0 +1,4 @@
+pub mod Senders
+pub mod Taking
+pub mod Sources
+pub mod Examples
