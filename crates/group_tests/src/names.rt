@@ -52,3 +52,19 @@ fn goes_down_eight_steps(rt: HostRuntime) -> Result<(), Fail> {
     assert!(rt; name.step(8).is_none());
     Ok(())
 }
+
+#[test]
+fn steps_make_their_name(rt: HostRuntime) -> Result<(), Fail> {
+    let alloc = rt.alloc();
+    let older = Step::Child { call: 5, colour: 1 };
+    let newer = Step::Child { call: 0, colour: 2 };
+    let name = Name::of(vec![in alloc; older, newer]?);
+    assert!(rt; name == Name::world(alloc).child(alloc, 5, 1)?.child(alloc, 0, 2)?);
+    assert!(rt;
+        matches!(
+            name.steps(),
+            [Step::Child { call: 5, .. }, Step::Child { call: 0, .. }]
+        )
+    );
+    Ok(())
+}

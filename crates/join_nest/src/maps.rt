@@ -1,5 +1,5 @@
 ghost use Rattle.std.specs.Prelude.{◌≡◌, nat_eq, IsTrue, IfOk, OnOk, OnErr};
-ghost use Rattle.std.specs.FinMap.{FinMap, is_sorted, empty, get, entries, len, insert};
+ghost use Rattle.std.specs.FinMap.{FinMap, is_sorted, empty, get, entries, len, insert, from_sorted};
 ghost use Rattle.std.specs.Option.{option_map, option_copied};
 ghost use Rattle.join_nest.specs.Keyed.{keyed_equal, keyed_joining, replaced};
 ghost use Rattle.join_nest.specs.KeyedLaws.{keyed_equality, keyed_laws};
@@ -69,6 +69,14 @@ impl<K: Key, J: Exact> Keyed<K, J> {
         Keyed {
             entries: Vec::new(alloc),
         }
+    }
+
+    /// The map with these entries, whose keys strictly rise. It takes no memory.
+    pub fn from_rising(entries: Vec<(K, J)>) -> Keyed<K, J>
+        requires { IsTrue (is_sorted K.cmp entries.items) }
+        ensures { ⟦<Keyed<K, J> as Exact>⟧.view result ≡ from_sorted (seen J.view entries.items) }
+    {
+        Keyed { entries }
     }
 
     /// The value at the key.

@@ -1,6 +1,6 @@
 ghost use Rattle.std.specs.Prelude.{◌≡◌, ℕ, IsTrue, IfOk, OnOk, OnErr, ◌≤◌, length, drop, nat_le};
 ghost use Rattle.std.specs.Ordering.{nat_cmp};
-ghost use Rattle.std.specs.FinMap.{is_sorted, empty, get, entries, insert};
+ghost use Rattle.std.specs.FinMap.{is_sorted, empty, get, entries, insert, from_sorted};
 ghost use Rattle.std.specs.FinMap.Entries.{where_key};
 ghost use Rattle.std.specs.Option.{option_map, option_copied};
 ghost use Rattle.join_nest.specs.Trunc.{TruncView, trunc_equal, trunc_joining, drop_below};
@@ -113,6 +113,16 @@ impl<J: Exact> Trunc<J> {
             dropped,
             calls: Vec::new(alloc),
         }
+    }
+
+    /// The calls with these values, which strictly rise from the dropped front on. It takes no memory.
+    pub fn from_rising(dropped: u32, calls: Vec<(u32, J)>) -> Trunc<J>
+        requires rising { IsTrue (is_sorted nat_cmp calls.items) }
+        requires above { IsTrue (is_from dropped calls.items) }
+        ensures dropped { (⟦<Trunc<J> as Exact>⟧.view result).dropped ≡ dropped }
+        ensures calls { (⟦<Trunc<J> as Exact>⟧.view result).calls ≡ from_sorted (seen J.view calls.items) }
+    {
+        Trunc { dropped, calls }
     }
 
     /// The dropped front: no call below it is kept.

@@ -125,3 +125,16 @@ fn a_delta_against_itself_is_empty(rt: HostRuntime) -> Result<(), Fail> {
     assert_eq!(rt; board.delta(alloc, &none)?.dropped(), 5);
     Ok(())
 }
+
+#[test]
+fn rising_entries_make_their_map(rt: HostRuntime) -> Result<(), Fail> {
+    let alloc = rt.alloc();
+    let map = Keyed::from_rising(vec![in alloc; (1u32, Max(3)), (5, Max(9))]?);
+    assert!(rt; map.same(&map_of(alloc, &[(5, 9), (1, 3)])?));
+    let board = Trunc::from_rising(2, vec![in alloc; (2, Max(6)), (4, Max(8))]?);
+    let mut put = Trunc::new(alloc, 2);
+    put.put(4, Max(8))?;
+    put.put(2, Max(6))?;
+    assert!(rt; board.same(&put));
+    Ok(())
+}

@@ -1,12 +1,14 @@
 -- How a communicator came to be: its members, and their topology (MPI 4.1, sections 7.2 and 8.5).
-use Rattle.std.specs.Prelude.{◌≡◌, ℕ, zero, suc, ◌<◌, ◌≤◌, ◌==◌, ◌&&◌, nat_eq, Bool, true, false, List, [], ◌∷◌, ◌++◌, length, Option, Some, None, refl}
+use Rattle.std.specs.Prelude.{◌≡◌, ℕ, ◌<◌, ◌==◌, ◌&&◌, nat_eq, nat_le, nat_lt, not, Bool, true, false, List, length, Option, Some, None, refl}
 use Rattle.std.proofs.Common.{ap}
 use Rattle.std.specs.Bool.{Decides}
-use Rattle.std.specs.List.{position}
+use Rattle.std.specs.List.{list_all, position}
 use Rattle.std.proofs.lemmas.Bool.Decides.{Decides-and, Decides-eqb, Decides-like}
 use Rattle.std.proofs.lemmas.Slice.Eq.{slice_eq-Decides}
 use lib.Pointwise.{pointwise}
 use Rattle.join_core.specs.Laws.{IsEquality}
+use Rattle.mpx_group.specs.Group.{IsGroup, has_twice}
+pub use Rattle.mpx_birth.specs.Orders.{upto}
 use Rattle.mpx_birth.specs.Topologies.{TopologyView, same_topology, topologies_decided}
 
 -- a communicator: its members in rank order, and the neighbours of each of them where it has a topology
@@ -23,16 +25,24 @@ abbrev pub fits_topology : ℕ → Option TopologyView → Type 0
 fits_topology size None = Unit {0}
 fits_topology size (Some topology) = length topology.ranks ≡ size
 
--- 1 to 64 members, and a topology of as many ranks, if any
+-- 1 to 64 members, each below 64, none twice, and a topology of as many ranks, if any
 pub record IsBirth (birth : BirthView) : Type 0 where
   pub some : 0 < length birth.members
-  pub few : length birth.members ≤ 64
+  pub group : IsGroup birth.members
   pub topology : fits_topology (length birth.members) birth.topology
 
--- the numbers below n
-abbrev pub upto : ℕ → List ℕ
-upto zero = []
-upto (suc n) = upto n ++ n ∷ []
+-- the same as tests
+
+abbrev pub has_ranks : ℕ → Option TopologyView → Bool
+has_ranks size None = true
+has_ranks size (Some topology) = length topology.ranks == size
+
+unfoldable pub is_birth : BirthView → Bool
+is_birth birth =
+    nat_lt 0 (length birth.members)
+    && (nat_le (length birth.members) 64
+    && (not (has_twice birth.members)
+    && (list_all (λ p. nat_lt p 64) birth.members && has_ranks (length birth.members) birth.topology)))
 
 -- the place of a process in such a list: its rank
 abbrev pub rank_in : ℕ → List ℕ → Option ℕ

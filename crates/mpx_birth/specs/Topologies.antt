@@ -1,13 +1,15 @@
 -- Topologies: for each rank its sources and its destinations (MPI 4.1, sections 8.5.4 and 8.5.5).
-use Rattle.std.specs.Prelude.{◌≡◌, ℕ, ◌==◌, ◌≤◌, ◌&&◌, Bool, List, [], length, slice_index_or, Option, Some, None, refl}
+use Rattle.std.specs.Prelude.{◌≡◌, ℕ, ◌==◌, ◌≤◌, ◌^◌, ◌&&◌, nat_eq, nat_le, nat_lt, Bool, true, cond, List, [], length, map, slice_index_or, Option, Some, None, refl}
 use Rattle.std.proofs.Common.{ap}
 use Rattle.std.specs.Bool.{Decides, beq}
+use Rattle.std.specs.List.{list_all, sum}
 use Rattle.std.specs.Cmp.{booleans_Decides}
 use Rattle.std.proofs.lemmas.Bool.Decides.{Decides-and, Decides-eqb, Decides-like}
 use Rattle.std.proofs.lemmas.Slice.Eq.{slice_eq-Decides}
 use lib.Pointwise.{pointwise}
 use Rattle.mpx_birth.specs.declared.edges.Neighbour.{Neighbour}
 use Rattle.mpx_birth.specs.Edges.{often}
+use Rattle.mpx_birth.specs.Orders.{upto}
 
 -- the neighbours of one rank
 pub record Near : Type 0 where
@@ -37,7 +39,7 @@ destinations_at topology rank = destinations_in topology.ranks rank
 pub record Agrees (ranks : List Near) : Type 0 where
   pub both : (i j : ℕ) → often j (destinations_in ranks i) ≡ often i (sources_in ranks j)
 
--- so many neighbours stand on one side of a rank at most: each of 64 members tells of 512 edges
+-- so many sources have all ranks together at most, and as many destinations: each of 64 members tells of 512 edges
 abbrev pub most_neighbours : ℕ
 most_neighbours = 32768
 
@@ -45,16 +47,57 @@ pub record IsFew (near : Near) : Type 0 where
   pub sources : length near.sources ≤ most_neighbours
   pub destinations : length near.destinations ≤ most_neighbours
 
--- a topology: both ends tell an edge, and there aren't too many
-pub record IsTopology (ranks : List Near) : Type 0 where
-  pub agree : Agrees ranks
-  pub few : length ranks ≤ 64
-  pub each : (rank : ℕ) → IsFew (slice_index_or ranks rank nobody)
+-- WHAT A TOPOLOGY IS
+
+-- a weight is below 2^31, and 0 where edges have none
+abbrev pub is_weight : Bool → ℕ → Bool
+is_weight weighted weight = cond weighted (nat_lt weight (2 ^ 31)) (nat_eq weight 0)
+
+-- a neighbour is one of so many ranks
+abbrev pub is_neighbour : (size : ℕ) → (weighted : Bool) → Neighbour → Bool
+is_neighbour size weighted neighbour = nat_lt neighbour.rank size && is_weight weighted neighbour.weight
+
+-- one rank's neighbours
+abbrev pub is_near : (size : ℕ) → (weighted : Bool) → Near → Bool
+is_near size weighted near =
+    list_all (is_neighbour size weighted) near.sources && list_all (is_neighbour size weighted) near.destinations
+
+-- how many neighbours stand among the sources of all ranks, and how many among their destinations
+
+abbrev pub sources_in_all : List Near → ℕ
+sources_in_all ranks = sum (map (λ (near : Near). length near.sources) ranks)
+
+abbrev pub destinations_in_all : List Near → ℕ
+destinations_in_all ranks = sum (map (λ (near : Near). length near.destinations) ranks)
+
+-- of the edges from i to j both tell the same number
+abbrev pub tell_alike : List Near → (i j : ℕ) → Bool
+tell_alike ranks i j = nat_eq (often j (destinations_in ranks i)) (often i (sources_in ranks j))
+
+-- of each two ranks both tell the same number of edges between them
+abbrev pub are_paired : List Near → Bool
+are_paired ranks = list_all (λ j. list_all (λ i. tell_alike ranks i j) (upto (length ranks))) (upto (length ranks))
+
+-- at most 64 ranks, neighbours among them, at most 32,768 sources and as many destinations in all, and both ends tell an
+-- edge
+unfoldable pub is_topology : TopologyView → Bool
+is_topology topology =
+    nat_le (length topology.ranks) 64
+    && (list_all (is_near (length topology.ranks) topology.weighted) topology.ranks
+    && (nat_le (sources_in_all topology.ranks) most_neighbours
+    && (nat_le (destinations_in_all topology.ranks) most_neighbours && are_paired topology.ranks)))
+
+-- what a topology keeps: that it is one, and what follows
+pub record IsTopology (topology : TopologyView) : Type 0 where
+  pub spelled : is_topology topology ≡ true
+  pub agree : Agrees topology.ranks
+  pub few : length topology.ranks ≤ 64
+  pub each : (rank : ℕ) → IsFew (slice_index_or topology.ranks rank nobody)
 
 -- it keeps this, where there is one
 abbrev pub IsKept : Option TopologyView → Type 0
 IsKept None = Unit {0}
-IsKept (Some topology) = IsTopology topology.ranks
+IsKept (Some topology) = IsTopology topology
 
 -- how many edges come to a rank, none where there is no topology
 

@@ -1,6 +1,7 @@
-ghost use Rattle.std.specs.Prelude.{◌≡◌, ◌<◌, ◌≤◌, IfOk, Some, length};
+ghost use Rattle.std.specs.Prelude.{◌≡◌, ◌<◌, ◌≤◌, All, IfOk, MatchOption, Some, false, length, true};
 ghost use Rattle.std.specs.Option.{option_copied};
-ghost use Rattle.mpx_birth.specs.Births.{fits_topology, of_members, rank_in, same_topologies, upto};
+ghost use Rattle.mpx_group.specs.Group.{IsGroup, has_twice};
+ghost use Rattle.mpx_birth.specs.Births.{fits_topology, is_birth, of_members, rank_in, same_topologies, upto};
 ghost use Rattle.mpx_birth.specs.Topologies.{IsKept, indegree_in, most_neighbours, outdegree_in};
 
 use crate::topology::Topology;
@@ -10,7 +11,7 @@ use std::alloc::Global;
 use std::marker::Model;
 use std::sync::Arc;
 
-/// How a communicator came to be: its members, 1 to 64, in rank order, and their topology where it is a distributed graph
+/// How a communicator came to be: its members, 1 to 64, none twice, in rank order, and their topology where it is a distributed graph
 /// (MPI 4.1 sections 7.2 and 8.5). Copies share both.
 #[derive(Debug, Drop)]
 pub struct Birth {
@@ -70,17 +71,50 @@ impl Birth {
         Birth::of_members(alloc, members)
     }
 
+    /// The communicator of these members in this order, with this topology: `None` where there are none of them, where one
+    /// stands there twice, and where the topology has another number of ranks.
+    #[tactic(auto, unfolding(crate::specs::Births::is_birth))]
+    pub fn new(
+        alloc: Global,
+        members: Vec<Proc>,
+        topology: Option<Topology>,
+    ) -> Result<Option<Birth>, OutOfMemory>
+        ensures { IfOk result (λ made. MatchOption made (is_birth (record { members = members.items; topology = topology }) ≡ false) (λ birth. (is_birth (record { members = members.items; topology = topology }) ≡ true) × (birth ≡ record { members = members.items; topology = topology }))) }
+    {
+        let as_many = match &topology {
+            None => true,
+            Some(topology) => topology.size() == members.len(),
+        };
+        if members.len() == 0 || 64 < members.len() || has_twice(&members) || !as_many {
+            return Ok(None);
+        }
+        Ok(Some(Birth::from_parts(alloc, members, topology)?))
+    }
+
     /// The communicator of these members in this order, without a topology.
     pub fn of_members(alloc: Global, members: Vec<Proc>) -> Result<Birth, OutOfMemory>
         requires some { 0 < length members.items }
         requires few { length members.items ≤ 64 }
+        requires distinct { has_twice members.items ≡ false }
         ensures { IfOk result (λ birth. birth ≡ of_members members.items) }
     {
+        Birth::from_parts(alloc, members, None)
+    }
+
+    fn from_parts(
+        alloc: Global,
+        members: Vec<Proc>,
+        topology: Option<Topology>,
+    ) -> Result<Birth, OutOfMemory>
+        requires some { 0 < length members.items }
+        requires distinct { has_twice members.items ≡ false }
+        requires topology { fits_topology (length members.items) topology }
+        ensures value { IfOk result (λ birth. birth ≡ record { members = members.items; topology = topology }) }
+        ensures kept { is_birth (record { members = members.items; topology = topology }) ≡ true }
+    {
+        are_below(&members);
         match Arc::new(alloc, members) {
-            Ok(members) => Ok(Birth {
-                members,
-                topology: None,
-            }),
+            Ok(members) => Ok(Birth { members, topology }),
             Err(_) => Err(OutOfMemory),
         }
     }
@@ -111,6 +145,8 @@ impl Birth {
         ensures value { result.now ≡ self.now.members }
         ensures some { 0 < length result.now }
         ensures small { length result.now ≤ 64 }
+        ensures group { IsGroup result.now }
+        ensures kept { is_birth self.now ≡ true }
     {
         self.members.as_slice()
     }
@@ -158,6 +194,27 @@ impl Birth {
     {
         let place = self.members.iter().position(|member| *member == process)?;
         Some(place as u8)
+    }
+}
+
+// Whether a process stands there twice.
+fn has_twice(members: &[Proc]) -> bool
+    ensures { result ≡ has_twice members.now }
+{
+    for (i, member) in members.iter().enumerate() {
+        if members[..i].contains(member) {
+            return true;
+        }
+    }
+    false
+}
+
+// Their numbers are below 64, which is known once each is read.
+fn are_below(members: &[Proc])
+    ensures { All (λ p. p < 64) members.now }
+{
+    for member in members {
+        let _number = member.number();
     }
 }
 

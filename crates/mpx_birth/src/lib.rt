@@ -4,6 +4,8 @@
 
 mod birth;
 mod edges;
+mod limits;
+mod pairs;
 mod topology;
 
 pub use birth::Birth;

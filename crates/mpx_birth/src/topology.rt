@@ -1,8 +1,9 @@
-ghost use Rattle.std.specs.Prelude.{◌≡◌, ◌≤◌, ◌++◌, ◌∷◌, ◌&&◌, [], IfOk, OnOk, OnErr, length, nat_eq};
+ghost use Rattle.std.specs.Prelude.{◌≡◌, ◌≤◌, ◌++◌, ◌∷◌, ◌&&◌, [], IfOk, MatchOption, OnOk, OnErr, false, length, nat_eq, true};
 ghost use Rattle.std.specs.Arc.{arc_value};
-ghost use Rattle.mpx_birth.specs.Topologies.{Agrees, IsTopology, destinations_at, most_neighbours, nobody, same_near, same_nears, same_topology, sources_at};
+ghost use Rattle.mpx_birth.specs.Topologies.{Agrees, IsTopology, destinations_at, is_topology, most_neighbours, nobody, same_near, same_nears, same_topology, sources_at};
 
 use crate::edges::Neighbour;
+use crate::limits::is_topology;
 use join_core::OutOfMemory;
 use std::alloc::Global;
 use std::marker::Model;
@@ -93,8 +94,9 @@ impl Neighbours {
     }
 }
 
-/// The neighbours of each rank of a communicator, which copies share (MPI 4.1 section 8.5.4). A rank stands among another's
-/// destinations as often as that one among its sources. At most 32,768 stand on one side of a rank.
+/// The neighbours of each of at most 64 ranks of a communicator, which copies share (MPI 4.1 section 8.5.4). A rank stands
+/// among another's destinations as often as that one among its sources. All ranks have at most 32,768 sources together, and
+/// as many destinations. Weights are below 2,147,483,648, and 0 where edges have none.
 #[derive(Debug, Drop)]
 pub struct Topology {
     weighted: bool,
@@ -109,17 +111,32 @@ impl Model for Topology {
 
     ghost view = { λ t. record { weighted = t.weighted; ranks = (arc_value t.ranks).items } };
 
-    ghost invariant = { λ t. IsTopology (arc_value t.ranks).items };
+    ghost invariant = { λ t. IsTopology (record { weighted = t.weighted; ranks = (arc_value t.ranks).items }) };
 }
 
 impl Topology {
-    /// The topology of these neighbours, one entry for each rank.
+    /// The topology of these neighbours, one entry for each rank, where they are those of one: else `None`, as where one end
+    /// alone tells an edge. It takes a step for each neighbour, and one for each two ranks.
+    pub fn new(
+        alloc: Global,
+        weighted: bool,
+        ranks: Vec<Neighbours>,
+    ) -> Result<Option<Topology>, OutOfMemory>
+        ensures { IfOk result (λ made. MatchOption made (is_topology (record { weighted = weighted; ranks = ranks.items }) ≡ false) (λ topology. (is_topology (record { weighted = weighted; ranks = ranks.items }) ≡ true) × (topology ≡ record { weighted = weighted; ranks = ranks.items }))) }
+    {
+        if !is_topology(alloc, weighted, &ranks)? {
+            return Ok(None);
+        }
+        Ok(Some(Topology::from_neighbours(alloc, weighted, ranks)?))
+    }
+
+    /// The topology of these neighbours, which are those of one, one entry for each rank.
     pub fn from_neighbours(
         alloc: Global,
         weighted: bool,
         ranks: Vec<Neighbours>,
     ) -> Result<Topology, OutOfMemory>
-        requires { IsTopology ranks.items }
+        requires { is_topology (record { weighted = weighted; ranks = ranks.items }) ≡ true }
         ensures { IfOk result (λ topology. topology ≡ record { weighted = weighted; ranks = ranks.items }) }
     {
         match Arc::new(alloc, ranks) {
@@ -138,7 +155,7 @@ impl Topology {
     /// How many ranks it has, at most 64.
     pub fn size(&self) -> usize
         ensures size { result ≡ length self.now.ranks }
-        ensures kept { IsTopology self.now.ranks }
+        ensures kept { IsTopology self.now }
     {
         self.ranks.len()
     }

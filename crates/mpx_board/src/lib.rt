@@ -18,4 +18,4 @@ pub use laws::{
     boards_are_joined_by_their_facts, boards_are_their_facts, boards_stay_tidy,
     joining_boards_is_a_semilattice,
 };
-pub use nested::{Acks, Call, Entry, Parts, VersionVector};
+pub use nested::{Acks, Call, Entry, Parts, VersionVector, says_something};

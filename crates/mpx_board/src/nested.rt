@@ -82,7 +82,8 @@ fn is_tidy_entry(entry: &Entry) -> bool
         && are_tidy_calls(&entry.second.second)
 }
 
-fn says_something(entry: &Entry) -> bool
+/// Whether the entry says something of its context.
+pub fn says_something(entry: &Entry) -> bool
     ensures { result ≡ not (says_nothing (view_of_entry entry.now)) }
 {
     let posts = &entry.second.second;

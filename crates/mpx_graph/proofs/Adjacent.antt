@@ -1,8 +1,8 @@
 -- The graph of the neighbours that members name.
-use Rattle.std.proofs.Common.{◌≡◌, ℕ, ◌<◌, ◌≤◌, List, [], ◌∷◌, ◌++◌, ◌+◌, take, length, map, sym, ap, ◌∙◌, inl, inr, arith}
+use Rattle.std.proofs.Common.{◌≡◌, ℕ, ◌<◌, List, [], ◌∷◌, ◌++◌, ◌+◌, take, length, map, sym, ap, ◌∙◌, inl, inr}
 use Rattle.std.specs.List.{filter}
 use Rattle.std.specs.Ordering.{is_lt, nat_cmp}
-use Rattle.std.proofs.lemmas.Bool.{cases_lt, ne_eqb}
+use Rattle.std.proofs.lemmas.Bool.{cases_lt}
 use Rattle.std.proofs.lemmas.List.{get_or_past, length-map, map_push, take_more}
 use Rattle.std.proofs.Math.ListN.{get_or-map}
 use Rattle.mpx_birth.specs.declared.edges.Neighbour.{Neighbour}
@@ -11,20 +11,16 @@ use Rattle.mpx_birth.specs.Topologies.{Near, Agrees, sources_in, destinations_in
 use Rattle.mpx_post.specs.Posts.{Given, destinations_of, nothing_given, sources_of}
 use Rattle.mpx_post.specs.Rows.{RowView}
 use Rattle.mpx_post.specs.Agreement.{IsFine, post_at}
+use Rattle.mpx_birth.proofs.Kept.{often-far}
 use Rattle.mpx_birth.proofs.Sorting.{length-ordered}
 use Rattle.mpx_graph.specs.Graphs.{near_given}
-use Rattle.mpx_graph.proofs.Fine.{AreBelow, destinations-below, sources-below}
-use Rattle.mpx_graph.proofs.Graphs.{none_pass}
+use Rattle.mpx_graph.proofs.Fine.{destinations-below, sources-below}
 
 -- as many weights as neighbours
 often-weights : (rank : ℕ) (ns : List Neighbour) → length (weights_of rank ns) ≡ often rank ns
 often-weights rank ns =
     length-ordered (λ (x y : ℕ). is_lt (nat_cmp x y)) (map (λ (n : Neighbour). n.weight) (filter (is_rank rank) ns))
     ∙ length-map (filter (is_rank rank) ns) (λ (n : Neighbour). n.weight)
-
-often-far : (size rank : ℕ) (ns : List Neighbour) → size ≤ rank → AreBelow size ns → often rank ns ≡ 0
-often-far size rank ns far all =
-    ap length (none_pass (is_rank rank) ns (λ k d l. ne_eqb _ _ (λ e. let below = all k d l in omega arith)))
 
 -- one member's neighbours more
 pub near_given-more : (row : RowView) (rank : ℕ) → rank < length row → map near_given (take (rank + 1) row) ≡ map near_given (take rank row) ++ near_given (post_at row rank) ∷ []

@@ -9,15 +9,12 @@ use Rattle.std.proofs.lemmas.List.Elements.{All-append, All-weaker}
 use Rattle.std.proofs.lemmas.List.Sums.{AllPass-from_list_all}
 use Rattle.mpx_birth.specs.declared.edges.Edge.{Edge}
 use Rattle.mpx_birth.specs.declared.edges.Neighbour.{Neighbour}
+use Rattle.mpx_birth.proofs.Kept.{AreBelow}
 use Rattle.mpx_post.specs.Posts.{nothing_given, destinations_of, edges_of, sources_of}
 use Rattle.mpx_post.specs.Rows.{RowView}
 use Rattle.mpx_post.specs.Agreement.{IsFine, fits_edges, post_at}
 use Rattle.mpx_post.proofs.Agreement.{fits_parts}
 use Rattle.mpx_graph.specs.Graphs.{IsBetween, all_edges}
-
--- ranks of so many
-abbrev pub AreBelow : ℕ → List Neighbour → Type 0
-AreBelow size ns = All (λ (n : Neighbour). n.rank < size) ns
 
 between : (size : ℕ) (e : Edge) → (nat_lt e.source size && nat_lt e.destination size) ≡ true → IsBetween size e
 between size e t =
@@ -42,10 +39,11 @@ module _ (row : RowView) (fine : IsFine row) (rank : ℕ) (l : rank < length row
   pub destinations-below : AreBelow (length row) (destinations_of (post_at row rank))
   destinations-below = below (length row) _ (and_parts _ _ (and_parts _ _ fitting).1).1
 
-all-between : (size : ℕ) (row : RowView) → ((k : ℕ) → k < length row → All (IsBetween size) (edges_of (post_at row k))) → All (IsBetween size) (all_edges row)
-all-between size [] each = λ k d l. absurd (omega arith)
-all-between size (given ∷ rest) each =
-    All-append (IsBetween size) (edges_of given) (all_edges rest) (each 0 (omega arith)) (all-between size rest (λ k l. each (suc k) (omega arith)))
+-- what holds of the edges of each member
+pub All-all_edges : (P : Edge → Type 0) (row : RowView) → ((k : ℕ) → k < length row → All P (edges_of (post_at row k))) → All P (all_edges row)
+All-all_edges P [] each = λ k d l. absurd (omega arith)
+All-all_edges P (given ∷ rest) each =
+    All-append P (edges_of given) (all_edges rest) (each 0 (omega arith)) (All-all_edges P rest (λ k l. each (suc k) (omega arith)))
 
 -- one member's edges, read from a row
 pub edges-within : (row : RowView) (rank size : ℕ) (edges : List Edge) → IsFine row → rank < length row → size ≡ length row → edges ≡ edges_of (post_at row rank) → All (IsBetween size) edges
@@ -59,4 +57,4 @@ all_edges-more row rank l =
     ∙ ap (λ (es : List Edge). all_edges (take rank row) ++ es) (append-nil (edges_of (post_at row rank)))
 
 pub all_edges-between : (row : RowView) → IsFine row → All (IsBetween (length row)) (all_edges row)
-all_edges-between row fine = all-between (length row) row (edges-between row fine)
+all_edges-between row fine = All-all_edges (IsBetween (length row)) row (edges-between row fine)

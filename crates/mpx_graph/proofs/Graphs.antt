@@ -1,7 +1,7 @@
 -- The graph of a list of edges.
-use Rattle.std.proofs.Common.{◌≡◌, ℕ, zero, suc, ◌<◌, ◌≤◌, Bool, false, List, [], ◌∷◌, ◌++◌, length, cond, map, get_or, set, refl, sym, ap, ◌∙◌, inl, inr, arith, append-nil, add-one}
+use Rattle.std.proofs.Common.{◌≡◌, ℕ, zero, suc, ◌<◌, ◌≤◌, Bool, List, [], ◌∷◌, ◌++◌, length, cond, map, get_or, set, refl, sym, ap, ◌∙◌, inl, inr, arith, append-nil, add-one}
 use Rattle.std.specs.Prelude.{◌==◌}
-use Rattle.std.specs.List.{All, filter, range_with_len}
+use Rattle.std.specs.List.{All, range_with_len}
 use Rattle.std.proofs.lemmas.Bool.{cases_lt, cases_eq, ne_eqb, eq-eqb}
 use Rattle.std.proofs.lemmas.List.{get_or_past, get_or_default, get_or-set_same, get_or-set_other, length-set, map_push}
 use Rattle.std.proofs.lemmas.List.FromFn.{fill_by_all, map-range_with_len_more, get_or-map-range_with_len, length-map-range_with_len}
@@ -10,6 +10,7 @@ use Rattle.mpx_birth.specs.declared.edges.Neighbour.{Neighbour}
 use Rattle.mpx_birth.specs.Edges.{often, source_of, destination_of, sources_among, destinations_among}
 use Rattle.mpx_birth.specs.Births.{upto}
 use Rattle.mpx_birth.specs.Topologies.{Near, Agrees, nobody, sources_in, destinations_in}
+use Rattle.mpx_birth.proofs.Kept.{none_pass}
 use Rattle.mpx_graph.specs.Graphs.{IsBetween, near_among, graph_among}
 use Rattle.mpx_graph.proofs.Pairs.{ends_agree, sources-more, destinations-more}
 
@@ -36,13 +37,6 @@ graph-by-entries : (size : ℕ) (edges : List Edge) (xs : List Near) → length 
 graph-by-entries size edges xs long each = fill_by_all (near_among edges) xs size nobody long each ∙ sym (map-upto (near_among edges) size)
 
 -- nobody past the members
-pub none_pass : {A : Type 0} (p : A → Bool) (xs : List A) → All (λ x. p x ≡ false) xs → filter p xs ≡ []
-none_pass p [] none = refl
-none_pass {A} p (x ∷ xs) none =
-    let here : p x ≡ false = none 0 x (omega arith) in
-    let rest : filter p xs ≡ [] = none_pass p xs (λ k d l. none (suc k) d (omega arith)) in
-    ap (λ (b : Bool). cond b (x ∷ filter p xs) (filter p xs)) here ∙ rest
-
 module _ (size : ℕ) (edges : List Edge) (within : All (IsBetween size) edges) where
   past_sources : (rank : ℕ) → size ≤ rank → sources_among rank edges ≡ []
   past_sources rank l =

@@ -1,8 +1,8 @@
 ghost use Rattle.std.specs.Prelude.{◌≡◌, ◌≤◌, ◌*◌, ◌==◌, ◌&&◌, nat_lt, length};
 ghost use Rattle.std.specs.List.{list_all};
 ghost use Rattle.mpx_num.specs.Types.{item_len};
-ghost use Rattle.mpx_post.specs.Posts.{numbers_of, type_of};
-ghost use Rattle.mpx_post.specs.Agreement.{blocks_of, fill, fits_counts, fits_edges, fits_group, fits_root, fits_type, is_fit, is_root, seat_of};
+ghost use Rattle.mpx_post.specs.Posts.{fits_root, fits_type, numbers_of, type_of};
+ghost use Rattle.mpx_post.specs.Agreement.{blocks_of, fill, fits_counts, fits_edges, fits_group, is_fit, is_root, seat_of};
 ghost use Rattle.mpx_post.specs.Seats.{lacks_topology};
 ghost use Rattle.mpx_post.specs.Topologies.{most_neighbours};
 

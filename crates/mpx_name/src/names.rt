@@ -43,6 +43,14 @@ impl Name {
         }
     }
 
+    /// The name of these steps, the oldest first. It takes no memory.
+    pub fn of(steps: Vec<Step>) -> Name
+        requires { IsName steps.items }
+        ensures { result ≡ reverse steps.items }
+    {
+        Name { steps }
+    }
+
     /// The communicator of this colour that the call with this number on this context makes.
     pub fn child(&self, alloc: Global, call: u32, colour: u32) -> Result<Name, NameError>
         requires call { call < 2 ^ 32 - 1 }
@@ -63,6 +71,8 @@ impl Name {
     {
         self.room()?;
         let members = members.copy(alloc)?;
+        // so that the proof knows it to be a group
+        let _size = members.size();
         Ok(self.extended(alloc, Step::Gathering { tag, members })?)
     }
 
@@ -99,6 +109,14 @@ impl Name {
         ensures fits { IfSome result (λ step. IsStep step.now) }
     {
         self.steps.get(i)
+    }
+
+    /// The steps, the oldest first.
+    pub fn steps(&self) -> &[Step]
+        ensures value { result.now ≡ reverse self.now }
+        ensures name { IsName result.now }
+    {
+        self.steps.as_slice()
     }
 
     fn room(&self) -> Result<(), NameError>

@@ -87,7 +87,7 @@ module _ (topology : TopologyView) (row : RowView) (exchange : Neighbourhood) (f
       (step_met sent (e ∙ (λ i. get_or cursors.next (is i) 0 + place_of rank 0 (drop (get_or cursors.next (is i) 0) ((t ∙ ap (destinations_at topology) is) i)))))
 
 -- none is taken at the start
-pub none_taken : (topology : TopologyView) (row : RowView) (rank : ℕ) → IsTopology topology.ranks → AreTaken topology row rank 0 (record { next = replicate 64 0; before = replicate 64 0 })
+pub none_taken : (topology : TopologyView) (row : RowView) (rank : ℕ) → IsTopology topology → AreTaken topology row rank 0 (record { next = replicate 64 0; before = replicate 64 0 })
 none_taken topology row rank kept = record {
   met = none_met (sources_mutual topology kept.agree kept.few rank);
   long = length-replicate {A = ℕ} 64 0;

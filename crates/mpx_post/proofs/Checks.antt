@@ -2,8 +2,8 @@
 use Rattle.std.proofs.Common.{◌≡◌, ℕ, ◌*◌, ◌<◌, ◌≤◌, ◌||◌, Bool, true, false, not, cond, [], ◌∷◌, inl, inr, length, Option, Some, None, Result, Ok, Err, nat_le, nat_lt, ◌==◌, subst, refl, ap, ◌∙◌, eqb-true, arith}
 use Rattle.std.specs.Prelude.{◌&&◌}
 use Rattle.std.specs.List.{list_all}
-use Rattle.std.specs.Option.{option_map_or}
-use Rattle.std.proofs.lemmas.Bool.{and_parts, cases_Bool, or_parts}
+use Rattle.std.specs.Option.{option_map_or, option_or}
+use Rattle.std.proofs.lemmas.Bool.{and_from, and_parts, cases_Bool, or_parts}
 use Rattle.std.proofs.lemmas.Bool.Decides.{nat_tests}
 use Rattle.mpx_num.specs.ItemList.{is_whole}
 use Rattle.mpx_num.specs.Operations.{fits}
@@ -17,18 +17,17 @@ use Rattle.mpx_kind.specs.declared.kinds.Makes.TheVariants as M
 use Rattle.mpx_kind.specs.declared.kinds.Number.{Number}
 use Rattle.mpx_kind.specs.declared.kinds.Number.TheVariants.{Zero, One, OneAtRoot, Members, MembersAtRoot, Indegree, Outdegree}
 use Rattle.mpx_kind.specs.declared.kinds.Seat.{Seat}
-use Rattle.mpx_kind.specs.declared.kinds.Kind.{Kind}
 use Rattle.mpx_post.specs.Births.{BirthView, rank_in}
-use Rattle.mpx_post.specs.Blocks.{blocks_sent}
 use Rattle.mpx_post.specs.Kinds.{family_of, fields_of, is_gathered, kind_of, makes_communicators, number_in}
-use Rattle.mpx_post.specs.Posts.{Given, IsMaking, most_items}
+use Rattle.mpx_post.specs.Posts.{Given, IsMaking, most_counts, most_items}
 use Rattle.mpx_post.specs.Seats.{lacks_topology}
 use Rattle.mpx_post.specs.Topologies.{most_neighbours}
-use Rattle.mpx_post.specs.Drafts.{Checks, checked, refusals, asked_first, are_edges, are_so_many, are_ranks, drafted_seat, edge_count, graph_of, is_misfilled, checked_at, checked_in, stray_refusals, drafted_making, drafted_numbers, first_that_holds, given_by, has_colour_and_key, is_colour, is_count, is_key, is_misplaced, is_of, is_rank, most_calls, most_steps, place_refusals, ranks_in, received_counts, sent_counts, unless}
+use Rattle.mpx_post.specs.Drafts.{Checks, checked, refusals, asked_first, are_edges, are_so_many, are_ranks, drafted_seat, edge_count, graph_of, has_making, is_misfilled, checked_at, checked_in, stray_refusals, drafted_making, drafted_numbers, first_that_holds, given_by, has_colour_and_key, is_colour, is_count, is_key, is_misplaced, is_of, is_rank, most_calls, most_steps, numbers_refusal, place_refusals, ranks_in, received_counts, sent_counts, unless}
 use Rattle.mpx_post.specs.Graphs.{most_edges}
-use Rattle.mpx_post.proofs.Graphs.{are_edges-more}
+use Rattle.mpx_post.proofs.Graphs.{are_edges-more, is_rank-more}
+use Rattle.mpx_post.proofs.Limits.{from_not, right, right_more}
 use Rattle.mpx_post.proofs.Makings.{IsMaking-from, are_ranks-more}
-use Rattle.mpx_post.proofs.Refusals.{behind, none_after, none_told, items_refusal, items_refused, PlacePassed, place_passed, shape_parts, shape_passed, shape_refused}
+use Rattle.mpx_post.proofs.Refusals.{behind_or, none_after, none_told, items_refusal, items_refused, PlacePassed, place_passed, shape_parts, shape_passed, shape_refused}
 
 at_most_one : (at_root : Bool) → cond at_root 1 0 ≤ most_neighbours
 at_most_one true = omega arith
@@ -48,9 +47,76 @@ few_in MembersAtRoot seat l i o = at_most seat.size l seat.at_root
 few_in Indegree seat l i o = i
 few_in Outdegree seat l i o = o
 
-pub from_not : (b : Bool) → not b ≡ false → b ≡ true
-from_not true h = refl
-from_not false h = cc
+-- AN ANSWER BY THE NUMBERS, and by a refusal that comes after them
+
+module _ (draft : Draft) where
+  abbrev pub cut : Bool
+  cut = not (is_whole draft.ty (drafted_numbers draft))
+
+  abbrev pub strange : Bool
+  strange = not (list_all (is_of draft.ty) (drafted_numbers draft))
+
+  abbrev pub many : Bool
+  many = nat_lt (most_items * item_len draft.ty) (length (drafted_numbers draft))
+
+  abbrev pub counted : Bool
+  counted = list_all is_count (sent_counts draft) && list_all is_count (received_counts draft)
+
+  -- the items pass
+  abbrev pub items_are_fine : Type 0
+  items_are_fine = (cut ≡ false) × (strange ≡ false) × (many ≡ false)
+
+module _ (draft : Draft) (after : Option PostError) where
+  abbrev numbered : Result Given PostError
+  numbered = unless (option_or (numbers_refusal draft) after) (given_by draft)
+
+  pub refused_by_items : {A : Type 0} (x : A) (e : PostError) → Err e ≡ unless (items_refusal draft.ty (drafted_numbers draft)) x → Checks numbered (Err e)
+  refused_by_items x e h = items_refused (cut draft) (strange draft) (many draft) (not (counted draft)) after x e (given_by draft) h
+
+  pub refused_by_counts : items_are_fine draft → counted draft ≡ false → Checks numbered (Err TooManyItems)
+  refused_by_counts items counts = rw (items.0, items.1, items.2, counts) refl
+
+  behind_numbers : items_are_fine draft → counted draft ≡ true → numbered ≡ unless after (given_by draft)
+  behind_numbers items counts = rw (items.0, items.1, items.2, counts) refl
+
+  pub refused_after : (e : PostError) → items_are_fine draft → counted draft ≡ true → after ≡ Some e → Checks numbered (Err e)
+  refused_after e items counts h = rw (behind_numbers items counts, h) refl
+
+  pub accepted : items_are_fine draft → counted draft ≡ true → after ≡ None → numbered ≡ Ok (given_by draft)
+  accepted items counts h = behind_numbers items counts ∙ ap (λ o. unless o (given_by draft)) h
+
+-- WHAT IS SAID OF A NEW COMMUNICATOR
+
+module _ (makes : Makes) (draft : Draft) (h : has_making makes draft ≡ true) where
+  making_parts : (are_ranks 64 (ranks_in makes draft) ≡ true) × (are_edges makes 64 (graph_of draft) ≡ true) × (nat_le (edge_count makes (graph_of draft)) most_edges ≡ true) × (has_colour_and_key makes draft ≡ true)
+  making_parts =
+      let group = and_parts _ _ h in
+      let edges = and_parts _ _ group.1 in
+      let few = and_parts _ _ edges.1 in
+      (group.0, edges.0, few.0, few.1)
+
+  pub group_is_fine : makes ≡ M.Group → are_ranks 64 draft.group ≡ true
+  group_is_fine is = subst (λ (makes : Makes). are_ranks 64 (ranks_in makes draft) ≡ true) is making_parts.0
+
+  pub edges_are_fine : are_edges makes 64 (graph_of draft) ≡ true
+  edges_are_fine = making_parts.1
+
+  pub edges_are_few : edge_count makes (graph_of draft) ≤ most_edges
+  edges_are_few = let few = making_parts.2 in grind (arith, nat_tests, few)
+
+  colour_and_key : makes ≡ M.Colour → (option_map_or is_colour draft.colour true && is_key draft.key) ≡ true
+  colour_and_key is = subst (λ (makes : Makes). has_colour_and_key makes draft ≡ true) is making_parts.3
+
+  pub colour_is_fine : makes ≡ M.Colour → option_map_or is_colour draft.colour true ≡ true
+  colour_is_fine is = (and_parts (option_map_or is_colour draft.colour true) (is_key draft.key) (colour_and_key is)).0
+
+  pub key_is_fine : makes ≡ M.Colour → is_key draft.key ≡ true
+  key_is_fine is = (and_parts (option_map_or is_colour draft.colour true) (is_key draft.key) (colour_and_key is)).1
+
+  pub making_is_fine : IsMaking makes (drafted_making makes draft)
+  making_is_fine = IsMaking-from draft.colour draft.key draft.group (graph_of draft) makes colour_is_fine group_is_fine edges_are_fine edges_are_few
+
+-- A WHOLE CHECK
 
 module _ (seat : Seat) (at : At) (draft : Draft) where
   abbrev rootless : Bool
@@ -68,56 +134,32 @@ module _ (seat : Seat) (at : At) (draft : Draft) where
   abbrev misfilled : Bool
   misfilled = is_misfilled seat draft
 
-  abbrev cut : Bool
-  cut = not (is_whole draft.ty (drafted_numbers draft))
-
-  abbrev strange : Bool
-  strange = not (list_all (is_of draft.ty) (drafted_numbers draft))
-
-  abbrev many : Bool
-  many = nat_lt (most_items * item_len draft.ty) (length (drafted_numbers draft))
-
-  abbrev counted : Bool
-  counted = list_all is_count (sent_counts draft) && list_all is_count (received_counts draft)
-
   abbrev pub shape_is_fine : Type 0
   shape_is_fine = first_that_holds (asked_first seat draft misfilled) ≡ None
-
-  -- the items pass
-  abbrev pub items_are_fine : Type 0
-  items_are_fine = (cut ≡ false) × (strange ≡ false) × (many ≡ false)
 
   abbrev answer : Result Given PostError
   answer = checked_in seat at draft
 
   pub refused_by_shape : (e : PostError) → first_that_holds (asked_first seat draft misfilled) ≡ Some e → Checks answer (Err e)
-  refused_by_shape e h = shape_refused rootless opless (not (as_many_sent && as_many_received)) misfilled cut strange many (not counted) (place_refusals seat.size at draft) e (given_by draft) h
+  refused_by_shape e h = shape_refused rootless opless (not (as_many_sent && as_many_received)) misfilled (cut draft) (strange draft) (many draft) (not (counted draft)) (place_refusals seat.size at draft) e (given_by draft) h
 
-  behind_shape : shape_is_fine → answer ≡ unless (behind cut strange many (not counted) (place_refusals seat.size at draft)) (given_by draft)
-  behind_shape h = ap (λ o. unless o (given_by draft)) (shape_passed rootless opless (not (as_many_sent && as_many_received)) misfilled cut strange many (not counted) (place_refusals seat.size at draft) h)
+  -- a check is the answer by the numbers and by the place
+  pub behind_shape : shape_is_fine → answer ≡ unless (option_or (numbers_refusal draft) (first_that_holds (place_refusals seat.size at draft))) (given_by draft)
+  behind_shape h = ap (λ o. unless o (given_by draft)) (shape_passed rootless opless (not (as_many_sent && as_many_received)) misfilled (cut draft) (strange draft) (many draft) (not (counted draft)) (place_refusals seat.size at draft) h ∙ behind_or (cut draft) (strange draft) (many draft) (not (counted draft)) (place_refusals seat.size at draft))
 
-  pub refused_by_items : {A : Type 0} (x : A) (e : PostError) → shape_is_fine → Err e ≡ unless (items_refusal draft.ty (drafted_numbers draft)) x → Checks answer (Err e)
-  refused_by_items x e shape h = rw (behind_shape shape) (items_refused cut strange many (not counted) (place_refusals seat.size at draft) x e (given_by draft) h)
+  pub root_passed : seat.size ≤ 64 → shape_is_fine → cond (fields_of (kind_of draft.call)).root (is_rank 64 draft.root) true ≡ true
+  root_passed l h = right_more _ _ _ (is_rank-more seat.size draft.root l) (right (fields_of (kind_of draft.call)).root (is_rank seat.size draft.root) (shape_parts rootless opless (not (as_many_sent && as_many_received)) misfilled h).0)
 
-  pub refused_by_counts : shape_is_fine → items_are_fine → counted ≡ false → Checks answer (Err TooManyItems)
-  refused_by_counts shape items counts = rw (behind_shape shape, items.0, items.1, items.2, counts) refl
-
-  behind_counts : shape_is_fine → items_are_fine → counted ≡ true → answer ≡ unless (first_that_holds (place_refusals seat.size at draft)) (given_by draft)
-  behind_counts shape items counts = behind_shape shape ∙ rw (items.0, items.1, items.2, counts) refl
-
-  pub refused_by_place : (e : PostError) → shape_is_fine → items_are_fine → counted ≡ true → first_that_holds (place_refusals seat.size at draft) ≡ Some e → Checks answer (Err e)
-  refused_by_place e shape items counts h = rw (behind_counts shape items counts, h) refl
-
-  pub accepted : shape_is_fine → items_are_fine → counted ≡ true → first_that_holds (place_refusals seat.size at draft) ≡ None → answer ≡ Ok (given_by draft)
-  accepted shape items counts h = behind_counts shape items counts ∙ ap (λ o. unless o (given_by draft)) h
+  pub op_passed : shape_is_fine → cond (fields_of (kind_of draft.call)).op (fits draft.op draft.ty) true ≡ true
+  op_passed h = right (fields_of (kind_of draft.call)).op (fits draft.op draft.ty) (shape_parts rootless opless (not (as_many_sent && as_many_received)) misfilled h).1
 
   as_many : shape_is_fine → (as_many_sent ≡ true) × (as_many_received ≡ true)
   as_many h = and_parts _ _ (from_not (as_many_sent && as_many_received) (shape_parts rootless opless (not (as_many_sent && as_many_received)) misfilled h).2)
 
-  pub few_sent : seat.size ≤ 64 → seat.indegree ≤ most_neighbours → seat.outdegree ≤ most_neighbours → shape_is_fine → length (sent_counts draft) ≤ most_neighbours
+  pub few_sent : seat.size ≤ 64 → seat.indegree ≤ most_neighbours → seat.outdegree ≤ most_neighbours → shape_is_fine → length (sent_counts draft) ≤ most_counts
   few_sent l i o h = omega (arith, eqb-true _ _ (as_many h).0, few_in (fields_of (kind_of draft.call)).scounts seat l i o)
 
-  pub few_received : seat.size ≤ 64 → seat.indegree ≤ most_neighbours → seat.outdegree ≤ most_neighbours → shape_is_fine → length (received_counts draft) ≤ most_neighbours
+  pub few_received : seat.size ≤ 64 → seat.indegree ≤ most_neighbours → seat.outdegree ≤ most_neighbours → shape_is_fine → length (received_counts draft) ≤ most_counts
   few_received l i o h = omega (arith, eqb-true _ _ (as_many h).1, few_in (fields_of (kind_of draft.call)).rcounts seat l i o)
 
   abbrev pub place_is_fine : Type 0
@@ -141,29 +183,19 @@ module _ (seat : Seat) (at : At) (draft : Draft) where
   place_parts : place_is_fine → PlacePassed (at.call == most_calls) (makes_communicators (family_of (kind_of draft.call)) && nat_le most_steps at.depth) (misplaced || not ranked) (not joined) crowded uncoloured
   place_parts h = place_passed (at.call == most_calls) (makes_communicators (family_of (kind_of draft.call)) && nat_le most_steps at.depth) (misplaced || not ranked) (not joined) crowded uncoloured h
 
-  pub group_is_fine : seat.size ≤ 64 → place_is_fine → (fields_of (kind_of draft.call)).makes ≡ M.Group → are_ranks 64 draft.group ≡ true
-  group_is_fine l h is =
-      let all : ranked ≡ true = from_not ranked (or_parts misplaced (not ranked) (place_parts h).group).1 in
-      are_ranks-more seat.size draft.group l (subst (λ (makes : Makes). are_ranks seat.size (ranks_in makes draft) ≡ true) is all)
-
-  pub edges_are_fine : seat.size ≤ 64 → place_is_fine → are_edges (fields_of (kind_of draft.call)).makes 64 (graph_of draft) ≡ true
-  edges_are_fine l h = are_edges-more (fields_of (kind_of draft.call)).makes seat.size (graph_of draft) l (from_not joined (place_parts h).edges)
-
-  pub edges_are_few : place_is_fine → edge_count (fields_of (kind_of draft.call)).makes (graph_of draft) ≤ most_edges
-  edges_are_few h = let few = (place_parts h).few in grind (arith, nat_tests, few)
-
-  colour_and_key : place_is_fine → (fields_of (kind_of draft.call)).makes ≡ M.Colour → (option_map_or is_colour draft.colour true && is_key draft.key) ≡ true
-  colour_and_key h is = subst (λ (makes : Makes). has_colour_and_key makes draft ≡ true) is (from_not (has_colour_and_key (fields_of (kind_of draft.call)).makes draft) (place_parts h).colour_and_key)
-
-  pub colour_is_fine : place_is_fine → (fields_of (kind_of draft.call)).makes ≡ M.Colour → option_map_or is_colour draft.colour true ≡ true
-  colour_is_fine h is = (and_parts (option_map_or is_colour draft.colour true) (is_key draft.key) (colour_and_key h is)).0
-
-  pub making_is_fine : seat.size ≤ 64 → place_is_fine → IsMaking (fields_of (kind_of draft.call)).makes (drafted_making (fields_of (kind_of draft.call)).makes draft)
-  making_is_fine l h = IsMaking-from draft.colour draft.key draft.group (graph_of draft) (fields_of (kind_of draft.call)).makes (colour_is_fine h) (group_is_fine l h) (edges_are_fine l h) (edges_are_few h)
+  pub making_passed : seat.size ≤ 64 → place_is_fine → has_making (fields_of (kind_of draft.call)).makes draft ≡ true
+  making_passed l h =
+      let makes : Makes = (fields_of (kind_of draft.call)).makes in
+      let parts = place_parts h in
+      let uncrowded = parts.few in
+      let group : are_ranks 64 (ranks_in makes draft) ≡ true = are_ranks-more seat.size (ranks_in makes draft) l (from_not ranked (or_parts misplaced (not ranked) parts.group).1) in
+      let edges : are_edges makes 64 (graph_of draft) ≡ true = are_edges-more makes seat.size (graph_of draft) l (from_not joined parts.edges) in
+      let few : nat_le (edge_count makes (graph_of draft)) most_edges ≡ true = grind (arith, nat_tests, uncrowded) in
+      and_from _ _ group (and_from _ _ edges (and_from _ _ few (from_not (has_colour_and_key makes draft) parts.colour_and_key)))
 
   -- an accepted draft passes what is asked last
   pub accepted_place : (given : Given) → answer ≡ Ok given → place_is_fine
-  accepted_place given h = none_after rootless opless (not (as_many_sent && as_many_received)) misfilled cut strange many (not counted) (place_refusals seat.size at draft) (none_told (first_that_holds (refusals seat at draft)) (given_by draft) given h)
+  accepted_place given h = none_after rootless opless (not (as_many_sent && as_many_received)) misfilled (cut draft) (strange draft) (many draft) (not (counted draft)) (place_refusals seat.size at draft) (none_told (first_that_holds (refusals seat at draft)) (given_by draft) given h)
 
   room_below : (given : Given) → answer ≡ Ok given → makes_communicators (family_of (kind_of draft.call)) ≡ true → at.depth < 8
   room_below given h makes =

@@ -1,5 +1,5 @@
 -- Worked rows: calls that make communicators, and gatherings (MPI 4.1 section 7.4.2).
-use Rattle.std.proofs.Common.{◌≡◌, ℕ, ◌^◌, Bool, true, false, List, [], ◌∷◌, ℤ, pos, negsuc, Option, Some, None, Ok, Err, refl}
+use Rattle.std.proofs.Common.{◌≡◌, ℕ, Bool, true, false, List, [], ◌∷◌, ℤ, pos, negsuc, Option, Some, None, Ok, Err, refl}
 use Rattle.mpx_num.specs.declared.operations.Op.TheVariants.{Sum}
 use Rattle.mpx_num.specs.declared.types.Ty.TheVariants.{I32}
 use Rattle.mpx_post.specs.declared.draft.At.{At}
@@ -12,7 +12,7 @@ use Rattle.mpx_post.specs.Births.{BirthView, of_members}
 use Rattle.mpx_post.specs.Drafts.{checked}
 use Rattle.mpx_post.specs.Gatherings.{gathering}
 use Rattle.mpx_post.specs.Kinds.{blocking}
-use Rattle.mpx_post.specs.Posts.{Given, nothing_given}
+use Rattle.mpx_post.specs.Posts.{nothing_given}
 
 -- four members
 abbrev four : BirthView

@@ -11,7 +11,7 @@ use Rattle.mpx_post.specs.declared.draft.PostError.TheVariants.{NotMember, Depth
 use Rattle.mpx_post.specs.Births.{BirthView, rank_in}
 use Rattle.mpx_post.specs.Drafts.{first_that_holds, is_rank, is_tag, most_steps, natural, naturals, unless}
 use Rattle.mpx_post.specs.Gatherings.{GatheringView, gathering, gathering_at, is_bad_group, members_at}
-use Rattle.mpx_post.proofs.Checks.{from_not}
+use Rattle.mpx_post.proofs.Limits.{from_not}
 
 pub length-members_at : (members : List ℕ) (ranks : List ℤ) → length (members_at members ranks) ≡ length ranks
 length-members_at members ranks = length-map (naturals ranks) (λ r. get_or members r 0) ∙ length-map ranks natural

@@ -1,5 +1,5 @@
 -- What a draft says of a graph, within its limits.
-use Rattle.std.proofs.Common.{◌≡◌, ℕ, ◌+◌, ◌^◌, ◌<◌, ◌≤◌, nat_lt, pos, Bool, true, false, List, [], ◌∷◌, ℤ, cond, length, map, refl, arith}
+use Rattle.std.proofs.Common.{◌≡◌, ℕ, ◌^◌, ◌<◌, ◌≤◌, nat_lt, pos, Bool, true, false, List, [], ◌∷◌, ℤ, cond, map, refl, arith}
 use Rattle.std.specs.Prelude.{int_le}
 use Rattle.std.specs.List.{All, list_all}
 use Rattle.std.proofs.lemmas.Bool.{and_parts, and_from}

@@ -5,8 +5,10 @@ pub mod Sums
 pub mod Blocks
 pub mod Contributions
 pub mod Seen
+pub mod Limits
 pub mod Checks
 pub mod Graphs
 pub mod Makings
+pub mod Spelling
 pub mod Gatherings
 pub mod Examples

@@ -1,11 +1,10 @@
 -- What a draft says of a new communicator, within its limits.
-use Rattle.std.proofs.Common.{◌≡◌, ℕ, ◌^◌, ◌<◌, ◌≤◌, nat_lt, pos, Bool, true, false, not, List, [], ◌∷◌, ℤ, Option, Some, None, refl, ap, arith}
+use Rattle.std.proofs.Common.{◌≡◌, ℕ, ◌^◌, ◌<◌, ◌≤◌, nat_lt, pos, Bool, true, false, not, List, ℤ, Option, Some, None, refl, ap, arith}
 use Rattle.std.specs.Prelude.{int_le}
-use Rattle.std.specs.List.{All, list_all}
+use Rattle.std.specs.List.{list_all}
 use Rattle.std.specs.Option.{option_map, option_map_or}
 use Rattle.std.proofs.lemmas.Bool.{and_parts, and_from}
 use Rattle.std.proofs.lemmas.Bool.Decides.{nat_tests}
-use Rattle.std.proofs.lemmas.List.Elements.{All-nil, All-cons}
 use Rattle.mpx_group.specs.Group.{has_twice}
 use Rattle.mpx_kind.specs.declared.kinds.Call.{Call}
 use Rattle.mpx_kind.specs.declared.kinds.Call.TheVariants as C

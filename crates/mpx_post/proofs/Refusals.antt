@@ -1,7 +1,8 @@
 -- What each part of a draft's check says of its refusals.
-use Rattle.std.proofs.Common.{◌≡◌, ◌∙◌, inl, inr, ◌≤◌, ◌<◌, ◌*◌, ◌||◌, cond, is_some, Bool, true, false, not, List, [], ◌∷◌, ℤ, length, Option, Some, None, Ok, Err, nat_lt, refl, ap, arith}
+use Rattle.std.proofs.Common.{◌≡◌, ◌∙◌, inl, inr, ◌≤◌, ◌<◌, ◌*◌, ◌||◌, Bool, true, false, not, List, [], ◌∷◌, ℤ, length, Option, Some, None, Ok, Err, nat_lt, refl, ap, arith}
 use Rattle.std.specs.Prelude.{int_le, ◌≤ℤ◌, ◌<ℤ◌, ◌&&◌, ◌⊎◌}
 use Rattle.std.specs.List.{Any, list_all}
+use Rattle.std.specs.Option.{option_or}
 use Rattle.std.proofs.lemmas.Bool.Decides.{nat_tests}
 use Rattle.std.proofs.Math.Bool.{and-false}
 use Rattle.std.proofs.lemmas.Int.{ints}
@@ -12,8 +13,8 @@ use Rattle.mpx_num.specs.Types.{item_len, least, greatest, IsInRange, IsOutOfRan
 use Rattle.mpx_num.specs.ItemList.{AreItems, is_whole}
 use Rattle.mpx_post.specs.declared.draft.PostError.{PostError}
 use Rattle.mpx_post.specs.declared.draft.PostError.TheVariants.{RootOutOfRange, OpNotForType, CountsLength, ItemsLength, ItemOutOfRange, TooManyItems, CallsUsedUp, DepthUsedUp, BadGroup, BadEdge, TooManyEdges, BadTag}
-use Rattle.mpx_post.specs.Posts.{Given, few_items, most_items}
-use Rattle.mpx_post.specs.Drafts.{Checks, first_that_holds, is_of, unless, where_had}
+use Rattle.mpx_post.specs.Posts.{Given, most_items}
+use Rattle.mpx_post.specs.Drafts.{Checks, first_that_holds, is_of, unless}
 
 -- ITEMS
 
@@ -94,7 +95,15 @@ shape_passed false false true m w r t c after h = cc
 shape_passed false false false true w r t c after h = cc
 shape_passed false false false false w r t c after h = rw (or_none w) refl
 
-pub items_refused : {A : Type 0} (w r t c : Bool) (after : List (Bool × PostError)) (x : A) (e : PostError) (given : Given) → Err e ≡ unless (three w r t) x → Checks (unless (behind w r t c after) given) (Err e)
+-- what comes after the shape is a refusal of the numbers, or else the first one after
+pub behind_or : (w r t c : Bool) (after : List (Bool × PostError)) → behind w r t c after ≡ option_or (three w r (t || c)) (first_that_holds after)
+behind_or true r t c after = refl
+behind_or false true t c after = refl
+behind_or false false true c after = refl
+behind_or false false false true after = refl
+behind_or false false false false after = refl
+
+pub items_refused : {A : Type 0} (w r t c : Bool) (after : Option PostError) (x : A) (e : PostError) (given : Given) → Err e ≡ unless (three w r t) x → Checks (unless (option_or (three w r (t || c)) after) given) (Err e)
 items_refused true r t c after x e given h = let same : e ≡ ItemsLength = cc in ap Err same
 items_refused false true t c after x e given h = let same : e ≡ ItemOutOfRange = cc in ap Err same
 items_refused false false true c after x e given h = let same : e ≡ TooManyItems = cc in ap Err same
@@ -105,16 +114,6 @@ items_passed true r t x y h = cc
 items_passed false true t x y h = cc
 items_passed false false true x y h = cc
 items_passed false false false x y h = (refl, refl, refl, cc)
-
--- PARTS OF A POST
-
-pub is_some-where_had : {A : Type 0} (had : Bool) (x : A) → is_some (where_had had x) ≡ had
-is_some-where_had true x = refl
-is_some-where_had false x = refl
-
-pub few_given : (had : Bool) (ty : Ty) (nums : List ℤ) → nat_lt (most_items * item_len ty) (length (cond had nums [])) ≡ false → few_items (where_had had (record { ty = ty; nums = nums }))
-few_given true ty nums few = grind (arith, nat_tests)
-few_given false ty nums few = tt
 
 -- THE PLACE: u the number of calls, d the depth, g the group, e the edges, m their number, k the colour and the key
 

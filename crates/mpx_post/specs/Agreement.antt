@@ -6,7 +6,6 @@ use Rattle.std.specs.Option.{option_map, option_map_or}
 use Rattle.mpx_num.specs.declared.types.Ty.{Ty}
 use Rattle.mpx_num.specs.ItemList.{ItemList}
 use Rattle.mpx_num.specs.Types.{item_len}
-use Rattle.mpx_num.specs.Operations.{fits}
 use Rattle.mpx_kind.specs.declared.kinds.Kind.{Kind}
 use Rattle.mpx_kind.specs.declared.kinds.Kind.TheVariants.{Barrier, Bcast, Gather, Gatherv, Scatter, Scatterv, Allgather, Allgatherv, Alltoall, Alltoallv, Reduce, Allreduce, ReduceScatterBlock, ReduceScatter, Scan, Exscan, Dup, Split, Create, CreateGroup, DistGraph, DistGraphAdjacent, NeighborAllgather, NeighborAllgatherv, NeighborAlltoall, NeighborAlltoallv}
 use Rattle.mpx_kind.specs.declared.kinds.Neighbourhood.{Neighbourhood}
@@ -16,7 +15,7 @@ use Rattle.mpx_post.specs.Kinds.{fields_of, number_in}
 use Rattle.mpx_post.specs.Seats.{lacks_topology, seat_at}
 use Rattle.mpx_post.specs.Topologies.{TopologyView}
 use Rattle.mpx_meet.specs.Places.{Meet}
-use Rattle.mpx_post.specs.Posts.{Given, nothing_given, root_of, type_of, numbers_of, count_of, destinations_of, edges_of, group_of, sources_of, weighted_of}
+use Rattle.mpx_post.specs.Posts.{Given, nothing_given, root_of, type_of, numbers_of, count_of, destinations_of, edges_of, fits_root, fits_type, group_of, sources_of, weighted_of}
 use Rattle.mpx_birth.specs.declared.edges.Edge.{Edge}
 use Rattle.mpx_birth.specs.declared.edges.Neighbour.{Neighbour}
 use Rattle.mpx_birth.specs.Edges.{weights_of}
@@ -54,14 +53,6 @@ type_given given = option_map (λ (items : ItemList). items.ty) given.items
 -- whether the member with this rank is the root that its post names
 abbrev pub is_root : ℕ → Given → Bool
 is_root rank given = option_map_or (λ root. root == rank) given.root false
-
--- a root is one of so many ranks
-abbrev pub fits_root : ℕ → Given → Bool
-fits_root size given = option_map_or (λ root. nat_lt root size) given.root true
-
--- an operation is defined on the items' type
-abbrev pub fits_type : Given → Bool
-fits_type given = option_map_or (λ op. fits op (type_of given)) given.op true
 
 -- what the numbers of its counts depend on, as the post of the member with this rank
 abbrev pub seat_of : Option TopologyView → (size rank : ℕ) → Given → Seat

@@ -29,7 +29,7 @@ use Rattle.mpx_birth.specs.declared.edges.Neighbour.{Neighbour}
 use Rattle.mpx_post.specs.declared.drafted_edges.DraftedEdge.{DraftedEdge}
 use Rattle.mpx_post.specs.declared.drafted_edges.DraftedNeighbour.{DraftedNeighbour}
 use Rattle.mpx_post.specs.Graphs.{GraphView, most_edges, no_graph}
-use Rattle.mpx_post.specs.Posts.{Given, most_items}
+use Rattle.mpx_post.specs.Posts.{Given, most_counts, most_items}
 
 -- the first of these refusals whose condition holds
 abbrev pub first_that_holds : List (Bool × PostError) → Option PostError
@@ -203,6 +203,10 @@ refusals seat at draft =
     ++ number_refusals draft
     ++ place_refusals seat.size at draft
 
+-- why its numbers are no items, or its counts no counts
+abbrev pub numbers_refusal : Draft → Option PostError
+numbers_refusal draft = first_that_holds ((not (is_whole draft.ty (drafted_numbers draft)), ItemsLength) ∷ number_refusals draft)
+
 -- why none may be posted along edges where there is no topology: how many counts there are and how many items they tell is
 -- not asked
 abbrev pub stray_refusals : Draft → List (Bool × PostError)
@@ -269,3 +273,29 @@ abbrev pub Checks : Result Given PostError → Result Given PostError → Type 0
 Checks (Err refusal) answer = answer ≡ Err refusal
 Checks (Ok given) (Ok post) = post ≡ given
 Checks (Ok given) (Err e) = e ≡ OutOfMemory
+
+-- BARE DRAFTS, whatever the communicator
+
+-- whole items in the type's range, and not too many
+abbrev pub are_items : Ty → List ℤ → Bool
+are_items ty nums = is_whole ty nums && (list_all (is_of ty) nums && nat_le (length nums) (most_items * item_len ty))
+
+-- counts, and not too many
+abbrev pub are_counts : List ℤ → Bool
+are_counts counts = list_all is_count counts && nat_le (length counts) most_counts
+
+-- what is said of a new communicator is within the limits of 64 members
+abbrev pub has_making : Makes → Draft → Bool
+has_making makes draft = are_ranks 64 (ranks_in makes draft)
+    && (are_edges makes 64 (graph_of draft)
+    && (nat_le (edge_count makes (graph_of draft)) most_edges
+    && has_colour_and_key makes draft))
+
+-- the fields that the kind has are within the limits of a post on any communicator
+unfoldable pub has_spelling : Draft → Bool
+has_spelling draft = cond (fields_of (kind_of draft.call)).root (is_rank 64 draft.root) true
+    && (cond (fields_of (kind_of draft.call)).op (fits draft.op draft.ty) true
+    && (are_items draft.ty (drafted_numbers draft)
+    && (are_counts (sent_counts draft)
+    && (are_counts (received_counts draft)
+    && has_making (fields_of (kind_of draft.call)).makes draft))))

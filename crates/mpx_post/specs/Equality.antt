@@ -21,7 +21,6 @@ use Rattle.mpx_kind.specs.declared.kinds.Mode.TheVariants.{Blocking, Nonblocking
 use Rattle.mpx_post.specs.declared.making.Making.{Making}
 use Rattle.mpx_post.specs.declared.making.Making.TheVariants as M
 use Rattle.mpx_kind.specs.declared.kinds.Makes.{Makes}
-use Rattle.mpx_kind.specs.declared.kinds.Makes.TheVariants as Makes
 use Rattle.mpx_birth.specs.declared.edges.Edge.{Edge}
 use Rattle.mpx_birth.specs.declared.edges.Neighbour.{Neighbour}
 use Rattle.mpx_birth.specs.Topologies.{neighbours_decided, same_neighbours}

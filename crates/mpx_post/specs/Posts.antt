@@ -1,5 +1,5 @@
 -- What a post gives.
-use Rattle.std.specs.Prelude.{◌≡◌, ℕ, ◌*◌, ◌^◌, ℤ, pos, ◌<◌, ◌≤◌, Bool, true, false, List, [], length, Option, Some, None, is_some, unwrap_or}
+use Rattle.std.specs.Prelude.{◌≡◌, ℕ, ◌*◌, ◌^◌, ℤ, pos, ◌<◌, ◌≤◌, Bool, true, false, List, [], length, Option, Some, None, is_some, nat_lt, unwrap_or}
 use Rattle.std.specs.List.{All}
 use Rattle.mpx_post.specs.Ranks.{AreRanks}
 use Rattle.std.specs.Option.{option_map_or}
@@ -8,7 +8,8 @@ use Rattle.mpx_num.specs.declared.types.Ty.TheVariants.{I8}
 use Rattle.mpx_num.specs.declared.operations.Op.{Op}
 use Rattle.mpx_num.specs.declared.operations.Op.TheVariants.{Sum}
 use Rattle.mpx_num.specs.Types.{item_len}
-use Rattle.mpx_num.specs.ItemList.{ItemList, item_count}
+use Rattle.mpx_num.specs.ItemList.{AreItems, ItemList, item_count}
+use Rattle.mpx_num.specs.Operations.{fits}
 use Rattle.mpx_kind.specs.declared.kinds.Kind.{Kind}
 use Rattle.mpx_kind.specs.declared.kinds.Kind.TheVariants.{Barrier}
 use Rattle.mpx_kind.specs.declared.kinds.Mode.{Mode}
@@ -20,7 +21,7 @@ use Rattle.mpx_post.specs.declared.making.Making.TheVariants.{Nothing, Split, Gr
 use Rattle.mpx_birth.specs.declared.edges.Edge.{Edge}
 use Rattle.mpx_birth.specs.declared.edges.Neighbour.{Neighbour}
 use Rattle.mpx_post.specs.Graphs.{AreEdges, AreNeighbours}
-use Rattle.mpx_post.specs.Kinds.{family_of, fields_of, may_be}
+use Rattle.mpx_post.specs.Kinds.{family_of, fields_of, is_had, may_be}
 
 -- what one member gives to one call: the kind with its fields
 pub record Given : Type 0 where
@@ -74,15 +75,6 @@ IsWithin (Neighbours near) = AreNeighbours near
 pub record IsMaking (makes : Makes) (making : Making) : Type 0 where
   pub sort : makes_of making ≡ makes
   pub within : IsWithin making
-
--- it has the fields of its kind and a mode of its family, and not too many items
-pub record IsPost (given : Given) : Type 0 where
-  pub root : is_some given.root ≡ (fields_of given.kind).root
-  pub op : is_some given.op ≡ (fields_of given.kind).op
-  pub items : is_some given.items ≡ (fields_of given.kind).items
-  pub few : few_items given.items
-  pub mode : may_be given.mode (family_of given.kind) ≡ true
-  pub making : IsMaking (fields_of given.kind).makes given.making
 
 -- READING A POST
 
@@ -181,6 +173,40 @@ sources_of given = sources_in given.making
 
 abbrev pub destinations_of : Given → List Neighbour
 destinations_of given = destinations_in given.making
+
+-- LIMITS OF A POST
+
+-- a root is one of so many ranks
+abbrev pub fits_root : ℕ → Given → Bool
+fits_root size given = option_map_or (λ root. nat_lt root size) given.root true
+
+-- an operation is defined on the items' type
+abbrev pub fits_type : Given → Bool
+fits_type given = option_map_or (λ op. fits op (type_of given)) given.op true
+
+-- no counts, where there is no list of them
+abbrev pub NoneUnless : (had : Bool) → List ℕ → Type 0
+NoneUnless true counts = Unit {0}
+NoneUnless false counts = counts ≡ []
+
+-- the items are items of their type
+abbrev pub are_items_of : Option ItemList → Type 0
+are_items_of None = Unit {0}
+are_items_of (Some items) = AreItems items.ty items.nums
+
+-- it has the fields of its kind and no others, a mode of its family, a root below 64, an operation on the items' type, and
+-- not too many items
+pub record IsPost (given : Given) : Type 0 where
+  pub root : is_some given.root ≡ (fields_of given.kind).root
+  pub root_below : fits_root 64 given ≡ true
+  pub op : is_some given.op ≡ (fields_of given.kind).op
+  pub type : fits_type given ≡ true
+  pub scounts : NoneUnless (is_had (fields_of given.kind).scounts) given.scounts
+  pub rcounts : NoneUnless (is_had (fields_of given.kind).rcounts) given.rcounts
+  pub items : is_some given.items ≡ (fields_of given.kind).items
+  pub few : few_items given.items
+  pub mode : may_be given.mode (family_of given.kind) ≡ true
+  pub making : IsMaking (fields_of given.kind).makes given.making
 
 -- what stands where nothing is given
 abbrev pub nothing_given : Given

@@ -1,7 +1,7 @@
 ghost use Rattle.std.specs.Prelude.{◌≡◌, ◌≤◌, ◌*◌, ℕ, IfOk, length, take, true};
 ghost use Rattle.std.specs.List.{All, list_all, sum};
 ghost use Rattle.mpx_post.specs.Drafts.{is_count, natural as natural_of, naturals};
-ghost use Rattle.mpx_post.specs.Posts.{most_counts, most_items};
+ghost use Rattle.mpx_post.specs.Posts.{AreCounts, most_counts, most_items};
 
 use join_core::OutOfMemory;
 use std::alloc::Global;
@@ -25,6 +25,14 @@ impl Model for Counts {
 }
 
 impl Counts {
+    /// These counts. It takes no memory.
+    pub fn of(list: Vec<u16>) -> Counts
+        requires { AreCounts list.items }
+        ensures { result ≡ list.items }
+    {
+        Counts { list }
+    }
+
     /// These numbers, which are counts.
     pub(crate) fn new(alloc: Global, numbers: &[i128]) -> Result<Counts, OutOfMemory>
         requires counts { list_all is_count numbers.now ≡ true }

@@ -1,12 +1,13 @@
-ghost use Rattle.std.specs.Prelude.{◌≡◌, ◌≤◌, ◌&&◌, ◌||◌, nat_le, Some, not, length, IfOk};
+ghost use Rattle.std.specs.Prelude.{◌≡◌, ◌≤◌, ◌&&◌, ◌||◌, cond, nat_le, None, Some, not, length, true, IfOk};
+ghost use Rattle.std.specs.Option.{option_or};
 ghost use Rattle.mpx_num.specs.Operations.{fits};
 ghost use Rattle.mpx_post.specs.Kinds.{family_of, fields_of, is_gathered, kind_of, makes_communicators};
 ghost use Rattle.mpx_post.specs.Seats.{lacks_topology};
 ghost use Rattle.mpx_post.specs.Topologies.{most_neighbours};
 ghost use Rattle.mpx_post.specs.Blocks.{blocks_sent};
 ghost use Rattle.mpx_post.specs.Drafts.{misfill};
-ghost use Rattle.mpx_post.specs.Drafts.{Checks, asked_first, at, are_edges, are_ranks, edge_count, graph_of, has_colour_and_key, is_misfilled, is_misplaced, most_steps, ranks_in, checked, checked_in, is_rank as is_rank_of, is_drafted_root, are_so_many, drafted_seat, sent_counts, received_counts, drafted_numbers, first_that_holds, place_refusals, stray_refusals};
-ghost use Rattle.mpx_post.specs.Graphs.{most_edges};
+ghost use Rattle.mpx_post.specs.Drafts.{Checks, asked_first, at, are_ranks, given_by, has_colour_and_key, has_making, is_misfilled, is_misplaced, most_steps, numbers_refusal, ranks_in, checked, checked_in, is_rank as is_rank_of, is_drafted_root, are_so_many, drafted_seat, sent_counts, received_counts, drafted_numbers, first_that_holds, place_refusals, stray_refusals, unless};
+ghost use Rattle.mpx_post.specs.Posts.{most_counts};
 
 use crate::counts::are_counts;
 use crate::drafted_edges::DraftedGraph;
@@ -213,11 +214,22 @@ impl Draft {
         if let Some(refusal) = self.shape_refusal(seat) {
             return Err(refusal);
         }
-        let size = seat.size;
-        let place_refusal = self.place_refusal(size, at);
+        let refusal = self.place_refusal(seat.size, at);
+        self.posted(alloc, refusal)
+    }
+
+    // The post of this draft, or why its numbers are none of a post, or else this refusal.
+    pub(crate) fn posted(self, alloc: Global, refusal: Option<PostError>) -> Result<Post, PostError>
+        requires root { cond (fields_of (kind_of self.call)).root (is_rank_of 64 self.root) true ≡ true }
+        requires op { cond (fields_of (kind_of self.call)).op (fits self.op self.ty) true ≡ true }
+        requires sent { length (sent_counts self) ≤ most_counts }
+        requires received { length (received_counts self) ≤ most_counts }
+        requires making { refusal ≡ None → has_making (fields_of (kind_of self.call)).makes self ≡ true }
+        ensures { Checks (unless (option_or (numbers_refusal self) refusal) (given_by self)) result }
+    {
         let fields = self.call.kind().fields();
         let (kind, mode) = (self.call.kind(), self.call.mode());
-        let root = given_root(fields.root, self.root, size);
+        let root = given_root(fields.root, self.root);
         let op = given_op(fields.op, self.op);
         let items = match given_items(fields.items, self.ty, self.items) {
             Ok(items) => items,
@@ -228,7 +240,7 @@ impl Draft {
         if !(are_counts(sent) & are_counts(received)) {
             return Err(PostError::TooManyItems);
         }
-        if let Some(refusal) = place_refusal {
+        if let Some(refusal) = refusal {
             return Err(refusal);
         }
         let group = self.group.as_slice();
@@ -299,13 +311,13 @@ impl Draft {
         None
     }
 
-    fn has_wrong_root(&self, size: usize) -> bool
+    pub(crate) fn has_wrong_root(&self, size: usize) -> bool
         ensures { result ≡ ((fields_of (kind_of self.now.call)).root && not (is_rank_of size self.now.root)) }
     {
         self.call.kind().fields().root & !is_rank(size, self.root)
     }
 
-    fn has_wrong_op(&self) -> bool
+    pub(crate) fn has_wrong_op(&self) -> bool
         ensures { result ≡ ((fields_of (kind_of self.now.call)).op && not (fits self.now.op self.now.ty)) }
     {
         self.call.kind().fields().op & !op_fits(self.op, self.ty)
@@ -365,7 +377,7 @@ impl Draft {
     }
 
     // The ranks of the group, where the kind has one.
-    fn ranks(&self) -> &[i128]
+    pub(crate) fn ranks(&self) -> &[i128]
         ensures { result.now ≡ ranks_in (fields_of (kind_of self.now.call)).makes self.now }
     {
         match self.call.kind().fields().makes {
@@ -378,7 +390,7 @@ impl Draft {
     }
 
     // Whether the colour and the key are within their limits, where the kind has them.
-    fn has_colour_and_key(&self) -> bool
+    pub(crate) fn has_colour_and_key(&self) -> bool
         ensures { result ≡ has_colour_and_key (fields_of (kind_of self.now.call)).makes self.now }
     {
         match self.call.kind().fields().makes {
@@ -390,13 +402,13 @@ impl Draft {
         }
     }
 
-    fn sent_counts(&self) -> &[i128]
+    pub(crate) fn sent_counts(&self) -> &[i128]
         ensures { result.now ≡ sent_counts self.now }
     {
         where_had(self.call.kind().fields().scounts.is_had(), &self.scounts)
     }
 
-    fn received_counts(&self) -> &[i128]
+    pub(crate) fn received_counts(&self) -> &[i128]
         ensures { result.now ≡ received_counts self.now }
     {
         where_had(self.call.kind().fields().rcounts.is_had(), &self.rcounts)

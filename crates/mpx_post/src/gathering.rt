@@ -87,6 +87,8 @@ impl Gathering {
     pub fn birth(&self, alloc: Global) -> Result<Birth, OutOfMemory>
         ensures { IfOk result (λ birth. birth ≡ of_members self.now.members) }
     {
+        // so that the proof knows that no member stands twice
+        let _size = self.members.size();
         let members = Vec::from_slice(alloc, self.members.members())?;
         Birth::of_members(alloc, members)
     }

@@ -28,8 +28,8 @@ impl Model for Edges {
 }
 
 impl Edges {
-    // These edges.
-    pub(crate) fn new(alloc: Global, weighted: bool, list: Vec<Edge>) -> Result<Edges, OutOfMemory>
+    /// These edges.
+    pub fn new(alloc: Global, weighted: bool, list: Vec<Edge>) -> Result<Edges, OutOfMemory>
         requires { AreEdges (record { weighted = weighted; edges = list.items }) }
         ensures { IfOk result (λ edges. edges ≡ record { weighted = weighted; edges = list.items }) }
     {
@@ -39,15 +39,15 @@ impl Edges {
         }
     }
 
-    // Whether they have weights.
-    pub(crate) fn weighted(&self) -> bool
+    /// Whether they have weights.
+    pub fn weighted(&self) -> bool
         ensures { result ≡ self.now.weighted }
     {
         self.weighted
     }
 
-    // The edges.
-    pub(crate) fn as_slice(&self) -> &[Edge]
+    /// The edges, at most 512.
+    pub fn as_slice(&self) -> &[Edge]
         ensures value { result.now ≡ self.now.edges }
         ensures edges { AreEdges self.now }
     {
@@ -85,8 +85,8 @@ impl Model for OwnNeighbours {
 }
 
 impl OwnNeighbours {
-    // These neighbours.
-    pub(crate) fn new(
+    /// These neighbours.
+    pub fn new(
         alloc: Global,
         weighted: bool,
         near: Neighbours,
@@ -100,23 +100,23 @@ impl OwnNeighbours {
         }
     }
 
-    // Whether their edges have weights.
-    pub(crate) fn weighted(&self) -> bool
+    /// Whether their edges have weights.
+    pub fn weighted(&self) -> bool
         ensures { result ≡ self.now.weighted }
     {
         self.weighted
     }
 
-    // From whom edges come, in the order given.
-    pub(crate) fn sources(&self) -> &[Neighbour]
+    /// From whom edges come, in the order given.
+    pub fn sources(&self) -> &[Neighbour]
         ensures value { result.now ≡ self.now.sources }
         ensures neighbours { AreNeighbours self.now }
     {
         self.near.sources()
     }
 
-    // To whom edges go, in the order given.
-    pub(crate) fn destinations(&self) -> &[Neighbour]
+    /// To whom edges go, in the order given.
+    pub fn destinations(&self) -> &[Neighbour]
         ensures value { result.now ≡ self.now.destinations }
         ensures neighbours { AreNeighbours self.now }
     {

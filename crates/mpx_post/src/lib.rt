@@ -3,12 +3,14 @@
 //! A [`Kind`] of call has one row in a table (`mpx_kind`): which fields its posts have, how many counts, and how their items
 //! are cut into blocks; and one row that says its [`Family`], by which its value is found. A post is seen by contracts as the
 //! record of its fields (`specs/Posts.antt`), a row as the list of its posts in rank order (`specs/Rows.antt`), and a
-//! communicator as its members and their topology (`mpx_birth`). A draft is accepted or refused by one list of conditions in the order in which they are told
-//! (`specs/Drafts.antt`), and a row is fine where the posts of all ranks agree (`specs/Agreement.antt`).
+//! communicator as its members and their topology (`mpx_birth`). A draft is accepted or refused by one list of conditions in
+//! the order in which they are told, or, where no communicator is at hand, by the limits of all (`specs/Drafts.antt`), and a
+//! row is fine where the posts of all ranks agree (`specs/Agreement.antt`).
 //!
-//! In the order of reading: [`Birth`], [`Kind`], [`Draft`] with [`Draft::check`], [`Post`], [`Row`], [`Value`].
+//! In the order of reading: [`Birth`], [`Kind`], [`Draft`] with [`Draft::check`] and [`Draft::bare`], [`Post`], [`Row`], [`Value`].
 #![tactic(auto)]
 
+mod bare;
 mod block;
 mod counts;
 mod draft;

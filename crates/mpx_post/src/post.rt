@@ -3,7 +3,7 @@ ghost use Rattle.std.specs.Option.{option_copied};
 ghost use Rattle.mpx_num.specs.ItemList.{ItemList};
 ghost use Rattle.mpx_post.specs.Kinds.{fields_of};
 ghost use Rattle.mpx_post.specs.Ranks.{AreRanks};
-ghost use Rattle.mpx_post.specs.Posts.{Given, IsColour, IsPost, colour_of, count_of, destinations_of, edges_of, few_items, group_of, key_of, sources_of, weighted_of};
+ghost use Rattle.mpx_post.specs.Posts.{AreCounts, Given, IsColour, IsPost, are_items_of, colour_of, count_of, destinations_of, edges_of, few_items, group_of, key_of, sources_of, weighted_of};
 ghost use Rattle.mpx_post.specs.Equality.{same_option, same_items};
 ghost use Rattle.mpx_post.specs.Graphs.{AreEdges, AreNeighbours};
 
@@ -84,8 +84,8 @@ impl Exact for Post {
 }
 
 impl Post {
-    /// The post of these fields, which are those of its kind.
-    pub(crate) fn new(
+    /// The post of these fields, which are those of its kind. It takes no memory.
+    pub fn new(
         kind: Kind,
         mode: Mode,
         root: Option<u8>,
@@ -107,6 +107,21 @@ impl Post {
             rcounts,
             items,
             making,
+        }
+    }
+
+    /// The post is within the limits of its type.
+    pub fn limits(&self)
+        ensures post { IsPost self.now }
+        ensures scounts { AreCounts self.now.scounts }
+        ensures rcounts { AreCounts self.now.rcounts }
+        ensures items { are_items_of self.now.items }
+    {
+        // so that the proof knows the limits of its parts
+        let _sent = self.scounts.as_slice();
+        let _received = self.rcounts.as_slice();
+        if let Some(items) = &self.items {
+            let _nums = items.nums();
         }
     }
 
@@ -161,6 +176,13 @@ impl Post {
         ensures few { few_items (option_copied result) }
     {
         self.items.as_ref()
+    }
+
+    /// What it says of the communicator that its call makes.
+    pub fn making(&self) -> &Making
+        ensures { result.now ≡ self.now.making }
+    {
+        &self.making
     }
 
     /// Which of the new communicators the member wants, where the kind asks that and it isn't undefined.

@@ -4,7 +4,7 @@ ghost use Rattle.std.specs.List.{list_all, sum};
 ghost use Rattle.mpx_num.specs.Types.{item_len};
 ghost use Rattle.mpx_num.specs.ItemList.{is_whole};
 ghost use Rattle.mpx_post.specs.Blocks.{repeated};
-ghost use Rattle.mpx_post.specs.Posts.{most_items};
+ghost use Rattle.mpx_post.specs.Posts.{most_counts, most_items};
 ghost use Rattle.mpx_post.specs.Topologies.{most_neighbours};
 ghost use Rattle.mpx_post.specs.Drafts.{first_that_holds, is_count, is_of, is_rank as is_rank_of, natural, naturals, unless, where_had as where_had_of};
 ghost use Rattle.mpx_post.specs.declared.draft.PostError.TheVariants.{ItemsLength, ItemOutOfRange, TooManyItems};
@@ -65,9 +65,8 @@ pub(crate) fn is_misfill(counts: &[i128], times: usize, ty: Ty, numbers: usize) 
 }
 
 // The root, where the kind has one.
-pub(crate) fn given_root(had: bool, root: i128, size: usize) -> Option<u8>
-    requires rank { (had && not (is_rank_of size root)) ≡ false }
-    requires size { size ≤ 64 }
+pub(crate) fn given_root(had: bool, root: i128) -> Option<u8>
+    requires { cond had (is_rank_of 64 root) true ≡ true }
     ensures { result ≡ where_had_of had (natural root) }
 {
     if had { Some(root as u8) } else { None }
@@ -108,8 +107,8 @@ pub(crate) fn given_counts(
 ) -> Result<(Counts, Counts), OutOfMemory>
     requires sent { list_all is_count sent.now ≡ true }
     requires received { list_all is_count received.now ≡ true }
-    requires few_sent { length sent.now ≤ most_neighbours }
-    requires few_received { length received.now ≤ most_neighbours }
+    requires few_sent { length sent.now ≤ most_counts }
+    requires few_received { length received.now ≤ most_counts }
     ensures { IfOk result (λ given. (given.0 ≡ naturals sent.now) × (given.1 ≡ naturals received.now)) }
 {
     let scounts = Counts::new(alloc, sent)?;

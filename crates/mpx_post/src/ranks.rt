@@ -23,8 +23,8 @@ impl Model for Ranks {
 }
 
 impl Ranks {
-    /// These ranks.
-    pub(crate) fn new(list: Vec<u8>) -> Ranks
+    /// These ranks. It takes no memory.
+    pub fn new(list: Vec<u8>) -> Ranks
         requires { AreRanks list.items }
         ensures { result ≡ list.items }
     {

@@ -3,3 +3,4 @@ pub mod Running
 pub mod Reporting
 pub mod Pieces
 pub mod Bindings
+pub mod Sending

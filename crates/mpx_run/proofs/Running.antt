@@ -14,6 +14,7 @@ use Rattle.mpx_board.specs.declared.errors.PruneError.{PruneError}
 use Rattle.mpx_name.specs.Name.{Name}
 use Rattle.mpx_board.specs.Boards.{Look, only, Dropped, floor_on}
 use Rattle.mpx_board.specs.Changes.{pruned}
+use Rattle.mpx_parts.specs.Facts.{OnlyFactsOf}
 use Rattle.mpx_value.specs.declared.outcomes.Outcome.{Outcome}
 use Rattle.mpx_value.specs.declared.outcomes.Outcome.TheVariants.{Nothing, Absent, Items, NewComm, Null, Fault}
 use Rattle.mpx_value.specs.Histories.{Answer, Made, Results}
@@ -219,25 +220,25 @@ run_takes script ranks size processes frames p r i b at got run =
     (done_net ranks s p r (learn b r.node) (takes (slice_get s.world.parts found.0)) (run.shows.stands p r at)
     (ap (learn b) (run.shows.nodes p r at) ∙ ap (λ o. (takes o v).node) (sym found.1)))
 
--- a board is sent
-pub run_sends : (script : List (List Statement)) (ranks size : ℕ) (processes : List RankView) (frames : List Look) (p : ℕ) (r : RankView) → slice_get processes p ≡ Some r
-    → IsUnderWay script ranks size processes frames → IsUnderWay script ranks size processes (frames ++ r.node.board ∷ [])
-run_sends script ranks size processes frames p r at run =
+-- a part of a board is sent
+pub run_sends : (script : List (List Statement)) (ranks size : ℕ) (processes : List RankView) (frames : List Look) (p : ℕ) (r : RankView) (part : Look) → slice_get processes p ≡ Some r → OnlyFactsOf part r.node.board
+    → IsUnderWay script ranks size processes frames → IsUnderWay script ranks size processes (frames ++ part ∷ [])
+run_sends script ranks size processes frames p r part at only run =
     let s = run.system in
     let c = coupled script ranks size processes frames run in
-    let board = (s.world.each p).node.board in
-    let d : Doing = Nets (Sends p board) in
-    let new = s.world.parts ++ board ∷ [] in
+    let d : Doing = Nets (Sends p part) in
+    let new = s.world.parts ++ part ∷ [] in
+    let here : OnlyFactsOf part (s.world.each p).node.board = subst (λ (n : NodeView). OnlyFactsOf part n.board) (run.shows.nodes p r at) only in
     record {
       system = does s d;
-      led = leads_on ranks (start_system script ranks size) s d run.led (tt, may_happen s.world (E.Send p C.Whole) c.upheld.holds);
+      led = leads_on ranks (start_system script ranks size) s d run.led (tt, λ f has. may_happen s.world (E.Send p C.Whole) c.upheld.holds f (here f has));
       shows = record {
         count = run.shows.count;
         nodes = run.shows.nodes;
         stands = run.shows.stands;
-        sent = All-push (IsAmong new) frames r.node.board
-            (all_more (IsAmong s.world.parts) (IsAmong new) (λ b found. (found.0, slice_get-append s.world.parts (board ∷ []) found.0 b found.1)) frames run.shows.sent)
-            (length s.world.parts, slice_get-push s.world.parts board ∙ ap (λ (n : NodeView). Some n.board) (sym (run.shows.nodes p r at)));
+        sent = All-push (IsAmong new) frames part
+            (all_more (IsAmong s.world.parts) (IsAmong new) (λ b found. (found.0, slice_get-append s.world.parts (part ∷ []) found.0 b found.1)) frames run.shows.sent)
+            (length s.world.parts, slice_get-push s.world.parts part);
       };
     }
 

@@ -1,4 +1,4 @@
-//! Running a script over a lossy interconnect: ranks go on as far as they can, boards are lost, repeated and reordered, and
+//! Running a script over a lossy interconnect: ranks go on as far as they can, the bytes of boards are lost, repeated and reordered, and
 //! what each rank writes begins what it writes in the script's evaluation.
 //!
 //! In the order of reading: [`Options`], [`run_sim`], which answers a [`Run`], and [`run_text`], which reads a script, runs
@@ -7,12 +7,15 @@
 
 mod bytes;
 mod end;
+mod frame;
+mod frames;
 mod laws;
 mod neighbours;
 mod options;
 mod rank;
 mod report;
 mod schedule;
+mod sender;
 mod texts;
 mod turns;
 

@@ -13,7 +13,7 @@ const MOST_SHIFTS: usize = 6;
 // The stream of the generator.
 const STREAM: u64 = 54;
 
-/// What is drawn of a run: to whom each process sends in a turn, which frames are lost, in which order the others come,
+/// What is drawn of a run: to whom each process sends, which frames are lost, in which order the others come,
 /// and which of them come again.
 #[derive(Drop)]
 pub(crate) struct Schedule {
@@ -46,16 +46,16 @@ impl Schedule {
         })
     }
 
-    /// To whom a process sends in a turn: as many processes on as the turn's shift says. Where a hundred percent arrive, any
-    /// turns of one round bring every fact to every process.
-    pub(crate) fn receiver(&self, from: usize, turn: u32, processes: usize) -> usize
+    /// To whom a process sends that has made so many lists of frames: as many processes on as the shift of this number says.
+    /// Where a hundred percent arrive and each list is one frame, any turns of one round bring every fact to every process.
+    pub(crate) fn receiver(&self, from: usize, lists: usize, processes: usize) -> usize
         requires { from < processes }
         ensures { result < processes }
     {
         if self.shifts.is_empty() {
             return from;
         }
-        let shift = self.shifts[turn as usize % self.shifts.len()] % processes;
+        let shift = self.shifts[lists % self.shifts.len()] % processes;
         if shift < processes - from {
             from + shift
         } else {

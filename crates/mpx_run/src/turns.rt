@@ -1,24 +1,19 @@
-ghost use Rattle.std.specs.Prelude.{◌≡◌, ◌<◌, ◌≤◌, ◌+◌, IfOk, OnOk, length, map, slice_get, List, Some, ℕ};
-ghost use Rattle.mpx_board.specs.Boards.{Look};
+ghost use Rattle.std.specs.Prelude.{◌≡◌, ◌<◌, ◌≤◌, ◌+◌, All, IfOk, OnOk, length, map, slice_get, List, Some, ℕ};
+ghost use Rattle.mpx_board.specs.Boards.{Look, join_all};
+ghost use Rattle.mpx_parts.specs.Facts.{OnlyFactsOf};
 ghost use Rattle.mpx_script.specs.declared.statement.Statement.{Statement as Said};
 ghost use Rattle.mpx_run.specs.Shown.{rank_of, part_of};
 ghost use Rattle.mpx_run.specs.Running.{IsUnderWay, RankView, Starts, StartsAt};
 
+use crate::frame::Frame;
+use crate::frames::{frames_of, opened};
 use crate::options::Options;
 use crate::rank::Rank;
 use crate::schedule::Schedule;
+use crate::sender::{Sender, senders};
 use join_core::{Exact, OutOfMemory};
-use mpx_board::Board;
 use mpx_script::Script;
 use std::alloc::Global;
-
-/// A board on its way: to which process, and in which turn it comes.
-#[derive(Drop)]
-pub(crate) struct Frame {
-    to: usize,
-    turn: u64,
-    part: Board,
-}
 
 /// The processes of a script's run after its last turn: all turns are used up, all ranks have finished, or no turn to come
 /// changes anything.
@@ -32,15 +27,17 @@ pub(crate) fn simulate<'a>(
 {
     let mut processes = start(alloc, script, options.relays)?;
     let mut schedule = Schedule::new(alloc, options.seed, options.loss, processes.len())?;
+    let mut senders = senders(alloc, processes.len())?;
     let mut frames = Vec::new(alloc);
     for number in 0..options.turns {
         let goes_on = turn(
             alloc,
             &mut processes,
             script.ranks() as usize,
+            &mut senders,
             &mut frames,
             &mut schedule,
-            number,
+            u64::from(number),
         )?;
         if !goes_on {
             return Ok(processes);
@@ -49,8 +46,8 @@ pub(crate) fn simulate<'a>(
     Ok(processes)
 }
 
-// A turn: every rank goes on until it must wait, every process drops what it may and sends its board, and the turn's
-// frames come. It answers whether there is need of another.
+// A turn: every rank goes on until it must wait, every process drops what it may and sends its board where its last one is
+// out, and the turn's frames come. It answers whether there is need of another.
 //
 // Where nobody moved or dropped anything and all boards are equal, every frame, also those that come later, is below these
 // boards; and where every frame is lost, none comes.
@@ -58,11 +55,13 @@ fn turn(
     alloc: Global,
     processes: &mut [Rank<'_>],
     count: usize,
+    senders: &mut [Sender],
     frames: &mut Vec<Frame>,
     schedule: &mut Schedule,
-    number: u32,
+    number: u64,
 ) -> Result<bool, OutOfMemory>
-    requires { count ≤ length processes.old }
+    requires few { count ≤ length processes.old }
+    requires each { length processes.old ≤ length senders.old }
     ensures { OnOk result ((script : List (List Said)) (ranks size : ℕ) → count ≤ ranks → IsUnderWay script ranks size (map rank_of processes.old) (map part_of frames.old.items)
         → IsUnderWay script ranks size (map rank_of processes.new) (map part_of frames.new.items)) }
 {
@@ -74,10 +73,10 @@ fn turn(
     if !moved && !pruned && (schedule.loses_all() || are_same(processes)) {
         return Ok(false);
     }
-    send_all(alloc, processes, frames, schedule, number)?;
+    send_all(alloc, processes, senders, frames, schedule, number)?;
     schedule.shuffle(frames);
-    deliver(alloc, processes, frames.as_slice(), u64::from(number))?;
-    keep_some(frames, schedule, u64::from(number));
+    deliver(alloc, processes, frames.as_slice(), number)?;
+    keep_some(frames, schedule, number);
     Ok(true)
 }
 
@@ -133,36 +132,64 @@ fn are_same(processes: &[Rank<'_>]) -> bool {
     true
 }
 
-// The board of a process, on its way.
-fn sent(alloc: Global, process: &Rank<'_>, to: usize, turn: u32) -> Result<Frame, OutOfMemory>
-    ensures { IfOk result (λ frame. part_of frame ≡ (rank_of process.now).node.board) }
+// The frames of a process's board.
+fn sent(alloc: Global, process: &Rank<'_>, to: usize, turn: u64) -> Result<Vec<Frame>, OutOfMemory>
+    ensures facts { IfOk result (λ made. All (λ frame. OnlyFactsOf (part_of frame) (rank_of process.now).node.board) made.items) }
+    ensures join { IfOk result (λ made. join_all (map part_of made.items) ≡ (rank_of process.now).node.board) }
 {
-    let part = process.board().copy(alloc)?;
-    Ok(Frame {
-        to,
-        turn: u64::from(turn),
-        part,
-    })
+    frames_of(alloc, process.board(), to, turn)
 }
 
-// Every process sends its board, where it isn't lost.
+// Every process sends the frames of its board, where those of its last one are out.
 fn send_all(
     alloc: Global,
     processes: &[Rank<'_>],
+    senders: &mut [Sender],
     frames: &mut Vec<Frame>,
     schedule: &mut Schedule,
-    turn: u32,
+    turn: u64,
 ) -> Result<(), OutOfMemory>
+    requires { length processes.now ≤ length senders.old }
     ensures { OnOk result ((script : List (List Said)) (ranks size : ℕ) → IsUnderWay script ranks size (map rank_of processes.now) (map part_of frames.old.items)
         → IsUnderWay script ranks size (map rank_of processes.now) (map part_of frames.new.items)) }
 {
     for p in 0..processes.len() {
-        let to = schedule.receiver(p, turn, processes.len());
-        if !schedule.is_lost() {
-            let frame = sent(alloc, &processes[p], to, turn)?;
-            frames.push(frame)?;
+        if senders[p].is_free(turn) {
+            let to = schedule.receiver(p, senders[p].lists(), processes.len());
+            let made = sent(alloc, &processes[p], to, turn)?;
+            senders[p].sends(turn, made.len());
+            send_each(made, frames, schedule)?;
         }
     }
+    Ok(())
+}
+
+// Frames with facts of a process's board go out, where they aren't lost.
+fn send_each(
+    made: Vec<Frame>,
+    frames: &mut Vec<Frame>,
+    schedule: &mut Schedule,
+) -> Result<(), OutOfMemory>
+    ensures { OnOk result ((script : List (List Said)) (ranks size : ℕ) (processes : List RankView) (p : ℕ) (r : RankView) → slice_get processes p ≡ Some r
+        → All (λ frame. OnlyFactsOf (part_of frame) r.node.board) made.items → IsUnderWay script ranks size processes (map part_of frames.old.items)
+        → IsUnderWay script ranks size processes (map part_of frames.new.items)) }
+{
+    for frame in made {
+        send(frame, frames, schedule)?;
+    }
+    Ok(())
+}
+
+// A frame goes out, where it isn't lost.
+fn send(frame: Frame, frames: &mut Vec<Frame>, schedule: &mut Schedule) -> Result<(), OutOfMemory>
+    ensures { OnOk result ((script : List (List Said)) (ranks size : ℕ) (processes : List RankView) (p : ℕ) (r : RankView) → slice_get processes p ≡ Some r
+        → OnlyFactsOf (part_of frame) r.node.board → IsUnderWay script ranks size processes (map part_of frames.old.items)
+        → IsUnderWay script ranks size processes (map part_of frames.new.items)) }
+{
+    if schedule.is_lost() {
+        return Ok(());
+    }
+    frames.push(frame)?;
     Ok(())
 }
 
@@ -195,7 +222,8 @@ fn arrive(
     if frame.turn != turn || frame.to >= processes.len() {
         return Ok(());
     }
-    processes[frame.to].receive(alloc, &frame.part)?;
+    let part = opened(alloc, frame)?;
+    processes[frame.to].receive(alloc, &part)?;
     Ok(())
 }
 

@@ -2,6 +2,7 @@ pub mod Examples
 pub mod Filtering
 pub mod Colours
 pub mod Rising
+pub mod Distinct
 pub mod Ranks
 pub mod Topologies
 pub mod NewCommunicators

@@ -3,7 +3,7 @@ use Rattle.std.proofs.Common.{◌≡◌, ℕ, zero, suc, ◌+◌, ◌<◌, ◌�
 use Rattle.std.specs.Prelude.{filter, nat_eq, nat_lt, not}
 use Rattle.std.specs.List.{All, cons_option, filter_map}
 use Rattle.std.specs.Option.{option_eq}
-use Rattle.std.proofs.lemmas.Bool.{and_parts, cases_eq, eq-eqb, ltb-true, not-true}
+use Rattle.std.proofs.lemmas.Bool.{and_parts, cases_eq, eq-eqb, ltb-true}
 use Rattle.std.proofs.lemmas.List.{get_or_default, length-append, length-map, length_push, map_push}
 use Rattle.std.proofs.lemmas.List.Elements.{All-cons, All-filter, All-map, All-nil, All-same, All-weaker, filter-append}
 use Rattle.std.proofs.lemmas.List.Filters.{length-filter_both}
@@ -20,6 +20,7 @@ use Rattle.mpx_post.specs.Agreement.{IsFine, post_at}
 use Rattle.mpx_post.proofs.Agreement.{fits_parts}
 use Rattle.mpx_value.specs.Children.{ChildView, colours_of, gives_colour, lower_key, named_children, processes, ranks_with}
 use Rattle.mpx_birth.specs.Orders.{ordered}
+use Rattle.mpx_value.proofs.Distinct.{group-distinct}
 use Rattle.mpx_value.proofs.Rising.{All-ordered, All-rising, below-upto, length-upto}
 use Rattle.mpx_birth.proofs.Sorting.{length-ordered}
 
@@ -40,8 +41,7 @@ group_ranks row rank fine l =
 
 pub group_few : (row : RowView) (rank : ℕ) → IsFine row → rank < length row → length (group_of (post_at row rank)) ≤ length row
 group_few row rank fine l =
-    let group = (fits_parts fine.topology (length row) rank (post_at row rank) (fine.with.each rank l).fit).group in
-    length_distinct (length row) (group_of (post_at row rank)) (not-true _ (and_parts _ _ group).0) (group_ranks row rank fine l)
+    length_distinct (length row) (group_of (post_at row rank)) (group-distinct row rank fine l) (group_ranks row rank fine l)
 
 -- the processes with ranks among the members are members
 pub has-processes : (members ranks : List ℕ) → All (λ r. r < length members) ranks → All (λ p. has members p ≡ true) (processes members ranks)

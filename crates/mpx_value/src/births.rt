@@ -1,5 +1,6 @@
-ghost use Rattle.std.specs.Prelude.{◌≡◌, ◌<◌, ◌≤◌, ◌^◌, ◌∷◌, IfOk, length};
+ghost use Rattle.std.specs.Prelude.{◌≡◌, ◌<◌, ◌≤◌, ◌^◌, ◌∷◌, IfOk, false, length};
 ghost use Rattle.std.specs.List.{All};
+ghost use Rattle.mpx_group.specs.Group.{has_twice};
 ghost use Rattle.mpx_name.specs.declared.steps.Step.TheVariants.{Child};
 ghost use Rattle.mpx_match.specs.Verdicts.{verdict};
 ghost use Rattle.mpx_post.specs.Agreement.{IsFine};
@@ -147,6 +148,7 @@ pub(crate) fn child(
     requires colour { colour < 2 ^ 31 }
     requires some { 0 < length members.items }
     requires few { length members.items ≤ 64 }
+    requires distinct { has_twice members.items ≡ false }
     ensures { IfOk result (λ child. child ≡ (Child call colour ∷ name.now, of_members members.items)) }
 {
     let name = child_name(alloc, name, call, colour)?;
@@ -167,14 +169,16 @@ fn child_name(alloc: Global, name: &Name, call: u32, colour: u32) -> Result<Name
     }
 }
 
-// The processes with these ranks.
+// The processes with these ranks, of which none stands twice.
 pub(crate) fn processes(
     alloc: Global,
     birth: &Birth,
     ranks: &[u8],
 ) -> Result<Vec<Proc>, OutOfMemory>
-    requires { All (λ r. r < length birth.now.members) ranks.now }
-    ensures { IfOk result (λ found. found.items ≡ processes birth.now.members ranks.now) }
+    requires within { All (λ r. r < length birth.now.members) ranks.now }
+    requires differ { has_twice ranks.now ≡ false }
+    ensures value { IfOk result (λ found. found.items ≡ processes birth.now.members ranks.now) }
+    ensures distinct { IfOk result (λ found. has_twice found.items ≡ false) }
 {
     let members = birth.members();
     let mut found = Vec::new(alloc);

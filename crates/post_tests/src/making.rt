@@ -94,7 +94,7 @@ pub fn kind_alone(kind: Kind) -> Told<'static> {
     }
 }
 
-fn is_told(post: &Post, wanted: &Told<'_>) -> bool {
+pub fn is_told(post: &Post, wanted: &Told<'_>) -> bool {
     (post.kind() == wanted.kind)
         & (post.mode() == Mode::Blocking)
         & (post.root() == wanted.root)

@@ -74,11 +74,12 @@ fn ranks_of_members(rt: HostRuntime) -> Result<(), Fail> {
 #[test]
 fn births_of_members(rt: HostRuntime) -> Result<(), Fail> {
     let alloc = rt.alloc();
-    for (count, wanted) in [(1, Some(1)), (64, Some(64))] {
+    for (count, wanted) in [(0, None), (1, Some(1)), (2, None), (64, None)] {
         let members = vec![in alloc; proc(5); count]?;
         let made = birth(alloc, members).map(|birth| birth.members().len());
         assert_eq!(rt; made, wanted);
     }
+    assert_eq!(rt; Birth::world(alloc, 64)?.members().len(), 64);
     Ok(())
 }
 

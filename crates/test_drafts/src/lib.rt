@@ -124,6 +124,11 @@ pub fn check(
     }
 }
 
+/// The post of this data whatever the communicator, or none where it is out of the limits of all.
+pub fn bare(alloc: Global, drafted: &Drafted<'_>) -> Result<Option<Post>, OutOfMemory> {
+    draft(alloc, drafted)?.bare(alloc)
+}
+
 fn has_graph(graph: &DraftedGraph, part: &Edges<'_>) -> bool {
     (graph.weighted() == part.weighted)
         && graph.edges().len() == part.edges.len()
@@ -166,10 +171,7 @@ pub fn says(draft: &Draft, drafted: &Drafted<'_>) -> bool {
         & is_graph(&draft.graph, &drafted.graph)
 }
 
-/// The communicator of these members, where there are 1 to 64 of them and there is memory.
+/// The communicator of these members, where there are 1 to 64 of them, none twice, and there is memory.
 pub fn birth(alloc: Global, members: Vec<Proc>) -> Option<Birth> {
-    if members.len() == 0 || 64 < members.len() {
-        return None;
-    }
-    Birth::of_members(alloc, members).ok()
+    Birth::new(alloc, members, None).ok()?
 }

@@ -1,31 +1,41 @@
-use Rattle.std.proofs.Common.{◌≡◌, ◌∙◌, ◌++◌, ◌∷◌, [], length, map, ap, sym, subst, arith}
-use Rattle.std.specs.List.{All}
-use Rattle.std.proofs.lemmas.List.{length-map, take_all}
-use Rattle.std.proofs.lemmas.List.Elements.{All-push}
+use Rattle.std.proofs.Common.{◌≡◌, ◌∙◌, ◌++◌, ◌∷◌, [], ℕ, inl, inr, map, ap, sym, subst, arith}
+use Rattle.std.proofs.lemmas.Bool.{cases_eq}
+use Rattle.std.proofs.lemmas.List.{take_all}
 use Rattle.std.proofs.lemmas.Result.{IfOk-weaker}
-use Rattle.mpx_birth.specs.Topologies.{Agrees, IsFew}
-use Rattle.mpx_post.specs.Posts.{weighted_of}
+use Rattle.mpx_birth.specs.Topologies.{is_topology}
+use Rattle.mpx_post.specs.Agreement.{post_at}
+use Rattle.mpx_post.specs.Graphs.{AreNeighbours}
+use Rattle.mpx_post.specs.Posts.{Given, weighted_of}
 use Rattle.mpx_graph.specs.Graphs.{adjacent, near_given}
-use Rattle.mpx_graph.proofs.Adjacent.{adjacent-agrees, near_given-more}
-use Rattle.mpx_graph.proofs.Few.{few-given, topology-each}
+use Rattle.mpx_graph.proofs.Adjacent.{near_given-more}
+use Rattle.mpx_graph.proofs.Made.{adjacent-topology, own_of}
 use Rattle.mpx_graph.proofs.topologies.topology_adjacent.Goals as goal
 
 pub loop-rank-preserved : goal.loop-rank-preserved
 loop-rank-preserved c =
+    let row = c.args.row.now in
+    let rank = c.loop-rank.rank in
     let near : c.in_ok-copied.field-0 ≡ near_given c.post-post.result.now = c.in_ok-copied.ensures ∙ (λ i. record { sources = c.sources.ensures.value i; destinations = c.destinations.ensures.value i }) in
     let more : c.push.new.self.items ≡ c.loop-rank.ranks.items ++ c.in_ok-copied.field-0 ∷ [] = c.in_ok-push.ensures.items in
+    let here : AreNeighbours (own_of (post_at row rank)) = subst (λ (given : Given). AreNeighbours (own_of given)) c.post-post.ensures.value c.sources.ensures.neighbours in
     record {
       graph = more
           ∙ (λ i. c.loop-rank.invariant.graph i ++ (near ∙ ap near_given c.post-post.ensures.value) i ∷ [])
-          ∙ sym (near_given-more c.args.row.now c.loop-rank.rank (omega arith));
-      few = subst (All IsFew) (sym more) (All-push IsFew _ _ c.loop-rank.invariant.few (subst IsFew (sym near) (few-given _ c.sources.ensures.neighbours)));
+          ∙ sym (near_given-more row rank (omega arith));
+      own = λ k l. elim (cases_eq k rank) [
+        | inl same ↦ subst (λ (n : ℕ). AreNeighbours (own_of (post_at row n))) (sym same) here
+        | inr other ↦ c.loop-rank.invariant.own k (omega (arith, l, other))
+      ];
     }
 
 pub from_neighbours-requires : goal.from_neighbours-requires
+unfolding adjacent
 from_neighbours-requires c =
     let row = c.args.row.now in
     let whole = c.loop-rank.invariant.graph ∙ ap (map near_given) (take_all c.loop-rank.rank row (omega arith)) in
-    topology-each _ (subst Agrees (sym whole) (adjacent-agrees row c.requires.fine)) (omega (arith, ap length whole, length-map row near_given)) c.loop-rank.invariant.few
+    let weighted = c.weighted.ensures ∙ ap weighted_of c.post.ensures.value in
+    ap is_topology (λ i. record { weighted = weighted i; ranks = whole i })
+    ∙ adjacent-topology row c.requires.fine (omega arith) (λ k l. c.loop-rank.invariant.own k (omega arith))
 
 pub returns : goal.returns
 unfolding adjacent

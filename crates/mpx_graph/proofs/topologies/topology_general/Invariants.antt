@@ -1,7 +1,9 @@
-use Rattle.std.proofs.Common.{◌≡◌, ◌<◌, ◌≤◌, ◌*◌, ℕ, vec_len, take, length, get_or}
+use Rattle.std.proofs.Common.{◌≡◌, ◌<◌, ℕ, vec_len, take, length, get_or}
 use Rattle.mpx_birth.specs.Topologies.{nobody}
-use Rattle.mpx_post.specs.Graphs.{most_edges}
+use Rattle.mpx_post.specs.Agreement.{post_at}
+use Rattle.mpx_post.specs.Graphs.{AreEdges}
 use Rattle.mpx_graph.specs.Graphs.{all_edges, graph_among}
+use Rattle.mpx_graph.proofs.Made.{given_of}
 use Rattle.mpx_graph.proofs.topologies.topology_general.Given as goal
 
 abbrev pub invariant-loop-rank : goal.invariant-loop-rank
@@ -14,5 +16,5 @@ abbrev pub invariant-loop-rank-2 : goal.invariant-loop-rank-2
 invariant-loop-rank-2 l = record {
   long : vec_len l.ranks ≡ length l.row;
   graph : l.ranks.items ≡ graph_among (length l.row) (all_edges (take l.rank l.row));
-  few : length (all_edges (take l.rank l.row)) ≤ most_edges * l.rank;
+  given : (k : ℕ) → k < l.rank → AreEdges (given_of (post_at l.row k));
 }

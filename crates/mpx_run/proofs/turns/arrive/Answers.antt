@@ -1,4 +1,4 @@
-use Rattle.std.proofs.Common.{List, map, subst, arith}
+use Rattle.std.proofs.Common.{◌∙◌, List, Some, map, ap, sym, subst, arith}
 use Rattle.mpx_run.specs.Running.{RankView, IsUnderWay}
 use Rattle.mpx_run.specs.Shown.{rank_of}
 use Rattle.mpx_run.proofs.Running.{written, element}
@@ -9,4 +9,4 @@ returns c script ranks size frames i got run =
     let xs = c.args.processes.now in
     let p = c.args.frame.now.to in
     subst (λ (rs : List RankView). IsUnderWay script ranks size rs frames) (written rank_of xs p c.receive.new.self)
-    (c.in_ok-receive.ensures script ranks size (map rank_of xs) frames p i (element rank_of xs p c.index-processes-frame.result (omega arith)) got run)
+    (c.in_ok-receive.ensures script ranks size (map rank_of xs) frames p i (element rank_of xs p c.index-processes-frame.result (omega arith)) (got ∙ ap Some (sym c.in_ok-part.ensures)) run)

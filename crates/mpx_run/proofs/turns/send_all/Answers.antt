@@ -1,22 +1,21 @@
-use Rattle.std.proofs.Common.{◌≡◌, ◌∙◌, ◌++◌, ◌∷◌, [], List, map, subst, sym, ap, get_or, arith}
-use Rattle.std.proofs.lemmas.List.{map-append}
-use Rattle.mpx_board.specs.Boards.{Look}
+use Rattle.std.proofs.Common.{map, subst, sym, get_or, arith}
+use Rattle.std.specs.Prelude.{All}
+use Rattle.mpx_parts.specs.Facts.{OnlyFactsOf}
 use Rattle.mpx_run.specs.Running.{IsUnderWay}
 use Rattle.mpx_run.specs.Shown.{rank_of, part_of}
-use Rattle.mpx_run.proofs.Running.{element, run_sends}
+use Rattle.mpx_run.proofs.Running.{element}
 use Rattle.mpx_run.proofs.turns.send_all.Goals as goal
-use Rattle.mpx_run.proofs.turns.send_all.Goals.{then-not-is_lost+in_ok-frame+in_ok-push, else-not-is_lost}
+use Rattle.mpx_run.proofs.turns.send_all.Goals.{then-is_free+in_ok-made+in_ok-send_each, else-is_free}
 
 pub loop-p-preserved : goal.loop-p-preserved
 loop-p-preserved c script ranks size run =
     let xs = map rank_of c.args.processes.now in
-    let frames = c.loop-p.frames.items in
     let before = c.loop-p.invariant script ranks size run in
-    elim c.if-not-is_lost.branch [
-      | then-not-is_lost+in_ok-frame+in_ok-push w ↦
+    elim c.if-is_free.branch [
+      | then-is_free+in_ok-made+in_ok-send_each w ↦
           let r = rank_of (get_or c.args.processes.now c.loop-p.p w.index-processes-p.result) in
-          let more : map part_of frames ++ r.node.board ∷ [] ≡ map part_of c.if-not-is_lost.frames.items = ap (λ b. map part_of frames ++ b ∷ []) (ap (λ x. (rank_of x).node.board) (sym w.index-processes-p.is) ∙ sym w.in_ok-frame.ensures) ∙ sym (map-append part_of frames (w.in_ok-frame.frame ∷ [])) ∙ ap (map part_of) (sym w.in_ok-push.ensures.items) ∙ ap (λ v. map part_of v.items) (sym w.frames-is) in
-          subst (λ (bs : List Look). IsUnderWay script ranks size xs bs) more
-          (run_sends script ranks size xs (map part_of frames) c.loop-p.p r (element rank_of c.args.processes.now c.loop-p.p w.index-processes-p.result (omega arith)) before)
-      | else-not-is_lost w ↦ subst (λ v. IsUnderWay script ranks size xs (map part_of v.items)) (sym w.frames-is) before
+          let facts : All (λ frame. OnlyFactsOf (part_of frame) r.node.board) w.in_ok-made.made.items = subst (λ x. All (λ frame. OnlyFactsOf (part_of frame) (rank_of x).node.board) w.in_ok-made.made.items) w.index-processes-p.is w.in_ok-made.ensures.facts in
+          subst (λ v. IsUnderWay script ranks size xs (map part_of v.items)) (sym w.frames-is)
+          (w.in_ok-send_each.ensures script ranks size xs c.loop-p.p r (element rank_of c.args.processes.now c.loop-p.p w.index-processes-p.result (omega arith)) facts before)
+      | else-is_free w ↦ subst (λ v. IsUnderWay script ranks size xs (map part_of v.items)) (sym w.frames-is) before
     ]

@@ -16,6 +16,7 @@ loop-number-init c =
     let many : length xs ≡ size = sym (length-map xs rank_of) ∙ starts.count_is in
     record {
       count = omega (arith, many);
+      senders = omega (arith, c.in_ok-senders.ensures);
       run = subst (λ (bs : List Look). IsUnderWay script.statements script.ranks size (map rank_of xs) bs) (ap (map part_of) (sym c.new-frames.ensures.items)) (run_starts script.statements script.ranks size (map rank_of xs) starts);
     }
 

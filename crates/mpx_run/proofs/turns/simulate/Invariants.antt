@@ -6,5 +6,6 @@ use Rattle.mpx_run.proofs.turns.simulate.Given as goal
 abbrev pub invariant-loop-number : goal.invariant-loop-number
 invariant-loop-number l = record {
   count : l.script.ranks ≤ length l.processes.items;
+  senders : length l.processes.items ≤ length l.senders.items;
   run : IsUnderWay l.script.statements l.script.ranks (l.script.ranks + l.options.relays) (map rank_of l.processes.items) (map part_of l.frames.items);
 }

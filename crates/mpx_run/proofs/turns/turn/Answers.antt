@@ -1,6 +1,6 @@
 use Rattle.std.proofs.Common.{map, subst, sym, List}
 use Rattle.std.proofs.lemmas.Map.Views.{All-map-IsPermutation}
-use Rattle.mpx_run.specs.declared.turns.Frame.{Frame}
+use Rattle.mpx_run.specs.declared.frame.Frame.{Frame}
 use Rattle.mpx_run.specs.Running.{IsUnderWay}
 use Rattle.mpx_run.specs.Shown.{rank_of, part_of}
 use Rattle.mpx_run.proofs.Running.{run_fewer}

@@ -1,4 +1,5 @@
 use Rattle.std.proofs.Common.{◌≡◌, length, ap, ◌∙◌, arith}
+use Rattle.mpx_group.specs.Group.{has_twice}
 use Rattle.mpx_post.proofs.Gatherings.{some_is_more}
 use Rattle.mpx_post.proofs.gathering.Gathering.birth.Goals as goal
 
@@ -13,3 +14,6 @@ of_members-requires-clause-few c =
     let few = c.self.invariant.2 in
     let is : length c.in_ok-members.members.items ≡ length c.self.inside.members = ap length (c.in_ok-members.ensures.items ∙ c.members.ensures) in
     omega (arith, few, is)
+
+pub of_members-requires-clause-distinct : goal.of_members-requires-clause-distinct
+of_members-requires-clause-distinct c = ap has_twice (c.in_ok-members.ensures.items ∙ c.members.ensures) ∙ c.size-size.ensures.group.distinct

@@ -1,0 +1,4 @@
+pub mod Loop
+pub mod Members
+pub mod Signed
+pub mod PostLimits

@@ -1,0 +1,16 @@
+use Rattle.std.proofs.Common.{refl}
+use Rattle.std.proofs.lemmas.Result.{err_from_is_err_and}
+use Rattle.mpx_format.specs.Posts.{edges}
+use Rattle.mpx_decode.proofs.Loop.{fails_on}
+use Rattle.mpx_decode.proofs.making.read_edges.Goals as goal
+
+pub returns-in_err-list : goal.returns-in_err-list
+unfolding edges
+returns-in_err-list c =
+    let p = err_from_is_err_and c.from_residual-in_err-list.result c.from_residual-in_err-list.ensures.1 in
+    let e = c.in_err-list.field-0.0 in
+    rw (p.1, p.2, c.in_ok-weighted.ensures, c.in_ok-count.ensures.read) (fails_on e _ _ (fails_on e _ _ (fails_on e _ _ (fails_on e _ _ c.in_err-list.ensures.read))))
+
+pub returns : goal.returns
+unfolding edges
+returns c = rw (c.in_ok-weighted.ensures, c.in_ok-count.ensures.read, c.in_ok-list.ensures.read, c.in_ok-new.ensures) refl

@@ -1,0 +1,233 @@
+// The codes of kinds, modes, operations and types, and bytes that say yes or no.
+ghost use Rattle.std.specs.Prelude.{◌≡◌, ◌<◌, nat_lt, IfOk, is_some, true};
+ghost use Rattle.std.specs.Option.{option_map_or};
+ghost use Rattle.mpx_num.specs.Operations.{fits};
+ghost use Rattle.mpx_kind.specs.Kinds.{family_of, may_be};
+ghost use Rattle.mpx_format.specs.Format.{Gives};
+ghost use Rattle.mpx_format.specs.Fields.{process};
+ghost use Rattle.mpx_format.specs.Codes.{flag, item_type, kind, kind_at, mode, operation, operation_at, type_at, when};
+ghost use Rattle.mpx_format.specs.Posts.{type_for};
+
+use crate::fields::read_process;
+use crate::numbers::read_u8;
+use mpx_format::{ReadError, out_of_limits};
+use mpx_num::{Op, Ty, op_fits};
+use mpx_post::{Family, Kind, Mode};
+
+// KINDS AND MODES
+
+#[tactic(auto, unfolding(mpx_format::specs::Codes::kind))]
+pub fn read_kind(bytes: &[u8]) -> Result<(Kind, &[u8]), ReadError>
+    ensures { Gives (λ x. (x.0, x.1.now)) result (kind.read bytes.now) }
+{
+    let (code, rest) = read_u8(bytes)?;
+    if code < 26 {
+        Ok((kind_at(code), rest))
+    } else {
+        Err(out_of_limits(bytes))
+    }
+}
+
+fn kind_at(code: u8) -> Kind
+    requires { code < 26 }
+    ensures { result ≡ kind_at code }
+{
+    match code {
+        0 => Kind::Barrier,
+        1 => Kind::Bcast,
+        2 => Kind::Gather,
+        3 => Kind::Gatherv,
+        4 => Kind::Scatter,
+        5 => Kind::Scatterv,
+        6 => Kind::Allgather,
+        7 => Kind::Allgatherv,
+        8 => Kind::Alltoall,
+        9 => Kind::Alltoallv,
+        10 => Kind::Reduce,
+        11 => Kind::Allreduce,
+        12 => Kind::ReduceScatterBlock,
+        13 => Kind::ReduceScatter,
+        14 => Kind::Scan,
+        15 => Kind::Exscan,
+        16 => Kind::Dup,
+        17 => Kind::Split,
+        18 => Kind::Create,
+        19 => Kind::CreateGroup,
+        20 => Kind::DistGraph,
+        21 => Kind::DistGraphAdjacent,
+        22 => Kind::NeighborAllgather,
+        23 => Kind::NeighborAllgatherv,
+        24 => Kind::NeighborAlltoall,
+        25 => Kind::NeighborAlltoallv,
+        _ => unreachable!(),
+    }
+}
+
+// A mode of which calls of this kind may be.
+#[tactic(auto, unfolding(mpx_format::specs::Codes::mode))]
+pub fn read_mode(kind: Kind, bytes: &[u8]) -> Result<(Mode, &[u8]), ReadError>
+    ensures read { Gives (λ x. (x.0, x.1.now)) result ((mode kind).read bytes.now) }
+    ensures may { IfOk result (λ x. may_be x.0 (family_of kind) ≡ true) }
+{
+    let (code, rest) = read_u8(bytes)?;
+    if code == 0 {
+        Ok((Mode::Blocking, rest))
+    } else if code == 1 && may_be_nonblocking(kind) {
+        Ok((Mode::Nonblocking, rest))
+    } else {
+        Err(out_of_limits(bytes))
+    }
+}
+
+fn may_be_nonblocking(kind: Kind) -> bool
+    ensures { result ≡ may_be Mode.Nonblocking (family_of kind) }
+{
+    match kind.family() {
+        Family::Exchange(_) => true,
+        Family::Reduction(_) => true,
+        Family::NewCommunicator(_) => false,
+        Family::Neighbourhood(_) => true,
+    }
+}
+
+// OPERATIONS AND TYPES
+
+#[tactic(auto, unfolding(mpx_format::specs::Codes::operation))]
+fn read_operation(bytes: &[u8]) -> Result<(Op, &[u8]), ReadError>
+    ensures { Gives (λ x. (x.0, x.1.now)) result (operation.read bytes.now) }
+{
+    let (code, rest) = read_u8(bytes)?;
+    if 0 < code && code < 13 {
+        Ok((operation_at(code), rest))
+    } else {
+        Err(out_of_limits(bytes))
+    }
+}
+
+fn operation_at(code: u8) -> Op
+    requires some { 0 < code }
+    requires below { code < 13 }
+    ensures { result ≡ operation_at code }
+{
+    match code {
+        1 => Op::Max,
+        2 => Op::Min,
+        3 => Op::Sum,
+        4 => Op::Prod,
+        5 => Op::Land,
+        6 => Op::Lor,
+        7 => Op::Lxor,
+        8 => Op::Band,
+        9 => Op::Bor,
+        10 => Op::Bxor,
+        11 => Op::Maxloc,
+        12 => Op::Minloc,
+        _ => unreachable!(),
+    }
+}
+
+#[tactic(auto, unfolding(mpx_format::specs::Codes::item_type))]
+fn read_item_type(bytes: &[u8]) -> Result<(Ty, &[u8]), ReadError>
+    ensures { Gives (λ x. (x.0, x.1.now)) result (item_type.read bytes.now) }
+{
+    let (code, rest) = read_u8(bytes)?;
+    if 0 < code && code < 10 {
+        Ok((type_at(code), rest))
+    } else {
+        Err(out_of_limits(bytes))
+    }
+}
+
+fn type_at(code: u8) -> Ty
+    requires some { 0 < code }
+    requires below { code < 10 }
+    ensures { result ≡ type_at code }
+{
+    match code {
+        1 => Ty::I8,
+        2 => Ty::I16,
+        3 => Ty::I32,
+        4 => Ty::I64,
+        5 => Ty::U8,
+        6 => Ty::U16,
+        7 => Ty::U32,
+        8 => Ty::U64,
+        9 => Ty::TwoInt,
+        _ => unreachable!(),
+    }
+}
+
+// The type, which the operation fits where there is one.
+fn read_type_for(op: Option<Op>, bytes: &[u8]) -> Result<(Ty, &[u8]), ReadError>
+    ensures read { Gives (λ x. (x.0, x.1.now)) result ((type_for op).read bytes.now) }
+    ensures fits { IfOk result (λ x. option_map_or (λ o. fits o x.0) op true ≡ true) }
+{
+    let (ty, rest) = read_item_type(bytes)?;
+    match op {
+        None => Ok((ty, rest)),
+        Some(op) => {
+            if op_fits(op, ty) {
+                Ok((ty, rest))
+            } else {
+                Err(out_of_limits(bytes))
+            }
+        }
+    }
+}
+
+// YES OR NO
+
+#[tactic(auto, unfolding(mpx_format::specs::Codes::flag))]
+pub fn read_flag(bytes: &[u8]) -> Result<(bool, &[u8]), ReadError>
+    ensures { Gives (λ x. (x.0, x.1.now)) result (flag.read bytes.now) }
+{
+    let (code, rest) = read_u8(bytes)?;
+    if code == 0 {
+        Ok((false, rest))
+    } else if code == 1 {
+        Ok((true, rest))
+    } else {
+        Err(out_of_limits(bytes))
+    }
+}
+
+// WHERE THE KIND HAS THEM
+
+pub fn read_root(had: bool, bytes: &[u8]) -> Result<(Option<u8>, &[u8]), ReadError>
+    ensures read { Gives (λ x. (x.0, x.1.now)) result ((when had process).read bytes.now) }
+    ensures there { IfOk result (λ x. is_some x.0 ≡ had) }
+    ensures below { IfOk result (λ x. option_map_or (λ r. nat_lt r 64) x.0 true ≡ true) }
+{
+    if had {
+        let (root, rest) = read_process(bytes)?;
+        Ok((Some(root), rest))
+    } else {
+        Ok((None, bytes))
+    }
+}
+
+pub fn read_op(had: bool, bytes: &[u8]) -> Result<(Option<Op>, &[u8]), ReadError>
+    ensures read { Gives (λ x. (x.0, x.1.now)) result ((when had operation).read bytes.now) }
+    ensures there { IfOk result (λ x. is_some x.0 ≡ had) }
+{
+    if had {
+        let (op, rest) = read_operation(bytes)?;
+        Ok((Some(op), rest))
+    } else {
+        Ok((None, bytes))
+    }
+}
+
+// The type of the items, which the operation fits where there is one.
+pub fn read_type(had: bool, op: Option<Op>, bytes: &[u8]) -> Result<(Option<Ty>, &[u8]), ReadError>
+    ensures read { Gives (λ x. (x.0, x.1.now)) result ((when had (type_for op)).read bytes.now) }
+    ensures there { IfOk result (λ x. is_some x.0 ≡ had) }
+    ensures fits { IfOk result (λ x. option_map_or (λ ty. option_map_or (λ o. fits o ty) op true) x.0 true ≡ true) }
+{
+    if had {
+        let (ty, rest) = read_type_for(op, bytes)?;
+        Ok((Some(ty), rest))
+    } else {
+        Ok((None, bytes))
+    }
+}

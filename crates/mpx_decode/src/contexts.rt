@@ -1,0 +1,167 @@
+// What frames say of contexts.
+ghost use Rattle.std.specs.Prelude.{◌≡◌, true, not};
+ghost use Rattle.join_core.specs.Flat.{FlatView};
+ghost use Rattle.join_core.specs.FlatSeen.{flat_view};
+ghost use Rattle.mpx_post.specs.Posts.{Given};
+ghost use Rattle.mpx_board.specs.Parts.{CallView, EntryView, PartsView, ProgressView};
+ghost use Rattle.join_nest.specs.Trunc.{TruncView};
+ghost use Rattle.mpx_board.specs.Tidy.{is_unknown, says_nothing};
+ghost use Rattle.mpx_format.specs.Format.{Gives};
+ghost use Rattle.mpx_format.specs.Contexts.{told, posted, call_posts, held, progress, context, parts, says_something};
+ghost use Rattle.mpx_format.specs.Fields.{fronts, call};
+
+use crate::acks::read_all_acks;
+use crate::entries::{WireKey, WireValue, read_entries};
+use crate::fields::{read_call, read_name_count, read_some_byte};
+use crate::numbers::{read_u8, read_u32};
+use join_core::{Exact, Flat, Pair};
+use join_nest::{Keyed, Trunc};
+use mpx_board::{Call, Entry, Parts, VersionVector, says_something};
+use mpx_format::{ReadError, out_of_limits};
+use mpx_post::{Birth, Post};
+use std::alloc::Global;
+
+// A value that is told once.
+fn read_told<T: WireValue>(alloc: Global, bytes: &[u8]) -> Result<(Flat<T>, &[u8]), ReadError>
+    ensures { Gives (λ x. (flat_view T.seen x.0, x.1.now)) result ((told T.format).read bytes.now) }
+{
+    let (form, rest) = read_u8(bytes)?;
+    if form == 0 {
+        Ok((Flat::Unknown, rest))
+    } else if form == 1 {
+        let (value, rest) = T::read(alloc, rest)?;
+        Ok((Flat::Known(value), rest))
+    } else if form == 2 {
+        Ok((Flat::Clash, rest))
+    } else {
+        Err(out_of_limits(bytes))
+    }
+}
+
+fn is_told<T>(value: &Flat<T>) -> bool
+    ensures { result ≡ not (is_unknown (flat_view (λ t. t) value.now)) }
+{
+    !matches!(value, Flat::Unknown)
+}
+
+impl WireValue for Flat<Post> {
+    ghost Seen = { FlatView Given };
+
+    ghost seen = { flat_view (λ p. p) };
+
+    ghost format = { posted };
+
+    ghost says = { λ v. true };
+
+    fn says_something(&self) -> bool {
+        true
+    }
+
+    #[tactic(auto, unfolding(mpx_format::specs::Contexts::posted))]
+    fn read(alloc: Global, bytes: &[u8]) -> Result<(Flat<Post>, &[u8]), ReadError> {
+        let (posted, rest): (Flat<Post>, &[u8]) = read_told(alloc, bytes)?;
+        if is_told(&posted) {
+            Ok((posted, rest))
+        } else {
+            Err(out_of_limits(bytes))
+        }
+    }
+}
+
+impl WireValue for Call {
+    ghost Seen = { CallView };
+
+    ghost seen = { ⟦<Call as Exact>⟧.view };
+
+    ghost format = { call_posts };
+
+    ghost says = { λ v. true };
+
+    fn says_something(&self) -> bool {
+        true
+    }
+
+    #[tactic(auto, unfolding(mpx_format::specs::Contexts::call_posts))]
+    fn read(alloc: Global, bytes: &[u8]) -> Result<(Call, &[u8]), ReadError> {
+        let (count, rest) = read_some_byte(bytes)?;
+        let (entries, rest) = read_entries(alloc, &None, count as usize, rest)?;
+        Ok((Keyed::from_rising(entries), rest))
+    }
+}
+
+#[tactic(auto, unfolding(mpx_format::specs::Fields::fronts))]
+fn read_fronts(alloc: Global, bytes: &[u8]) -> Result<(VersionVector, &[u8]), ReadError>
+    ensures { Gives (λ x. (⟦<VersionVector as Exact>⟧.view x.0, x.1.now)) result (fronts.read bytes.now) }
+{
+    let (count, rest) = read_u8(bytes)?;
+    let (entries, rest) = read_entries(alloc, &None, count as usize, rest)?;
+    Ok((Keyed::from_rising(entries), rest))
+}
+
+impl WireKey for u32 {
+    ghost format = { call };
+
+    fn read(_alloc: Global, bytes: &[u8]) -> Result<(u32, &[u8]), ReadError> {
+        read_call(bytes)
+    }
+}
+
+// The dropped front, and the calls at or above it.
+#[tactic(auto, unfolding(mpx_format::specs::Contexts::held, mpx_format::specs::Contexts::calls))]
+fn read_held(alloc: Global, bytes: &[u8]) -> Result<(Trunc<Call>, &[u8]), ReadError>
+    ensures { Gives (λ x. (⟦<Trunc<Call> as Exact>⟧.view x.0, x.1.now)) result (held.read bytes.now) }
+{
+    let (dropped, rest) = read_u32(bytes)?;
+    let (count, rest) = read_u32(rest)?;
+    let (calls, rest) = read_entries(alloc, &Some(dropped), count as usize, rest)?;
+    Ok((Trunc::from_rising(dropped, calls), rest))
+}
+
+impl WireValue for Entry {
+    ghost Seen = { EntryView };
+
+    ghost seen = { ⟦<Entry as Exact>⟧.view };
+
+    ghost format = { context };
+
+    ghost says = { says_something };
+
+    fn says_something(&self) -> bool {
+        says_something(self)
+    }
+
+    #[tactic(auto, unfolding(mpx_format::specs::Contexts::context, mpx_format::specs::Contexts::progress))]
+    fn read(alloc: Global, bytes: &[u8]) -> Result<(Entry, &[u8]), ReadError> {
+        let (birth, rest): (Flat<Birth>, &[u8]) = read_told(alloc, bytes)?;
+        let (fronts, rest) = read_fronts(alloc, rest)?;
+        let (posts, rest) = read_held(alloc, rest)?;
+        let second = Pair {
+            first: fronts,
+            second: posts,
+        };
+        Ok((
+            Pair {
+                first: birth,
+                second,
+            },
+            rest,
+        ))
+    }
+}
+
+#[tactic(auto, unfolding(mpx_format::specs::Contexts::parts))]
+pub fn read_parts(alloc: Global, bytes: &[u8]) -> Result<(Parts, &[u8]), ReadError>
+    ensures { Gives (λ x. (⟦<Parts as Exact>⟧.view x.0, x.1.now)) result (parts.read bytes.now) }
+{
+    let (count, rest) = read_name_count(bytes)?;
+    let (entries, rest) = read_entries(alloc, &None, count as usize, rest)?;
+    let contexts = Keyed::from_rising(entries);
+    let (acks, rest) = read_all_acks(alloc, rest)?;
+    Ok((
+        Pair {
+            first: contexts,
+            second: acks,
+        },
+        rest,
+    ))
+}

@@ -1,0 +1,81 @@
+// Counts, and items where the kind has them.
+ghost use Rattle.std.specs.Prelude.{◌≡◌, ◌≤◌, IfOk};
+ghost use Rattle.std.specs.Option.{option_map};
+ghost use Rattle.mpx_num.specs.ItemList.{ItemList};
+ghost use Rattle.mpx_post.specs.Posts.{AreCounts, NoneUnless, few_items};
+ghost use Rattle.mpx_format.specs.Format.{Gives};
+ghost use Rattle.mpx_format.specs.Posts.{count, counts, counts_if, items_for, nums_of};
+
+use crate::items::read_items;
+use crate::lists::{Repeated, read_list};
+use crate::numbers::read_u16;
+use mpx_format::{ReadError, out_of_limits};
+use mpx_num::{Items, Ty};
+use mpx_post::Counts;
+use std::alloc::Global;
+
+// Counts, each at most 4,096.
+struct EachCount;
+
+impl Repeated for EachCount {
+    type Value = u16;
+
+    ghost format = { λ s before. count };
+
+    ghost Within = { λ s n. n ≤ 4096 };
+
+    #[tactic(auto, unfolding(mpx_format::specs::Posts::count))]
+    fn read<'a>(
+        &self,
+        _alloc: Global,
+        _before: &[u16],
+        bytes: &'a [u8],
+    ) -> Result<(u16, &'a [u8]), ReadError> {
+        let (number, rest) = read_u16(bytes)?;
+        if number <= 4096 {
+            Ok((number, rest))
+        } else {
+            Err(out_of_limits(bytes))
+        }
+    }
+}
+
+#[tactic(auto, unfolding(mpx_format::specs::Posts::counts))]
+fn read_some_counts(alloc: Global, bytes: &[u8]) -> Result<(Counts, &[u8]), ReadError>
+    ensures { Gives (λ x. (x.0, x.1.now)) result (counts.read bytes.now) }
+{
+    let (len, rest) = read_u16(bytes)?;
+    let (list, rest) = read_list(&EachCount, alloc, len as usize, rest)?;
+    Ok((Counts::of(list), rest))
+}
+
+// The counts, where the kind has them; else none.
+pub fn read_counts(had: bool, alloc: Global, bytes: &[u8]) -> Result<(Counts, &[u8]), ReadError>
+    ensures read { Gives (λ x. (x.0, x.1.now)) result ((counts_if had).read bytes.now) }
+    ensures none { IfOk result (λ x. NoneUnless had x.0) }
+{
+    if had {
+        read_some_counts(alloc, bytes)
+    } else {
+        Ok((Counts::of(Vec::new(alloc)), bytes))
+    }
+}
+
+// The items, where there is a type.
+pub fn read_items_for(
+    ty: Option<Ty>,
+    alloc: Global,
+    bytes: &[u8],
+) -> Result<(Option<Items>, &[u8]), ReadError>
+    ensures read { Gives (λ x. (nums_of x.0, x.1.now)) result ((items_for ty).read bytes.now) }
+    ensures ty { IfOk result (λ x. option_map (λ (items : ItemList). items.ty) x.0 ≡ ty) }
+    ensures few { IfOk result (λ x. few_items x.0) }
+{
+    match ty {
+        None => Ok((None, bytes)),
+        Some(ty) => {
+            let (items, rest) = read_items(ty, alloc, bytes)?;
+            Ok((Some(items), rest))
+        }
+    }
+}

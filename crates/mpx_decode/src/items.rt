@@ -1,0 +1,197 @@
+// Numbers of the types, and items.
+ghost use Rattle.std.specs.Prelude.{◌≡◌, ◌*◌, ◌≤◌, [], Ok, Err, IfOk, IfSome, MatchOption, length};
+ghost use Rattle.std.specs.List.{All};
+ghost use Rattle.mpx_num.specs.Types.{IsInRange, item_len};
+ghost use Rattle.mpx_num.specs.declared.types.Ty.{Ty};
+ghost use Rattle.mpx_num.specs.declared.types.Ty.TheVariants.{I8, I16, I32, I64, U8, U16, U32, U64, TwoInt};
+ghost use Rattle.mpx_format.specs.declared.faults.Fault.TheVariants.{ShortFrame};
+ghost use Rattle.mpx_format.specs.Format.{Gives, many_read};
+ghost use Rattle.mpx_format.specs.Posts.{integer, item_count, items};
+
+use crate::numbers::read_u16;
+use mpx_format::{ReadError, SHORT, out_of_limits};
+use mpx_num::{Items, MOST_ITEMS, Numbers, Ty};
+use std::alloc::Global;
+
+/// A number of one type, the highest byte first.
+trait Number {
+    ghost ty: { Ty };
+
+    /// The number at the front, and the bytes after it; none where there are too few bytes.
+    fn front(bytes: &[u8]) -> Option<(i128, &[u8])>
+        ensures read { MatchOption result ((integer ty).read bytes.now ≡ Err ShortFrame) (λ x. (integer ty).read bytes.now ≡ Ok (x.0, x.1.now)) }
+        ensures in_range { IfSome result (λ x. IsInRange ty x.0) };
+}
+
+impl Number for i8 {
+    ghost ty = { I8 };
+
+    #[tactic(auto, using(crate::proofs::Signed::signed8), unfolding(mpx_format::specs::Posts::integer))]
+    fn front(bytes: &[u8]) -> Option<(i128, &[u8])> {
+        match bytes {
+            [] => None,
+            [b, rest @ ..] => Some((i128::from(b.cast_signed()), rest)),
+        }
+    }
+}
+
+impl Number for i16 {
+    ghost ty = { I16 };
+
+    #[tactic(auto, using(crate::proofs::Signed::signed16), unfolding(mpx_format::specs::Posts::integer))]
+    fn front(bytes: &[u8]) -> Option<(i128, &[u8])> {
+        let (number, rest) = bytes.split_first_chunk::<2>()?;
+        Some((i128::from(i16::from_be_bytes(*number)), rest))
+    }
+}
+
+impl Number for i32 {
+    ghost ty = { I32 };
+
+    #[tactic(auto, using(crate::proofs::Signed::signed32), unfolding(mpx_format::specs::Posts::integer))]
+    fn front(bytes: &[u8]) -> Option<(i128, &[u8])> {
+        let (number, rest) = bytes.split_first_chunk::<4>()?;
+        Some((i128::from(i32::from_be_bytes(*number)), rest))
+    }
+}
+
+impl Number for i64 {
+    ghost ty = { I64 };
+
+    #[tactic(auto, using(crate::proofs::Signed::signed64), unfolding(mpx_format::specs::Posts::integer))]
+    fn front(bytes: &[u8]) -> Option<(i128, &[u8])> {
+        let (number, rest) = bytes.split_first_chunk::<8>()?;
+        Some((i128::from(i64::from_be_bytes(*number)), rest))
+    }
+}
+
+impl Number for u8 {
+    ghost ty = { U8 };
+
+    #[tactic(auto, unfolding(mpx_format::specs::Posts::integer))]
+    fn front(bytes: &[u8]) -> Option<(i128, &[u8])> {
+        match bytes {
+            [] => None,
+            [b, rest @ ..] => Some((i128::from(*b), rest)),
+        }
+    }
+}
+
+impl Number for u16 {
+    ghost ty = { U16 };
+
+    #[tactic(auto, unfolding(mpx_format::specs::Posts::integer))]
+    fn front(bytes: &[u8]) -> Option<(i128, &[u8])> {
+        let (number, rest) = bytes.split_first_chunk::<2>()?;
+        Some((i128::from(u16::from_be_bytes(*number)), rest))
+    }
+}
+
+impl Number for u32 {
+    ghost ty = { U32 };
+
+    #[tactic(auto, unfolding(mpx_format::specs::Posts::integer))]
+    fn front(bytes: &[u8]) -> Option<(i128, &[u8])> {
+        let (number, rest) = bytes.split_first_chunk::<4>()?;
+        Some((i128::from(u32::from_be_bytes(*number)), rest))
+    }
+}
+
+impl Number for u64 {
+    ghost ty = { U64 };
+
+    #[tactic(auto, unfolding(mpx_format::specs::Posts::integer))]
+    fn front(bytes: &[u8]) -> Option<(i128, &[u8])> {
+        let (number, rest) = bytes.split_first_chunk::<8>()?;
+        Some((i128::from(u64::from_be_bytes(*number)), rest))
+    }
+}
+
+// One of a pair.
+struct OfPair;
+
+impl Number for OfPair {
+    ghost ty = { TwoInt };
+
+    #[tactic(auto, using(crate::proofs::Signed::signed32), unfolding(mpx_format::specs::Posts::integer))]
+    fn front(bytes: &[u8]) -> Option<(i128, &[u8])> {
+        let (number, rest) = bytes.split_first_chunk::<4>()?;
+        Some((i128::from(i32::from_be_bytes(*number)), rest))
+    }
+}
+
+// So many numbers.
+fn read_all<N: Number>(
+    alloc: Global,
+    count: usize,
+    bytes: &[u8],
+) -> Result<(Vec<i128>, &[u8]), ReadError>
+    ensures read { Gives (λ x. (x.0.items, x.1.now)) result (many_read (λ before. integer N.ty) count [] bytes.now) }
+    ensures in_range { IfOk result (λ x. All (IsInRange N.ty) x.0.items) }
+    ensures len { IfOk result (λ x. length x.0.items ≡ count) }
+{
+    let mut numbers = Vec::with_capacity(alloc, count)?;
+    let mut rest = bytes;
+    for _ in 0..count {
+        match N::front(rest) {
+            None => return Err(SHORT),
+            Some((number, after)) => {
+                numbers.push_reserved(number);
+                rest = after;
+            }
+        }
+    }
+    Ok((numbers, rest))
+}
+
+// So many numbers of the type.
+fn read_numbers(
+    ty: Ty,
+    alloc: Global,
+    count: usize,
+    bytes: &[u8],
+) -> Result<(Vec<i128>, &[u8]), ReadError>
+    ensures read { Gives (λ x. (x.0.items, x.1.now)) result (many_read (λ before. integer ty) count [] bytes.now) }
+    ensures in_range { IfOk result (λ x. All (IsInRange ty) x.0.items) }
+    ensures len { IfOk result (λ x. length x.0.items ≡ count) }
+{
+    match ty {
+        Ty::I8 => read_all::<i8>(alloc, count, bytes),
+        Ty::I16 => read_all::<i16>(alloc, count, bytes),
+        Ty::I32 => read_all::<i32>(alloc, count, bytes),
+        Ty::I64 => read_all::<i64>(alloc, count, bytes),
+        Ty::U8 => read_all::<u8>(alloc, count, bytes),
+        Ty::U16 => read_all::<u16>(alloc, count, bytes),
+        Ty::U32 => read_all::<u32>(alloc, count, bytes),
+        Ty::U64 => read_all::<u64>(alloc, count, bytes),
+        Ty::TwoInt => read_all::<OfPair>(alloc, count, bytes),
+    }
+}
+
+#[tactic(auto, unfolding(mpx_format::specs::Posts::item_count))]
+fn read_item_count(bytes: &[u8]) -> Result<(u16, &[u8]), ReadError>
+    ensures read { Gives (λ x. (x.0, x.1.now)) result (item_count.read bytes.now) }
+    ensures few { IfOk result (λ x. x.0 ≤ 4096) }
+{
+    let (number, rest) = read_u16(bytes)?;
+    if number <= 4096 {
+        Ok((number, rest))
+    } else {
+        Err(out_of_limits(bytes))
+    }
+}
+
+// How many items, and the numbers of all of them.
+#[tactic(auto, unfolding(mpx_format::specs::Posts::items))]
+pub fn read_items(ty: Ty, alloc: Global, bytes: &[u8]) -> Result<(Items, &[u8]), ReadError>
+    ensures read { Gives (λ x. (x.0.nums, x.1.now)) result ((items ty).read bytes.now) }
+    ensures ty { IfOk result (λ x. x.0.ty ≡ ty) }
+    ensures few { IfOk result (λ x. length x.0.nums ≤ MOST_ITEMS * item_len ty) }
+{
+    let (count, rest) = read_item_count(bytes)?;
+    let (list, rest) = read_numbers(ty, alloc, count as usize * ty.item_len(), rest)?;
+    match Items::new(ty, Numbers::new(alloc, list)?) {
+        Ok(items) => Ok((items, rest)),
+        Err(_) => unreachable!(),
+    }
+}

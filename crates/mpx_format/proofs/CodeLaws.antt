@@ -1,0 +1,180 @@
+-- The laws of codes, and of values that may be missing.
+use Rattle.std.proofs.Common.{◌≡◌, ℕ, zero, suc, Bool, true, false, ◌&&◌, ltb, Option, Some, None, refl, sym, ap, ◌∙◌, arith}
+use Rattle.std.proofs.lemmas.Bool.{ltb-true, and_parts}
+use Rattle.mpx_num.specs.declared.types.Ty.{Ty}
+use Rattle.mpx_num.specs.declared.types.Ty.TheVariants.{I8, I16, I32, I64, U8, U16, U32, U64, TwoInt}
+use Rattle.mpx_num.specs.declared.operations.Op.{Op}
+use Rattle.mpx_num.specs.declared.operations.Op.TheVariants.{Max, Min, Sum, Prod, Land, Lor, Lxor, Band, Bor, Bxor, Maxloc, Minloc}
+use Rattle.mpx_kind.specs.declared.kinds.Kind.{Kind}
+use Rattle.mpx_kind.specs.declared.kinds.Kind.TheVariants.{Barrier, Bcast, Gather, Gatherv, Scatter, Scatterv, Allgather, Allgatherv, Alltoall, Alltoallv, Reduce, Allreduce, ReduceScatterBlock, ReduceScatter, Scan, Exscan, Dup, Split, Create, CreateGroup, DistGraph, DistGraphAdjacent, NeighborAllgather, NeighborAllgatherv, NeighborAlltoall, NeighborAlltoallv}
+use Rattle.mpx_kind.specs.declared.kinds.Mode.{Mode}
+use Rattle.mpx_kind.specs.declared.kinds.Mode.TheVariants.{Blocking, Nonblocking}
+use Rattle.mpx_format.specs.Format.{Format, byte, out_of_limits}
+use Rattle.mpx_format.specs.Codes.{code_of_kind, kind_at, kind, code_of_mode, mode_at, mode, code_of_operation, operation_at, operation, code_of_type, type_at, item_type, code_of_flag, flag_at, flag, of_none, missing, there, when}
+use Rattle.mpx_format.proofs.FormatLaws.{Exactly, byte_laws, nothing_laws, only_laws, through_laws, some_is}
+
+-- KINDS AND MODES
+
+kind_forth : (x : Kind) → kind_at (code_of_kind x) ≡ x
+kind_forth Barrier = refl
+kind_forth Bcast = refl
+kind_forth Gather = refl
+kind_forth Gatherv = refl
+kind_forth Scatter = refl
+kind_forth Scatterv = refl
+kind_forth Allgather = refl
+kind_forth Allgatherv = refl
+kind_forth Alltoall = refl
+kind_forth Alltoallv = refl
+kind_forth Reduce = refl
+kind_forth Allreduce = refl
+kind_forth ReduceScatterBlock = refl
+kind_forth ReduceScatter = refl
+kind_forth Scan = refl
+kind_forth Exscan = refl
+kind_forth Dup = refl
+kind_forth Split = refl
+kind_forth Create = refl
+kind_forth CreateGroup = refl
+kind_forth DistGraph = refl
+kind_forth DistGraphAdjacent = refl
+kind_forth NeighborAllgather = refl
+kind_forth NeighborAllgatherv = refl
+kind_forth NeighborAlltoall = refl
+kind_forth NeighborAlltoallv = refl
+
+kind_back : (n : ℕ) → ltb n 26 ≡ true → code_of_kind (kind_at n) ≡ n
+kind_back zero t = refl
+kind_back (suc zero) t = refl
+kind_back (suc (suc zero)) t = refl
+kind_back (suc (suc (suc zero))) t = refl
+kind_back (suc (suc (suc (suc zero)))) t = refl
+kind_back (suc (suc (suc (suc (suc zero))))) t = refl
+kind_back (suc (suc (suc (suc (suc (suc zero)))))) t = refl
+kind_back (suc (suc (suc (suc (suc (suc (suc zero))))))) t = refl
+kind_back (suc (suc (suc (suc (suc (suc (suc (suc zero)))))))) t = refl
+kind_back (suc (suc (suc (suc (suc (suc (suc (suc (suc zero))))))))) t = refl
+kind_back (suc (suc (suc (suc (suc (suc (suc (suc (suc (suc zero)))))))))) t = refl
+kind_back (suc (suc (suc (suc (suc (suc (suc (suc (suc (suc (suc zero))))))))))) t = refl
+kind_back (suc (suc (suc (suc (suc (suc (suc (suc (suc (suc (suc (suc zero)))))))))))) t = refl
+kind_back (suc (suc (suc (suc (suc (suc (suc (suc (suc (suc (suc (suc (suc zero))))))))))))) t = refl
+kind_back (suc (suc (suc (suc (suc (suc (suc (suc (suc (suc (suc (suc (suc (suc zero)))))))))))))) t = refl
+kind_back (suc (suc (suc (suc (suc (suc (suc (suc (suc (suc (suc (suc (suc (suc (suc zero))))))))))))))) t = refl
+kind_back (suc (suc (suc (suc (suc (suc (suc (suc (suc (suc (suc (suc (suc (suc (suc (suc zero)))))))))))))))) t = refl
+kind_back (suc (suc (suc (suc (suc (suc (suc (suc (suc (suc (suc (suc (suc (suc (suc (suc (suc zero))))))))))))))))) t = refl
+kind_back (suc (suc (suc (suc (suc (suc (suc (suc (suc (suc (suc (suc (suc (suc (suc (suc (suc (suc zero)))))))))))))))))) t = refl
+kind_back (suc (suc (suc (suc (suc (suc (suc (suc (suc (suc (suc (suc (suc (suc (suc (suc (suc (suc (suc zero))))))))))))))))))) t = refl
+kind_back (suc (suc (suc (suc (suc (suc (suc (suc (suc (suc (suc (suc (suc (suc (suc (suc (suc (suc (suc (suc zero)))))))))))))))))))) t = refl
+kind_back (suc (suc (suc (suc (suc (suc (suc (suc (suc (suc (suc (suc (suc (suc (suc (suc (suc (suc (suc (suc (suc zero))))))))))))))))))))) t = refl
+kind_back (suc (suc (suc (suc (suc (suc (suc (suc (suc (suc (suc (suc (suc (suc (suc (suc (suc (suc (suc (suc (suc (suc zero)))))))))))))))))))))) t = refl
+kind_back (suc (suc (suc (suc (suc (suc (suc (suc (suc (suc (suc (suc (suc (suc (suc (suc (suc (suc (suc (suc (suc (suc (suc zero))))))))))))))))))))))) t = refl
+kind_back (suc (suc (suc (suc (suc (suc (suc (suc (suc (suc (suc (suc (suc (suc (suc (suc (suc (suc (suc (suc (suc (suc (suc (suc zero)))))))))))))))))))))))) t = refl
+kind_back (suc (suc (suc (suc (suc (suc (suc (suc (suc (suc (suc (suc (suc (suc (suc (suc (suc (suc (suc (suc (suc (suc (suc (suc (suc n))))))))))))))))))))))))) t = omega (arith, ltb-true (suc (suc (suc (suc (suc (suc (suc (suc (suc (suc (suc (suc (suc (suc (suc (suc (suc (suc (suc (suc (suc (suc (suc (suc (suc n))))))))))))))))))))))))) 26 t)
+
+pub kind_laws : Exactly kind
+unfolding kind
+kind_laws = through_laws kind_at (λ x. Some (code_of_kind x)) (only_laws out_of_limits _ byte_laws) (λ n fits. ap Some (kind_back n (and_parts (byte.fits n) (ltb n 26) fits).1)) (λ x n e. ap kind_at (sym (some_is (code_of_kind x) n e)) ∙ kind_forth x)
+
+mode_forth : (x : Mode) → mode_at (code_of_mode x) ≡ x
+mode_forth Blocking = refl
+mode_forth Nonblocking = refl
+
+mode_back : (n : ℕ) → ltb n 2 ≡ true → code_of_mode (mode_at n) ≡ n
+mode_back zero t = refl
+mode_back (suc n) t = omega (arith, ltb-true (suc n) 2 t)
+
+pub mode_laws : (k : Kind) → Exactly (mode k)
+unfolding mode
+mode_laws k = only_laws out_of_limits _ (through_laws mode_at (λ x. Some (code_of_mode x)) (only_laws out_of_limits _ byte_laws) (λ n fits. ap Some (mode_back n (and_parts (byte.fits n) (ltb n 2) fits).1)) (λ x n e. ap mode_at (sym (some_is (code_of_mode x) n e)) ∙ mode_forth x))
+
+-- OPERATIONS AND TYPES
+
+operation_forth : (x : Op) → operation_at (code_of_operation x) ≡ x
+operation_forth Max = refl
+operation_forth Min = refl
+operation_forth Sum = refl
+operation_forth Prod = refl
+operation_forth Land = refl
+operation_forth Lor = refl
+operation_forth Lxor = refl
+operation_forth Band = refl
+operation_forth Bor = refl
+operation_forth Bxor = refl
+operation_forth Maxloc = refl
+operation_forth Minloc = refl
+
+operation_back : (n : ℕ) → (ltb 0 n && ltb n 13) ≡ true → code_of_operation (operation_at n) ≡ n
+operation_back zero t = absurd cc
+operation_back (suc zero) t = refl
+operation_back (suc (suc zero)) t = refl
+operation_back (suc (suc (suc zero))) t = refl
+operation_back (suc (suc (suc (suc zero)))) t = refl
+operation_back (suc (suc (suc (suc (suc zero))))) t = refl
+operation_back (suc (suc (suc (suc (suc (suc zero)))))) t = refl
+operation_back (suc (suc (suc (suc (suc (suc (suc zero))))))) t = refl
+operation_back (suc (suc (suc (suc (suc (suc (suc (suc zero)))))))) t = refl
+operation_back (suc (suc (suc (suc (suc (suc (suc (suc (suc zero))))))))) t = refl
+operation_back (suc (suc (suc (suc (suc (suc (suc (suc (suc (suc zero)))))))))) t = refl
+operation_back (suc (suc (suc (suc (suc (suc (suc (suc (suc (suc (suc zero))))))))))) t = refl
+operation_back (suc (suc (suc (suc (suc (suc (suc (suc (suc (suc (suc (suc n)))))))))))) t = omega (arith, ltb-true (suc (suc (suc (suc (suc (suc (suc (suc (suc (suc (suc (suc n)))))))))))) 13 (and_parts (ltb 0 (suc (suc (suc (suc (suc (suc (suc (suc (suc (suc (suc (suc n))))))))))))) (ltb (suc (suc (suc (suc (suc (suc (suc (suc (suc (suc (suc (suc n)))))))))))) 13) t).1)
+
+pub operation_laws : Exactly operation
+unfolding operation
+operation_laws = through_laws operation_at (λ x. Some (code_of_operation x)) (only_laws out_of_limits _ byte_laws) (λ n fits. ap Some (operation_back n (and_parts (byte.fits n) (ltb 0 n && ltb n 13) fits).1)) (λ x n e. ap operation_at (sym (some_is (code_of_operation x) n e)) ∙ operation_forth x)
+
+type_forth : (x : Ty) → type_at (code_of_type x) ≡ x
+type_forth I8 = refl
+type_forth I16 = refl
+type_forth I32 = refl
+type_forth I64 = refl
+type_forth U8 = refl
+type_forth U16 = refl
+type_forth U32 = refl
+type_forth U64 = refl
+type_forth TwoInt = refl
+
+type_back : (n : ℕ) → (ltb 0 n && ltb n 10) ≡ true → code_of_type (type_at n) ≡ n
+type_back zero t = absurd cc
+type_back (suc zero) t = refl
+type_back (suc (suc zero)) t = refl
+type_back (suc (suc (suc zero))) t = refl
+type_back (suc (suc (suc (suc zero)))) t = refl
+type_back (suc (suc (suc (suc (suc zero))))) t = refl
+type_back (suc (suc (suc (suc (suc (suc zero)))))) t = refl
+type_back (suc (suc (suc (suc (suc (suc (suc zero))))))) t = refl
+type_back (suc (suc (suc (suc (suc (suc (suc (suc zero)))))))) t = refl
+type_back (suc (suc (suc (suc (suc (suc (suc (suc (suc n))))))))) t = omega (arith, ltb-true (suc (suc (suc (suc (suc (suc (suc (suc (suc n))))))))) 10 (and_parts (ltb 0 (suc (suc (suc (suc (suc (suc (suc (suc (suc n)))))))))) (ltb (suc (suc (suc (suc (suc (suc (suc (suc (suc n))))))))) 10) t).1)
+
+pub item_type_laws : Exactly item_type
+unfolding item_type
+item_type_laws = through_laws type_at (λ x. Some (code_of_type x)) (only_laws out_of_limits _ byte_laws) (λ n fits. ap Some (type_back n (and_parts (byte.fits n) (ltb 0 n && ltb n 10) fits).1)) (λ x n e. ap type_at (sym (some_is (code_of_type x) n e)) ∙ type_forth x)
+
+-- YES OR NO
+
+flag_forth : (x : Bool) → flag_at (code_of_flag x) ≡ x
+flag_forth false = refl
+flag_forth true = refl
+
+flag_back : (n : ℕ) → ltb n 2 ≡ true → code_of_flag (flag_at n) ≡ n
+flag_back zero t = refl
+flag_back (suc n) t = omega (arith, ltb-true (suc n) 2 t)
+
+pub flag_laws : Exactly flag
+unfolding flag
+flag_laws = through_laws flag_at (λ x. Some (code_of_flag x)) (only_laws out_of_limits _ byte_laws) (λ n fits. ap Some (flag_back n (and_parts (byte.fits n) (ltb n 2) fits).1)) (λ x n e. ap flag_at (sym (some_is (code_of_flag x) n e)) ∙ flag_forth x)
+
+-- VALUES THAT MAY BE MISSING
+
+none_forth : {A : Type 0} (o : Option A) (u : Unit {0}) → of_none o ≡ Some u → None ≡ o
+none_forth None u e = refl
+none_forth (Some a) u e = absurd cc
+
+pub missing_laws : {A : Type 0} → Exactly (missing {A = A})
+missing_laws = through_laws (λ u. None) of_none nothing_laws (λ u fits. refl) none_forth
+
+pub there_laws : {A : Type 0} {f : Format A} → Exactly f → Exactly (there f)
+there_laws p = through_laws Some (λ o. o) p (λ a fits. refl) (λ o a e. sym e)
+
+pub when_laws : {A : Type 0} {f : Format A} (had : Bool) → Exactly f → Exactly (when had f)
+when_laws true p = there_laws p
+when_laws false p = missing_laws

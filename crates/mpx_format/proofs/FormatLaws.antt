@@ -1,0 +1,216 @@
+-- What holds of each format: what is read is spelled so, and what is spelled so is read, whatever follows.
+use Rattle.std.proofs.Common.{◌≡◌, ℕ, zero, suc, ◌^◌, ◌<◌, ◌≤◌, Bool, true, false, ◌&&◌, cond, ltb, eqb, List, [], ◌∷◌, ◌++◌, length, get_or, take, drop, Option, Some, None, Result, Ok, Err, refl, sym, ap, subst, ◌∙◌, append_assoc, arith, inl, inr}
+use Rattle.std.specs.Int.{Width, w16, w32, w64, byte_len, from_be_bytes, to_be_bytes}
+use Rattle.std.proofs.lemmas.Bool.{cases_lt, ltb-false, le-ltb, lt-ltb, ltb-true, eqb-true, eq-eqb, and_parts, and_from}
+use Rattle.std.proofs.lemmas.List.{take_at, drop_at, take-append-drop, length-append, length-take, get_or-take, get_or_past}
+use Rattle.std.proofs.lemmas.Nat.{be_bytes_2, be_bytes_4, be_bytes_8, from_be_bytes-to_be_bytes_2, from_be_bytes-to_be_bytes_4, from_be_bytes-to_be_bytes_8}
+use Rattle.mpx_format.specs.declared.faults.Fault.{Fault}
+use Rattle.mpx_format.specs.declared.faults.Fault.TheVariants.{ShortFrame}
+use Rattle.mpx_format.specs.Format.{Format, ◌>>=◌, byte, number, nothing, mark, both, only, through, spelled_by, fits_by, many, many_read, many_spelled, many_fit, counted, tagged, out_of_limits}
+
+abbrev pub IsBytes : List ℕ → Type 0
+IsBytes bytes = (i : ℕ) → get_or bytes i 0 < 256
+
+IsBytes-rest : (b : ℕ) (bytes : List ℕ) → IsBytes (b ∷ bytes) → IsBytes bytes
+IsBytes-rest b bytes h i = h (suc i)
+
+pub IsBytes-after : (front bytes : List ℕ) → IsBytes (front ++ bytes) → IsBytes bytes
+IsBytes-after [] bytes h = h
+IsBytes-after (b ∷ front) bytes h = IsBytes-after front bytes (IsBytes-rest b (front ++ bytes) h)
+
+IsBytes-take : (n : ℕ) (bytes : List ℕ) → IsBytes bytes → IsBytes (take n bytes)
+IsBytes-take n bytes h i =
+    elim (cases_lt i n) [
+      | inl lt ↦ rw (get_or-take n bytes i 0 lt) (h i)
+      | inr le ↦ rw (get_or_past (take n bytes) i 0 (omega (arith, length-take n bytes))) (omega arith)
+    ]
+
+pub record Exactly {V : Type 0} (f : Format V) : Type 0 where
+  pub found : (bytes : List ℕ) (x : V × List ℕ) → IsBytes bytes → f.read bytes ≡ Ok x → (f.fits x.0 ≡ true) × (bytes ≡ f.spelling x.0 ++ x.1)
+  pub again : (v : V) (rest : List ℕ) → f.fits v ≡ true → f.read (f.spelling v ++ rest) ≡ Ok (v, rest)
+
+-- STEPS
+
+pub bind_ok : {A B : Type 0} (r : Result A Fault) (f : A → Result B Fault) (y : B) → (r >>= f) ≡ Ok y → (x : A) × (r ≡ Ok x) × (f x ≡ Ok y)
+bind_ok (Ok x) f y e = (x, refl, e)
+bind_ok (Err d) f y e = absurd cc
+
+pub guard_ok : {A : Type 0} (b : Bool) (d : Fault) (x y : A) → cond b (Ok x) (Err d) ≡ Ok y → (b ≡ true) × (x ≡ y)
+guard_ok true d x y e = (refl, cc)
+guard_ok false d x y e = absurd cc
+
+short_ok : {A : Type 0} (b : Bool) (d : Fault) (x y : A) → cond b (Err d) (Ok x) ≡ Ok y → (b ≡ false) × (x ≡ y)
+short_ok true d x y e = absurd cc
+short_ok false d x y e = (refl, cc)
+
+abbrev done : {A : Type 0} → A → Result A Fault
+done x = Ok x
+
+pub ok_is : {A : Type 0} (x y : A) → done x ≡ done y → x ≡ y
+ok_is x y e = cc
+
+abbrev some : {A : Type 0} → A → Option A
+some x = Some x
+
+pub some_is : {A : Type 0} (x y : A) → some x ≡ some y → x ≡ y
+some_is x y e = cc
+
+-- NUMBERS
+
+byte_found : (bytes : List ℕ) (x : ℕ × List ℕ) → IsBytes bytes → byte.read bytes ≡ Ok x → (byte.fits x.0 ≡ true) × (bytes ≡ byte.spelling x.0 ++ x.1)
+byte_found [] x h e = absurd cc
+byte_found (b ∷ bytes) x h e =
+    subst (λ (y : ℕ × List ℕ). (byte.fits y.0 ≡ true) × (b ∷ bytes ≡ y.0 ∷ y.1)) (ok_is (b, bytes) x e) (lt-ltb b 256 (h 0), refl)
+
+pub byte_laws : Exactly byte
+byte_laws = record { found = byte_found; again = λ v rest fits. refl }
+
+pub record IsWide (w : Width) : Type 0 where
+  pub len : (n : ℕ) → length (to_be_bytes w n) ≡ byte_len w
+  pub back : (bytes : List ℕ) → length bytes ≡ byte_len w → IsBytes bytes → to_be_bytes w (from_be_bytes w bytes) ≡ bytes
+  pub again : (n : ℕ) → n < 256 ^ byte_len w → from_be_bytes w (to_be_bytes w n) ≡ n
+  pub below : (bytes : List ℕ) → IsBytes bytes → from_be_bytes w bytes < 256 ^ byte_len w
+
+pub wide16 : IsWide w16
+wide16 = record {
+  len = λ n. refl;
+  back = λ bytes len fits. be_bytes_2 bytes _ len fits refl;
+  again = λ n lt. from_be_bytes-to_be_bytes_2 n lt;
+  below = λ bytes fits. omega (arith, fits 0, fits 1);
+}
+
+pub wide32 : IsWide w32
+wide32 = record {
+  len = λ n. refl;
+  back = λ bytes len fits. be_bytes_4 bytes _ len fits refl;
+  again = λ n lt. from_be_bytes-to_be_bytes_4 n lt;
+  below = λ bytes fits. omega (arith, fits 0, fits 1, fits 2, fits 3);
+}
+
+pub wide64 : IsWide w64
+wide64 = record {
+  len = λ n. refl;
+  back = λ bytes len fits. be_bytes_8 bytes _ len fits refl;
+  again = λ n lt. from_be_bytes-to_be_bytes_8 n lt;
+  below = λ bytes fits. omega (arith, fits 0, fits 1, fits 2, fits 3, fits 4, fits 5, fits 6, fits 7);
+}
+
+pub number_laws : (w : Width) → IsWide w → Exactly (number w)
+number_laws w wide = record {
+  found = λ bytes x h e.
+      let g = short_ok (ltb (length bytes) (byte_len w)) ShortFrame (from_be_bytes w (take (byte_len w) bytes), drop (byte_len w) bytes) x e in
+      let long : byte_len w ≤ length bytes = ltb-false _ _ g.0 in
+      let front = IsBytes-take (byte_len w) bytes h in
+      let whole : to_be_bytes w (from_be_bytes w (take (byte_len w) bytes)) ≡ take (byte_len w) bytes = wide.back (take (byte_len w) bytes) (omega (arith, length-take (byte_len w) bytes)) front in
+      subst (λ (y : ℕ × List ℕ). (ltb y.0 (256 ^ byte_len w) ≡ true) × (bytes ≡ to_be_bytes w y.0 ++ y.1)) g.1
+      (lt-ltb _ _ (wide.below (take (byte_len w) bytes) front), sym (ap (λ (t : List ℕ). t ++ drop (byte_len w) bytes) whole ∙ take-append-drop (byte_len w) bytes));
+  again = λ n rest fits.
+      let len = wide.len n in
+      let long : ltb (length (to_be_bytes w n ++ rest)) (byte_len w) ≡ false = le-ltb _ _ (omega (arith, length-append (to_be_bytes w n) rest)) in
+      rw (long, take_at (to_be_bytes w n) rest (byte_len w) len, drop_at (to_be_bytes w n) rest (byte_len w) len, wide.again n (ltb-true _ _ fits)) refl;
+}
+
+-- OUT OF OTHERS
+
+pub nothing_laws : Exactly nothing
+nothing_laws = record { found = λ bytes x h e. (refl, ap (λ (y : Unit {0} × List ℕ). y.1) (ok_is (tt, bytes) x e)); again = λ v rest fits. refl }
+
+module _ {V : Type 0} {f : Format V} (wrong : Fault) (c : ℕ) (p : Exactly f) where
+  mark_found : (bytes : List ℕ) (x : V × List ℕ) → IsBytes bytes → (mark wrong c f).read bytes ≡ Ok x → (f.fits x.0 ≡ true) × (bytes ≡ c ∷ f.spelling x.0 ++ x.1)
+  mark_found [] x h e = absurd cc
+  mark_found (b ∷ bytes) x h e = elim (eqb b c) as (λ t. eqb b c ≡ t → (cond t (Ok bytes) (Err wrong) >>= f.read) ≡ Ok x → (f.fits x.0 ≡ true) × (b ∷ bytes ≡ c ∷ f.spelling x.0 ++ x.1)) [
+    | true ↦ λ is e. let r = p.found bytes x (IsBytes-rest b bytes h) e in (r.0, λ i. eqb-true b c is i ∷ r.1 i)
+    | false ↦ λ is e. absurd cc
+  ] refl e
+
+  pub mark_laws : Exactly (mark wrong c f)
+  mark_laws = record { found = mark_found; again = λ v rest fits. rw (eq-eqb c c refl) (p.again v rest fits) }
+
+joined : (bytes middle rest one two : List ℕ) → bytes ≡ one ++ middle → middle ≡ two ++ rest → bytes ≡ (one ++ two) ++ rest
+joined bytes middle rest one two e f = e ∙ ap (λ (t : List ℕ). one ++ t) f ∙ sym (append_assoc one two rest)
+
+pub both_laws : {A B : Type 0} {f : Format A} {g : A → Format B} → Exactly f → ((a : A) → f.fits a ≡ true → Exactly (g a)) → Exactly (both f g)
+both_laws {f = f} {g = g} p q = record {
+  found = λ bytes x h e.
+      let a = bind_ok (f.read bytes) (λ a. (g a.0).read a.1 >>= λ b. Ok ((a.0, b.0), b.1)) x e in
+      let first = p.found bytes a.0 h a.1 in
+      let b = bind_ok ((g a.0.0).read a.0.1) (λ b. Ok ((a.0.0, b.0), b.1)) x a.2 in
+      let second = (q a.0.0 first.0).found a.0.1 b.0 (IsBytes-after (f.spelling a.0.0) a.0.1 (subst IsBytes first.1 h)) b.1 in
+      subst (λ y. ((f.fits y.0.0 && (g y.0.0).fits y.0.1) ≡ true) × (bytes ≡ (f.spelling y.0.0 ++ (g y.0.0).spelling y.0.1) ++ y.1)) (ok_is ((a.0.0, b.0.0), b.0.1) x b.2)
+      (and_from _ _ first.0 second.0, joined _ _ _ (f.spelling a.0.0) ((g a.0.0).spelling b.0.0) first.1 second.1);
+  again = λ v rest fits.
+      let one = (and_parts (f.fits v.0) ((g v.0).fits v.1) fits).0 in
+      let two = (and_parts (f.fits v.0) ((g v.0).fits v.1) fits).1 in
+      rw (append_assoc (f.spelling v.0) ((g v.0).spelling v.1) rest, p.again v.0 ((g v.0).spelling v.1 ++ rest) one, (q v.0 one).again v.1 rest two) refl;
+}
+
+pub only_laws : {V : Type 0} {f : Format V} (wrong : List ℕ → Fault) (test : V → Bool) → Exactly f → Exactly (only wrong test f)
+only_laws {f = f} wrong test p = record {
+  found = λ bytes x h e.
+      let a = bind_ok (f.read bytes) (λ a. cond (test a.0) (Ok a) (Err (wrong bytes))) x e in
+      let g = guard_ok (test a.0.0) (wrong bytes) a.0 x a.2 in
+      let r = p.found bytes a.0 h a.1 in
+      subst (λ y. ((f.fits y.0 && test y.0) ≡ true) × (bytes ≡ f.spelling y.0 ++ y.1)) g.1 (and_from _ _ r.0 g.0, r.1);
+  again = λ v rest fits. rw (p.again v rest (and_parts (f.fits v) (test v) fits).0, (and_parts (f.fits v) (test v) fits).1) refl;
+}
+
+module _ {A B : Type 0} {f : Format A} (to : A → B) (from : B → Option A) (p : Exactly f)
+    (back : (a : A) → f.fits a ≡ true → from (to a) ≡ Some a) (forth : (b : B) (a : A) → from b ≡ Some a → to a ≡ b) where
+  through_again : (v : B) (o : Option A) → from v ≡ o → (rest : List ℕ) → fits_by f o ≡ true → (through to from f).read (spelled_by f o ++ rest) ≡ Ok (v, rest)
+  through_again v None is rest fits = absurd cc
+  through_again v (Some a) is rest fits = rw (p.again a rest fits) (ap (λ (w : B). Ok (w, rest)) (forth v a is))
+
+  pub through_laws : Exactly (through to from f)
+  through_laws = record {
+    found = λ bytes x h e.
+        let a = bind_ok (f.read bytes) (λ x. Ok (to x.0, x.1)) x e in
+        let r = p.found bytes a.0 h a.1 in
+        let is = back a.0.0 r.0 in
+        subst (λ (y : B × List ℕ). (fits_by f (from y.0) ≡ true) × (bytes ≡ spelled_by f (from y.0) ++ y.1)) (ok_is (to a.0.0, a.0.1) x a.2)
+        (ap (fits_by f) is ∙ r.0, r.1 ∙ ap (λ (o : Option A). spelled_by f o ++ a.0.1) (sym is));
+    again = λ v rest fits. through_again v (from v) refl rest fits;
+  }
+
+module _ {V : Type 0} {f : List V → Format V} (p : (before : List V) → Exactly (f before)) where
+  many_found : (n : ℕ) (before : List V) (bytes : List ℕ) (x : List V × List ℕ) → IsBytes bytes → many_read f n before bytes ≡ Ok x → (many_fit f n before x.0 ≡ true) × (bytes ≡ many_spelled f before x.0 ++ x.1)
+  unfolding many_read
+  many_found zero before bytes x h e =
+      subst (λ (y : List V × List ℕ). (many_fit f zero before y.0 ≡ true) × (bytes ≡ many_spelled f before y.0 ++ y.1)) (ok_is ([], bytes) x e) (refl, refl)
+  many_found (suc n) before bytes x h e =
+      let a = bind_ok ((f before).read bytes) (λ v. many_read f n (before ++ v.0 ∷ []) v.1 >>= λ vs. Ok (v.0 ∷ vs.0, vs.1)) x e in
+      let first = (p before).found bytes a.0 h a.1 in
+      let b = bind_ok (many_read f n (before ++ a.0.0 ∷ []) a.0.1) (λ vs. Ok (a.0.0 ∷ vs.0, vs.1)) x a.2 in
+      let second = many_found n (before ++ a.0.0 ∷ []) a.0.1 b.0 (IsBytes-after ((f before).spelling a.0.0) a.0.1 (subst IsBytes first.1 h)) b.1 in
+      subst (λ (y : List V × List ℕ). (many_fit f (suc n) before y.0 ≡ true) × (bytes ≡ many_spelled f before y.0 ++ y.1)) (ok_is (a.0.0 ∷ b.0.0, b.0.1) x b.2)
+      (and_from _ _ first.0 second.0, joined _ _ _ ((f before).spelling a.0.0) (many_spelled f (before ++ a.0.0 ∷ []) b.0.0) first.1 second.1)
+
+  many_again : (n : ℕ) (before vs : List V) (rest : List ℕ) → many_fit f n before vs ≡ true → many_read f n before (many_spelled f before vs ++ rest) ≡ Ok (vs, rest)
+  unfolding many_read
+  many_again zero before [] rest fits = refl
+  many_again zero before (v ∷ vs) rest fits = absurd cc
+  many_again (suc n) before [] rest fits = absurd cc
+  many_again (suc n) before (v ∷ vs) rest fits =
+      let one = (and_parts ((f before).fits v) (many_fit f n (before ++ v ∷ []) vs) fits).0 in
+      let two = (and_parts ((f before).fits v) (many_fit f n (before ++ v ∷ []) vs) fits).1 in
+      rw (append_assoc ((f before).spelling v) (many_spelled f (before ++ v ∷ []) vs) rest, (p before).again v (many_spelled f (before ++ v ∷ []) vs ++ rest) one, many_again n (before ++ v ∷ []) vs rest two) refl
+
+  pub many_laws : (n : ℕ) → Exactly (many f n)
+  many_laws n = record { found = many_found n []; again = many_again n [] }
+
+pub many_fit-length : {V : Type 0} (f : List V → Format V) (n : ℕ) (before vs : List V) → many_fit f n before vs ≡ true → length vs ≡ n
+many_fit-length f zero before [] fits = refl
+many_fit-length f zero before (v ∷ vs) fits = absurd cc
+many_fit-length f (suc n) before [] fits = absurd cc
+many_fit-length f (suc n) before (v ∷ vs) fits = ap suc (many_fit-length f n (before ++ v ∷ []) vs (and_parts ((f before).fits v) (many_fit f n (before ++ v ∷ []) vs) fits).1)
+
+pub counted_laws : {V : Type 0} {count : Format ℕ} {f : List V → Format V} → Exactly count → ((before : List V) → Exactly (f before)) → Exactly (counted count f)
+counted_laws {V = V} {count = count} {f = f} p q =
+    through_laws (λ (x : ℕ × List V). x.1) (λ vs. Some (length vs, vs)) (both_laws p (λ n fits. many_laws q n))
+    (λ a fits. let len = many_fit-length f a.0 [] a.1 (and_parts (count.fits a.0) (many_fit f a.0 [] a.1) fits).1 in ap (λ (n : ℕ). Some (n, a.1)) len)
+    (λ b a is. sym (ap (λ (x : ℕ × List V). x.1) (some_is (length b, b) a is)))
+
+pub tagged_laws : {V : Type 0} (known : ℕ → Bool) (tag : V → ℕ) {form : ℕ → Format V} → ((t : ℕ) → known t ≡ true → Exactly (form t)) → ((t : ℕ) (v : V) → known t ≡ true → (form t).fits v ≡ true → tag v ≡ t) → Exactly (tagged known tag form)
+tagged_laws {V = V} known tag {form = form} p tags =
+    through_laws (λ (x : ℕ × V). x.1) (λ v. Some (tag v, v)) (both_laws (only_laws out_of_limits known byte_laws) (λ t fits. p t (and_parts (byte.fits t) (known t) fits).1))
+    (λ a fits. ap (λ (t : ℕ). Some (t, a.1)) (tags a.0 a.1 (and_parts (byte.fits a.0) (known a.0) (and_parts (byte.fits a.0 && known a.0) ((form a.0).fits a.1) fits).0).1 (and_parts (byte.fits a.0 && known a.0) ((form a.0).fits a.1) fits).1))
+    (λ b a is. sym (ap (λ (x : ℕ × V). x.1) (some_is (tag b, b) a is)))

@@ -1,0 +1,12 @@
+pub mod FormatLaws
+pub mod Rows
+pub mod FieldLaws
+pub mod CodeLaws
+pub mod BirthLaws
+pub mod PostLaws
+pub mod Truncs
+pub mod ContextLaws
+pub mod Decoded
+pub mod Examples
+pub mod Spelled
+pub mod SpelledPosts

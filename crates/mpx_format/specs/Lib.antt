@@ -1,0 +1,9 @@
+pub mod Format
+pub mod Rising
+pub mod Fields
+pub mod Codes
+pub mod Births
+pub mod Posts
+pub mod Contexts
+pub mod Decoding
+pub mod Encoding

@@ -1,0 +1,14 @@
+//! How boards are spelled in bytes: one table of formats, from which the grammar and the order of refusals both come.
+//!
+//! A format (`specs/Format.antt`) says how a value is spelled, whether it has a spelling, and what reading gives: the value at
+//! the front with the bytes after it, or the first field that is wrong. The formats of frames are built of a few such forms:
+//! fields and names in `specs/Fields.antt`, births in `specs/Births.antt`, posts in `specs/Posts.antt`, whole boards in
+//! `specs/Contexts.antt`; `specs/Decoding.antt` says which bytes spell a board and how a refusal is placed. The code that
+//! reads them is `mpx_decode`, and what writes them `mpx_wire`.
+#![tactic(auto)]
+
+mod faults;
+mod laws;
+
+pub use faults::{Fault, ReadError, SHORT, WireError, not_canonical, out_of_limits, placed};
+pub use laws::one_spelling;

@@ -1,0 +1,47 @@
+-- Pieces of a board, and how they are put together.
+use Rattle.std.specs.Prelude.{◌≤◌, ℕ, Bool, not, nat_lt, ◌&&◌, ◌||◌, List, All}
+use Rattle.mpx_board.specs.Boards.{Look, Fact, Has, Stands, IsBelow}
+use Rattle.mpx_board.specs.Parts.{EntryView}
+use Rattle.mpx_board.specs.Tidy.{is_unknown, is_bare}
+use Rattle.mpx_board.specs.Looks.{look, parts_of}
+use Rattle.mpx_board.specs.declared.board.Board.{Board}
+use Rattle.mpx_format.specs.Encoding.{length_told}
+use Rattle.mpx_parts.specs.Facts.{OnlyFactsOf}
+
+-- a frame of one piece has at most so many bytes
+abbrev pub most_of_piece : ℕ
+most_of_piece = 524288
+
+-- all of these boards are below that one
+abbrev pub AreBelow : List Board → Look → Type 0
+AreBelow bs d = All (λ b. IsBelow (look b) d) bs
+
+-- and have only facts of it
+abbrev pub HaveOnlyFactsOf : List Board → Look → Type 0
+HaveOnlyFactsOf bs w = All (λ b. OnlyFactsOf (look b) w) bs
+
+-- each has a frame of so many bytes at most
+abbrev pub AllFit : ℕ → List Board → Type 0
+AllFit limit bs = All (λ b. length_told (parts_of b) ≤ limit) bs
+
+-- the piece says just what S says of facts, in a short frame
+pub record IsPiece (S : (Fact → Type 0) → Type 0) (piece : Board) : Type 0 where
+  pub covers : (d : Look) → IsBelow (look piece) d → S (Stands d)
+  pub only : (w : Look) → S (Has w) → OnlyFactsOf (look piece) w
+  pub fits : length_told (parts_of piece) ≤ most_of_piece
+
+-- pieces that say just what S says were added to the others
+pub record Adds (S : (Fact → Type 0) → Type 0) (old new : List Board) : Type 0 where
+  pub covers : (d : Look) → AreBelow new d → AreBelow old d × S (Stands d)
+  pub only : (w : Look) → S (Has w) → HaveOnlyFactsOf old w → HaveOnlyFactsOf new w
+  pub fits : AllFit most_of_piece old → AllFit most_of_piece new
+
+-- these boards together say what those say
+pub record Says (limit : ℕ) (those these : List Board) : Type 0 where
+  pub covers : (d : Look) → AreBelow these d → AreBelow those d
+  pub only : (w : Look) → HaveOnlyFactsOf those w → HaveOnlyFactsOf these w
+  pub fits : AllFit limit those → AllFit limit these
+
+-- something is said of the context beside the posts
+abbrev pub has_head : EntryView → Bool
+has_head e = not (is_unknown e.0) || (not (is_bare e.1.0) || nat_lt 0 e.1.1.dropped)

@@ -1,0 +1,96 @@
+// Pieces put together again, as far as frames reach.
+ghost use Rattle.std.specs.Prelude.{◌≡◌, ◌≤◌, ◌<◌, ◌++◌, ◌∷◌, ℕ, All, length, map, slice_set, OnOk, IfOk, IfSome};
+ghost use Rattle.mpx_board.specs.Boards.{join_all};
+ghost use Rattle.mpx_board.specs.Looks.{look, parts_of};
+ghost use Rattle.mpx_format.specs.Encoding.{length_told};
+ghost use Rattle.mpx_parts.specs.Facts.{OnlyFactsOf};
+ghost use Rattle.mpx_parts.specs.Pieces.{Says};
+
+use crate::walk::pieces;
+use join_core::{Exact, Join, OutOfMemory};
+use mpx_board::Board;
+use mpx_wire::frame_len;
+use std::alloc::Global;
+
+/// The board in parts, each of which has only facts of the board and a frame of at most so many bytes, and whose join is
+/// the board: the board itself where it fits. Else it is taken apart into single posts, what is said of one context beside
+/// its posts, and what one process acknowledges of one context; and neighbours among these are joined as far as they fit.
+/// It takes time and memory in the order of the board's size, times its logarithm.
+pub fn parts(alloc: Global, board: &Board, limit: usize) -> Result<Vec<Board>, OutOfMemory>
+    requires least { 524288 ≤ limit }
+    requires most { limit ≤ 1048576 }
+    ensures facts { IfOk result (λ made. All (λ part. OnlyFactsOf (look part) (look board.now)) made.items) }
+    ensures fit { IfOk result (λ made. All (λ part. length_told (parts_of part) ≤ limit) made.items) }
+    ensures join { IfOk result (λ made. join_all (map look made.items) ≡ look board.now) }
+{
+    if frame_len(board) <= limit {
+        let mut whole = Vec::new(alloc);
+        whole.push(board.copy(alloc)?)?;
+        return Ok(whole);
+    }
+    let pieces = pieces(alloc, board)?;
+    pack(alloc, &pieces, limit)
+}
+
+// These boards, of which neighbours are joined as far as their frames have so many bytes at most.
+fn pack(alloc: Global, boards: &[Board], limit: usize) -> Result<Vec<Board>, OutOfMemory>
+    ensures { IfOk result (λ made. Says limit boards.now made.items) }
+{
+    if boards.len() <= 1 {
+        return copies(alloc, boards);
+    }
+    let half = boards.len() / 2;
+    let mut made = pack(alloc, &boards[..half], limit)?;
+    let rest = pack(alloc, &boards[half..], limit)?;
+    add_behind(alloc, &mut made, rest, limit)?;
+    Ok(made)
+}
+
+// Copies of the boards.
+fn copies(alloc: Global, boards: &[Board]) -> Result<Vec<Board>, OutOfMemory>
+    ensures { IfOk result (λ made. (limit : ℕ) → Says limit boards.now made.items) }
+{
+    let mut made = Vec::new(alloc);
+    for board in boards {
+        made.push(board.copy(alloc)?)?;
+    }
+    Ok(made)
+}
+
+// Adds the boards behind the others, the first of them joined with the last of those where that fits.
+fn add_behind(
+    alloc: Global,
+    made: &mut Vec<Board>,
+    mut rest: Vec<Board>,
+    limit: usize,
+) -> Result<(), OutOfMemory>
+    ensures { OnOk result (Says limit (made.old.items ++ rest.items) made.new.items) }
+{
+    if let Some(last) = made.pop() {
+        match seam(alloc, &last, &rest, limit)? {
+            None => made.push(last)?,
+            Some(both) => rest[0] = both,
+        }
+    }
+    made.append(&mut rest)?;
+    Ok(())
+}
+
+// The board joined with the first of the others, where there is one and that fits.
+fn seam(
+    alloc: Global,
+    last: &Board,
+    rest: &[Board],
+    limit: usize,
+) -> Result<Option<Board>, OutOfMemory>
+    ensures { IfOk result (λ seam. IfSome seam (λ both. (0 < length rest.now) × Says limit (last.now ∷ rest.now) (slice_set rest.now 0 both))) }
+{
+    if rest.len() < 1 {
+        return Ok(None);
+    }
+    let both = last.joined(alloc, &rest[0])?;
+    if limit < frame_len(&both) {
+        return Ok(None);
+    }
+    Ok(Some(both))
+}

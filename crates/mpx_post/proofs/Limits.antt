@@ -1,0 +1,88 @@
+-- What the fields of a draft within its limits say of the post's.
+use Rattle.std.proofs.Common.{◌≡◌, ◌*◌, Bool, true, false, not, cond, is_some, [], ℤ, List, length, nat_lt, pos, refl, arith}
+use Rattle.std.specs.Prelude.{◌&&◌, int_le}
+use Rattle.std.specs.Option.{option_map_or}
+use Rattle.std.proofs.lemmas.Bool.{and_parts}
+use Rattle.std.proofs.lemmas.Bool.Decides.{nat_tests}
+use Rattle.mpx_num.specs.declared.operations.Op.{Op}
+use Rattle.mpx_num.specs.declared.types.Ty.{Ty}
+use Rattle.mpx_num.specs.declared.types.Ty.TheVariants.{I8}
+use Rattle.mpx_num.specs.ItemList.{ItemList}
+use Rattle.mpx_num.specs.Operations.{fits}
+use Rattle.mpx_num.specs.Types.{item_len}
+use Rattle.mpx_kind.specs.declared.kinds.Kind.{Kind}
+use Rattle.mpx_kind.specs.declared.kinds.Kind.TheVariants.{Barrier, Bcast, Gather, Gatherv, Scatter, Scatterv, Allgather, Allgatherv, Alltoall, Alltoallv, Reduce, Allreduce, ReduceScatterBlock, ReduceScatter, Scan, Exscan, Dup, Split, Create, CreateGroup, DistGraph, DistGraphAdjacent, NeighborAllgather, NeighborAllgatherv, NeighborAlltoall, NeighborAlltoallv}
+use Rattle.mpx_post.specs.Kinds.{fields_of}
+use Rattle.mpx_post.specs.Posts.{NoneUnless, few_items, most_items}
+use Rattle.mpx_post.specs.Drafts.{is_rank, natural, naturals, where_had}
+
+pub from_not : (b : Bool) → not b ≡ false → b ≡ true
+from_not true h = refl
+from_not false h = cc
+
+-- what isn't wrong is right, where the kind has it
+pub right : (had fine : Bool) → (had && not fine) ≡ false → cond had fine true ≡ true
+right true fine h = from_not fine h
+right false fine h = refl
+
+pub not_wrong : (had fine : Bool) → cond had fine true ≡ true → (had && not fine) ≡ false
+not_wrong true true h = refl
+not_wrong true false h = cc
+not_wrong false fine h = refl
+
+pub right_more : (had fine more : Bool) → (fine ≡ true → more ≡ true) → cond had fine true ≡ true → cond had more true ≡ true
+right_more true fine more through h = through h
+right_more false fine more through h = refl
+
+pub is_some-where_had : {A : Type 0} (had : Bool) (x : A) → is_some (where_had had x) ≡ had
+is_some-where_had true x = refl
+is_some-where_had false x = refl
+
+pub few_given : (had : Bool) (ty : Ty) (nums : List ℤ) → nat_lt (most_items * item_len ty) (length (cond had nums [])) ≡ false → few_items (where_had had (record { ty = ty; nums = nums }))
+few_given true ty nums few = grind (arith, nat_tests)
+few_given false ty nums few = tt
+
+pub root_given : (had : Bool) (z : ℤ) → cond had (is_rank 64 z) true ≡ true → option_map_or (λ root. nat_lt root 64) (where_had had (natural z)) true ≡ true
+root_given true z h = (and_parts (int_le (pos 0) z) (nat_lt (natural z) 64) h).1
+root_given false z h = refl
+
+pub counts_given : (had : Bool) (numbers : List ℤ) → NoneUnless had (naturals (cond had numbers []))
+counts_given true numbers = tt
+counts_given false numbers = refl
+
+-- a kind with an operation has items
+typed : (kind : Kind) → (fields_of kind).op ≡ true → (fields_of kind).items ≡ true
+typed Barrier h = cc
+typed Bcast h = cc
+typed Gather h = cc
+typed Gatherv h = cc
+typed Scatter h = cc
+typed Scatterv h = cc
+typed Allgather h = cc
+typed Allgatherv h = cc
+typed Alltoall h = cc
+typed Alltoallv h = cc
+typed Reduce h = refl
+typed Allreduce h = refl
+typed ReduceScatterBlock h = refl
+typed ReduceScatter h = refl
+typed Scan h = refl
+typed Exscan h = refl
+typed Dup h = cc
+typed Split h = cc
+typed Create h = cc
+typed CreateGroup h = cc
+typed DistGraph h = cc
+typed DistGraphAdjacent h = cc
+typed NeighborAllgather h = cc
+typed NeighborAllgatherv h = cc
+typed NeighborAlltoall h = cc
+typed NeighborAlltoallv h = cc
+
+type_where : (with_op with_items : Bool) (op : Op) (ty : Ty) (nums : List ℤ) → (with_op ≡ true → with_items ≡ true) → cond with_op (fits op ty) true ≡ true → option_map_or (λ o. fits o (option_map_or (λ (items : ItemList). items.ty) (where_had with_items (record { ty = ty; nums = nums })) I8)) (where_had with_op op) true ≡ true
+type_where true true op ty nums both h = h
+type_where true false op ty nums both h = let never = both refl in cc
+type_where false with_items op ty nums both h = refl
+
+pub type_given : (kind : Kind) (op : Op) (ty : Ty) (nums : List ℤ) → cond (fields_of kind).op (fits op ty) true ≡ true → option_map_or (λ o. fits o (option_map_or (λ (items : ItemList). items.ty) (where_had (fields_of kind).items (record { ty = ty; nums = nums })) I8)) (where_had (fields_of kind).op op) true ≡ true
+type_given kind op ty nums h = type_where (fields_of kind).op (fields_of kind).items op ty nums (typed kind) h

@@ -1,0 +1,10 @@
+pub mod Rooms
+pub mod Loops
+pub mod Rising
+pub mod Maps
+pub mod Integers
+pub mod Births
+pub mod Posts
+pub mod Contexts
+pub mod Frames
+pub mod Encoded

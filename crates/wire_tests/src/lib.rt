@@ -1,0 +1,11 @@
+//! Tests of frames.
+#![tactic(auto)]
+
+#[cfg(test)]
+mod kinds;
+#[cfg(test)]
+mod parts;
+#[cfg(test)]
+mod reading;
+#[cfg(test)]
+mod writing;
