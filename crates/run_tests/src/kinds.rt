@@ -158,9 +158,9 @@ fn every_kind_at_three_ranks(rt: HostRuntime) -> Result<(), Fail> {
     Ok(())
 }
 
-// 0 + 1 + .. + 63 is 64 * 63 / 2.
+// 0 + 1 + .. + 31 is 32 * 31 / 2.
 #[test]
-fn every_kind_at_sixty_four_ranks(rt: HostRuntime) -> Result<(), Fail> {
-    check_kinds(&rt, rt.alloc(), 64, 2016)?;
+fn every_kind_at_thirty_two_ranks(rt: HostRuntime) -> Result<(), Fail> {
+    check_kinds(&rt, rt.alloc(), 32, 496)?;
     Ok(())
 }
