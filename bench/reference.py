@@ -3,13 +3,13 @@
 
 It refuses what the program refuses, with the same line on the standard error and exit status 2, by the grammar and the order
 of refusals in docs/MODEL.md, limits of bytes and of statements included. It evaluates the calls by MPI 4.1's text, for all 26
-kinds, 9 types and 12 operations, on every communicator, with the refusals of posts and the faults of rows, and tells which
-ranks wait (exit status 3). It knows nothing of usage, want of memory, and readers or writers that fail.
+kinds, 9 types and 12 operations, blocking and nonblocking, on every communicator, with the refusals of posts and the faults of
+rows, and tells which ranks wait (exit status 3). It knows nothing of usage, want of memory, and readers or writers that fail.
 
 reference.py < SCRIPT               prints the transcripts
 reference.py random SEED            prints a random script
-reference.py compare MANY [SEED]    runs the built program on so many random scripts, and tells where it answers otherwise;
-                                    build it first: cd crates/gossipmpi && rt run -- run < ../../examples/bcast.job
+reference.py compare MANY [SEED]    runs, evaluates and checks so many random scripts with the built program, and tells where
+                                    it answers otherwise; build it first: cd crates/gossipmpi && rt run -- run < ../../examples/bcast.job
 """
 import os
 import random
@@ -30,11 +30,13 @@ PLACES = {  # the words behind the communicator; the last is any number of items
     "dist_graph_adjacent": "sources destinations arrow target",
     "neighbor_allgather": "ty count items", "neighbor_allgatherv": "ty rcounts items",
     "neighbor_alltoall": "ty scount count items", "neighbor_alltoallv": "ty scounts rcounts items",
-    "sources": [], "destinations": []}
-LOCAL = ["sources", "destinations"]
+    "sources": [], "destinations": [], "compare": "other", "translate": "other asked"}
+LOCAL = ["sources", "destinations", "compare", "translate"]
+WAITS = ["wait", "waitall"]
 NEAR = ["neighbor_allgather", "neighbor_allgatherv", "neighbor_alltoall", "neighbor_alltoallv"]
 MAKERS = ["dup", "split", "create", "create_group", "dist_graph", "dist_graph_adjacent"]
 PLACES = {k: (v.split() if v else []) for k, v in PLACES.items()}
+BOTH = [k for k in PLACES if k not in MAKERS + LOCAL]  # `i` before the name, `-> REQUEST` at the end: nonblocking
 
 
 def wrap(ty, x):
@@ -82,6 +84,10 @@ def is_list(word):
     return word == "-" or all(map(is_number, word.split(",")))
 
 
+def is_asked(word):
+    return word == "-" or all(x == "null" or is_number(x) for x in word.split(","))
+
+
 def numbers(word):
     return [] if word == "-" else [int(x) for x in word.split(",")]
 
@@ -123,29 +129,51 @@ def is_name(word):
     return re.fullmatch("[a-z][a-z0-9_]{0,31}", word) is not None
 
 
+def started(word):
+    """The statement whose nonblocking form this is, or None."""
+    return word[1:] if word[:1] == "i" and word[1:] in BOTH else None
+
+
+def wait_refusal(words, bound):
+    asked = words[1:]
+    return first([
+        ("WrongWords", not asked or words[0] == "wait" and len(asked) > 1),
+        ("BadName", not all(map(is_name, asked))),
+        ("NameUnknown", any(sorts.get(word) != "request" for sorts in bound for word in asked))])
+
+
 def statement_refusal(words, bound):
     """Why what stands behind the label is refused; each question is one about the whole line. `bound` has the words that are
-    bound at each rank that the line is for."""
+    bound at each rank that the line is for, and for each whether it is a communicator's or a request's."""
     kind = words[0] if words else None
-    if kind not in PLACES:
+    if kind in WAITS:
+        return wait_refusal(words, bound)
+    base = kind if kind in PLACES else started(kind) if kind else None
+    if base is None:
         return "UnknownStatement"
-    names = [p for p in PLACES[kind] if p != "items"]
+    names = [p for p in PLACES[base] if p != "items"]
     at = dict(zip(names, words[2:]))
     behind = words[2 + len(names):]
+    lacks = len(at) < len(names)
+    if base != kind:
+        lacks = lacks or len(behind) < 2
+        behind, tail = behind[:-2], behind[-2:]
+        at.update(zip(["arrow", "request"], tail if not lacks else []))
     name = words[1] if len(words) > 1 else None
     wrong = lambda places, test: any(p in at and not test(at[p]) for p in places)
+    used = [name] + ([at["other"]] if "other" in at else [])
+    new = at.get("target", at.get("request"))
     return first([
         ("UnknownStatement", wrong(["op"], OPS.__contains__) or wrong(["ty"], TYPES.__contains__)),
-        ("WrongWords", name is None or len(at) < len(names) or (behind and "items" not in PLACES[kind])
-         or wrong(["arrow"], "->".__eq__)),
+        ("WrongWords", name is None or lacks or (behind and "items" not in PLACES[base]) or wrong(["arrow"], "->".__eq__)),
         ("BadNumber", wrong(["root", "count", "scount", "key", "tag"], is_number) or not all(map(is_number, behind))
          or wrong(["colour"], lambda word: word == "undefined" or is_number(word))),
         ("BadList", wrong(["scounts", "rcounts", "list"], is_list) or wrong(["edges"], lambda word: ends(word, 2))
-         or wrong(["sources", "destinations"], lambda word: ends(word, 1))
+         or wrong(["sources", "destinations"], lambda word: ends(word, 1)) or wrong(["asked"], is_asked)
          or "sources" in at and "destinations" in at and ends(at["sources"], 1)[0] != ends(at["destinations"], 1)[0]),
-        ("BadName", name is not None and not is_name(name) or wrong(["target"], is_name)),
-        ("NameUnknown", any(name not in words for words in bound)),
-        ("NameTaken", "target" in at and any(at["target"] in words for words in bound))])
+        ("BadName", name is not None and not is_name(name) or wrong(["target", "request", "other"], is_name)),
+        ("NameUnknown", any(sorts.get(word) != "communicator" for sorts in bound for word in used)),
+        ("NameTaken", new is not None and any(new in sorts for sorts in bound))])
 
 
 def read(data):
@@ -163,7 +191,7 @@ def read(data):
             what = first([("NoRanksLine", not told), ("RanksOutOfRange", told and not 1 <= int(words[1]) <= 64)])
             if what is None:
                 todo = [[] for _ in range(int(words[1]))]
-                bound = [{"world"} for _ in todo]
+                bound = [{"world": "communicator"} for _ in todo]
         elif what is None and counts(words):
             label = words[0][:-1] if words[0].endswith(":") else ""
             labelled = label == "*" or is_number(label)
@@ -175,19 +203,20 @@ def read(data):
             if what is None:
                 for rank in ranks:
                     todo[rank].append(words[1:])
-                    if words[1] in MAKERS:
-                        bound[rank].add(words[-1])
+                    if words[1] in MAKERS or started(words[1]):
+                        bound[rank][words[-1]] = "communicator" if words[1] in MAKERS else "request"
         if what is not None:
             raise Refused(number, what)
     return todo
 
 
 def parse(words):
-    call = {"kind": words[0], "root": None, "op": None, "ty": None, "scounts": [], "rcounts": [], "items": [],
-            "colour": None, "key": 0, "list": [], "tag": 0, "target": None,
+    base = started(words[0])
+    call = {"kind": base or words[0], "mode": 1 if base else 0, "request": words[-1] if base else None, "root": None, "op": None, "ty": None, "scounts": [], "rcounts": [], "items": [],
+            "colour": None, "key": 0, "list": [], "tag": 0, "target": None, "other": None, "asked": [],
             "weighted": False, "edges": [], "sources": [], "destinations": []}
-    rest = words[2:]
-    for place in PLACES[words[0]]:
+    rest = words[2:-2] if base else words[2:]
+    for place in PLACES[base or words[0]]:
         if place == "items":
             call["items"] = [int(x) for x in rest]
             break
@@ -202,6 +231,8 @@ def parse(words):
             call["colour"] = None if word == "undefined" else int(word)
         elif place in ("scounts", "rcounts", "list"):
             call[place] = numbers(word)
+        elif place == "asked":
+            call[place] = [] if word == "-" else [None if x == "null" else int(x) for x in word.split(",")]
         elif place in ("edges", "sources", "destinations"):
             call["weighted"], call[place] = ends(word, 2 if place == "edges" else 1)
         else:
@@ -302,7 +333,7 @@ def edge_differs(row, graph, i, k):
 
 def fault(row, graph):
     n, first = len(row), row[0]
-    for what, field in (("Kind", "kind"), ("Root", "root"), ("Op", "op"), ("ItemType", "ty")):
+    for what, field in (("Kind", "kind"), ("Mode", "mode"), ("Root", "root"), ("Op", "op"), ("ItemType", "ty")):
         for i, c in enumerate(row):
             if c[field] != first[field]:
                 return what, i
@@ -433,7 +464,29 @@ def evaluate(todo):
     n = len(todo)
     out, posts = [[] for _ in range(n)], {}  # posts of a context and a process, in order
     bound = [{"world": ((), list(range(n)), None)} for _ in range(n)]
-    place, waits = [0] * n, [None] * n
+    place, waits, requests = [0] * n, [None] * n, [{} for _ in range(n)]
+
+    def ask(p, call, context):
+        """Why the question is refused, or None where its answer is printed."""
+        name, members, graph = context
+        if call["kind"] in ("compare", "translate"):
+            if bound[p][call["other"]] is None:
+                return "NotMember"
+            other, theirs, _ = bound[p][call["other"]]
+        if call["kind"] == "compare":
+            same = "congruent" if members == theirs else "similar" if set(members) == set(theirs) else "unequal"
+            out[p].append("ident" if name == other else same)
+        elif call["kind"] == "translate":
+            if any(r is not None and not 0 <= r < len(members) for r in call["asked"]):
+                return "RankOutOfRange"
+            place = lambda process: str(theirs.index(process)) if process in theirs else "undefined"
+            out[p].append(" ".join("null" if r is None else place(members[r]) for r in call["asked"]) or "empty")
+        elif graph is None:
+            return "NoTopology"
+        else:
+            near = graph[1 + LOCAL.index(call["kind"])][members.index(p)]
+            out[p].append(" ".join(":".join(map(str, [rank] + weight)) for rank, weight in near) or "empty")
+        return None
 
     def post(p, words):
         """Why the statement is refused, or None where its post is made or its answer printed."""
@@ -444,11 +497,7 @@ def evaluate(todo):
             return "NotMember"
         name, members, graph = context
         if call["kind"] in LOCAL:
-            if graph is None:
-                return "NoTopology"
-            near = graph[1 + LOCAL.index(call["kind"])][members.index(p)]
-            out[p].append(" ".join(":".join(map(str, [rank] + weight)) for rank, weight in near) or "empty")
-            return None
+            return ask(p, call, context)
         if call["kind"] == "create_group":
             why = gathering_refusal(call, len(members), members.index(p), len(name))
             if why:
@@ -461,27 +510,47 @@ def evaluate(todo):
         if why:
             return why
         mine = posts.setdefault((name, p), [])
-        waits[p] = (name, members, graph, len(mine), call["target"])
+        made = (name, members, graph, len(mine), call["target"])
+        if call["request"]:
+            requests[p][call["request"]] = made
+        else:
+            waits[p] = made
         mine.append(call)
         return None
 
-    def hear(p):
-        """Whether the row that the rank waits for is whole."""
-        name, members, graph, k, target = waits[p]
+    def row_of(made):
+        """The posts of all members to a call, or None where one is missing."""
+        name, members, graph, k, target = made
         lists = [posts.get((name, q), []) for q in members]
-        if any(len(calls) <= k for calls in lists):
-            return False
-        row, me = [calls[k] for calls in lists], members.index(p)
+        return None if any(len(calls) <= k for calls in lists) else [calls[k] for calls in lists]
+
+    def told(p, made):
+        """The line of a call whose row is whole; a new communicator is bound."""
+        name, members, graph, k, target = made
+        row, me = row_of(made), members.index(p)
         wrong = fault(row, graph)
         if wrong:
-            out[p].append("fault %s at %d" % wrong)
-        elif row[0]["kind"] in MAKERS:
-            made = new_communicator(row, name, members, graph, k, me)
-            bound[p][target] = made
-            out[p].append("comm %d %d" % (len(made[1]), made[1].index(p)) if made else "null")
-        else:
-            out[p].append(line(value(row, me, graph)))
+            return "fault %s at %d" % wrong
+        if row[0]["kind"] in MAKERS:
+            bound[p][target] = new = new_communicator(row, name, members, graph, k, me)
+            return "comm %d %d" % (len(new[1]), new[1].index(p)) if new else "null"
+        return line(value(row, me, graph))
+
+    def hear(p):
+        """Whether the row that the rank waits for is whole."""
+        if row_of(waits[p]) is None:
+            return False
+        out[p].append(told(p, waits[p]))
         waits[p] = None
+        return True
+
+    def wait(p, words):
+        """Whether the rows of all open requests among these are whole, whose lines are printed then."""
+        if any(word in requests[p] and row_of(requests[p][word]) is None for word in words):
+            return False
+        for word in words:
+            made = requests[p].pop(word, None)
+            out[p].append(told(p, made) if made else "idle")
         return True
 
     moved = True
@@ -490,6 +559,10 @@ def evaluate(todo):
         for p in range(n):
             if waits[p]:
                 moved |= hear(p)
+            elif place[p] < len(todo[p]) and todo[p][place[p]][0] in WAITS:
+                if wait(p, todo[p][place[p]][1:]):
+                    place[p] += 1
+                    moved = True
             elif place[p] < len(todo[p]):
                 why = post(p, todo[p][place[p]])
                 place[p] += 1
@@ -504,7 +577,7 @@ def random_call(rng, members, graph, wild):
     """The words of a call that moves items behind the communicator's, for each of these processes. The graph is what the
     communicator's is taken for, if it has one."""
     n = len(members)
-    kind, ty = rng.choice([k for k in PLACES if k not in MAKERS + LOCAL + (NEAR if graph is None and rng.random() < 0.9 else [])]), rng.choice(list(TYPES))
+    kind, ty = rng.choice([k for k in BOTH if k not in (NEAR if graph is None and rng.random() < 0.9 else [])]), rng.choice(list(TYPES))
     if graph is not None and rng.random() < 0.7:
         kind = rng.choice(NEAR)
     op = rng.choice(["maxloc", "minloc"] if ty == "2int" else ["max", "min", "sum", "prod", "land", "lor", "lxor", "band", "bor", "bxor"])
@@ -614,10 +687,32 @@ def random_making(rng, members, graph, wild):
                 made.setdefault(colour, []).append(members[r])
     if kind in ("dist_graph", "dist_graph_adjacent"):
         said = [[kind, "world"] + behind + ["->", "g"] for _, _, behind in lines]
-        calls = [parse(words) for words in said if statement_refusal(words, [{"world"}]) is None]
+        calls = [parse(words) for words in said if statement_refusal(words, [{"world": "communicator"}]) is None]
         if len(calls) == n and not any(refusal(call, n, r, 0, None) for r, call in enumerate(calls)) and fault(calls, None) is None:
             return lines, [(members, topology(calls))]
     return lines, [(group, graph if kind == "dup" else None) for group in made.values()]
+
+
+def random_question(rng, words, word, n, wild):
+    """A question about communicators, as words."""
+    kind, other = rng.choice(LOCAL), rng.choice(list(words))
+    if kind == "compare":
+        return [kind, word, other]
+    if kind == "translate":
+        asked = [rng.choice(["null"] + list(map(str, range(n if rng.random() < 0.2 * wild else 1)))) for _ in range(rng.randint(0, 4))]
+        return [kind, word, other, ",".join(asked) or "-"]
+    return [kind, word]
+
+
+def random_wait(rng, opened):
+    """A wait for some of a rank's requests, in any order, now and then for one twice or for one that is done."""
+    asked = rng.sample(opened, rng.randint(1, min(3, len(opened))))
+    if rng.random() < 0.1:
+        asked.append(rng.choice(opened))
+    for word in asked:
+        if rng.random() < 0.9 and word in opened:
+            opened.remove(word)
+    return ["wait" if len(asked) == 1 and rng.random() < 0.7 else "waitall"] + asked
 
 
 def random_script(seed):
@@ -627,12 +722,14 @@ def random_script(seed):
     wild = rng.choice([0, 0, 1])  # whether some calls are to be refused, or don't fit together
     words = {"world": [(list(range(n)), None)]}  # about which processes share a communicator under each word, with its graph
     makes = rng.choice([0.0, 0.1, 0.3, 0.6])
+    starts = rng.choice([0.0, 0.0, 0.3, 0.8])  # how many calls don't block
+    opened = [[] for _ in range(n)]
     for number in range(rng.randint(1, 12)):
         word = rng.choice(list(words))
         target = "c%d" % number
         for members, graph in words[word]:
-            if rng.random() < 0.15:
-                out.append("%d: %s %s" % (rng.choice(members), rng.choice(LOCAL), word))
+            if rng.random() < 0.2:
+                out.append("%d: %s" % (rng.choice(members), " ".join(random_question(rng, words, word, len(members), wild))))
             if rng.random() < makes:
                 lines, made = random_making(rng, members, graph, wild)
                 words.setdefault(target, [])
@@ -640,22 +737,34 @@ def random_script(seed):
                 for p, kind, behind in lines:
                     out.append(" ".join(["%d:" % p, kind, word] + behind + ["->", target]))
             else:
+                start = rng.random() < starts
                 for p, kind, behind in random_call(rng, members, graph, wild):
-                    out.append(" ".join(["%d:" % p, kind, word] + behind).rstrip())
+                    if start != (rng.random() < 0.03 * wild):
+                        request = "r%d_%d" % (number, len(out))
+                        behind += ["->", request]
+                        kind = "i" + kind
+                        opened[p].append(request)
+                    out.append(" ".join(["%d:" % p, kind, word] + [x for x in behind if x]))
+        for p in range(n):
+            if opened[p] and rng.random() < 0.3:
+                out.append(" ".join(["%d:" % p] + random_wait(rng, opened[p])))
         if rng.random() < 0.05:
             p = rng.randrange(n)  # a call that nobody answers, or on a null communicator
             for known in list(words)[-1:]:
                 out.append("%d: barrier %s" % (p, known))
+    for p in range(n):
+        while opened[p] and rng.random() < 0.9:
+            out.append(" ".join(["%d:" % p] + random_wait(rng, opened[p])))
     return "\n".join(out) + "\n"
 
 
 NUMBERS = ["", "-", "x", "+1", "1.5", "1,2", "1,", "-0", "007", "i32", "->", "1\r", "1\x00", "18446744073709551615", "18446744073709551616",
            "-9223372036854775808", "-9223372036854775809", "--1", "1_0"]
 LISTS = ["-", "-w", "0>1", "0>1:2", "0>1:2,1>0", "1:2,0", "0>1>2", "0>", ">1", "0>1:", "1:", "1:2:3", "0 >1", "1,,2", "1,x", ",", "1,", ",1", "--", "1,-1", "0,00", "1", "x", "1,18446744073709551616", "1,\x0b2"]
-NAMES = ["c0", "c1", "c9", "world", "undefined", "->", "Zz", "worlds", "a_1", "_a", "a" * 32, "a" * 33, "1a", "null", "world\r", "World", "w-1", "world:"]
-OTHERS = ["neighbor_alltoall", "neighbor_allgatherv", "sources", "destinations", "isources", "ineighbor_alltoall", "dup", "split", "create", "create_group", "dist_graph", "dist_graph_adjacent", "idup", "undefined", "i33", "f64", "i32", "sum", "avg", "maxloc", "barrier", "ibcast", "Barrier", "ranks", "scan", "gatherv"]
+NAMES = ["c0", "c1", "c9", "world", "undefined", "->", "Zz", "worlds", "a_1", "_a", "a" * 32, "a" * 33, "1a", "null", "world\r", "World", "w-1", "world:", "r0_1", "r1_2"]
+OTHERS = ["neighbor_alltoall", "neighbor_allgatherv", "sources", "destinations", "isources", "ineighbor_alltoall", "dup", "split", "create", "create_group", "dist_graph", "dist_graph_adjacent", "idup", "undefined", "i33", "f64", "i32", "sum", "avg", "maxloc", "barrier", "ibcast", "iwait", "wait", "waitall", "compare", "translate", "icompare", "ibarrier", "iallreduce", "Barrier", "ranks", "scan", "gatherv"]
 LABELS = ["*:", "9:", "-1:", "00:", "-0:", "0", "0:barrier", ":", "+0:", "99999999999999999999:", "#", "\xe9", "0::", "*"]
-LINES = ["", "# a", "#", "\t# \xff", "\r", "ranks 1", "0:", "*:", "9:", "x: y", "\x0b", "0: barrier", "0: barrier world 1", "0: barrier world "]
+LINES = ["0: wait", "0: waitall", "0: wait world", "0: wait Q", "0: ibarrier world", "0: ibarrier world ->", "0: ibarrier world 1 -> q", "*: ibarrier world -> q", "0: compare world", "0: compare world world world", "0: translate world world 0,null", "0: translate world world null,x", "", "# a", "#", "\t# \xff", "\r", "ranks 1", "0:", "*:", "9:", "x: y", "\x0b", "0: barrier", "0: barrier world 1", "0: barrier world "]
 OPENINGS = ["", "ranks", "ranks 0", "ranks 65", "ranks 64", "ranks -1", "ranks 2 3", "ranks x", "Ranks 2", "\tranks  3 ", "ranks 3\r"]
 
 
@@ -721,19 +830,29 @@ def answer(data):
     return out, 3 if waiting else 0, "waiting: %s\n" % " ".join(map(str, waiting)) if waiting else ""
 
 
+def checked(data):
+    """The same of the command `check`."""
+    try:
+        todo = read(data)
+    except Refused as e:
+        return "", 2, "script line %d: %s\n" % e.args
+    return "ok %d ranks %d statements\n" % (len(todo), sum(map(len, todo))), 0, ""
+
+
 def compare(many, first):
     program = os.path.join(os.path.dirname(os.path.abspath(__file__)), "../crates/gossipmpi/out/gossipmpi")
     differ, statuses, refusals = 0, {}, {}
     for seed in range(first, first + many):
         data = random_bytes(seed)
-        out, status, error = wanted = answer(data)
+        out, status, error = answered = answer(data)
         statuses[status] = statuses.get(status, 0) + 1
         if status == 2:
             refusals[error.split()[-1]] = refusals.get(error.split()[-1], 0) + 1
-        run = subprocess.run([program, "run"], input=data, capture_output=True)
-        if (run.stdout.decode(), run.returncode, run.stderr.decode()) != wanted:
-            print("they differ on seed %d" % seed)
-            differ += 1
+        for command, wanted in (("run", answered), ("eval", answered), ("check", checked(data))):
+            run = subprocess.run([program, command], input=data, capture_output=True)
+            if (run.stdout.decode(), run.returncode, run.stderr.decode()) != wanted:
+                print("they differ on seed %d: %s" % (seed, command))
+                differ += 1
     print("%d scripts, %d differ" % (many, differ))
     print("by exit status: %s" % ", ".join("%d: %d" % x for x in sorted(statuses.items())))
     print("refused for: %s" % ", ".join("%s %d" % x for x in sorted(refusals.items())))

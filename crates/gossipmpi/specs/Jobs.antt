@@ -4,16 +4,15 @@ use Rattle.clap.specs.declared.error.kind.ErrorKind.{ErrorKind}
 use Rattle.clap.specs.declared.error.kind.ErrorKind.TheVariants as kind
 use Rattle.mpx_run.specs.Texts.{Runs}
 use Rattle.mpx_run.specs.declared.end.End.{End}
-use Rattle.mpx_run.specs.declared.options.Options.{Options}
+use Rattle.mpx_run.specs.declared.options.Job.{Job}
 use Rattle.mpx_run.specs.declared.texts.RunError.{RunError}
 use Rattle.gossipmpi.specs.Status.{message, refusal_status, status}
 use Rattle.gossipmpi.specs.Words.{job_in}
-use Rattle.gossipmpi.specs.declared.command.Job.TheVariants.{Run}
 
--- a script is run with so many relays, and its answer gives the status and what is said
-pub record RunsScript (relays : ℕ) (there left old new : Option (List ℕ)) (code : ℕ) (Says : List ℕ → Type 0) : Type 0 where
+-- a job is done with a script, and its answer gives the status and what is said
+pub record DoesWith (job : Job) (there left old new : Option (List ℕ)) (code : ℕ) (Says : List ℕ → Type 0) : Type 0 where
   pub answer : Result End RunError
-  pub runs : Runs relays there left old new answer
+  pub runs : Runs job there left old new answer
   pub status : code ≡ status answer
   pub says : Says (message answer)
 
@@ -30,12 +29,12 @@ pub record Refuses (words : List (List ℕ)) (there left old new : Option (List 
   pub unread : left ≡ there
   pub unwritten : new ≡ old
 
--- the words ask for a run
-pub record RunsWords (words : List (List ℕ)) (there left old new : Option (List ℕ)) (code : ℕ) (Says : List ℕ → Type 0) : Type 0 where
-  pub options : Options
-  pub asks : job_in words ≡ Some (Run options)
-  pub runs : RunsScript options.relays there left old new code Says
+-- the words ask for a job
+pub record DoesWords (words : List (List ℕ)) (there left old new : Option (List ℕ)) (code : ℕ) (Says : List ℕ → Type 0) : Type 0 where
+  pub job : Job
+  pub asks : job_in words ≡ Some job
+  pub does : DoesWith job there left old new code Says
 
--- the words ask for a run, or are refused
+-- the words ask for a job, or are refused
 abbrev pub Does : (words : List (List ℕ)) (there left old new : Option (List ℕ)) (code : ℕ) (Says : List ℕ → Type 0) → Type 0
-Does words there left old new code Says = RunsWords words there left old new code Says ⊎ Refuses words there left old new code Says
+Does words there left old new code Says = DoesWords words there left old new code Says ⊎ Refuses words there left old new code Says

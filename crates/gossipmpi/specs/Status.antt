@@ -10,7 +10,7 @@ use Rattle.mpx_run.specs.declared.end.End.TheVariants.{Finished, Waiting}
 use Rattle.mpx_run.specs.declared.texts.RunError.{RunError}
 use Rattle.mpx_run.specs.declared.texts.RunError.TheVariants.{Script, TooManyProcesses, Memory, Read, Write}
 
--- the status of a run
+-- the status of a job
 abbrev pub status : Result End RunError → ℕ
 status (Ok Finished) = 0
 status (Ok (Waiting ranks)) = 3
@@ -33,7 +33,7 @@ ranks_text ranks = flat_map (λ rank. codes " " ++ decimal rank) ranks
 abbrev pub waiting_text : List ℕ → List ℕ
 waiting_text ranks = codes "waiting:" ++ ranks_text ranks ++ codes "\n"
 
--- what is said of a run: nothing where all ranks finished
+-- what is said of a job: nothing where it is finished
 abbrev pub message : Result End RunError → List ℕ
 message (Ok Finished) = []
 message (Ok (Waiting ranks)) = waiting_text ranks.items

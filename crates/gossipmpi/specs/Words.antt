@@ -2,10 +2,11 @@
 use Rattle.std.specs.Prelude.{ℕ, ℤ, pos, negsuc, ◌&&◌, List, [], ◌∷◌, Option, Some, None, codes, bytes_eq, nat_le, option_and_then, if◌then◌else◌}
 use Rattle.std.specs.Option.{option_map}
 use Rattle.mpx_num.specs.Text.{number_of}
+use Rattle.mpx_run.specs.declared.options.Command.{Command}
+use Rattle.mpx_run.specs.declared.options.Command.TheVariants.{Run, Eval, Check}
+use Rattle.mpx_run.specs.declared.options.Job.{Job}
 use Rattle.mpx_run.specs.declared.options.Options.{Options}
 use Rattle.clap.specs.Walk.{Text}
-use Rattle.gossipmpi.specs.declared.command.Job.{Job}
-use Rattle.gossipmpi.specs.declared.command.Job.TheVariants.{Run}
 
 -- a number from the least to the most
 abbrev pub in_range : (least most : ℕ) → ℤ → Option ℕ
@@ -34,8 +35,17 @@ options_in o [] = Some o
 options_in o (option ∷ []) = None
 options_in o (option ∷ value ∷ rest) = option_and_then (λ p. options_in p rest) (with_option o option value)
 
--- what the words ask for: the program's name, `run`, and options
+-- a command that has no options
+abbrev pub alone : Command → List Text → Option Job
+alone command [] = Some (record { command = command; options = usual })
+alone command (word ∷ rest) = None
+
+-- what the words ask for: the program's name, `run` and options, or `eval` or `check` alone
 abbrev pub job_in : List Text → Option Job
 job_in [] = None
 job_in (name ∷ []) = None
-job_in (name ∷ command ∷ rest) = if bytes_eq command (codes "run") then option_map (λ o. Run o) (options_in usual rest) else None
+job_in (name ∷ command ∷ rest) =
+    if bytes_eq command (codes "run") then option_map (λ o. record { command = Run; options = o }) (options_in usual rest) else
+    if bytes_eq command (codes "eval") then alone Eval rest else
+    if bytes_eq command (codes "check") then alone Check rest else
+    None

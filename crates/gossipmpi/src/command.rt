@@ -1,25 +1,18 @@
 //! The words of a call, and the job that they ask for.
 ghost use Rattle.std.specs.Prelude.{◌≡◌, ◌≤◌, ◌⊎◌, IfErr, IfOk, IfSome, None, Some, length, map, string_bytes};
 ghost use Rattle.clap.specs.Words.{kind_of};
-ghost use Rattle.gossipmpi.specs.Words.{job_in, number_within, options_in, usual, with_option};
+ghost use Rattle.gossipmpi.specs.Words.{alone, job_in, number_within, options_in, usual, with_option};
 
 use clap::error::ErrorKind;
-use clap::{Arg, Command, Error};
+use clap::{Arg, Error};
 use mpx_num::parse_number;
-use mpx_run::Options;
+use mpx_run::{Command, Job, Options};
 use std::alloc::{AllocError, Global};
-
-/// What a call asks the program to do.
-#[derive(Clone, Copy, Debug, PartialEq, Eq)]
-pub enum Job {
-    /// `run`: run the script so.
-    Run(Options),
-}
 
 /// The job that `words` ask for, of which the first is the program's own name and the second the command's: `run` with
 /// `--seed N` (any u64, else 1), `--loss P` (0 to 100, else 0), `--relays N` (0 to 63, else 0) and `--turns N` (1 to
-/// 10,000,000, else 100,000). Of an option that is given twice the last counts. A refusal has clap's text, or is want of
-/// memory.
+/// 10,000,000, else 100,000), or `eval` or `check` alone. Of an option that is given twice the last counts. A refusal has clap's
+/// text, or is want of memory.
 pub fn job_of(alloc: Global, words: &[String]) -> Result<Job, Error>
     ensures ok { IfOk result (λ job. job_in (map string_bytes words.now) ≡ Some job) }
     ensures err { IfErr result (λ e. job_in (map string_bytes words.now) ≡ None) }
@@ -37,13 +30,36 @@ fn job_in(words: &[String]) -> Option<Job>
         [] => None,
         [_] => None,
         [_, command, rest @ ..] => {
-            if command.as_bytes() != b"run".as_slice() {
-                return None;
+            let command = command.as_bytes();
+            if command == b"run".as_slice() {
+                let options = options_in(usual(), rest)?;
+                return Some(Job {
+                    command: Command::Run,
+                    options,
+                });
             }
-            let options = options_in(usual(), rest)?;
-            Some(Job::Run(options))
+            if command == b"eval".as_slice() {
+                return alone(Command::Eval, rest);
+            }
+            if command == b"check".as_slice() {
+                return alone(Command::Check, rest);
+            }
+            None
         }
     }
+}
+
+// A command that has no options.
+fn alone(command: Command, words: &[String]) -> Option<Job>
+    ensures { result ≡ alone command (map string_bytes words.now) }
+{
+    if !words.is_empty() {
+        return None;
+    }
+    Some(Job {
+        command,
+        options: usual(),
+    })
 }
 
 // Without options.
@@ -109,8 +125,8 @@ fn number_within(least: u64, most: u64, word: &[u8]) -> Option<u64>
 }
 
 // The program's commands, as clap explains them.
-fn program<'a>(alloc: Global) -> Result<Command<'a>, AllocError> {
-    let run = Command::new(alloc, "run")
+fn program<'a>(alloc: Global) -> Result<clap::Command<'a>, AllocError> {
+    let run = clap::Command::new(alloc, "run")
         .about(
             "Run the script on the standard input (gossipmpi run < SCRIPT) and print what each rank gets",
         )
@@ -134,14 +150,20 @@ fn program<'a>(alloc: Global) -> Result<Command<'a>, AllocError> {
                 "How many turns are made at most, 1 to 10000000 [default: 100000]",
             ),
         )?;
-    Command::new(alloc, "gossipmpi")
+    let eval = clap::Command::new(alloc, "eval").about(
+        "Evaluate the script on the standard input (gossipmpi eval < SCRIPT), and print what each rank gets",
+    );
+    let check = clap::Command::new(alloc, "check").about(
+        "Read the script on the standard input (gossipmpi check < SCRIPT), and print how many ranks and statements it has",
+    );
+    clap::Command::new(alloc, "gossipmpi")
         .bin_name("gossipmpi")?
-        .about(
-            "Run a text script of MPI collectives for up to 64 ranks, and print what each rank gets",
-        )
+        .about("Run, evaluate or check a text script of MPI collectives for up to 64 ranks")
         .subcommand_required(true)
         .arg_required_else_help(true)
-        .subcommand(run)
+        .subcommand(run)?
+        .subcommand(eval)?
+        .subcommand(check)
 }
 
 // Why the words ask for no job: clap's refusal, or what the first option that gives none should be followed by.
@@ -150,14 +172,16 @@ fn no_job(alloc: Global, words: &[String]) -> Error {
         return Error::from(AllocError);
     };
     match program.try_get_matches_from(words) {
-        Ok(_) => {
-            let options = match words {
-                [_, _, options @ ..] => options,
-                _ => &words[..0],
-            };
-            refusal(alloc, ErrorKind::InvalidValue, complaint(options))
-        }
+        Ok(_) => { refusal(alloc, ErrorKind::InvalidValue, complaint_of(words)) }
         Err(refusal) => refusal,
+    }
+}
+
+// What is wrong with words that clap takes.
+fn complaint_of(words: &[String]) -> &'static str {
+    match words {
+        [_, command, options @ ..] if command.as_bytes() == b"run".as_slice() => complaint(options),
+        _ => "this command stands alone",
     }
 }
 

@@ -4,7 +4,7 @@ ghost use Rattle.std.specs.Io.KnownBytes.{Appends};
 ghost use Rattle.clap.specs.Words.{kind_of};
 ghost use Rattle.gossipmpi.specs.Jobs.{Does, IsRefused};
 
-use crate::command::{Job, job_of};
+use crate::command::job_of;
 use crate::status::{refusal_status, status_of, write_message, write_refusal};
 use mpx_run::run_text;
 use std::alloc::Global;
@@ -19,7 +19,7 @@ pub struct Exit {
     pub told: io::Result<()>,
 }
 
-/// Does the job that the words ask for: reads the script from `reader`, writes the transcripts to `out`, and tells `err`
+/// Does the job that the words ask for: reads the script from `reader`, writes what it comes to to `out`, and tells `err`
 /// what is to be said. Where the words ask for none, `err` is told why, and nothing is read or written besides.
 pub fn run_job<R: Read, W: Write, E: Write>(
     alloc: Global,
@@ -32,8 +32,8 @@ pub fn run_job<R: Read, W: Write, E: Write>(
         result.status (λ said. OnOk result.told (Appends (E.contents err.old) (E.contents err.new) said)) }
 {
     match job_of(alloc, words) {
-        Ok(Job::Run(options)) => {
-            let answer = run_text(alloc, &options, reader, out);
+        Ok(job) => {
+            let answer = run_text(alloc, &job, reader, out);
             Exit {
                 status: status_of(&answer),
                 told: write_message(&answer, err),

@@ -1,5 +1,5 @@
-//! The program `gossipmpi`: reads a job script on the standard input and prints the transcript of
-//! each rank.
+//! The program `gossipmpi`: reads a script on the standard input, and prints what each rank gets, in a run or by the
+//! script's evaluation, or how much the script has.
 #![tactic(auto)]
 
 mod command;

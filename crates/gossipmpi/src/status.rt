@@ -9,7 +9,7 @@ use mpx_run::{End, RunError};
 use std::io;
 use std::io::Write;
 
-/// The exit status of a run.
+/// The exit status of a job.
 pub fn status_of(answer: &Result<End, RunError>) -> u8
     ensures { result ≡ status answer.now }
 {
@@ -33,7 +33,7 @@ pub fn refusal_status(refusal: &clap::Error) -> u8
     }
 }
 
-/// Writes what the standard error is told of a run: nothing where all ranks finished. After an error of the writer a
+/// Writes what the standard error is told of a job: nothing where it is finished. After an error of the writer a
 /// part of it may be out.
 pub fn write_message<W: Write>(answer: &Result<End, RunError>, writer: &mut W) -> io::Result<()>
     ensures { OnOk result (Appends (W.contents writer.old) (W.contents writer.new) (message answer.now)) }

@@ -75,14 +75,60 @@ fn runs_a_script(rt: HostRuntime) -> Result<(), Fail> {
 }
 
 #[test]
+fn checks_a_script(rt: HostRuntime) -> Result<(), Fail> {
+    let table: [Row; 2] = [
+        (
+            &["check"],
+            b"ranks 3\n0: allreduce world sum i64 1 2\n1: allreduce world sum i64 3 4\n2: allreduce world sum i64 5 6\n",
+            0,
+            b"ok 3 ranks 3 statements\n",
+            "",
+            "",
+        ),
+        (
+            &["check"],
+            b"ranks 2\n*: barrier world\n0: dance world\n",
+            2,
+            b"",
+            "script line 3: UnknownStatement\n",
+            "",
+        ),
+    ];
+    check_calls(&rt, rt.alloc(), table.as_slice())
+}
+
+#[test]
+fn evaluates_a_script(rt: HostRuntime) -> Result<(), Fail> {
+    let table: [Row; 2] = [
+        (
+            &["eval"],
+            b"ranks 2\n*: iallreduce world sum i32 4 -> r\n*: wait r\n",
+            0,
+            b"0: 8\n1: 8\n",
+            "",
+            "",
+        ),
+        (
+            &["eval"],
+            b"ranks 3\n*: barrier world\n0: barrier world\n2: barrier world\n",
+            3,
+            b"0: ok\n1: ok\n2: ok\n",
+            "waiting: 0 2\n",
+            "",
+        ),
+    ];
+    check_calls(&rt, rt.alloc(), table.as_slice())
+}
+
+#[test]
 fn refuses_words(rt: HostRuntime) -> Result<(), Fail> {
-    let table: [Row; 7] = [
+    let table: [Row; 11] = [
         (
             &[],
             b"ranks 1\n",
             1,
             b"",
-            "Run a text script",
+            "Run, evaluate or check a text script",
             "Usage: gossipmpi",
         ),
         (
@@ -90,7 +136,7 @@ fn refuses_words(rt: HostRuntime) -> Result<(), Fail> {
             b"ranks 1\n",
             1,
             b"",
-            "Run a text script",
+            "Run, evaluate or check a text script",
             "Usage: gossipmpi",
         ),
         (
@@ -102,6 +148,31 @@ fn refuses_words(rt: HostRuntime) -> Result<(), Fail> {
             "Usage: gossipmpi run",
         ),
         (&["walk"], b"ranks 1\n", 1, b"", "error: ", "'walk'"),
+        (
+            &["check", "--help"],
+            b"ranks 1\n",
+            1,
+            b"",
+            "Read the script on",
+            "Usage: gossipmpi check",
+        ),
+        (
+            &["eval", "--help"],
+            b"ranks 1\n",
+            1,
+            b"",
+            "Evaluate the script on",
+            "Usage: gossipmpi eval",
+        ),
+        (
+            &["eval", "--seed", "1"],
+            b"ranks 1\n",
+            1,
+            b"",
+            "error: ",
+            "--seed",
+        ),
+        (&["check", "all"], b"ranks 1\n", 1, b"", "error: ", "'all'"),
         (&["run", "fast"], b"ranks 1\n", 1, b"", "error: ", "'fast'"),
         (
             &["run", "--loss", "101"],

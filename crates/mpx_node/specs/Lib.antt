@@ -2,3 +2,5 @@ pub mod Nodes
 pub mod Opened
 pub mod Shown
 pub mod Harvests
+pub mod Bounded
+pub mod Parts

@@ -1,13 +1,15 @@
 //! One process: its board, how many calls it has posted, and what it has harvested.
 //!
-//! In the order of reading: [`Finished`], [`Node`].
+//! In the order of reading: [`Finished`], [`Node`], [`PartError`].
 #![tactic(auto)]
 
 mod finished;
 mod node;
 mod opened;
 mod opening;
+mod part;
 mod results;
 
 pub use finished::Finished;
 pub use node::{Harvest, Node};
+pub use part::PartError;

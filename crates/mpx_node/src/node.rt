@@ -1,21 +1,25 @@
-ghost use Rattle.std.specs.Prelude.{◌≡◌, ◌<◌, ◌≤◌, [], Some, None, OnOk, OnErr, IfOk, slice_get, is_some};
+ghost use Rattle.std.specs.Prelude.{◌≡◌, ◌↔◌, ◌<◌, ◌≤◌, false, [], map, All, Some, None, OnOk, OnErr, IfOk, IsErrOf, IsTrue, slice_get, is_some};
 ghost use Rattle.std.specs.Option.{option_copied};
-ghost use Rattle.mpx_post.specs.Drafts.{Checks, at, checked, most_calls};
+ghost use Rattle.mpx_post.specs.Drafts.{Checks, at, checked, most_calls, refusal_of};
 ghost use Rattle.mpx_name.specs.Name.{Name as NameView};
-ghost use Rattle.mpx_board.specs.Boards.{only, floor_on, Dropped};
+ghost use Rattle.mpx_board.specs.Boards.{join_all, only, floor_on, Dropped};
 ghost use Rattle.mpx_board.specs.Changes.{pruned};
-ghost use Rattle.mpx_board.specs.Looks.{look};
+ghost use Rattle.mpx_board.specs.Looks.{look, parts_of};
+ghost use Rattle.mpx_format.specs.Encoding.{length_told};
+ghost use Rattle.mpx_parts.specs.Facts.{OnlyFactsOf};
 ghost use Rattle.mpx_node.specs.Nodes.{opened_at_start};
 ghost use Rattle.mpx_node.specs.Opened.{opened_by};
 
 use crate::finished::Finished;
 use crate::opened::Opened;
 use crate::opening::{open, store_and_open};
+use crate::part::{PartError, whole_part};
 use crate::results::{children_on, finished, harvest_part, has_result};
 use join_core::{Exact, Join, OutOfMemory};
 use mpx_board::{Board, PruneError};
 use mpx_group::Proc;
 use mpx_name::Name;
+use mpx_parts::parts;
 use mpx_post::{At, Birth, Draft, Gathering, Post, PostError};
 use std::alloc::Global;
 use std::collections::BTreeMap;
@@ -44,6 +48,7 @@ impl Node {
     ghost use Rattle.mpx_node.specs.Shown.{node_of};
     ghost use Rattle.mpx_node.specs.Opened.{HasUnfinished};
     ghost use Rattle.mpx_node.specs.Harvests.{Harvests};
+    ghost use Rattle.mpx_node.specs.Parts.{fits_in, parts_on};
 
     /// The process `me` of so many, of which the first are ranks, before any post: its board has just the birth of the
     /// world, which a rank has opened.
@@ -82,6 +87,19 @@ impl Node {
             }
             Err(_) => Err(PostError::OutOfMemory),
         }
+    }
+
+    /// Why [`Node::post`] would refuse the draft, where it would. It takes no memory.
+    pub fn refusal(&self, name: &Name, draft: &Draft) -> Option<PostError>
+        ensures { result ≡ refusal_of (checked_on (node_of self.now) name.now draft.now) }
+    {
+        let Some(opened) = self.opened.get(name) else {
+            return Some(PostError::NotMember);
+        };
+        let Some(birth) = self.board.birth(name) else {
+            return Some(PostError::NotMember);
+        };
+        draft.refusal(birth, self.me, &At::on(name, opened.posted))
     }
 
     /// Stores the result of the next call on a context, raises the own front, tells how the communicators came to be that
@@ -190,6 +208,30 @@ impl Node {
         ensures { look result.now ≡ (node_of self.now).board }
     {
         &self.board
+    }
+
+    /// The whole board, where it has a frame of at most so many bytes.
+    ///
+    /// # Errors
+    /// `DoesNotFit` where it has none, before anything else; `OutOfMemory` where memory is refused.
+    pub fn part(&self, alloc: Global, limit: usize) -> Result<Board, PartError>
+        ensures whole { IfOk result (λ part. look part ≡ (node_of self.now).board) }
+        ensures fits { IfOk result (λ part. IsTrue (fits_in limit (parts_of part))) }
+        ensures refused { IsErrOf result PartError.DoesNotFit ↔ (fits_in limit (parts_on self.now) ≡ false) }
+    {
+        whole_part(alloc, &self.board, limit)
+    }
+
+    /// The board in parts, each of which has only facts of the board and a frame of at most so many bytes, and whose join
+    /// is the board: the board itself where it fits.
+    pub fn parts(&self, alloc: Global, limit: usize) -> Result<Vec<Board>, OutOfMemory>
+        requires least { 524288 ≤ limit }
+        requires most { limit ≤ 1048576 }
+        ensures facts { IfOk result (λ made. All (λ part. OnlyFactsOf (look part) (node_of self.now).board) made.items) }
+        ensures fit { IfOk result (λ made. All (λ part. length_told (parts_of part) ≤ limit) made.items) }
+        ensures join { IfOk result (λ made. join_all (map look made.items) ≡ (node_of self.now).board) }
+    {
+        parts(alloc, &self.board, limit)
     }
 
     // Stores the result of the next call on an opened context, tells of it, and opens what the call made. An `Err` changes

@@ -22,12 +22,12 @@ use Rattle.mpx_post.specs.Kinds.{family_of, fields_of, is_gathered, kind_of, mak
 use Rattle.mpx_post.specs.Posts.{Given, IsMaking, most_counts, most_items}
 use Rattle.mpx_post.specs.Seats.{lacks_topology}
 use Rattle.mpx_post.specs.Topologies.{most_neighbours}
-use Rattle.mpx_post.specs.Drafts.{Checks, checked, refusals, asked_first, are_edges, are_so_many, are_ranks, drafted_seat, edge_count, graph_of, has_making, is_misfilled, checked_at, checked_in, stray_refusals, drafted_making, drafted_numbers, first_that_holds, given_by, has_colour_and_key, is_colour, is_count, is_key, is_misplaced, is_of, is_rank, most_calls, most_steps, numbers_refusal, place_refusals, ranks_in, received_counts, sent_counts, unless}
+use Rattle.mpx_post.specs.Drafts.{Checks, checked, refusal_of, refusals, asked_first, are_edges, are_so_many, are_ranks, drafted_seat, edge_count, graph_of, has_making, is_misfilled, checked_at, checked_in, stray_refusals, drafted_making, drafted_numbers, first_that_holds, given_by, has_colour_and_key, is_colour, is_count, is_key, is_misplaced, is_of, is_rank, most_calls, most_steps, numbers_refusal, place_refusals, ranks_in, received_counts, sent_counts, unless}
 use Rattle.mpx_post.specs.Graphs.{most_edges}
 use Rattle.mpx_post.proofs.Graphs.{are_edges-more, is_rank-more}
 use Rattle.mpx_post.proofs.Limits.{from_not, right, right_more}
 use Rattle.mpx_post.proofs.Makings.{IsMaking-from, are_ranks-more}
-use Rattle.mpx_post.proofs.Refusals.{behind_or, none_after, none_told, items_refusal, items_refused, PlacePassed, place_passed, shape_parts, shape_passed, shape_refused}
+use Rattle.mpx_post.proofs.Refusals.{behind_or, none_after, none_told, items_refusal, items_refused, PlacePassed, place_passed, shape_first, shape_parts, shape_passed, shape_refused}
 
 at_most_one : (at_root : Bool) → cond at_root 1 0 ≤ most_neighbours
 at_most_one true = omega arith
@@ -46,6 +46,11 @@ few_in Members seat l i o = omega (arith, l)
 few_in MembersAtRoot seat l i o = at_most seat.size l seat.at_root
 few_in Indegree seat l i o = i
 few_in Outdegree seat l i o = o
+
+-- a refusal, told
+pub refusal_of-unless : {A E : Type 0} (o : Option E) (a : A) → refusal_of (unless o a) ≡ o
+refusal_of-unless None a = refl
+refusal_of-unless (Some e) a = refl
 
 -- AN ANSWER BY THE NUMBERS, and by a refusal that comes after them
 
@@ -146,6 +151,12 @@ module _ (seat : Seat) (at : At) (draft : Draft) where
   -- a check is the answer by the numbers and by the place
   pub behind_shape : shape_is_fine → answer ≡ unless (option_or (numbers_refusal draft) (first_that_holds (place_refusals seat.size at draft))) (given_by draft)
   behind_shape h = ap (λ o. unless o (given_by draft)) (shape_passed rootless opless (not (as_many_sent && as_many_received)) misfilled (cut draft) (strange draft) (many draft) (not (counted draft)) (place_refusals seat.size at draft) h ∙ behind_or (cut draft) (strange draft) (many draft) (not (counted draft)) (place_refusals seat.size at draft))
+
+  pub shape_told : (e : PostError) → first_that_holds (asked_first seat draft misfilled) ≡ Some e → refusal_of answer ≡ Some e
+  shape_told e h = refusal_of-unless (first_that_holds (refusals seat at draft)) (given_by draft) ∙ shape_first rootless opless (not (as_many_sent && as_many_received)) misfilled (cut draft) (strange draft) (many draft) (not (counted draft)) (place_refusals seat.size at draft) e h
+
+  pub told_behind_shape : shape_is_fine → refusal_of answer ≡ option_or (numbers_refusal draft) (first_that_holds (place_refusals seat.size at draft))
+  told_behind_shape h = ap refusal_of (behind_shape h) ∙ refusal_of-unless (option_or (numbers_refusal draft) (first_that_holds (place_refusals seat.size at draft))) (given_by draft)
 
   pub root_passed : seat.size ≤ 64 → shape_is_fine → cond (fields_of (kind_of draft.call)).root (is_rank 64 draft.root) true ≡ true
   root_passed l h = right_more _ _ _ (is_rank-more seat.size draft.root l) (right (fields_of (kind_of draft.call)).root (is_rank seat.size draft.root) (shape_parts rootless opless (not (as_many_sent && as_many_received)) misfilled h).0)

@@ -65,13 +65,16 @@ three w r t = first_that_holds ((w, ItemsLength) ∷ (r, ItemOutOfRange) ∷ (t,
 abbrev pub whole : (a b l m w r t c : Bool) → List (Bool × PostError) → Option PostError
 whole a b l m w r t c after = first_that_holds ((a, RootOutOfRange) ∷ (b, OpNotForType) ∷ (l, CountsLength) ∷ (w || m, ItemsLength) ∷ (r, ItemOutOfRange) ∷ (t || c, TooManyItems) ∷ after)
 
+pub shape_first : (a b l m w r t c : Bool) (after : List (Bool × PostError)) (e : PostError) → shape a b l m ≡ Some e → whole a b l m w r t c after ≡ Some e
+shape_first true b l m w r t c after e h = h
+shape_first false true l m w r t c after e h = h
+shape_first false false true m w r t c after e h = h
+shape_first false false false true true r t c after e h = h
+shape_first false false false true false r t c after e h = h
+shape_first false false false false w r t c after e h = cc h
+
 pub shape_refused : (a b l m w r t c : Bool) (after : List (Bool × PostError)) (e : PostError) (given : Given) → shape a b l m ≡ Some e → Checks (unless (whole a b l m w r t c after) given) (Err e)
-shape_refused true b l m w r t c after e given h = let same : e ≡ RootOutOfRange = cc in ap Err same
-shape_refused false true l m w r t c after e given h = let same : e ≡ OpNotForType = cc in ap Err same
-shape_refused false false true m w r t c after e given h = let same : e ≡ CountsLength = cc in ap Err same
-shape_refused false false false true true r t c after e given h = let same : e ≡ ItemsLength = cc in ap Err same
-shape_refused false false false true false r t c after e given h = let same : e ≡ ItemsLength = cc in ap Err same
-shape_refused false false false false w r t c after e given h = cc
+shape_refused a b l m w r t c after e given h = rw (shape_first a b l m w r t c after e h) refl
 
 -- what comes after the shape
 abbrev pub behind : (w r t c : Bool) → List (Bool × PostError) → Option PostError

@@ -253,6 +253,11 @@ abbrev pub unless : {A E : Type 0} → Option E → A → Result A E
 unless None a = Ok a
 unless (Some e) a = Err e
 
+-- why it is refused, where it is
+abbrev pub refusal_of : {A E : Type 0} → Result A E → Option E
+refusal_of (Ok a) = None
+refusal_of (Err e) = Some e
+
 -- what the draft of a member comes to
 abbrev pub checked_in : Seat → At → Draft → Result Given PostError
 checked_in seat at draft = unless (first_that_holds (refusals seat at draft)) (given_by draft)

@@ -6,7 +6,7 @@ ghost use Rattle.mpx_post.specs.Seats.{lacks_topology};
 ghost use Rattle.mpx_post.specs.Topologies.{most_neighbours};
 ghost use Rattle.mpx_post.specs.Blocks.{blocks_sent};
 ghost use Rattle.mpx_post.specs.Drafts.{misfill};
-ghost use Rattle.mpx_post.specs.Drafts.{Checks, asked_first, at, are_ranks, given_by, has_colour_and_key, has_making, is_misfilled, is_misplaced, most_steps, numbers_refusal, ranks_in, checked, checked_in, is_rank as is_rank_of, is_drafted_root, are_so_many, drafted_seat, sent_counts, received_counts, drafted_numbers, first_that_holds, place_refusals, stray_refusals, unless};
+ghost use Rattle.mpx_post.specs.Drafts.{Checks, refusal_of, asked_first, at, are_ranks, given_by, has_colour_and_key, has_making, is_misfilled, is_misplaced, most_steps, numbers_refusal, ranks_in, checked, checked_in, is_rank as is_rank_of, is_drafted_root, are_so_many, drafted_seat, sent_counts, received_counts, drafted_numbers, first_that_holds, place_refusals, stray_refusals, unless};
 ghost use Rattle.mpx_post.specs.Posts.{most_counts};
 
 use crate::counts::are_counts;
@@ -147,6 +147,22 @@ impl Draft {
         }
     }
 
+    /// The first reason why [`Draft::check`] would refuse this draft. It takes no memory.
+    pub fn refusal(&self, birth: &Birth, me: Proc, at: &At) -> Option<PostError>
+        ensures { result ≡ refusal_of (checked birth.now me at.now self.now) }
+    {
+        match birth.rank_of(me) {
+            None => Some(PostError::NotMember),
+            Some(rank) => {
+                if self.lacks_topology(birth) {
+                    return Some(self.stray_refusal());
+                }
+                let seat = self.seat(birth, rank);
+                self.refusal_in(&seat, at)
+            }
+        }
+    }
+
     /// The same draft once more, which shares its numbers.
     pub fn copy(&self) -> Result<Draft, OutOfMemory>
         ensures { IfOk result (λ copied. copied ≡ self.now) }
@@ -216,6 +232,43 @@ impl Draft {
         }
         let refusal = self.place_refusal(seat.size, at);
         self.posted(alloc, refusal)
+    }
+
+    // Why the member may not post this draft.
+    fn refusal_in(&self, seat: &Seat, at: &At) -> Option<PostError>
+        requires size { seat.now.size ≤ 64 }
+        requires sources { seat.now.indegree ≤ most_neighbours }
+        requires destinations { seat.now.outdegree ≤ most_neighbours }
+        ensures { result ≡ refusal_of (checked_in seat.now at.now self.now) }
+    {
+        if let Some(refusal) = self.shape_refusal(seat) {
+            return Some(refusal);
+        }
+        if let Some(refusal) = self.numbers_refusal() {
+            return Some(refusal);
+        }
+        self.place_refusal(seat.size, at)
+    }
+
+    // Why its numbers are no items, or its counts no counts.
+    fn numbers_refusal(&self) -> Option<PostError>
+        ensures { result ≡ numbers_refusal self.now }
+    {
+        let numbers = where_had(self.call.kind().fields().items, &self.items);
+        let item_len = self.ty.item_len();
+        if numbers.len() / item_len * item_len != numbers.len() {
+            return Some(PostError::ItemsLength);
+        }
+        if !are_all_of(self.ty, numbers) {
+            return Some(PostError::ItemOutOfRange);
+        }
+        if 4096 * item_len < numbers.len() {
+            return Some(PostError::TooManyItems);
+        }
+        if !(are_counts(self.sent_counts()) & are_counts(self.received_counts())) {
+            return Some(PostError::TooManyItems);
+        }
+        None
     }
 
     // The post of this draft, or why its numbers are none of a post, or else this refusal.

@@ -28,24 +28,24 @@ use Rattle.mpx_world.proofs.Steps.{Holds, board_so, holds_happens, holds_start, 
 use Rattle.mpx_world.proofs.Born.{gathered_there}
 use Rattle.mpx_world.proofs.Opened.{AllIn, gathering_opened, in_happens, in_start}
 use Rattle.mpx_script.specs.declared.statement.Posting.{Posting}
-use Rattle.mpx_script.specs.declared.statement.Side.{Side}
+use Rattle.mpx_script.specs.declared.statement.Question.{Question}
 use Rattle.mpx_script.specs.declared.statement.Statement.{Statement}
-use Rattle.mpx_script.specs.declared.statement.Statement.TheVariants.{Post, Ask}
-use Rattle.mpx_script.specs.Statements.{Gathers as Asked, bound_to, draft_of, gathers_of, posted_on as word_of}
+use Rattle.mpx_script.specs.declared.statement.Statement.TheVariants.{Post, Wait, Ask}
+use Rattle.mpx_script.specs.Statements.{Gathers as Asked, bound_to, draft_of, gathers_of, posted_on as word_of, started_as}
 use Rattle.mpx_script.specs.Grammar.{named}
-use Rattle.mpx_script.specs.Ranks.{Bound, Communicator, NullCommunicator, Todo, Do, Await, Local, answer_on, attempt, attempt_in, attempt_on, bind, bound_by, made_on, next_call, done, post_gathered, post_on, step}
+use Rattle.mpx_script.specs.Ranks.{Bound, Communicator, NullCommunicator, Todo, Do, Await, Local, answered_by, answers, attempt, attempt_in, attempt_on, awaited_by, bind, bound_by, communicator_of, made_on, next_call, done, post_gathered, post_on, step}
 use Rattle.mpx_script.specs.Ranks.{answered as answered_rank}
 use Rattle.mpx_script.specs.Evaluation.{State, start, bound_at_start, world_of, statements_of, known, or_stay, goes_on, move, moves, IsReached}
 use Rattle.mpx_script.specs.Evaluation.{history as history_of_ranks}
 use Rattle.mpx_script.specs.Told.{CarriesOut, none}
 use Rattle.mpx_script.proofs.Fronts.{append-nil}
-use Rattle.mpx_script.proofs.Steps.{heard, posted, told_near, turned_down, step_asks, step_ends, step_hears, step_waits, step_posts, step_refused}
+use Rattle.mpx_script.proofs.Steps.{heard, posted, started, told_at_once, turned_down, waited, step_asks, step_ends, step_hears, step_passes, step_posts, step_refused, step_starts, step_stays, step_waits}
 use Rattle.mpx_script.proofs.Ways.{step-grows}
 use Rattle.mpx_script.proofs.Ahead.{goes_on_cases}
 use Rattle.mpx_script.proofs.Ends.{goes_on-at}
 use Rattle.mpx_script.proofs.Tells.{carries_out-grows, step-carries_out, carried_out-tell, each-me, each-bound, given_by, mapped_some, named-bound}
 use Rattle.mpx_run.specs.Systems.{System, node_births, node_tells, posts_bound, posts_gathered, posts_in, posts_of, Doing, Nets, Drives, does, does_all, MayDo, MayDoAll, start_system, TellsResults}
-use Rattle.mpx_run.specs.Running.{Tried, communicator_in, name_of, names_in, neighbours_in, neighbours_on, tried, tried_gathered, tried_in, tried_post}
+use Rattle.mpx_run.specs.Running.{Tried, answered_on, communicator_in, known_to, name_of, names_in, tried, tried_gathered, tried_in, tried_post}
 
 -- WORLDS
 
@@ -264,12 +264,11 @@ driven_bound w u p posting None h = driven_nothing w u p NotMember
 driven_bound w u p posting (Some NullCommunicator) h = driven_nothing w u p NotMember
 driven_bound w u p posting (Some (Communicator name birth)) h = let x = h name birth refl in driven_in w u p name birth x.0 x.1 (draft_of posting) (gathers_of posting)
 
--- the neighbours that a node knows of are those of what the word is bound to
-neighbours_bound : (w : WorldView) → Upheld w → (p me : ℕ) (side : Side) (bound : Option Bound) → IsBoundSo w p bound
-    → neighbours_on me side (communicator_in (option_map name_of bound)) (w.each p).node ≡ answer_on me side bound
-neighbours_bound w u p me side None h = refl
-neighbours_bound w u p me side (Some NullCommunicator) h = refl
-neighbours_bound w u p me side (Some (Communicator name birth)) h = let x = h name birth refl in ap (neighbours_in me side) (birth_told w u p name birth x.0 x.1)
+-- the communicator that a node knows is what the word is bound to
+known_bound : (w : WorldView) → Upheld w → (p : ℕ) (bound : Option Bound) → IsBoundSo w p bound → known_to (w.each p).node (communicator_in (option_map name_of bound)) ≡ communicator_of bound
+known_bound w u p None h = refl
+known_bound w u p (Some NullCommunicator) h = refl
+known_bound w u p (Some (Communicator name birth)) h = let x = h name birth refl in ap (option_map (λ (b : BirthView). (name, b))) (birth_told w u p name birth x.0 x.1)
 
 -- A WORLD AND ITS RANKS
 
@@ -315,10 +314,9 @@ module _ (script : List (List Statement)) (ranks : ℕ) (s : System) (c : Couple
       → Driven s.world p (posts_bound p posting (named (s.ranks p).bound (word_of posting))) (attempt_at p posting) (tried posting (option_map name_of (named (s.ranks p).bound (word_of posting))) (s.world.each p).node)
   driven p l posting = driven_bound s.world c.upheld p posting (named (s.ranks p).bound (word_of posting)) (bound_so p l (word_of posting))
 
-  -- a rank that asks for neighbours is answered by what its node knows
-  pub neighbours_same : (p : ℕ) → p < ranks → (on : List ℕ) (side : Side)
-      → neighbours_on (s.ranks p).me side (communicator_in (names_in (s.ranks p).bound on)) (s.world.each p).node ≡ answered_rank (s.ranks p).me (s.ranks p).bound on side
-  neighbours_same p l on side = neighbours_bound s.world c.upheld p (s.ranks p).me side (named (s.ranks p).bound on) (bound_so p l on)
+  -- a rank that asks is answered by what its node knows
+  pub answer_same : (p : ℕ) → p < ranks → (question : Question) → answered_on (s.ranks p).me (names_in (s.ranks p).bound) question (s.world.each p).node ≡ answered_rank (s.ranks p).me (s.ranks p).bound question
+  answer_same p l question = λ i. answered_by (s.ranks p).me (λ word. known_bound s.world c.upheld p (named (s.ranks p).bound word) (bound_so p l word) i) question
 
 -- A RANK'S MOVE
 
@@ -410,20 +408,36 @@ module _ (script : List (List Statement)) (ranks : ℕ) (s : System) (c : Couple
   abbrev driven_to : (p : ℕ) → List Happening → System
   driven_to p hs = record { world = goes_on_world s.world hs; ranks = goes_on s.ranks p (node_tells (s.world.each p).node) }
 
-  couples_posts : (p : ℕ) → p < ranks → (posting : Posting) (rest : List Todo) → (s.ranks p).todo ≡ Do (Post posting) ∷ rest → (hs : List Happening) (t : Tried) (o : Result Made PostError) → attempt_at script ranks s c p posting ≡ o → Driven s.world p hs o t → Couples script ranks (driven_to p hs)
-  couples_posts p l posting rest e hs t (Ok m) f d =
+  -- an accepted post, whose outcome is awaited or whose request is open from then on
+  couples_accepted : (p : ℕ) → p < ranks → (posting : Posting) (rest : List Todo) → (s.ranks p).todo ≡ Do (Post posting) ∷ rest → (hs : List Happening) (t : Tried) (m : Made) → attempt_at script ranks s c p posting ≡ Ok m → Driven s.world p hs (Ok m) t
+      → (request : Option (List ℕ)) → started_as posting ≡ request → Couples script ranks (driven_to p hs)
+  couples_accepted p l posting rest e hs t m f d None b =
       couples_move p l (goes_on_world s.world hs) (m ∷ []) (done (s.ranks p) (posted (s.ranks p) (bound_to posting) rest m))
-      (step_posts (node_tells (s.world.each p).node) (s.ranks p) posting rest m e (attempts_same script ranks s c p posting ∙ f)) refl d.follows
+      (step_posts (node_tells (s.world.each p).node) (s.ranks p) posting rest m e b (attempts_same script ranks s c p posting ∙ f)) refl d.follows
       (λ word name birth h. (d.follows.later.kept p).opened_kept name (c.opened p l word name birth h))
+  couples_accepted p l posting rest e hs t m f d (Some request) b =
+      couples_move p l (goes_on_world s.world hs) (m ∷ []) (done (s.ranks p) (started (s.ranks p) request rest m))
+      (step_starts (node_tells (s.world.each p).node) (s.ranks p) posting rest request m e b (attempts_same script ranks s c p posting ∙ f)) refl d.follows
+      (λ word name birth h. (d.follows.later.kept p).opened_kept name (c.opened p l word name birth h))
+
+  couples_posts : (p : ℕ) → p < ranks → (posting : Posting) (rest : List Todo) → (s.ranks p).todo ≡ Do (Post posting) ∷ rest → (hs : List Happening) (t : Tried) (o : Result Made PostError) → attempt_at script ranks s c p posting ≡ o → Driven s.world p hs o t → Couples script ranks (driven_to p hs)
+  couples_posts p l posting rest e hs t (Ok m) f d = couples_accepted p l posting rest e hs t m f d (started_as posting) refl
   couples_posts p l posting rest e hs t (Err refusal) f d =
       couples_move p l (goes_on_world s.world hs) [] (done (s.ranks p) (turned_down (s.ranks p) (bound_to posting) rest refusal))
       (step_refused (node_tells (s.world.each p).node) (s.ranks p) posting rest refusal e (attempts_same script ranks s c p posting ∙ f)) refl d.follows
       (bound_more p l (goes_on_world s.world hs) d.follows.later (bound_to posting) NullCommunicator (λ name birth is. cc is))
 
-  couples_asks : (p : ℕ) → p < ranks → (on : List ℕ) (side : Side) (rest : List Todo) → (s.ranks p).todo ≡ Do (Ask on side) ∷ rest → Couples script ranks (driven_to p [])
-  couples_asks p l on side rest e =
-      couples_move p l s.world [] (done (s.ranks p) (told_near (s.ranks p) on side rest))
-      (step_asks (node_tells (s.world.each p).node) (s.ranks p) on side rest e) refl (follows_itself s.world c.upheld p)
+  couples_asks : (p : ℕ) → p < ranks → (question : Question) (rest : List Todo) → (s.ranks p).todo ≡ Do (Ask question) ∷ rest → Couples script ranks (driven_to p [])
+  couples_asks p l question rest e =
+      couples_move p l s.world [] (done (s.ranks p) (told_at_once (s.ranks p) question rest))
+      (step_asks (node_tells (s.world.each p).node) (s.ranks p) question rest e) refl (follows_itself s.world c.upheld p)
+      (c.opened p l)
+
+  couples_passes : (p : ℕ) → p < ranks → (words : List (List ℕ)) (rest : List Todo) → (s.ranks p).todo ≡ Do (Wait words) ∷ rest → (o : Option (List Answer)) → answers (node_tells (s.world.each p).node) (awaited_by (s.ranks p).requests words) ≡ o → Couples script ranks (driven_to p [])
+  couples_passes p l words rest e None f = couples_stay p (step_stays (node_tells (s.world.each p).node) (s.ranks p) words rest e f)
+  couples_passes p l words rest e (Some told) f =
+      couples_move p l s.world [] (done (s.ranks p) (waited (s.ranks p) words rest told))
+      (step_passes (node_tells (s.world.each p).node) (s.ranks p) words rest told e f) refl (follows_itself s.world c.upheld p)
       (c.opened p l)
 
   -- what an answer binds a word to is opened
@@ -451,7 +465,8 @@ module _ (script : List (List Statement)) (ranks : ℕ) (s : System) (c : Couple
   couples_drive p l [] e = couples_stay p (step_ends (node_tells (s.world.each p).node) (s.ranks p) e)
   couples_drive p l (Await name call target ∷ rest) e = couples_hears p l name call target rest e (node_tells (s.world.each p).node name call) refl
   couples_drive p l (Do (Post posting) ∷ rest) e = couples_posts p l posting rest e _ _ (attempt_at script ranks s c p posting) refl (driven script ranks s c p l posting)
-  couples_drive p l (Do (Ask on side) ∷ rest) e = couples_asks p l on side rest e
+  couples_drive p l (Do (Wait words) ∷ rest) e = couples_passes p l words rest e (answers (node_tells (s.world.each p).node) (awaited_by (s.ranks p).requests words)) refl
+  couples_drive p l (Do (Ask question) ∷ rest) e = couples_asks p l question rest e
 
   pub couples_does : (d : Doing) → MayDo ranks s d → Couples script ranks (does s d)
   couples_does (Nets h) m = couples_net h m.0 m.1

@@ -8,6 +8,7 @@ use Rattle.std.specs.Prelude.{min, Result, Err, OnErr}
 use Rattle.std.proofs.Math.Seq.{take-add, take-append_seam}
 use Rattle.std.proofs.Common.{Ok}
 use Rattle.mpx_run.specs.declared.end.End.{End}
+use Rattle.mpx_run.specs.declared.options.Job.{Job}
 use Rattle.mpx_script.specs.Words.{bytes_limit}
 use Rattle.mpx_run.specs.Texts.{Prints, TakesInput, TakesPart, Runs}
 use Rattle.mpx_run.specs.declared.texts.RunError.{RunError}
@@ -148,10 +149,10 @@ takes_part None left text t = ([], omega arith, tt)
 takes_part (Some all) left text t = (text, subst (λ xs. length xs ≤ bytes_limit + 1) (sym t.0) (within_take (bytes_limit + 1) all), t.1)
 
 -- the answer of a text's run is that of a reader which gives the text
-pub runs_input : (relays : ℕ) (there left old new : Option (List ℕ)) (text now : List ℕ) (answer : Result End RunError) → TakesInput there left text → now ≡ text → Prints relays now old new answer → Runs relays there left old new answer
-runs_input relays there left old new text now (Ok end) t e p = record { text = text; taken = t; prints = subst (λ xs. Prints relays xs old new (Ok end)) e p }
-runs_input relays there left old new text now (Err (E.Script refusal)) t e p = record { text = text; taken = t; prints = subst (λ xs. Prints relays xs old new (Err (E.Script refusal))) e p }
-runs_input relays there left old new text now (Err E.TooManyProcesses) t e p = record { text = text; taken = t; prints = subst (λ xs. Prints relays xs old new (Err E.TooManyProcesses)) e p }
-runs_input relays there left old new text now (Err E.Memory) t e p = (takes_part there left text t, p)
-runs_input relays there left old new text now (Err E.Read) t e p = absurd p
-runs_input relays there left old new text now (Err E.Write) t e p = record { text = text; taken = t; prints = subst (λ xs. Prints relays xs old new (Err E.Write)) e p }
+pub runs_input : (job : Job) (there left old new : Option (List ℕ)) (text now : List ℕ) (answer : Result End RunError) → TakesInput there left text → now ≡ text → Prints job now old new answer → Runs job there left old new answer
+runs_input job there left old new text now (Ok end) t e p = record { text = text; taken = t; prints = subst (λ xs. Prints job xs old new (Ok end)) e p }
+runs_input job there left old new text now (Err (E.Script refusal)) t e p = record { text = text; taken = t; prints = subst (λ xs. Prints job xs old new (Err (E.Script refusal))) e p }
+runs_input job there left old new text now (Err E.TooManyProcesses) t e p = record { text = text; taken = t; prints = subst (λ xs. Prints job xs old new (Err E.TooManyProcesses)) e p }
+runs_input job there left old new text now (Err E.Memory) t e p = (takes_part there left text t, p)
+runs_input job there left old new text now (Err E.Read) t e p = absurd p
+runs_input job there left old new text now (Err E.Write) t e p = record { text = text; taken = t; prints = subst (λ xs. Prints job xs old new (Err E.Write)) e p }

@@ -1,6 +1,6 @@
 -- What is reported of a run.
 use Rattle.std.proofs.Common.{◌≡◌, ℕ, zero, suc, ◌+◌, ◌<◌, ◌≤◌, Bool, true, false, cond, List, [], ◌∷◌, ◌++◌, length, map, take, drop, Option, Some, None, refl, sym, ap, ◌∙◌, subst, arith, pos, codes}
-use Rattle.std.specs.Prelude.{slice_get, nat_lt, unwrap_or, ◌||◌, is_some}
+use Rattle.std.specs.Prelude.{slice_get, nat_lt, unwrap_or, ◌||◌, is_some, IfOk, Result, Ok, Err}
 use Rattle.std.proofs.lemmas.List.{map-append, length-map}
 use Rattle.std.proofs.lemmas.Option.{slice_get-map}
 use Rattle.std.proofs.lemmas.Bool.Decides.{nat_tests}
@@ -18,7 +18,8 @@ use Rattle.mpx_script.specs.Reports.{which, is_left, lines_in, waiting_in}
 use Rattle.mpx_script.proofs.Ways.{Way, way-adds}
 use Rattle.mpx_script.proofs.Ahead.{on_way-reached, finished}
 use Rattle.mpx_run.specs.Running.{RankView, WaitView, IsUnderWay, todo_of, has_statements, is_waiting_at}
-use Rattle.mpx_run.specs.Runs.{IsRun, IsReport, Begin, AreWhole, EndsSo, lines_at}
+use Rattle.mpx_eval.specs.Evaluated.{IsEvaluated}
+use Rattle.mpx_run.specs.Runs.{IsRun, IsReport, IsEvaluatedText, Begin, AreWhole, EndsSo, lines_at}
 use Rattle.mpx_run.specs.declared.end.End.{End}
 use Rattle.mpx_run.specs.declared.end.End.TheVariants.{Finished, Waiting}
 use Rattle.mpx_script.proofs.Tells.{mapped_some}
@@ -167,9 +168,21 @@ module _ (script : ScriptView) (relays ranks : ℕ) (same : ranks ≡ script.ran
 
 -- THE TEXT
 
+-- two facts of a result that came make a third
+pub if_both : {T E : Type 0} {P Q R : T → Type 0} (r : Result T E) → IfOk r P → IfOk r Q → ((x : T) → P x → Q x → R x) → IfOk r R
+if_both (Ok x) p q f = f x p q
+if_both (Err e) p q f = tt
+
 text_same : (f g : (p : ℕ) → List (List ℕ)) (n : ℕ) → ((p : ℕ) → p < n → f p ≡ g p) → text_upto f n ≡ text_upto g n
 text_same f g zero h = refl
 text_same f g (suc n) h = λ i. text_same f g n (λ p l. h p (omega (arith, l))) i ++ rank_text n (h n (omega arith) i)
+
+-- the text of the lines that each rank has
+text_of_state : (transcripts : List (List (List ℕ))) (s : State) (n : ℕ) → length transcripts ≡ n → ((p : ℕ) (lines : List (List ℕ)) → slice_get transcripts p ≡ Some lines → lines ≡ lines_in s p)
+    → text_upto (lines_at transcripts) n ≡ text_upto (lines_in s) n
+text_of_state transcripts s n size h = text_same (lines_at transcripts) (lines_in s) n (λ p l.
+    let found = some_at transcripts p (omega (arith, l, size)) in
+    ap (λ o. unwrap_or o []) found.1 ∙ h p found.0 found.1)
 
 nobody : (end : End) (waiting : List ℕ) → EndsSo end waiting → end ≡ Finished → waiting ≡ []
 nobody Finished waiting h e = h
@@ -188,9 +201,16 @@ reported script relays nodes transcripts waiting end text run begins whole lines
   begins = begins;
   whole = λ e is finished.
       let none = nobody end waiting ends finished in
-      lines ∙ text_same (lines_at transcripts) (lines_in e) script.ranks (λ p l.
-      let found = some_at transcripts p (omega (arith, l, run.ranks_are)) in
-      ap (λ o. unwrap_or o []) found.1 ∙ whole e is p found.0 found.1 (λ place at. cc (at, none)));
+      lines ∙ text_of_state transcripts e script.ranks run.ranks_are (λ p said at. whole e is p said at (λ place w. cc (w, none)));
+}
+
+pub evaluated : (script : ScriptView) (transcripts : List (List (List ℕ))) (waiting : List ℕ) (end : End) (text : List ℕ) → IsEvaluated script transcripts waiting
+    → text ≡ text_upto (lines_at transcripts) script.ranks → EndsSo end waiting → IsEvaluatedText script end text
+evaluated script transcripts waiting end text v lines ends = record {
+  evaluation = v.end;
+  is = v.evaluation;
+  lines = lines ∙ text_of_state transcripts v.end script.ranks v.ranks_are v.lines;
+  ends = subst (EndsSo end) v.waiting_are ends;
 }
 
 -- LINES

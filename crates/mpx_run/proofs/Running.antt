@@ -1,6 +1,6 @@
 -- What the steps of a process keep of a run.
 use Rattle.std.proofs.Common.{◌≡◌, ℕ, zero, suc, ◌+◌, ◌<◌, Bool, true, false, cond, List, [], ◌∷◌, ◌++◌, length, map, take, drop, set, get_or, Option, Some, None, refl, sym, ap, ◌∙◌, subst, arith, length-append}
-use Rattle.std.specs.Prelude.{slice_get, unwrap_or, Result, Ok, Err, OnOk, OnErr, if◌then◌else◌}
+use Rattle.std.specs.Prelude.{slice_get, unwrap_or, Result, Ok, Err, OnOk, OnErr}
 use Rattle.std.specs.List.{All, items_where_true}
 use Rattle.std.proofs.lemmas.Grind.{get_or_picked}
 use Rattle.std.proofs.lemmas.List.{map-append, length-set}
@@ -31,20 +31,21 @@ use Rattle.mpx_world.proofs.Lists.{slice_get-append, slice_get-push, slice_get-p
 use Rattle.mpx_world.proofs.Steps.{at_here}
 use Rattle.mpx_world.proofs.Reached.{may_happen}
 use Rattle.mpx_script.specs.declared.statement.Posting.{Posting}
-use Rattle.mpx_script.specs.declared.statement.Side.{Side}
+use Rattle.mpx_script.specs.declared.statement.Question.{Question}
 use Rattle.mpx_script.specs.declared.statement.Statement.{Statement}
-use Rattle.mpx_script.specs.declared.statement.Statement.TheVariants.{Post, Ask}
-use Rattle.mpx_script.specs.Statements.{bound_to, posted_on as word_of}
+use Rattle.mpx_script.specs.declared.statement.Statement.TheVariants.{Post, Wait, Ask}
+use Rattle.mpx_script.specs.Statements.{bound_to, posted_on as word_of, started_as}
 use Rattle.mpx_script.specs.Grammar.{named}
 use Rattle.mpx_script.specs.Ranks.{answered as answered_rank}
-use Rattle.mpx_script.specs.Ranks.{Await, Bindings, Bound, NullCommunicator, Line, Local, Told, Refused, bind, bound_by, doing, done, next_call, step}
+use Rattle.mpx_script.specs.Ranks.{Await, Bindings, Bound, NullCommunicator, Line, Local, Told, Refused, answers, awaited_by, bind, bound_by, doing, done, next_call, step, waited_lines}
 use Rattle.mpx_script.specs.Transcripts.{line_text, outcome_text}
 use Rattle.mpx_script.proofs.Ends.{goes_on-at}
 use Rattle.mpx_script.proofs.Fronts.{append-nil}
-use Rattle.mpx_script.proofs.Steps.{heard, posted, told_near, turned_down, step_asks, step_hears, step_posts, step_refused}
+use Rattle.mpx_script.proofs.Steps.{heard, posted, started, told_at_once, turned_down, waited, step_asks, step_hears, step_passes, step_posts, step_refused, step_starts}
 use Rattle.mpx_run.specs.Systems.{System, node_tells, posts_bound, posts_of, Doing, Nets, Drives, does, does_all, MayDo, MayDoAll, Leads, start_system}
-use Rattle.mpx_run.specs.Running.{RankView, WaitView, Names, Tried, name_of, names_in, or_new, binds, communicator_in, given_name, neighbours_on, tried, todo_of, IsAmong, stored, harvested, Stands, IsUnderWay, Keeps, KeepsNode, Moves, Receives, StartsAt, Starts}
-use Rattle.mpx_run.proofs.Coupling.{Couples, Driven, answered, answer_born, attempt_at, attempts_same, couples_all, couples_start, driven, each_other, goes_on-other, neighbours_same, not_same}
+use Rattle.mpx_run.specs.Running.{RankView, WaitView, Names, Tried, answered_on, are_held, closes_all, name_of, names_in, or_new, binds, given_name, tried, todo_of, wait_lines, IsAmong, stored, harvested, Stands, IsUnderWay, Keeps, KeepsNode, Moves, Receives, StartsAt, Starts}
+use Rattle.mpx_run.proofs.Coupling.{Couples, Driven, answered, answer_born, answer_same, attempt_at, attempts_same, couples_all, couples_start, driven, each_other, goes_on-other, not_same}
+use Rattle.mpx_run.proofs.Waiting.{named-more, are_all_closed, passing}
 
 -- LISTS
 
@@ -133,7 +134,7 @@ done_net : (ranks : ℕ) (s : System) (p : ℕ) (r : RankView) (new : NodeView) 
     → IsDoneAt ranks s (record { world = at_process p f s.world; ranks = s.ranks }) p (record r { node = new })
 done_net ranks s p r new f stands e = record {
   node = e ∙ ap (λ (v : ProcessView). v.node) (sym (at_here s.world p f));
-  stands = λ l. let h = stands l in record { me = h.me; bound = h.bound; todo = h.todo; lines = h.lines };
+  stands = λ l. let h = stands l in record { me = h.me; bound = h.bound; requests = h.requests; todo = h.todo; lines = h.lines };
   nodes = λ q other. ap (λ (v : ProcessView). v.node) (each_other s.world p f q other);
   ranks_stay = λ q other. refl;
   parts = refl;
@@ -280,19 +281,13 @@ moves_then a b c f g script ranks size processes frames p l at run =
 -- BINDINGS
 
 -- a word more, seen as names
-names_by : (t u : Bool) (x : Option (Option Name)) (old new : Bound) (before after : Option Bound) → ((option_map name_of after) ≡ cond u (Some (or_new (option_map name_of before) (name_of new))) (option_map name_of before))
-    → option_map name_of (if t then Some old else after) ≡ cond u (Some (or_new (option_map name_of (if t then Some old else before)) (name_of new))) (option_map name_of (if t then Some old else before))
-names_by true true x old new before after e = refl
-names_by true false x old new before after e = refl
-names_by false u x old new before after e = e
-
-names_first : (t : Bool) (new : Bound) → option_map name_of (if t then Some new else None) ≡ cond t (Some (name_of new)) None
-names_first true new = refl
-names_first false new = refl
+names_by : (u : Bool) (before : Option Bound) (new : Bound) → option_map name_of (cond u (Some (or_new before new)) before) ≡ cond u (Some (or_new (option_map name_of before) (name_of new))) (option_map name_of before)
+names_by true None new = refl
+names_by true (Some old) new = refl
+names_by false before new = refl
 
 names_behind : (xs : Bindings) (to : List ℕ) (new : Bound) (word : List ℕ) → names_in (xs ++ (to, new) ∷ []) word ≡ cond (bytes_eq word to) (Some (or_new (names_in xs word) (name_of new))) (names_in xs word)
-names_behind [] to new word = names_first (bytes_eq word to) new
-names_behind (x ∷ xs) to new word = names_by (bytes_eq word x.0) (bytes_eq word to) None x.1 new (named xs word) (named (xs ++ (to, new) ∷ []) word) (names_behind xs to new word)
+names_behind xs to new word = ap (option_map name_of) (named-more xs to new word) ∙ names_by (bytes_eq word to) (named xs word) new
 
 names_bound : (target : Option (List ℕ)) (bound : Names) (xs : Bindings) (new : Bound) (word : List ℕ) → bound word ≡ names_in xs word → binds target (name_of new) bound word ≡ names_in (bind target new xs) word
 names_bound None bound xs new word e = e
@@ -349,7 +344,7 @@ module _ (script : List (List Statement)) (ranks size : ℕ) (processes : List R
 
   -- it hears an answer that its node tells
   hears : (w : WaitView) (answer : Answer) (text : List ℕ) → r.waits ≡ Some w → node_tells r.node w.name w.call ≡ Some answer → text ≡ outcome_text answer.outcome
-      → IsUnderWay script ranks size (set processes p (record { me = r.me; node = r.node; bound = binds w.target (given_name answer.outcome) r.bound; todo = r.todo; waits = None; lines = r.lines ++ text ∷ [] })) frames
+      → IsUnderWay script ranks size (set processes p (record { me = r.me; node = r.node; bound = binds w.target (given_name answer.outcome) r.bound; requests = r.requests; todo = r.todo; waits = None; lines = r.lines ++ text ∷ [] })) frames
   hears w answer text wait e t =
       let c = coupled script ranks size processes frames run in
       let local = run.system.ranks p in
@@ -357,10 +352,10 @@ module _ (script : List (List Statement)) (ranks size : ℕ) (processes : List R
       let known : told w.name w.call ≡ Some answer = ap (λ n. node_tells n w.name w.call) (sym (run.shows.nodes p r at)) ∙ e in
       let to = bound_by answer.outcome answer.born in
       let name_is : name_of to ≡ given_name answer.outcome = named_so answer.outcome answer.born (answer_born script ranks run.system c p w.name w.call answer known) in
-      moved [] (done local (heard local w.name w.call w.target (doing r.todo) answer)) (record { me = r.me; node = r.node; bound = binds w.target (given_name answer.outcome) r.bound; todo = r.todo; waits = None; lines = r.lines ++ text ∷ [] })
+      moved [] (done local (heard local w.name w.call w.target (doing r.todo) answer)) (record { me = r.me; node = r.node; bound = binds w.target (given_name answer.outcome) r.bound; requests = r.requests; todo = r.todo; waits = None; lines = r.lines ++ text ∷ [] })
       (ap (posts_of p local.bound) todo)
       (step_hears told local w.name w.call w.target (doing r.todo) answer todo known)
-      (record { me = (run.shows.stands p r at l).me; bound = λ word. ap (λ n. binds w.target n r.bound word) (sym name_is) ∙ bound_so w.target to word; todo = refl; lines = lines_so text (Told w.name w.call answer.outcome) t })
+      (record { me = (run.shows.stands p r at l).me; bound = λ word. ap (λ n. binds w.target n r.bound word) (sym name_is) ∙ bound_so w.target to word; requests = (run.shows.stands p r at l).requests; todo = refl; lines = lines_so text (Told w.name w.call answer.outcome) t })
       (run.shows.nodes p r at) (λ q other. refl) refl
 
   -- what its node has of its next statement
@@ -371,9 +366,9 @@ module _ (script : List (List Statement)) (ranks size : ℕ) (processes : List R
       (λ i. tried posting (sym ((run.shows.stands p r at l).bound (word_of posting)) i) (sym (run.shows.nodes p r at) i)) (driven script ranks run.system c p l posting)
 
   -- it posts
-  posts_next : (posting : Posting) (rest : List Statement) (name : Name) (call : ℕ) → r.waits ≡ None → r.todo ≡ Post posting ∷ rest → (tried posting (r.bound (word_of posting)) r.node).answer ≡ Ok (name, call)
-      → IsUnderWay script ranks size (set processes p (record { me = r.me; node = (tried posting (r.bound (word_of posting)) r.node).node; bound = r.bound; todo = rest; waits = Some (record { name = name; call = call; target = bound_to posting }); lines = r.lines })) frames
-  posts_next posting rest name call w t e =
+  posts_next : (posting : Posting) (rest : List Statement) (name : Name) (call : ℕ) → r.waits ≡ None → r.todo ≡ Post posting ∷ rest → started_as posting ≡ None → (tried posting (r.bound (word_of posting)) r.node).answer ≡ Ok (name, call)
+      → IsUnderWay script ranks size (set processes p (record { me = r.me; node = (tried posting (r.bound (word_of posting)) r.node).node; bound = r.bound; requests = r.requests; todo = rest; waits = Some (record { name = name; call = call; target = bound_to posting }); lines = r.lines })) frames
+  posts_next posting rest name call w t b e =
       let c = coupled script ranks size processes frames run in
       let local = run.system.ranks p in
       let todo = stands_so None (Post posting ∷ rest) w t in
@@ -381,57 +376,110 @@ module _ (script : List (List Statement)) (ranks size : ℕ) (processes : List R
       let found = answered_ok (run.system.world.each p).made (attempt_at script ranks run.system c p posting) name call (sym d.answer ∙ e) in
       let m : Made = found.0 in
       let count : next_call m.name local.made ≡ call = ap (next_call m.name) (sym (c.made p)) ∙ found.3 in
-      moved (posts_bound p posting (named local.bound (word_of posting))) (done local (posted local (bound_to posting) (doing rest) m)) (record { me = r.me; node = (tried posting (r.bound (word_of posting)) r.node).node; bound = r.bound; todo = rest; waits = Some (record { name = name; call = call; target = bound_to posting }); lines = r.lines })
+      moved (posts_bound p posting (named local.bound (word_of posting))) (done local (posted local (bound_to posting) (doing rest) m)) (record { me = r.me; node = (tried posting (r.bound (word_of posting)) r.node).node; bound = r.bound; requests = r.requests; todo = rest; waits = Some (record { name = name; call = call; target = bound_to posting }); lines = r.lines })
       (ap (posts_of p local.bound) todo)
-      (step_posts told local posting (doing rest) m todo (attempts_same script ranks run.system c p posting ∙ found.1))
-      (record { me = (run.shows.stands p r at l).me; bound = (run.shows.stands p r at l).bound; todo = λ i. Await (found.2 i) (count i) (bound_to posting) ∷ doing rest; lines = (run.shows.stands p r at l).lines ∙ ap (map line_text) (sym (append-nil local.lines)) })
+      (step_posts told local posting (doing rest) m todo b (attempts_same script ranks run.system c p posting ∙ found.1))
+      (record { me = (run.shows.stands p r at l).me; bound = (run.shows.stands p r at l).bound; requests = (run.shows.stands p r at l).requests; todo = λ i. Await (found.2 i) (count i) (bound_to posting) ∷ doing rest; lines = (run.shows.stands p r at l).lines ∙ ap (map line_text) (sym (append-nil local.lines)) })
+      d.node d.nodes d.parts
+
+  -- it posts, and goes on: the request is open
+  starts_next : (posting : Posting) (rest : List Statement) (word : List ℕ) (name : Name) (call : ℕ) → r.waits ≡ None → r.todo ≡ Post posting ∷ rest → started_as posting ≡ Some word → (tried posting (r.bound (word_of posting)) r.node).answer ≡ Ok (name, call)
+      → IsUnderWay script ranks size (set processes p (record { me = r.me; node = (tried posting (r.bound (word_of posting)) r.node).node; bound = r.bound; requests = binds (Some word) (name, call) r.requests; todo = rest; waits = None; lines = r.lines })) frames
+  starts_next posting rest word name call w t b e =
+      let c = coupled script ranks size processes frames run in
+      let local = run.system.ranks p in
+      let stands = run.shows.stands p r at l in
+      let todo = stands_so None (Post posting ∷ rest) w t in
+      let d = post_driven posting in
+      let found = answered_ok (run.system.world.each p).made (attempt_at script ranks run.system c p posting) name call (sym d.answer ∙ e) in
+      let m : Made = found.0 in
+      let count : next_call m.name local.made ≡ call = ap (next_call m.name) (sym (c.made p)) ∙ found.3 in
+      moved (posts_bound p posting (named local.bound (word_of posting))) (done local (started local word (doing rest) m)) (record { me = r.me; node = (tried posting (r.bound (word_of posting)) r.node).node; bound = r.bound; requests = binds (Some word) (name, call) r.requests; todo = rest; waits = None; lines = r.lines })
+      (ap (posts_of p local.bound) todo)
+      (step_starts told local posting (doing rest) word m todo b (attempts_same script ranks run.system c p posting ∙ found.1))
+      (record {
+        me = stands.me;
+        bound = stands.bound;
+        requests = λ other. (λ i. cond (bytes_eq other word) (Some (or_new (stands.requests other i) (sym found.2 i, sym count i))) (stands.requests other i)) ∙ sym (named-more local.requests word (m.name, next_call m.name local.made) other);
+        todo = refl;
+        lines = stands.lines ∙ ap (map line_text) (sym (append-nil local.lines));
+      })
       d.node d.nodes d.parts
 
   -- it is refused
   is_refused : (posting : Posting) (rest : List Statement) (refusal : PostError) (text : List ℕ) → r.waits ≡ None → r.todo ≡ Post posting ∷ rest → (tried posting (r.bound (word_of posting)) r.node).answer ≡ Err refusal → text ≡ line_text (Refused refusal)
-      → IsUnderWay script ranks size (set processes p (record { me = r.me; node = (tried posting (r.bound (word_of posting)) r.node).node; bound = binds (bound_to posting) None r.bound; todo = rest; waits = None; lines = r.lines ++ text ∷ [] })) frames
+      → IsUnderWay script ranks size (set processes p (record { me = r.me; node = (tried posting (r.bound (word_of posting)) r.node).node; bound = binds (bound_to posting) None r.bound; requests = r.requests; todo = rest; waits = None; lines = r.lines ++ text ∷ [] })) frames
   is_refused posting rest refusal text w t e u =
       let c = coupled script ranks size processes frames run in
       let local = run.system.ranks p in
       let todo = stands_so None (Post posting ∷ rest) w t in
       let d = post_driven posting in
       let is = answered_err (run.system.world.each p).made (attempt_at script ranks run.system c p posting) refusal (sym d.answer ∙ e) in
-      moved (posts_bound p posting (named local.bound (word_of posting))) (done local (turned_down local (bound_to posting) (doing rest) refusal)) (record { me = r.me; node = (tried posting (r.bound (word_of posting)) r.node).node; bound = binds (bound_to posting) None r.bound; todo = rest; waits = None; lines = r.lines ++ text ∷ [] })
+      moved (posts_bound p posting (named local.bound (word_of posting))) (done local (turned_down local (bound_to posting) (doing rest) refusal)) (record { me = r.me; node = (tried posting (r.bound (word_of posting)) r.node).node; bound = binds (bound_to posting) None r.bound; requests = r.requests; todo = rest; waits = None; lines = r.lines ++ text ∷ [] })
       (ap (posts_of p local.bound) todo)
       (step_refused told local posting (doing rest) refusal todo (attempts_same script ranks run.system c p posting ∙ is))
-      (record { me = (run.shows.stands p r at l).me; bound = bound_so (bound_to posting) NullCommunicator; todo = refl; lines = lines_so text (Refused refusal) u })
+      (record { me = (run.shows.stands p r at l).me; bound = bound_so (bound_to posting) NullCommunicator; requests = (run.shows.stands p r at l).requests; todo = refl; lines = lines_so text (Refused refusal) u })
       d.node d.nodes d.parts
 
-  -- it asks for neighbours
-  asks_next : (on : List ℕ) (side : Side) (rest : List Statement) (text : List ℕ) → r.waits ≡ None → r.todo ≡ Ask on side ∷ rest → text ≡ line_text (neighbours_on r.me side (communicator_in (r.bound on)) r.node)
-      → IsUnderWay script ranks size (set processes p (record { me = r.me; node = r.node; bound = r.bound; todo = rest; waits = None; lines = r.lines ++ text ∷ [] })) frames
-  asks_next on side rest text w t u =
+  -- it passes a wait whose results its node holds
+  passes_next : (words : List (List ℕ)) (rest : List Statement) → r.waits ≡ None → r.todo ≡ Wait words ∷ rest → are_held r.node r.requests words ≡ true
+      → IsUnderWay script ranks size (set processes p (record { me = r.me; node = r.node; bound = r.bound; requests = closes_all words r.requests; todo = rest; waits = None; lines = r.lines ++ wait_lines r.node r.requests words })) frames
+  passes_next words rest w t h =
+      let local = run.system.ranks p in
+      let stands = run.shows.stands p r at l in
+      let todo = stands_so None (Wait words ∷ rest) w t in
+      let comes = passing r.node words r.requests local.requests stands.requests h in
+      let known : answers told (awaited_by local.requests words) ≡ Some comes.told = ap (λ n. answers (node_tells n) (awaited_by local.requests words)) (sym (run.shows.nodes p r at)) ∙ comes.known_as in
+      moved [] (done local (waited local words (doing rest) comes.told)) (record { me = r.me; node = r.node; bound = r.bound; requests = closes_all words r.requests; todo = rest; waits = None; lines = r.lines ++ wait_lines r.node r.requests words })
+      (ap (posts_of p local.bound) todo)
+      (step_passes told local words (doing rest) comes.told todo known)
+      (record {
+        me = stands.me;
+        bound = stands.bound;
+        requests = are_all_closed words r.requests local.requests stands.requests;
+        todo = refl;
+        lines = (λ i. stands.lines i ++ comes.lines_are i) ∙ sym (map-append line_text local.lines (waited_lines local.requests words comes.told));
+      })
+      (run.shows.nodes p r at) (λ q other. refl) refl
+
+  -- it asks
+  asks_next : (question : Question) (rest : List Statement) (text : List ℕ) → r.waits ≡ None → r.todo ≡ Ask question ∷ rest → text ≡ line_text (answered_on r.me r.bound question r.node)
+      → IsUnderWay script ranks size (set processes p (record { me = r.me; node = r.node; bound = r.bound; requests = r.requests; todo = rest; waits = None; lines = r.lines ++ text ∷ [] })) frames
+  asks_next question rest text w t u =
       let c = coupled script ranks size processes frames run in
       let local = run.system.ranks p in
       let stands = run.shows.stands p r at l in
-      let todo = stands_so None (Ask on side ∷ rest) w t in
-      let line : neighbours_on r.me side (communicator_in (r.bound on)) r.node ≡ answered_rank local.me local.bound on side = (λ i. neighbours_on (stands.me i) side (communicator_in (stands.bound on i)) (run.shows.nodes p r at i)) ∙ neighbours_same script ranks run.system c p l on side in
-      moved [] (done local (told_near local on side (doing rest))) (record { me = r.me; node = r.node; bound = r.bound; todo = rest; waits = None; lines = r.lines ++ text ∷ [] })
+      let todo = stands_so None (Ask question ∷ rest) w t in
+      let line : answered_on r.me r.bound question r.node ≡ answered_rank local.me local.bound question = (λ i. answered_on (stands.me i) (λ word. stands.bound word i) question (run.shows.nodes p r at i)) ∙ answer_same script ranks run.system c p l question in
+      moved [] (done local (told_at_once local question (doing rest))) (record { me = r.me; node = r.node; bound = r.bound; requests = r.requests; todo = rest; waits = None; lines = r.lines ++ text ∷ [] })
       (ap (posts_of p local.bound) todo)
-      (step_asks told local on side (doing rest) todo)
-      (record { me = stands.me; bound = stands.bound; todo = refl; lines = lines_so text (answered_rank local.me local.bound on side) (u ∙ ap line_text line) })
+      (step_asks told local question (doing rest) todo)
+      (record { me = stands.me; bound = stands.bound; requests = stands.requests; todo = refl; lines = lines_so text (answered_rank local.me local.bound question) (u ∙ ap line_text line) })
       (run.shows.nodes p r at) (λ q other. refl) refl
 
 pub moves_hears : (r : RankView) (w : WaitView) (answer : Answer) (text : List ℕ) → r.waits ≡ Some w → node_tells r.node w.name w.call ≡ Some answer → text ≡ outcome_text answer.outcome
-    → Moves r (record { me = r.me; node = r.node; bound = binds w.target (given_name answer.outcome) r.bound; todo = r.todo; waits = None; lines = r.lines ++ text ∷ [] })
+    → Moves r (record { me = r.me; node = r.node; bound = binds w.target (given_name answer.outcome) r.bound; requests = r.requests; todo = r.todo; waits = None; lines = r.lines ++ text ∷ [] })
 moves_hears r w answer text wait e t script ranks size processes frames p l at run = hears script ranks size processes frames p l r at run w answer text wait e t
 
-pub moves_posts : (r : RankView) (posting : Posting) (rest : List Statement) (name : Name) (call : ℕ) → r.waits ≡ None → r.todo ≡ Post posting ∷ rest → (tried posting (r.bound (word_of posting)) r.node).answer ≡ Ok (name, call)
-    → Moves r (record { me = r.me; node = (tried posting (r.bound (word_of posting)) r.node).node; bound = r.bound; todo = rest; waits = Some (record { name = name; call = call; target = bound_to posting }); lines = r.lines })
-moves_posts r posting rest name call w t e script ranks size processes frames p l at run = posts_next script ranks size processes frames p l r at run posting rest name call w t e
+pub moves_posts : (r : RankView) (posting : Posting) (rest : List Statement) (name : Name) (call : ℕ) → r.waits ≡ None → r.todo ≡ Post posting ∷ rest → started_as posting ≡ None → (tried posting (r.bound (word_of posting)) r.node).answer ≡ Ok (name, call)
+    → Moves r (record { me = r.me; node = (tried posting (r.bound (word_of posting)) r.node).node; bound = r.bound; requests = r.requests; todo = rest; waits = Some (record { name = name; call = call; target = bound_to posting }); lines = r.lines })
+moves_posts r posting rest name call w t b e script ranks size processes frames p l at run = posts_next script ranks size processes frames p l r at run posting rest name call w t b e
 
 pub moves_refused : (r : RankView) (posting : Posting) (rest : List Statement) (refusal : PostError) (text : List ℕ) → r.waits ≡ None → r.todo ≡ Post posting ∷ rest → (tried posting (r.bound (word_of posting)) r.node).answer ≡ Err refusal → text ≡ line_text (Refused refusal)
-    → Moves r (record { me = r.me; node = (tried posting (r.bound (word_of posting)) r.node).node; bound = binds (bound_to posting) None r.bound; todo = rest; waits = None; lines = r.lines ++ text ∷ [] })
+    → Moves r (record { me = r.me; node = (tried posting (r.bound (word_of posting)) r.node).node; bound = binds (bound_to posting) None r.bound; requests = r.requests; todo = rest; waits = None; lines = r.lines ++ text ∷ [] })
 moves_refused r posting rest refusal text w t e u script ranks size processes frames p l at run = is_refused script ranks size processes frames p l r at run posting rest refusal text w t e u
 
-pub moves_asks : (r : RankView) (on : List ℕ) (side : Side) (rest : List Statement) (text : List ℕ) → r.waits ≡ None → r.todo ≡ Ask on side ∷ rest → text ≡ line_text (neighbours_on r.me side (communicator_in (r.bound on)) r.node)
-    → Moves r (record { me = r.me; node = r.node; bound = r.bound; todo = rest; waits = None; lines = r.lines ++ text ∷ [] })
-moves_asks r on side rest text w t u script ranks size processes frames p l at run = asks_next script ranks size processes frames p l r at run on side rest text w t u
+pub moves_starts : (r : RankView) (posting : Posting) (rest : List Statement) (word : List ℕ) (name : Name) (call : ℕ) → r.waits ≡ None → r.todo ≡ Post posting ∷ rest → started_as posting ≡ Some word → (tried posting (r.bound (word_of posting)) r.node).answer ≡ Ok (name, call)
+    → Moves r (record { me = r.me; node = (tried posting (r.bound (word_of posting)) r.node).node; bound = r.bound; requests = binds (Some word) (name, call) r.requests; todo = rest; waits = None; lines = r.lines })
+moves_starts r posting rest word name call w t b e script ranks size processes frames p l at run = starts_next script ranks size processes frames p l r at run posting rest word name call w t b e
+
+pub moves_passes : (r : RankView) (words : List (List ℕ)) (rest : List Statement) → r.waits ≡ None → r.todo ≡ Wait words ∷ rest → are_held r.node r.requests words ≡ true
+    → Moves r (record { me = r.me; node = r.node; bound = r.bound; requests = closes_all words r.requests; todo = rest; waits = None; lines = r.lines ++ wait_lines r.node r.requests words })
+moves_passes r words rest w t h script ranks size processes frames p l at run = passes_next script ranks size processes frames p l r at run words rest w t h
+
+pub moves_asks : (r : RankView) (question : Question) (rest : List Statement) (text : List ℕ) → r.waits ≡ None → r.todo ≡ Ask question ∷ rest → text ≡ line_text (answered_on r.me r.bound question r.node)
+    → Moves r (record { me = r.me; node = r.node; bound = r.bound; requests = r.requests; todo = rest; waits = None; lines = r.lines ++ text ∷ [] })
+moves_asks r question rest text w t u script ranks size processes frames p l at run = asks_next script ranks size processes frames p l r at run question rest text w t u
 
 pub moves_keeps : (old new : RankView) → Keeps old new → Moves old new
 moves_keeps old new k script ranks size processes frames p l at run = k script ranks size processes frames p at run
@@ -487,7 +535,7 @@ run_starts script ranks size processes s = record {
     nodes = λ p r e. (s.each p r e).node;
     stands = λ p r e l.
         let h = s.each p r e in
-        record { me = h.me; bound = h.bound; todo = ap (λ o. doing (unwrap_or o [])) (h.todo l) ∙ ap (λ w. todo_of w r.todo) (sym h.waits); lines = h.lines };
+        record { me = h.me; bound = h.bound; requests = h.requests; todo = ap (λ o. doing (unwrap_or o [])) (h.todo l) ∙ ap (λ w. todo_of w r.todo) (sym h.waits); lines = h.lines };
     sent = λ k d l. absurd (omega (arith, l));
   };
 }

@@ -1,7 +1,7 @@
 -- The processes of a run, and which system they show.
 use Rattle.std.specs.Prelude.{◌≡◌, ℕ, ◌<◌, ◌+◌, ◌*◌, Bool, true, false, ◌||◌, is_some, cond, List, [], ◌∷◌, length, map, slice_get, Option, Some, None, Result, Ok, Err}
 use Rattle.std.proofs.Common.{set}
-use Rattle.std.specs.List.{All}
+use Rattle.std.specs.List.{All, list_all}
 use Rattle.std.specs.Option.{option_map}
 use Rattle.std.specs.Str.{bytes_eq}
 use Rattle.mpx_name.specs.Name.{Name}
@@ -9,21 +9,21 @@ use Rattle.mpx_post.specs.Posts.{Given}
 use Rattle.mpx_post.specs.declared.draft.Draft.{Draft}
 use Rattle.mpx_post.specs.declared.draft.PostError.{PostError}
 use Rattle.mpx_post.specs.declared.draft.PostError.TheVariants.{NotMember, OutOfMemory}
-use Rattle.mpx_post.specs.Births.{BirthView, rank_in}
+use Rattle.mpx_post.specs.Births.{BirthView}
 use Rattle.mpx_post.specs.Gatherings.{GatheringView}
 use Rattle.mpx_board.specs.Boards.{Look}
 use Rattle.mpx_value.specs.declared.outcomes.Outcome.{Outcome}
 use Rattle.mpx_value.specs.declared.outcomes.Outcome.TheVariants.{Nothing, Absent, Items, NewComm, Null, Fault}
-use Rattle.mpx_node.specs.Nodes.{NodeView, add_result, checked_on, children_on, front_on, gathering_name, gathers_on, next_result, open_gathering_node, post_at, posted_on, start_node}
+use Rattle.mpx_node.specs.Nodes.{NodeView, add_result, checked_on, children_on, front_on, gathering_name, gathers_on, next_result, open_gathering_node, post_at, posted_on, results_on, start_node}
 use Rattle.mpx_node.specs.declared.finished.Finished.{Finished}
 use Rattle.mpx_script.specs.declared.statement.Posting.{Posting}
-use Rattle.mpx_script.specs.declared.statement.Side.{Side}
+use Rattle.mpx_script.specs.declared.statement.Question.{Question}
 use Rattle.mpx_script.specs.declared.statement.Statement.{Statement}
 use Rattle.mpx_script.specs.Statements.{Gathers as Asked, draft_of, gathers_of}
 use Rattle.mpx_script.specs.Grammar.{named}
-use Rattle.mpx_script.specs.Ranks.{Bindings, Bound, Communicator, NullCommunicator, Line, Refused, Todo, Await, Local, doing, told_to}
+use Rattle.mpx_script.specs.Ranks.{Bindings, Bound, Communicator, NullCommunicator, Line, Idle, Todo, Await, Local, answered_by, doing}
 use Rattle.mpx_script.specs.Evaluation.{bound_at_start}
-use Rattle.mpx_script.specs.Transcripts.{line_text}
+use Rattle.mpx_script.specs.Transcripts.{line_text, outcome_text}
 use Rattle.mpx_run.specs.Systems.{System, Leads, node_births, start_system}
 
 -- a call whose outcome is awaited, and the word that its new communicator gets
@@ -36,11 +36,17 @@ pub record WaitView : Type 0 where
 abbrev pub Names : Type 0
 Names = List ℕ → Option (Option Name)
 
--- who it is, its node, what its words are bound to, the statements that are left, what it waits for, and the lines so far
+-- for which call the open request of each word stands
+abbrev pub Open : Type 0
+Open = List ℕ → Option (Name × ℕ)
+
+-- who it is, its node, what its words are bound to, its open requests, the statements that are left, what it waits for, and
+-- the lines so far
 pub record RankView : Type 0 where
   pub me : ℕ
   pub node : NodeView
   pub bound : Names
+  pub requests : Open
   pub todo : List Statement
   pub waits : Option WaitView
   pub lines : List (List ℕ)
@@ -69,7 +75,7 @@ or_new (Some old) new = old
 or_new None new = new
 
 -- the word, where there is one, is bound to this
-abbrev pub binds : Option (List ℕ) → Option Name → Names → Names
+abbrev pub binds : {A : Type 0} → Option (List ℕ) → A → (List ℕ → Option A) → List ℕ → Option A
 binds None to bound word = bound word
 binds (Some new) to bound word = cond (bytes_eq word new) (Some (or_new (bound word) to)) (bound word)
 
@@ -110,17 +116,50 @@ abbrev pub Tries : Tried → Result (Name × ℕ) PostError → NodeView → Typ
 Tries t (Ok call) new = (t.answer ≡ Ok call) × (new ≡ t.node)
 Tries t (Err refusal) new = (refusal ≡ OutOfMemory → ⊥) → (t.answer ≡ Err refusal) × (new ≡ t.node)
 
--- NEIGHBOURS
+-- QUESTIONS
 
--- the line of a statement that asks for them, where it is known how the communicator came to be
-abbrev pub neighbours_in : (me : ℕ) → Side → Option BirthView → Line
-neighbours_in me side None = Refused NotMember
-neighbours_in me side (Some birth) = told_to side birth (rank_in me birth.members)
+-- the communicator, where it is one and the node knows how it came to be
+abbrev pub known_to : NodeView → Option Name → Option (Name × BirthView)
+known_to node None = None
+known_to node (Some name) = option_map (λ birth. (name, birth)) (node_births node name)
 
--- the same by what the node knows of the communicator that its word is bound to
-abbrev pub neighbours_on : (me : ℕ) → Side → Option Name → NodeView → Line
-neighbours_on me side None node = Refused NotMember
-neighbours_on me side (Some name) node = neighbours_in me side (node_births node name)
+-- the line that answers a question, by what the node knows of what the words are bound to
+abbrev pub answered_on : (me : ℕ) → Names → Question → NodeView → Line
+answered_on me bound question node = answered_by me (λ word. known_to node (communicator_in (bound word))) question
+
+-- WAITING
+
+-- the requests but for that of a word
+abbrev pub closes : List ℕ → Open → Open
+closes word opened other = cond (bytes_eq word other) None (opened other)
+
+-- which are left open after a wait for these words
+abbrev pub closes_all : List (List ℕ) → Open → Open
+closes_all [] opened = opened
+closes_all (word ∷ words) opened = closes_all words (closes word opened)
+
+-- whether the node holds the result of the call, if a request stands for one
+abbrev pub is_held : NodeView → Option (Name × ℕ) → Bool
+is_held node None = true
+is_held node (Some call) = is_some (slice_get (results_on node call.0) call.1)
+
+-- whether it holds those of all open requests of these words
+abbrev pub are_held : NodeView → Open → List (List ℕ) → Bool
+are_held node opened words = list_all (λ word. is_held node (opened word)) words
+
+-- the line of a request, which is open or not, by the result that the node holds
+abbrev pub result_line : Option Finished → List ℕ
+result_line None = []
+result_line (Some finished) = outcome_text finished.outcome
+
+abbrev pub request_line : NodeView → Option (Name × ℕ) → List ℕ
+request_line node None = line_text Idle
+request_line node (Some call) = result_line (slice_get (results_on node call.0) call.1)
+
+-- the lines of a wait for these words: a request that was closed before is idle
+abbrev pub wait_lines : NodeView → Open → List (List ℕ) → List (List ℕ)
+wait_lines node opened [] = []
+wait_lines node opened (word ∷ words) = request_line node (opened word) ∷ wait_lines node (closes word opened) words
 
 -- WHERE A RANK STANDS
 
@@ -160,6 +199,7 @@ harvested name r = record r { node = stored name (next_result r.node name) r.nod
 pub record Stands (r : RankView) (s : Local) : Type 0 where
   pub me : r.me ≡ s.me
   pub bound : (word : List ℕ) → r.bound word ≡ names_in s.bound word
+  pub requests : (word : List ℕ) → r.requests word ≡ named s.requests word
   pub todo : s.todo ≡ todo_of r.waits r.todo
   pub lines : r.lines ≡ map line_text s.lines
 
@@ -203,6 +243,7 @@ pub record StartsAt (script : List (List Statement)) (ranks p : ℕ) (r : RankVi
   pub me : r.me ≡ p
   pub node : r.node ≡ start_node p ranks
   pub bound : (word : List ℕ) → r.bound word ≡ names_in (bound_at_start ranks) word
+  pub requests : (word : List ℕ) → r.requests word ≡ None
   pub todo : p < ranks → slice_get script p ≡ Some r.todo
   pub waits : r.waits ≡ None
   pub lines : r.lines ≡ []

@@ -47,6 +47,13 @@ abbrev pub EndsSo : End → List ℕ → Type 0
 EndsSo Finished waiting = waiting ≡ []
 EndsSo (Waiting ranks) waiting = (ranks.items ≡ waiting) × (waiting ≢ [])
 
+-- the text and the end of a script's evaluation: all its lines rank by rank, and who waits there
+pub record IsEvaluatedText (script : ScriptView) (end : End) (text : List ℕ) : Type 0 where
+  pub evaluation : State
+  pub is : IsEvaluation script.statements script.ranks evaluation
+  pub lines : text ≡ text_upto (lines_in evaluation) script.ranks
+  pub ends : EndsSo end (waiting_in evaluation script.ranks)
+
 -- the text and the end of a run: its lines rank by rank, and who waits. It begins, and where nobody waits is, that of the
 -- evaluation
 pub record IsReport (script : ScriptView) (relays : ℕ) (end : End) (text : List ℕ) : Type 0 where

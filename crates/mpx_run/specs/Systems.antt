@@ -15,7 +15,7 @@ use Rattle.mpx_world.specs.Worlds.{WorldView, Happening, Posts, Gathers, IsNoPos
 use Rattle.mpx_world.specs.Worlds.{goes_on as goes_on_world, start as start_world}
 use Rattle.mpx_script.specs.declared.statement.Posting.{Posting}
 use Rattle.mpx_script.specs.declared.statement.Statement.{Statement}
-use Rattle.mpx_script.specs.declared.statement.Statement.TheVariants.{Post, Ask}
+use Rattle.mpx_script.specs.declared.statement.Statement.TheVariants.{Post, Wait, Ask}
 use Rattle.mpx_script.specs.Statements.{Gathers as Asked, draft_of, gathers_of, posted_on}
 use Rattle.mpx_script.specs.Grammar.{named}
 use Rattle.mpx_script.specs.Ranks.{Bindings, Bound, Communicator, NullCommunicator, Todo, Do, Await, Local, Told}
@@ -52,7 +52,8 @@ posts_bound p posting (Some (Communicator name birth)) = posts_in p (draft_of po
 abbrev pub posts_of : ℕ → Bindings → List Todo → List Happening
 posts_of p bound [] = []
 posts_of p bound (Do (Post posting) ∷ rest) = posts_bound p posting (named bound (posted_on posting))
-posts_of p bound (Do (Ask on side) ∷ rest) = []
+posts_of p bound (Do (Wait requests) ∷ rest) = []
+posts_of p bound (Do (Ask question) ∷ rest) = []
 posts_of p bound (Await name call target ∷ rest) = []
 
 -- something that makes no post, or a rank's next move by what its node tells, with the posts that it makes there

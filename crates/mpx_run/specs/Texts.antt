@@ -1,6 +1,8 @@
--- What a run reads and writes.
-use Rattle.std.specs.Prelude.{◌≡◌, ◌<◌, ◌≤◌, ℕ, ◌+◌, List, length, codes, take, Option, Result, Ok, Err, IfSome}
+-- What a job reads and writes.
+use Rattle.std.specs.Prelude.{◌≡◌, ◌<◌, ◌≤◌, ℕ, zero, suc, pos, ◌+◌, List, [], ◌++◌, length, slice_index_or, codes, take, Option, Result, Ok, Err, IfSome}
 use Rattle.std.specs.Io.KnownBytes.{Appends, Consumes, Keeps}
+use Rattle.mpx_num.specs.Text.{number_text}
+use Rattle.mpx_script.specs.declared.statement.Statement.{Statement}
 use Rattle.mpx_script.specs.ScriptView.{ScriptView}
 use Rattle.mpx_script.specs.Faults.{error_text as refusal_text}
 use Rattle.mpx_script.specs.Reading.{reading}
@@ -8,9 +10,13 @@ use Rattle.mpx_script.specs.Words.{bytes_limit}
 use Rattle.mpx_run.specs.declared.bytes.ReadFault.{ReadFault}
 use Rattle.mpx_run.specs.declared.bytes.ReadFault.TheVariants as Fault
 use Rattle.mpx_run.specs.declared.end.End.{End}
+use Rattle.mpx_run.specs.declared.end.End.TheVariants.{Finished}
+use Rattle.mpx_run.specs.declared.options.Command.{Command}
+use Rattle.mpx_run.specs.declared.options.Command.TheVariants.{Run, Eval, Check}
+use Rattle.mpx_run.specs.declared.options.Job.{Job}
 use Rattle.mpx_run.specs.declared.texts.RunError.{RunError}
 use Rattle.mpx_run.specs.declared.texts.RunError.TheVariants as E
-use Rattle.mpx_run.specs.Runs.{IsReport}
+use Rattle.mpx_run.specs.Runs.{IsEvaluatedText, IsReport}
 
 -- the bytes that are read, where it is known what there is: one more than a script may have, or all
 abbrev pub IsInput : Option (List ℕ) → List ℕ → Type 0
@@ -37,53 +43,68 @@ error_text E.Memory = codes "out of memory"
 error_text E.Read = codes "read fault"
 error_text E.Write = codes "write fault"
 
--- a text is read as a script, of which a run with so many relays comes to that end and text
-pub record RunsTo (relays : ℕ) (text : List ℕ) (end : End) (out : List ℕ) : Type 0 where
+-- how many statements the first n ranks have
+abbrev pub statements_upto : List (List Statement) → ℕ → ℕ
+statements_upto statements zero = 0
+statements_upto statements (suc n) = statements_upto statements n + length (slice_index_or statements n [])
+
+-- the line of a script that is read alone
+abbrev pub check_text : ScriptView → List ℕ
+check_text script = codes "ok " ++ number_text (pos script.ranks) ++ codes " ranks " ++ number_text (pos (statements_upto script.statements script.ranks)) ++ codes " statements\n"
+
+-- to which end and text a script comes: a run with so many relays, its evaluation, or the script alone
+abbrev pub ComesTo : Command → (relays : ℕ) → ScriptView → End → List ℕ → Type 0
+ComesTo Run relays script end out = (script.ranks + relays ≤ 64) × IsReport script relays end out
+ComesTo Eval relays script end out = IsEvaluatedText script end out
+ComesTo Check relays script end out = (end ≡ Finished) × (out ≡ check_text script)
+
+-- a text is read as a script, with which the job comes to that end and text
+pub record DoneTo (job : Job) (text : List ℕ) (end : End) (out : List ℕ) : Type 0 where
   pub script : ScriptView
   pub read : reading text ≡ Ok script
-  pub few : script.ranks + relays ≤ 64
-  pub report : IsReport script relays end out
+  pub comes : ComesTo job.command job.options.relays script end out
 
--- a text is read as a script that has too many ranks for so many relays
-pub record HasTooMany (relays : ℕ) (text : List ℕ) : Type 0 where
+-- a text is read as a script that has too many ranks to be run with so many relays
+pub record HasTooMany (job : Job) (text : List ℕ) : Type 0 where
   pub script : ScriptView
   pub read : reading text ≡ Ok script
-  pub many : 64 < script.ranks + relays
+  pub runs : job.command ≡ Run
+  pub many : 64 < script.ranks + job.options.relays
 
--- the whole report of the text is out
-pub record PrintsWhole (relays : ℕ) (text : List ℕ) (old new : Option (List ℕ)) (end : End) : Type 0 where
+-- all that comes of the text is out
+pub record PrintsWhole (job : Job) (text : List ℕ) (old new : Option (List ℕ)) (end : End) : Type 0 where
   pub out : List ℕ
-  pub runs : RunsTo relays text end out
+  pub comes : DoneTo job text end out
   pub written : Appends old new out
 
--- a beginning of the text's report is out
-pub record PrintsPart (relays : ℕ) (text : List ℕ) (old new : Option (List ℕ)) : Type 0 where
+-- a beginning of it is out
+pub record PrintsPart (job : Job) (text : List ℕ) (old new : Option (List ℕ)) : Type 0 where
   pub end : End
   pub out : List ℕ
-  pub runs : RunsTo relays text end out
+  pub comes : DoneTo job text end out
   pub count : ℕ
   pub written : Appends old new (take count out)
 
--- what is out after the run of a text, by the answer
-abbrev pub Prints : (relays : ℕ) (text : List ℕ) (old new : Option (List ℕ)) → Result End RunError → Type 0
-Prints relays text old new (Ok end) = PrintsWhole relays text old new end
-Prints relays text old new (Err (E.Script refusal)) = (reading text ≡ Err refusal) × Keeps old new
-Prints relays text old new (Err E.TooManyProcesses) = HasTooMany relays text × Keeps old new
-Prints relays text old new (Err E.Memory) = Keeps old new
-Prints relays text old new (Err E.Read) = ⊥
-Prints relays text old new (Err E.Write) = PrintsPart relays text old new
+-- what is out after a job with a text, by the answer
+abbrev pub Prints : (job : Job) (text : List ℕ) (old new : Option (List ℕ)) → Result End RunError → Type 0
+Prints job text old new (Ok end) = PrintsWhole job text old new end
+Prints job text old new (Err (E.Script refusal)) = (reading text ≡ Err refusal) × Keeps old new
+Prints job text old new (Err E.TooManyProcesses) = HasTooMany job text × Keeps old new
+Prints job text old new (Err E.Memory) = Keeps old new
+Prints job text old new (Err E.Read) = ⊥
+Prints job text old new (Err E.Write) = PrintsPart job text old new
 
--- the reader's text is taken, and run
-pub record RunsInput (relays : ℕ) (there left old new : Option (List ℕ)) (answer : Result End RunError) : Type 0 where
+-- the reader's text is taken, and the job done with it
+pub record RunsInput (job : Job) (there left old new : Option (List ℕ)) (answer : Result End RunError) : Type 0 where
   pub text : List ℕ
   pub taken : TakesInput there left text
-  pub prints : Prints relays text old new answer
+  pub prints : Prints job text old new answer
 
--- what a reader has left and what is out after a run, by the answer
-abbrev pub Runs : (relays : ℕ) (there left old new : Option (List ℕ)) → Result End RunError → Type 0
-Runs relays there left old new (Ok end) = RunsInput relays there left old new (Ok end)
-Runs relays there left old new (Err (E.Script refusal)) = RunsInput relays there left old new (Err (E.Script refusal))
-Runs relays there left old new (Err E.TooManyProcesses) = RunsInput relays there left old new (Err E.TooManyProcesses)
-Runs relays there left old new (Err E.Memory) = TakesPart there left × Keeps old new
-Runs relays there left old new (Err E.Read) = TakesPart there left × Keeps old new
-Runs relays there left old new (Err E.Write) = RunsInput relays there left old new (Err E.Write)
+-- what a reader has left and what is out after a job, by the answer
+abbrev pub Runs : (job : Job) (there left old new : Option (List ℕ)) → Result End RunError → Type 0
+Runs job there left old new (Ok end) = RunsInput job there left old new (Ok end)
+Runs job there left old new (Err (E.Script refusal)) = RunsInput job there left old new (Err (E.Script refusal))
+Runs job there left old new (Err E.TooManyProcesses) = RunsInput job there left old new (Err E.TooManyProcesses)
+Runs job there left old new (Err E.Memory) = TakesPart there left × Keeps old new
+Runs job there left old new (Err E.Read) = TakesPart there left × Keeps old new
+Runs job there left old new (Err E.Write) = RunsInput job there left old new (Err E.Write)

@@ -1,3 +1,4 @@
+//! What is done with a script.
 /// How a run is simulated.
 #[derive(Clone, Copy, Debug, PartialEq, Eq)]
 pub struct Options {
@@ -9,4 +10,23 @@ pub struct Options {
     pub relays: u8,
     /// How many turns are made at most: 1 to 10,000,000.
     pub turns: u32,
+}
+
+/// What is asked for.
+#[derive(Clone, Copy, Debug, PartialEq, Eq)]
+pub enum Command {
+    /// The script's ranks are run over a simulated interconnect.
+    Run,
+    /// The script is evaluated, which no loss and no order change.
+    Eval,
+    /// The script is read alone.
+    Check,
+}
+
+/// What is asked for, and how a run is simulated.
+#[derive(Clone, Copy, Debug, PartialEq, Eq)]
+pub struct Job {
+    pub command: Command,
+    /// What counts for [`Command::Run`] alone.
+    pub options: Options,
 }

@@ -1,13 +1,17 @@
 ghost use Rattle.std.specs.Prelude.{◌≡◌, ◌<◌, ◌≤◌, ◌↔◌, ◌∷◌, ℕ, List, IfOk, OnOk, IsTrue, Some, None, [], false, map, string_bytes};
+ghost use Rattle.std.specs.BTreeMap.{get};
+ghost use Rattle.std.specs.Cmp.Lexicographic.{slice_cmp};
 ghost use Rattle.std.specs.Option.{option_copied};
+ghost use Rattle.std.specs.Ordering.{nat_cmp};
 ghost use Rattle.mpx_node.specs.Nodes.{Opens, checked_on, gathers_on};
 ghost use Rattle.mpx_node.specs.Shown.{node_of};
-ghost use Rattle.mpx_script.specs.declared.statement.Statement.TheVariants.{Ask, Post};
+ghost use Rattle.mpx_script.specs.declared.statement.Statement.TheVariants.{Ask, Post, Wait as WaitFor};
 ghost use Rattle.mpx_script.specs.Evaluation.{bound_at_start};
 ghost use Rattle.mpx_run.specs.Running.{KeepsNode, Tries, binds, communicator_in, given_name, names_in, tried_on, tried_post};
 ghost use Rattle.mpx_run.specs.Shown.{bound_of, wait_of};
 
-use crate::neighbours::own_neighbours_line;
+use crate::questions::answer;
+use crate::requests::{close_all, harvest_until, look_for};
 use join_core::{Exact, OutOfMemory};
 use mpx_board::Board;
 use mpx_group::Proc;
@@ -15,7 +19,7 @@ use mpx_name::Name;
 use mpx_node::Node;
 use mpx_num::Numbers;
 use mpx_post::{Draft, PostError};
-use mpx_script::{Posting, Side, Statement, Word, line, refused_line};
+use mpx_script::{Posting, Question, Statement, Word, WordList, line, refused_line};
 use mpx_value::Outcome;
 use std::alloc::Global;
 use std::collections::BTreeMap;
@@ -29,13 +33,15 @@ struct Wait<'a> {
 }
 
 /// A process of a run: who it is, its node, the contexts that it looks at, what its words are bound to (None: the null
-/// communicator), the statements that are left, the call whose outcome it waits for, and its lines. A relay has no statements.
+/// communicator), its open requests, each with the call that it stands for, the statements that are left, the call whose
+/// outcome it waits for, and its lines. A relay has no statements.
 #[derive(Drop)]
 pub(crate) struct Rank<'a> {
     me: Proc,
     node: Node,
     contexts: Vec<Name>,
     bound: BTreeMap<Word, Option<Name>>,
+    requests: BTreeMap<Word, (Name, u32)>,
     todo: &'a [Statement],
     waits: Option<Wait<'a>>,
     lines: Vec<String>,
@@ -62,6 +68,7 @@ impl<'a> Rank<'a> {
         ensures me { IfOk result (λ rank. (rank_of rank).me ≡ me) }
         ensures node { IfOk result (λ rank. (rank_of rank).node ≡ start_node me ranks) }
         ensures bound { IfOk result (λ rank. (word : List ℕ) → (rank_of rank).bound word ≡ names_in (bound_at_start ranks) word) }
+        ensures requests { IfOk result (λ rank. (word : List ℕ) → (rank_of rank).requests word ≡ None) }
         ensures todo { IfOk result (λ rank. (rank_of rank).todo ≡ todo.now) }
         ensures waits { IfOk result (λ rank. (rank_of rank).waits ≡ None) }
         ensures lines { IfOk result (λ rank. (rank_of rank).lines ≡ []) }
@@ -76,15 +83,16 @@ impl<'a> Rank<'a> {
             node,
             contexts,
             bound,
+            requests: BTreeMap::new(alloc),
             todo,
             waits: None,
             lines: Vec::new(alloc),
         })
     }
 
-    /// Goes on with the script until an outcome is missing: it looks for that of the last post before it posts anew. A rank
-    /// that waits has a result to store on that context alone; else it stores the next one of each context that it looks at.
-    /// It answers whether there was a move.
+    /// Goes on with the script until an outcome is missing. A rank that awaits the outcome of a blocking call looks at that
+    /// context alone; else it first stores the next result of each context that it looks at. It answers whether there was a
+    /// move.
     pub(crate) fn go_on(&mut self, alloc: Global) -> Result<bool, OutOfMemory>
         ensures { OnOk result (Moves (rank_of self.old) (rank_of self.new)) }
     {
@@ -152,7 +160,7 @@ impl<'a> Rank<'a> {
         ensures moves { OnOk result (Moves (record (rank_of self.old) { waits = Some (wait_of wait.entry) }) (rank_of self.new)) }
         ensures less { IfOk result (λ moved. IsTrue moved → left_of (rank_of self.new) ≡ left_of (rank_of self.old)) }
     {
-        self.node.harvest(alloc, &wait.name)?;
+        harvest_until(alloc, &mut self.node, &wait.name, wait.call)?;
         let Some(finished) = self.node.result(&wait.name, wait.call) else {
             self.waits = Some(wait);
             return Ok(false);
@@ -165,7 +173,8 @@ impl<'a> Rank<'a> {
         Ok(true)
     }
 
-    // The next statement: its post or the line of its refusal, or the line of the neighbours that it asks for.
+    // The next statement: its post or the line of its refusal, the lines of the requests that it waits for, where all of them
+    // are done, or the answer to its question.
     fn do_next(&mut self, alloc: Global) -> Result<bool, OutOfMemory>
         requires { (rank_of self.old).waits ≡ None }
         ensures moves { OnOk result (Moves (rank_of self.old) (rank_of self.new)) }
@@ -176,12 +185,13 @@ impl<'a> Rank<'a> {
         };
         match statement {
             Statement::Post(posting) => self.post_next(alloc, posting, rest)?,
-            Statement::Ask { on, side } => self.ask_next(alloc, on, *side, rest)?,
+            Statement::Wait(words) => return self.wait_next(alloc, words, rest),
+            Statement::Ask(question) => self.ask_next(alloc, question, rest)?,
         }
         Ok(true)
     }
 
-    // Posts the next statement.
+    // Posts the next statement. Where it is accepted its outcome is awaited, or its request is open from now on.
     fn post_next(
         &mut self,
         alloc: Global,
@@ -198,8 +208,13 @@ impl<'a> Rank<'a> {
         match attempt(alloc, &mut self.node, on, posting) {
             Ok((name, call)) => {
                 look_at_gathering(alloc, &mut self.contexts, &name, call)?;
-                let target = posting.target();
-                self.waits = Some(Wait { name, call, target });
+                match posting.request() {
+                    None => {
+                        let target = posting.target();
+                        self.waits = Some(Wait { name, call, target });
+                    }
+                    Some(word) => bind(alloc, &mut self.requests, Some(word), (name, call))?,
+                }
                 Ok(())
             }
             Err(refusal) => {
@@ -214,21 +229,46 @@ impl<'a> Rank<'a> {
         }
     }
 
-    // Tells the neighbours that the next statement asks for.
+    // Waits for the requests of the next statement: where its node can store the results of all that are open, it tells
+    // them and closes the requests. It answers whether it has.
+    fn wait_next(
+        &mut self,
+        alloc: Global,
+        words: &WordList,
+        rest: &'a [Statement],
+    ) -> Result<bool, OutOfMemory>
+        requires waits { (rank_of self.old).waits ≡ None }
+        requires todo { (rank_of self.old).todo ≡ WaitFor words.now ∷ rest.now }
+        ensures moves { OnOk result (Moves (rank_of self.old) (rank_of self.new)) }
+        ensures less { IfOk result (λ moved. IsTrue moved → left_of (rank_of self.new) < left_of (rank_of self.old)) }
+    {
+        if !look_for(alloc, &mut self.node, &self.requests, words.as_slice())? {
+            return Ok(false);
+        }
+        close_all(
+            alloc,
+            &self.node,
+            &mut self.requests,
+            &mut self.lines,
+            words.as_slice(),
+        )?;
+        self.todo = rest;
+        Ok(true)
+    }
+
+    // Answers the question of the next statement.
     fn ask_next(
         &mut self,
         alloc: Global,
-        on: &Word,
-        side: Side,
+        question: &Question,
         rest: &'a [Statement],
     ) -> Result<(), OutOfMemory>
         requires waits { (rank_of self.old).waits ≡ None }
-        requires todo { (rank_of self.old).todo ≡ Ask on.now side ∷ rest.now }
+        requires todo { (rank_of self.old).todo ≡ Ask question.now ∷ rest.now }
         ensures moves { OnOk result (Moves (rank_of self.old) (rank_of self.new)) }
         ensures less { OnOk result (left_of (rank_of self.new) < left_of (rank_of self.old)) }
     {
-        let on = context_of(&self.bound, on);
-        let text = own_neighbours_line(alloc, &self.node, self.me, on, side)?;
+        let text = answer(alloc, &self.node, self.me, &self.bound, question)?;
         self.lines.push(text)?;
         self.todo = rest;
         Ok(())
@@ -260,8 +300,11 @@ fn look_at_gathering(
     Ok(())
 }
 
-// The communicator that a word is bound to, where it is one.
-fn context_of<'m>(bound: &'m BTreeMap<Word, Option<Name>>, word: &Word) -> Option<&'m Name>
+/// The communicator that a word is bound to, where it is one.
+pub(crate) fn context_of<'m>(
+    bound: &'m BTreeMap<Word, Option<Name>>,
+    word: &Word,
+) -> Option<&'m Name>
     ensures { option_copied result ≡ communicator_in (bound_of bound.now word.now) }
 {
     match bound.get(word) {
@@ -293,6 +336,7 @@ fn attempt(
             post(alloc, node, name, draft)
         }
         Posting::Call { .. } => post_on(alloc, node, on, draft),
+        Posting::Start { .. } => post_on(alloc, node, on, draft),
         Posting::New { .. } => post_on(alloc, node, on, draft),
     }
 }
@@ -354,13 +398,13 @@ fn world_alone(alloc: Global) -> Result<BTreeMap<Word, Option<Name>>, OutOfMemor
 }
 
 // Binds a word, where there is one; what was bound stays.
-fn bind(
+fn bind<V: Drop>(
     alloc: Global,
-    bound: &mut BTreeMap<Word, Option<Name>>,
+    bound: &mut BTreeMap<Word, V>,
     target: Option<&Word>,
-    to: Option<Name>,
+    to: V,
 ) -> Result<(), OutOfMemory>
-    ensures { OnOk result ((word : List ℕ) → bound_of bound.new word ≡ binds (option_copied target.entry) to (bound_of bound.old) word) }
+    ensures { OnOk result ((word : List ℕ) → get (slice_cmp nat_cmp) bound.new word ≡ binds (option_copied target.entry) to (get (slice_cmp nat_cmp) bound.old) word) }
 {
     let Some(word) = target else {
         return Ok(());
@@ -372,8 +416,8 @@ fn bind(
     Ok(())
 }
 
-// Stores the next result on each context, where there is one. A rank that waits has one on that context alone, and looks for
-// it by itself.
+// Stores the next result on each context, where there is one. A rank that awaits the outcome of a blocking call looks for that
+// by itself.
 fn harvest_all(
     alloc: Global,
     node: &mut Node,

@@ -4,7 +4,7 @@ ghost use Rattle.mpx_script.specs.Evaluation.{State, IsEvaluation};
 ghost use Rattle.mpx_script.specs.Reports.{transcripts_of, which};
 ghost use Rattle.mpx_script.specs.Transcripts.{rank_text, text_upto};
 ghost use Rattle.mpx_run.specs.Running.{RankView, is_waiting_at};
-ghost use Rattle.mpx_run.specs.Runs.{AreWhole, Begin, EndsSo, IsReport, IsRun, lines_at};
+ghost use Rattle.mpx_run.specs.Runs.{AreWhole, Begin, EndsSo, IsEvaluatedText, IsReport, IsRun, lines_at};
 ghost use Rattle.mpx_run.specs.Shown.{rank_of};
 
 use crate::end::End;
@@ -12,6 +12,7 @@ use crate::options::Options;
 use crate::rank::Rank;
 use crate::turns::simulate;
 use join_core::OutOfMemory;
+use mpx_eval::eval;
 use mpx_node::Node;
 use mpx_num::push_number;
 use mpx_script::{Report, Script};
@@ -93,7 +94,7 @@ fn parts_of(
     Ok((transcripts, nodes))
 }
 
-/// The text of a run, and how it ended.
+/// The text of a run or an evaluation, and how it ended.
 #[derive(Drop)]
 pub(crate) struct Printed {
     pub(crate) text: String,
@@ -110,9 +111,25 @@ pub(crate) fn print(
     ensures { IfOk result (λ printed. IsReport script.now options.now.relays printed.end (string_bytes printed.text)) }
 {
     let run = run_sim(alloc, script, options)?;
-    let ranks = script.ranks();
-    let text = text_of(alloc, &run.report, ranks)?;
-    let end = end_of(run.report.waiting);
+    print_report(alloc, run.report, script.ranks())
+}
+
+/// The same of a script's evaluation.
+pub(crate) fn print_evaluation(alloc: Global, script: &Script) -> Result<Printed, OutOfMemory>
+    ensures { IfOk result (λ printed. IsEvaluatedText script.now printed.end (string_bytes printed.text)) }
+{
+    let report = eval(alloc, script)?;
+    print_report(alloc, report, script.ranks())
+}
+
+// The lines of all ranks, and who waits.
+fn print_report(alloc: Global, report: Report, ranks: u8) -> Result<Printed, OutOfMemory>
+    requires { ranks ≤ length (transcripts_of report) }
+    ensures text { IfOk result (λ printed. string_bytes printed.text ≡ text_upto (lines_at (transcripts_of report)) ranks) }
+    ensures end { IfOk result (λ printed. EndsSo printed.end report.waiting.items) }
+{
+    let text = text_of(alloc, &report, ranks)?;
+    let end = end_of(report.waiting);
     Ok(Printed { text, end })
 }
 

@@ -1,12 +1,14 @@
-//! A run from the bytes of a script to the text of its ranks.
-ghost use Rattle.std.specs.Prelude.{◌≡◌, Some};
-ghost use Rattle.mpx_run.specs.Texts.{Prints, Runs, error_text, told};
+//! A job from the bytes of a script to what it prints.
+ghost use Rattle.std.specs.Prelude.{◌≡◌, ◌+◌, ◌<◌, ◌≤◌, IfOk, IsFalse, IsTrue, Some, string_bytes};
+ghost use Rattle.mpx_run.specs.Texts.{ComesTo, Prints, Runs, error_text, told};
 
 use crate::bytes::{ReadFault, WriteFault, read_bytes, write_bytes};
+use crate::check::check_text;
 use crate::end::End;
-use crate::options::Options;
-use crate::report::print;
-use mpx_script::{ReadScriptError, ScriptError, read_script};
+use crate::options::{Command, Job};
+use crate::report::{Printed, print, print_evaluation};
+use join_core::OutOfMemory;
+use mpx_script::{ReadScriptError, Script, ScriptError, read_script};
 use std::alloc::Global;
 use std::fmt;
 use std::io::{Read, Write};
@@ -14,12 +16,12 @@ use std::io::{Read, Write};
 // So many ranks and relays there are at most.
 const MOST_PROCESSES: u8 = 64;
 
-/// Why a run has no end, or why its text could not be written whole. It prints as one line of text.
+/// Why a job has no end, or why its text could not be written whole. It prints as one line of text.
 #[derive(Debug, Drop)]
 pub enum RunError {
     /// The script is refused.
     Script(ScriptError),
-    /// There are more than 64 ranks and relays.
+    /// There are more than 64 ranks and relays to be run.
     TooManyProcesses,
     /// There is no more memory.
     Memory,
@@ -56,47 +58,75 @@ impl From<ReadFault> for RunError {
     }
 }
 
-/// Reads a script, runs it and writes each rank's lines as `RANK: LINE`, rank by rank.
+/// Reads a script, and writes what it comes to: of [`Command::Run`] and [`Command::Eval`] each rank's lines as `RANK: LINE`,
+/// rank by rank, of [`Command::Check`] the line `ok N ranks M statements`, where M counts a statement once for each rank that has it.
 ///
 /// The reader is read to its end, or up to one byte more than a script may have, in at most 1,048,577 calls; a call that
-/// fails ends it. Nothing is written before the run has ended; after `Write` a beginning of the text is out, and after
+/// fails ends it. Nothing is written before all is computed; after `Write` a beginning of the text is out, and after
 /// every other error nothing. No clause says that `Read` and `Write` come only where the reader or the writer fails,
 /// nor that all is flushed: that is shown by tests.
 pub fn run_text<R: Read, W: Write>(
     alloc: Global,
-    options: &Options,
+    job: &Job,
     reader: &mut R,
     writer: &mut W,
 ) -> Result<End, RunError>
-    ensures { Runs options.now.relays (R.remaining reader.old) (R.remaining reader.new) (W.contents writer.old) (W.contents writer.new) result }
+    ensures { Runs job.now (R.remaining reader.old) (R.remaining reader.new) (W.contents writer.old) (W.contents writer.new) result }
 {
     let text = read_bytes(alloc, reader)?;
-    run_bytes(alloc, options, &text, writer)
+    run_bytes(alloc, job, &text, writer)
 }
 
-/// Runs the script that the bytes are, and writes its ranks' lines, as [`run_text`] does once it has read them. It never
-/// answers `Read`.
+/// Does the job with the script that the bytes are, as [`run_text`] does once it has read them. It never answers `Read`.
 pub fn run_bytes<W: Write>(
     alloc: Global,
-    options: &Options,
+    job: &Job,
     text: &[u8],
     writer: &mut W,
 ) -> Result<End, RunError>
-    ensures { Prints options.now.relays text.now (W.contents writer.old) (W.contents writer.new) result }
+    ensures { Prints job.now text.now (W.contents writer.old) (W.contents writer.new) result }
 {
     let script = match read_script(alloc, text) {
         Ok(script) => script,
         Err(ReadScriptError::Refused(refusal)) => return Err(RunError::Script(refusal)),
         Err(ReadScriptError::OutOfMemory) => return Err(RunError::Memory),
     };
-    if options.relays > MOST_PROCESSES - script.ranks() {
+    if has_too_many(job, script.ranks()) {
         return Err(RunError::TooManyProcesses);
     }
-    let Ok(printed) = print(alloc, &script, options) else {
+    let Ok(printed) = printed_of(alloc, &script, job) else {
         return Err(RunError::Memory);
     };
     match write_bytes(writer, printed.text.as_bytes()) {
         Ok(()) => Ok(printed.end),
         Err(WriteFault) => Err(RunError::Write),
+    }
+}
+
+// Whether ranks are to be run with too many relays.
+fn has_too_many(job: &Job, ranks: u8) -> bool
+    requires { ranks ≤ 64 }
+    ensures many { IsTrue result → (job.now.command ≡ Command.Run) × (64 < ranks + job.now.options.relays) }
+    ensures few { IsFalse result → job.now.command ≡ Command.Run → ranks + job.now.options.relays ≤ 64 }
+{
+    match job.command {
+        Command::Run => job.options.relays > MOST_PROCESSES - ranks,
+        Command::Eval => false,
+        Command::Check => false,
+    }
+}
+
+// What a script comes to.
+fn printed_of(alloc: Global, script: &Script, job: &Job) -> Result<Printed, OutOfMemory>
+    requires { job.now.command ≡ Command.Run → script.now.ranks + job.now.options.relays ≤ 64 }
+    ensures { IfOk result (λ printed. ComesTo job.now.command job.now.options.relays script.now printed.end (string_bytes printed.text)) }
+{
+    match job.command {
+        Command::Run => print(alloc, script, &job.options),
+        Command::Eval => print_evaluation(alloc, script),
+        Command::Check => Ok(Printed {
+            text: check_text(alloc, script)?,
+            end: End::Finished,
+        }),
     }
 }

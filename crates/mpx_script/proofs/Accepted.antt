@@ -1,11 +1,13 @@
 -- The words of a call that is accepted.
 use Rattle.std.proofs.Common.{◌≡◌, Bool, true, false, not, ◌||◌, cond, List, [], ℕ, ℤ, pos, Option, Some, None, is_some, refl, ap, ◌∙◌}
+use Rattle.std.specs.Prelude.{unwrap_or}
+use Rattle.std.proofs.lemmas.Option.{same_Some}
 use Rattle.std.specs.List.{list_any}
 use Rattle.mpx_num.specs.Text.{number_of}
 use Rattle.mpx_kind.specs.declared.kinds.Kind.{Kind}
 use Rattle.mpx_post.specs.Kinds.{fields_of}
 use Rattle.mpx_post.specs.Graphs.{GraphView}
-use Rattle.mpx_script.specs.Grammar.{NewSyntax, CallSyntax, fails, is_number, colour_named, list_named, has_strange_count, has_strange_number, has_strange_list, has_strange_new_list, graph_in}
+use Rattle.mpx_script.specs.Grammar.{NewSyntax, CallSyntax, fails, is_number, said, colour_named, list_named, has_strange_count, has_strange_number, has_strange_list, has_strange_new_list, graph_in}
 use Rattle.mpx_script.specs.Sentences.{IsRefusal, counts_refusal, draft_refusal, fields_refusal, read_at}
 use Rattle.mpx_script.specs.declared.faults.LineError.{LineError}
 use Rattle.mpx_script.specs.declared.faults.LineError.TheVariants.{Fault, OutOfMemory}
@@ -21,6 +23,11 @@ read_says meaning other (Some word) x h = ap (λ said. not (is_some said)) h
 pub read_nothing : {A : Type 0} (meaning : List ℕ → Option A) (other : A) (word : Option (List ℕ)) → read_at meaning other word ≡ None → fails (λ word. is_some (meaning word)) word ≡ true
 read_nothing meaning other None h = cc
 read_nothing meaning other (Some word) h = ap (λ said. not (is_some said)) h
+
+-- then that is what the word says, or what stands for no word
+pub said_is : {A : Type 0} (meaning : List ℕ → Option A) (other : A) (word : Option (List ℕ)) (x : A) → read_at meaning other word ≡ Some x → said meaning other word ≡ x
+said_is meaning other None x h = same_Some other x h
+said_is meaning other (Some word) x h = ap (λ found. unwrap_or found other) h
 
 fields_of_counts : (counts lists : Bool) → cond (counts || false) (Some BadNumber) (cond lists (Some BadList) None) ≡ cond counts (Some BadNumber) (cond lists (Some BadList) None)
 fields_of_counts true lists = refl

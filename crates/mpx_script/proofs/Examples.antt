@@ -3,7 +3,12 @@ use Rattle.std.proofs.Common.{◌≡◌, ℕ, true, List, [], ◌∷◌, ◌++�
 use Rattle.mpx_num.specs.Text.{number_of, magnitude}
 use Rattle.mpx_num.specs.declared.types.Ty.TheVariants.{I8, I32, I64, U8, U64, TwoInt}
 use Rattle.mpx_num.specs.declared.operations.Op.TheVariants.{Sum, Max}
+use Rattle.mpx_kind.specs.declared.kinds.Call.TheVariants.{Exchange, Reduction, Neighbourhood}
+use Rattle.mpx_kind.specs.declared.kinds.Exchange.TheVariants as E
 use Rattle.mpx_kind.specs.declared.kinds.Kind.{Kind}
+use Rattle.mpx_kind.specs.declared.kinds.Mode.TheVariants.{Nonblocking}
+use Rattle.mpx_kind.specs.declared.kinds.Neighbourhood.TheVariants as H
+use Rattle.mpx_kind.specs.declared.kinds.Reduction.TheVariants as R
 use Rattle.mpx_kind.specs.declared.kinds.Kind.TheVariants.{Barrier, Bcast, Gatherv, Scatterv, Allreduce, ReduceScatter, Dup, Split, Create, DistGraph, DistGraphAdjacent, NeighborAlltoall, NeighborAlltoallv}
 use Rattle.mpx_post.specs.declared.draft.Draft.{Draft}
 use Rattle.mpx_post.specs.declared.drafted_edges.DraftedEdge.{DraftedEdge}
@@ -11,14 +16,17 @@ use Rattle.mpx_post.specs.declared.drafted_edges.DraftedNeighbour.{DraftedNeighb
 use Rattle.mpx_post.specs.Graphs.{GraphView, no_graph}
 use Rattle.mpx_post.specs.Kinds.{blocking}
 use Rattle.mpx_script.specs.Words.{words, counts, is_ascii}
-use Rattle.mpx_script.specs.Grammar.{ranks_number, kind_named, side_named, operation_named, type_named, list_named, new_in, call_in, label_of, statements_in, is_name, colour_named, edge_named, neighbour_named, is_weighted, entries_in, edges_graph, neighbours_graph, graph_in, lacks_ranks, has_ranks_out_of_range, has_rank_out_of_range, is_unknown, has_wrong_words, has_bad_number, has_bad_list, has_bad_name, has_unknown_name, has_taken_name, names_rank, statement_in}
+use Rattle.mpx_script.specs.Grammar.{ranks_number, kind_named, started_named, local_named, operation_named, type_named, list_named, rank_named, ranks_named, new_in, call_in, ask_in, label_of, statements_in, colour_named, edge_named, neighbour_named, is_weighted, entries_in, edges_graph, neighbours_graph, graph_in, lacks_ranks, has_ranks_out_of_range, has_rank_out_of_range, is_unknown, has_wrong_words, has_bad_number, has_bad_list, names_rank, statement_in}
+use Rattle.mpx_script.specs.Naming.{is_name, has_bad_name, has_unknown_name, has_taken_name}
 use Rattle.mpx_script.specs.ScriptView.{ScriptView}
 use Rattle.mpx_script.specs.Reading.{reading}
 use Rattle.mpx_script.specs.declared.statement.Posting.{Posting}
-use Rattle.mpx_script.specs.declared.statement.Posting.TheVariants.{Call, New, CreateGroup}
+use Rattle.mpx_script.specs.declared.statement.Posting.TheVariants.{Call, Start, New, CreateGroup}
+use Rattle.mpx_script.specs.declared.statement.Question.{Question}
+use Rattle.mpx_script.specs.declared.statement.Question.TheVariants.{Neighbours, Compare, Translate}
 use Rattle.mpx_script.specs.declared.statement.Side.TheVariants.{Sources, Destinations}
 use Rattle.mpx_script.specs.declared.statement.Statement.{Statement}
-use Rattle.mpx_script.specs.declared.statement.Statement.TheVariants.{Post, Ask}
+use Rattle.mpx_script.specs.declared.statement.Statement.TheVariants.{Post, Wait, Ask}
 use Rattle.mpx_script.specs.declared.faults.ScriptFault.{ScriptFault}
 use Rattle.mpx_script.specs.declared.faults.ScriptFault.TheVariants.{NoRanksLine, RanksOutOfRange, RankOutOfRange, UnknownStatement, WrongWords, BadNumber, BadList, BadName, NameUnknown, NameTaken}
 use Rattle.mpx_script.specs.declared.faults.ScriptError.{ScriptError}
@@ -49,6 +57,17 @@ says draft = Ok (record { ranks = 1; statements = (Post (Call (codes "world") dr
 -- one rank with this statement that makes a communicator
 makes : Posting → Result ScriptView ScriptError
 makes posting = Ok (record { ranks = 1; statements = (Post posting ∷ []) ∷ [] })
+
+-- one rank with this question
+asks : Question → Result ScriptView ScriptError
+asks question = Ok (record { ranks = 1; statements = (Ask question ∷ []) ∷ [] })
+
+-- a barrier, and a sum, whose requests are these names
+barrier_as : List ℕ → Posting
+barrier_as request = Start (codes "world") (record (blank Barrier) { call = Exchange E.Barrier Nonblocking }) request
+
+sum_as : List ℕ → Posting
+sum_as request = Start (codes "world") (record (blank Allreduce) { call = Reduction R.Allreduce Nonblocking; ty = I32; items = pos 1 ∷ pos 2 ∷ [] }) request
 
 -- a graph of any edges, and one of a rank's own neighbours, for `a`
 of_edges : GraphView → Posting
@@ -122,12 +141,43 @@ record Examples : Type 0 where
   lists_of_neighbours : reading (alone (codes "0: neighbor_alltoallv world i32 1,0 - 5")) ≡ says (record (blank NeighborAlltoallv) { ty = I32; scounts = pos 1 ∷ pos 0 ∷ []; items = pos 5 ∷ [] })
   list_for_a_send_count : reading (alone (codes "0: neighbor_alltoall world i32 1,0 x 5")) ≡ refused_at 2 BadNumber
   asked : reading (script (codes "ranks 2" ∷ codes "*: sources world" ∷ codes "1: destinations world" ∷ []))
-      ≡ Ok (record { ranks = 2; statements = (Ask (codes "world") Sources ∷ []) ∷ (Ask (codes "world") Sources ∷ Ask (codes "world") Destinations ∷ []) ∷ [] })
+      ≡ Ok (record { ranks = 2; statements = (Ask (Neighbours (codes "world") Sources) ∷ []) ∷ (Ask (Neighbours (codes "world") Sources) ∷ Ask (Neighbours (codes "world") Destinations) ∷ []) ∷ [] })
   word_behind_sources : reading (alone (codes "0: sources world world")) ≡ refused_at 2 WrongWords
   nonblocking_sources : reading (alone (codes "0: isources world")) ≡ refused_at 2 UnknownStatement
+  nonblocking_sum : reading (alone (codes "0: iallreduce world sum i32 1 2 -> r")) ≡ makes (sum_as (codes "r"))
+  nonblocking_barrier : reading (alone (codes "0: ibarrier world -> r ")) ≡ makes (barrier_as (codes "r"))
+  nonblocking_neighbours : reading (alone (codes "0: ineighbor_alltoallv world i8 - 3 -> r")) ≡ makes (Start (codes "world") (record (blank NeighborAlltoallv) { call = Neighbourhood H.Alltoallv Nonblocking; rcounts = pos 3 ∷ [] }) (codes "r"))
+  request_for_an_operation : reading (alone (codes "0: iallreduce world -> r")) ≡ refused_at 2 UnknownStatement
+  request_for_a_type : reading (alone (codes "0: iallreduce world sum -> r")) ≡ refused_at 2 UnknownStatement
+  request_for_a_count : reading (alone (codes "0: ialltoall world i32 -> r")) ≡ refused_at 2 WrongWords
+  no_request : reading (alone (codes "0: iallreduce world sum i32 1 2")) ≡ refused_at 2 WrongWords
+  item_behind_barrier : reading (alone (codes "0: ibarrier world 1 -> r")) ≡ refused_at 2 WrongWords
+  arrow_among_items : reading (alone (codes "0: iallreduce world sum i32 -> 1 -> r")) ≡ refused_at 2 BadNumber
+  request_of_a_blocking_call : reading (alone (codes "0: allreduce world sum i32 1 -> r")) ≡ refused_at 2 BadNumber
+  strange_request : reading (alone (codes "0: ibarrier nope -> R")) ≡ refused_at 2 BadName
+  nonblocking_dup : reading (alone (codes "0: idup world -> a")) ≡ refused_at 2 UnknownStatement
+  nonblocking_wait : reading (alone (codes "0: iwait r")) ≡ refused_at 2 UnknownStatement
+  waits : reading (script (codes "ranks 1" ∷ codes "0: ibarrier world -> r" ∷ codes "0: ibarrier world -> s" ∷ codes "0: wait r" ∷ codes "0: waitall s r s" ∷ []))
+      ≡ Ok (record { ranks = 1; statements = (Post (barrier_as (codes "r")) ∷ Post (barrier_as (codes "s")) ∷ Wait (codes "r" ∷ []) ∷ Wait (codes "s" ∷ codes "r" ∷ codes "s" ∷ []) ∷ []) ∷ [] })
+  wait_for_nothing : reading (alone (codes "0: waitall")) ≡ refused_at 2 WrongWords
+  wait_for_two : reading (alone (codes "0: wait r r")) ≡ refused_at 2 WrongWords
+  wait_for_no_name : reading (alone (codes "0: waitall r R")) ≡ refused_at 2 BadName
+  wait_for_nobody : reading (alone (codes "0: wait r")) ≡ refused_at 2 NameUnknown
+  wait_for_a_communicator : reading (alone (codes "0: wait world")) ≡ refused_at 2 NameUnknown
+  call_on_a_request : reading (script (codes "ranks 1" ∷ codes "0: ibarrier world -> r" ∷ codes "0: barrier r" ∷ [])) ≡ refused_at 3 NameUnknown
+  request_taken : reading (script (codes "ranks 1" ∷ codes "0: ibarrier world -> r" ∷ codes "0: ibarrier world -> r" ∷ [])) ≡ refused_at 3 NameTaken
+  request_like_world : reading (alone (codes "0: ibarrier world -> world")) ≡ refused_at 2 NameTaken
+  communicator_like_a_request : reading (script (codes "ranks 1" ∷ codes "0: ibarrier world -> r" ∷ codes "0: dup world -> r" ∷ [])) ≡ refused_at 3 NameTaken
+  compared : reading (alone (codes "0: compare world world")) ≡ asks (Compare (codes "world") (codes "world"))
+  one_compared : reading (alone (codes "0: compare world")) ≡ refused_at 2 WrongWords
+  translated : reading (alone (codes "0: translate world world 0,null,2")) ≡ asks (Translate (codes "world") (codes "world") (Some (pos 0) ∷ None ∷ Some (pos 2) ∷ []))
+  none_translated : reading (alone (codes "0: translate world world -")) ≡ asks (Translate (codes "world") (codes "world") [])
+  undefined_translated : reading (alone (codes "0: translate world world 0,undefined")) ≡ refused_at 2 BadList
+  null_in_a_list : reading (alone (codes "0: create world 0,null -> a")) ≡ refused_at 2 BadList
+  translated_to_nobody : reading (alone (codes "0: translate world a 0")) ≡ refused_at 2 NameUnknown
 
 examples : Examples
-unfolding script alone refused_at sum_of says makes of_edges of_neighbours edge neighbour number_of magnitude words counts is_ascii ranks_number kind_named side_named operation_named type_named list_named new_in call_in label_of statements_in is_name colour_named edge_named neighbour_named is_weighted entries_in edges_graph neighbours_graph graph_in lacks_ranks has_ranks_out_of_range has_rank_out_of_range is_unknown has_wrong_words has_bad_number has_bad_list has_bad_name has_unknown_name has_taken_name names_rank statement_in reading
+unfolding script alone refused_at sum_of says makes asks barrier_as sum_as of_edges of_neighbours edge neighbour number_of magnitude words counts is_ascii ranks_number kind_named started_named local_named operation_named type_named list_named rank_named ranks_named new_in call_in ask_in label_of statements_in is_name colour_named edge_named neighbour_named is_weighted entries_in edges_graph neighbours_graph graph_in lacks_ranks has_ranks_out_of_range has_rank_out_of_range is_unknown has_wrong_words has_bad_number has_bad_list has_bad_name has_unknown_name has_taken_name names_rank statement_in reading
 examples = record {
   three_ranks = refl;
   every_rank = refl;
@@ -183,4 +233,34 @@ examples = record {
   asked = refl;
   word_behind_sources = refl;
   nonblocking_sources = refl;
+  nonblocking_sum = refl;
+  nonblocking_barrier = refl;
+  nonblocking_neighbours = refl;
+  request_for_an_operation = refl;
+  request_for_a_type = refl;
+  request_for_a_count = refl;
+  no_request = refl;
+  item_behind_barrier = refl;
+  arrow_among_items = refl;
+  request_of_a_blocking_call = refl;
+  strange_request = refl;
+  nonblocking_dup = refl;
+  nonblocking_wait = refl;
+  waits = refl;
+  wait_for_nothing = refl;
+  wait_for_two = refl;
+  wait_for_no_name = refl;
+  wait_for_nobody = refl;
+  wait_for_a_communicator = refl;
+  call_on_a_request = refl;
+  request_taken = refl;
+  request_like_world = refl;
+  communicator_like_a_request = refl;
+  compared = refl;
+  one_compared = refl;
+  translated = refl;
+  none_translated = refl;
+  undefined_translated = refl;
+  null_in_a_list = refl;
+  translated_to_nobody = refl;
 }

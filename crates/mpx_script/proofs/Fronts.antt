@@ -1,5 +1,5 @@
 -- Beginnings of lists, and of the posts of processes.
-use Rattle.std.proofs.Common.{◌≡◌, ℕ, zero, suc, List, [], ◌∷◌, ◌++◌, Some, refl, sym, ap, ◌∙◌, subst, append_assoc}
+use Rattle.std.proofs.Common.{◌≡◌, ℕ, zero, suc, List, [], ◌∷◌, ◌++◌, Some, ◌⊎◌, inl, inr, refl, sym, ap, ◌∙◌, subst, append_assoc}
 use Rattle.std.specs.Prelude.{slice_get}
 use Rattle.mpx_name.specs.Name.{Name}
 use Rattle.mpx_value.specs.Histories.{Made, posts_on, Grows}
@@ -20,6 +20,12 @@ pub slice_get-append : {A : Type 0} (xs ys : List A) (k : ℕ) (x : A) → slice
 slice_get-append [] ys k x e = cc e
 slice_get-append (y ∷ xs) ys zero x e = e
 slice_get-append (y ∷ xs) ys (suc k) x e = slice_get-append xs ys k x e
+
+-- an element of both is one of the first or one of the second
+pub slice_get-parts : {A : Type 0} (xs ys : List A) (k : ℕ) (x : A) → slice_get (xs ++ ys) k ≡ Some x → (slice_get xs k ≡ Some x) ⊎ ((j : ℕ) × (slice_get ys j ≡ Some x))
+slice_get-parts [] ys k x e = inr (k, e)
+slice_get-parts (y ∷ xs) ys zero x e = inl e
+slice_get-parts (y ∷ xs) ys (suc k) x e = slice_get-parts xs ys k x e
 
 -- an element stays where others follow
 pub prefix_get : {A : Type 0} (xs ys : List A) → IsPrefixOf xs ys → (k : ℕ) (x : A) → slice_get xs k ≡ Some x → slice_get ys k ≡ Some x

@@ -6,11 +6,11 @@ pub mod Added
 pub mod Names
 pub mod Settling
 pub mod Progress
+mod Examples
 pub mod Fronts
 pub mod Steps
 pub mod Ways
 pub mod Ahead
 pub mod Ends
 pub mod Tells
-mod Examples
 mod EvaluationExamples

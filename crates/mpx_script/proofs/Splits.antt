@@ -1,10 +1,13 @@
 -- The parts of a text between newlines, and of a line between blanks.
-use Rattle.std.proofs.Common.{◌≡◌, ℕ, suc, ◌+◌, ◌<◌, ◌==◌, Bool, true, false, not, cond, List, [], ◌∷◌, length, take, drop, get_or, slice_get, slice_index, refl, sym, ap, ◌∙◌, subst, arith, inl, inr}
-use Rattle.std.specs.List.{prefix_len, position_or_len, slice_split, onto_first, filter}
+use Rattle.std.proofs.Common.{◌≡◌, ℕ, zero, suc, ◌+◌, ◌-◌, ◌<◌, ◌≤◌, ◌==◌, nat_lt, Bool, true, false, not, ◌&&◌, ◌||◌, ◌⊎◌, cond, List, [], ◌∷◌, ◌++◌, length, take, drop, get_or, slice_get, slice_index, Some, refl, sym, ap, ◌∙◌, subst, arith, inl, inr}
+use Rattle.std.specs.List.{prefix_len, position_or_len, slice_split, onto_first, filter, list_any}
 use Rattle.std.specs.Option.{option_map_or}
 use Rattle.std.specs.Str.Lines.{lines, lines_of_parts, strip_carriage_return}
-use Rattle.std.proofs.lemmas.Bool.{cases_lt}
-use Rattle.std.proofs.lemmas.List.{drop_more, drop_all, take_all, nil_from_length, take-append-drop, length-append}
+use Rattle.std.proofs.lemmas.Bool.{cases_lt, lt-ltb}
+use Rattle.std.proofs.lemmas.List.{append-nil, drop_more, get_or_push, get_or-take, length_push, length-take-le, drop_all, take_all, take_more, nil_from_length, take-append-drop, length-append, length-drop}
+use Rattle.std.proofs.lemmas.List.Elements.{filter-append}
+use Rattle.std.proofs.lemmas.Option.{slice_get-get_or}
+use Rattle.std.proofs.Math.Seq.{take-append_seam}
 use Rattle.std.proofs.lemmas.List.Sums.{fails_before_first, passes_at_first}
 use Rattle.std.proofs.lemmas.List.Splits.{slice_split_first, slice_split_none}
 use Rattle.std.proofs.lemmas.Bool.Decides.{nat_tests}
@@ -116,3 +119,105 @@ last_from_part xs line rest (ended z more passes tail parts) front back done h =
 -- the last line, which none ends
 pub line_last : (xs line rest : List ℕ) → line ≡ take (position_or_len (λ b. b == 10) xs) xs → rest ≡ drop (position_or_len (λ b. b == 10) xs) xs → length rest ≡ 0 → 0 < length xs → lines xs ≡ line ∷ lines rest
 line_last xs line rest front back done h = last_from_part xs line rest (first_part (λ b. b == 10) xs) front back done h
+
+-- Blanks within a line
+
+onto_first_append : (x : ℕ) (first : List ℕ) (more rest : List (List ℕ)) → onto_first x ((first ∷ more) ++ rest) ≡ onto_first x (first ∷ more) ++ rest
+onto_first_append x first more rest = refl
+
+split_append : (p : ℕ → Bool) (xs : List ℕ) (b : ℕ) (ys : List ℕ) → p b ≡ true → slice_split p (xs ++ b ∷ ys) ≡ slice_split p xs ++ slice_split p ys
+split_append p [] b ys h = rw h
+split_append p (x ∷ xs) b ys h =
+    let parts : (first : List ℕ) × (more : List (List ℕ)) × (slice_split p xs ≡ first ∷ more) = split_has_part p xs in
+    let later : slice_split p (xs ++ b ∷ ys) ≡ (parts.0 ∷ parts.1) ++ slice_split p ys = split_append p xs b ys h ∙ ap (λ ps. ps ++ slice_split p ys) parts.2 in
+    elim (p x) as (λ v. cond v ([] ∷ slice_split p (xs ++ b ∷ ys)) (onto_first x (slice_split p (xs ++ b ∷ ys))) ≡ cond v ([] ∷ slice_split p xs) (onto_first x (slice_split p xs)) ++ slice_split p ys)
+    [ true ↦ ap (λ ps. [] ∷ ps) (split_append p xs b ys h) | false ↦ rw (later, parts.2) refl ]
+
+words_at_blank : (xs : List ℕ) (b : ℕ) (ys : List ℕ) → is_blank b ≡ true → words (xs ++ b ∷ ys) ≡ words xs ++ words ys
+unfolding words
+words_at_blank xs b ys h = ap (filter has_bytes) (split_append is_blank xs b ys h) ∙ filter-append has_bytes (slice_split is_blank xs) (slice_split is_blank ys)
+
+-- a line up to and with a blank has the words of the line up to that
+pub words_up_to_blank : (xs : List ℕ) (n : ℕ) → n < length xs → is_blank (get_or xs n 0) ≡ true → words (take (n + 1) xs) ≡ words (take n xs)
+unfolding words
+words_up_to_blank xs n h blank = ap words (take_more xs n 0 h) ∙ words_at_blank (take n xs) (get_or xs n 0) [] blank ∙ append-nil (words (take n xs))
+
+-- and the rest has the others
+words_parted : (xs : List ℕ) (n : ℕ) → n < length xs → is_blank (get_or xs n 0) ≡ true → words xs ≡ words (take (n + 1) xs) ++ words (drop (n + 1) xs)
+words_parted xs n h blank =
+    ap words (sym (take-append-drop n xs)) ∙ ap (λ rest. words (take n xs ++ rest)) (drop_more xs n 0 h)
+    ∙ words_at_blank (take n xs) (get_or xs n 0) (drop (n + 1) xs) blank
+    ∙ ap (λ ws. ws ++ words (drop (n + 1) xs)) (sym (words_up_to_blank xs n h blank))
+
+unsplit : (p : ℕ → Bool) (xs : List ℕ) → list_any p xs ≡ false → slice_split p xs ≡ xs ∷ []
+unsplit p [] h = refl
+unsplit p (x ∷ xs) h = elim (p x) as (λ v. (v || list_any p xs) ≡ false → cond v ([] ∷ slice_split p xs) (onto_first x (slice_split p xs)) ≡ (x ∷ xs) ∷ [])
+    [ true ↦ λ e. cc e | false ↦ λ e. ap (onto_first x) (unsplit p xs e) ] h
+
+one_word : (w : List ℕ) → list_any is_blank w ≡ false → 0 < length w → words w ≡ w ∷ []
+unfolding words
+one_word w clean h = ap (filter has_bytes) (unsplit is_blank w clean) ∙ with_word_first w [] h
+
+then_blank : (some blank : Bool) → some ≡ true → (some && not blank) ≡ false → blank ≡ true
+then_blank true true e h = refl
+then_blank true false e h = cc
+then_blank false blank e h = cc
+
+blank_before : (xs : List ℕ) (n : ℕ) → (nat_lt 0 n && not (is_blank (get_or xs (n - 1) 0))) ≡ false → (n ≡ 0) ⊎ ((0 < n) × (is_blank (get_or xs (n - 1) 0) ≡ true))
+blank_before xs zero h = inl refl
+blank_before xs (suc n) h = inr (omega arith, then_blank (nat_lt 0 (suc n)) (is_blank (get_or xs (suc n - 1) 0)) (lt-ltb 0 (suc n) (omega arith)) h)
+
+parted_before : (xs : List ℕ) (n : ℕ) → n ≤ length xs → (nat_lt 0 n && not (is_blank (get_or xs (n - 1) 0))) ≡ false → words xs ≡ words (take n xs) ++ words (drop n xs)
+unfolding words
+parted_before xs n within end = elim (blank_before xs n end) [
+  | inl none ↦ rw none refl
+  | inr some ↦
+      let last : n - 1 + 1 ≡ n = omega arith in
+      words_parted xs (n - 1) (omega arith) some.1 ∙ ap (λ k. words (take k xs) ++ words (drop k xs)) last
+]
+
+none_left : (xs : List ℕ) (n : ℕ) → length xs ≤ n → n ≤ length xs → (nat_lt 0 n && not (is_blank (get_or xs (n - 1) 0))) ≡ false → (nat_lt 0 (length xs) && is_blank (get_or xs (length xs - 1) 0)) ≡ false → length xs ≡ 0
+none_left xs n high low up_to_blank bare =
+    let same : n ≡ length xs = omega arith in
+    elim (blank_before xs n up_to_blank) [
+      | inl none ↦ sym same ∙ none
+      | inr some ↦
+          let here : is_blank (get_or xs (length xs - 1) 0) ≡ true = ap (λ k. is_blank (get_or xs (k - 1) 0)) (sym same) ∙ some.1 in
+          let there : nat_lt 0 (length xs) ≡ true = lt-ltb 0 (length xs) (omega arith) in
+          let both : (nat_lt 0 (length xs) && is_blank (get_or xs (length xs - 1) 0)) ≡ true = rw (there, here) refl in
+          cc (both, bare)
+    ]
+
+pub last_of_pushed : (ws : List (List ℕ)) (w : List ℕ) → slice_get (ws ++ w ∷ []) (length (ws ++ w ∷ []) - 1) ≡ Some w
+last_of_pushed ws w =
+    slice_get-get_or (ws ++ w ∷ []) (length (ws ++ w ∷ []) - 1) [] (omega (arith, length_push ws w))
+    ∙ ap Some (get_or_push ws w [] (length (ws ++ w ∷ []) - 1) (omega (arith, length_push ws w)))
+
+pub before_pushed : (ws : List (List ℕ)) (w : List ℕ) → take (length (ws ++ w ∷ []) - 1) (ws ++ w ∷ []) ≡ ws
+before_pushed ws w =
+    let len : length (ws ++ w ∷ []) - 1 ≡ length ws = omega (arith, length_push ws w) in
+    ap (λ n. take n (ws ++ w ∷ [])) len ∙ take-append_seam ws (w ∷ [])
+
+take_nothing : (n : ℕ) → words (take n []) ≡ []
+unfolding words
+take_nothing zero = refl
+take_nothing (suc n) = refl
+
+-- what stands before the blanks at the end of a line ends with none
+pub bare_taken : (line : List ℕ) (n : ℕ) → n ≤ length line → (nat_lt 0 n && is_blank (get_or line (n - 1) 0)) ≡ false → (nat_lt 0 (length (take n line)) && is_blank (get_or (take n line) (length (take n line) - 1) 0)) ≡ false
+bare_taken line zero within bare = refl
+bare_taken line (suc n) within bare =
+    rw (length-take-le (suc n) line within) (ap (λ b. nat_lt 0 (suc n) && is_blank b) (get_or-take (suc n) line (suc n - 1) 0 (omega arith)) ∙ bare)
+
+-- line is a line without the blanks at its end, and n bytes of it come up to its last blank
+module _ (line : List ℕ) (n : ℕ) (bare : (nat_lt 0 (length line) && is_blank (get_or line (length line - 1) 0)) ≡ false) (within : n ≤ length line) (up_to_blank : (nat_lt 0 n && not (is_blank (get_or line (n - 1) 0))) ≡ false) where
+  -- with no word there, nothing is left
+  pub no_word_at_end : length (drop n line) ≡ 0 → (words line ≡ []) × (words (take n line) ≡ [])
+  unfolding words
+  no_word_at_end none =
+      let nothing : line ≡ [] = nil_from_length line (none_left line n (omega (arith, length-drop n line)) within up_to_blank bare) in
+      (ap words nothing, ap (λ xs. words (take n xs)) nothing ∙ take_nothing n)
+
+  -- else the bytes behind are the last word
+  pub word_at_end : list_any is_blank (drop n line) ≡ false → 0 < length (drop n line) → words line ≡ words (take n line) ++ drop n line ∷ []
+  word_at_end clean some = parted_before line n within up_to_blank ∙ ap (λ ws. words (take n line) ++ ws) (one_word (drop n line) clean some)

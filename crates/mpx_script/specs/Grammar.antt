@@ -1,8 +1,8 @@
 -- The grammar of a script, line by line.
-use Rattle.std.specs.Prelude.{ℕ, ◌+◌, ◌-◌, nat_lt, nat_le, Bool, true, false, not, ◌==◌, ◌||◌, ◌&&◌, cond, List, [], ◌∷◌, length, take, drop, slice_index, slice_index_or, slice_get, codes, bytes_eq, Option, Some, None, is_some, is_none, unwrap_or, option_and_then, ℤ, pos, negsuc, if◌then◌else◌}
+use Rattle.std.specs.Prelude.{ℕ, ◌+◌, ◌-◌, nat_lt, nat_le, Bool, true, false, not, ◌==◌, ◌||◌, ◌&&◌, cond, List, [], ◌∷◌, length, take, drop, slice_index, slice_get, codes, bytes_eq, Option, Some, None, is_some, is_none, unwrap_or, option_and_then, ℤ, pos, negsuc, if◌then◌else◌}
 use Rattle.std.specs.Bool.{beq}
-use Rattle.std.specs.List.{filter_map, list_all, list_any, position_or_len, range_with_len, slice_split}
-use Rattle.std.specs.Option.{option_map, option_map_or}
+use Rattle.std.specs.List.{filter_map, list_any, position_or_len, slice_split}
+use Rattle.std.specs.Option.{option_map, option_map_or, option_or}
 use Rattle.mpx_num.specs.Text.{number_of}
 use Rattle.mpx_num.specs.declared.types.Ty.{Ty}
 use Rattle.mpx_num.specs.declared.types.Ty.TheVariants as T
@@ -10,6 +10,10 @@ use Rattle.mpx_num.specs.declared.operations.Op.{Op}
 use Rattle.mpx_num.specs.declared.operations.Op.TheVariants as O
 use Rattle.mpx_kind.specs.declared.kinds.Kind.{Kind}
 use Rattle.mpx_kind.specs.declared.kinds.Kind.TheVariants as K
+use Rattle.mpx_kind.specs.declared.kinds.Mode.{Mode}
+use Rattle.mpx_kind.specs.declared.kinds.Mode.TheVariants.{Blocking, Nonblocking}
+use Rattle.mpx_kind.specs.declared.kinds.Call.{Call as KindOfCall}
+use Rattle.mpx_kind.specs.declared.kinds.Call.TheVariants as C
 use Rattle.mpx_kind.specs.declared.kinds.Family.{Family}
 use Rattle.mpx_kind.specs.declared.kinds.Family.TheVariants as F
 use Rattle.mpx_kind.specs.declared.kinds.NewCommunicator.{NewCommunicator}
@@ -21,18 +25,24 @@ use Rattle.mpx_post.specs.declared.draft.Draft.{Draft}
 use Rattle.mpx_post.specs.declared.drafted_edges.DraftedEdge.{DraftedEdge}
 use Rattle.mpx_post.specs.declared.drafted_edges.DraftedNeighbour.{DraftedNeighbour}
 use Rattle.mpx_post.specs.Graphs.{GraphView}
-use Rattle.mpx_post.specs.Kinds.{blocking, family_of, fields_of, is_had}
+use Rattle.mpx_post.specs.Kinds.{family_of, fields_of, is_had, may_be}
 use Rattle.mpx_post.specs.Rows.{all_of}
-use Rattle.mpx_script.specs.Statements.{target_of}
+use Rattle.mpx_script.specs.declared.grammar.Asked.{Asked}
+use Rattle.mpx_script.specs.declared.grammar.Asked.TheVariants as A
+use Rattle.mpx_script.specs.declared.grammar.Form.{Form}
+use Rattle.mpx_script.specs.declared.grammar.Form.TheVariants as M
 use Rattle.mpx_script.specs.declared.grammar.Label.{Label}
 use Rattle.mpx_script.specs.declared.grammar.Label.TheVariants.{Every, Numbered}
 use Rattle.mpx_script.specs.declared.grammar.Shape.{Shape}
+use Rattle.mpx_script.specs.declared.grammar.Waited.{Waited}
+use Rattle.mpx_script.specs.declared.grammar.Waited.TheVariants as W
 use Rattle.mpx_script.specs.declared.statement.Posting.{Posting}
-use Rattle.mpx_script.specs.declared.statement.Posting.TheVariants.{Call, New, CreateGroup}
-use Rattle.mpx_script.specs.declared.statement.Side.{Side}
+use Rattle.mpx_script.specs.declared.statement.Posting.TheVariants.{Call, Start, New, CreateGroup}
+use Rattle.mpx_script.specs.declared.statement.Question.{Question}
+use Rattle.mpx_script.specs.declared.statement.Question.TheVariants.{Neighbours, Compare, Translate}
 use Rattle.mpx_script.specs.declared.statement.Side.TheVariants.{Sources, Destinations}
 use Rattle.mpx_script.specs.declared.statement.Statement.{Statement}
-use Rattle.mpx_script.specs.declared.statement.Statement.TheVariants.{Post, Ask}
+use Rattle.mpx_script.specs.declared.statement.Statement.TheVariants.{Post, Wait, Ask}
 
 infixl 10 ◌>>=◌
 abbrev pub ◌>>=◌ : {A B : Type 0} → Option A → (A → Option B) → Option B
@@ -65,10 +75,11 @@ abbrev pub named : {A : Type 0} → List (List ℕ × A) → List ℕ → Option
 named [] word = None
 named (entry ∷ more) word = if bytes_eq word entry.0 then Some entry.1 else named more word
 
--- STATEMENTS: a word for each kind of call, and one for each side of a rank's neighbours, behind which just a communicator
--- stands. The words of a statement that posts are `STATEMENT COMMUNICATOR`, and behind them in the
--- order `COLOUR KEY TAG RANKS EDGES SOURCES DESTINATIONS -> NAME` and `ROOT OPERATION TYPE SCOUNTS RCOUNTS ITEMS` those that
--- its kind has.
+-- STATEMENTS: a word for each kind of call, which with `i` before it stands for the nonblocking call, and one for each
+-- statement that doesn't post. Behind the word of a call stands its communicator, and behind that in the order `COLOUR KEY TAG
+-- RANKS EDGES SOURCES DESTINATIONS -> NAME` and `ROOT OPERATION TYPE SCOUNTS RCOUNTS ITEMS` those words that its kind has, and
+-- last, where it is nonblocking, `-> REQUEST`. Behind `wait` stands a request, behind `waitall` any number of them but none;
+-- behind the word of one that asks `COMMUNICATOR COMMUNICATOR RANKS`, those that it has.
 
 unfoldable pub kind_named : List ℕ → Option Kind
 kind_named word = named (
@@ -100,11 +111,29 @@ kind_named word = named (
     ∷ (codes "neighbor_alltoallv", K.NeighborAlltoallv)
     ∷ []) word
 
-unfoldable pub side_named : List ℕ → Option Side
-side_named word = named (
-    (codes "sources", Sources)
-    ∷ (codes "destinations", Destinations)
+-- the kind, if there are nonblocking calls of it
+abbrev pub if_nonblocking : Kind → Option Kind
+if_nonblocking kind = if may_be Nonblocking (family_of kind) then Some kind else None
+
+-- the kind of a nonblocking call: behind an `i` (105) its blocking call's word
+unfoldable pub started_named : List ℕ → Option Kind
+started_named [] = None
+started_named (first ∷ word) = if first == 105 then option_and_then if_nonblocking (kind_named word) else None
+
+unfoldable pub local_named : List ℕ → Option Form
+local_named word = named (
+    (codes "wait", M.Wait W.One)
+    ∷ (codes "waitall", M.Wait W.All)
+    ∷ (codes "sources", M.Ask (A.Neighbours Sources))
+    ∷ (codes "destinations", M.Ask (A.Neighbours Destinations))
+    ∷ (codes "compare", M.Ask A.Compare)
+    ∷ (codes "translate", M.Ask A.Translate)
     ∷ []) word
+
+-- what a statement's word stands for: a kind of call and whether it blocks, a wait, or one that asks
+abbrev pub form_named : List ℕ → Option Form
+form_named word = option_or (option_map (λ kind. M.Call kind Blocking) (kind_named word))
+    (option_or (option_map (λ kind. M.Call kind Nonblocking) (started_named word)) (local_named word))
 
 unfoldable pub operation_named : List ℕ → Option Op
 operation_named word = named (
@@ -168,7 +197,7 @@ pub record NewSyntax : Type 0 where
   pub target : Option (List ℕ)
   pub behind : List (List ℕ)
 
--- a call as words: its fields, where its kind has them
+-- a call as words: its fields, where its kind has them, and the arrow and the request of a nonblocking one
 pub record CallSyntax : Type 0 where
   pub root : Option (List ℕ)
   pub operation : Option (List ℕ)
@@ -176,6 +205,15 @@ pub record CallSyntax : Type 0 where
   pub scounts : Option (List ℕ)
   pub rcounts : Option (List ℕ)
   pub items : List (List ℕ)
+  pub arrow : Option (List ℕ)
+  pub request : Option (List ℕ)
+
+-- a statement that asks as words: its communicators and its ranks, where it has them, and the words behind
+pub record AskSyntax : Type 0 where
+  pub first : Option (List ℕ)
+  pub second : Option (List ℕ)
+  pub ranks : Option (List ℕ)
+  pub behind : List (List ℕ)
 
 -- the next word, where it is asked for
 abbrev pub next_word : Bool → List (List ℕ) → Option (List ℕ)
@@ -184,6 +222,14 @@ next_word asked words = cond asked (slice_get words 0) None
 -- the words after it
 abbrev pub words_after : Bool → List (List ℕ) → List (List ℕ)
 words_after asked words = cond asked (drop 1 words) words
+
+-- the last word, where it is asked for
+abbrev pub last_word : Bool → List (List ℕ) → Option (List ℕ)
+last_word asked words = cond asked (slice_get words (length words - 1)) None
+
+-- the words before it
+abbrev pub words_before : Bool → List (List ℕ) → List (List ℕ)
+words_before asked words = cond asked (take (length words - 1) words) words
 
 -- the words behind the communicator as those of a call of this shape
 unfoldable pub new_in : Shape → List (List ℕ) → NewSyntax
@@ -209,52 +255,74 @@ new_in shape words =
       behind = words_after shape.target at_target;
     }
 
+abbrev pub is_nonblocking : Mode → Bool
+is_nonblocking Blocking = false
+is_nonblocking Nonblocking = true
+
 -- the words behind these as those of a call with these fields
-unfoldable pub call_in : Fields → List (List ℕ) → CallSyntax
-call_in fields words =
+unfoldable pub call_in : Fields → Mode → List (List ℕ) → CallSyntax
+call_in fields mode words =
     let at_operation : List (List ℕ) = words_after fields.root words in
     let at_type : List (List ℕ) = words_after fields.op at_operation in
     let at_scounts : List (List ℕ) = words_after fields.items at_type in
     let at_rcounts : List (List ℕ) = words_after (is_had fields.scounts) at_scounts in
+    let at_items : List (List ℕ) = words_after (is_had fields.rcounts) at_rcounts in
+    let up_to_arrow : List (List ℕ) = words_before (is_nonblocking mode) at_items in
     record {
       root = next_word fields.root words;
       operation = next_word fields.op at_operation;
       ty = next_word fields.items at_type;
       scounts = next_word (is_had fields.scounts) at_scounts;
       rcounts = next_word (is_had fields.rcounts) at_rcounts;
-      items = words_after (is_had fields.rcounts) at_rcounts;
+      items = words_before (is_nonblocking mode) up_to_arrow;
+      arrow = last_word (is_nonblocking mode) up_to_arrow;
+      request = last_word (is_nonblocking mode) at_items;
     }
 
--- a further line as words: its label, its statement, the communicator, and those behind it
+abbrev pub has_second : Asked → Bool
+has_second (A.Neighbours side) = false
+has_second A.Compare = true
+has_second A.Translate = true
+
+abbrev pub has_ranks : Asked → Bool
+has_ranks (A.Neighbours side) = false
+has_ranks A.Compare = false
+has_ranks A.Translate = true
+
+-- the words behind a statement as those of one that asks
+unfoldable pub ask_in : Asked → List (List ℕ) → AskSyntax
+ask_in asked words =
+    let at_second : List (List ℕ) = drop 1 words in
+    let at_ranks : List (List ℕ) = words_after (has_second asked) at_second in
+    record {
+      first = slice_get words 0;
+      second = next_word (has_second asked) at_second;
+      ranks = next_word (has_ranks asked) at_ranks;
+      behind = words_after (has_ranks asked) at_ranks;
+    }
+
+-- the words behind a statement as those of a call of a kind: the communicator, what is said of a new one, and the fields
+
+abbrev pub communicator_in : List (List ℕ) → Option (List ℕ)
+communicator_in words = slice_get words 0
+
+abbrev pub new_of : Kind → List (List ℕ) → NewSyntax
+new_of kind words = new_in (shape_of kind) (drop 1 words)
+
+abbrev pub call_of : Kind → Mode → List (List ℕ) → CallSyntax
+call_of kind mode words = call_in (fields_of kind) mode (new_of kind words).behind
+
+-- a further line as words: its label, its statement, and those behind it
 pub record DirectiveSyntax : Type 0 where
   pub label : Option (List ℕ)
   pub statement : Option (List ℕ)
-  pub communicator : Option (List ℕ)
   pub behind : List (List ℕ)
 
 abbrev pub directive_in : List (List ℕ) → DirectiveSyntax
-directive_in words = record { label = slice_get words 0; statement = slice_get words 1; communicator = slice_get words 2; behind = drop 3 words }
+directive_in words = record { label = slice_get words 0; statement = slice_get words 1; behind = drop 2 words }
 
--- the kind of call of a line
-abbrev pub kind_in : DirectiveSyntax → Option Kind
-kind_in directive = option_and_then kind_named directive.statement
-
--- the side of one that asks for neighbours
-abbrev pub side_in : DirectiveSyntax → Option Side
-side_in directive = option_and_then side_named directive.statement
-
--- what the posts of its kind have. A statement of no kind has none of their words
-abbrev pub fields_in : DirectiveSyntax → Fields
-fields_in directive = fields_of (unwrap_or (kind_in directive) K.Barrier)
-
-abbrev pub shape_asked : DirectiveSyntax → Shape
-shape_asked directive = shape_of (unwrap_or (kind_in directive) K.Barrier)
-
-abbrev pub new_syntax_in : DirectiveSyntax → NewSyntax
-new_syntax_in directive = new_in (shape_asked directive) directive.behind
-
-abbrev pub call_syntax_in : DirectiveSyntax → CallSyntax
-call_syntax_in directive = call_in (fields_in directive) (new_syntax_in directive).behind
+abbrev pub form_in : DirectiveSyntax → Option Form
+form_in directive = option_and_then form_named directive.statement
 
 -- `*` for every rank, or a number
 abbrev pub label_named : List ℕ → Option Label
@@ -294,6 +362,14 @@ list_named word = if bytes_eq word (codes "-") then Some [] else all_of number_o
 -- a count, where the kind has just one of them, or a list of counts
 abbrev pub counts_named : Number → List ℕ → Option (List ℤ)
 counts_named number word = if is_one number then option_map (λ count. count ∷ []) (number_of word) else list_named word
+
+-- a rank, or `null` for none
+unfoldable pub rank_named : List ℕ → Option (Option ℤ)
+rank_named word = if bytes_eq word (codes "null") then Some None else option_map Some (number_of word)
+
+-- such ranks with commas between them, or `-` for an empty list
+unfoldable pub ranks_named : List ℕ → Option (List (Option ℤ))
+ranks_named word = if bytes_eq word (codes "-") then Some [] else all_of rank_named (slice_split (λ byte. byte == 44) word)
 
 -- LISTS OF A GRAPH: entries with commas between them, in all of them a weight or in none
 
@@ -361,30 +437,9 @@ graph_at None None destinations = Some None
 unfoldable pub graph_in : NewSyntax → Option (Option GraphView)
 graph_in new = graph_at new.edges new.sources new.destinations
 
--- a to z
-abbrev pub is_small_letter : ℕ → Bool
-is_small_letter byte = nat_le 97 byte && nat_le byte 122
-
--- a to z, 0 to 9 or `_`
-abbrev pub is_name_byte : ℕ → Bool
-is_name_byte byte = is_small_letter byte || (nat_le 48 byte && nat_le byte 57) || byte == 95
-
--- a small letter, then small letters, digits or `_`, at most 32 bytes in all
-unfoldable pub is_name : List ℕ → Bool
-is_name [] = false
-is_name (first ∷ more) = is_small_letter first && list_all is_name_byte more && nat_le (length (first ∷ more)) 32
-
 -- a colour: a number, or `undefined` for none
 unfoldable pub colour_named : List ℕ → Option (Option ℤ)
 colour_named word = if bytes_eq word (codes "undefined") then Some None else option_map Some (number_of word)
-
--- one of the names is the word
-abbrev pub is_bound : List (List ℕ) → List ℕ → Bool
-is_bound names word = list_any (bytes_eq word) names
-
--- the names that these statements bind, of which `world` is the first
-abbrev pub names_bound : List Statement → List (List ℕ)
-names_bound statements = codes "world" ∷ filter_map target_of statements
 
 -- What a line is refused for
 
@@ -409,9 +464,14 @@ has_rank_out_of_range ranks directive = is_past ranks (label_in directive)
 abbrev pub has_unknown_word : CallSyntax → Bool
 has_unknown_word call = fails (λ word. is_some (operation_named word)) call.operation || fails (λ word. is_some (type_named word)) call.ty
 
+abbrev pub is_unknown_as : Form → List (List ℕ) → Bool
+is_unknown_as (M.Call kind mode) words = has_unknown_word (call_of kind mode words)
+is_unknown_as (M.Wait waited) words = false
+is_unknown_as (M.Ask asked) words = false
+
 -- no `R: STATEMENT`, or another statement, operation or type
 unfoldable pub is_unknown : DirectiveSyntax → Bool
-is_unknown directive = is_none (label_in directive) || (is_none (kind_in directive) && is_none (side_in directive)) || has_unknown_word (call_syntax_in directive)
+is_unknown directive = is_none (label_in directive) || option_map_or (λ form. is_unknown_as form directive.behind) (form_in directive) true
 
 -- a word is asked for and isn't there
 abbrev pub lacks : Bool → Option (List ℕ) → Bool
@@ -433,11 +493,30 @@ has_wrong_count fields call = lacks fields.root call.root
     || lacks (is_had fields.rcounts) call.rcounts
     || (not fields.items && not (length call.items == 0))
 
--- there is no communicator, or the words behind it aren't as many as the kind asks for
+-- the arrow of a nonblocking call is missing, as it is wherever its request is, or another word stands there
+abbrev pub has_wrong_end : Mode → CallSyntax → Bool
+has_wrong_end mode call = lacks (is_nonblocking mode) call.arrow || fails is_arrow call.arrow
+
+-- no request, or more than the one
+abbrev pub has_wrong_requests : Waited → List (List ℕ) → Bool
+has_wrong_requests W.One words = not (length words == 1)
+has_wrong_requests W.All words = length words == 0
+
+-- a word is missing, or there are more
+abbrev pub has_wrong_question : Asked → AskSyntax → Bool
+has_wrong_question asked ask = is_none ask.first || lacks (has_second asked) ask.second || lacks (has_ranks asked) ask.ranks || not (length ask.behind == 0)
+
+abbrev pub has_wrong_words_as : Form → List (List ℕ) → Bool
+has_wrong_words_as (M.Call kind mode) words = is_none (communicator_in words)
+    || has_wrong_new_words (shape_of kind) (new_of kind words)
+    || has_wrong_count (fields_of kind) (call_of kind mode words)
+    || has_wrong_end mode (call_of kind mode words)
+has_wrong_words_as (M.Wait waited) words = has_wrong_requests waited words
+has_wrong_words_as (M.Ask asked) words = has_wrong_question asked (ask_in asked words)
+
+-- the words behind the statement aren't as many as it asks for, or another word stands for `->`
 unfoldable pub has_wrong_words : DirectiveSyntax → Bool
-has_wrong_words directive = is_none directive.communicator
-    || has_wrong_new_words (shape_asked directive) (new_syntax_in directive)
-    || has_wrong_count (fields_in directive) (call_syntax_in directive)
+has_wrong_words directive = option_map_or (λ form. has_wrong_words_as form directive.behind) (form_in directive) false
 
 -- whether a word is a number
 abbrev pub is_number : List ℕ → Bool
@@ -465,8 +544,13 @@ has_strange_number fields call = fails is_number call.root
     || has_strange_count fields call
     || list_any (λ word. not (is_number word)) call.items
 
+abbrev pub has_bad_number_as : Form → List (List ℕ) → Bool
+has_bad_number_as (M.Call kind mode) words = has_strange_new_number (new_of kind words) || has_strange_number (fields_of kind) (call_of kind mode words)
+has_bad_number_as (M.Wait waited) words = false
+has_bad_number_as (M.Ask asked) words = false
+
 unfoldable pub has_bad_number : DirectiveSyntax → Bool
-has_bad_number directive = has_strange_new_number (new_syntax_in directive) || has_strange_number (fields_in directive) (call_syntax_in directive)
+has_bad_number directive = option_map_or (λ form. has_bad_number_as form directive.behind) (form_in directive) false
 
 -- whether a word is a list
 abbrev pub is_list : List ℕ → Bool
@@ -480,34 +564,17 @@ has_strange_list fields call = (not (is_one fields.scounts) && are_strange field
 abbrev pub has_strange_new_list : NewSyntax → Bool
 has_strange_new_list new = fails is_list new.ranks || is_none (graph_in new)
 
+-- ranks that may be none are no list
+abbrev pub has_strange_ranks : AskSyntax → Bool
+has_strange_ranks ask = fails (λ word. is_some (ranks_named word)) ask.ranks
+
+abbrev pub has_bad_list_as : Form → List (List ℕ) → Bool
+has_bad_list_as (M.Call kind mode) words = has_strange_list (fields_of kind) (call_of kind mode words) || has_strange_new_list (new_of kind words)
+has_bad_list_as (M.Wait waited) words = false
+has_bad_list_as (M.Ask asked) words = has_strange_ranks (ask_in asked words)
+
 unfoldable pub has_bad_list : DirectiveSyntax → Bool
-has_bad_list directive = has_strange_list (fields_in directive) (call_syntax_in directive) || has_strange_new_list (new_syntax_in directive)
-
-unfoldable pub has_bad_name : DirectiveSyntax → Bool
-has_bad_name directive = fails is_name directive.communicator || fails is_name (new_syntax_in directive).target
-
--- the ranks that a label names
-abbrev pub ranks_labelled : ℕ → Option Label → List ℕ
-ranks_labelled ranks None = []
-ranks_labelled ranks (Some Every) = range_with_len 0 ranks
-ranks_labelled ranks (Some (Numbered (pos n))) = n ∷ []
-ranks_labelled ranks (Some (Numbered (negsuc n))) = []
-
--- one of these ranks hasn't bound the word, where `bound` has the names of each rank
-abbrev pub lacks_name : List (List (List ℕ)) → List ℕ → List ℕ → Bool
-lacks_name bound ranks word = list_any (λ rank. not (is_bound (slice_index_or bound rank []) word)) ranks
-
--- one of these ranks has
-abbrev pub has_name : List (List (List ℕ)) → List ℕ → List ℕ → Bool
-has_name bound ranks word = list_any (λ rank. is_bound (slice_index_or bound rank []) word) ranks
-
--- the communicator's name isn't bound at some rank that the line is for
-unfoldable pub has_unknown_name : List (List (List ℕ)) → ℕ → DirectiveSyntax → Bool
-has_unknown_name bound ranks directive = option_map_or (lacks_name bound (ranks_labelled ranks (label_in directive))) directive.communicator false
-
--- the new communicator's name is bound there
-unfoldable pub has_taken_name : List (List (List ℕ)) → ℕ → DirectiveSyntax → Bool
-has_taken_name bound ranks directive = option_map_or (has_name bound (ranks_labelled ranks (label_in directive))) (new_syntax_in directive).target false
+has_bad_list directive = option_map_or (λ form. has_bad_list_as form directive.behind) (form_in directive) false
 
 -- What a line that isn't refused says
 
@@ -525,10 +592,17 @@ names_rank rank directive = is_meant rank (label_in directive)
 abbrev pub said : {A : Type 0} → (List ℕ → Option A) → A → Option (List ℕ) → A
 said meaning other word = unwrap_or (option_and_then meaning word) other
 
--- the draft of a blocking call by its fields; a field that the kind hasn't is 0, sum, i8, no counts or no graph
-abbrev pub call_draft_in : Kind → CallSyntax → Draft
-call_draft_in kind call = record {
-  call = blocking kind;
+-- the call of a family's kind that blocks, or one that doesn't where there is such a call
+abbrev pub call_with : Mode → Family → KindOfCall
+call_with mode (F.Exchange exchange) = C.Exchange exchange mode
+call_with mode (F.Reduction reduction) = C.Reduction reduction mode
+call_with mode (F.NewCommunicator new) = C.NewCommunicator new
+call_with mode (F.Neighbourhood exchange) = C.Neighbourhood exchange mode
+
+-- the draft of a call by its fields; a field that the kind hasn't is 0, sum, i8, no counts or no graph
+abbrev pub call_draft_in : Kind → Mode → CallSyntax → Draft
+call_draft_in kind mode call = record {
+  call = call_with mode (family_of kind);
   root = said number_of (pos 0) call.root;
   op = said operation_named O.Sum call.operation;
   ty = said type_named T.I8 call.ty;
@@ -542,37 +616,52 @@ call_draft_in kind call = record {
 }
 
 -- with what it says of a new communicator
-abbrev pub draft_in : Kind → NewSyntax → CallSyntax → Draft
-draft_in kind new call = record (call_draft_in kind call) {
+abbrev pub draft_in : Kind → Mode → NewSyntax → CallSyntax → Draft
+draft_in kind mode new call = record (call_draft_in kind mode call) {
   colour = said colour_named None new.colour;
   key = said number_of (pos 0) new.key;
   group = said list_named [] new.ranks;
   graph = unwrap_or (graph_in new) None;
 }
 
--- what a statement of a kind's family posts on a communicator, with this draft, this tag and this name for the new one
-abbrev pub posting_of : Family → (on : List ℕ) → Draft → (tag : ℤ) → (target : List ℕ) → Posting
-posting_of (F.Exchange exchange) on draft tag target = Call on draft
-posting_of (F.Reduction reduction) on draft tag target = Call on draft
-posting_of (F.NewCommunicator N.Dup) on draft tag target = New on draft target
-posting_of (F.NewCommunicator N.Split) on draft tag target = New on draft target
-posting_of (F.NewCommunicator N.Create) on draft tag target = New on draft target
-posting_of (F.NewCommunicator N.CreateGroup) on draft tag target = CreateGroup on tag draft.group target
-posting_of (F.NewCommunicator N.DistGraph) on draft tag target = New on draft target
-posting_of (F.NewCommunicator N.DistGraphAdjacent) on draft tag target = New on draft target
-posting_of (F.Neighbourhood exchange) on draft tag target = Call on draft
+-- what a call of this mode posts that makes no communicator
+abbrev pub call_posted : Mode → (on : List ℕ) → Draft → (request : List ℕ) → Posting
+call_posted Blocking on draft request = Call on draft
+call_posted Nonblocking on draft request = Start on draft request
 
-abbrev pub posting_said : Kind → Option (List ℕ) → NewSyntax → CallSyntax → Posting
-posting_said kind communicator new call = posting_of (family_of kind) (unwrap_or communicator []) (draft_in kind new call) (said number_of (pos 0) new.tag) (unwrap_or new.target [])
+-- what one posts that makes one
+abbrev pub new_posted : NewCommunicator → (on : List ℕ) → Draft → (tag : ℤ) → (target : List ℕ) → Posting
+new_posted N.Dup on draft tag target = New on draft target
+new_posted N.Split on draft tag target = New on draft target
+new_posted N.Create on draft tag target = New on draft target
+new_posted N.CreateGroup on draft tag target = CreateGroup on tag draft.group target
+new_posted N.DistGraph on draft tag target = New on draft target
+new_posted N.DistGraphAdjacent on draft tag target = New on draft target
 
--- a statement of a kind posts, and one of a side asks for the neighbours there
-abbrev pub statement_by : Option Kind → Option Side → DirectiveSyntax → Option Statement
-statement_by (Some kind) side directive = Some (Post (posting_said kind directive.communicator (new_syntax_in directive) (call_syntax_in directive)))
-statement_by None (Some side) directive = Some (Ask (unwrap_or directive.communicator []) side)
-statement_by None None directive = None
+-- what a statement of a kind's family posts on a communicator, with this draft, this tag, and these names for the new one and for
+-- the request
+abbrev pub posting_of : Family → Mode → (on : List ℕ) → Draft → (tag : ℤ) → (target request : List ℕ) → Posting
+posting_of (F.Exchange exchange) mode on draft tag target request = call_posted mode on draft request
+posting_of (F.Reduction reduction) mode on draft tag target request = call_posted mode on draft request
+posting_of (F.NewCommunicator new) mode on draft tag target request = new_posted new on draft tag target
+posting_of (F.Neighbourhood exchange) mode on draft tag target request = call_posted mode on draft request
+
+abbrev pub posting_said : Kind → Mode → Option (List ℕ) → NewSyntax → CallSyntax → Posting
+posting_said kind mode communicator new call = posting_of (family_of kind) mode (unwrap_or communicator []) (draft_in kind mode new call) (said number_of (pos 0) new.tag) (unwrap_or new.target []) (unwrap_or call.request [])
+
+abbrev pub question_said : Asked → AskSyntax → Question
+question_said (A.Neighbours side) ask = Neighbours (unwrap_or ask.first []) side
+question_said A.Compare ask = Compare (unwrap_or ask.first []) (unwrap_or ask.second [])
+question_said A.Translate ask = Translate (unwrap_or ask.first []) (unwrap_or ask.second []) (said ranks_named [] ask.ranks)
+
+-- the words behind a statement's word as a statement of that form
+abbrev pub statement_as : Form → List (List ℕ) → Statement
+statement_as (M.Call kind mode) words = Post (posting_said kind mode (communicator_in words) (new_of kind words) (call_of kind mode words))
+statement_as (M.Wait waited) words = Wait words
+statement_as (M.Ask asked) words = Ask (question_said asked (ask_in asked words))
 
 unfoldable pub statement_in : DirectiveSyntax → Option Statement
-statement_in directive = statement_by (kind_in directive) (side_in directive) directive
+statement_in directive = option_map (λ form. statement_as form directive.behind) (form_in directive)
 
 -- what the line gives the rank
 abbrev pub given_to : ℕ → DirectiveSyntax → Option Statement

@@ -2,6 +2,7 @@ pub mod Faults
 pub mod Words
 pub mod Statements
 pub mod Grammar
+pub mod Naming
 pub mod ScriptView
 pub mod Reading
 pub mod Sentences

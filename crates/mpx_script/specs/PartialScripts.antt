@@ -2,7 +2,7 @@
 use Rattle.std.specs.Prelude.{◌≡◌, ℕ, List, [], ◌∷◌, map, Option, Some, None}
 use Rattle.std.specs.Option.{option_map, option_map_or}
 use Rattle.mpx_script.specs.ScriptView.{ScriptView}
-use Rattle.mpx_script.specs.Grammar.{names_bound}
+use Rattle.mpx_script.specs.Naming.{BoundNames, names_bound}
 use Rattle.mpx_script.specs.Reading.{script_of, statements_settled}
 use Rattle.mpx_script.specs.declared.reader.PartialScript.{PartialScript}
 
@@ -11,7 +11,7 @@ abbrev pub ranks_of_script : Option ScriptView → Option ℕ
 ranks_of_script script = option_map (λ script. script.ranks) script
 
 -- the names that each rank has bound, once a line has told the ranks
-abbrev pub bound_of_script : Option ScriptView → List (List (List ℕ))
+abbrev pub bound_of_script : Option ScriptView → List BoundNames
 bound_of_script script = option_map_or (λ script. map names_bound script.statements) script []
 
 -- there is a script once a line counts

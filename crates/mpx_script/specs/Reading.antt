@@ -3,7 +3,8 @@ use Rattle.std.specs.Prelude.{ℕ, ◌+◌, nat_lt, Bool, false, not, ◌==◌, 
 use Rattle.std.specs.List.{filter_map, range_with_len}
 use Rattle.std.specs.Option.{option_map, option_map_or}
 use Rattle.mpx_script.specs.Words.{words, counts, counting, is_ascii, is_over_limit, script_lines}
-use Rattle.mpx_script.specs.Grammar.{DirectiveSyntax, directive_in, statements_in, ranks_in, given_to, lacks_ranks, has_ranks_out_of_range, has_rank_out_of_range, is_unknown, has_wrong_words, has_bad_number, has_bad_list, has_bad_name, has_unknown_name, has_taken_name, names_bound}
+use Rattle.mpx_script.specs.Grammar.{DirectiveSyntax, directive_in, statements_in, ranks_in, given_to, lacks_ranks, has_ranks_out_of_range, has_rank_out_of_range, is_unknown, has_wrong_words, has_bad_number, has_bad_list}
+use Rattle.mpx_script.specs.Naming.{BoundNames, has_bad_name, has_unknown_name, has_taken_name, names_bound}
 use Rattle.mpx_script.specs.ScriptView.{ScriptView}
 use Rattle.mpx_script.specs.declared.faults.ScriptFault.{ScriptFault}
 use Rattle.mpx_script.specs.declared.faults.ScriptFault.TheVariants.{NotAscii, TooLarge, NoRanksLine, RanksOutOfRange, RankOutOfRange, UnknownStatement, WrongWords, BadNumber, BadList, BadName, NameUnknown, NameTaken}
@@ -25,7 +26,7 @@ pub record LineContext : Type 0 where
   -- how many statements there are so far
   pub statements : ℕ
   -- the names that each rank has bound so far
-  pub bound : List (List (List ℕ))
+  pub bound : List BoundNames
 
 -- the first line that counts
 abbrev pub on_opening : LineContext → (List (List ℕ) → Bool) → Bool
@@ -61,11 +62,11 @@ abbrev pub refusal : LineContext → Option ScriptFault
 refusal p = first_holding (refusals p)
 
 -- a line of a script that isn't bare
-abbrev pub bounded_context : List ℕ → Bool → Option ℕ → ℕ → List (List (List ℕ)) → LineContext
+abbrev pub bounded_context : List ℕ → Bool → Option ℕ → ℕ → List BoundNames → LineContext
 bounded_context line is_cut ranks statements bound = record { line = line; is_cut = is_cut; is_bare = false; ranks = ranks; statements = statements; bound = bound }
 
 -- a line in which the limit of bytes isn't passed either
-abbrev pub plain_context : List ℕ → Option ℕ → ℕ → List (List (List ℕ)) → LineContext
+abbrev pub plain_context : List ℕ → Option ℕ → ℕ → List BoundNames → LineContext
 plain_context line ranks statements bound = bounded_context line false ranks statements bound
 
 -- the number of ranks that the first line that counts tells
@@ -90,7 +91,7 @@ script_of (opening ∷ further) = record {
 }
 
 -- the names that each rank has bound by the lines that count
-abbrev pub bound_settled : List (List (List ℕ)) → List (List (List ℕ))
+abbrev pub bound_settled : List (List (List ℕ)) → List BoundNames
 bound_settled lines = map names_bound (script_of lines).statements
 
 -- no line of the script counts, though it is within its limit of bytes

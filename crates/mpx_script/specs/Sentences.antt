@@ -1,16 +1,20 @@
 -- What the reader learns from one line.
-use Rattle.std.specs.Prelude.{◌≡◌, ℕ, ◌+◌, ◌-◌, ◌<◌, ◌≤◌, true, false, ◌&&◌, List, [], ◌∷◌, ◌||◌, ◌==◌, not, length, is_none, nat_le, nat_lt, Option, Some, None, IsSomeAnd}
+use Rattle.std.specs.Prelude.{◌≡◌, ℕ, ◌+◌, ◌-◌, ◌<◌, ◌≤◌, true, false, ◌&&◌, List, [], ◌∷◌, ◌||◌, is_none, nat_le, nat_lt, Option, Some, None, IsSomeAnd}
 use Rattle.mpx_kind.specs.declared.kinds.Fields.{Fields}
 use Rattle.mpx_kind.specs.declared.kinds.Kind.{Kind}
+use Rattle.mpx_kind.specs.declared.kinds.Mode.{Mode}
 use Rattle.mpx_post.specs.Kinds.{fields_of}
 use Rattle.mpx_script.specs.Words.{counts}
-use Rattle.mpx_script.specs.Grammar.{DirectiveSyntax, NewSyntax, CallSyntax, directive_in, ranks_in, statements_in, names_rank, statement_in, is_unknown, has_wrong_words, has_bad_number, has_bad_list, has_bad_name, has_unknown_name, has_taken_name, has_unknown_word, has_wrong_new_words, has_wrong_count, has_strange_choice, has_strange_new_number, has_strange_count, has_strange_number, has_strange_list, has_strange_new_list, fails, is_name, shape_of}
+use Rattle.mpx_script.specs.Grammar.{DirectiveSyntax, NewSyntax, CallSyntax, directive_in, ranks_in, statements_in, names_rank, statement_in, is_unknown, is_unknown_as, has_wrong_words, has_wrong_words_as, has_bad_number, has_bad_number_as, has_bad_list, has_bad_list_as, has_unknown_word, has_wrong_new_words, has_wrong_count, has_wrong_end, has_strange_choice, has_strange_new_number, has_strange_count, has_strange_number, has_strange_list, has_strange_new_list, shape_of}
+use Rattle.mpx_script.specs.Naming.{BoundNames, at_some_rank, lacks_name, misnames, takes_name}
 use Rattle.mpx_script.specs.Reading.{statements_limit, first_holding}
 use Rattle.mpx_script.specs.declared.faults.ScriptFault.{ScriptFault}
 use Rattle.mpx_script.specs.declared.faults.ScriptFault.TheVariants.{UnknownStatement, WrongWords, BadNumber, BadList, BadName, NameUnknown, NameTaken}
+use Rattle.mpx_script.specs.declared.grammar.Form.{Form}
 use Rattle.mpx_script.specs.declared.script_line.Assignment.{Assignment}
 use Rattle.mpx_script.specs.declared.script_line.Sentence.{Sentence}
 use Rattle.mpx_script.specs.declared.script_line.Sentence.TheVariants.{Passed, Opening, Further}
+use Rattle.mpx_script.specs.declared.statement.Statement.{Statement}
 use Rattle.mpx_script.specs.declared.faults.LineError.{LineError}
 use Rattle.mpx_script.specs.declared.faults.LineError.TheVariants.{Fault, OutOfMemory}
 
@@ -33,21 +37,30 @@ abbrev pub IsRefusal : Option ScriptFault → LineError → Type 0
 IsRefusal found OutOfMemory = Unit {0}
 IsRefusal found (Fault what) = found ≡ Some what
 
--- what the words behind the label are refused for, whatever is bound
+-- what the words behind the label are refused for
 unfoldable pub statement_refusal : DirectiveSyntax → Option ScriptFault
 statement_refusal directive = first_holding (
     (UnknownStatement, is_unknown directive)
     ∷ (WrongWords, has_wrong_words directive)
     ∷ (BadNumber, has_bad_number directive)
     ∷ (BadList, has_bad_list directive)
-    ∷ (BadName, has_bad_name directive)
     ∷ [])
 
--- what its names are refused for
-abbrev pub names_refusal : List (List (List ℕ)) → ℕ → DirectiveSyntax → Option ScriptFault
-names_refusal bound ranks directive = first_holding (
-    (NameUnknown, has_unknown_name bound ranks directive)
-    ∷ (NameTaken, has_taken_name bound ranks directive)
+-- the same of a statement of this form, with these words behind its own
+abbrev pub form_refusal : Form → List (List ℕ) → Option ScriptFault
+form_refusal form words = first_holding (
+    (UnknownStatement, is_unknown_as form words)
+    ∷ (WrongWords, has_wrong_words_as form words)
+    ∷ (BadNumber, has_bad_number_as form words)
+    ∷ (BadList, has_bad_list_as form words)
+    ∷ [])
+
+-- what a statement's names are refused for at these ranks
+abbrev pub names_refusal : List BoundNames → List ℕ → Statement → Option ScriptFault
+names_refusal bound ranks statement = first_holding (
+    (BadName, misnames statement)
+    ∷ (NameUnknown, at_some_rank bound ranks (lacks_name statement))
+    ∷ (NameTaken, at_some_rank bound ranks (takes_name statement))
     ∷ [])
 
 -- what a call's counts are refused for
@@ -72,20 +85,12 @@ draft_refusal kind new call = first_holding (
     ∷ [])
 
 -- what a statement of this kind is refused for, with this communicator and these words behind it
-abbrev pub call_refusal : Kind → Option (List ℕ) → NewSyntax → CallSyntax → Option ScriptFault
-call_refusal kind communicator new call = first_holding (
+abbrev pub call_refusal : Kind → Mode → Option (List ℕ) → NewSyntax → CallSyntax → Option ScriptFault
+call_refusal kind mode communicator new call = first_holding (
     (UnknownStatement, has_unknown_word call)
-    ∷ (WrongWords, is_none communicator || has_wrong_new_words (shape_of kind) new || has_wrong_count (fields_of kind) call)
+    ∷ (WrongWords, is_none communicator || has_wrong_new_words (shape_of kind) new || has_wrong_count (fields_of kind) call || has_wrong_end mode call)
     ∷ (BadNumber, has_strange_new_number new || has_strange_number (fields_of kind) call)
     ∷ (BadList, has_strange_list (fields_of kind) call || has_strange_new_list new)
-    ∷ (BadName, fails is_name communicator || fails is_name new.target)
-    ∷ [])
-
--- what a statement that asks for neighbours is refused for, with this communicator and these words behind it
-abbrev pub ask_refusal : Option (List ℕ) → List (List ℕ) → Option ScriptFault
-ask_refusal communicator behind = first_holding (
-    (WrongWords, is_none communicator || not (length behind == 0))
-    ∷ (BadName, fails is_name communicator)
     ∷ [])
 
 -- what a word says: the other value where there is no word, and None where the word says nothing

@@ -8,7 +8,11 @@ use Rattle.mpx_match.specs.declared.faults.FaultKind.TheVariants as F
 use Rattle.mpx_value.specs.declared.outcomes.Outcome.{Outcome}
 use Rattle.mpx_value.specs.declared.outcomes.Outcome.TheVariants as O
 use Rattle.mpx_birth.specs.declared.edges.Neighbour.{Neighbour}
-use Rattle.mpx_script.specs.Ranks.{Line, Near, Refused, Told}
+use Rattle.mpx_group.specs.declared.ranks.Rank.{Rank}
+use Rattle.mpx_group.specs.declared.ranks.Rank.TheVariants.{At, ProcNull, Undefined}
+use Rattle.mpx_script.specs.declared.asking.Relation.{Relation}
+use Rattle.mpx_script.specs.declared.asking.Relation.TheVariants as C
+use Rattle.mpx_script.specs.Ranks.{Line, Compared, Idle, Near, Refused, StrayRank, Told, Translated}
 
 -- each number with a space before it
 abbrev pub spaced : List ℤ → List ℕ
@@ -71,11 +75,36 @@ abbrev pub neighbours_text : (weighted : Bool) → List Neighbour → List ℕ
 neighbours_text weighted [] = codes "empty"
 neighbours_text weighted (n ∷ ns) = neighbour_text weighted n ++ spaced_neighbours weighted ns
 
+abbrev pub relation_text : Relation → List ℕ
+relation_text C.Ident = codes "ident"
+relation_text C.Congruent = codes "congruent"
+relation_text C.Similar = codes "similar"
+relation_text C.Unequal = codes "unequal"
+
+abbrev pub translated_text : Rank → List ℕ
+translated_text (At rank) = number_text (pos rank)
+translated_text ProcNull = codes "null"
+translated_text Undefined = codes "undefined"
+
+-- each with a space before it
+abbrev pub spaced_ranks : List Rank → List ℕ
+spaced_ranks [] = []
+spaced_ranks (r ∷ rs) = (32 ∷ translated_text r) ++ spaced_ranks rs
+
+-- ranks with one space between them
+abbrev pub ranks_text : List Rank → List ℕ
+ranks_text [] = codes "empty"
+ranks_text (r ∷ rs) = translated_text r ++ spaced_ranks rs
+
 -- the place of an outcome isn't printed
 abbrev pub line_text : Line → List ℕ
 line_text (Told name call outcome) = outcome_text outcome
 line_text (Refused refusal) = codes "refused " ++ refusal_name refusal
+line_text Idle = codes "idle"
 line_text (Near weighted neighbours) = neighbours_text weighted neighbours
+line_text (Compared relation) = relation_text relation
+line_text (Translated ranks) = ranks_text ranks
+line_text StrayRank = codes "refused RankOutOfRange"
 
 -- each line of a rank as `RANK: LINE`
 abbrev pub rank_text : ℕ → List (List ℕ) → List ℕ

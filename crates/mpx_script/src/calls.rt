@@ -8,12 +8,12 @@ ghost use Rattle.mpx_script.specs.Grammar.{is_number, is_one, list_named, counts
 ghost use Rattle.mpx_script.specs.Sentences.{IsRefusal, counts_refusal, draft_refusal, fields_refusal, read_at};
 
 use crate::faults::{LineError, ScriptFault};
-use crate::grammar::{colour_named, is_one, list_named, operation_named, type_named};
+use crate::grammar::{call_with, colour_named, is_one, list_named, operation_named, type_named};
 use crate::graphs::graph_in;
 use crate::syntax::{CallSyntax, NewSyntax};
 use crate::words::first_word;
 use mpx_num::{Numbers, Op, Ty, parse_number};
-use mpx_post::{Call, Draft, Fields, Kind, Number};
+use mpx_post::{Draft, Fields, Kind, Mode, Number};
 use std::alloc::{AllocError, Global};
 
 /// The number of a word, 0 where there is none, or None where the word is no number.
@@ -129,10 +129,15 @@ fn numbers_in(alloc: Global, line: &[u8]) -> Result<Option<Numbers>, AllocError>
     Ok(Some(Numbers::new(alloc, numbers)?))
 }
 
-// The draft of a blocking call by the words of its fields.
-fn call_draft_in(alloc: Global, kind: Kind, call: &CallSyntax<'_>) -> Result<Draft, LineError>
+// The draft of a call by the words of its fields.
+fn call_draft_in(
+    alloc: Global,
+    kind: Kind,
+    mode: Mode,
+    call: &CallSyntax<'_>,
+) -> Result<Draft, LineError>
     ensures accepted { OnOk result (fields_refusal kind call.now ≡ None) }
-    ensures draft { IfOk result (λ draft. draft ≡ call_draft_in kind call.now) }
+    ensures draft { IfOk result (λ draft. draft ≡ call_draft_in kind mode call.now) }
     ensures refused { IfErr result (IsRefusal (fields_refusal kind call.now)) }
 {
     let Some(root) = number_at(call.root) else {
@@ -146,7 +151,7 @@ fn call_draft_in(alloc: Global, kind: Kind, call: &CallSyntax<'_>) -> Result<Dra
         Err(e) => return Err(e),
     };
     Ok(Draft {
-        call: Call::blocking(kind),
+        call: call_with(mode, kind),
         root,
         op: operation_at(call.operation),
         ty: type_at(call.ty),
@@ -160,16 +165,17 @@ fn call_draft_in(alloc: Global, kind: Kind, call: &CallSyntax<'_>) -> Result<Dra
     })
 }
 
-/// The draft of a blocking call by its words.
+/// The draft of a call by its words.
 #[tactic(auto, using(crate::proofs::Accepted::refusal_of_colour, crate::proofs::Accepted::refusal_of_key, crate::proofs::Accepted::refusal_of_fields, crate::proofs::Accepted::refusal_of_ranks, crate::proofs::Accepted::refusal_of_graph, crate::proofs::Accepted::draft_accepted))]
 pub fn draft_in(
     alloc: Global,
     kind: Kind,
+    mode: Mode,
     new: &NewSyntax<'_>,
     call: &CallSyntax<'_>,
 ) -> Result<Draft, LineError>
     ensures accepted { OnOk result (draft_refusal kind new.now call.now ≡ None) }
-    ensures draft { IfOk result (λ draft. draft ≡ draft_in kind new.now call.now) }
+    ensures draft { IfOk result (λ draft. draft ≡ draft_in kind mode new.now call.now) }
     ensures refused { IfErr result (IsRefusal (draft_refusal kind new.now call.now)) }
 {
     let Some(colour) = colour_at(new.colour) else {
@@ -178,7 +184,7 @@ pub fn draft_in(
     let Some(key) = number_at(new.key) else {
         return Err(LineError::Fault(ScriptFault::BadNumber));
     };
-    let draft = match call_draft_in(alloc, kind, call) {
+    let draft = match call_draft_in(alloc, kind, mode, call) {
         Ok(draft) => draft,
         Err(e) => return Err(e),
     };

@@ -1,13 +1,16 @@
 // What a single word of a script means.
 ghost use Rattle.std.specs.Prelude.{◌≡◌, map, IfOk};
-ghost use Rattle.mpx_script.specs.Grammar.{below, rank_count, ranks_number, label_of, named, kind_named, side_named, operation_named, type_named, list_named, is_one, is_small_letter, is_name_byte, is_name, colour_named, is_arrow, shape_in, shape_of, shape_of_new};
+ghost use Rattle.mpx_post.specs.Kinds.{family_of};
+ghost use Rattle.mpx_script.specs.Grammar.{below, call_with, rank_count, ranks_number, label_of, named, kind_named, started_named, local_named, form_named, operation_named, type_named, list_named, rank_named, ranks_named, is_nonblocking, is_one, has_second, has_ranks, colour_named, is_arrow, shape_in, shape_of, shape_of_new};
+ghost use Rattle.mpx_script.specs.Naming.{is_small_letter, is_name_byte, is_name};
 ghost use Rattle.mpx_script.specs.Words.{words};
 ghost use Rattle.std.specs.List.{list_all};
 
+use crate::rank_list::RankList;
 use crate::statement::Side;
 use crate::words::first_word;
 use mpx_num::{Numbers, Op, Ty, parse_number};
-use mpx_post::{Family, Kind, NewCommunicator, Number};
+use mpx_post::{Call, Family, Kind, Mode, NewCommunicator, Number};
 use std::alloc::{AllocError, Global};
 
 /// Which ranks a further line is for.
@@ -124,18 +127,130 @@ pub fn kind_named(word: &[u8]) -> Option<Kind>
     )
 }
 
-/// The side of a statement's word that asks for neighbours.
-#[tactic(auto, unfolding(crate::specs::Grammar::side_named))]
-pub fn side_named(word: &[u8]) -> Option<Side>
-    ensures { result ≡ side_named word.now }
+// The kind of a nonblocking call: `i` stands before its blocking call's word.
+#[tactic(auto, unfolding(crate::specs::Grammar::started_named))]
+fn started_named(word: &[u8]) -> Option<Kind>
+    ensures { result ≡ started_named word.now }
+{
+    match word {
+        [b'i', blocking @ ..] => {
+            let kind = kind_named(blocking)?;
+            if kind.makes_communicators() {
+                None
+            } else {
+                Some(kind)
+            }
+        }
+        _ => None,
+    }
+}
+
+/// How many requests a wait is for.
+#[derive(Clone, Copy, Debug)]
+pub enum Waited {
+    One,
+    /// Any number of them, but none.
+    All,
+}
+
+/// What a statement asks that doesn't wait for an answer.
+#[derive(Clone, Copy, Debug)]
+pub enum Asked {
+    /// The neighbours on a side of a communicator.
+    Neighbours(Side),
+    /// How two communicators compare.
+    Compare,
+    /// Ranks of a communicator in another one.
+    Translate,
+}
+
+/// What a statement's word stands for.
+#[derive(Clone, Copy, Debug)]
+pub enum Form {
+    /// A call of a kind, and whether it blocks.
+    Call(Kind, Mode),
+    Wait(Waited),
+    Ask(Asked),
+}
+
+// The form of a statement that doesn't post.
+#[tactic(auto, unfolding(crate::specs::Grammar::local_named))]
+fn local_named(word: &[u8]) -> Option<Form>
+    ensures { result ≡ local_named word.now }
 {
     named(
         &[
-            (b"sources".as_slice(), Side::Sources),
-            (b"destinations".as_slice(), Side::Destinations),
+            (b"wait".as_slice(), Form::Wait(Waited::One)),
+            (b"waitall".as_slice(), Form::Wait(Waited::All)),
+            (
+                b"sources".as_slice(),
+                Form::Ask(Asked::Neighbours(Side::Sources)),
+            ),
+            (
+                b"destinations".as_slice(),
+                Form::Ask(Asked::Neighbours(Side::Destinations)),
+            ),
+            (b"compare".as_slice(), Form::Ask(Asked::Compare)),
+            (b"translate".as_slice(), Form::Ask(Asked::Translate)),
         ],
         word,
     )
+}
+
+/// What a statement's word stands for.
+pub fn form_named(word: &[u8]) -> Option<Form>
+    ensures { result ≡ form_named word.now }
+{
+    if let Some(kind) = kind_named(word) {
+        return Some(Form::Call(kind, Mode::Blocking));
+    }
+    match started_named(word) {
+        Some(kind) => Some(Form::Call(kind, Mode::Nonblocking)),
+        None => local_named(word),
+    }
+}
+
+/// Whether calls of the mode have a request.
+pub fn is_nonblocking(mode: Mode) -> bool
+    ensures { result ≡ is_nonblocking mode }
+{
+    mode == Mode::Nonblocking
+}
+
+/// The call of a kind with a mode; one that makes communicators only blocks.
+pub fn call_with(mode: Mode, kind: Kind) -> Call
+    ensures { result ≡ call_with mode (family_of kind) }
+{
+    match kind.family() {
+        Family::Exchange(exchange) => Call::Exchange(exchange, mode),
+        Family::Reduction(reduction) => Call::Reduction(reduction, mode),
+        Family::NewCommunicator(new) => Call::NewCommunicator(new),
+        Family::Neighbourhood(exchange) => Call::Neighbourhood(exchange, mode),
+    }
+}
+
+impl Asked {
+    /// Whether it is of two communicators.
+    pub fn has_second(self) -> bool
+        ensures { result ≡ has_second self }
+    {
+        match self {
+            Asked::Neighbours(_) => false,
+            Asked::Compare => true,
+            Asked::Translate => true,
+        }
+    }
+
+    /// Whether it is of a list of ranks.
+    pub fn has_ranks(self) -> bool
+        ensures { result ≡ has_ranks self }
+    {
+        match self {
+            Asked::Neighbours(_) => false,
+            Asked::Compare => false,
+            Asked::Translate => true,
+        }
+    }
 }
 
 /// The operation of a word.
@@ -201,6 +316,36 @@ pub fn list_named(alloc: Global, word: &[u8]) -> Result<Option<Numbers>, AllocEr
     Ok(Some(Numbers::new(alloc, numbers)?))
 }
 
+// The rank of a word, or none for `null`.
+#[tactic(auto, unfolding(crate::specs::Grammar::rank_named))]
+fn rank_named(word: &[u8]) -> Option<Option<i128>>
+    ensures { result ≡ rank_named word.now }
+{
+    if word == b"null".as_slice() {
+        return Some(None);
+    }
+    let number = parse_number(word)?;
+    Some(Some(number))
+}
+
+/// The ranks of a list: such ranks with commas between them, or `-` for none of them.
+#[tactic(auto, unfolding(crate::specs::Grammar::ranks_named))]
+pub fn ranks_named(alloc: Global, word: &[u8]) -> Result<Option<RankList>, AllocError>
+    ensures { IfOk result (λ found. found ≡ ranks_named word.now) }
+{
+    let mut ranks = Vec::new(alloc);
+    if word == b"-".as_slice() {
+        return Ok(Some(RankList::new(ranks)));
+    }
+    for part in word.split(|byte| *byte == b',') {
+        let Some(rank) = rank_named(part) else {
+            return Ok(None);
+        };
+        ranks.push(rank)?;
+    }
+    Ok(Some(RankList::new(ranks)))
+}
+
 /// Whether a kind with so many counts has just one.
 pub fn is_one(number: Number) -> bool
     ensures { result ≡ is_one number }
@@ -226,7 +371,7 @@ fn are_name_bytes(word: &[u8]) -> bool
     word.iter().all(|byte| is_name_byte(*byte))
 }
 
-#[tactic(auto, unfolding(crate::specs::Grammar::is_name))]
+#[tactic(auto, unfolding(crate::specs::Naming::is_name))]
 pub fn is_name(word: &[u8]) -> bool
     ensures { result ≡ is_name word.now }
 {

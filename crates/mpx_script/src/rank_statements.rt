@@ -1,11 +1,12 @@
 // The statements of one rank.
-ghost use Rattle.std.specs.Prelude.{◌≡◌, List, [], ◌∷◌, ◌++◌, OnErr, OnOk};
+ghost use Rattle.std.specs.Prelude.{◌≡◌, ℕ, List, [], ◌∷◌, ◌++◌, OnErr, OnOk};
 ghost use Rattle.std.specs.BTreeSet.{IsUnchanged};
-ghost use Rattle.mpx_script.specs.ScriptView.{AreNames};
+ghost use Rattle.mpx_script.specs.ScriptView.{AreBound, AreNames};
 ghost use Rattle.mpx_script.specs.declared.statement.Statement.{Statement as StatementView};
-ghost use Rattle.mpx_script.specs.Grammar.{is_bound, names_bound};
+ghost use Rattle.mpx_script.specs.Naming.{is_bound, names_bound};
 
 use crate::statement::Statement;
+use crate::word::Word;
 use join_core::OutOfMemory;
 use std::alloc::Global;
 use std::collections::BTreeSet;
@@ -15,20 +16,22 @@ use std::marker::Model;
 #[derive(Debug, Drop)]
 pub struct RankStatements {
     statements: Vec<Statement>,
-    /// The words that they bind.
-    names: BTreeSet<Vec<u8>>,
+    /// The words that they bind to communicators.
+    communicators: BTreeSet<Vec<u8>>,
+    /// The words that they bind to requests.
+    requests: BTreeSet<Vec<u8>>,
 }
 
 impl Model for RankStatements {
     ghost use Rattle.std.specs.Prelude.{List};
     ghost use Rattle.mpx_script.specs.declared.statement.Statement.{Statement as StatementView};
-    ghost use Rattle.mpx_script.specs.ScriptView.{AreNames};
+    ghost use Rattle.mpx_script.specs.ScriptView.{AreBound};
 
     ghost Value = { List StatementView };
 
     ghost view = { λ s. s.statements.items };
 
-    ghost invariant = { λ s. AreNames s.names s.statements.items };
+    ghost invariant = { λ s. AreBound s.communicators s.requests s.statements.items };
 }
 
 impl RankStatements {
@@ -38,7 +41,8 @@ impl RankStatements {
     {
         RankStatements {
             statements: Vec::new(alloc),
-            names: BTreeSet::new(alloc),
+            communicators: BTreeSet::new(alloc),
+            requests: BTreeSet::new(alloc),
         }
     }
 
@@ -49,11 +53,18 @@ impl RankStatements {
         self.statements.as_slice()
     }
 
-    /// Whether the rank has bound a name.
-    pub fn has_bound(&self, word: &[u8]) -> bool
-        ensures { result ≡ is_bound (names_bound self.now) word.now }
+    /// Whether the rank has bound a name to a communicator.
+    pub fn has_communicator(&self, word: &[u8]) -> bool
+        ensures { result ≡ is_bound (names_bound self.now).communicators word.now }
     {
-        word == b"world".as_slice() || self.names.contains(word)
+        word == b"world".as_slice() || self.communicators.contains(word)
+    }
+
+    /// Whether the rank has bound a name to a request.
+    pub fn has_request(&self, word: &[u8]) -> bool
+        ensures { result ≡ is_bound (names_bound self.now).requests word.now }
+    {
+        self.requests.contains(word)
     }
 
     /// Adds a statement at the end.
@@ -61,26 +72,43 @@ impl RankStatements {
         ensures { OnOk result (self.new ≡ self.old ++ statement ∷ []) }
     {
         self.statements.reserve(1)?;
-        add_name(alloc, &mut self.names, &statement)?;
+        add_names(
+            alloc,
+            &mut self.communicators,
+            &mut self.requests,
+            &statement,
+        )?;
         self.statements.push_reserved(statement);
         Ok(())
     }
 }
 
-// Adds the word that a statement binds, where it binds one.
-fn add_name(
+// Adds the word that a statement binds, where it binds one, to its sort of names.
+fn add_names(
     alloc: Global,
-    names: &mut BTreeSet<Vec<u8>>,
+    communicators: &mut BTreeSet<Vec<u8>>,
+    requests: &mut BTreeSet<Vec<u8>>,
     statement: &Statement,
 ) -> Result<(), OutOfMemory>
-    ensures added { OnOk result ((statements : List StatementView) → AreNames names.old statements
-        → AreNames names.new (statements ++ statement.now ∷ [])) }
+    ensures added { OnOk result ((statements : List StatementView) → AreBound communicators.old requests.old statements
+        → AreBound communicators.new requests.new (statements ++ statement.now ∷ [])) }
+    ensures kept_communicators { OnErr result (IsUnchanged communicators.old communicators.new) }
+    ensures kept_requests { OnErr result (IsUnchanged requests.old requests.new) }
+{
+    match (statement.target(), statement.request()) {
+        (Some(word), _) => add_name(alloc, communicators, word),
+        (None, Some(word)) => add_name(alloc, requests, word),
+        (None, None) => Ok(()),
+    }
+}
+
+// Adds a word to some names.
+fn add_name(alloc: Global, names: &mut BTreeSet<Vec<u8>>, word: &Word) -> Result<(), OutOfMemory>
+    ensures added { OnOk result ((words : List (List ℕ)) → AreNames names.old words
+        → AreNames names.new (words ++ word.now ∷ [])) }
     ensures kept { OnErr result (IsUnchanged names.old names.new) }
 {
-    let Some(target) = statement.target() else {
-        return Ok(());
-    };
-    let name = Vec::from_slice(alloc, target.as_bytes())?;
+    let name = Vec::from_slice(alloc, word.as_bytes())?;
     names.insert(name)?;
     Ok(())
 }

@@ -162,13 +162,21 @@ fn read_lines(alloc: Global, text: &[u8]) -> Result<Script, ReadScriptError>
 
 /// Reads a script: at most 1,048,576 bytes of ASCII, line by line. Empty lines and lines whose first word begins with
 /// `#` are passed over; the first other line is `ranks N`, and each further line `R: STATEMENT`, or `*: STATEMENT` for
-/// every rank. A statement is `KIND C ROOT OPERATION TYPE SCOUNTS RCOUNTS ITEMS` without the words that calls of its
-/// kind don't have, or makes a communicator (MPI 4.1 sections 7.4.2 and 8.5.4), where the list `L` has ranks of `C`:
-/// `dup C -> D`, `split C COLOUR KEY -> D` with a number or `undefined` for the colour, `create C L -> D`,
-/// `create_group C TAG L -> D`, `dist_graph C EDGES -> D` with edges `S>D` or `S>D:W`, or
-/// `dist_graph_adjacent C SOURCES DESTINATIONS -> D` with neighbours `R` or `R:W`; or it asks for the rank's own neighbours in `C`
-/// on one side (section 8.5.5): `sources C` or `destinations C`. `C` is `world` or a name that an earlier statement of the rank binds, and `D` a name that
-/// none does: a small letter, then small letters, digits or `_`, at most 32 bytes. See `specs/Grammar.antt`.
+/// every rank. A statement is one of these, see `specs/Grammar.antt`:
+///
+/// - `KIND C ROOT OPERATION TYPE SCOUNTS RCOUNTS ITEMS` without the words that calls of its kind don't have; with `i` before
+///   the kind and `-> Q` at the end it is nonblocking (MPI 4.1 section 6.12);
+/// - one that makes a communicator (sections 7.4.2 and 8.5.4), where the list `L` has ranks of `C`: `dup C -> D`,
+///   `split C COLOUR KEY -> D` with a number or `undefined` for the colour, `create C L -> D`, `create_group C TAG L -> D`,
+///   `dist_graph C EDGES -> D` with edges `S>D` or `S>D:W`, or `dist_graph_adjacent C SOURCES DESTINATIONS -> D` with
+///   neighbours `R` or `R:W`;
+/// - `wait Q`, or `waitall Q ..` for one request or more (sections 3.7.3 and 3.7.5);
+/// - one that is answered at once: the rank's own neighbours in `C` on one side (section 8.5.5), `sources C` or
+///   `destinations C`; `compare C C` (section 7.4.1); or `translate C C L` (section 7.3.1), where `L` may hold `null`.
+///
+/// `C` is `world` or a name that an earlier statement of the rank binds to a communicator, as `-> D` does, `Q` one that it
+/// binds to a request; a new name is bound to neither (see `specs/Naming.antt`). A name is a small letter, then small letters,
+/// digits or `_`, at most 32 bytes.
 ///
 /// The refusal is that of the least line that has one, and the first of [`ScriptFault`] that holds of it.
 pub fn read_script(alloc: Global, text: &[u8]) -> Result<Script, ReadScriptError>

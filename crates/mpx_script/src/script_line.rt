@@ -1,28 +1,29 @@
 // What one line of a script says, or why it is refused.
-ghost use Rattle.std.specs.Prelude.{◌≡◌, ◌+◌, ◌-◌, ◌<◌, ◌≤◌, ℕ, List, [], ◌∷◌, ◌||◌, not, map, true, false, is_none, None, Some, IfOk, OnOk, IfErr, unwrap_or};
-ghost use Rattle.std.specs.List.{range_with_len};
-ghost use Rattle.std.specs.Option.{option_copied, option_map_or};
-ghost use Rattle.mpx_post.specs.Kinds.{family_of};
-ghost use Rattle.mpx_script.specs.Statements.{target_of, word_of};
+ghost use Rattle.std.specs.Prelude.{◌≡◌, ◌+◌, ◌-◌, ◌<◌, ◌≤◌, [], map, true, false, is_none, None, Some, IfOk, OnOk, IfErr, unwrap_or};
+ghost use Rattle.std.specs.Option.{option_copied};
 ghost use Rattle.mpx_script.specs.PartialScripts.{ranks_of_script, bound_of_script};
 ghost use Rattle.mpx_script.specs.Words.{words, counts, is_ascii};
-ghost use Rattle.mpx_script.specs.Grammar.{directive_in, fails, has_name, is_name, label_in, lacks_name, names_bound, ranks_in, posting_of, posting_said, statement_in};
-ghost use Rattle.mpx_script.specs.Reading.{first_holding, refusal, plain_context, bounded_context};
-ghost use Rattle.mpx_script.specs.Sentences.{IsAssignment, Says, IsRefusal, ask_refusal, statement_refusal, call_refusal};
+ghost use Rattle.mpx_script.specs.Grammar.{ask_in, call_posted, directive_in, label_in, new_posted, ranks_in, ranks_named, posting_said, question_said, said, statement_as, statement_in};
+ghost use Rattle.mpx_script.specs.Naming.{names_bound};
+ghost use Rattle.mpx_script.specs.Reading.{refusal, plain_context, bounded_context};
+ghost use Rattle.mpx_script.specs.Sentences.{IsAssignment, Says, IsRefusal, form_refusal, read_at, statement_refusal, call_refusal};
 
 use crate::calls::{draft_in, number_at};
 use crate::faults::{LineError, ScriptFault};
-use crate::grammar::{is_name, rank_count, ranks_number, shape_of};
+use crate::grammar::{Asked, Form, Waited, rank_count, ranks_named, ranks_number, shape_of};
+use crate::naming::names_fault;
+use crate::rank_list::RankList;
 use crate::script::Script;
-use crate::statement::{Posting, Side, Statement};
+use crate::statement::{Posting, Question, Statement};
 use crate::syntax::{
-    CallSyntax, DirectiveSyntax, NewSyntax, call_in, directive_in, has_words, new_in, ranks_named,
+    AskSyntax, CallSyntax, DirectiveSyntax, NewSyntax, ask_in, call_in, directive_in, lacks,
+    new_in, ranks_labelled,
 };
-use crate::word::Word;
-use crate::words::{counts, is_ascii};
+use crate::word::{Word, WordList};
+use crate::words::{counts, first_word, is_ascii};
 use join_core::OutOfMemory;
-use mpx_post::{Draft, Family, Kind, NewCommunicator};
-use std::alloc::Global;
+use mpx_post::{Draft, Family, Kind, Mode, NewCommunicator};
+use std::alloc::{AllocError, Global};
 
 /// How many statements a script may have.
 pub const STATEMENTS: u32 = 65_536;
@@ -63,146 +64,200 @@ fn opening_line(line: &[u8]) -> Result<u8, LineError>
     Ok(ranks)
 }
 
-// What a statement of a kind posts on a communicator, with its draft, its tag and the name for the new communicator.
-fn posting_of(
+// What a call posts that makes no communicator.
+fn call_posted(
     alloc: Global,
-    kind: Kind,
-    on: &[u8],
+    mode: Mode,
+    on: Word,
+    draft: Draft,
+    request: Option<&[u8]>,
+) -> Result<Posting, OutOfMemory>
+    ensures { IfOk result (λ posting. posting ≡ call_posted mode on draft (unwrap_or (option_copied request.entry) [])) }
+{
+    match mode {
+        Mode::Blocking => Ok(Posting::Call { on, draft }),
+        Mode::Nonblocking => {
+            let request = word_at(alloc, request)?;
+            Ok(Posting::Start { on, draft, request })
+        }
+    }
+}
+
+// What a call posts that makes a communicator.
+fn new_posted(
+    alloc: Global,
+    made: NewCommunicator,
+    on: Word,
     draft: Draft,
     tag: i128,
-    target: &[u8],
+    target: Option<&[u8]>,
 ) -> Result<Posting, OutOfMemory>
-    ensures { IfOk result (λ posting. posting ≡ posting_of (family_of kind) on.now draft tag target.now) }
+    ensures { IfOk result (λ posting. posting ≡ new_posted made on draft tag (unwrap_or (option_copied target.entry) [])) }
 {
-    let on = Word::new(alloc, on)?;
-    let Family::NewCommunicator(new) = kind.family() else {
-        return Ok(Posting::Call { on, draft });
-    };
-    let to = Word::new(alloc, target)?;
-    if new == NewCommunicator::CreateGroup {
+    let to = word_at(alloc, target)?;
+    if made == NewCommunicator::CreateGroup {
         let ranks = draft.group;
         return Ok(Posting::CreateGroup { on, tag, ranks, to });
     }
     Ok(Posting::New { on, draft, to })
 }
 
+// The word, or one without bytes.
+fn word_at(alloc: Global, word: Option<&[u8]>) -> Result<Word, OutOfMemory>
+    ensures { IfOk result (λ made. made ≡ unwrap_or (option_copied word.entry) []) }
+{
+    Word::new(alloc, word.unwrap_or(&[]))
+}
+
 // What a statement of a kind posts, by its words.
-#[tactic(auto, using(crate::proofs::Refusals::refusal_of_tag, crate::proofs::Refusals::refusal_of_draft, crate::proofs::Refusals::refusal_of_name))]
+#[tactic(auto, using(crate::proofs::Refusals::refusal_of_tag, crate::proofs::Refusals::refusal_of_draft, crate::proofs::Refusals::call_accepted, crate::proofs::Accepted::said_is))]
 fn call_of(
     alloc: Global,
     kind: Kind,
+    mode: Mode,
     communicator: Option<&[u8]>,
     new: &NewSyntax<'_>,
     call: &CallSyntax<'_>,
 ) -> Result<Posting, LineError>
-    ensures accepted { OnOk result (call_refusal kind (option_copied communicator.entry) new.now call.now ≡ None) }
-    ensures posting { IfOk result (λ posting. posting ≡ posting_said kind (option_copied communicator.entry) new.now call.now) }
-    ensures refused { IfErr result (IsRefusal (call_refusal kind (option_copied communicator.entry) new.now call.now)) }
+    ensures accepted { OnOk result (call_refusal kind mode (option_copied communicator.entry) new.now call.now ≡ None) }
+    ensures posting { IfOk result (λ posting. posting ≡ posting_said kind mode (option_copied communicator.entry) new.now call.now) }
+    ensures refused { IfErr result (IsRefusal (call_refusal kind mode (option_copied communicator.entry) new.now call.now)) }
 {
     if call.has_unknown_word() {
         return Err(LineError::Fault(ScriptFault::UnknownStatement));
     }
-    let Some(communicator) = communicator else {
-        return Err(LineError::Fault(ScriptFault::WrongWords));
-    };
-    if new.has_wrong_words(shape_of(kind)) || call.has_wrong_count(kind.fields()) {
+    if lacks(true, communicator)
+        || new.has_wrong_words(shape_of(kind))
+        || call.has_wrong_count(kind.fields())
+        || call.has_wrong_end(mode)
+    {
         return Err(LineError::Fault(ScriptFault::WrongWords));
     }
     let Some(tag) = number_at(new.tag) else {
         return Err(LineError::Fault(ScriptFault::BadNumber));
     };
-    let draft = match draft_in(alloc, kind, new, call) {
+    let draft = match draft_in(alloc, kind, mode, new, call) {
         Ok(draft) => draft,
         Err(e) => return Err(e),
     };
-    if are_bad_names(communicator, new.target) {
-        return Err(LineError::Fault(ScriptFault::BadName));
+    let on = word_at(alloc, communicator)?;
+    match kind.family() {
+        Family::NewCommunicator(made) => {
+            Ok(new_posted(alloc, made, on, draft, tag, new.target)?)
+        }
+        Family::Exchange(_) | Family::Reduction(_) | Family::Neighbourhood(_) => {
+            Ok(call_posted(alloc, mode, on, draft, call.request)?)
+        }
     }
-    let target = new.target.unwrap_or(&[]);
-    Ok(posting_of(alloc, kind, communicator, draft, tag, target)?)
 }
 
-// Whether the communicator's word or that for the new one is no name.
-fn are_bad_names(communicator: &[u8], target: Option<&[u8]>) -> bool
-    ensures { result ≡ (not (is_name communicator.now) || fails is_name (option_copied target.entry)) }
+// The words of a line.
+fn words_in(alloc: Global, line: &[u8]) -> Result<WordList, OutOfMemory>
+    ensures { IfOk result (λ found. found ≡ words line.now) }
 {
-    !is_name(communicator) || target.is_some_and(|word| !is_name(word))
+    let mut found = Vec::new(alloc);
+    let mut rest = line;
+    while let (Some(word), after) = first_word(rest) {
+        found.push(Word::new(alloc, word)?)?;
+        rest = after;
+    }
+    Ok(WordList::new(found))
 }
 
-// The statement of a side by its communicator and the line behind it.
-fn ask_of(
+// The requests of a wait by the line behind its word.
+fn requests_in(alloc: Global, waited: Waited, line: &[u8]) -> Result<WordList, LineError>
+    ensures accepted { OnOk result (form_refusal (Form.Wait waited) (words line.now) ≡ None) }
+    ensures requests { IfOk result (λ requests. requests ≡ words line.now) }
+    ensures refused { IfErr result (IsRefusal (form_refusal (Form.Wait waited) (words line.now))) }
+{
+    let requests = words_in(alloc, line)?;
+    let len = requests.as_slice().len();
+    match waited {
+        Waited::One if len == 1 => Ok(requests),
+        Waited::All if len > 0 => Ok(requests),
+        _ => Err(LineError::Fault(ScriptFault::WrongWords)),
+    }
+}
+
+// The ranks of a list, none where there is no word, or None where the word is no list.
+fn ranks_at(alloc: Global, word: Option<&[u8]>) -> Result<Option<RankList>, AllocError>
+    ensures { IfOk result (λ found. found ≡ read_at ranks_named [] (option_copied word.entry)) }
+{
+    match word {
+        Some(word) => ranks_named(alloc, word),
+        None => Ok(Some(RankList::new(Vec::new(alloc)))),
+    }
+}
+
+// The question of these words and ranks.
+fn question_of(
     alloc: Global,
-    side: Side,
-    communicator: Option<&[u8]>,
-    behind: &[u8],
-) -> Result<Statement, LineError>
-    ensures accepted { OnOk result (ask_refusal (option_copied communicator.entry) (words behind.now) ≡ None) }
-    ensures statement { IfOk result (λ statement. statement ≡ Statement.Ask (unwrap_or (option_copied communicator.entry) []) side) }
-    ensures refused { IfErr result (IsRefusal (ask_refusal (option_copied communicator.entry) (words behind.now))) }
+    asked: Asked,
+    ask: &AskSyntax<'_>,
+    ranks: RankList,
+) -> Result<Question, OutOfMemory>
+    ensures { IfOk result (λ question. ranks ≡ said ranks_named [] ask.now.ranks → question ≡ question_said asked ask.now) }
 {
-    let Some(communicator) = communicator else {
-        return Err(LineError::Fault(ScriptFault::WrongWords));
-    };
-    if has_words(behind) {
-        return Err(LineError::Fault(ScriptFault::WrongWords));
-    }
-    if !is_name(communicator) {
-        return Err(LineError::Fault(ScriptFault::BadName));
-    }
-    let on = Word::new(alloc, communicator)?;
-    Ok(Statement::Ask { on, side })
+    let first = word_at(alloc, ask.first)?;
+    let second = word_at(alloc, ask.second)?;
+    Ok(match asked {
+        Asked::Neighbours(side) => Question::Neighbours { on: first, side },
+        Asked::Compare => Question::Compare { first, second },
+        Asked::Translate => Question::Translate {
+            from: first,
+            to: second,
+            ranks,
+        },
+    })
 }
 
-// The statement behind a label, whatever is bound.
-#[tactic(auto, using(crate::proofs::Refusals::refusal_of_kind, crate::proofs::Refusals::refusal_of_side, crate::proofs::Refusals::refusal_of_no_word), unfolding(crate::specs::Grammar::statement_in))]
+// What a statement asks by the line behind its word.
+fn question_in(alloc: Global, asked: Asked, line: &[u8]) -> Result<Question, LineError>
+    ensures accepted { OnOk result (form_refusal (Form.Ask asked) (words line.now) ≡ None) }
+    ensures question { IfOk result (λ question. question ≡ question_said asked (ask_in asked (words line.now))) }
+    ensures refused { IfErr result (IsRefusal (form_refusal (Form.Ask asked) (words line.now))) }
+{
+    let ask = ask_in(asked, line);
+    if ask.has_wrong_words(asked) {
+        return Err(LineError::Fault(ScriptFault::WrongWords));
+    }
+    let Some(ranks) = ranks_at(alloc, ask.ranks)? else {
+        return Err(LineError::Fault(ScriptFault::BadList));
+    };
+    Ok(question_of(alloc, asked, &ask, ranks)?)
+}
+
+// The statement of a form by the line behind its word.
+fn statement_as(alloc: Global, form: Form, line: &[u8]) -> Result<Statement, LineError>
+    ensures accepted { OnOk result (form_refusal form (words line.now) ≡ None) }
+    ensures statement { IfOk result (λ statement. statement ≡ statement_as form (words line.now)) }
+    ensures refused { IfErr result (IsRefusal (form_refusal form (words line.now))) }
+{
+    match form {
+        Form::Call(kind, mode) => {
+            let (communicator, rest) = first_word(line);
+            let new = new_in(shape_of(kind), rest);
+            let call = call_in(kind.fields(), mode, new.behind);
+            let posting = call_of(alloc, kind, mode, communicator, &new, &call)?;
+            Ok(Statement::Post(posting))
+        }
+        Form::Wait(waited) => Ok(Statement::Wait(requests_in(alloc, waited, line)?)),
+        Form::Ask(asked) => Ok(Statement::Ask(question_in(alloc, asked, line)?)),
+    }
+}
+
+// The statement behind a label.
+#[tactic(auto, using(crate::proofs::Refusals::refusal_of_form, crate::proofs::Refusals::refusal_of_no_word), unfolding(crate::specs::Grammar::statement_in))]
 fn statement_in(alloc: Global, directive: &DirectiveSyntax<'_>) -> Result<Statement, LineError>
     requires { is_none (label_in directive.now) ≡ false }
     ensures accepted { OnOk result (statement_refusal directive.now ≡ None) }
     ensures statement { IfOk result (λ statement. statement_in directive.now ≡ Some statement) }
     ensures refused { IfErr result (IsRefusal (statement_refusal directive.now)) }
 {
-    let Some(kind) = directive.kind() else {
-        let Some(side) = directive.side() else {
-            return Err(LineError::Fault(ScriptFault::UnknownStatement));
-        };
-        return ask_of(alloc, side, directive.communicator, directive.behind);
+    let Some(form) = directive.form() else {
+        return Err(LineError::Fault(ScriptFault::UnknownStatement));
     };
-    let new = new_in(shape_of(kind), directive.behind);
-    let call = call_in(kind.fields(), new.behind);
-    let posting = call_of(alloc, kind, directive.communicator, &new, &call)?;
-    Ok(Statement::Post(posting))
-}
-
-// Whether one of the ranks from the one on and below the other hasn't bound the word.
-fn lacks_name(script: &Script, from: u8, to: u8, word: &[u8]) -> bool
-    ensures { result ≡ lacks_name (map names_bound script.now.statements) (range_with_len from (to - from)) word.now }
-{
-    (from..to).any(|rank| !script.has_bound(rank, word))
-}
-
-// Whether one of them has.
-fn has_name(script: &Script, from: u8, to: u8, word: &[u8]) -> bool
-    ensures { result ≡ has_name (map names_bound script.now.statements) (range_with_len from (to - from)) word.now }
-{
-    (from..to).any(|rank| script.has_bound(rank, word))
-}
-
-// What a statement's names are refused for at these ranks.
-fn names_fault(script: &Script, from: u8, to: u8, statement: &Statement) -> Option<ScriptFault>
-    ensures { result ≡ (let ranks : List ℕ = range_with_len from (to - from) in first_holding (
-        (ScriptFault.NameUnknown, lacks_name (map names_bound script.now.statements) ranks (word_of statement.now))
-        ∷ (ScriptFault.NameTaken, option_map_or (has_name (map names_bound script.now.statements) ranks) (target_of statement.now) false)
-        ∷ [])) }
-{
-    if lacks_name(script, from, to, statement.on().as_bytes()) {
-        return Some(ScriptFault::NameUnknown);
-    }
-    match statement.target() {
-        Some(target) if has_name(script, from, to, target.as_bytes()) => {
-            Some(ScriptFault::NameTaken)
-        }
-        _ => None,
-    }
+    statement_as(alloc, form, directive.behind)
 }
 
 // The statement of a further line.
@@ -226,7 +281,7 @@ fn further_line(
     if statements + u32::from(directive.statements(ranks)) > STATEMENTS {
         return Err(LineError::Fault(ScriptFault::TooLarge));
     }
-    let (from, to) = match ranks_named(directive.label(), ranks) {
+    let (from, to) = match ranks_labelled(directive.label(), ranks) {
         Ok(named) => named,
         Err(e) => return Err(e),
     };

@@ -1,26 +1,26 @@
-// The words of a further line by their places: its label, its statement, its communicator and the fields of its call.
+// The words of a further line by their places: its label, its statement, and what stands behind that.
 ghost use Rattle.std.specs.Prelude.{◌≡◌, ◌==◌, ◌+◌, ◌-◌, ◌<◌, ◌≤◌, ℕ, ◌&&◌, ◌⊎◌, true, false, not, None, Some, IfOk, IfErr, nat_le, nat_lt, is_none, length};
 ghost use Rattle.std.specs.Option.{option_copied};
 ghost use Rattle.mpx_script.specs.Words.{words};
-ghost use Rattle.mpx_script.specs.Grammar.{directive_in, kind_in, label_in, side_in, new_in, call_in, ranks_meant, ranks_labelled, statements_in, is_past, is_meant, lacks, has_unknown_word, has_wrong_new_words, has_wrong_count};
+ghost use Rattle.mpx_script.specs.Grammar.{ask_in, directive_in, form_in, label_in, new_in, call_in, ranks_meant, statements_in, is_past, is_meant, lacks, has_unknown_word, has_wrong_new_words, has_wrong_count, has_wrong_end, has_wrong_question};
+ghost use Rattle.mpx_script.specs.Naming.{ranks_labelled};
 ghost use Rattle.std.specs.List.{range_with_len};
 
 use crate::faults::{LineError, ScriptFault};
 use crate::grammar::{
-    Label, Shape, below, is_arrow, kind_named, label_of, operation_named, side_named, type_named,
+    Asked, Form, Label, Shape, below, form_named, is_arrow, is_nonblocking, label_of,
+    operation_named, type_named,
 };
-use crate::statement::Side;
-use crate::words::{first_word, next_word};
-use mpx_post::{Fields, Kind};
+use crate::words::{first_word, last_word, next_word};
+use mpx_post::{Fields, Mode};
 use std::marker::Model;
 
-/// A further line as words: `LABEL STATEMENT COMMUNICATOR`, and what stands behind them.
+/// A further line as words: `LABEL STATEMENT`, and what stands behind them.
 #[derive(Drop)]
 pub struct DirectiveSyntax<'a> {
     pub label: Option<&'a [u8]>,
     pub statement: Option<&'a [u8]>,
-    pub communicator: Option<&'a [u8]>,
-    /// The line behind its third word.
+    /// The line behind its second word.
     pub behind: &'a [u8],
 }
 
@@ -34,7 +34,6 @@ impl<'a> Model for DirectiveSyntax<'a> {
     ghost view = { λ p. record {
       label = option_copied p.label;
       statement = option_copied p.statement;
-      communicator = option_copied p.communicator;
       behind = words p.behind.now;
     } };
 }
@@ -44,12 +43,10 @@ pub fn directive_in(line: &[u8]) -> DirectiveSyntax<'_>
     ensures { result ≡ directive_in (words line.now) }
 {
     let (label, rest) = first_word(line);
-    let (statement, rest) = first_word(rest);
-    let (communicator, behind) = first_word(rest);
+    let (statement, behind) = first_word(rest);
     DirectiveSyntax {
         label,
         statement,
-        communicator,
         behind,
     }
 }
@@ -79,21 +76,12 @@ impl DirectiveSyntax<'_> {
         }
     }
 
-    pub fn kind(&self) -> Option<Kind>
-        ensures { result ≡ kind_in self.now }
+    /// What its statement's word stands for.
+    pub fn form(&self) -> Option<Form>
+        ensures { result ≡ form_in self.now }
     {
         match self.statement {
-            Some(word) => kind_named(word),
-            None => None,
-        }
-    }
-
-    /// The side of a statement that asks for neighbours.
-    pub fn side(&self) -> Option<Side>
-        ensures { result ≡ side_in self.now }
-    {
-        match self.statement {
-            Some(word) => side_named(word),
+            Some(word) => form_named(word),
             None => None,
         }
     }
@@ -174,7 +162,8 @@ impl NewSyntax<'_> {
     }
 }
 
-/// The fields of a call as words: `ROOT OPERATION TYPE SCOUNTS RCOUNTS ITEMS`, where the kind has them.
+/// The fields of a call as words: `ROOT OPERATION TYPE SCOUNTS RCOUNTS ITEMS`, where the kind has them, and `-> REQUEST`, where
+/// it is nonblocking.
 #[derive(Drop)]
 pub struct CallSyntax<'a> {
     pub root: Option<&'a [u8]>,
@@ -182,8 +171,10 @@ pub struct CallSyntax<'a> {
     pub ty: Option<&'a [u8]>,
     pub scounts: Option<&'a [u8]>,
     pub rcounts: Option<&'a [u8]>,
-    /// The line behind these words.
+    /// The line behind these words, without those at its end.
     pub items: &'a [u8],
+    pub arrow: Option<&'a [u8]>,
+    pub request: Option<&'a [u8]>,
 }
 
 impl<'a> Model for CallSyntax<'a> {
@@ -200,19 +191,23 @@ impl<'a> Model for CallSyntax<'a> {
       scounts = option_copied p.scounts;
       rcounts = option_copied p.rcounts;
       items = words p.items.now;
+      arrow = option_copied p.arrow;
+      request = option_copied p.request;
     } };
 }
 
 /// What stands behind those words as the words of a call's fields.
 #[tactic(auto, unfolding(crate::specs::Grammar::call_in))]
-pub fn call_in(fields: Fields, line: &[u8]) -> CallSyntax<'_>
-    ensures { result ≡ call_in fields (words line.now) }
+pub fn call_in(fields: Fields, mode: Mode, line: &[u8]) -> CallSyntax<'_>
+    ensures { result ≡ call_in fields mode (words line.now) }
 {
     let (root, rest) = next_word(fields.root, line);
     let (operation, rest) = next_word(fields.op, rest);
     let (ty, rest) = next_word(fields.items, rest);
     let (scounts, rest) = next_word(fields.scounts.is_had(), rest);
-    let (rcounts, items) = next_word(fields.rcounts.is_had(), rest);
+    let (rcounts, rest) = next_word(fields.rcounts.is_had(), rest);
+    let (request, rest) = last_word(is_nonblocking(mode), rest);
+    let (arrow, items) = last_word(is_nonblocking(mode), rest);
     CallSyntax {
         root,
         operation,
@@ -220,6 +215,8 @@ pub fn call_in(fields: Fields, line: &[u8]) -> CallSyntax<'_>
         scounts,
         rcounts,
         items,
+        arrow,
+        request,
     }
 }
 
@@ -246,10 +243,70 @@ impl CallSyntax<'_> {
             || lacks(fields.rcounts.is_had(), self.rcounts)
             || (!fields.items && has_words(self.items))
     }
+
+    /// Whether the arrow of a nonblocking call is missing, or another word stands there.
+    pub fn has_wrong_end(&self, mode: Mode) -> bool
+        ensures { result ≡ has_wrong_end mode self.now }
+    {
+        lacks(is_nonblocking(mode), self.arrow) || self.arrow.is_some_and(|word| !is_arrow(word))
+    }
 }
 
-// Whether a word is asked for and isn't there.
-fn lacks(asked: bool, word: Option<&[u8]>) -> bool
+/// The words of a statement that asks: `COMMUNICATOR COMMUNICATOR RANKS`, where it has them.
+#[derive(Drop)]
+pub struct AskSyntax<'a> {
+    pub first: Option<&'a [u8]>,
+    pub second: Option<&'a [u8]>,
+    pub ranks: Option<&'a [u8]>,
+    /// The line behind these words.
+    pub behind: &'a [u8],
+}
+
+impl<'a> Model for AskSyntax<'a> {
+    ghost use Rattle.std.specs.Option.{option_copied};
+    ghost use Rattle.mpx_script.specs.Words.{words};
+    ghost use Rattle.mpx_script.specs.Grammar.{AskSyntax as AskSyntaxView};
+
+    ghost Value = { AskSyntaxView };
+
+    ghost view = { λ p. record {
+      first = option_copied p.first;
+      second = option_copied p.second;
+      ranks = option_copied p.ranks;
+      behind = words p.behind.now;
+    } };
+}
+
+/// What stands behind a statement's word as the words of one that asks.
+#[tactic(auto, unfolding(crate::specs::Grammar::ask_in))]
+pub fn ask_in(asked: Asked, line: &[u8]) -> AskSyntax<'_>
+    ensures { result ≡ ask_in asked (words line.now) }
+{
+    let (first, rest) = first_word(line);
+    let (second, rest) = next_word(asked.has_second(), rest);
+    let (ranks, behind) = next_word(asked.has_ranks(), rest);
+    AskSyntax {
+        first,
+        second,
+        ranks,
+        behind,
+    }
+}
+
+impl AskSyntax<'_> {
+    /// Whether a word is missing, or there are more.
+    pub fn has_wrong_words(&self, asked: Asked) -> bool
+        ensures { result ≡ has_wrong_question asked self.now }
+    {
+        self.first.is_none()
+            || lacks(asked.has_second(), self.second)
+            || lacks(asked.has_ranks(), self.ranks)
+            || has_words(self.behind)
+    }
+}
+
+/// Whether a word is asked for and isn't there.
+pub fn lacks(asked: bool, word: Option<&[u8]>) -> bool
     ensures { result ≡ lacks asked (option_copied word.entry) }
 {
     asked && word.is_none()
@@ -263,7 +320,7 @@ pub fn has_words(line: &[u8]) -> bool
 }
 
 /// The ranks that a label names: those from the first number on and below the second.
-pub fn ranks_named(label: Option<Label>, ranks: u8) -> Result<(u8, u8), LineError>
+pub fn ranks_labelled(label: Option<Label>, ranks: u8) -> Result<(u8, u8), LineError>
     requires { 0 < ranks }
     ensures some { IfOk result (λ found. (found.0 < found.1) × (found.1 ≤ ranks)) }
     ensures count { IfOk result (λ found. ranks_meant ranks label ≡ found.1 - found.0) }

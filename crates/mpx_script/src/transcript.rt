@@ -1,10 +1,12 @@
 // The text of a line of a transcript.
 ghost use Rattle.std.specs.Prelude.{◌≡◌, ◌++◌, ◌∷◌, IfOk, OnOk, pos, codes, string_bytes};
 ghost use Rattle.mpx_num.specs.Text.{number_text};
-ghost use Rattle.mpx_script.specs.Ranks.{Near, Refused};
-ghost use Rattle.mpx_script.specs.Transcripts.{fault_name, line_text, neighbour_text, numbers_text, outcome_text, refusal_name};
+ghost use Rattle.mpx_script.specs.Ranks.{Compared, Idle, Near, Refused, StrayRank, Translated};
+ghost use Rattle.mpx_script.specs.Transcripts.{fault_name, line_text, neighbour_text, numbers_text, outcome_text, refusal_name, relation_text, translated_text};
 
+use crate::asking::Relation;
 use join_core::OutOfMemory;
+use mpx_group::Rank;
 use mpx_num::push_number;
 use mpx_post::{Neighbour, PostError};
 use mpx_value::{FaultKind, Outcome};
@@ -33,6 +35,56 @@ pub fn refused_line(alloc: Global, refusal: PostError) -> Result<String, OutOfMe
     let mut text = String::from_str(alloc, "refused ")?;
     text.push_str(name_of_refusal(refusal))?;
     Ok(text)
+}
+
+/// The line of a transcript that tells that a request is not open: `idle`.
+pub fn idle_line(alloc: Global) -> Result<String, OutOfMemory>
+    ensures { IfOk result (λ text. string_bytes text ≡ line_text Idle) }
+{
+    Ok(String::from_str(alloc, "idle")?)
+}
+
+/// The line of a transcript that tells that a rank is out of range: `refused RankOutOfRange`.
+pub(crate) fn stray_rank_line(alloc: Global) -> Result<String, OutOfMemory>
+    ensures { IfOk result (λ text. string_bytes text ≡ line_text StrayRank) }
+{
+    Ok(String::from_str(alloc, "refused RankOutOfRange")?)
+}
+
+/// The line of a transcript that tells how two communicators compare.
+pub(crate) fn relation_line(alloc: Global, relation: Relation) -> Result<String, OutOfMemory>
+    ensures { IfOk result (λ text. string_bytes text ≡ line_text (Compared relation)) }
+{
+    Ok(String::from_str(alloc, name_of_relation(relation))?)
+}
+
+/// The line of a transcript that tells ranks, with one space between them: a number, `null` or `undefined`; `empty` where
+/// there are none.
+pub(crate) fn ranks_line(alloc: Global, ranks: &[Rank]) -> Result<String, OutOfMemory>
+    ensures { IfOk result (λ text. string_bytes text ≡ line_text (Translated ranks.now)) }
+{
+    let Some((first, rest)) = ranks.split_first() else {
+        return Ok(String::from_str(alloc, "empty")?);
+    };
+    let mut text = String::new(alloc);
+    push_rank(&mut text, *first)?;
+    for rank in rest {
+        text.push_str(" ")?;
+        push_rank(&mut text, *rank)?;
+    }
+    Ok(text)
+}
+
+// Appends a rank.
+fn push_rank(text: &mut String, rank: Rank) -> Result<(), OutOfMemory>
+    ensures { OnOk result (string_bytes text.new ≡ string_bytes text.old ++ translated_text rank) }
+{
+    match rank {
+        Rank::At(rank) => push_number(text, i128::from(rank))?,
+        Rank::ProcNull => text.push_str("null")?,
+        Rank::Undefined => text.push_str("undefined")?,
+    }
+    Ok(())
 }
 
 /// The line of a transcript that tells neighbours: their ranks, or with weights `RANK:WEIGHT`, with one space between them;
@@ -120,6 +172,17 @@ fn name_of_fault(what: FaultKind) -> &'static str
         FaultKind::Weights => "Weights",
         FaultKind::Edges => "Edges",
         FaultKind::Groups => "Groups",
+    }
+}
+
+fn name_of_relation(relation: Relation) -> &'static str
+    ensures { result.now ≡ relation_text relation }
+{
+    match relation {
+        Relation::Ident => "ident",
+        Relation::Congruent => "congruent",
+        Relation::Similar => "similar",
+        Relation::Unequal => "unequal",
     }
 }
 

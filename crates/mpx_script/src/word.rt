@@ -46,6 +46,54 @@ impl Word {
     }
 }
 
+/// Names in a script, in their order; contracts see their list.
+#[derive(Debug, Drop)]
+pub struct WordList {
+    words: Vec<Word>,
+}
+
+impl Model for WordList {
+    ghost use Rattle.std.specs.Prelude.{List, ℕ};
+
+    ghost Value = { List (List ℕ) };
+
+    ghost view = { λ w. w.words.items };
+}
+
+impl WordList {
+    /// The list of these words.
+    pub fn new(words: Vec<Word>) -> WordList
+        ensures { result ≡ words.items }
+    {
+        WordList { words }
+    }
+
+    /// The words.
+    pub fn as_slice(&self) -> &[Word]
+        ensures { result.now ≡ self.now }
+    {
+        self.words.as_slice()
+    }
+
+    /// The same words once more.
+    pub fn copy(&self, alloc: Global) -> Result<WordList, OutOfMemory>
+        ensures { IfOk result (λ copied. copied ≡ self.now) }
+    {
+        let words = copied(alloc, &self.words)?;
+        Ok(WordList { words })
+    }
+}
+
+fn copied(alloc: Global, words: &[Word]) -> Result<Vec<Word>, OutOfMemory>
+    ensures { IfOk result (λ made. made.items ≡ words.now) }
+{
+    let mut made = Vec::new(alloc);
+    for word in words {
+        made.push(word.copy(alloc)?)?;
+    }
+    Ok(made)
+}
+
 impl Ord for Word {
     ghost cmp = { slice_cmp nat_cmp };
 

@@ -1,10 +1,10 @@
 // The lines of a text, and the words of a line.
-ghost use Rattle.std.specs.Prelude.{◌≡◌, ◌==◌, ◌<◌, ◌≤◌, not, ◌∷◌, length, drop, slice_get, slice_index, OnSome};
-ghost use Rattle.std.specs.List.{prefix_len, position_or_len};
+ghost use Rattle.std.specs.Prelude.{◌≡◌, ◌==◌, ◌-◌, ◌<◌, ◌≤◌, ◌&&◌, nat_lt, not, false, ◌∷◌, length, drop, take, slice_get, slice_index, slice_index_or, OnSome};
+ghost use Rattle.std.specs.List.{list_any, prefix_len, position_or_len};
 ghost use Rattle.std.specs.Option.{option_copied};
 ghost use Rattle.std.specs.Str.Lines.{lines, strip_carriage_return};
 ghost use Rattle.mpx_script.specs.Words.{is_ascii, is_blank, words, counts};
-ghost use Rattle.mpx_script.specs.Grammar.{next_word, words_after};
+ghost use Rattle.mpx_script.specs.Grammar.{last_word, next_word, words_after, words_before};
 
 /// How many bytes there are before the first newline.
 fn line_len(text: &[u8]) -> usize
@@ -81,6 +81,58 @@ pub fn next_word(asked: bool, line: &[u8]) -> (Option<&[u8]>, &[u8])
 {
     if asked {
         first_word(line)
+    } else {
+        (None, line)
+    }
+}
+
+/// How many bytes there are without the blanks at the end.
+fn len_without_blanks(line: &[u8]) -> usize
+    ensures words { words (take result line.now) ≡ words line.now }
+    ensures end { (nat_lt 0 result && is_blank (slice_index_or line.now (result - 1) 0)) ≡ false }
+    ensures within { result ≤ length line.now }
+{
+    let mut len = line.len();
+    while len > 0 && is_blank(line[len - 1]) {
+        len -= 1;
+    }
+    len
+}
+
+/// How many bytes there are up to the last blank.
+fn len_up_to_blank(line: &[u8]) -> usize
+    ensures behind { list_any is_blank (drop result line.now) ≡ false }
+    ensures end { (nat_lt 0 result && not (is_blank (slice_index_or line.now (result - 1) 0))) ≡ false }
+    ensures within { result ≤ length line.now }
+{
+    let mut len = line.len();
+    while len > 0 && !is_blank(line[len - 1]) {
+        len -= 1;
+    }
+    len
+}
+
+/// The last word of a line, and the line before it.
+fn word_at_end(line: &[u8]) -> (Option<&[u8]>, &[u8])
+    ensures word { option_copied result.0 ≡ slice_get (words line.now) (length (words line.now) - 1) }
+    ensures rest { words result.1.now ≡ take (length (words line.now) - 1) (words line.now) }
+{
+    let (line, _) = line.split_at(len_without_blanks(line));
+    let (rest, word) = line.split_at(len_up_to_blank(line));
+    if word.is_empty() {
+        (None, rest)
+    } else {
+        (Some(word), rest)
+    }
+}
+
+/// The last word of a line and the line before it, where a word is asked for.
+pub fn last_word(asked: bool, line: &[u8]) -> (Option<&[u8]>, &[u8])
+    ensures word { option_copied result.0 ≡ last_word asked (words line.now) }
+    ensures rest { words result.1.now ≡ words_before asked (words line.now) }
+{
+    if asked {
+        word_at_end(line)
     } else {
         (None, line)
     }

@@ -1,6 +1,10 @@
+ghost use Rattle.std.specs.Prelude.{◌≡◌, IfOk};
+
+use join_core::{Exact, OutOfMemory};
 use mpx_match::Fault;
 use mpx_name::Name;
 use mpx_num::Items;
+use std::alloc::Global;
 
 /// What a call gives a member.
 #[derive(Debug, Drop)]
@@ -17,4 +21,24 @@ pub enum Outcome {
     Null,
     /// The fault of the call's posts, which every member is told.
     Fault(Fault),
+}
+
+impl Outcome {
+    /// The same outcome once more, whose items are shared.
+    pub fn copy(&self, alloc: Global) -> Result<Outcome, OutOfMemory>
+        ensures { IfOk result (λ copied. copied ≡ self.now) }
+    {
+        match self {
+            Outcome::Nothing => Ok(Outcome::Nothing),
+            Outcome::Absent => Ok(Outcome::Absent),
+            Outcome::Items(items) => Ok(Outcome::Items(items.copy()?)),
+            Outcome::NewComm { name, size, rank } => Ok(Outcome::NewComm {
+                name: name.copy(alloc)?,
+                size: *size,
+                rank: *rank,
+            }),
+            Outcome::Null => Ok(Outcome::Null),
+            Outcome::Fault(fault) => Ok(Outcome::Fault(*fault)),
+        }
+    }
 }

@@ -1,12 +1,13 @@
 -- All that is kept along lists of events and of what happens.
-use Rattle.std.proofs.Common.{◌≡◌, ℕ, List, [], ◌∷◌, ◌++◌, refl}
+use Rattle.std.proofs.Common.{◌≡◌, ℕ, List, [], ◌∷◌, ◌++◌, refl, sym, subst}
 use Rattle.std.specs.Prelude.{nat_lt}
 use Rattle.mpx_world.specs.declared.events.Event.{Event}
-use Rattle.mpx_world.specs.Worlds.{WorldView, Happening, happens, MayHappen, goes_on, MayGoOn, start}
-use Rattle.mpx_world.specs.Events.{process_of, happening_of, does, does_all}
+use Rattle.mpx_world.specs.Worlds.{WorldView, Happening, happens, MayHappen, goes_on, MayGoOn, start, world_by}
+use Rattle.mpx_world.specs.Events.{process_of, happening_of, does, does_all, world_after}
 use Rattle.mpx_world.proofs.Lists.{cond_same}
 use Rattle.mpx_world.proofs.Steps.{Holds, holds_start, holds_happens}
-use Rattle.mpx_world.proofs.Reached.{may_happen}
+use Rattle.mpx_world.proofs.Later.{Later, later_goes_on}
+use Rattle.mpx_world.proofs.Reached.{may_happen, later_does_all}
 use Rattle.mpx_world.proofs.Retention.{AllStore, stores_start, stores_happens}
 use Rattle.mpx_world.proofs.Opened.{AllIn, in_start, in_happens}
 
@@ -49,3 +50,17 @@ does_all-append (e ∷ early) late w = does_all-append early late (does w e)
 pub may_early : (early late : List Happening) (w : WorldView) → MayGoOn w (early ++ late) → MayGoOn w early
 may_early [] late w m = tt
 may_early (h ∷ early) late w m = (m.0, may_early early late (happens w h) m.1)
+
+-- FROM THE START
+
+pub well_after : (ranks size : ℕ) (es : List Event) → IsWell (world_after ranks size es)
+well_after ranks size es = well_does_all es (start ranks size) (well_start ranks size)
+
+pub well_by : (ranks size : ℕ) (hs : List Happening) → MayGoOn (start ranks size) hs → IsWell (world_by ranks size hs)
+well_by ranks size hs m = well_goes_on hs (start ranks size) m (well_start ranks size)
+
+pub later_after : (ranks size : ℕ) (es later : List Event) → Later (world_after ranks size es) (world_after ranks size (es ++ later))
+later_after ranks size es later = let old = world_after ranks size es in subst (Later old) (sym (does_all-append es later (start ranks size))) (later_does_all later old)
+
+pub later_by : (ranks size : ℕ) (hs later : List Happening) → Later (world_by ranks size hs) (world_by ranks size (hs ++ later))
+later_by ranks size hs later = let old = world_by ranks size hs in subst (Later old) (sym (goes_on-append hs later (start ranks size))) (later_goes_on later old)

@@ -1,9 +1,10 @@
 //! All processes together: a world, the events that lead from one to the next, and what is so after every list of events.
 //!
 //! In the order of reading: [`Event`] with its [`Cut`] and [`Reply`], [`World`] with [`Stopped`], and the laws
-//! [`every_world_is_sound`], [`nodes_are_of_one_world`] and [`every_history_is_sound`]. Contracts see a world as its
-//! processes and the parts that they sent (`specs/Worlds.antt`); what is sound is said in `specs/Soundness.antt`, and
-//! what an event comes to and is answered in `specs/Events.antt`.
+//! [`every_world_is_sound`], [`completed_results_are_permanent`], [`processes_agree_at_any_time`],
+//! [`nodes_are_of_one_world`] and [`every_history_is_sound`]. Contracts see a world as its processes and the parts that
+//! they sent (`specs/Worlds.antt`); what is sound is said in `specs/Soundness.antt`, and what an event comes to and is
+//! answered in `specs/Events.antt`.
 #![tactic(auto)]
 
 mod events;
@@ -12,5 +13,8 @@ mod processes;
 mod world;
 
 pub use events::{Cut, Event, Names, Reply, Stopped};
-pub use laws::{every_history_is_sound, every_world_is_sound, nodes_are_of_one_world};
+pub use laws::{
+    completed_results_are_permanent, every_history_is_sound, every_world_is_sound,
+    nodes_are_of_one_world, processes_agree_at_any_time,
+};
 pub use world::World;

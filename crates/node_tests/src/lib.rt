@@ -13,3 +13,5 @@ mod limits;
 mod making;
 #[cfg(test)]
 mod nodes;
+#[cfg(test)]
+mod parts;

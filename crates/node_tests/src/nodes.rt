@@ -10,14 +10,29 @@ use std::alloc::Global;
 use std::process::Abort;
 use std::test::Fail;
 
+fn is_sum(outcome: &Outcome, sum: i128) -> bool {
+    match outcome {
+        Outcome::Items(items) => items.nums() == [sum].as_slice(),
+        _ => false,
+    }
+}
+
 // Whether the result of a call is this sum.
 fn gave(node: &Node, world: &Name, call: u32, sum: i128) -> bool {
     match node.result(world, call) {
-        Some(finished) => match &finished.outcome {
-            Outcome::Items(items) => items.nums() == [sum].as_slice(),
-            _ => false,
-        },
+        Some(finished) => is_sum(&finished.outcome, sum),
         None => false,
+    }
+}
+
+// Whether a copy of that result is.
+fn gives_a_copy(alloc: Global, node: &Node, world: &Name, call: u32, sum: i128) -> bool {
+    let Some(finished) = node.result(world, call) else {
+        return false;
+    };
+    match finished.copy(alloc) {
+        Ok(copied) => copied.mine.same(&finished.mine) && is_sum(&copied.outcome, sum),
+        Err(_) => false,
     }
 }
 
@@ -31,6 +46,7 @@ fn reaches_the_sums(
     for (call, sum) in [(0, 3), (1, -9223372036854775808)] {
         assert_eq!(rt; node.harvest(alloc, world)?, Harvest::Done(call));
         assert!(rt; gave(node, world, call, sum));
+        assert!(rt; gives_a_copy(alloc, node, world, call, sum));
     }
     assert_eq!(rt; node.harvest(alloc, world)?, Harvest::NotYet);
     assert_eq!(rt; node.front(world), 2);

@@ -5,7 +5,7 @@ use mpx_num::Op;
 use mpx_post::{At, Birth, Kind, Mode, Post, PostError};
 use std::alloc::Global;
 use std::process::Abort;
-use test_drafts::{Drafted, check};
+use test_drafts::{Drafted, check, draft};
 
 // The process with this number, which is below 64.
 pub fn proc(number: u8) -> Proc {
@@ -49,6 +49,22 @@ fn refusal(alloc: Global, number: u8, at: &At, drafted: &Drafted<'_>) -> Option<
     }
 }
 
+// The same, told of the draft alone.
+fn refusal_of_draft(
+    alloc: Global,
+    number: u8,
+    at: &At,
+    drafted: &Drafted<'_>,
+) -> Option<PostError> {
+    let Ok(draft) = draft(alloc, drafted) else {
+        return Some(PostError::OutOfMemory);
+    };
+    match Birth::world(alloc, 2) {
+        Ok(pair) => draft.refusal(&pair, proc(number), at),
+        Err(_) => Some(PostError::OutOfMemory),
+    }
+}
+
 // That what each of these processes drafts there is refused so, or not at all.
 pub fn check_refusals(
     rt: &impl Abort,
@@ -58,6 +74,11 @@ pub fn check_refusals(
     for (i, row) in table.iter().enumerate() {
         let (number, at, drafted, wanted) = row;
         assert_eq!(rt; refusal(alloc, *number, at, drafted), *wanted, "row {i}");
+        assert_eq!(rt;
+            refusal_of_draft(alloc, *number, at, drafted),
+            *wanted,
+            "row {i}"
+        );
     }
 }
 

@@ -258,3 +258,41 @@ fn neighbourhoods(rt: HostRuntime) -> Result<(), Fail> {
     check_runs(&rt, rt.alloc(), table.as_slice());
     Ok(())
 }
+
+#[test]
+fn requests(rt: HostRuntime) -> Result<(), Fail> {
+    let table: [Row; 5] = [
+        // compare.job
+        (
+            b"# How two communicators compare: one context, the same members in the same order, in another order, or other members.\nranks 3\n*: dup world -> twin\n0: split world 0 2 -> turned\n1: split world 0 1 -> turned\n2: split world 0 0 -> turned\n0: split world 0 0 -> pair\n1: split world undefined 0 -> pair\n2: split world 0 0 -> pair\n0: compare world world\n0: compare world twin\n0: compare twin turned\n0: compare world pair\n1: compare world pair\n",
+            Came::Finished,
+            b"0: comm 3 0\n0: comm 3 2\n0: comm 2 0\n0: ident\n0: congruent\n0: similar\n0: unequal\n1: comm 3 1\n1: comm 3 1\n1: null\n1: refused NotMember\n2: comm 3 2\n2: comm 3 0\n2: comm 2 1\n",
+        ),
+        // nonblocking.job
+        (
+            b"# Each call that may be nonblocking: `i` before its name, and at the end `->` and a name for the request. It prints nothing;\n# `waitall` prints one line for each request, in the order given, once all of them are done.\nranks 2\n0: ibarrier world -> a0\n0: ibcast world 0 i32 2 7 8 -> a1\n0: igather world 0 i32 1 -> a2\n0: igatherv world 0 i32 1,2 1 -> a3\n0: iscatter world 0 i32 1 5 6 -> a4\n0: iscatterv world 0 i32 1,2 1 5 6 7 -> a5\n0: iallgather world i32 1 -> a6\n0: iallgatherv world i32 1,2 1 -> a7\n0: ialltoall world i32 1 1 2 -> a8\n0: ialltoallv world i32 0,1 0,2 5 -> a9\n1: ibarrier world -> a0\n1: ibcast world 0 i32 2 -> a1\n1: igather world 0 i32 2 -> a2\n1: igatherv world 0 i32 - 2 3 -> a3\n1: iscatter world 0 i32 1 -> a4\n1: iscatterv world 0 i32 - 2 -> a5\n1: iallgather world i32 2 -> a6\n1: iallgatherv world i32 1,2 2 3 -> a7\n1: ialltoall world i32 1 3 4 -> a8\n1: ialltoallv world i32 2,0 1,0 6 7 -> a9\n*: waitall a0 a1 a2 a3 a4 a5 a6 a7 a8 a9\n*: ireduce world 1 max i32 3 -> b0\n*: iallreduce world sum i32 3 -> b1\n*: ireduce_scatter_block world sum i32 1 4 5 -> b2\n*: ireduce_scatter world sum i32 0,2 4 5 -> b3\n*: iscan world sum i32 6 -> b4\n*: iexscan world sum i32 6 -> b5\n*: waitall b0 b1 b2 b3 b4 b5\n0: dist_graph world 0>1,1>0 -> ring\n1: dist_graph world - -> ring\n*: ineighbor_allgather ring i32 1 9 -> c0\n*: ineighbor_allgatherv ring i32 1 9 -> c1\n*: ineighbor_alltoall ring i32 1 1 9 -> c2\n*: ineighbor_alltoallv ring i32 1 1 9 -> c3\n*: waitall c0 c1 c2 c3\n",
+            Came::Finished,
+            b"0: ok\n0: 7 8\n0: 1 2\n0: 1 2 3\n0: 5\n0: 5\n0: 1 2\n0: 1 2 3\n0: 1 3\n0: 6 7\n0: ok\n0: 6\n0: 8\n0: empty\n0: 6\n0: none\n0: comm 2 0\n0: 9\n0: 9\n0: 9\n0: 9\n1: ok\n1: 7 8\n1: ok\n1: ok\n1: 6\n1: 6 7\n1: 1 2\n1: 1 2 3\n1: 2 4\n1: 5\n1: 3\n1: 6\n1: 10\n1: 8 10\n1: 12\n1: 6\n1: comm 2 1\n1: 9\n1: 9\n1: 9\n1: 9\n",
+        ),
+        // overlap.job
+        (
+            b"# Calls on three communicators overlap: each counts its own calls, so that the order of requests on two of them may differ from\n# rank to rank, and a blocking call may come between.\nranks 2\n*: dup world -> left\n*: dup world -> right\n0: iallreduce left sum i32 1 -> a\n0: iallreduce right sum i32 10 -> b\n0: allreduce world sum i32 100\n1: iallreduce right sum i32 20 -> b\n1: iallreduce left sum i32 2 -> a\n1: allreduce world sum i32 200\n*: iallreduce left max i32 7 -> c\n0: waitall c b a\n1: wait b\n1: waitall a c\n",
+            Came::Finished,
+            b"0: comm 2 0\n0: comm 2 0\n0: 300\n0: 7\n0: 30\n0: 3\n1: comm 2 1\n1: comm 2 1\n1: 300\n1: 30\n1: 3\n1: 7\n",
+        ),
+        // requests.job
+        (
+            b"# Requests are waited for in any order. A request that was waited for already, and one whose call was refused, is idle; of one\n# that is named twice in one wait the second is. A call that blocks never matches one that doesn't.\nranks 2\n*: iallreduce world sum i32 1 -> first\n*: iallreduce world sum i32 10 -> second\n*: wait second\n*: waitall first first second\n0: ibcast world 2 i32 1 7 -> refused\n0: wait refused\n0: bcast world 0 i32 1 4\n1: ibcast world 0 i32 1 -> other\n1: wait other\n",
+            Came::Finished,
+            b"0: 20\n0: 2\n0: idle\n0: idle\n0: refused RootOutOfRange\n0: idle\n0: fault Mode at 1\n1: 20\n1: 2\n1: idle\n1: idle\n1: fault Mode at 1\n",
+        ),
+        // translate.job
+        (
+            b"# Ranks of one communicator, told as those of another. `null` stands for no process and stays; a process that is no member of the\n# other is undefined.\nranks 3\n0: create world 2,0 -> pair\n1: create world - -> pair\n2: create world 2,0 -> pair\n0: translate world pair 0,1,2,null\n2: translate pair world 0,1\n2: translate pair world 0,2\n2: translate pair world -\n1: translate world pair 0\n",
+            Came::Finished,
+            b"0: comm 2 1\n0: 1 undefined 0 null\n1: null\n1: refused NotMember\n2: comm 2 0\n2: 2 0\n2: refused RankOutOfRange\n2: empty\n",
+        ),
+    ];
+    check_runs(&rt, rt.alloc(), table.as_slice());
+    Ok(())
+}

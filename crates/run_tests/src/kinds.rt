@@ -1,6 +1,6 @@
 //! Each kind of call once, at 3 and at 64 ranks. What a rank gets is written here from the standard's definitions of the
 //! calls, as a formula of its number.
-use crate::making::{Came, USUAL, end_of};
+use crate::making::{Came, RUN, end_of};
 use mpx_run::run_text;
 use std::alloc::{AllocError, Global};
 use std::process::Abort;
@@ -145,7 +145,7 @@ fn check_kinds(rt: &impl Abort, alloc: Global, ranks: u32, sum: u32) -> Result<(
     }
     let mut reader = script.as_bytes();
     let mut out = Vec::new(alloc);
-    let answer = run_text(alloc, &USUAL, &mut reader, &mut out);
+    let answer = run_text(alloc, &RUN, &mut reader, &mut out);
     assert_eq!(rt; end_of(&answer), Came::Finished);
     assert_eq!(rt; out.as_slice(), wanted.as_bytes());
     Ok(())

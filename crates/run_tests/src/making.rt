@@ -1,5 +1,5 @@
 //! What the tests use: scripts with the text of their runs, and readers and writers that fail.
-use mpx_run::{End, Options, RunError, run_text};
+use mpx_run::{Command, End, Job, Options, RunError, run_text};
 use std::alloc::Global;
 use std::io::{self, ErrorKind, Read, Write};
 use std::process::Abort;
@@ -12,7 +12,21 @@ pub const USUAL: Options = Options {
     turns: 100_000,
 };
 
-/// Which end a run came to.
+/// A run without options.
+pub const RUN: Job = Job {
+    command: Command::Run,
+    options: USUAL,
+};
+
+/// A run with these options.
+pub fn run_with(options: Options) -> Job {
+    Job {
+        command: Command::Run,
+        options,
+    }
+}
+
+/// Which end a job came to.
 #[derive(Clone, Copy, Debug, PartialEq, Eq)]
 pub enum Came {
     Finished,
@@ -48,7 +62,7 @@ pub fn check_runs_with(rt: &impl Abort, alloc: Global, options: Options, table: 
         let (script, end, text) = *row;
         let mut reader = script;
         let mut out = Vec::new(alloc);
-        let answer = run_text(alloc, &options, &mut reader, &mut out);
+        let answer = run_text(alloc, &run_with(options), &mut reader, &mut out);
         assert_eq!(rt; end_of(&answer), end, "row {i}");
         assert_eq!(rt; out.as_slice(), text, "row {i}");
     }

@@ -1,6 +1,6 @@
 //! Graphs and neighbourhoods: what statements that make, ask and exchange print, without loss and with it. The transcripts
 //! are from `bench/reference.py`.
-use crate::making::{Came, Row, USUAL, check_runs_with, end_of};
+use crate::making::{Came, RUN, Row, USUAL, check_runs_with, end_of};
 use mpx_run::{Options, run_text};
 use std::alloc::{AllocError, Global};
 use std::test::Fail;
@@ -87,7 +87,7 @@ fn loops(alloc: Global, count: u32) -> Result<String, AllocError> {
 fn printed(alloc: Global, script: &str) -> Vec<u8> {
     let mut reader = script.as_bytes();
     let mut out = Vec::new(alloc);
-    let answer = run_text(alloc, &USUAL, &mut reader, &mut out);
+    let answer = run_text(alloc, &RUN, &mut reader, &mut out);
     if end_of(&answer) != Came::Finished {
         return Vec::new(alloc);
     }

@@ -1,5 +1,5 @@
 //! Runs of short scripts, and one long one.
-use crate::making::{Came, Row, USUAL, check_runs, end_of};
+use crate::making::{Came, RUN, Row, check_runs, end_of};
 use mpx_run::{End, RunError, run_text};
 use std::test::Fail;
 
@@ -111,7 +111,7 @@ fn runs_sixty_four_ranks(rt: HostRuntime) -> Result<(), Fail> {
     let mut reader =
         b"ranks 64\n*: allreduce world sum u8 4\n*: allreduce world sum i64 1 -1\n".as_slice();
     let mut out = Vec::new(alloc);
-    let answer = run_text(alloc, &USUAL, &mut reader, &mut out);
+    let answer = run_text(alloc, &RUN, &mut reader, &mut out);
     assert_eq!(&rt; end_of(&answer), Came::Finished);
     let mut wanted = String::new(alloc);
     for rank in 0..64 {
@@ -127,7 +127,7 @@ fn names_the_waiting_rank(rt: HostRuntime) -> Result<(), Fail> {
     let mut reader =
         b"ranks 3\n0: allreduce world sum i64 1\n2: allreduce world sum i64 1\n".as_slice();
     let mut out = Vec::new(alloc);
-    match run_text(alloc, &USUAL, &mut reader, &mut out) {
+    match run_text(alloc, &RUN, &mut reader, &mut out) {
         Ok(End::Waiting(ranks)) => assert_eq!(&rt; ranks.as_slice(), [0, 2].as_slice()),
         _ => panic!(&rt; "ranks 0 and 2 wait"),
     }
@@ -139,7 +139,7 @@ fn tells_the_line_that_is_refused(rt: HostRuntime) -> Result<(), Fail> {
     let alloc = rt.alloc();
     let mut reader = b"ranks 2\n\n0: allreduce world sum i64 1x\n5: nothing\n".as_slice();
     let mut out = Vec::new(alloc);
-    match run_text(alloc, &USUAL, &mut reader, &mut out) {
+    match run_text(alloc, &RUN, &mut reader, &mut out) {
         Err(RunError::Script(refusal)) => {
             let mut text = String::new(alloc);
             write!(text, "{refusal}")?;
@@ -169,7 +169,7 @@ fn runs_a_long_script(rt: HostRuntime) -> Result<(), Fail> {
     }
     let mut reader = script.as_bytes();
     let mut out = Vec::new(alloc);
-    let answer = run_text(alloc, &USUAL, &mut reader, &mut out);
+    let answer = run_text(alloc, &RUN, &mut reader, &mut out);
     assert_eq!(&rt; end_of(&answer), Came::Finished);
     assert_eq!(&rt; out.as_slice(), wanted.as_bytes());
     Ok(())
@@ -187,7 +187,7 @@ fn names_sixty_three_waiting_ranks(rt: HostRuntime) -> Result<(), Fail> {
     }
     let mut reader = script.as_bytes();
     let mut out = Vec::new(alloc);
-    match run_text(alloc, &USUAL, &mut reader, &mut out) {
+    match run_text(alloc, &RUN, &mut reader, &mut out) {
         Ok(End::Waiting(ranks)) => assert_eq!(&rt; ranks.as_slice(), wanted.as_slice()),
         _ => panic!(&rt; "ranks 0 to 62 wait"),
     }

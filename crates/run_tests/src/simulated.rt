@@ -1,5 +1,5 @@
 //! Runs over an interconnect that loses, repeats and reorders frames.
-use crate::making::{Came, USUAL, end_of};
+use crate::making::{self, Came, USUAL, end_of};
 use mpx_run::{Options, run_text};
 use std::alloc::{AllocError, Global};
 use std::process::Abort;
@@ -17,7 +17,7 @@ const WAITS: &[u8] = b"ranks 2\n0: barrier world\n";
 fn run_with(alloc: Global, options: Options, script: &[u8]) -> (Came, Vec<u8>) {
     let mut reader = script;
     let mut out = Vec::new(alloc);
-    let answer = run_text(alloc, &options, &mut reader, &mut out);
+    let answer = run_text(alloc, &making::run_with(options), &mut reader, &mut out);
     (end_of(&answer), out)
 }
 

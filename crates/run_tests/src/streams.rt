@@ -1,5 +1,5 @@
 //! Readers and writers that fail, that take little at once, and that hold back what isn't flushed.
-use crate::making::{Came, Endless, Failing, Holding, Limited, USUAL, end_of};
+use crate::making::{Came, Endless, Failing, Holding, Limited, RUN, end_of};
 use mpx_run::run_text;
 use std::alloc::{AllocError, Global};
 use std::test::Fail;
@@ -19,7 +19,7 @@ fn tells_a_read_fault(rt: HostRuntime) -> Result<(), Fail> {
             calls,
         };
         let mut out = Vec::new(alloc);
-        let answer = run_text(alloc, &USUAL, &mut reader, &mut out);
+        let answer = run_text(alloc, &RUN, &mut reader, &mut out);
         if calls <= SCRIPT.len() {
             assert_eq!(&rt; end_of(&answer), Came::Read, "after {calls} calls");
             assert_eq!(&rt; out.len(), 0);
@@ -41,9 +41,9 @@ fn tells_a_read_fault_before_a_refusal(rt: HostRuntime) -> Result<(), Fail> {
         calls: 20,
     };
     let mut out = Vec::new(alloc);
-    let answer = run_text(alloc, &USUAL, &mut reader, &mut out);
+    let answer = run_text(alloc, &RUN, &mut reader, &mut out);
     assert_eq!(&rt; end_of(&answer), Came::Read);
-    let answer = run_text(alloc, &USUAL, &mut Endless, &mut out);
+    let answer = run_text(alloc, &RUN, &mut Endless, &mut out);
     assert_eq!(&rt; end_of(&answer), Came::Refused);
     assert_eq!(&rt; out.len(), 0);
     Ok(())
@@ -57,7 +57,7 @@ fn run_into(alloc: Global, piece: usize, room: usize) -> Result<(Vec<u8>, Came),
         piece,
         room,
     };
-    let answer = run_text(alloc, &USUAL, &mut reader, &mut writer);
+    let answer = run_text(alloc, &RUN, &mut reader, &mut writer);
     Ok((writer.held, end_of(&answer)))
 }
 
@@ -89,7 +89,7 @@ fn flushes_what_it_has_written(rt: HostRuntime) -> Result<(), Fail> {
             out: Vec::new(alloc),
             fails,
         };
-        let answer = run_text(alloc, &USUAL, &mut reader, &mut writer);
+        let answer = run_text(alloc, &RUN, &mut reader, &mut writer);
         if fails {
             assert_eq!(&rt; end_of(&answer), Came::Write);
             assert_eq!(&rt; writer.out.len(), 0);

@@ -3,16 +3,22 @@
 #![tactic(auto)]
 
 #[cfg(test)]
-mod graphs;
+mod asking;
 #[cfg(test)]
-mod lines;
+mod drafts;
+#[cfg(test)]
+mod graphs;
 #[cfg(test)]
 mod making;
 #[cfg(test)]
 mod neighbours;
 #[cfg(test)]
+mod questions;
+#[cfg(test)]
 mod reading;
 #[cfg(test)]
 mod refusing;
+#[cfg(test)]
+mod requests;
 #[cfg(test)]
 mod scripts;

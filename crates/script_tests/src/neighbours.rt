@@ -61,7 +61,7 @@ fn blocks_along_edges(rt: HostRuntime) {
 #[test]
 fn sides_of_neighbours(rt: HostRuntime) {
     let alloc = rt.alloc();
-    let sources = Said::Ask(b"world", Side::Sources);
+    let sources = Said::Neighbours(b"world", Side::Sources);
     check_lines(
         &rt,
         alloc,
@@ -69,14 +69,18 @@ fn sides_of_neighbours(rt: HostRuntime) {
             (b"sources world", sources),
             (
                 b"destinations\tworld ",
-                Said::Ask(b"world", Side::Destinations),
+                Said::Neighbours(b"world", Side::Destinations),
             ),
         ],
     );
     let text = b"ranks 2\n*: sources world\n*: dup world -> sources\n1: destinations sources";
     let made = dup(b"world", b"sources");
     let first = [sources, made];
-    let second = [sources, made, Said::Ask(b"sources", Side::Destinations)];
+    let second = [
+        sources,
+        made,
+        Said::Neighbours(b"sources", Side::Destinations),
+    ];
     assert!(rt; reads(alloc, text, &[&first, &second]));
 }
 
@@ -93,7 +97,7 @@ fn other_statements(rt: HostRuntime) {
             b"0: source world",
             b"0: neighbors world",
             b"0: neighbour_allgather world i32 1 5",
-            b"0: ineighbor_alltoall world i32 1 1 5",
+            b"0: iineighbor_alltoall world i32 1 1 5 -> r",
             b"0: neighbor_allgather world i33 1",
             b"0: neighbor_alltoall world 1 1 5",
         ],

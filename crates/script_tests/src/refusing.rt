@@ -108,7 +108,7 @@ fn unknown_statements(rt: HostRuntime) {
             b"0 : allreduce world sum i64",
             b"0:allreduce world sum i64",
             b": allreduce world sum i64",
-            b"0: ibcast world 0 i32 1",
+            b"0: iibcast world 0 i32 1",
             b"0: Barrier world",
             b"0: allreduce world foo",
             b"0: allreduce world i64",

@@ -1,8 +1,9 @@
 //! What scripts say, and why they are refused. One function owns the script that is read, and one the text of a line.
 use mpx_num::Ty;
-use mpx_post::Kind;
+use mpx_post::{Call, Kind};
 use mpx_script::{
-    Posting, ReadScriptError, Script, ScriptError, ScriptFault, Side, Statement, read_script,
+    Posting, Question, ReadScriptError, Script, ScriptError, ScriptFault, Side, Statement, Word,
+    read_script,
 };
 use std::alloc::{AllocError, Global};
 use std::process::Abort;
@@ -12,12 +13,19 @@ use test_drafts::{Drafted, just, says};
 #[derive(Clone, Copy)]
 pub enum Said<'a> {
     Call(&'a [u8], Drafted<'a>),
+    /// With the name for the request.
+    Start(&'a [u8], Drafted<'a>, &'a [u8]),
     /// With the new name.
     New(&'a [u8], Drafted<'a>, &'a [u8]),
     /// With the tag, the ranks and the new name.
     CreateGroup(&'a [u8], i128, &'a [i128], &'a [u8]),
+    /// The requests.
+    Wait(&'a [&'a [u8]]),
     /// With the side.
-    Ask(&'a [u8], Side),
+    Neighbours(&'a [u8], Side),
+    Compare(&'a [u8], &'a [u8]),
+    /// With the ranks.
+    Translate(&'a [u8], &'a [u8], &'a [Option<i128>]),
 }
 
 /// What a call drafts that tells its kind and its type alone.
@@ -42,6 +50,14 @@ pub fn blocks<'a>(
     Said::Call(b"world", drafted)
 }
 
+/// A nonblocking call on `world` of a kind that has this one, under a name, with what the blocking one says.
+pub fn started<'a>(call: Call, blocking: Said<'a>, request: &'a [u8]) -> Said<'a> {
+    match blocking {
+        Said::Call(on, drafted) => Said::Start(on, Drafted { call, ..drafted }, request),
+        other => other,
+    }
+}
+
 /// A duplication.
 pub fn dup<'a>(on: &'a [u8], to: &'a [u8]) -> Said<'a> {
     Said::New(on, of_type(Kind::Dup, Ty::I8), to)
@@ -51,6 +67,9 @@ fn is_posted(posting: &Posting, said: &Said<'_>) -> bool {
     match (posting, said) {
         (Posting::Call { on, draft }, Said::Call(word, drafted)) => {
             (on.as_bytes() == *word) & says(draft, drafted)
+        }
+        (Posting::Start { on, draft, request }, Said::Start(word, drafted, name)) => {
+            (on.as_bytes() == *word) & says(draft, drafted) & (request.as_bytes() == *name)
         }
         (Posting::New { on, draft, to }, Said::New(word, drafted, name)) => {
             (on.as_bytes() == *word) & says(draft, drafted) & (to.as_bytes() == *name)
@@ -65,13 +84,35 @@ fn is_posted(posting: &Posting, said: &Said<'_>) -> bool {
     }
 }
 
+fn are_words(words: &[Word], wanted: &[&[u8]]) -> bool {
+    let mut same = words.len() == wanted.len();
+    for (word, bytes) in words.iter().zip(wanted) {
+        same &= word.as_bytes() == *bytes;
+    }
+    same
+}
+
+fn is_asked(question: &Question, said: &Said<'_>) -> bool {
+    match (question, said) {
+        (Question::Neighbours { on, side }, Said::Neighbours(word, wanted)) => {
+            (on.as_bytes() == *word) & (*side == *wanted)
+        }
+        (Question::Compare { first, second }, Said::Compare(one, other)) => {
+            (first.as_bytes() == *one) & (second.as_bytes() == *other)
+        }
+        (Question::Translate { from, to, ranks }, Said::Translate(one, other, list)) => {
+            (from.as_bytes() == *one) & (to.as_bytes() == *other) & (ranks.as_slice() == *list)
+        }
+        _ => false,
+    }
+}
+
 /// Whether the statement says this.
 pub fn is_said(statement: &Statement, said: &Said<'_>) -> bool {
     match (statement, said) {
         (Statement::Post(posting), _) => is_posted(posting, said),
-        (Statement::Ask { on, side }, Said::Ask(word, wanted)) => {
-            (on.as_bytes() == *word) & (*side == *wanted)
-        }
+        (Statement::Wait(requests), Said::Wait(words)) => are_words(requests.as_slice(), words),
+        (Statement::Ask(question), _) => is_asked(question, said),
         _ => false,
     }
 }

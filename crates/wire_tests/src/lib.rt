@@ -4,6 +4,8 @@
 #[cfg(test)]
 mod kinds;
 #[cfg(test)]
+mod limits;
+#[cfg(test)]
 mod parts;
 #[cfg(test)]
 mod reading;

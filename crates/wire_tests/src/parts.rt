@@ -17,7 +17,7 @@ fn none(alloc: Global) -> Result<Numbers, Fail> {
 }
 
 // A post with 4,096 items of 64 bits.
-fn long_post(alloc: Global) -> Result<Post, Fail> {
+pub fn long_post(alloc: Global) -> Result<Post, Fail> {
     let items = vec![in alloc; -5i128; 4096]?;
     let draft = Draft {
         call: Call::blocking(Kind::Allgather),

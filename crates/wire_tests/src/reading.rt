@@ -1,5 +1,6 @@
-use mpx_wire::{WireError, decode};
+use mpx_wire::{WireError, decode, encode};
 use std::alloc::Global;
+use std::process::Abort;
 use std::test::Fail;
 
 // The world's name, no birth, no fronts, nothing dropped, one call 0, in which process 0 posts a blocking allreduce of the
@@ -81,5 +82,44 @@ fn numbers_of_calls_end_below_the_last(rt: HostRuntime) -> Result<(), Fail> {
     }
     let refused = decode(alloc, &frame).err();
     assert_eq!(rt; refused, Some(WireError::OutOfLimits(18)));
+    Ok(())
+}
+
+// Whether the bytes are refused, or are the frame of the board that they give; and whether they give one.
+fn gives_a_board(rt: &impl Abort, alloc: Global, bytes: &[u8]) -> Result<bool, Fail> {
+    match decode(alloc, bytes) {
+        Ok(board) => {
+            assert!(rt; encode(alloc, &board)?.as_slice() == bytes);
+            Ok(true)
+        }
+        Err(fault) => {
+            assert!(rt; fault != WireError::OutOfMemory);
+            Ok(false)
+        }
+    }
+}
+
+// How many of the 256 bytes at this place give a board.
+fn boards_at(rt: &impl Abort, alloc: Global, at: usize) -> Result<usize, Fail> {
+    let mut boards = Vec::new(alloc);
+    for byte in 0..=255 {
+        let frame = spoilt(alloc, at, byte)?;
+        if gives_a_board(rt, alloc, &frame)? {
+            boards.push(byte)?;
+        }
+    }
+    Ok(boards.len())
+}
+
+// Each other byte at each place. The item's four bytes may be any, and the first five bytes no others.
+#[test]
+fn one_other_byte_is_refused_or_spells_another_board(rt: HostRuntime) -> Result<(), Fail> {
+    let alloc = rt.alloc();
+    for at in 0..36 {
+        let boards = boards_at(&rt, alloc, at)?;
+        assert!(rt; boards >= 1);
+        assert!(rt; at >= 5 || boards == 1);
+        assert!(rt; at < 31 || at == 35 || boards == 256);
+    }
     Ok(())
 }

@@ -3,12 +3,13 @@ use Rattle.mpx_node.specs.Shown.{node_of}
 use Rattle.mpx_script.specs.Reports.{transcripts_of}
 use Rattle.mpx_script.specs.Transcripts.{text_upto}
 use Rattle.mpx_run.specs.Runs.{lines_at}
-use Rattle.mpx_run.proofs.Reporting.{reported}
+use Rattle.mpx_run.proofs.Reporting.{if_both, reported}
 use Rattle.mpx_run.proofs.report.print.Goals as goal
 
 pub returns : goal.returns
 returns c =
     let run = c.in_ok-run.run' in
     let said = transcripts_of run.report in
-    reported c.args.script.now c.args.options.now.relays (map node_of run.nodes.items) said run.report.waiting.items c.end_of-end.result (string_bytes c.in_ok-text.text) c.in_ok-run.ensures.run c.in_ok-run.ensures.begins c.in_ok-run.ensures.whole
-    (c.in_ok-text.ensures ∙ ap (text_upto (lines_at said)) c.ranks-ranks.ensures.ranks) c.end_of-end.ensures
+    if_both c.print_report.result c.print_report.ensures.text c.print_report.ensures.end (λ printed text ends.
+    reported c.args.script.now c.args.options.now.relays (map node_of run.nodes.items) said run.report.waiting.items printed.end (string_bytes printed.text) c.in_ok-run.ensures.run c.in_ok-run.ensures.begins c.in_ok-run.ensures.whole
+    (text ∙ ap (text_upto (lines_at said)) c.ranks.ensures.ranks) ends)

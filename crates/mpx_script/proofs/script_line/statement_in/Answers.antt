@@ -1,10 +1,18 @@
-use Rattle.std.proofs.Common.{◌≡◌, IfErr, sym, subst, rules}
-use Rattle.mpx_script.specs.Sentences.{IsRefusal, ask_refusal, statement_refusal}
-use Rattle.mpx_script.proofs.Refusals.{refusal_of_side}
+use Rattle.std.proofs.Common.{◌≡◌, sym, None, OnOk, IfErr, subst, rules}
+use Rattle.mpx_script.specs.Sentences.{IsRefusal, form_refusal, statement_refusal}
+use Rattle.mpx_script.proofs.Refusals.{refusal_of_form}
 use Rattle.mpx_script.proofs.script_line.statement_in.Goals as goal
+use Rattle.mpx_script.proofs.script_line.statement_in.Goals.{After-statement_as}
 
-pub returns-in_default-clause-refused : goal.returns-in_default-clause-refused
-returns-in_default-clause-refused c =
-    let refused : IfErr c.ask_of.result (IsRefusal (ask_refusal c.args.directive.now.communicator c.args.directive.now.behind)) = search rules in
-    let same : statement_refusal c.args.directive.now ≡ ask_refusal c.args.directive.now.communicator c.args.directive.now.behind = refusal_of_side c.args.directive.now c.in-Some-side.side (search rules) (search rules) (search rules) in
-    subst (λ found. IfErr c.ask_of.result (IsRefusal found)) (sym same) refused
+refused_as : (c : After-statement_as) → statement_refusal c.args.directive.now ≡ form_refusal c.in-Some.form c.args.directive.now.behind
+refused_as c = refusal_of_form c.args.directive.now c.in-Some.form (search rules) (search rules)
+
+pub returns-clause-accepted : goal.returns-clause-accepted
+returns-clause-accepted c =
+    let accepted : OnOk c.statement_as.result (form_refusal c.in-Some.form c.args.directive.now.behind ≡ None) = search rules in
+    subst (λ found. OnOk c.statement_as.result (found ≡ None)) (sym (refused_as (goal.at.returns-clause-accepted c).After-statement_as)) accepted
+
+pub returns-clause-refused : goal.returns-clause-refused
+returns-clause-refused c =
+    let refused : IfErr c.statement_as.result (IsRefusal (form_refusal c.in-Some.form c.args.directive.now.behind)) = search rules in
+    subst (λ found. IfErr c.statement_as.result (IsRefusal found)) (sym (refused_as (goal.at.returns-clause-refused c).After-statement_as)) refused

@@ -1,6 +1,5 @@
-use Rattle.std.proofs.Common.{◌≡◌, ap, sym, ◌∙◌, subst, refl, string_bytes}
-use Rattle.mpx_script.specs.Transcripts.{line_text}
-use Rattle.mpx_run.specs.Running.{Moves, RankView, communicator_in, neighbours_on}
+use Rattle.std.proofs.Common.{sym, subst, refl, string_bytes}
+use Rattle.mpx_run.specs.Running.{Moves, RankView}
 use Rattle.mpx_run.specs.Shown.{rank_of}
 use Rattle.mpx_run.proofs.Running.{lines_push, moves_asks}
 use Rattle.mpx_run.proofs.rank.Rank.ask_next.Goals as goal
@@ -8,9 +7,7 @@ use Rattle.mpx_run.proofs.rank.Rank.ask_next.Goals as goal
 pub returns-clause-moves : goal.returns-clause-moves
 returns-clause-moves c =
     let old = rank_of c.args.self.now in
-    let word = c.args.on.now in
     let text = string_bytes c.in_ok-text.text in
-    let told : text ≡ line_text (neighbours_on old.me c.args.side (communicator_in (old.bound word)) old.node) = c.in_ok-text.ensures ∙ ap (λ o. line_text (neighbours_on old.me c.args.side o old.node)) c.context_of-on.ensures in
     let lines = lines_push string_bytes c.args.self.now.lines.items c.push.new.self.items c.in_ok-text.text text c.in_ok-push.ensures.items refl in
-    subst (Moves old) (λ i. let r : RankView = record { me = old.me; node = old.node; bound = old.bound; todo = c.args.rest.now; waits = sym c.requires.waits i; lines = sym lines i } in r)
-    (moves_asks old word c.args.side c.args.rest.now text c.requires.waits c.requires.todo told)
+    subst (Moves old) (λ i. let r : RankView = record { me = old.me; node = old.node; bound = old.bound; requests = old.requests; todo = c.args.rest.now; waits = sym c.requires.waits i; lines = sym lines i } in r)
+    (moves_asks old c.args.question.now c.args.rest.now text c.requires.waits c.requires.todo c.in_ok-text.ensures)

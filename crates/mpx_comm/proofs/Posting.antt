@@ -1,0 +1,312 @@
+-- Posts, and the open requests.
+use Rattle.std.proofs.Common.{◌≡◌, ℕ, zero, suc, ◌+◌, ◌<◌, ◌≤◌, ◌==◌, ◌&&◌, Bool, true, false, cond, List, [], ◌∷◌, ◌++◌, length, Option, Some, None, ◌⊎◌, inl, inr, refl, sym, ap, ◌∙◌, subst, arith}
+use Rattle.std.specs.Prelude.{Result, Ok, Err, IsOk, IfOk, slice_get}
+use Rattle.std.specs.Option.{option_map}
+use Rattle.std.specs.List.{list_any}
+use Rattle.std.specs.Set.{remove_key}
+use Rattle.indexmap.specs.IndexSet.{insert_key}
+use Rattle.std.proofs.lemmas.Bool.Decides.{Decides-eqb}
+use Rattle.mpx_name.specs.Order.{name_equality}
+use Rattle.mpx_post.specs.Posts.{Given}
+use Rattle.mpx_post.specs.Births.{BirthView}
+use Rattle.mpx_post.specs.declared.draft.Draft.{Draft}
+use Rattle.mpx_post.specs.declared.draft.PostError.{PostError}
+use Rattle.mpx_post.specs.declared.draft.PostError.TheVariants as R
+use Rattle.mpx_post.specs.declared.draft.At.{At}
+use Rattle.mpx_post.specs.Kinds.{kind_of}
+use Rattle.mpx_post.specs.Seats.{lacks_topology}
+use Rattle.mpx_post.specs.Drafts.{at, checked, checked_at, drafted_seat, first_that_holds, given_by, refusal_of, refusals, stray_refusals, unless}
+use Rattle.mpx_post.specs.Births.{rank_in}
+use Rattle.join_core.specs.Flat.{known, unknown}
+use Rattle.mpx_name.specs.Name.{Name, same_name}
+use Rattle.mpx_board.specs.Boards.{Look, Held, only, nothing, told}
+use Rattle.mpx_node.specs.Nodes.{NodeView, OpenedView, posted_on, posted_by, Posts, post_at, checked_on, checked_by, results_on, results_by, front_on}
+use Rattle.mpx_comm.specs.declared.request.Request.{Request}
+use Rattle.mpx_comm.specs.Requests.{same_request, close, close_all, ArePosted, result_of, AreResults, WerePending, HasPosted, next_call, IsRefusal, Asks, Starts, Waits, Calls}
+use Rattle.mpx_comm.specs.declared.answers.WaitError.TheVariants as W
+use Rattle.mpx_comm.specs.declared.answers.CallError.{CallError}
+use Rattle.mpx_comm.specs.declared.answers.CallError.TheVariants as C
+use Rattle.mpx_comm.specs.Later.{Later, IsPending, WasPending, IsOwn}
+use Rattle.join_core.specs.Cases.{first_true, second_true, Answer, yes, no, answer}
+use Rattle.mpx_comm.proofs.Steps.{get_either, still_pending, pending_now, held_joined, held_added}
+use Rattle.mpx_node.specs.declared.finished.Finished.{Finished}
+use Rattle.std.proofs.lemmas.Option.{same_Some, slice_get_within}
+use Rattle.std.proofs.lemmas.List.{map-append}
+use Rattle.std.proofs.lemmas.Bool.Decides.{nat_tests}
+use Rattle.std.specs.Prelude.{map, drop, remove, nat_lt}
+
+pub ok_holds : {A E P : Type 0} (r : Result A E) → IsOk r → IfOk r (λ a. P) → P
+ok_holds (Ok a) h p = p
+ok_holds (Err e) h p = cc h
+
+-- SAME REQUESTS
+
+pub same_sound : (p q : Request) → same_request p q ≡ true → p ≡ q
+same_sound p q e =
+    let name : p.name ≡ q.name = name_equality.sound p.name q.name (first_true (same_name p.name q.name) (p.call == q.call) e) in
+    let call : p.call ≡ q.call = (Decides-eqb p.call q.call).0 (second_true (same_name p.name q.name) (p.call == q.call) e) in
+    λ i. record { name = name i; call = call i }
+
+-- CLOSING
+
+one_removed : {A : Type 0} (t : A → Bool) (y : A) (ys : List A) (x : A) → ((k : ℕ) → slice_get (remove_key t ys) k ≡ Some x → (j : ℕ) × (slice_get ys j ≡ Some x)) → (b : Bool) (k : ℕ) → slice_get (cond b ys (y ∷ remove_key t ys)) k ≡ Some x → (j : ℕ) × (slice_get (y ∷ ys) j ≡ Some x)
+one_removed t y ys x rest true k f = (suc k, f)
+one_removed t y ys x rest false zero f = (zero, f)
+one_removed t y ys x rest false (suc k) f = let place = rest k f in (suc place.0, place.1)
+
+from_removed : {A : Type 0} (t : A → Bool) (xs : List A) (i : ℕ) (x : A) → slice_get (remove_key t xs) i ≡ Some x → (j : ℕ) × (slice_get xs j ≡ Some x)
+from_removed t [] i x e = cc e
+from_removed t (y ∷ ys) i x e = one_removed t y ys x (λ k f. from_removed t ys k x f) (t y) i e
+
+pub posted_closed : (node : NodeView) (rs : List Request) (request : Request) → ArePosted node rs → ArePosted node (close rs request)
+posted_closed node rs request all i r e = let place = from_removed (same_request request) rs i r e in all place.0 r place.1
+
+pub posted_all_closed : (node : NodeView) (qs rs : List Request) → ArePosted node rs → ArePosted node (close_all rs qs)
+posted_all_closed node [] rs all = all
+posted_all_closed node (q ∷ qs) rs all = posted_all_closed node qs (close rs q) (posted_closed node rs q all)
+
+pub posted_later : (old new : NodeView) (rs : List Request) → Later old new → ArePosted old rs → ArePosted new rs
+posted_later old new rs later all i r e = subst (λ n. r.call < n) (sym (later.posted r.name)) (all i r e)
+
+-- A POST
+
+one_other : (node : NodeView) (q r : Request) (rs : List Request) → ArePosted node (r ∷ rs) → q.call ≡ posted_on node q.name → list_any (same_request q) rs ≡ false → Answer (same_request q r) → list_any (same_request q) (r ∷ rs) ≡ false
+one_other node q r rs all last rest (yes t) =
+    let same : q ≡ r = same_sound q r t in
+    let less : q.call < posted_on node q.name = subst (λ (x : Request). x.call < posted_on node x.name) (sym same) (all 0 r refl) in
+    absurd (omega (arith, less, last))
+one_other node q r rs all last rest (no f) = rw f rest
+
+none_same : (node : NodeView) (q : Request) (rs : List Request) → ArePosted node rs → q.call ≡ posted_on node q.name → list_any (same_request q) rs ≡ false
+none_same node q [] all last = refl
+none_same node q (r ∷ rs) all last = one_other node q r rs all last (none_same node q rs (λ i x e. all (suc i) x e) last) (answer (same_request q r))
+
+-- a new request goes last
+pub goes_last : (node : NodeView) (q : Request) (rs after : List Request) → ArePosted node rs → q.call ≡ posted_on node q.name → after ≡ insert_key same_request rs q → after ≡ rs ++ q ∷ []
+goes_last node q rs after all last e = e ∙ ap (λ b. cond b rs (rs ++ q ∷ [])) (none_same node q rs all last)
+
+-- what a post that was made says
+pub record IsMade (name : Name) (call : ℕ) (old new : NodeView) (r : Result Given PostError) : Type 0 where
+  pub given : Given
+  pub checked : r ≡ Ok given
+  pub last : call ≡ posted_on old name
+  pub made : new ≡ post_at name given old
+
+pub is_made : (name : Name) (call : ℕ) (old new : NodeView) (r : Result Given PostError) → Posts name r (Ok call) old new → IsMade name call old new r
+is_made name call old new (Err e) h = cc (h.0)
+is_made name call old new (Ok given) h = record { given = given; checked = refl; last = h.0; made = h.1 }
+
+abbrev more : OpenedView → OpenedView
+more o = record o { posted = o.posted + 1 }
+
+no_fewer : (b : Bool) (o : Option OpenedView) → posted_by o ≤ posted_by (cond b (option_map more o) o)
+no_fewer true None = omega arith
+no_fewer true (Some o) = omega arith
+no_fewer false o = omega arith
+
+one_more : (o : Option OpenedView) (birth : Option BirthView) (me : ℕ) (name : Name) (draft : Draft) (given : Given) → checked_by o birth me name draft ≡ Ok given → posted_by (option_map more o) ≡ posted_by o + 1
+one_more None birth me name draft given e = cc e
+one_more (Some o) birth me name draft given e = refl
+
+pub posted_added : (old new : NodeView) (draft : Draft) (rs after : List Request) (q : Request) → ArePosted old rs → IsMade q.name q.call old new (checked_on old q.name draft) → after ≡ rs ++ q ∷ [] → ArePosted new after
+posted_added old new draft rs after q all made e i r f = by_place (get_either rs q i r (ap (λ xs. slice_get xs i) (sym e) ∙ f)) where
+  grown : (n : Name) → posted_on old n ≤ posted_on new n
+  grown n = subst (λ x. posted_on old n ≤ posted_on x n) (sym made.made) (no_fewer (same_name n q.name) (old.opened n))
+
+  next : posted_on new q.name ≡ posted_on old q.name + 1
+  next = ap (λ x. posted_on x q.name) made.made
+      ∙ ap (λ b. posted_by (cond b (option_map more (old.opened q.name)) (old.opened q.name))) (name_equality.reflexive q.name)
+      ∙ one_more (old.opened q.name) (told (old.board.contexts q.name).birth) old.me q.name draft made.given made.checked
+
+  by_place : (slice_get rs i ≡ Some r) ⊎ ((i ≡ length rs) × (q ≡ r)) → r.call < posted_on new r.name
+  by_place (inl there) = omega (arith, all i r there, grown r.name)
+  by_place (inr last) = subst (λ (x : Request). x.call < posted_on new x.name) last.1 (omega (arith, next, made.last))
+
+-- a draft's post is its own
+given_in : Given → Result Given PostError → Given
+given_in other (Ok given) = given
+given_in other (Err e) = other
+
+drafted : (e : Option PostError) (x y : Given) → unless e x ≡ Ok y → y ≡ x
+unfolding given_in
+drafted None x y f = ap (given_in x) (sym f)
+drafted (Some r) x y f = cc f
+
+given_drafted : (birth : BirthView) (me : ℕ) (at : At) (draft : Draft) (given : Given) → checked birth me at draft ≡ Ok given → given ≡ given_by draft
+unfolding checked
+given_drafted birth me at draft given e = by_rank (rank_in me birth.members) e where
+  by_test : (b : Bool) (x y : Option PostError) → cond b (unless x (given_by draft)) (unless y (given_by draft)) ≡ Ok given → given ≡ given_by draft
+  by_test true x y f = drafted x (given_by draft) given f
+  by_test false x y f = drafted y (given_by draft) given f
+
+  by_rank : (o : Option ℕ) → checked_at o birth at draft ≡ Ok given → given ≡ given_by draft
+  by_rank None f = cc f
+  by_rank (Some rank) f = by_test (lacks_topology birth.topology (kind_of draft.call)) (first_that_holds (stray_refusals draft)) (first_that_holds (refusals (drafted_seat birth rank draft) at draft)) f
+
+given_is : (o : Option OpenedView) (birth : Option BirthView) (me : ℕ) (name : Name) (draft : Draft) (given : Given) → checked_by o birth me name draft ≡ Ok given → given ≡ given_by draft
+given_is None birth me name draft given e = cc e
+given_is (Some o) None me name draft given e = cc e
+given_is (Some o) (Some birth) me name draft given e = given_drafted birth me (at name o.posted) draft given e
+
+results_stay : (b : Bool) (o : Option OpenedView) → results_by (cond b (option_map more o) o) ≡ results_by o
+results_stay true None = refl
+results_stay true (Some o) = refl
+results_stay false o = refl
+
+module _ (old : NodeView) (name : Name) (given : Given) where
+  abbrev posting : NodeView
+  posting = post_at name given old
+
+  abbrev fact : Look
+  fact = only (Held name (posted_on old name) old.me (known given))
+
+  told_here : (fact.contexts name).posts (posted_on old name) old.me ≡ known given
+  told_here = ap (λ b. (cond b (record nothing { posts = λ j q. cond ((j == posted_on old name) && (q == old.me)) (known given) unknown }) nothing).posts (posted_on old name) old.me) (name_equality.reflexive name)
+      ∙ (λ i. cond ((Decides-eqb (posted_on old name) (posted_on old name)).1 refl i && (Decides-eqb old.me old.me).1 refl i) (known given) unknown)
+
+  kept_by : (n : Name) (call : ℕ) (g : Given) → IsOwn old n call g → IsOwn posting n call g
+  kept_by n call g o = record {
+    held = held_joined (old.board.contexts n) (fact.contexts n) call old.me g o.held;
+    mine = λ f e. o.mine f (ap (λ rs. slice_get rs call) (sym (results_stay (same_name n name) (old.opened n))) ∙ e);
+  }
+
+  own_by : front_on old name ≤ posted_on old name → IsOwn posting name (posted_on old name) given
+  own_by bounded = record {
+    held = held_added (old.board.contexts name) (fact.contexts name) (posted_on old name) old.me given told_here;
+    mine = λ f e.
+        let there : slice_get (results_on old name) (posted_on old name) ≡ Some f = ap (λ rs. slice_get rs (posted_on old name)) (sym (results_stay (same_name name name) (old.opened name))) ∙ e in
+        let less : posted_on old name < length (results_on old name) = slice_get_within (results_on old name) (posted_on old name) f there in
+        absurd (omega (arith, less, bounded));
+  }
+
+  pub has_posted : (draft : Draft) → front_on old name ≤ posted_on old name → checked_on old name draft ≡ Ok given → HasPosted name draft old posting
+  has_posted draft bounded e =
+      let is : given ≡ given_by draft = given_is (old.opened name) (told (old.board.contexts name).birth) old.me name draft given e in
+      record {
+        accepted = e ∙ ap Ok is;
+        own = subst (λ g. IsOwn posting name (posted_on old name) g) is (own_by bounded);
+        posted = λ n. posted_same n;
+        stored = λ n k f h. ap (λ rs. slice_get rs k) (results_stay (same_name n name) (old.opened n)) ∙ h;
+        kept = kept_by;
+      }
+    where
+      posted_same : (n : Name) → posted_on posting n ≡ posted_on (post_at name (given_by draft) old) n
+      posted_same n = refl
+
+-- what was posted stays so
+pub posted_then : (name : Name) (draft : Draft) (old mid last : NodeView) → HasPosted name draft old mid → Later mid last → HasPosted name draft old last
+posted_then name draft old mid last h later = record {
+  accepted = h.accepted;
+  own = later.own name (posted_on old name) (given_by draft) h.own;
+  posted = λ n. later.posted n ∙ h.posted n;
+  stored = λ n k f e. later.stored n k f (h.stored n k f e);
+  kept = λ n k g o. later.own n k g (h.kept n k g o);
+}
+
+-- a post and what stays of it: its request is the last, and each open one is posted
+pub post_done : (old new : NodeView) (name : Name) (call : ℕ) (draft : Draft) (rs after : List Request) (q : Request) → front_on old name ≤ posted_on old name → ArePosted old rs → Posts name (checked_on old name draft) (Ok call) old new → q ≡ record { name = name; call = call } → after ≡ insert_key same_request rs q → ((q ≡ next_call old name) × HasPosted name draft old new × (after ≡ rs ++ q ∷ [])) × ArePosted new after
+post_done old new name call draft rs after q bounded all posts is keys =
+    let at : IsMade name call old new (checked_on old name draft) = is_made name call old new (checked_on old name draft) posts in
+    let here : Posts q.name (checked_on old q.name draft) (Ok q.call) old new = subst (λ (x : Request). Posts x.name (checked_on old x.name draft) (Ok x.call) old new) (sym is) posts in
+    let made : IsMade q.name q.call old new (checked_on old q.name draft) = is_made q.name q.call old new (checked_on old q.name draft) here in
+    let last : after ≡ rs ++ q ∷ [] = goes_last old q rs after all made.last keys in
+    ((is ∙ (λ i. record { name = name; call = at.last i }), subst (HasPosted name draft old) (sym at.made) (has_posted old name at.given draft bounded at.checked), last), posted_added old new draft rs after q all made last)
+
+-- REFUSALS
+
+-- what is refused is told so
+pub is_refused : (r : Result Given PostError) (e : PostError) → Some e ≡ refusal_of r → IsRefusal r e
+is_refused (Ok given) e h = cc h
+is_refused (Err x) e h = inl (ap Err (sym (same_Some e x h)))
+
+-- what isn't refused comes to a post
+pub accepted : (r : Result Given PostError) → None ≡ refusal_of r → IsOk r
+accepted (Ok given) h = refl
+accepted (Err x) h = cc h
+
+-- so only memory can want
+pub is_wanting : (name : Name) (r : Result Given PostError) (e : PostError) (old new : NodeView) → None ≡ refusal_of r → Posts name r (Err e) old new → IsRefusal r e × (new ≡ old)
+is_wanting name (Ok given) e old new h p = (inr (p.0, refl), p.1)
+is_wanting name (Err x) e old new h p = cc h
+
+-- a call that makes its draft
+loosely : (r : Result Given PostError) (e : PostError) → IsRefusal r e → (r ≡ Err e) ⊎ (e ≡ R.OutOfMemory)
+loosely r e (inl told) = inl told
+loosely r e (inr wants) = inr wants.0
+
+pub starts : (name : Name) (draft : Draft) (result : Result Request PostError) (old new : NodeView) (before after : List Request) → Asks name draft result old new before after → Starts name draft result old new before after
+starts name draft (Ok request) old new before after asks = asks
+starts name draft (Err e) old new before after asks = (loosely (checked_on old name draft) e asks.0, asks.1, asks.2)
+
+-- LOOKING AT MANY
+
+-- a list's head and tail
+heads : {A : Type 0} (x y : A) (xs ys : List A) → (x ∷ xs) ≡ (y ∷ ys) → x ≡ y
+heads x y xs ys e = same_Some x y (ap (λ zs. slice_get zs 0) e)
+
+tails : {A : Type 0} (x y : A) (xs ys : List A) → (x ∷ xs) ≡ (y ∷ ys) → xs ≡ ys
+tails x y xs ys e = ap (drop 1) e
+
+-- results that are stored stay
+pub results_later : (old new : NodeView) (rs : List Request) (fs : List Finished) → Later old new → AreResults old rs fs → AreResults new rs fs
+results_later old new [] fs later e = e
+results_later old new (r ∷ rs) [] later e = cc e
+results_later old new (r ∷ rs) (f ∷ fs) later e =
+    let first : result_of new r ≡ Some f = later.stored r.name r.call f (heads (result_of old r) (Some f) (map (result_of old) rs) (map Some fs) e) in
+    let rest : map (result_of new) rs ≡ map Some fs = results_later old new rs fs later (tails (result_of old r) (Some f) (map (result_of old) rs) (map Some fs) e) in
+    λ i. first i ∷ rest i
+
+-- one more result
+pub results_more : (node : NodeView) (rs qs : List Request) (fs gs : List Finished) (f : Finished) (r : Request) → AreResults node rs fs → result_of node r ≡ Some f → qs ≡ rs ++ r ∷ [] → gs ≡ fs ++ f ∷ [] → AreResults node qs gs
+results_more node rs qs fs gs f r e s q g =
+    ap (map (result_of node)) q ∙ map-append (result_of node) rs (r ∷ []) ∙ (λ i. e i ++ s i ∷ []) ∙ sym (map-append Some fs (f ∷ [])) ∙ ap (map Some) (sym g)
+
+-- without the one at a place
+from_place : {A : Type 0} (xs : List A) (i k : ℕ) (x : A) → slice_get (remove xs i) k ≡ Some x → (j : ℕ) × (slice_get xs j ≡ Some x)
+from_place [] zero k x e = cc e
+from_place [] (suc i) k x e = cc e
+from_place (y ∷ ys) zero k x e = (suc k, e)
+from_place (y ∷ ys) (suc i) zero x e = (zero, e)
+from_place (y ∷ ys) (suc i) (suc k) x e = let place = from_place ys i k x e in (suc place.0, place.1)
+
+pub posted_removed : (node : NodeView) (rs : List Request) (i : ℕ) → ArePosted node rs → ArePosted node (remove rs i)
+posted_removed node rs i all k r e = let place = from_place rs i k r e in all place.0 r place.1
+
+pub were_later : (a b c : NodeView) (n : ℕ) (rs : List Request) → WerePending a b n rs → Later b c → WerePending a c n rs
+were_later a b c n rs w later i r l e = still_pending a b c r.name r.call (w i r l e) later
+
+-- one more was pending
+pub were_more : (a b : NodeView) (n : ℕ) (rs : List Request) (r : Request) → WerePending a b n rs → Later a b → slice_get rs n ≡ Some r → IsPending b r.name r.call → WerePending a b (n + 1) rs
+were_more a b n rs r w later at pending i q l e = by_place (answer (nat_lt i n)) where
+  by_place : Answer (nat_lt i n) → WasPending a b q.name q.call
+  by_place (yes t) = w i q (grind (arith, nat_tests)) e
+  by_place (no f) =
+      let place : i ≡ n = grind (arith, nat_tests) in
+      let same : r ≡ q = same_Some r q (sym at ∙ ap (slice_get rs) (sym place) ∙ e) in
+      pending_now a b q.name q.call later (subst (λ (x : Request). IsPending b x.name x.call) same pending)
+
+-- BLOCKING CALLS
+
+module _ (name : Name) (draft : Draft) (old mid new : NodeView) (before between after : List Request) (turns : ℕ) (waited made : ℕ → Type 0) (more : (n : ℕ) → waited n → made n) (q : Request) (asks : Starts name draft (Ok q) old mid before between) (later : Later mid new) where
+  pub called : (f : Finished) → Waits q turns waited (Ok f) new between after → Calls name draft turns made (Ok f) old new before after
+  called f waits =
+      let posted : HasPosted name draft old new = posted_then name draft old mid new asks.1 later in
+      let stored : result_of new (next_call old name) ≡ Some f = ap (result_of new) (sym asks.0) ∙ waits.0 in
+      (posted, stored, posted.own.mine f stored, (waits.1.0, waits.1.1, more waits.1.0 waits.1.2), waits.2 ∙ ap (λ rs. close rs q) asks.2 ∙ ap (λ r. close (before ++ r ∷ []) r) asks.0)
+
+  pub called_in_vain : (back : Request) → Waits q turns waited (Err (W.StillWaiting back)) new between after → Calls name draft turns made (Err (C.StillWaiting back)) old new before after
+  called_in_vain back waits =
+      (waits.0 ∙ asks.0, posted_then name draft old mid new asks.1 later, subst (λ (r : Request). IsPending new r.name r.call) (sym waits.0) waits.1, more turns waits.2, waits.3 ∙ asks.2 ∙ ap (λ r. before ++ r ∷ []) (sym waits.0))
+
+  pub called_without_memory : (back : Request) → Waits q turns waited (Err (W.OutOfMemory back)) new between after → Calls name draft turns made (Err (C.OutOfMemory back)) old new before after
+  called_without_memory back waits =
+      (waits.0 ∙ asks.0, posted_then name draft old mid new asks.1 later, waits.1 ∙ asks.2 ∙ ap (λ r. before ++ r ∷ []) (sym waits.0))
+
+-- CALLS ON A GATHERING
+
+-- a call's turns count from before its gathering was opened
+pub calls_since : (name : Name) (draft : Draft) (turns : ℕ) (waited made : ℕ → Type 0) (result : Result Finished CallError) (old new : NodeView) (before after : List Request) → ((n : ℕ) → waited n → made n) → Calls name draft turns waited result old new before after → Calls name draft turns made result old new before after
+calls_since name draft turns waited made (Ok finished) old new before after more call = (call.0, call.1, call.2, (call.3.0, call.3.1, more call.3.0 call.3.2), call.4)
+calls_since name draft turns waited made (Err (C.Refused e)) old new before after more call = (call.0, more 0 call.1)
+calls_since name draft turns waited made (Err (C.StillWaiting request)) old new before after more call = (call.0, call.1, call.2, more turns call.3, call.4)
+calls_since name draft turns waited made (Err (C.OutOfMemory request)) old new before after more call = call

@@ -1,0 +1,284 @@
+-- The steps of a node, and what stays over them.
+use Rattle.std.proofs.Common.{◌≡◌, ℕ, zero, suc, ◌+◌, ◌-◌, ◌<◌, ◌≤◌, max, Bool, true, false, cond, List, [], ◌∷◌, ◌++◌, length, Option, Some, None, ◌⊎◌, inl, inr, refl, sym, ap, ◌∙◌, subst, arith, is_some}
+use Rattle.std.specs.Prelude.{Result, Ok, Err, OnOk, OnErr, slice_get, nat_le, nat_lt}
+use Rattle.std.specs.Option.{option_map}
+use Rattle.std.proofs.lemmas.Bool.Decides.{nat_tests}
+use Rattle.std.proofs.lemmas.Option.{same_Some, option_and_then_some, slice_get_cases}
+use Rattle.std.proofs.lemmas.List.{length-append}
+use Rattle.mpx_name.specs.Order.{name_equality}
+use Rattle.join_core.specs.Cases.{Answer, yes, no, answer}
+use Rattle.join_core.specs.declared.memory.OutOfMemory.{OutOfMemory}
+use Rattle.join_core.specs.Flat.{FlatView, known, unknown, clash, flat_join, flat_leq, flat_joining}
+use Rattle.join_core.specs.FlatLaws.{flat_laws}
+use Rattle.join_core.specs.Order.{IsLeastUpperBound, IsOrder}
+use Rattle.join_core.proofs.Orders.{bound_laws, order_laws}
+use Rattle.mpx_post.specs.Posts.{Given}
+use Rattle.mpx_post.specs.Births.{BirthView}
+use Rattle.mpx_post.specs.Gatherings.{GatheringView}
+use Rattle.mpx_post.specs.declared.draft.PostError.{PostError}
+use Rattle.mpx_post.specs.Equality.{same_given, given_equality}
+use Rattle.mpx_name.specs.Name.{Name, same_name}
+use Rattle.mpx_board.specs.Boards.{Context, Look, join_contexts, told}
+use Rattle.mpx_value.specs.declared.outcomes.Outcome.{Outcome}
+use Rattle.mpx_node.specs.declared.finished.Finished.{Finished}
+use Rattle.mpx_node.specs.declared.node.Harvest.{Harvest}
+use Rattle.mpx_node.specs.declared.node.Harvest.TheVariants.{Done, NotYet, NotOpened}
+use Rattle.mpx_node.specs.Harvests.{Harvests}
+use Rattle.mpx_node.specs.Nodes.{NodeView, OpenedView, posted_by, results_on, results_by, front_on, next_result, next_of, result_of, outcome_on, learn, add_result, children_on, or_new, opens, stores_on, is_new_to, harvest_part, Opens, gathering_fact, gathering_name, open_gathering_node}
+use Rattle.mpx_comm.specs.Later.{result_at, IsHeld, IsOwn, Later, IsPending, WasPending}
+
+-- TIME
+
+pub later_none : (a : NodeView) → Later a a
+later_none a = record { me = refl; posted = λ n. refl; stored = λ n k f e. e; own = λ n k g o. o }
+
+pub later_more : (a b c : NodeView) → Later a b → Later b c → Later a c
+later_more a b c x y = record {
+  me = y.me ∙ x.me;
+  posted = λ n. y.posted n ∙ x.posted n;
+  stored = λ n k f e. y.stored n k f (x.stored n k f e);
+  own = λ n k g o. y.own n k g (x.own n k g o);
+}
+
+pub later_same : (a b : NodeView) → b ≡ a → Later a b
+later_same a b e = subst (λ x. Later a x) (sym e) (later_none a)
+
+pub still_pending : (a b c : NodeView) (name : Name) (call : ℕ) → WasPending a b name call → Later b c → WasPending a c name call
+still_pending a b c name call w l = record { moment = w.moment; after = w.after; before = later_more w.moment b c w.before l; pending = w.pending }
+
+pub pending_now : (a b : NodeView) (name : Name) (call : ℕ) → Later a b → IsPending b name call → WasPending a b name call
+pending_now a b name call l p = record { moment = b; after = l; before = later_none b; pending = p }
+
+pub pending_later : (a b c : NodeView) (name : Name) (call : ℕ) → Later a b → WasPending b c name call → WasPending a c name call
+pending_later a b c name call l w = record { moment = w.moment; after = later_more a b w.moment l w.after; before = w.before; pending = w.pending }
+
+-- WHAT IS HELD
+
+posts_bound : IsLeastUpperBound (flat_joining same_given)
+posts_bound = bound_laws (flat_laws given_equality)
+
+posts_order : IsOrder (flat_joining same_given)
+posts_order = order_laws (flat_laws given_equality)
+
+-- a post that is held is held by each join
+pub held_joined : (c d : Context) (k p : ℕ) (given : Given) → IsHeld c k p given → IsHeld (join_contexts c d) k p given
+held_joined c d k p given h = record {
+  held = λ l. by_test (nat_le (max c.dropped d.dropped) k) refl l;
+  gone = λ l. let no : nat_le (max c.dropped d.dropped) k ≡ false = grind (arith, nat_tests) in ap (λ b. cond b (flat_join same_given (c.posts k p) (d.posts k p)) unknown) no;
+} where
+  by_test : (b : Bool) → nat_le (max c.dropped d.dropped) k ≡ b → max c.dropped d.dropped ≤ k → flat_leq same_given (known given) (cond b (flat_join same_given (c.posts k p) (d.posts k p)) unknown) ≡ true
+  by_test true e l = posts_order.transitive (known given) (c.posts k p) (flat_join same_given (c.posts k p) (d.posts k p)) (h.held (omega arith)) (posts_bound.above_first (c.posts k p) (d.posts k p))
+  by_test false e l = absurd (grind (arith, nat_tests))
+
+told_held : (v : FlatView Given) (given m : Given) → flat_leq same_given (known given) v ≡ true → told v ≡ Some m → m ≡ given
+told_held unknown given m l e = cc e
+told_held (known x) given m l e = sym (same_Some x m e) ∙ sym (given_equality.sound given x l)
+told_held clash given m l e = cc e
+
+-- what is told there is the own post
+told_own : (c : Context) (k p : ℕ) (given m : Given) → IsHeld c k p given → told (c.posts k p) ≡ Some m → m ≡ given
+told_own c k p given m h e = by_test (answer (nat_le c.dropped k)) where
+  by_test : Answer (nat_le c.dropped k) → m ≡ given
+  by_test (yes t) = told_held (c.posts k p) given m (h.held (grind (arith, nat_tests))) e
+  by_test (no f) = let gone : c.posts k p ≡ unknown = h.gone (grind (arith, nat_tests)) in cc (ap told gone, e)
+
+-- A BOARD COMES
+
+pub later_learns : (part : Look) (a : NodeView) → Later a (learn part a)
+later_learns part a = record {
+  me = refl;
+  posted = λ n. refl;
+  stored = λ n k f e. e;
+  own = λ n k g o. record { held = held_joined (a.board.contexts n) (part.contexts n) k a.me g o.held; mine = o.mine };
+}
+
+-- CONTEXTS ARE OPENED
+
+posted_opens : (b : Bool) (o : Option OpenedView) → posted_by (cond b (Some (or_new o)) o) ≡ posted_by o
+posted_opens true None = refl
+posted_opens true (Some o) = refl
+posted_opens false o = refl
+
+results_opens : (b : Bool) (o : Option OpenedView) → results_by (cond b (Some (or_new o)) o) ≡ results_by o
+results_opens true None = refl
+results_opens true (Some o) = refl
+results_opens false o = refl
+
+later_opens : (new : Name → Bool) (a : NodeView) → Later a (opens new a)
+later_opens new a = record {
+  me = refl;
+  posted = λ n. posted_opens (new n) (a.opened n);
+  stored = λ n k f e. ap (λ rs. slice_get rs k) (results_opens (new n) (a.opened n)) ∙ e;
+  own = λ n k g o. record { held = o.held; mine = λ f e. o.mine f (ap (λ rs. slice_get rs k) (sym (results_opens (new n) (a.opened n))) ∙ e) };
+}
+
+-- a gathering that is opened or not
+pub later_gathers : (parent : Name) (r : Result GatheringView PostError) (result : Result Name PostError) (old new : NodeView) → Opens parent r result old new → Later old new
+later_gathers parent (Err e) result old new h = later_same old new h.1
+later_gathers parent (Ok g) (Ok name) old new h =
+    let told : NodeView = learn (gathering_fact parent g) old in
+    subst (Later old) (sym h.1) (later_more old told (open_gathering_node parent g old) (later_learns (gathering_fact parent g) old) (later_opens (λ n. same_name n (gathering_name parent g)) told))
+later_gathers parent (Ok g) (Err e) old new h = later_same old new h.1
+
+-- A CALL IS DONE
+
+module _ (board : Look) (name : Name) (me : ℕ) (finished : Finished) where
+  made_of : (mine : Given) (o : Option Outcome) → option_map (λ outcome. record { mine = mine; outcome = outcome }) o ≡ Some finished → finished.mine ≡ mine
+  made_of mine None e = cc e
+  made_of mine (Some x) e = sym (ap (λ (f : Finished). f.mine) (same_Some _ finished e))
+
+  -- a result has the post that is told
+  result_mine : (k : ℕ) → result_of board name me k ≡ Some finished → told ((board.contexts name).posts k me) ≡ Some finished.mine
+  result_mine k e = option_and_then_some (λ mine. option_map (λ outcome. record { mine = mine; outcome = outcome }) (outcome_on board name me k)) (told ((board.contexts name).posts k me)) finished e
+      (λ mine is f. is ∙ ap Some (sym (made_of mine (outcome_on board name me k) f)))
+
+  next_mine : (o : Option OpenedView) → next_of o board name me ≡ Some finished → told ((board.contexts name).posts (length (results_by o)) me) ≡ Some finished.mine
+  next_mine None e = cc e
+  next_mine (Some o) e = by_test (nat_lt (length o.results) o.posted) e where
+    by_test : (b : Bool) → cond b (result_of board name me (length o.results)) None ≡ Some finished → told ((board.contexts name).posts (length o.results) me) ≡ Some finished.mine
+    by_test true f = result_mine (length o.results) f
+    by_test false f = cc f
+
+module _ (finished : Finished) where
+  abbrev with_result : OpenedView → OpenedView
+  with_result o = record o { results = o.results ++ finished ∷ [] }
+
+  posted_stays : (b : Bool) (o : Option OpenedView) → posted_by (cond b (option_map with_result o) o) ≡ posted_by o
+  posted_stays true None = refl
+  posted_stays true (Some o) = refl
+  posted_stays false o = refl
+
+get_first : {A : Type 0} (xs : List A) (y : A) (k : ℕ) (x : A) → slice_get xs k ≡ Some x → slice_get (xs ++ y ∷ []) k ≡ Some x
+get_first [] y k x e = cc e
+get_first (z ∷ xs) y zero x e = e
+get_first (z ∷ xs) y (suc k) x e = get_first xs y k x e
+
+pub get_either : {A : Type 0} (xs : List A) (y : A) (k : ℕ) (x : A) → slice_get (xs ++ y ∷ []) k ≡ Some x → (slice_get xs k ≡ Some x) ⊎ ((k ≡ length xs) × (y ≡ x))
+get_either [] y zero x e = inr (refl, same_Some y x e)
+get_either [] y (suc k) x e = cc e
+get_either (z ∷ xs) y zero x e = inl e
+get_either (z ∷ xs) y (suc k) x e = one_more (get_either xs y k x e) where
+  one_more : (slice_get xs k ≡ Some x) ⊎ ((k ≡ length xs) × (y ≡ x)) → (slice_get (z ∷ xs) (suc k) ≡ Some x) ⊎ ((suc k ≡ length (z ∷ xs)) × (y ≡ x))
+  one_more (inl f) = inl f
+  one_more (inr f) = inr (ap suc f.0, f.1)
+
+module _ (old : NodeView) (name : Name) (finished : Finished) (is : next_result old name ≡ Some finished) where
+  abbrev after : Name → Bool → Option OpenedView
+  after n b = cond b (option_map (with_result finished) (old.opened n)) (old.opened n)
+
+  stored_by : (b : Bool) (o : Option OpenedView) (k : ℕ) (g : Finished) → slice_get (results_by o) k ≡ Some g → slice_get (results_by (cond b (option_map (with_result finished) o) o)) k ≡ Some g
+  stored_by true None k g e = e
+  stored_by true (Some o) k g e = get_first o.results finished k g e
+  stored_by false o k g e = e
+
+  mine_by : (o : Option OpenedView) → next_of o old.board name old.me ≡ Some finished → (k : ℕ) (given : Given) → IsHeld (old.board.contexts name) k old.me given → ((g : Finished) → slice_get (results_by o) k ≡ Some g → g.mine ≡ given) → (g : Finished) → slice_get (results_by (option_map (with_result finished) o)) k ≡ Some g → g.mine ≡ given
+  mine_by None e k given h before g s = cc e
+  mine_by (Some o) e k given h before g s = by_place (get_either o.results finished k g s) where
+    by_place : (slice_get o.results k ≡ Some g) ⊎ ((k ≡ length o.results) × (finished ≡ g)) → g.mine ≡ given
+    by_place (inl there) = before g there
+    by_place (inr last) =
+        let here : told ((old.board.contexts name).posts k old.me) ≡ Some finished.mine = ap (λ j. told ((old.board.contexts name).posts j old.me)) last.0 ∙ next_mine old.board name old.me finished (Some o) e in
+        sym (ap (λ (f : Finished). f.mine) last.1) ∙ told_own (old.board.contexts name) k old.me given finished.mine h here
+
+  mine_at : (n : Name) (k : ℕ) (given : Given) → IsOwn old n k given → Answer (same_name n name) → (g : Finished) → slice_get (results_by (after n (same_name n name))) k ≡ Some g → g.mine ≡ given
+  mine_at n k given o (no f) g e = o.mine g (ap (λ b. slice_get (results_by (after n b)) k) (sym f) ∙ e)
+  mine_at n k given o (yes t) g e =
+      let same : n ≡ name = name_equality.sound n name t in
+      let here : slice_get (results_by (after name true)) k ≡ Some g = ap (λ q. slice_get (results_by (after q true)) k) (sym same) ∙ ap (λ b. slice_get (results_by (after n b)) k) (sym t) ∙ e in
+      mine_by (old.opened name) is k given
+      (subst (λ q. IsHeld (old.board.contexts q) k old.me given) same o.held)
+      (subst (λ q. (f : Finished) → slice_get (results_by (old.opened q)) k ≡ Some f → f.mine ≡ given) same o.mine)
+      g here
+
+  abbrev storing : NodeView
+  storing = stores_on name finished old
+
+  later_stored : Later old storing
+  later_stored = record {
+    me = refl;
+    posted = λ n. posted_stays finished (same_name n name) (old.opened n);
+    stored = λ n k f e. stored_by (same_name n name) (old.opened n) k f e;
+    own = λ n k g o. record { held = o.held; mine = mine_at n k g o (answer (same_name n name)) };
+  }
+
+  module _ (made : List (Name × BirthView)) where
+    abbrev telling : NodeView
+    telling = learn (harvest_part name made old) storing
+
+    pub later_done : Later old (add_result name finished made old)
+    later_done = later_more old storing (add_result name finished made old) later_stored (later_more storing telling (add_result name finished made old) (later_learns (harvest_part name made old) storing) (later_opens (is_new_to old.me made) telling))
+
+    longer : (o : Option OpenedView) → next_of o old.board name old.me ≡ Some finished → length (results_by (option_map (with_result finished) o)) ≡ length (results_by o) + 1
+    longer None e = cc e
+    longer (Some o) e = length-append o.results (finished ∷ [])
+
+    pub front_done : front_on (add_result name finished made old) name ≡ front_on old name + 1
+    front_done = ap length (results_opens (is_new_to old.me made name) (telling.opened name)) ∙ ap (λ b. length (results_by (after name b))) (name_equality.reflexive name) ∙ longer (old.opened name) is
+
+-- HARVESTS
+
+module _ (old new : NodeView) (name : Name) where
+  later_by : (b : Bool) (next : Option Finished) (result : Result Harvest OutOfMemory) → next_result old name ≡ next → Harvests b name next result old new → Later old new
+  later_by false next result e h = later_same old new h.1
+  later_by true (Some f) (Ok (Done call)) e h = subst (λ x. Later old x) (sym h.1) (later_done old name f e (children_on old.board name (front_on old name)))
+  later_by true (Some f) (Ok NotYet) e h = absurd h
+  later_by true (Some f) (Ok NotOpened) e h = absurd h
+  later_by true None (Ok (Done call)) e h = absurd h
+  later_by true None (Ok NotYet) e h = later_same old new h
+  later_by true None (Ok NotOpened) e h = absurd h
+  later_by true None (Err x) e h = absurd h
+  later_by true (Some f) (Err x) e h = later_same old new h
+
+  pub later_harvest : (result : Result Harvest OutOfMemory) → Harvests (is_some (old.opened name)) name (next_result old name) result old new → Later old new
+  later_harvest result h = later_by (is_some (old.opened name)) (next_result old name) result refl h
+
+  front_by : (b : Bool) (next : Option Finished) (call : ℕ) → next_result old name ≡ next → Harvests b name next (Ok (Done call)) old new → front_on new name ≡ front_on old name + 1
+  front_by false next call e h = cc (h.0)
+  front_by true (Some f) call e h = ap (λ x. front_on x name) h.1 ∙ front_done old name f e (children_on old.board name (front_on old name))
+  front_by true None call e h = absurd h
+
+  -- each that is done is one more result
+  pub front_harvest : (call : ℕ) → Harvests (is_some (old.opened name)) name (next_result old name) (Ok (Done call)) old new → front_on new name ≡ front_on old name + 1
+  front_harvest call h = front_by (is_some (old.opened name)) (next_result old name) call refl h
+
+  none_by : (o : Option OpenedView) (next : Option Finished) → next_of o old.board name old.me ≡ next → Harvests (is_some o) name next (Ok NotYet) old new → (next ≡ None) × (new ≡ old)
+  none_by None next e h = cc (h.0)
+  none_by (Some o) None e h = (refl, h)
+  none_by (Some o) (Some f) e h = absurd h
+
+  -- where none is done yet, there is none
+  pub none_harvest : Harvests (is_some (old.opened name)) name (next_result old name) (Ok NotYet) old new → (next_result new name ≡ None)
+  none_harvest h = let both = none_by (old.opened name) (next_result old name) refl h in ap (λ x. next_result x name) both.1 ∙ both.0
+
+  closed_by : (o : Option OpenedView) (next : Option Finished) → next_of o old.board name old.me ≡ next → Harvests (is_some o) name next (Ok NotOpened) old new → (next ≡ None) × (new ≡ old)
+  closed_by None next e h = (sym e, h.1)
+  closed_by (Some o) None e h = absurd h
+  closed_by (Some o) (Some f) e h = absurd h
+
+  pub closed_harvest : Harvests (is_some (old.opened name)) name (next_result old name) (Ok NotOpened) old new → (next_result new name ≡ None)
+  closed_harvest h = let both = closed_by (old.opened name) (next_result old name) refl h in ap (λ x. next_result x name) both.1 ∙ both.0
+
+-- no result is past the last
+past_last : {A : Type 0} (xs : List A) (k : ℕ) → None ≡ slice_get xs k → length xs ≤ k
+past_last xs k e = elim (slice_get_cases xs k).1 [ inl there ↦ cc (e, there.2) | inr past ↦ past.0 ]
+
+-- so there is less to harvest up to a call that has none
+pub less_left : (old new : NodeView) (name : Name) (call k : ℕ) (h : Harvest) → h ≡ Done k → None ≡ result_at old name call → Harvests (is_some (old.opened name)) name (next_result old name) (Ok h) old new → call + 1 - front_on new name < call + 1 - front_on old name
+less_left old new name call k h is e done =
+    let more : front_on new name ≡ front_on old name + 1 = front_harvest old new name k (subst (λ x. Harvests (is_some (old.opened name)) name (next_result old name) (Ok x) old new) is done) in
+    omega (arith, more, past_last (results_on old name) call e)
+
+-- what is told is held
+pub held_added : (c d : Context) (k p : ℕ) (given : Given) → d.posts k p ≡ known given → IsHeld (join_contexts c d) k p given
+held_added c d k p given e = record {
+  held = λ l. by_test (nat_le (max c.dropped d.dropped) k) refl l;
+  gone = λ l. let no : nat_le (max c.dropped d.dropped) k ≡ false = grind (arith, nat_tests) in ap (λ b. cond b (flat_join same_given (c.posts k p) (d.posts k p)) unknown) no;
+} where
+  by_test : (b : Bool) → nat_le (max c.dropped d.dropped) k ≡ b → max c.dropped d.dropped ≤ k → flat_leq same_given (known given) (cond b (flat_join same_given (c.posts k p) (d.posts k p)) unknown) ≡ true
+  by_test true t l = subst (λ v. flat_leq same_given v (flat_join same_given (c.posts k p) (d.posts k p)) ≡ true) e (posts_bound.above_second (c.posts k p) (d.posts k p))
+  by_test false t l = absurd (grind (arith, nat_tests))
+
+-- a part that is taken or not
+pub later_takes : {E : Type 0} (r : Result (Unit {0}) E) (part : Look) (old new : NodeView) → OnOk r (new ≡ learn part old) → OnErr r (new ≡ old) → Later old new
+later_takes (Ok u) part old new ok err = subst (Later old) (sym ok) (later_learns part old)
+later_takes (Err e) part old new ok err = later_same old new err

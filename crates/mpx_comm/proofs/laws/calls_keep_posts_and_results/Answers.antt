@@ -1,0 +1,26 @@
+use Rattle.mpx_node.specs.Nodes.{NodeView, gathers_on, learn}
+use Rattle.mpx_comm.specs.Keeps.{Keeps}
+use Rattle.mpx_comm.specs.Later.{Later}
+use Rattle.mpx_comm.proofs.Steps.{later_gathers, later_harvest, later_learns}
+use Rattle.mpx_comm.proofs.laws.calls_keep_posts_and_results.Goals as goal
+
+keeps : (old now : NodeView) → Later old now → Keeps old now
+keeps old now l = record { stored = l.stored; own = l.own }
+
+pub returns-clause-later : goal.returns-clause-later
+returns-clause-later c old now l = keeps old now l
+
+pub returns-clause-posts : goal.returns-clause-posts
+returns-clause-posts c old now name draft h = record { stored = h.stored; own = h.kept }
+
+pub returns-clause-gatherings : goal.returns-clause-gatherings
+returns-clause-gatherings c old now parent tag ranks answer h = keeps old now (later_gathers parent (gathers_on old parent tag ranks) answer old now h)
+
+pub returns-clause-harvests : goal.returns-clause-harvests
+returns-clause-harvests c old now name answer h = keeps old now (later_harvest old now name answer h)
+
+pub returns-clause-boards : goal.returns-clause-boards
+returns-clause-boards c old part = keeps old (learn part old) (later_learns part old)
+
+pub returns-clause-chain : goal.returns-clause-chain
+returns-clause-chain c old between now x y = record { stored = λ n k f e. y.stored n k f (x.stored n k f e); own = λ n k g o. y.own n k g (x.own n k g o) }

@@ -1,0 +1,26 @@
+use Rattle.std.proofs.Common.{◌≡◌, ◌-◌, ◌<◌, arith}
+use Rattle.mpx_comm.specs.Requests.{AreResults, OneIsPending}
+use Rattle.mpx_comm.proofs.Steps.{later_more}
+use Rattle.mpx_comm.proofs.Turns.{awaits_look, awaits_end, awaits_turn}
+use Rattle.mpx_comm.proofs.look.await_all.Goals as goal
+
+pub returns-in-Some-clause-found : goal.returns-in-Some-clause-found
+returns-in-Some-clause-found g c =
+    let found : AreResults (g.H.Host.node c.look_all.new.host) c.args.requests.now c.in-Some.all.items = rw c.in-Some.is at c.in_ok-all.ensures.found in
+    (found, (c.args.turns - c.loop-all.left, omega arith, awaits_look g.H.Host.turned g.met.H.Host.turns_more g.H.Host.node (λ node. OneIsPending node c.args.requests.now) c.args.host.now c.loop-all.host c.look_all.new.host (c.args.turns - c.loop-all.left) c.loop-all.invariant.awaited c.look_all.ensures.no_turn c.look_all.ensures.later))
+
+pub loop-all-preserved : goal.loop-all-preserved
+loop-all-preserved g c =
+    let some : 0 < c.loop-all.left = grind (arith, c.if-left-eq0.false) in
+    let pending : OneIsPending (g.H.Host.node c.look_all.new.host) c.args.requests.now = rw c.in_default.is at c.in_ok-all.ensures.found in
+    record {
+      later = later_more _ _ _ c.loop-all.invariant.later (later_more _ _ _ c.look_all.ensures.later c.turn.ensures.later);
+      awaited = awaits_turn g.H.Host.turned g.met.H.Host.turns_more g.H.Host.node (λ node. OneIsPending node c.args.requests.now) c.args.host.now c.loop-all.host c.look_all.new.host c.turn.new.self c.args.turns c.loop-all.left c.loop-all.invariant.few some c.loop-all.invariant.awaited c.look_all.ensures.no_turn c.look_all.ensures.later pending c.in_ok-turn.ensures.counted c.turn.ensures.later;
+      few = omega (arith, c.loop-all.invariant.few);
+    }
+
+pub returns-then-left-eq0-clause-found : goal.returns-then-left-eq0-clause-found
+returns-then-left-eq0-clause-found g c =
+    let end : c.loop-all.left ≡ 0 = grind (arith, c.if-left-eq0.true) in
+    let pending : OneIsPending (g.H.Host.node c.look_all.new.host) c.args.requests.now = rw c.in_default.is at c.in_ok-all.ensures.found in
+    (pending, awaits_end g.H.Host.turned g.met.H.Host.turns_more g.H.Host.node (λ node. OneIsPending node c.args.requests.now) c.args.host.now c.loop-all.host c.look_all.new.host c.args.turns c.loop-all.left end c.loop-all.invariant.awaited c.look_all.ensures.no_turn c.look_all.ensures.later)

@@ -1,0 +1,27 @@
+use Rattle.std.proofs.Common.{◌≡◌, ◌-◌, ◌<◌, Some, arith}
+use Rattle.mpx_comm.specs.Later.{IsPending}
+use Rattle.mpx_comm.specs.Requests.{result_of}
+use Rattle.mpx_comm.proofs.Steps.{later_more}
+use Rattle.mpx_comm.proofs.Turns.{awaits_look, awaits_end, awaits_turn}
+use Rattle.mpx_comm.proofs.look.await_one.Goals as goal
+
+pub returns-in-Some-clause-found : goal.returns-in-Some-clause-found
+returns-in-Some-clause-found g c =
+    let found : result_of (g.H.Host.node c.look.new.host) c.args.request.now ≡ Some c.in-Some.finished = rw c.in-Some.is at c.in_ok-finished.ensures.found in
+    (found, (c.args.turns - c.loop-finished.left, omega arith, awaits_look g.H.Host.turned g.met.H.Host.turns_more g.H.Host.node (λ node. IsPending node c.args.request.now.name c.args.request.now.call) c.args.host.now c.loop-finished.host c.look.new.host (c.args.turns - c.loop-finished.left) c.loop-finished.invariant.awaited c.look.ensures.no_turn c.look.ensures.later))
+
+pub loop-finished-preserved : goal.loop-finished-preserved
+loop-finished-preserved g c =
+    let some : 0 < c.loop-finished.left = grind (arith, c.if-left-eq0.false) in
+    let pending : IsPending (g.H.Host.node c.look.new.host) c.args.request.now.name c.args.request.now.call = rw c.in_default.is at c.in_ok-finished.ensures.found in
+    record {
+      later = later_more _ _ _ c.loop-finished.invariant.later (later_more _ _ _ c.look.ensures.later c.turn.ensures.later);
+      awaited = awaits_turn g.H.Host.turned g.met.H.Host.turns_more g.H.Host.node (λ node. IsPending node c.args.request.now.name c.args.request.now.call) c.args.host.now c.loop-finished.host c.look.new.host c.turn.new.self c.args.turns c.loop-finished.left c.loop-finished.invariant.few some c.loop-finished.invariant.awaited c.look.ensures.no_turn c.look.ensures.later pending c.in_ok-turn.ensures.counted c.turn.ensures.later;
+      few = omega (arith, c.loop-finished.invariant.few);
+    }
+
+pub returns-then-left-eq0-clause-found : goal.returns-then-left-eq0-clause-found
+returns-then-left-eq0-clause-found g c =
+    let end : c.loop-finished.left ≡ 0 = grind (arith, c.if-left-eq0.true) in
+    let pending : IsPending (g.H.Host.node c.look.new.host) c.args.request.now.name c.args.request.now.call = rw c.in_default.is at c.in_ok-finished.ensures.found in
+    (pending, awaits_end g.H.Host.turned g.met.H.Host.turns_more g.H.Host.node (λ node. IsPending node c.args.request.now.name c.args.request.now.call) c.args.host.now c.loop-finished.host c.look.new.host c.args.turns c.loop-finished.left end c.loop-finished.invariant.awaited c.look.ensures.no_turn c.look.ensures.later)

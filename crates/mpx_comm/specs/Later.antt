@@ -1,0 +1,42 @@
+-- What stays of a node as time passes without posts of its own.
+use Rattle.std.specs.Prelude.{◌≡◌, ℕ, ◌<◌, ◌≤◌, true, Option, Some, None, slice_get}
+use Rattle.join_core.specs.Flat.{known, unknown, flat_leq}
+use Rattle.mpx_name.specs.Name.{Name}
+use Rattle.mpx_post.specs.Posts.{Given}
+use Rattle.mpx_post.specs.Equality.{same_given}
+use Rattle.mpx_board.specs.Boards.{Context}
+use Rattle.mpx_node.specs.declared.finished.Finished.{Finished}
+use Rattle.mpx_node.specs.Nodes.{NodeView, posted_on, results_on, next_result}
+
+-- the stored result of a call
+abbrev pub result_at : NodeView → Name → (call : ℕ) → Option Finished
+result_at node name call = slice_get (results_on node name) call
+
+-- the process's post of the call is there, or something else was told beside it, or it is dropped
+pub record IsHeld (context : Context) (call process : ℕ) (given : Given) : Type 0 where
+  pub held : context.dropped ≤ call → flat_leq same_given (known given) (context.posts call process) ≡ true
+  pub gone : call < context.dropped → context.posts call process ≡ unknown
+
+-- what the process posted as this call is this, and so its result says
+pub record IsOwn (node : NodeView) (name : Name) (call : ℕ) (given : Given) : Type 0 where
+  pub held : IsHeld (node.board.contexts name) call node.me given
+  pub mine : (finished : Finished) → result_at node name call ≡ Some finished → finished.mine ≡ given
+
+-- it has posted nothing, what was stored is stored, and what was its post is its post
+pub record Later (old new : NodeView) : Type 0 where
+  pub me : new.me ≡ old.me
+  pub posted : (name : Name) → posted_on new name ≡ posted_on old name
+  pub stored : (name : Name) (call : ℕ) (finished : Finished) → result_at old name call ≡ Some finished → result_at new name call ≡ Some finished
+  pub own : (name : Name) (call : ℕ) (given : Given) → IsOwn old name call given → IsOwn new name call given
+
+-- the call has no result, and the next one on its context can't be had
+pub record IsPending (node : NodeView) (name : Name) (call : ℕ) : Type 0 where
+  pub none : result_at node name call ≡ None
+  pub next : next_result node name ≡ None
+
+-- at some moment between the two the call was not done
+pub record WasPending (old new : NodeView) (name : Name) (call : ℕ) : Type 0 where
+  pub moment : NodeView
+  pub after : Later old moment
+  pub before : Later moment new
+  pub pending : IsPending moment name call

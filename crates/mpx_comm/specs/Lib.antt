@@ -1,0 +1,7 @@
+pub mod Later
+pub mod Turns
+pub mod Requests
+pub mod Lines
+pub mod Counts
+pub mod Keeps
+pub mod Comms

@@ -1,0 +1,137 @@
+-- Requests, and the open ones in order of posting.
+use Rattle.std.specs.Prelude.{◌≡◌, ℕ, ℤ, ◌<◌, ◌≤◌, ◌==◌, ◌&&◌, ◌++◌, ◌⊎◌, Bool, List, [], ◌∷◌, Vec, Result, Ok, Err, IsOk, Option, Some, None, map, remove, slice_get, length}
+use Rattle.std.specs.declared.alloc.Global.{Global}
+use Rattle.std.specs.declared.alloc.AllocFailed.{AllocFailed}
+use Rattle.std.specs.Set.{remove_key}
+use Rattle.std.specs.List.{fold}
+use Rattle.join_core.specs.declared.memory.OutOfMemory.{OutOfMemory}
+use Rattle.mpx_name.specs.Name.{Name, same_name}
+use Rattle.mpx_post.specs.Posts.{Given}
+use Rattle.mpx_post.specs.Drafts.{given_by}
+use Rattle.mpx_post.specs.declared.draft.Draft.{Draft}
+use Rattle.mpx_post.specs.declared.draft.PostError.{PostError}
+use Rattle.mpx_post.specs.declared.draft.PostError.TheVariants as R
+use Rattle.mpx_node.specs.declared.finished.Finished.{Finished}
+use Rattle.mpx_node.specs.Nodes.{NodeView, Opens, posted_on, post_at, checked_on, gathers_on}
+use Rattle.mpx_comm.specs.declared.request.Request.{Request}
+use Rattle.mpx_comm.specs.declared.answers.Tested.{Tested}
+use Rattle.mpx_comm.specs.declared.answers.Tested.TheVariants.{Done, NotYet}
+use Rattle.mpx_comm.specs.declared.answers.WaitError.{WaitError}
+use Rattle.mpx_comm.specs.declared.answers.WaitError.TheVariants.{StillWaiting, OutOfMemory as NoMemory}
+use Rattle.mpx_comm.specs.declared.answers.CallError.{CallError}
+use Rattle.mpx_comm.specs.declared.answers.CallError.TheVariants as C
+use Rattle.mpx_comm.specs.Later.{result_at, IsOwn, IsPending, WasPending}
+use Rattle.mpx_comm.specs.Lines.{create_group}
+
+abbrev pub same_request : Request → Request → Bool
+same_request a b = same_name a.name b.name && (a.call == b.call)
+
+-- the open requests without this one
+abbrev pub close : List Request → Request → List Request
+close rs request = remove_key (same_request request) rs
+
+abbrev pub close_all : List Request → List Request → List Request
+close_all rs requests = fold close rs requests
+
+-- the stored result of its call
+abbrev pub result_of : NodeView → Request → Option Finished
+result_of node request = result_at node request.name request.call
+
+-- each was posted here
+abbrev pub ArePosted : NodeView → List Request → Type 0
+ArePosted node rs = (i : ℕ) (request : Request) → slice_get rs i ≡ Some request → request.call < posted_on node request.name
+
+-- POSTS
+
+-- just the draft is posted since, as the next call on the context, and what was stored or posted before stays
+pub record HasPosted (name : Name) (draft : Draft) (old new : NodeView) : Type 0 where
+  pub accepted : checked_on old name draft ≡ Ok (given_by draft)
+  pub own : IsOwn new name (posted_on old name) (given_by draft)
+  pub posted : (n : Name) → posted_on new n ≡ posted_on (post_at name (given_by draft) old) n
+  pub stored : (n : Name) (call : ℕ) (finished : Finished) → result_at old n call ≡ Some finished → result_at new n call ≡ Some finished
+  pub kept : (n : Name) (call : ℕ) (given : Given) → IsOwn old n call given → IsOwn new n call given
+
+-- the next call on a context
+abbrev pub next_call : NodeView → Name → Request
+next_call node name = record { name = name; call = posted_on node name }
+
+-- the draft's refusal, or want of memory where it has none
+abbrev pub IsRefusal : Result Given PostError → PostError → Type 0
+IsRefusal checked e = (checked ≡ Err e) ⊎ ((e ≡ R.OutOfMemory) × IsOk checked)
+
+-- a post is that of the draft, and its request is the last open one; or it is refused, and nothing changes
+abbrev pub Asks : Name → Draft → Result Request PostError → (old new : NodeView) → (before after : List Request) → Type 0
+Asks name draft (Ok request) old new before after = (request ≡ next_call old name) × HasPosted name draft old new × (after ≡ before ++ request ∷ [])
+Asks name draft (Err e) old new before after = IsRefusal (checked_on old name draft) e × (new ≡ old) × (after ≡ before)
+
+-- the same of a call that makes its draft itself: there may be no memory to do so, whatever the draft would come to
+abbrev pub Starts : Name → Draft → Result Request PostError → (old new : NodeView) → (before after : List Request) → Type 0
+Starts name draft (Ok request) old new before after = (request ≡ next_call old name) × HasPosted name draft old new × (after ≡ before ++ request ∷ [])
+Starts name draft (Err e) old new before after = ((checked_on old name draft ≡ Err e) ⊎ (e ≡ R.OutOfMemory)) × (new ≡ old) × (after ≡ before)
+
+-- TESTS
+
+-- a test is done just where the call's result is stored, and then closes it
+abbrev pub Tests : Request → Result (Tested Finished Request) (AllocFailed Request) → NodeView → (before after : List Request) → Type 0
+Tests request (Ok (Done finished)) node before after = (result_of node request ≡ Some finished) × (after ≡ close before request)
+Tests request (Ok (NotYet back)) node before after = (back ≡ request) × IsPending node request.name request.call × (after ≡ before)
+Tests request (Err refused) node before after = (refused.value ≡ request) × (after ≡ before)
+
+-- one of them isn't done
+abbrev pub OneIsPending : NodeView → List Request → Type 0
+OneIsPending node requests = (i : ℕ) × (request : Request) × (slice_get requests i ≡ Some request) × IsPending node request.name request.call
+
+-- these are the stored results of all of them, in their order
+abbrev pub AreResults : NodeView → List Request → List Finished → Type 0
+AreResults node requests all = map (result_of node) requests ≡ map Some all
+
+-- a test of many closes all or none
+abbrev pub TestsAll : List Request → Result (Tested (Vec Finished Global) (Vec Request Global)) (AllocFailed (Vec Request Global)) → NodeView → (before after : List Request) → Type 0
+TestsAll requests (Ok (Done all)) node before after = AreResults node requests all.items × (after ≡ close_all before requests)
+TestsAll requests (Ok (NotYet back)) node before after = (back.items ≡ requests) × OneIsPending node requests × (after ≡ before)
+TestsAll requests (Err refused) node before after = (refused.value.items ≡ requests) × (after ≡ before)
+
+-- each of the first so many was not done at some moment
+abbrev pub WerePending : (old new : NodeView) → (number : ℕ) → List Request → Type 0
+WerePending old new number requests = (i : ℕ) (request : Request) → i < number → slice_get requests i ≡ Some request → WasPending old new request.name request.call
+
+-- the first open request that is done is closed, or none is done
+abbrev pub TestsAny : Result (Option (Request × Finished)) OutOfMemory → (old new : NodeView) → (before after : List Request) → Type 0
+TestsAny (Ok (Some (request, finished))) old new before after =
+    (place : ℕ) × (slice_get before place ≡ Some request) × WerePending old new place before × (result_of new request ≡ Some finished) × (after ≡ remove before place)
+TestsAny (Ok None) old new before after = WerePending old new (length before) before × (after ≡ before)
+TestsAny (Err e) old new before after = after ≡ before
+
+-- WAITS
+
+-- a wait ends with the result after at most so many turns, or without it after just so many
+abbrev pub Waits : Request → (turns : ℕ) → (made : ℕ → Type 0) → Result Finished (WaitError Request) → NodeView → (before after : List Request) → Type 0
+Waits request turns made (Ok finished) node before after = (result_of node request ≡ Some finished) × ((n : ℕ) × (n ≤ turns) × made n) × (after ≡ close before request)
+Waits request turns made (Err (StillWaiting back)) node before after = (back ≡ request) × IsPending node request.name request.call × made turns × (after ≡ before)
+Waits request turns made (Err (NoMemory back)) node before after = (back ≡ request) × (after ≡ before)
+
+abbrev pub WaitsAll : List Request → (turns : ℕ) → (made : ℕ → Type 0) → Result (Vec Finished Global) (WaitError (Vec Request Global)) → NodeView → (before after : List Request) → Type 0
+WaitsAll requests turns made (Ok all) node before after = AreResults node requests all.items × ((n : ℕ) × (n ≤ turns) × made n) × (after ≡ close_all before requests)
+WaitsAll requests turns made (Err (StillWaiting back)) node before after = (back.items ≡ requests) × OneIsPending node requests × made turns × (after ≡ before)
+WaitsAll requests turns made (Err (NoMemory back)) node before after = (back.items ≡ requests) × (after ≡ before)
+
+-- BLOCKING CALLS
+
+-- a blocking call is a post and a wait: its result says the draft's post; where it doesn't come, its request is handed out, still open
+abbrev pub Calls : Name → Draft → (turns : ℕ) → (made : ℕ → Type 0) → Result Finished CallError → (old new : NodeView) → (before after : List Request) → Type 0
+Calls name draft turns made (Ok finished) old new before after =
+    HasPosted name draft old new × (result_of new (next_call old name) ≡ Some finished) × (finished.mine ≡ given_by draft) × ((n : ℕ) × (n ≤ turns) × made n) × (after ≡ close (before ++ next_call old name ∷ []) (next_call old name))
+Calls name draft turns made (Err (C.Refused e)) old new before after = Starts name draft (Err e) old new before after × made 0
+Calls name draft turns made (Err (C.StillWaiting request)) old new before after =
+    (request ≡ next_call old name) × HasPosted name draft old new × IsPending new request.name request.call × made turns × (after ≡ before ++ request ∷ [])
+Calls name draft turns made (Err (C.OutOfMemory request)) old new before after = (request ≡ next_call old name) × HasPosted name draft old new × (after ≡ before ++ request ∷ [])
+
+-- the gathering isn't opened, and nothing changes
+abbrev pub IsNotGathered : (parent : Name) → (tag : ℤ) → (ranks : List ℤ) → (made : ℕ → Type 0) → Result Finished CallError → (old new : NodeView) → (before after : List Request) → Type 0
+IsNotGathered parent tag ranks made result old new before after =
+    (e : PostError) × (result ≡ Err (C.Refused e)) × Opens parent (gathers_on old parent tag ranks) (Err e) old new × made 0 × (after ≡ before)
+
+-- the gathering is opened, and stays so; then the call is one on it
+abbrev pub CallsGathered : (parent : Name) → (tag : ℤ) → (ranks : List ℤ) → (turns : ℕ) → (made : ℕ → Type 0) → Result Finished CallError → (old new : NodeView) → (before after : List Request) → Type 0
+CallsGathered parent tag ranks turns made result old new before after =
+    (name : Name) × (opened : NodeView) × Opens parent (gathers_on old parent tag ranks) (Ok name) old opened × Calls name create_group turns made result opened new before after

@@ -1,0 +1,17 @@
+-- Turns, and looks between them.
+use Rattle.std.specs.Prelude.{ℕ, zero, suc}
+use Rattle.mpx_node.specs.Nodes.{NodeView}
+use Rattle.mpx_comm.specs.Later.{Later}
+
+-- from one state of a host to a later one by so many turns
+abbrev pub Moves : {H : Type 0} → (node : H → NodeView) → (turned : H → ℕ → H → Type 0) → H → ℕ → H → Type 0
+Moves node turned a n b = turned a n b × Later (node a) (node b)
+
+-- so many turns, and just before each of them a look at which it was pending
+abbrev pub Looks : {H : Type 0} → (node : H → NodeView) → (turned : H → ℕ → H → Type 0) → (is_pending : NodeView → Type 0) → H → ℕ → H → Type 0
+Looks {H} node turned is_pending a zero b = Moves node turned a 0 b
+Looks {H} node turned is_pending a (suc n) b = (look : H) × Looks node turned is_pending a n look × is_pending (node look) × Moves node turned look 1 b
+
+-- so many turns in all, each after such a look
+abbrev pub Awaits : {H : Type 0} → (node : H → NodeView) → (turned : H → ℕ → H → Type 0) → (is_pending : NodeView → Type 0) → H → ℕ → H → Type 0
+Awaits node turned is_pending a n b = turned a n b × Looks node turned is_pending a n b

@@ -1,0 +1,93 @@
+ghost use Rattle.std.specs.Prelude.{◌≡◌, OnOk, OnErr, is_some};
+ghost use Rattle.mpx_board.specs.Boards.{only, floor_on, Dropped};
+ghost use Rattle.mpx_board.specs.Changes.{pruned};
+ghost use Rattle.mpx_board.specs.Looks.{look};
+ghost use Rattle.mpx_node.specs.Bounded.{node_bounded};
+ghost use Rattle.mpx_node.specs.Harvests.{Harvests};
+ghost use Rattle.mpx_node.specs.Nodes.{learn, next_result};
+
+use crate::desk::Desk;
+use crate::host::Host;
+use join_core::OutOfMemory;
+use mpx_board::{Board, PruneError};
+use mpx_name::Name;
+use mpx_node::{Finished, Harvest, Node};
+use mpx_post::{Draft, PostError};
+use std::alloc::Global;
+
+/// A node that hears of nobody in a turn: whoever has it takes the others' boards.
+impl Host for Node {
+    ghost use Rattle.mpx_node.specs.Shown.{node_of};
+
+    ghost node = { node_of };
+
+    ghost turned = { λ a n b. Unit {0} };
+
+    fn post(&mut self, alloc: Global, name: &Name, draft: Draft) -> Result<u32, PostError> {
+        Node::post(self, alloc, name, draft)
+    }
+
+    fn refusal(&self, name: &Name, draft: &Draft) -> Option<PostError> {
+        Node::refusal(self, name, draft)
+    }
+
+    fn open_gathering(
+        &mut self,
+        alloc: Global,
+        parent: &Name,
+        tag: i128,
+        ranks: &[i128],
+    ) -> Result<Name, PostError> {
+        Node::open_gathering(self, alloc, parent, tag, ranks)
+    }
+
+    fn harvest(&mut self, alloc: Global, name: &Name) -> Result<Harvest, OutOfMemory> {
+        Node::harvest(self, alloc, name)
+    }
+
+    fn result(&self, name: &Name, call: u32) -> Option<&Finished> {
+        Node::result(self, name, call)
+    }
+
+    fn turn(&mut self, _alloc: Global) -> Result<(), OutOfMemory> {
+        Ok(())
+    }
+
+    ghost bounded = { node_bounded };
+
+    ghost turns_none = { λ h. tt };
+
+    ghost turns_more = { λ a b c m n x y. tt };
+}
+
+/// What the user of a node alone does for it between the calls.
+impl Desk<Node> {
+    ghost use Rattle.mpx_node.specs.Shown.{node_of};
+
+    /// Joins a part to the node's board. An `Err` changes nothing.
+    pub fn take(&mut self, alloc: Global, part: &Board) -> Result<(), OutOfMemory>
+        ensures ok { OnOk result (node_of self.new.host ≡ learn (look part.now) (node_of self.old.host)) }
+        ensures err { OnErr result (node_of self.new.host ≡ node_of self.old.host) }
+        ensures requests { self.new.requests.keys ≡ self.old.requests.keys }
+    {
+        self.host.take(alloc, part)
+    }
+
+    /// Harvests the next call on a context, as the node does.
+    pub fn harvest(&mut self, alloc: Global, name: &Name) -> Result<Harvest, OutOfMemory>
+        ensures harvests { Harvests (is_some ((node_of self.old.host).opened name.now)) name.now (next_result (node_of self.old.host) name.now) result (node_of self.old.host) (node_of self.new.host) }
+        ensures requests { self.new.requests.keys ≡ self.old.requests.keys }
+    {
+        self.host.harvest(alloc, name)
+    }
+
+    /// Drops the posts of calls below the number on a context, which is at most the floor. It takes no memory.
+    pub fn prune(&mut self, name: &Name, number: u32) -> Result<(), PruneError>
+        ensures answer { result ≡ pruned (floor_on (node_of self.old.host).board name.now) number }
+        ensures ok { OnOk result (node_of self.new.host ≡ learn (only (Dropped name.now number)) (node_of self.old.host)) }
+        ensures err { OnErr result (node_of self.new.host ≡ node_of self.old.host) }
+        ensures requests { self.new.requests.keys ≡ self.old.requests.keys }
+    {
+        self.host.prune(name, number)
+    }
+}

@@ -1,0 +1,70 @@
+ghost use Rattle.std.specs.Prelude.{◌≡◌, ◌<◌, ◌≤◌, [], IfOk};
+ghost use Rattle.mpx_comm.specs.Comms.{comm_of};
+
+use join_core::{Exact, OutOfMemory};
+use mpx_name::Name;
+use mpx_node::Finished;
+use mpx_value::Outcome;
+use std::alloc::Global;
+
+/// A communicator as one of its members has it.
+#[derive(Debug, Drop)]
+pub struct Comm {
+    pub(crate) name: Name,
+    size: u8,
+    rank: u8,
+}
+
+impl Comm {
+    /// `MPI_COMM_WORLD` of so many ranks, at the one with this rank.
+    pub fn world(alloc: Global, size: u8, rank: u8) -> Comm
+        requires small { size ≤ 64 }
+        requires member { rank < size }
+        ensures { result ≡ record { name = []; size = size; rank = rank } }
+    {
+        Comm {
+            name: Name::world(alloc),
+            size,
+            rank,
+        }
+    }
+
+    /// The new communicator that a call gave the process, where it gave one: not the null communicator, nor a fault.
+    pub fn of(alloc: Global, finished: &Finished) -> Result<Option<Comm>, OutOfMemory>
+        ensures { IfOk result (λ comm. comm ≡ comm_of finished.now.outcome) }
+    {
+        match &finished.outcome {
+            Outcome::NewComm { name, size, rank } => Ok(Some(Comm {
+                name: name.copy(alloc)?,
+                size: *size,
+                rank: *rank,
+            })),
+            Outcome::Nothing => Ok(None),
+            Outcome::Absent => Ok(None),
+            Outcome::Items(_) => Ok(None),
+            Outcome::Null => Ok(None),
+            Outcome::Fault(_) => Ok(None),
+        }
+    }
+
+    /// The name of its context.
+    pub fn name(&self) -> &Name
+        ensures { result.now ≡ self.now.name }
+    {
+        &self.name
+    }
+
+    /// How many members it has (`MPI_COMM_SIZE`, MPI 4.1 section 7.4.1).
+    pub fn size(&self) -> u8
+        ensures { result ≡ self.now.size }
+    {
+        self.size
+    }
+
+    /// The rank of the member who has it (`MPI_COMM_RANK`, MPI 4.1 section 7.4.1).
+    pub fn rank(&self) -> u8
+        ensures { result ≡ self.now.rank }
+    {
+        self.rank
+    }
+}

@@ -1,0 +1,111 @@
+// The calls that make communicators, which all block. Each is a draft that is posted and waited for; where there is no
+// memory for the draft, that is told before a refusal.
+ghost use Rattle.std.specs.Prelude.{◌≡◌, ◌⊎◌, Some};
+ghost use Rattle.mpx_comm.specs.Requests.{Calls, CallsGathered, IsNotGathered};
+ghost use Rattle.mpx_comm.specs.Lines as line;
+
+use crate::answers::CallError;
+use crate::comm::Comm;
+use crate::desk::Desk;
+use crate::host::Host;
+use crate::lines::{coloured, grouped, of_graph, plain};
+use mpx_node::Finished;
+use mpx_num::Numbers;
+use mpx_post::{Call, DraftedEdge, DraftedNeighbour, NewCommunicator};
+use std::alloc::Global;
+
+impl<H: Host> Desk<H> {
+    /// `MPI_COMM_DUP` (MPI 4.1 section 7.4.2): a new communicator of the same members, with the same topology.
+    pub fn dup(&mut self, alloc: Global, comm: &Comm, turns: u64) -> Result<Finished, CallError>
+        ensures { Calls comm.now.name line.dup turns (λ n. H.turned self.old.host n self.new.host) result (H.node self.old.host) (H.node self.new.host) self.old.requests.keys self.new.requests.keys }
+    {
+        let drafted = plain(alloc, Call::NewCommunicator(NewCommunicator::Dup));
+        self.call_on(alloc, &comm.name, drafted, turns)
+    }
+
+    /// `MPI_COMM_SPLIT` (MPI 4.1 section 7.4.2): a new communicator for each colour, none for `MPI_UNDEFINED`, ordered by key.
+    pub fn split(
+        &mut self,
+        alloc: Global,
+        comm: &Comm,
+        colour: Option<i128>,
+        key: i128,
+        turns: u64,
+    ) -> Result<Finished, CallError>
+        ensures { Calls comm.now.name (line.split colour key) turns (λ n. H.turned self.old.host n self.new.host) result (H.node self.old.host) (H.node self.new.host) self.old.requests.keys self.new.requests.keys }
+    {
+        let drafted = coloured(alloc, colour, key);
+        self.call_on(alloc, &comm.name, drafted, turns)
+    }
+
+    /// `MPI_COMM_CREATE` (MPI 4.1 section 7.4.2): a new communicator of the members with these ranks, in this order.
+    pub fn create(
+        &mut self,
+        alloc: Global,
+        comm: &Comm,
+        ranks: Numbers,
+        turns: u64,
+    ) -> Result<Finished, CallError>
+        ensures { Calls comm.now.name (line.create ranks) turns (λ n. H.turned self.old.host n self.new.host) result (H.node self.old.host) (H.node self.new.host) self.old.requests.keys self.new.requests.keys }
+    {
+        let drafted = grouped(alloc, ranks);
+        self.call_on(alloc, &comm.name, drafted, turns)
+    }
+
+    /// `MPI_COMM_CREATE_GROUP` (MPI 4.1 section 7.4.2), which the members with these ranks call alone. It opens their
+    /// gathering under the tag and posts there; a refused post keeps the gathering opened. The refusals of
+    /// [`Host::open_gathering`] come first, and want of memory may come before a refusal of the post.
+    pub fn create_group(
+        &mut self,
+        alloc: Global,
+        comm: &Comm,
+        tag: i128,
+        ranks: &[i128],
+        turns: u64,
+    ) -> Result<Finished, CallError>
+        ensures { IsNotGathered comm.now.name tag ranks.now (λ n. H.turned self.old.host n self.new.host) result (H.node self.old.host) (H.node self.new.host) self.old.requests.keys self.new.requests.keys
+            ⊎ CallsGathered comm.now.name tag ranks.now turns (λ n. H.turned self.old.host n self.new.host) result (H.node self.old.host) (H.node self.new.host) self.old.requests.keys self.new.requests.keys }
+    {
+        match self.gather_on(alloc, &comm.name, tag, ranks) {
+            Err(refusal) => Err(CallError::Refused(refusal)),
+            Ok(name) => {
+                let drafted = plain(alloc, Call::NewCommunicator(NewCommunicator::CreateGroup));
+                self.call_on(alloc, &name, drafted, turns)
+            }
+        }
+    }
+
+    /// `MPI_DIST_GRAPH_CREATE` (MPI 4.1 section 8.5.4): each member gives any edges, also between others.
+    pub fn dist_graph(
+        &mut self,
+        alloc: Global,
+        comm: &Comm,
+        weighted: bool,
+        edges: Vec<DraftedEdge>,
+        turns: u64,
+    ) -> Result<Finished, CallError>
+        ensures { Calls comm.now.name (line.dist_graph weighted edges.items) turns (λ n. H.turned self.old.host n self.new.host) result (H.node self.old.host) (H.node self.new.host) self.old.requests.keys self.new.requests.keys }
+    {
+        let (sources, destinations) = (Vec::new(alloc), Vec::new(alloc));
+        let new = NewCommunicator::DistGraph;
+        let drafted = of_graph(alloc, new, weighted, edges, sources, destinations);
+        self.call_on(alloc, &comm.name, drafted, turns)
+    }
+
+    /// `MPI_DIST_GRAPH_CREATE_ADJACENT` (MPI 4.1 section 8.5.4): each member gives its own sources and destinations.
+    pub fn dist_graph_adjacent(
+        &mut self,
+        alloc: Global,
+        comm: &Comm,
+        weighted: bool,
+        sources: Vec<DraftedNeighbour>,
+        destinations: Vec<DraftedNeighbour>,
+        turns: u64,
+    ) -> Result<Finished, CallError>
+        ensures { Calls comm.now.name (line.dist_graph_adjacent weighted sources.items destinations.items) turns (λ n. H.turned self.old.host n self.new.host) result (H.node self.old.host) (H.node self.new.host) self.old.requests.keys self.new.requests.keys }
+    {
+        let new = NewCommunicator::DistGraphAdjacent;
+        let drafted = of_graph(alloc, new, weighted, Vec::new(alloc), sources, destinations);
+        self.call_on(alloc, &comm.name, drafted, turns)
+    }
+}

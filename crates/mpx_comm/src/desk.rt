@@ -1,0 +1,234 @@
+ghost use Rattle.std.specs.Prelude.{◌≡◌, ◌≤◌, [], ℕ, OnOk, IfOk};
+ghost use Rattle.mpx_node.specs.Nodes.{Opens, gathers_on};
+ghost use Rattle.mpx_post.specs.declared.draft.Draft.{Draft as DraftView};
+ghost use Rattle.mpx_comm.specs.Later.{Later, IsPending};
+ghost use Rattle.mpx_comm.specs.Turns.{Awaits};
+ghost use Rattle.mpx_comm.specs.Requests.{Asks, Calls, Starts, Tests, TestsAll, TestsAny, Waits, WaitsAll, ArePosted, OneIsPending};
+
+use crate::answers::{CallError, Tested, WaitError};
+use crate::comm::Comm;
+use crate::host::Host;
+use crate::look::{await_all, await_one, close_each, look, look_all, look_any};
+use crate::request::Request;
+use indexmap::IndexSet;
+use join_core::{Exact, OutOfMemory};
+use mpx_name::Name;
+use mpx_node::Finished;
+use mpx_post::{Draft, PostError};
+use std::alloc::{AllocFailed, Global};
+
+/// The user's calls over a host, and the requests that are open, in order of posting.
+#[derive(Drop)]
+pub struct Desk<H: Host> {
+    pub(crate) host: H,
+    pub(crate) requests: IndexSet<Request>,
+    ghost posted: { ArePosted (H.node host) requests.keys },
+}
+
+impl<H: Host> Desk<H> {
+    /// A desk without requests.
+    pub fn new(alloc: Global, host: H) -> Desk<H>
+        ensures host { result.host ≡ host }
+        ensures requests { result.requests.keys ≡ [] }
+    {
+        Desk {
+            host,
+            requests: IndexSet::new(alloc),
+        }
+    }
+
+    /// The host.
+    pub fn host(&self) -> &H
+        ensures { result.now ≡ self.now.host }
+    {
+        &self.host
+    }
+
+    /// The host, with which all requests go.
+    pub fn into_host(self) -> H
+        ensures { result ≡ self.host }
+    {
+        self.host
+    }
+
+    /// Posts the draft as the next call on the communicator. An `Err` changes nothing, and is want of memory only where the
+    /// draft isn't refused.
+    pub fn post(&mut self, alloc: Global, comm: &Comm, draft: Draft) -> Result<Request, PostError>
+        ensures asks { Asks comm.now.name draft result (H.node self.old.host) (H.node self.new.host) self.old.requests.keys self.new.requests.keys }
+        ensures no_turn { H.turned self.old.host 0 self.new.host }
+    {
+        self.post_on(alloc, &comm.name, draft)
+    }
+
+    /// Whether the call is done, after as many harvests as there are.
+    pub fn test(
+        &mut self,
+        alloc: Global,
+        request: Request,
+    ) -> Result<Tested<Finished, Request>, AllocFailed<Request>>
+        ensures tests { Tests request result (H.node self.new.host) self.old.requests.keys self.new.requests.keys }
+        ensures later { Later (H.node self.old.host) (H.node self.new.host) }
+        ensures no_turn { H.turned self.old.host 0 self.new.host }
+    {
+        match look(alloc, &mut self.host, &request) {
+            Err(_) => Err(AllocFailed { value: request }),
+            Ok(None) => Ok(Tested::NotYet(request)),
+            Ok(Some(finished)) => {
+                self.requests.shift_remove(&request);
+                Ok(Tested::Done(finished))
+            }
+        }
+    }
+
+    /// Whether all of these are done (`MPI_TESTALL`, MPI 4.1 section 3.7.5): all are closed, or none is.
+    pub fn testall(
+        &mut self,
+        alloc: Global,
+        requests: Vec<Request>,
+    ) -> Result<Tested<Vec<Finished>, Vec<Request>>, AllocFailed<Vec<Request>>>
+        ensures tests { TestsAll requests.items result (H.node self.new.host) self.old.requests.keys self.new.requests.keys }
+        ensures later { Later (H.node self.old.host) (H.node self.new.host) }
+        ensures no_turn { H.turned self.old.host 0 self.new.host }
+    {
+        match look_all(alloc, &mut self.host, &requests) {
+            Err(_) => Err(AllocFailed { value: requests }),
+            Ok(None) => Ok(Tested::NotYet(requests)),
+            Ok(Some(all)) => {
+                close_each(&mut self.requests, &requests);
+                Ok(Tested::Done(all))
+            }
+        }
+    }
+
+    /// The first open request in order of posting that is done, and its result (`MPI_TESTANY`, MPI 4.1 section 3.7.5). It is
+    /// closed; who hands it in later still gets the result.
+    pub fn testany(&mut self, alloc: Global) -> Result<Option<(Request, Finished)>, OutOfMemory>
+        ensures tests { TestsAny result (H.node self.old.host) (H.node self.new.host) self.old.requests.keys self.new.requests.keys }
+        ensures later { Later (H.node self.old.host) (H.node self.new.host) }
+        ensures no_turn { H.turned self.old.host 0 self.new.host }
+    {
+        match look_any(alloc, &mut self.host, self.requests.as_slice())? {
+            None => Ok(None),
+            Some((place, finished)) => {
+                let request = self.requests.shift_remove_index(place).unwrap();
+                Ok(Some((request, finished)))
+            }
+        }
+    }
+
+    /// Waits for the result for so many turns (`MPI_WAIT`, MPI 4.1 section 3.7.3): it looks once before the first and once
+    /// after each, and makes no turn after the look that finds it.
+    pub fn wait(
+        &mut self,
+        alloc: Global,
+        request: Request,
+        turns: u64,
+    ) -> Result<Finished, WaitError<Request>>
+        ensures waits { Waits request turns (λ n. Awaits H.node H.turned (λ node. IsPending node request.name request.call) self.old.host n self.new.host) result (H.node self.new.host) self.old.requests.keys self.new.requests.keys }
+        ensures later { Later (H.node self.old.host) (H.node self.new.host) }
+    {
+        match await_one(alloc, &mut self.host, &request, turns) {
+            Err(_) => Err(WaitError::OutOfMemory(request)),
+            Ok(None) => Err(WaitError::StillWaiting(request)),
+            Ok(Some(finished)) => {
+                self.requests.shift_remove(&request);
+                Ok(finished)
+            }
+        }
+    }
+
+    /// Waits for all their results for so many turns (`MPI_WAITALL`, MPI 4.1 section 3.7.5): it looks once before the first
+    /// and once after each, and makes no turn after the look that finds them all. All are closed, or none is.
+    pub fn waitall(
+        &mut self,
+        alloc: Global,
+        requests: Vec<Request>,
+        turns: u64,
+    ) -> Result<Vec<Finished>, WaitError<Vec<Request>>>
+        ensures waits { WaitsAll requests.items turns (λ n. Awaits H.node H.turned (λ node. OneIsPending node requests.items) self.old.host n self.new.host) result (H.node self.new.host) self.old.requests.keys self.new.requests.keys }
+        ensures later { Later (H.node self.old.host) (H.node self.new.host) }
+    {
+        match await_all(alloc, &mut self.host, &requests, turns) {
+            Err(_) => Err(WaitError::OutOfMemory(requests)),
+            Ok(None) => Err(WaitError::StillWaiting(requests)),
+            Ok(Some(all)) => {
+                close_each(&mut self.requests, &requests);
+                Ok(all)
+            }
+        }
+    }
+
+    // Posts the draft as the next call on the context.
+    fn post_on(&mut self, alloc: Global, name: &Name, draft: Draft) -> Result<Request, PostError>
+        ensures asks { Asks name.now draft result (H.node self.old.host) (H.node self.new.host) self.old.requests.keys self.new.requests.keys }
+        ensures no_turn { H.turned self.old.host 0 self.new.host }
+    {
+        if let Some(refusal) = self.host.refusal(name, &draft) {
+            return Err(refusal);
+        }
+        let Ok(mine) = name.copy(alloc) else {
+            return Err(PostError::OutOfMemory);
+        };
+        let Ok(twin) = name.copy(alloc) else {
+            return Err(PostError::OutOfMemory);
+        };
+        let Ok(()) = self.requests.reserve(1) else {
+            return Err(PostError::OutOfMemory);
+        };
+        let call = self.host.post(alloc, name, draft)?;
+        self.requests.insert(Request::new(twin, call)).unwrap();
+        Ok(Request::new(mine, call))
+    }
+
+    // Posts what was drafted as the next call on the context.
+    pub(crate) fn start_on(
+        &mut self,
+        alloc: Global,
+        name: &Name,
+        drafted: Result<Draft, OutOfMemory>,
+    ) -> Result<Request, PostError>
+        ensures starts { (draft : DraftView) → IfOk drafted (λ made. made ≡ draft) → Starts name.now draft result (H.node self.old.host) (H.node self.new.host) self.old.requests.keys self.new.requests.keys }
+        ensures no_turn { H.turned self.old.host 0 self.new.host }
+    {
+        match drafted {
+            Ok(draft) => self.post_on(alloc, name, draft),
+            Err(_) => Err(PostError::OutOfMemory),
+        }
+    }
+
+    // Posts what was drafted, and waits for its result for so many turns.
+    pub(crate) fn call_on(
+        &mut self,
+        alloc: Global,
+        name: &Name,
+        drafted: Result<Draft, OutOfMemory>,
+        turns: u64,
+    ) -> Result<Finished, CallError>
+        ensures { (draft : DraftView) → IfOk drafted (λ made. made ≡ draft) → Calls name.now draft turns (λ n. H.turned self.old.host n self.new.host) result (H.node self.old.host) (H.node self.new.host) self.old.requests.keys self.new.requests.keys }
+    {
+        let request = match self.start_on(alloc, name, drafted) {
+            Ok(request) => request,
+            Err(refusal) => return Err(CallError::Refused(refusal)),
+        };
+        match self.wait(alloc, request, turns) {
+            Ok(finished) => Ok(finished),
+            Err(WaitError::StillWaiting(request)) => Err(CallError::StillWaiting(request)),
+            Err(WaitError::OutOfMemory(request)) => Err(CallError::OutOfMemory(request)),
+        }
+    }
+
+    // Opens the gathering with this tag of the members with these ranks.
+    pub(crate) fn gather_on(
+        &mut self,
+        alloc: Global,
+        parent: &Name,
+        tag: i128,
+        ranks: &[i128],
+    ) -> Result<Name, PostError>
+        ensures opens { Opens parent.now (gathers_on (H.node self.old.host) parent.now tag ranks.now) result (H.node self.old.host) (H.node self.new.host) }
+        ensures no_turn { H.turned self.old.host 0 self.new.host }
+        ensures requests { self.new.requests.keys ≡ self.old.requests.keys }
+    {
+        self.host.open_gathering(alloc, parent, tag, ranks)
+    }
+}

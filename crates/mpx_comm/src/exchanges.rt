@@ -1,0 +1,172 @@
+// The calls that move items among all members. Each is a draft that is posted, and
+// waited for where it blocks; where there is no memory for the draft, that is told before a refusal.
+ghost use Rattle.std.specs.Prelude.{◌≡◌};
+ghost use Rattle.mpx_kind.specs.declared.kinds.Mode.TheVariants.{Blocking, Nonblocking};
+ghost use Rattle.mpx_comm.specs.Requests.{Calls, Starts};
+ghost use Rattle.mpx_comm.specs.Lines as line;
+
+use crate::answers::CallError;
+use crate::comm::Comm;
+use crate::desk::Desk;
+use crate::host::Host;
+use crate::lines::{Counts, of_items};
+use crate::request::Request;
+use mpx_node::Finished;
+use mpx_num::{Numbers, Ty};
+use mpx_post::{Call, Exchange, Mode, PostError};
+use std::alloc::Global;
+
+impl<H: Host> Desk<H> {
+    /// `MPI_ALLGATHER` (MPI 4.1 section 6.7): every member gives as many items.
+    pub fn allgather(
+        &mut self,
+        alloc: Global,
+        comm: &Comm,
+        ty: Ty,
+        items: Numbers,
+        turns: u64,
+    ) -> Result<Finished, CallError>
+        ensures { Calls comm.now.name (line.allgather Blocking ty items) turns (λ n. H.turned self.old.host n self.new.host) result (H.node self.old.host) (H.node self.new.host) self.old.requests.keys self.new.requests.keys }
+    {
+        let call = Call::Exchange(Exchange::Allgather, Mode::Blocking);
+        let drafted = of_items(alloc, call, ty, Counts::None, Counts::None, items);
+        self.call_on(alloc, &comm.name, drafted, turns)
+    }
+
+    /// `MPI_IALLGATHER` (MPI 4.1 section 6.7).
+    pub fn iallgather(
+        &mut self,
+        alloc: Global,
+        comm: &Comm,
+        ty: Ty,
+        items: Numbers,
+    ) -> Result<Request, PostError>
+        ensures starts { Starts comm.now.name (line.allgather Nonblocking ty items) result (H.node self.old.host) (H.node self.new.host) self.old.requests.keys self.new.requests.keys }
+        ensures no_turn { H.turned self.old.host 0 self.new.host }
+    {
+        let call = Call::Exchange(Exchange::Allgather, Mode::Nonblocking);
+        let drafted = of_items(alloc, call, ty, Counts::None, Counts::None, items);
+        self.start_on(alloc, &comm.name, drafted)
+    }
+
+    /// `MPI_ALLGATHERV` (MPI 4.1 section 6.7): the counts are how
+    /// many items each member gives.
+    pub fn allgatherv(
+        &mut self,
+        alloc: Global,
+        comm: &Comm,
+        ty: Ty,
+        rcounts: Numbers,
+        items: Numbers,
+        turns: u64,
+    ) -> Result<Finished, CallError>
+        ensures { Calls comm.now.name (line.allgatherv Blocking ty rcounts items) turns (λ n. H.turned self.old.host n self.new.host) result (H.node self.old.host) (H.node self.new.host) self.old.requests.keys self.new.requests.keys }
+    {
+        let call = Call::Exchange(Exchange::Allgatherv, Mode::Blocking);
+        let drafted = of_items(alloc, call, ty, Counts::None, Counts::Many(rcounts), items);
+        self.call_on(alloc, &comm.name, drafted, turns)
+    }
+
+    /// `MPI_IALLGATHERV` (MPI 4.1 section 6.7).
+    pub fn iallgatherv(
+        &mut self,
+        alloc: Global,
+        comm: &Comm,
+        ty: Ty,
+        rcounts: Numbers,
+        items: Numbers,
+    ) -> Result<Request, PostError>
+        ensures starts { Starts comm.now.name (line.allgatherv Nonblocking ty rcounts items) result (H.node self.old.host) (H.node self.new.host) self.old.requests.keys self.new.requests.keys }
+        ensures no_turn { H.turned self.old.host 0 self.new.host }
+    {
+        let call = Call::Exchange(Exchange::Allgatherv, Mode::Nonblocking);
+        let drafted = of_items(alloc, call, ty, Counts::None, Counts::Many(rcounts), items);
+        self.start_on(alloc, &comm.name, drafted)
+    }
+
+    /// `MPI_ALLTOALL` (MPI 4.1 section 6.8): a block of so many items
+    /// for each member.
+    pub fn alltoall(
+        &mut self,
+        alloc: Global,
+        comm: &Comm,
+        ty: Ty,
+        count: i128,
+        items: Numbers,
+        turns: u64,
+    ) -> Result<Finished, CallError>
+        ensures { Calls comm.now.name (line.alltoall Blocking ty count items) turns (λ n. H.turned self.old.host n self.new.host) result (H.node self.old.host) (H.node self.new.host) self.old.requests.keys self.new.requests.keys }
+    {
+        let call = Call::Exchange(Exchange::Alltoall, Mode::Blocking);
+        let drafted = of_items(alloc, call, ty, Counts::None, Counts::One(count), items);
+        self.call_on(alloc, &comm.name, drafted, turns)
+    }
+
+    /// `MPI_IALLTOALL` (MPI 4.1 section 6.8).
+    pub fn ialltoall(
+        &mut self,
+        alloc: Global,
+        comm: &Comm,
+        ty: Ty,
+        count: i128,
+        items: Numbers,
+    ) -> Result<Request, PostError>
+        ensures starts { Starts comm.now.name (line.alltoall Nonblocking ty count items) result (H.node self.old.host) (H.node self.new.host) self.old.requests.keys self.new.requests.keys }
+        ensures no_turn { H.turned self.old.host 0 self.new.host }
+    {
+        let call = Call::Exchange(Exchange::Alltoall, Mode::Nonblocking);
+        let drafted = of_items(alloc, call, ty, Counts::None, Counts::One(count), items);
+        self.start_on(alloc, &comm.name, drafted)
+    }
+
+    /// `MPI_ALLTOALLV` (MPI 4.1 section 6.8): how many items
+    /// each block to a member has, and each from one.
+    pub fn alltoallv(
+        &mut self,
+        alloc: Global,
+        comm: &Comm,
+        ty: Ty,
+        scounts: Numbers,
+        rcounts: Numbers,
+        items: Numbers,
+        turns: u64,
+    ) -> Result<Finished, CallError>
+        ensures { Calls comm.now.name (line.alltoallv Blocking ty scounts rcounts items) turns (λ n. H.turned self.old.host n self.new.host) result (H.node self.old.host) (H.node self.new.host) self.old.requests.keys self.new.requests.keys }
+    {
+        let call = Call::Exchange(Exchange::Alltoallv, Mode::Blocking);
+        let drafted = of_items(
+            alloc,
+            call,
+            ty,
+            Counts::Many(scounts),
+            Counts::Many(rcounts),
+            items,
+        );
+        self.call_on(alloc, &comm.name, drafted, turns)
+    }
+
+    /// `MPI_IALLTOALLV` (MPI 4.1 section 6.8).
+    pub fn ialltoallv(
+        &mut self,
+        alloc: Global,
+        comm: &Comm,
+        ty: Ty,
+        scounts: Numbers,
+        rcounts: Numbers,
+        items: Numbers,
+    ) -> Result<Request, PostError>
+        ensures starts { Starts comm.now.name (line.alltoallv Nonblocking ty scounts rcounts items) result (H.node self.old.host) (H.node self.new.host) self.old.requests.keys self.new.requests.keys }
+        ensures no_turn { H.turned self.old.host 0 self.new.host }
+    {
+        let call = Call::Exchange(Exchange::Alltoallv, Mode::Nonblocking);
+        let drafted = of_items(
+            alloc,
+            call,
+            ty,
+            Counts::Many(scounts),
+            Counts::Many(rcounts),
+            items,
+        );
+        self.start_on(alloc, &comm.name, drafted)
+    }
+}

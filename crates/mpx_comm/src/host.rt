@@ -1,0 +1,62 @@
+ghost use Rattle.std.specs.Prelude.{◌≡◌, ◌+◌, ◌≤◌, ℕ, OnOk, is_some, slice_get};
+ghost use Rattle.std.specs.Option.{option_copied};
+ghost use Rattle.mpx_post.specs.Drafts.{refusal_of};
+ghost use Rattle.mpx_node.specs.Nodes.{NodeView, Opens, Posts, checked_on, gathers_on, next_result, results_on, posted_on, front_on};
+ghost use Rattle.mpx_node.specs.Harvests.{Harvests};
+ghost use Rattle.mpx_comm.specs.Later.{Later};
+
+use join_core::OutOfMemory;
+use mpx_name::Name;
+use mpx_node::{Finished, Harvest};
+use mpx_post::{Draft, PostError};
+use std::alloc::Global;
+
+/// Who posts for a process and hears of others: a node, or what has one.
+pub trait Host: Drop {
+    /// The node that it shows.
+    ghost node: { Self → NodeView };
+
+    /// It may go from one state to another by making so many turns.
+    ghost turned: { Self → ℕ → Self → Type 0 };
+
+    /// Posts the draft as the next call on a context. It makes no turn.
+    fn post(&mut self, alloc: Global, name: &Name, draft: Draft) -> Result<u32, PostError>
+        ensures posts { Posts name.now (checked_on (node self.old) name.now draft) result (node self.old) (node self.new) }
+        ensures no_turn { turned self.old 0 self.new };
+
+    /// Why the post of the draft would be refused, where it would. It takes no memory.
+    fn refusal(&self, name: &Name, draft: &Draft) -> Option<PostError>
+        ensures { result ≡ refusal_of (checked_on (node self.now) name.now draft.now) };
+
+    /// Opens the gathering with this tag of the members of the parent with these ranks: its name. It makes no turn.
+    fn open_gathering(
+        &mut self,
+        alloc: Global,
+        parent: &Name,
+        tag: i128,
+        ranks: &[i128],
+    ) -> Result<Name, PostError>
+        ensures opens { Opens parent.now (gathers_on (node self.old) parent.now tag ranks.now) result (node self.old) (node self.new) }
+        ensures no_turn { turned self.old 0 self.new };
+
+    /// Harvests the next call on a context. It makes no turn.
+    fn harvest(&mut self, alloc: Global, name: &Name) -> Result<Harvest, OutOfMemory>
+        ensures harvests { Harvests (is_some ((node self.old).opened name.now)) name.now (next_result (node self.old) name.now) result (node self.old) (node self.new) }
+        ensures no_turn { turned self.old 0 self.new };
+
+    /// The result of a call that was harvested, kept for good.
+    fn result(&self, name: &Name, call: u32) -> Option<&Finished>
+        ensures { option_copied result ≡ slice_get (results_on (node self.now) name.now) call };
+
+    /// Lets time pass: others may hear of this process, and it of them.
+    fn turn(&mut self, alloc: Global) -> Result<(), OutOfMemory>
+        ensures later { Later (node self.old) (node self.new) }
+        ensures counted { OnOk result (turned self.old 1 self.new) };
+
+    /// There are no more results than posts.
+    ghost bounded: { (h : Self) (name : _) → front_on (node h) name ≤ posted_on (node h) name };
+
+    ghost turns_none: { (h : Self) → turned h 0 h };
+
+    ghost turns_more: { (a b c : Self) (m n : ℕ) → turned a m b → turned b n c → turned a (m + n) c };
+}

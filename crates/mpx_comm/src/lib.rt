@@ -1,0 +1,32 @@
+//! The user's calls: posts, requests, tests and waits over a host, by their names in MPI.
+//!
+//! In the order of reading: [`Host`], [`Comm`], [`Request`], [`Desk`], and the laws [`calls_keep_posts_and_results`],
+//! [`results_say_what_was_posted`] and [`answers_are_stored_results`]. Contracts see a desk by its host's node and the list
+//! of its open requests in order of posting. What each call comes to is said in `specs/Requests.antt`, by the cases of its
+//! answer, and which draft it posts in `specs/Lines.antt`, one row a call; `specs/Later.antt` says what stays of a node
+//! meanwhile, and `specs/Turns.antt` what a wait does.
+#![tactic(auto)]
+
+mod alone;
+mod answers;
+mod comm;
+mod communicators;
+mod desk;
+mod exchanges;
+mod host;
+mod laws;
+mod lines;
+mod look;
+mod neighbourhoods;
+mod reductions;
+mod request;
+mod rooted;
+
+pub use answers::{CallError, Tested, WaitError};
+pub use comm::Comm;
+pub use desk::Desk;
+pub use host::Host;
+pub use laws::{
+    answers_are_stored_results, calls_keep_posts_and_results, results_say_what_was_posted,
+};
+pub use request::Request;

@@ -1,0 +1,137 @@
+ghost use Rattle.std.specs.Prelude.{◌≡◌, ◌≤◌, ℕ, IfOk, MatchOption, length, slice_get};
+ghost use Rattle.mpx_comm.specs.Later.{Later, IsPending};
+ghost use Rattle.mpx_comm.specs.Turns.{Awaits};
+ghost use Rattle.mpx_comm.specs.Requests.{result_of, close_all, OneIsPending, AreResults, WerePending};
+
+use crate::host::Host;
+use crate::request::Request;
+use indexmap::IndexSet;
+use join_core::OutOfMemory;
+use mpx_node::{Finished, Harvest};
+use std::alloc::Global;
+
+// Harvests until the call is done or no further one is; its result.
+pub fn look<H: Host>(
+    alloc: Global,
+    host: &mut H,
+    request: &Request,
+) -> Result<Option<Finished>, OutOfMemory>
+    ensures later { Later (H.node host.old) (H.node host.new) }
+    ensures no_turn { H.turned host.old 0 host.new }
+    ensures found { IfOk result (λ found. MatchOption found
+        (IsPending (H.node host.new) request.now.name request.now.call)
+        (λ finished. result_of (H.node host.new) request.now ≡ Some finished)) }
+{
+    loop {
+        if let Some(finished) = host.result(&request.name, request.call) {
+            return Ok(Some(finished.copy(alloc)?));
+        }
+        match host.harvest(alloc, &request.name)? {
+            Harvest::Done(_) => {}
+            Harvest::NotYet => return Ok(None),
+            Harvest::NotOpened => return Ok(None),
+        }
+    }
+}
+
+// The results of all of them, where each is done.
+pub fn look_all<H: Host>(
+    alloc: Global,
+    host: &mut H,
+    requests: &[Request],
+) -> Result<Option<Vec<Finished>>, OutOfMemory>
+    ensures later { Later (H.node host.old) (H.node host.new) }
+    ensures no_turn { H.turned host.old 0 host.new }
+    ensures found { IfOk result (λ found. MatchOption found
+        (OneIsPending (H.node host.new) requests.now)
+        (λ all. AreResults (H.node host.new) requests.now all.items)) }
+{
+    let mut all = Vec::new(alloc);
+    for request in requests {
+        match look(alloc, host, request)? {
+            Some(finished) => all.push(finished)?,
+            None => return Ok(None),
+        }
+    }
+    Ok(Some(all))
+}
+
+// The first of them that is done: its place and its result.
+pub fn look_any<H: Host>(
+    alloc: Global,
+    host: &mut H,
+    requests: &[Request],
+) -> Result<Option<(usize, Finished)>, OutOfMemory>
+    ensures later { Later (H.node host.old) (H.node host.new) }
+    ensures no_turn { H.turned host.old 0 host.new }
+    ensures found { IfOk result (λ found. MatchOption found
+        (WerePending (H.node host.old) (H.node host.new) (length requests.now) requests.now)
+        (λ p. WerePending (H.node host.old) (H.node host.new) p.0 requests.now
+        × ((request : _) × (slice_get requests.now p.0 ≡ Some request) × (result_of (H.node host.new) request ≡ Some p.1)))) }
+{
+    for place in 0..requests.len() {
+        if let Some(finished) = look(alloc, host, &requests[place])? {
+            return Ok(Some((place, finished)));
+        }
+    }
+    Ok(None)
+}
+
+// Takes each of them out of the open ones.
+pub fn close_each(set: &mut IndexSet<Request>, requests: &[Request])
+    ensures { set.new.keys ≡ close_all set.old.keys requests.now }
+{
+    for request in requests {
+        set.shift_remove(request);
+    }
+}
+
+// Looks before the first turn and after each: the result, where one look finds it.
+pub fn await_one<H: Host>(
+    alloc: Global,
+    host: &mut H,
+    request: &Request,
+    turns: u64,
+) -> Result<Option<Finished>, OutOfMemory>
+    ensures later { Later (H.node host.old) (H.node host.new) }
+    ensures found { IfOk result (λ found. MatchOption found
+        (IsPending (H.node host.new) request.now.name request.now.call × Awaits H.node H.turned (λ node. IsPending node request.now.name request.now.call) host.old turns host.new)
+        (λ finished. (result_of (H.node host.new) request.now ≡ Some finished) × ((n : ℕ) × (n ≤ turns) × Awaits H.node H.turned (λ node. IsPending node request.now.name request.now.call) host.old n host.new))) }
+{
+    let mut left = turns;
+    loop {
+        if let Some(finished) = look(alloc, host, request)? {
+            return Ok(Some(finished));
+        }
+        if left == 0 {
+            return Ok(None);
+        }
+        host.turn(alloc)?;
+        left -= 1;
+    }
+}
+
+// Looks at all of them before the first turn and after each: their results, where one look finds all.
+pub fn await_all<H: Host>(
+    alloc: Global,
+    host: &mut H,
+    requests: &[Request],
+    turns: u64,
+) -> Result<Option<Vec<Finished>>, OutOfMemory>
+    ensures later { Later (H.node host.old) (H.node host.new) }
+    ensures found { IfOk result (λ found. MatchOption found
+        (OneIsPending (H.node host.new) requests.now × Awaits H.node H.turned (λ node. OneIsPending node requests.now) host.old turns host.new)
+        (λ all. AreResults (H.node host.new) requests.now all.items × ((n : ℕ) × (n ≤ turns) × Awaits H.node H.turned (λ node. OneIsPending node requests.now) host.old n host.new))) }
+{
+    let mut left = turns;
+    loop {
+        if let Some(all) = look_all(alloc, host, requests)? {
+            return Ok(Some(all));
+        }
+        if left == 0 {
+            return Ok(None);
+        }
+        host.turn(alloc)?;
+        left -= 1;
+    }
+}

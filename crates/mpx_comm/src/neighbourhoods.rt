@@ -1,0 +1,191 @@
+// The calls along the edges of a graph. Each is a draft that is posted, and
+// waited for where it blocks; where there is no memory for the draft, that is told before a refusal.
+ghost use Rattle.std.specs.Prelude.{◌≡◌};
+ghost use Rattle.mpx_kind.specs.declared.kinds.Mode.TheVariants.{Blocking, Nonblocking};
+ghost use Rattle.mpx_comm.specs.Requests.{Calls, Starts};
+ghost use Rattle.mpx_comm.specs.Lines as line;
+
+use crate::answers::CallError;
+use crate::comm::Comm;
+use crate::desk::Desk;
+use crate::host::Host;
+use crate::lines::{Counts, of_items};
+use crate::request::Request;
+use mpx_node::Finished;
+use mpx_num::{Numbers, Ty};
+use mpx_post::{Call, Mode, Neighbourhood, PostError};
+use std::alloc::Global;
+
+impl<H: Host> Desk<H> {
+    /// `MPI_NEIGHBOR_ALLGATHER` (MPI 4.1 section 8.6.1): so many
+    /// items come from each source.
+    pub fn neighbor_allgather(
+        &mut self,
+        alloc: Global,
+        comm: &Comm,
+        ty: Ty,
+        count: i128,
+        items: Numbers,
+        turns: u64,
+    ) -> Result<Finished, CallError>
+        ensures { Calls comm.now.name (line.neighbor_allgather Blocking ty count items) turns (λ n. H.turned self.old.host n self.new.host) result (H.node self.old.host) (H.node self.new.host) self.old.requests.keys self.new.requests.keys }
+    {
+        let call = Call::Neighbourhood(Neighbourhood::Allgather, Mode::Blocking);
+        let drafted = of_items(alloc, call, ty, Counts::None, Counts::One(count), items);
+        self.call_on(alloc, &comm.name, drafted, turns)
+    }
+
+    /// `MPI_INEIGHBOR_ALLGATHER` (MPI 4.1 section 8.6.1).
+    pub fn ineighbor_allgather(
+        &mut self,
+        alloc: Global,
+        comm: &Comm,
+        ty: Ty,
+        count: i128,
+        items: Numbers,
+    ) -> Result<Request, PostError>
+        ensures starts { Starts comm.now.name (line.neighbor_allgather Nonblocking ty count items) result (H.node self.old.host) (H.node self.new.host) self.old.requests.keys self.new.requests.keys }
+        ensures no_turn { H.turned self.old.host 0 self.new.host }
+    {
+        let call = Call::Neighbourhood(Neighbourhood::Allgather, Mode::Nonblocking);
+        let drafted = of_items(alloc, call, ty, Counts::None, Counts::One(count), items);
+        self.start_on(alloc, &comm.name, drafted)
+    }
+
+    /// `MPI_NEIGHBOR_ALLGATHERV` (MPI 4.1 section 8.6.1): how
+    /// many items come from each source.
+    pub fn neighbor_allgatherv(
+        &mut self,
+        alloc: Global,
+        comm: &Comm,
+        ty: Ty,
+        rcounts: Numbers,
+        items: Numbers,
+        turns: u64,
+    ) -> Result<Finished, CallError>
+        ensures { Calls comm.now.name (line.neighbor_allgatherv Blocking ty rcounts items) turns (λ n. H.turned self.old.host n self.new.host) result (H.node self.old.host) (H.node self.new.host) self.old.requests.keys self.new.requests.keys }
+    {
+        let call = Call::Neighbourhood(Neighbourhood::Allgatherv, Mode::Blocking);
+        let drafted = of_items(alloc, call, ty, Counts::None, Counts::Many(rcounts), items);
+        self.call_on(alloc, &comm.name, drafted, turns)
+    }
+
+    /// `MPI_INEIGHBOR_ALLGATHERV` (MPI 4.1 section 8.6.1).
+    pub fn ineighbor_allgatherv(
+        &mut self,
+        alloc: Global,
+        comm: &Comm,
+        ty: Ty,
+        rcounts: Numbers,
+        items: Numbers,
+    ) -> Result<Request, PostError>
+        ensures starts { Starts comm.now.name (line.neighbor_allgatherv Nonblocking ty rcounts items) result (H.node self.old.host) (H.node self.new.host) self.old.requests.keys self.new.requests.keys }
+        ensures no_turn { H.turned self.old.host 0 self.new.host }
+    {
+        let call = Call::Neighbourhood(Neighbourhood::Allgatherv, Mode::Nonblocking);
+        let drafted = of_items(alloc, call, ty, Counts::None, Counts::Many(rcounts), items);
+        self.start_on(alloc, &comm.name, drafted)
+    }
+
+    /// `MPI_NEIGHBOR_ALLTOALL` (MPI 4.1 section 8.6.2): how
+    /// many items go to each destination, and come from each source.
+    pub fn neighbor_alltoall(
+        &mut self,
+        alloc: Global,
+        comm: &Comm,
+        ty: Ty,
+        scount: i128,
+        rcount: i128,
+        items: Numbers,
+        turns: u64,
+    ) -> Result<Finished, CallError>
+        ensures { Calls comm.now.name (line.neighbor_alltoall Blocking ty scount rcount items) turns (λ n. H.turned self.old.host n self.new.host) result (H.node self.old.host) (H.node self.new.host) self.old.requests.keys self.new.requests.keys }
+    {
+        let call = Call::Neighbourhood(Neighbourhood::Alltoall, Mode::Blocking);
+        let drafted = of_items(
+            alloc,
+            call,
+            ty,
+            Counts::One(scount),
+            Counts::One(rcount),
+            items,
+        );
+        self.call_on(alloc, &comm.name, drafted, turns)
+    }
+
+    /// `MPI_INEIGHBOR_ALLTOALL` (MPI 4.1 section 8.6.2).
+    pub fn ineighbor_alltoall(
+        &mut self,
+        alloc: Global,
+        comm: &Comm,
+        ty: Ty,
+        scount: i128,
+        rcount: i128,
+        items: Numbers,
+    ) -> Result<Request, PostError>
+        ensures starts { Starts comm.now.name (line.neighbor_alltoall Nonblocking ty scount rcount items) result (H.node self.old.host) (H.node self.new.host) self.old.requests.keys self.new.requests.keys }
+        ensures no_turn { H.turned self.old.host 0 self.new.host }
+    {
+        let call = Call::Neighbourhood(Neighbourhood::Alltoall, Mode::Nonblocking);
+        let drafted = of_items(
+            alloc,
+            call,
+            ty,
+            Counts::One(scount),
+            Counts::One(rcount),
+            items,
+        );
+        self.start_on(alloc, &comm.name, drafted)
+    }
+
+    /// `MPI_NEIGHBOR_ALLTOALLV` (MPI 4.1 section 8.6.2): how
+    /// many items go to each destination, and come from each source.
+    pub fn neighbor_alltoallv(
+        &mut self,
+        alloc: Global,
+        comm: &Comm,
+        ty: Ty,
+        scounts: Numbers,
+        rcounts: Numbers,
+        items: Numbers,
+        turns: u64,
+    ) -> Result<Finished, CallError>
+        ensures { Calls comm.now.name (line.neighbor_alltoallv Blocking ty scounts rcounts items) turns (λ n. H.turned self.old.host n self.new.host) result (H.node self.old.host) (H.node self.new.host) self.old.requests.keys self.new.requests.keys }
+    {
+        let call = Call::Neighbourhood(Neighbourhood::Alltoallv, Mode::Blocking);
+        let drafted = of_items(
+            alloc,
+            call,
+            ty,
+            Counts::Many(scounts),
+            Counts::Many(rcounts),
+            items,
+        );
+        self.call_on(alloc, &comm.name, drafted, turns)
+    }
+
+    /// `MPI_INEIGHBOR_ALLTOALLV` (MPI 4.1 section 8.6.2).
+    pub fn ineighbor_alltoallv(
+        &mut self,
+        alloc: Global,
+        comm: &Comm,
+        ty: Ty,
+        scounts: Numbers,
+        rcounts: Numbers,
+        items: Numbers,
+    ) -> Result<Request, PostError>
+        ensures starts { Starts comm.now.name (line.neighbor_alltoallv Nonblocking ty scounts rcounts items) result (H.node self.old.host) (H.node self.new.host) self.old.requests.keys self.new.requests.keys }
+        ensures no_turn { H.turned self.old.host 0 self.new.host }
+    {
+        let call = Call::Neighbourhood(Neighbourhood::Alltoallv, Mode::Nonblocking);
+        let drafted = of_items(
+            alloc,
+            call,
+            ty,
+            Counts::Many(scounts),
+            Counts::Many(rcounts),
+            items,
+        );
+        self.start_on(alloc, &comm.name, drafted)
+    }
+}

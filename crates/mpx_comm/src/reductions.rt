@@ -1,0 +1,229 @@
+// The calls that combine items. Each is a draft that is posted, and
+// waited for where it blocks; where there is no memory for the draft, that is told before a refusal.
+ghost use Rattle.std.specs.Prelude.{◌≡◌};
+ghost use Rattle.mpx_kind.specs.declared.kinds.Mode.TheVariants.{Blocking, Nonblocking};
+ghost use Rattle.mpx_comm.specs.Requests.{Calls, Starts};
+ghost use Rattle.mpx_comm.specs.Lines as line;
+
+use crate::answers::CallError;
+use crate::comm::Comm;
+use crate::desk::Desk;
+use crate::host::Host;
+use crate::lines::{Counts, combined, reduced};
+use crate::request::Request;
+use mpx_node::Finished;
+use mpx_num::{Numbers, Op, Ty};
+use mpx_post::{Call, Mode, PostError, Reduction};
+use std::alloc::Global;
+
+impl<H: Host> Desk<H> {
+    /// `MPI_REDUCE` (MPI 4.1 section 6.9.1).
+    pub fn reduce(
+        &mut self,
+        alloc: Global,
+        comm: &Comm,
+        root: i128,
+        op: Op,
+        ty: Ty,
+        items: Numbers,
+        turns: u64,
+    ) -> Result<Finished, CallError>
+        ensures { Calls comm.now.name (line.reduce Blocking root op ty items) turns (λ n. H.turned self.old.host n self.new.host) result (H.node self.old.host) (H.node self.new.host) self.old.requests.keys self.new.requests.keys }
+    {
+        let drafted = reduced(alloc, Mode::Blocking, root, op, ty, items);
+        self.call_on(alloc, &comm.name, drafted, turns)
+    }
+
+    /// `MPI_IREDUCE` (MPI 4.1 section 6.9.1).
+    pub fn ireduce(
+        &mut self,
+        alloc: Global,
+        comm: &Comm,
+        root: i128,
+        op: Op,
+        ty: Ty,
+        items: Numbers,
+    ) -> Result<Request, PostError>
+        ensures starts { Starts comm.now.name (line.reduce Nonblocking root op ty items) result (H.node self.old.host) (H.node self.new.host) self.old.requests.keys self.new.requests.keys }
+        ensures no_turn { H.turned self.old.host 0 self.new.host }
+    {
+        let drafted = reduced(alloc, Mode::Nonblocking, root, op, ty, items);
+        self.start_on(alloc, &comm.name, drafted)
+    }
+
+    /// `MPI_ALLREDUCE` (MPI 4.1 section 6.9.6).
+    pub fn allreduce(
+        &mut self,
+        alloc: Global,
+        comm: &Comm,
+        op: Op,
+        ty: Ty,
+        items: Numbers,
+        turns: u64,
+    ) -> Result<Finished, CallError>
+        ensures { Calls comm.now.name (line.allreduce Blocking op ty items) turns (λ n. H.turned self.old.host n self.new.host) result (H.node self.old.host) (H.node self.new.host) self.old.requests.keys self.new.requests.keys }
+    {
+        let call = Call::Reduction(Reduction::Allreduce, Mode::Blocking);
+        let drafted = combined(alloc, call, op, ty, Counts::None, items);
+        self.call_on(alloc, &comm.name, drafted, turns)
+    }
+
+    /// `MPI_IALLREDUCE` (MPI 4.1 section 6.9.6).
+    pub fn iallreduce(
+        &mut self,
+        alloc: Global,
+        comm: &Comm,
+        op: Op,
+        ty: Ty,
+        items: Numbers,
+    ) -> Result<Request, PostError>
+        ensures starts { Starts comm.now.name (line.allreduce Nonblocking op ty items) result (H.node self.old.host) (H.node self.new.host) self.old.requests.keys self.new.requests.keys }
+        ensures no_turn { H.turned self.old.host 0 self.new.host }
+    {
+        let call = Call::Reduction(Reduction::Allreduce, Mode::Nonblocking);
+        let drafted = combined(alloc, call, op, ty, Counts::None, items);
+        self.start_on(alloc, &comm.name, drafted)
+    }
+
+    /// `MPI_REDUCE_SCATTER_BLOCK` (MPI 4.1 section 6.10.1): a block
+    /// of so many items for each member.
+    pub fn reduce_scatter_block(
+        &mut self,
+        alloc: Global,
+        comm: &Comm,
+        op: Op,
+        ty: Ty,
+        count: i128,
+        items: Numbers,
+        turns: u64,
+    ) -> Result<Finished, CallError>
+        ensures { Calls comm.now.name (line.reduce_scatter_block Blocking op ty count items) turns (λ n. H.turned self.old.host n self.new.host) result (H.node self.old.host) (H.node self.new.host) self.old.requests.keys self.new.requests.keys }
+    {
+        let call = Call::Reduction(Reduction::ReduceScatterBlock, Mode::Blocking);
+        let drafted = combined(alloc, call, op, ty, Counts::One(count), items);
+        self.call_on(alloc, &comm.name, drafted, turns)
+    }
+
+    /// `MPI_IREDUCE_SCATTER_BLOCK` (MPI 4.1 section 6.10.1).
+    pub fn ireduce_scatter_block(
+        &mut self,
+        alloc: Global,
+        comm: &Comm,
+        op: Op,
+        ty: Ty,
+        count: i128,
+        items: Numbers,
+    ) -> Result<Request, PostError>
+        ensures starts { Starts comm.now.name (line.reduce_scatter_block Nonblocking op ty count items) result (H.node self.old.host) (H.node self.new.host) self.old.requests.keys self.new.requests.keys }
+        ensures no_turn { H.turned self.old.host 0 self.new.host }
+    {
+        let call = Call::Reduction(Reduction::ReduceScatterBlock, Mode::Nonblocking);
+        let drafted = combined(alloc, call, op, ty, Counts::One(count), items);
+        self.start_on(alloc, &comm.name, drafted)
+    }
+
+    /// `MPI_REDUCE_SCATTER` (MPI 4.1 section 6.10.2): how many items
+    /// each member gets.
+    pub fn reduce_scatter(
+        &mut self,
+        alloc: Global,
+        comm: &Comm,
+        op: Op,
+        ty: Ty,
+        rcounts: Numbers,
+        items: Numbers,
+        turns: u64,
+    ) -> Result<Finished, CallError>
+        ensures { Calls comm.now.name (line.reduce_scatter Blocking op ty rcounts items) turns (λ n. H.turned self.old.host n self.new.host) result (H.node self.old.host) (H.node self.new.host) self.old.requests.keys self.new.requests.keys }
+    {
+        let call = Call::Reduction(Reduction::ReduceScatter, Mode::Blocking);
+        let drafted = combined(alloc, call, op, ty, Counts::Many(rcounts), items);
+        self.call_on(alloc, &comm.name, drafted, turns)
+    }
+
+    /// `MPI_IREDUCE_SCATTER` (MPI 4.1 section 6.10.2).
+    pub fn ireduce_scatter(
+        &mut self,
+        alloc: Global,
+        comm: &Comm,
+        op: Op,
+        ty: Ty,
+        rcounts: Numbers,
+        items: Numbers,
+    ) -> Result<Request, PostError>
+        ensures starts { Starts comm.now.name (line.reduce_scatter Nonblocking op ty rcounts items) result (H.node self.old.host) (H.node self.new.host) self.old.requests.keys self.new.requests.keys }
+        ensures no_turn { H.turned self.old.host 0 self.new.host }
+    {
+        let call = Call::Reduction(Reduction::ReduceScatter, Mode::Nonblocking);
+        let drafted = combined(alloc, call, op, ty, Counts::Many(rcounts), items);
+        self.start_on(alloc, &comm.name, drafted)
+    }
+
+    /// `MPI_SCAN` (MPI 4.1 section 6.11.1).
+    pub fn scan(
+        &mut self,
+        alloc: Global,
+        comm: &Comm,
+        op: Op,
+        ty: Ty,
+        items: Numbers,
+        turns: u64,
+    ) -> Result<Finished, CallError>
+        ensures { Calls comm.now.name (line.scan Blocking op ty items) turns (λ n. H.turned self.old.host n self.new.host) result (H.node self.old.host) (H.node self.new.host) self.old.requests.keys self.new.requests.keys }
+    {
+        let call = Call::Reduction(Reduction::Scan, Mode::Blocking);
+        let drafted = combined(alloc, call, op, ty, Counts::None, items);
+        self.call_on(alloc, &comm.name, drafted, turns)
+    }
+
+    /// `MPI_ISCAN` (MPI 4.1 section 6.11.1).
+    pub fn iscan(
+        &mut self,
+        alloc: Global,
+        comm: &Comm,
+        op: Op,
+        ty: Ty,
+        items: Numbers,
+    ) -> Result<Request, PostError>
+        ensures starts { Starts comm.now.name (line.scan Nonblocking op ty items) result (H.node self.old.host) (H.node self.new.host) self.old.requests.keys self.new.requests.keys }
+        ensures no_turn { H.turned self.old.host 0 self.new.host }
+    {
+        let call = Call::Reduction(Reduction::Scan, Mode::Nonblocking);
+        let drafted = combined(alloc, call, op, ty, Counts::None, items);
+        self.start_on(alloc, &comm.name, drafted)
+    }
+
+    /// `MPI_EXSCAN` (MPI 4.1 section 6.11.2).
+    pub fn exscan(
+        &mut self,
+        alloc: Global,
+        comm: &Comm,
+        op: Op,
+        ty: Ty,
+        items: Numbers,
+        turns: u64,
+    ) -> Result<Finished, CallError>
+        ensures { Calls comm.now.name (line.exscan Blocking op ty items) turns (λ n. H.turned self.old.host n self.new.host) result (H.node self.old.host) (H.node self.new.host) self.old.requests.keys self.new.requests.keys }
+    {
+        let call = Call::Reduction(Reduction::Exscan, Mode::Blocking);
+        let drafted = combined(alloc, call, op, ty, Counts::None, items);
+        self.call_on(alloc, &comm.name, drafted, turns)
+    }
+
+    /// `MPI_IEXSCAN` (MPI 4.1 section 6.11.2).
+    pub fn iexscan(
+        &mut self,
+        alloc: Global,
+        comm: &Comm,
+        op: Op,
+        ty: Ty,
+        items: Numbers,
+    ) -> Result<Request, PostError>
+        ensures starts { Starts comm.now.name (line.exscan Nonblocking op ty items) result (H.node self.old.host) (H.node self.new.host) self.old.requests.keys self.new.requests.keys }
+        ensures no_turn { H.turned self.old.host 0 self.new.host }
+    {
+        let call = Call::Reduction(Reduction::Exscan, Mode::Nonblocking);
+        let drafted = combined(alloc, call, op, ty, Counts::None, items);
+        self.start_on(alloc, &comm.name, drafted)
+    }
+}

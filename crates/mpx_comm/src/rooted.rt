@@ -1,0 +1,285 @@
+// The calls that move items from or to a root, and the barrier. Each is a draft that is posted, and
+// waited for where it blocks; where there is no memory for the draft, that is told before a refusal.
+ghost use Rattle.std.specs.Prelude.{◌≡◌};
+ghost use Rattle.mpx_kind.specs.declared.kinds.Mode.TheVariants.{Blocking, Nonblocking};
+ghost use Rattle.mpx_comm.specs.Requests.{Calls, Starts};
+ghost use Rattle.mpx_comm.specs.Lines as line;
+
+use crate::answers::CallError;
+use crate::comm::Comm;
+use crate::desk::Desk;
+use crate::host::Host;
+use crate::lines::{Counts, plain, rooted};
+use crate::request::Request;
+use mpx_node::Finished;
+use mpx_num::{Numbers, Ty};
+use mpx_post::{Call, Exchange, Mode, PostError};
+use std::alloc::Global;
+
+impl<H: Host> Desk<H> {
+    /// `MPI_BARRIER` (MPI 4.1 section 6.3).
+    pub fn barrier(&mut self, alloc: Global, comm: &Comm, turns: u64) -> Result<Finished, CallError>
+        ensures { Calls comm.now.name (line.barrier Blocking) turns (λ n. H.turned self.old.host n self.new.host) result (H.node self.old.host) (H.node self.new.host) self.old.requests.keys self.new.requests.keys }
+    {
+        let call = Call::Exchange(Exchange::Barrier, Mode::Blocking);
+        let drafted = plain(alloc, call);
+        self.call_on(alloc, &comm.name, drafted, turns)
+    }
+
+    /// `MPI_IBARRIER` (MPI 4.1 section 6.3).
+    pub fn ibarrier(&mut self, alloc: Global, comm: &Comm) -> Result<Request, PostError>
+        ensures starts { Starts comm.now.name (line.barrier Nonblocking) result (H.node self.old.host) (H.node self.new.host) self.old.requests.keys self.new.requests.keys }
+        ensures no_turn { H.turned self.old.host 0 self.new.host }
+    {
+        let call = Call::Exchange(Exchange::Barrier, Mode::Nonblocking);
+        let drafted = plain(alloc, call);
+        self.start_on(alloc, &comm.name, drafted)
+    }
+
+    /// `MPI_BCAST` (MPI 4.1 section 6.4): the root gives so many items, the others none.
+    pub fn bcast(
+        &mut self,
+        alloc: Global,
+        comm: &Comm,
+        root: i128,
+        ty: Ty,
+        count: i128,
+        items: Numbers,
+        turns: u64,
+    ) -> Result<Finished, CallError>
+        ensures { Calls comm.now.name (line.bcast Blocking root ty count items) turns (λ n. H.turned self.old.host n self.new.host) result (H.node self.old.host) (H.node self.new.host) self.old.requests.keys self.new.requests.keys }
+    {
+        let call = Call::Exchange(Exchange::Bcast, Mode::Blocking);
+        let drafted = rooted(
+            alloc,
+            call,
+            root,
+            ty,
+            Counts::None,
+            Counts::One(count),
+            items,
+        );
+        self.call_on(alloc, &comm.name, drafted, turns)
+    }
+
+    /// `MPI_IBCAST` (MPI 4.1 section 6.4).
+    pub fn ibcast(
+        &mut self,
+        alloc: Global,
+        comm: &Comm,
+        root: i128,
+        ty: Ty,
+        count: i128,
+        items: Numbers,
+    ) -> Result<Request, PostError>
+        ensures starts { Starts comm.now.name (line.bcast Nonblocking root ty count items) result (H.node self.old.host) (H.node self.new.host) self.old.requests.keys self.new.requests.keys }
+        ensures no_turn { H.turned self.old.host 0 self.new.host }
+    {
+        let call = Call::Exchange(Exchange::Bcast, Mode::Nonblocking);
+        let drafted = rooted(
+            alloc,
+            call,
+            root,
+            ty,
+            Counts::None,
+            Counts::One(count),
+            items,
+        );
+        self.start_on(alloc, &comm.name, drafted)
+    }
+
+    /// `MPI_GATHER` (MPI 4.1 section 6.5): every member gives as many items as the root.
+    pub fn gather(
+        &mut self,
+        alloc: Global,
+        comm: &Comm,
+        root: i128,
+        ty: Ty,
+        items: Numbers,
+        turns: u64,
+    ) -> Result<Finished, CallError>
+        ensures { Calls comm.now.name (line.gather Blocking root ty items) turns (λ n. H.turned self.old.host n self.new.host) result (H.node self.old.host) (H.node self.new.host) self.old.requests.keys self.new.requests.keys }
+    {
+        let call = Call::Exchange(Exchange::Gather, Mode::Blocking);
+        let drafted = rooted(alloc, call, root, ty, Counts::None, Counts::None, items);
+        self.call_on(alloc, &comm.name, drafted, turns)
+    }
+
+    /// `MPI_IGATHER` (MPI 4.1 section 6.5).
+    pub fn igather(
+        &mut self,
+        alloc: Global,
+        comm: &Comm,
+        root: i128,
+        ty: Ty,
+        items: Numbers,
+    ) -> Result<Request, PostError>
+        ensures starts { Starts comm.now.name (line.gather Nonblocking root ty items) result (H.node self.old.host) (H.node self.new.host) self.old.requests.keys self.new.requests.keys }
+        ensures no_turn { H.turned self.old.host 0 self.new.host }
+    {
+        let call = Call::Exchange(Exchange::Gather, Mode::Nonblocking);
+        let drafted = rooted(alloc, call, root, ty, Counts::None, Counts::None, items);
+        self.start_on(alloc, &comm.name, drafted)
+    }
+
+    /// `MPI_GATHERV` (MPI 4.1 section 6.5): the root says how many
+    /// items each member gives, the others give no such counts.
+    pub fn gatherv(
+        &mut self,
+        alloc: Global,
+        comm: &Comm,
+        root: i128,
+        ty: Ty,
+        rcounts: Numbers,
+        items: Numbers,
+        turns: u64,
+    ) -> Result<Finished, CallError>
+        ensures { Calls comm.now.name (line.gatherv Blocking root ty rcounts items) turns (λ n. H.turned self.old.host n self.new.host) result (H.node self.old.host) (H.node self.new.host) self.old.requests.keys self.new.requests.keys }
+    {
+        let call = Call::Exchange(Exchange::Gatherv, Mode::Blocking);
+        let drafted = rooted(
+            alloc,
+            call,
+            root,
+            ty,
+            Counts::None,
+            Counts::Many(rcounts),
+            items,
+        );
+        self.call_on(alloc, &comm.name, drafted, turns)
+    }
+
+    /// `MPI_IGATHERV` (MPI 4.1 section 6.5).
+    pub fn igatherv(
+        &mut self,
+        alloc: Global,
+        comm: &Comm,
+        root: i128,
+        ty: Ty,
+        rcounts: Numbers,
+        items: Numbers,
+    ) -> Result<Request, PostError>
+        ensures starts { Starts comm.now.name (line.gatherv Nonblocking root ty rcounts items) result (H.node self.old.host) (H.node self.new.host) self.old.requests.keys self.new.requests.keys }
+        ensures no_turn { H.turned self.old.host 0 self.new.host }
+    {
+        let call = Call::Exchange(Exchange::Gatherv, Mode::Nonblocking);
+        let drafted = rooted(
+            alloc,
+            call,
+            root,
+            ty,
+            Counts::None,
+            Counts::Many(rcounts),
+            items,
+        );
+        self.start_on(alloc, &comm.name, drafted)
+    }
+
+    /// `MPI_SCATTER` (MPI 4.1 section 6.6): the root gives a block of
+    /// so many items for each member.
+    pub fn scatter(
+        &mut self,
+        alloc: Global,
+        comm: &Comm,
+        root: i128,
+        ty: Ty,
+        count: i128,
+        items: Numbers,
+        turns: u64,
+    ) -> Result<Finished, CallError>
+        ensures { Calls comm.now.name (line.scatter Blocking root ty count items) turns (λ n. H.turned self.old.host n self.new.host) result (H.node self.old.host) (H.node self.new.host) self.old.requests.keys self.new.requests.keys }
+    {
+        let call = Call::Exchange(Exchange::Scatter, Mode::Blocking);
+        let drafted = rooted(
+            alloc,
+            call,
+            root,
+            ty,
+            Counts::None,
+            Counts::One(count),
+            items,
+        );
+        self.call_on(alloc, &comm.name, drafted, turns)
+    }
+
+    /// `MPI_ISCATTER` (MPI 4.1 section 6.6).
+    pub fn iscatter(
+        &mut self,
+        alloc: Global,
+        comm: &Comm,
+        root: i128,
+        ty: Ty,
+        count: i128,
+        items: Numbers,
+    ) -> Result<Request, PostError>
+        ensures starts { Starts comm.now.name (line.scatter Nonblocking root ty count items) result (H.node self.old.host) (H.node self.new.host) self.old.requests.keys self.new.requests.keys }
+        ensures no_turn { H.turned self.old.host 0 self.new.host }
+    {
+        let call = Call::Exchange(Exchange::Scatter, Mode::Nonblocking);
+        let drafted = rooted(
+            alloc,
+            call,
+            root,
+            ty,
+            Counts::None,
+            Counts::One(count),
+            items,
+        );
+        self.start_on(alloc, &comm.name, drafted)
+    }
+
+    /// `MPI_SCATTERV` (MPI 4.1 section 6.6): the root says how many
+    /// items each block has, the others give no such counts; the count is how many items the member gets.
+    pub fn scatterv(
+        &mut self,
+        alloc: Global,
+        comm: &Comm,
+        root: i128,
+        ty: Ty,
+        scounts: Numbers,
+        count: i128,
+        items: Numbers,
+        turns: u64,
+    ) -> Result<Finished, CallError>
+        ensures { Calls comm.now.name (line.scatterv Blocking root ty scounts count items) turns (λ n. H.turned self.old.host n self.new.host) result (H.node self.old.host) (H.node self.new.host) self.old.requests.keys self.new.requests.keys }
+    {
+        let call = Call::Exchange(Exchange::Scatterv, Mode::Blocking);
+        let drafted = rooted(
+            alloc,
+            call,
+            root,
+            ty,
+            Counts::Many(scounts),
+            Counts::One(count),
+            items,
+        );
+        self.call_on(alloc, &comm.name, drafted, turns)
+    }
+
+    /// `MPI_ISCATTERV` (MPI 4.1 section 6.6).
+    pub fn iscatterv(
+        &mut self,
+        alloc: Global,
+        comm: &Comm,
+        root: i128,
+        ty: Ty,
+        scounts: Numbers,
+        count: i128,
+        items: Numbers,
+    ) -> Result<Request, PostError>
+        ensures starts { Starts comm.now.name (line.scatterv Nonblocking root ty scounts count items) result (H.node self.old.host) (H.node self.new.host) self.old.requests.keys self.new.requests.keys }
+        ensures no_turn { H.turned self.old.host 0 self.new.host }
+    {
+        let call = Call::Exchange(Exchange::Scatterv, Mode::Nonblocking);
+        let drafted = rooted(
+            alloc,
+            call,
+            root,
+            ty,
+            Counts::Many(scounts),
+            Counts::One(count),
+            items,
+        );
+        self.start_on(alloc, &comm.name, drafted)
+    }
+}

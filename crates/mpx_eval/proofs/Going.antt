@@ -1,0 +1,200 @@
+-- Moves of ranks among all, rounds, and their end.
+use Rattle.std.proofs.Common.{◌≡◌, ℕ, zero, suc, ◌+◌, ◌<◌, ◌≤◌, ◌==◌, Bool, true, false, cond, List, [], ◌∷◌, ◌++◌, length, map, take, drop, set, get_or, Some, refl, sym, ap, ◌∙◌, subst, arith, inl, inr}
+use Rattle.std.proofs.Math.Nat.{eq-or-lt_of_le}
+use Rattle.std.specs.Prelude.{◌||◌, ◌⊎◌, slice_get, IsTrue}
+use Rattle.std.specs.Option.{option_map}
+use Rattle.std.proofs.lemmas.Bool.{or_parts}
+use Rattle.std.proofs.lemmas.Bool.Decides.{Decides-eqb}
+use Rattle.std.proofs.lemmas.List.{length-set}
+use Rattle.std.proofs.lemmas.Option.{slice_get-map, slice_get-get_or, slice_get_within}
+use Rattle.mpx_script.specs.declared.statement.Statement.{Statement}
+use Rattle.mpx_script.specs.Ranks.{step}
+use Rattle.mpx_script.specs.Evaluation.{State, IsQuiet, IsReached, known, move, moves, or_stay, start}
+use Rattle.mpx_script.proofs.Ends.{move-quiet}
+use Rattle.mpx_script.proofs.Steps.{step_ends}
+use Rattle.mpx_script.proofs.Tells.{each-bound, each-me}
+use Rattle.mpx_eval.specs.Places.{After, Before, Moves, RankView, Stands, left_of}
+use Rattle.mpx_eval.specs.Rounds.{AreAtEnd, AreIn, GoesOn, IsStuck, Leads, Round, Rounds, all_left}
+use Rattle.mpx_eval.specs.Tables.{Table}
+use Rattle.mpx_eval.proofs.Moving.{move_stays}
+use Rattle.mpx_eval.proofs.Tables.{some_of}
+use Rattle.mpx_eval.proofs.Words.{none_there}
+
+-- LISTS
+
+-- where a list was written, it has the new value; elsewhere what it had
+set_cases : {A : Type 0} (xs : List A) (i p : ℕ) (y x : A) (P : A → Type 0) → slice_get (set xs i y) p ≡ Some x → (p ≡ i → P y) → (slice_get xs p ≡ Some x → (p ≡ i → ⊥) → P x) → P x
+set_cases [] i p y x P e f g = cc e
+set_cases (z ∷ xs) zero zero y x P e f g = subst P (let q : y ≡ x = cc e in q) (f refl)
+set_cases (z ∷ xs) zero (suc p) y x P e f g = g e (λ q. omega (arith, q))
+set_cases (z ∷ xs) (suc i) zero y x P e f g = g e (λ q. omega (arith, q))
+set_cases (z ∷ xs) (suc i) (suc p) y x P e f g = set_cases xs i p y x P e (λ q. f (ap suc q)) (λ s q. g s (λ r. q (omega (arith, r))))
+
+set_twice : {A : Type 0} (xs : List A) (i : ℕ) (x y : A) → set (set xs i x) i y ≡ set xs i y
+set_twice [] i x y = refl
+set_twice (z ∷ xs) zero x y = refl
+set_twice (z ∷ xs) (suc i) x y = ap (λ ys. z ∷ ys) (set_twice xs i x y)
+
+set_has : {A : Type 0} (xs : List A) (i : ℕ) (x y : A) → slice_get xs i ≡ Some x → slice_get (set xs i y) i ≡ Some y
+set_has [] i x y e = cc e
+set_has (z ∷ xs) zero x y e = refl
+set_has (z ∷ xs) (suc i) x y e = set_has xs i x y e
+
+set_same : {A : Type 0} (xs : List A) (i : ℕ) (x : A) → slice_get xs i ≡ Some x → set xs i x ≡ xs
+set_same [] i x e = cc e
+set_same (z ∷ xs) zero x e = ap (λ y. y ∷ xs) (let q : x ≡ z = cc e in q)
+set_same (z ∷ xs) (suc i) x e = ap (λ ys. z ∷ ys) (set_same xs i x e)
+
+map_set : {A B : Type 0} (f : A → B) (xs : List A) (p : ℕ) (x : A) → map f (set xs p x) ≡ set (map f xs) p (f x)
+map_set f [] p x = refl
+map_set f (y ∷ xs) zero x = refl
+map_set f (y ∷ xs) (suc p) x = ap (λ zs. f y ∷ zs) (map_set f xs p x)
+
+pub written : {A B : Type 0} (f : A → B) (xs : List A) (p : ℕ) (x : A) → set (map f xs) p (f x) ≡ map f (set xs p x)
+written f xs p x = sym (map_set f xs p x)
+
+pub element : {A B : Type 0} (f : A → B) (xs : List A) (p : ℕ) (d : A) → p < length xs → slice_get (map f xs) p ≡ Some (f (get_or xs p d))
+element f xs p d l = slice_get-map f xs p ∙ ap (option_map f) (slice_get-get_or xs p d l)
+
+-- a vector whose elements were lent has what was written there
+pub written_back : {A : Type 0} (len : ℕ) (old new : List A) → length new ≡ length old → length old ≡ len → take len (new ++ drop (length new) old) ≡ new
+written_back zero [] [] e f = refl
+written_back (suc len) [] [] e f = absurd (omega (arith, f))
+written_back len [] (x ∷ xs) e f = absurd (omega (arith, e))
+written_back len (y ∷ ys) [] e f = absurd (omega (arith, e))
+written_back zero (y ∷ ys) (x ∷ xs) e f = absurd (omega (arith, f))
+written_back (suc len) (y ∷ ys) (x ∷ xs) e f = ap (λ zs. x ∷ zs) (written_back len ys xs (omega (arith, e)) (omega (arith, f)))
+
+-- what is left
+pub left_le : (rs : List RankView) (p : ℕ) (old new : RankView) → slice_get rs p ≡ Some old → left_of new ≤ left_of old → all_left (set rs p new) ≤ all_left rs
+left_le [] p old new e l = cc e
+left_le (r ∷ rs) zero old new e l = let same : r ≡ old = cc e in omega (arith, l, ap left_of same)
+left_le (r ∷ rs) (suc p) old new e l = omega (arith, left_le rs p old new e l)
+
+pub left_lt : (rs : List RankView) (p : ℕ) (old new : RankView) → slice_get rs p ≡ Some old → left_of new < left_of old → all_left (set rs p new) < all_left rs
+left_lt [] p old new e l = cc e
+left_lt (r ∷ rs) zero old new e l = let same : r ≡ old = cc e in omega (arith, l, ap left_of same)
+left_lt (r ∷ rs) (suc p) old new e l = omega (arith, left_lt rs p old new e l)
+
+-- less is left where the ranks so far have moved or the next one has
+pub less_more : (changed moved : Bool) (a b c : ℕ) → b ≤ a → (IsTrue changed → b < a) → c ≤ b → (IsTrue moved → c < b) → IsTrue (changed || moved) → c < a
+less_more true moved a b c le less le2 less2 e = omega (arith, le2, less refl)
+less_more false true a b c le less le2 less2 e = omega (arith, le, less2 refl)
+less_more false false a b c le less le2 less2 e = cc e
+
+-- MOVES
+
+moves-push : (ranks : ℕ) (ps : List ℕ) (p : ℕ) (s : State) → moves ranks (ps ++ p ∷ []) s ≡ move ranks (moves ranks ps s) p
+moves-push ranks [] p s = refl
+moves-push ranks (q ∷ ps) p s = moves-push ranks ps p (move ranks s q)
+
+reached_on : (script : List (List Statement)) (ranks : ℕ) (s : State) (p : ℕ) → IsReached script ranks s → IsReached script ranks (move ranks s p)
+reached_on script ranks s p r = record { order = r.order ++ p ∷ []; reached = moves-push ranks r.order p (start script ranks) ∙ ap (λ u. move ranks u p) r.reached }
+
+move_other : (ranks : ℕ) (s : State) (p q : ℕ) → (q ≡ p → ⊥) → move ranks s p q ≡ s q
+move_other ranks s p q other = by_test (q == p) refl where
+  by_test : (b : Bool) → (q == p) ≡ b → cond b (or_stay (s q) (step (known ranks s p) (s q))) (s q) ≡ s q
+  by_test true e = absurd (other ((Decides-eqb q p).0 e))
+  by_test false e = refl
+
+module _ (script : List (List Statement)) (ranks p : ℕ) (u : State) (rs : List RankView) (l : p < ranks) (b : RankView) (t : Table) (at : slice_get rs p ≡ Some b) (reached : IsReached script ranks u) (are : AreIn ranks rs t u) where
+  -- where it stands before a move
+  before : Before ranks p b t u
+  before = record {
+    me = (are.each p b at).0;
+    local_me = each-me script ranks u reached p;
+    stands = (are.each p b at).1;
+    born = λ word name birth e. (each-bound script ranks u reached p l word name birth e).born;
+    shows = are.shows;
+  }
+
+  are_after : (c : RankView) (tc : Table) (moved : Bool) → After ranks p c tc u moved → IsQuiet ranks (move ranks u p) → AreIn ranks (set rs p c) tc (move ranks u p)
+  are_after c tc moved a quiet = record {
+    count = length-set rs p c ∙ are.count;
+    each = λ q x e. set_cases rs p q c x (λ y. (y.me ≡ q) × Stands y (move ranks u p q)) e
+        (λ same. (a.me ∙ sym same, subst (λ j. Stands c (move ranks u p j)) (sym same) a.stands))
+        (λ old other. let x0 = are.each q x old in (x0.0, subst (Stands x) (sym (move_other ranks u p q other)) x0.1));
+    shows = a.shows;
+    quiet = quiet;
+  }
+
+  -- it has moved
+  pub moved_on : (c : RankView) (tc : Table) → Moves b t c tc true → IsReached script ranks (move ranks u p) × AreIn ranks (set rs p c) tc (move ranks u p)
+  moved_on c tc m =
+      let a = m ranks p u before in
+      let found = some_of (step (known ranks u p) (u p)) (sym a.moves) in
+      (reached_on script ranks u p reached, are_after c tc true a (move-quiet ranks u p l found.0 found.1 are.quiet))
+
+  -- it has no move
+  pub stands_still : (c : RankView) (tc : Table) → Moves b t c tc false → IsStuck ranks u p × AreIn ranks (set rs p c) tc u
+  stands_still c tc m =
+      let a = m ranks p u before in
+      let none = none_there (step (known ranks u p) (u p)) (sym a.moves) in
+      let same : move ranks u p ≡ u = λ i q. move_stays ranks u p none q i in
+      (none, subst (AreIn ranks (set rs p c) tc) same (are_after c tc false a (subst (IsQuiet ranks) (sym same) are.quiet)))
+
+-- a move more
+pub leads_itself : (a : RankView) (ta : Table) → Leads a ta a ta false
+leads_itself a ta script ranks p s rs l at reached are = record { to = s; reached = reached; are = subst (λ xs. AreIn ranks xs ta s) (sym (set_same rs p a at)) are; still = λ e. refl }
+
+pub leads_on : (a : RankView) (ta : Table) (b : RankView) (tb : Table) (c : RankView) (tc : Table) (moved : Bool) → Leads a ta b tb moved → Moves b tb c tc true → Leads a ta c tc true
+leads_on a ta b tb c tc moved h m script ranks p s rs l at reached are =
+    let led = h script ranks p s rs l at reached are in
+    let new = moved_on script ranks p led.to (set rs p b) l b tb (set_has rs p a b at) led.reached led.are c tc m in
+    record { to = move ranks led.to p; reached = new.0; are = subst (λ xs. AreIn ranks xs tc (move ranks led.to p)) (set_twice rs p b c) new.1; still = λ e. cc e }
+
+-- the last one
+pub goes_to_end : (a : RankView) (ta : Table) (b : RankView) (tb : Table) (c : RankView) (tc : Table) (moved : Bool) → Leads a ta b tb moved → Moves b tb c tc false → GoesOn a ta c tc moved
+goes_to_end a ta b tb c tc moved h m script ranks p s rs l at reached are =
+    let led = h script ranks p s rs l at reached are in
+    let end = stands_still script ranks p led.to (set rs p b) l b tb (set_has rs p a b at) led.reached led.are c tc m in
+    (record { to = led.to; reached = led.reached; are = subst (λ xs. AreIn ranks xs tc led.to) (set_twice rs p b c) end.1; still = led.still }, end.0)
+
+-- ROUNDS
+
+pub round_starts : (rs : List RankView) (t : Table) → Round rs t rs t false 0
+round_starts rs t script ranks s reached are = (record { to = s; reached = reached; are = are; still = λ e. refl }, λ e p l. absurd (omega (arith, l)))
+
+pub round_more : (old : List RankView) (before : Table) (rs : List RankView) (t : Table) (changed moved : Bool) (n : ℕ) (a c : RankView) (tc : Table) → slice_get rs n ≡ Some a → Round old before rs t changed n → GoesOn a t c tc moved → Round old before (set rs n c) tc (changed || moved) (n + 1)
+round_more old before rs t changed moved n a c tc at h g script ranks s reached are =
+    let first = h script ranks s reached are in
+    let led = first.0 in
+    let l : n < ranks = omega (arith, slice_get_within rs n a at, led.are.count) in
+    let then = g script ranks n led.to rs l at led.reached led.are in
+    let same : (changed || moved) ≡ false → then.0.to ≡ s = λ e. let parts = or_parts changed moved e in then.0.still parts.1 ∙ led.still parts.0 in (
+      record { to = then.0.to; reached = then.0.reached; are = then.0.are; still = same },
+      λ e p less.
+          let below : p ≤ n = omega (arith, less) in
+          elim (eq-or-lt_of_le below) [
+            | inl is ↦ subst (λ q. IsStuck ranks s q) (sym is) (subst (λ v. IsStuck ranks v n) (same e) then.1)
+            | inr more ↦ first.1 (or_parts changed moved e).0 p more
+          ],
+    )
+
+pub rounds_start : (rs : List RankView) (t : Table) → Rounds rs t rs t
+rounds_start rs t script ranks s reached are = (s, reached, are)
+
+pub rounds_on : (old : List RankView) (before : Table) (rs : List RankView) (t : Table) (new : List RankView) (u : Table) (moved : Bool) (n : ℕ) → Rounds old before rs t → Round rs t new u moved n → Rounds old before new u
+rounds_on old before rs t new u moved n h r script ranks s reached are =
+    let here = h script ranks s reached are in
+    let led = (r script ranks here.0 here.1 here.2).0 in
+    (led.to, led.reached, led.are)
+
+lt_or_ge : (a b : ℕ) → (a < b) ⊎ (b ≤ a)
+lt_or_ge a zero = inr (omega arith)
+lt_or_ge a (suc b) = elim (lt_or_ge a b) [ inl l ↦ inl (omega arith) | inr g ↦ elim (eq-or-lt_of_le g) [ inl e ↦ inl (omega arith) | inr l ↦ inr (omega arith) ] ]
+
+-- after a round that moves nobody
+pub rounds_end : (old : List RankView) (before : Table) (rs : List RankView) (t : Table) (new : List RankView) (u : Table) (n : ℕ) → length rs ≤ n → Rounds old before rs t → Round rs t new u false n → (script : List (List Statement)) (ranks : ℕ) (s : State) → IsReached script ranks s → AreIn ranks old before s → AreAtEnd script ranks new u
+rounds_end old before rs t new u n many h r script ranks s reached are =
+    let here = h script ranks s reached are in
+    let last = r script ranks here.0 here.1 here.2 in
+    let stuck : (p : ℕ) → IsStuck ranks here.0 p = λ p. elim (lt_or_ge p ranks) [
+      | inl l ↦ last.1 refl p (omega (arith, l, here.2.count, many))
+      | inr g ↦ step_ends (known ranks here.0 p) (here.0 p) (here.2.quiet.from p g)
+    ] in
+    record {
+      end = here.0;
+      evaluation = record { reached = here.1; maximal = stuck };
+      are = subst (AreIn ranks new u) (last.0.still refl) last.0.are;
+    }

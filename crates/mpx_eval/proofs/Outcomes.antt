@@ -1,0 +1,93 @@
+-- What a table's rows give is what the whole rows of the posts give that it shows.
+use Rattle.std.proofs.Common.{◌≡◌, ℕ, Bool, true, false, ◌==◌, cond, List, [], ◌∷◌, map, Option, Some, None, refl, sym, ap, ◌∙◌}
+use Rattle.std.specs.Prelude.{option_and_then, slice_get}
+use Rattle.std.specs.Option.{option_map}
+use Rattle.std.proofs.lemmas.Bool.Decides.{Decides-eqb}
+use Rattle.std.proofs.lemmas.Option.{option_and_then_some}
+use Rattle.mpx_name.specs.declared.steps.Step.TheVariants.{Child}
+use Rattle.mpx_name.specs.Name.{Name, same_name}
+use Rattle.mpx_post.specs.Births.{BirthView, rank_in}
+use Rattle.mpx_post.specs.Posts.{Given}
+use Rattle.mpx_post.specs.Rows.{RowView, all_of}
+use Rattle.mpx_value.specs.declared.outcomes.Outcome.{Outcome}
+use Rattle.mpx_value.specs.declared.outcomes.Outcome.TheVariants.{Nothing, Absent, Items, NewComm, Null, Fault}
+use Rattle.mpx_value.specs.Children.{ChildView, child, children, named_children, of_colour}
+use Rattle.mpx_value.specs.Histories.{Answer, answer_with, birth_of, child_of, history_of, outcome_of, outcomes_by, posts_on, results_of, row_of, value_for}
+use Rattle.mpx_value.proofs.NewCommunicators.{new_communicator}
+use Rattle.mpx_value.specs.Values.{value}
+use Rattle.mpx_eval.specs.Contexts.{ContextView, answer_by, answer_in, births_by, found, row_in}
+use Rattle.mpx_eval.specs.Tables.{Posted, Shows, Table, answer_on}
+use Rattle.mpx_eval.proofs.Tables.{name_itself, same_is}
+
+all_of-map : {A B C : Type 0} (f : B → Option A) (g : C → B) (xs : List C) → all_of f (map g xs) ≡ all_of (λ x. f (g x)) xs
+all_of-map {A} f g [] = refl
+all_of-map {A} f g (x ∷ xs) = ap (λ o. option_and_then (λ y. option_and_then (λ (ys : List A). Some (y ∷ ys)) o) (f (g x))) (all_of-map f g xs)
+
+-- children of one call are told apart by their colours
+same_child : (name : Name) (call a b : ℕ) → same_name (Child call a ∷ name) (Child call b ∷ name) ≡ (a == b)
+same_child name call a b = by_tests (same_name (Child call a ∷ name) (Child call b ∷ name)) (a == b) refl refl where
+  by_tests : (t u : Bool) → same_name (Child call a ∷ name) (Child call b ∷ name) ≡ t → (a == b) ≡ u → same_name (Child call a ∷ name) (Child call b ∷ name) ≡ (a == b)
+  by_tests true true e f = e ∙ sym f
+  by_tests false false e f = e ∙ sym f
+  by_tests true false e f = let same : Child call a ∷ name ≡ Child call b ∷ name = same_is _ _ e in let is : a ≡ b = cc same in cc (f, (Decides-eqb a b).1 is)
+  by_tests false true e f = cc (e, name_itself (Child call a ∷ name), ap (λ c. same_name (Child call a ∷ name) (Child call c ∷ name)) ((Decides-eqb a b).0 f))
+
+found_child : (name : Name) (call colour : ℕ) (xs : List ChildView) → found (Child call colour ∷ name) (named_children name call xs) ≡ of_colour colour xs
+found_child name call colour [] = refl
+found_child name call colour (x ∷ xs) = λ i. cond (same_child name call x.colour colour i) (Some x.birth) (found_child name call colour xs i)
+
+-- the same answer where births that it names are the same
+same_answer : (f g : Name → Option BirthView) (outcome : Outcome) → ((new : Name) (size rank : ℕ) → outcome ≡ NewComm new size rank → f new ≡ g new) → answer_with f outcome ≡ answer_with g outcome
+same_answer f g Nothing h = refl
+same_answer f g Absent h = refl
+same_answer f g (Items items) h = refl
+same_answer f g (NewComm new size rank) h = ap (λ born. let a : Answer = record { outcome = NewComm new size rank; born = born } in a) (h new size rank refl)
+same_answer f g Null h = refl
+same_answer f g (Fault fault) h = refl
+
+module _ (ranks : ℕ) (t : Table) (made : Posted) (s : Shows ranks t made) (me : ℕ) (name : Name) (call : ℕ) where
+  -- what a whole row gives
+  given_by_row : (birth : BirthView) (row : RowView) → birth_of (history_of made) ranks name ≡ Some birth → row_of (history_of made) name birth call ≡ Some row → answer_by birth me row name call ≡ option_map (answer_with (birth_of (history_of made) ranks)) (value_for birth me row name call)
+  given_by_row birth row born whole = by_outcome (value_for birth me row name call) refl where
+    by_outcome : (o : Option Outcome) → value_for birth me row name call ≡ o → option_map (answer_with (births_by birth row name call)) o ≡ option_map (answer_with (birth_of (history_of made) ranks)) o
+    by_outcome None e = refl
+    by_outcome (Some outcome) e = ap Some (same_answer (births_by birth row name call) (birth_of (history_of made) ranks) outcome (λ new size rank is.
+        let i = new_communicator birth me row name call new size rank (e ∙ ap Some is) in
+        ap (births_by birth row name call) i.named
+        ∙ found_child name call i.child.colour (children birth row name call)
+        ∙ sym (ap (option_and_then (λ x. child birth x name call i.child.colour)) whole)
+        ∙ sym (ap (option_and_then (child_of (history_of made) name call i.child.colour)) born)
+        ∙ sym (ap (birth_of (history_of made) ranks) i.named)))
+
+  row_is : (c : ContextView) → t name ≡ Some c → row_in c call ≡ row_of (history_of made) name c.birth call
+  row_is c e = ap (all_of (λ (posts : List Given). slice_get posts call)) (s.posts name c e) ∙ all_of-map (λ (posts : List Given). slice_get posts call) (λ member. posts_on name (made member)) c.birth.members
+
+  on_context : (c : ContextView) → t name ≡ Some c → answer_in c me name call ≡ results_of (history_of made) ranks me name call
+  on_context c e =
+      let born = s.born name c e in
+      by_row (row_of (history_of made) name c.birth call) (row_is c e) refl
+      ∙ sym (ap (λ o. option_map (answer_with (birth_of (history_of made) ranks)) (option_and_then (λ birth. outcomes_by (history_of made) name birth me call) o)) born) where
+        by_row : (o : Option RowView) → row_in c call ≡ o → row_of (history_of made) name c.birth call ≡ o → answer_in c me name call ≡ option_map (answer_with (birth_of (history_of made) ranks)) (outcomes_by (history_of made) name c.birth me call)
+        by_row None f g = ap (option_and_then (λ row. answer_by c.birth me row name call)) f ∙ sym (ap (λ o. option_map (answer_with (birth_of (history_of made) ranks)) (option_and_then (λ row. value_for c.birth me row name call) o)) g)
+        by_row (Some row) f g = ap (option_and_then (λ row. answer_by c.birth me row name call)) f ∙ given_by_row c.birth row (s.born name c e) g ∙ sym (ap (λ o. option_map (answer_with (birth_of (history_of made) ranks)) (option_and_then (λ row. value_for c.birth me row name call) o)) g)
+
+  no_row : (members : List ℕ) (row : RowView) (rank : ℕ) → ((q : ℕ) → posts_on name (made q) ≡ []) → all_of (history_of made name call) members ≡ Some row → rank_in me members ≡ Some rank → ⊥
+  no_row [] row rank none e f = cc f
+  no_row (m ∷ ms) row rank none e f = cc (ap (λ ps. option_and_then (λ x. option_and_then (λ (xs : List Given). Some (x ∷ xs)) (all_of (history_of made name call) ms)) (slice_get ps call)) (sym (none m)) ∙ e)
+
+  -- where nobody has posted there is no outcome
+  nobody : t name ≡ None → results_of (history_of made) ranks me name call ≡ None
+  nobody e = by_outcome (outcome_of (history_of made) ranks me name call) refl where
+    by_outcome : (o : Option Outcome) → outcome_of (history_of made) ranks me name call ≡ o → option_map (answer_with (birth_of (history_of made) ranks)) (outcome_of (history_of made) ranks me name call) ≡ None
+    by_outcome None f = ap (option_map (answer_with (birth_of (history_of made) ranks))) f
+    by_outcome (Some outcome) f =
+        option_and_then_some (λ birth. outcomes_by (history_of made) name birth me call) (birth_of (history_of made) ranks name) outcome f (λ birth born g.
+        option_and_then_some (λ row. value_for birth me row name call) (row_of (history_of made) name birth call) outcome g (λ row whole k.
+        option_and_then_some (λ rank. Some (value birth row name call rank)) (rank_in me birth.members) outcome k (λ rank member is.
+        absurd (no_row birth.members row rank (s.none name e) whole member))))
+
+  pub results_same : answer_on t me name call ≡ results_of (history_of made) ranks me name call
+  results_same = by_context (t name) refl where
+    by_context : (o : Option ContextView) → t name ≡ o → answer_on t me name call ≡ results_of (history_of made) ranks me name call
+    by_context None e = ap (option_and_then (λ c. answer_in c me name call)) e ∙ sym (nobody e)
+    by_context (Some c) e = ap (option_and_then (λ x. answer_in x me name call)) e ∙ on_context c e

@@ -1,0 +1,171 @@
+-- Where a rank stands in its statements, and what its moves do.
+use Rattle.std.specs.Prelude.{◌≡◌, ℕ, ◌+◌, ◌*◌, Bool, true, false, ◌||◌, is_some, cond, List, [], ◌∷◌, length, map, bytes_eq, Option, Some, None, Result, Err}
+use Rattle.std.specs.BTreeMap.{BTreeMap, get}
+use Rattle.std.specs.Cmp.Lexicographic.{slice_cmp}
+use Rattle.std.specs.List.{list_all}
+use Rattle.std.specs.Option.{option_map}
+use Rattle.std.specs.Ordering.{nat_cmp}
+use Rattle.mpx_name.specs.Name.{Name}
+use Rattle.mpx_name.specs.declared.steps.Step.TheVariants.{Gathering}
+use Rattle.mpx_post.specs.declared.draft.PostError.{PostError}
+use Rattle.mpx_post.specs.declared.draft.PostError.TheVariants.{NotMember}
+use Rattle.mpx_post.specs.Births.{BirthView}
+use Rattle.mpx_post.specs.Gatherings.{GatheringView}
+use Rattle.mpx_value.specs.Histories.{Answer, Made, Results, birth_of, history_of}
+use Rattle.mpx_script.specs.declared.statement.Posting.{Posting}
+use Rattle.mpx_script.specs.declared.statement.Statement.{Statement}
+use Rattle.mpx_script.specs.Statements.{draft_of, gathers_of}
+use Rattle.mpx_script.specs.Grammar.{named}
+use Rattle.mpx_script.specs.Ranks.{Bound, Communicator, NullCommunicator, Line, Told, Idle, Todo, Await, Local, attempt_in, doing, step}
+use Rattle.mpx_script.specs.Transcripts.{line_text}
+use Rattle.mpx_script.specs.Evaluation.{State, history, known, move}
+use Rattle.mpx_eval.specs.Tables.{Posted, Shows, Table}
+
+-- a communicator: its name, and how it came to be
+abbrev pub CommunicatorView : Type 0
+CommunicatorView = Name × BirthView
+
+-- what a word stands for in a map
+abbrev pub looked_up : {A : Type 0} → BTreeMap (List ℕ) A → List ℕ → Option A
+looked_up m word = get (slice_cmp nat_cmp) m word
+
+-- a call whose outcome is awaited, and the word that its new communicator gets
+pub record WaitView : Type 0 where
+  pub name : Name
+  pub call : ℕ
+  pub target : Option (List ℕ)
+
+-- who it is, what its words are bound to (None is the null communicator) and which calls its open requests stand for, the
+-- statements that are left, what it waits for, and the lines so far
+pub record RankView : Type 0 where
+  pub me : ℕ
+  pub bound : List ℕ → Option (Option CommunicatorView)
+  pub requests : List ℕ → Option (Name × ℕ)
+  pub todo : List Statement
+  pub waits : Option WaitView
+  pub lines : List (List ℕ)
+
+-- WORDS
+
+abbrev pub bound_as : Option CommunicatorView → Bound
+bound_as None = NullCommunicator
+bound_as (Some c) = Communicator c.0 c.1
+
+-- the communicator that a word is bound to, where it is one
+abbrev pub communicator_in : Option (Option CommunicatorView) → Option CommunicatorView
+communicator_in None = None
+communicator_in (Some to) = to
+
+-- what was there stays
+abbrev pub or_new : {A : Type 0} → Option A → A → A
+or_new (Some old) new = old
+or_new None new = new
+
+-- a word more
+abbrev pub with_word : {A : Type 0} → (new : List ℕ) → A → (List ℕ → Option A) → List ℕ → Option A
+with_word new to words word = cond (bytes_eq word new) (Some (or_new (words word) to)) (words word)
+
+-- the word, where there is one, is bound to this
+abbrev pub binds : Option (List ℕ) → Option CommunicatorView → (List ℕ → Option (Option CommunicatorView)) → List ℕ → Option (Option CommunicatorView)
+binds None to bound = bound
+binds (Some new) to bound = with_word new to bound
+
+-- a word fewer
+abbrev pub closed : {A : Type 0} → List ℕ → (List ℕ → Option A) → List ℕ → Option A
+closed old words word = cond (bytes_eq old word) None (words word)
+
+abbrev pub closed_all : {A : Type 0} → List (List ℕ) → (List ℕ → Option A) → List ℕ → Option A
+closed_all [] words = words
+closed_all (old ∷ more) words = closed_all more (closed old words)
+
+-- POSTS
+
+-- what a statement comes to on a communicator, where its word is bound to one
+abbrev pub attempt_by : (me : ℕ) → List Made → Posting → Option CommunicatorView → Result Made PostError
+attempt_by me made posting None = Err NotMember
+attempt_by me made posting (Some c) = attempt_in me made (draft_of posting) (gathers_of posting) c.0 c.1
+
+-- the gathering of these members below a context
+abbrev pub gathering_name : Name → GatheringView → Name
+gathering_name parent g = Gathering g.tag g.members ∷ parent
+
+-- it came to be as these posts say
+abbrev pub IsBornSo : (ranks : ℕ) → Posted → Option CommunicatorView → Type 0
+IsBornSo ranks made o = (c : CommunicatorView) → o ≡ Some c → birth_of (history_of made) ranks c.0 ≡ Some c.1
+
+-- WAITS
+
+-- whether a request isn't open, or the answer of its call is known
+abbrev pub is_done : Results → Option (Name × ℕ) → Bool
+is_done r None = true
+is_done r (Some place) = is_some (r place.0 place.1)
+
+abbrev pub are_done : Results → (List ℕ → Option (Name × ℕ)) → List (List ℕ) → Bool
+are_done r requests words = list_all (λ word. is_done r (requests word)) words
+
+-- the line of a call, where its answer is known
+abbrev pub told_line : Name → (call : ℕ) → Option Answer → Line
+told_line name call None = Idle
+told_line name call (Some answer) = Told name call answer.outcome
+
+-- the line of a request that may be open
+abbrev pub request_line : Results → Option (Name × ℕ) → Line
+request_line r None = Idle
+request_line r (Some place) = told_line place.0 place.1 (r place.0 place.1)
+
+-- the lines of a wait for these words
+abbrev pub wait_lines : Results → (List ℕ → Option (Name × ℕ)) → List (List ℕ) → List Line
+wait_lines r requests [] = []
+wait_lines r requests (word ∷ words) = request_line r (requests word) ∷ wait_lines r (closed word requests) words
+
+-- WHERE A RANK STANDS
+
+abbrev pub todo_of : Option WaitView → List Statement → List Todo
+todo_of (Some w) rest = Await w.name w.call w.target ∷ doing rest
+todo_of None rest = doing rest
+
+abbrev pub awaited : Option WaitView → ℕ
+awaited (Some w) = 1
+awaited None = 0
+
+-- so much is left at most
+abbrev pub left_of : RankView → ℕ
+left_of r = 2 * length r.todo + awaited r.waits
+
+abbrev pub has_statements : List Statement → Bool
+has_statements [] = false
+has_statements (x ∷ rest) = true
+
+-- whether it waits for an outcome, or has statements left
+abbrev pub is_waiting : RankView → Bool
+is_waiting r = is_some r.waits || has_statements r.todo
+
+-- the rank stands there in its script
+pub record Stands (r : RankView) (s : Local) : Type 0 where
+  pub bound : (word : List ℕ) → option_map bound_as (r.bound word) ≡ named s.bound word
+  pub requests : (word : List ℕ) → r.requests word ≡ named s.requests word
+  pub todo : s.todo ≡ todo_of r.waits r.todo
+  pub lines : r.lines ≡ map line_text s.lines
+
+-- the posts of each rank
+abbrev pub posted_by : State → Posted
+posted_by s q = (s q).made
+
+-- this is rank p, it stands there, each communicator that its words are bound to came to be so, and the table shows all posts
+pub record Before (ranks p : ℕ) (r : RankView) (t : Table) (s : State) : Type 0 where
+  pub me : r.me ≡ p
+  pub local_me : (s p).me ≡ p
+  pub stands : Stands r (s p)
+  pub born : (word : List ℕ) (name : Name) (birth : BirthView) → named (s p).bound word ≡ Some (Communicator name birth) → birth_of (history s) ranks name ≡ Some birth
+  pub shows : Shows ranks t (posted_by s)
+
+-- the same after its move, where it has one
+pub record After (ranks p : ℕ) (r : RankView) (t : Table) (s : State) (moved : Bool) : Type 0 where
+  pub moves : moved ≡ is_some (step (known ranks s p) (s p))
+  pub me : r.me ≡ p
+  pub stands : Stands r (move ranks s p p)
+  pub shows : Shows ranks t (posted_by (move ranks s p))
+
+-- one is the other moved on, or there was no move
+abbrev pub Moves : (old : RankView) (before : Table) (new : RankView) (after : Table) (moved : Bool) → Type 0
+Moves old before new after moved = (ranks p : ℕ) (s : State) → Before ranks p old before s → After ranks p new after s moved

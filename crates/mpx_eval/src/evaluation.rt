@@ -1,0 +1,91 @@
+// The evaluation of a script.
+ghost use Rattle.std.specs.Prelude.{◌≡◌, ◌<◌, ◌≤◌, ◌++◌, ◌∷◌, ℕ, IfOk, List, None, OnOk, [], cond, length, map, slice_get, string_bytes};
+ghost use Rattle.mpx_name.specs.Name.{Name as NameView};
+ghost use Rattle.mpx_script.specs.Reports.{transcripts_of, which};
+ghost use Rattle.mpx_eval.specs.Evaluated.{IsEvaluated};
+ghost use Rattle.mpx_eval.specs.Places.{RankView};
+ghost use Rattle.mpx_eval.specs.Rounds.{Start, StartsAt, is_waiting_at};
+ghost use Rattle.mpx_eval.specs.Shown.{rank_of};
+
+use crate::rank::Rank;
+use crate::rounds::rounds;
+use crate::table::Table;
+use join_core::OutOfMemory;
+use mpx_script::{Report, Script};
+use std::alloc::Global;
+
+/// What the ranks of a script print: in rounds, every rank in order goes on until it must wait for posts that are missing; it
+/// ends with a round that moves nobody.
+pub fn eval(alloc: Global, script: &Script) -> Result<Report, OutOfMemory>
+    ensures { IfOk result (λ report. IsEvaluated script.now (transcripts_of report) report.waiting.items) }
+{
+    let mut ranks = start(alloc, script)?;
+    let mut table = Table::new(alloc);
+    rounds(alloc, &mut ranks, &mut table)?;
+    let waiting = waiting_of(alloc, ranks.as_slice(), script.ranks())?;
+    let transcripts = lines_of(alloc, ranks)?;
+    Ok(Report {
+        transcripts,
+        waiting,
+    })
+}
+
+// The ranks before their statements.
+fn start<'a>(alloc: Global, script: &'a Script) -> Result<Vec<Rank<'a>>, OutOfMemory>
+    ensures { IfOk result (λ ranks. Start script.now.statements script.now.ranks script.now.ranks (map rank_of ranks.items)) }
+{
+    let mut places = Vec::new(alloc);
+    let ranks = script.ranks();
+    for me in 0..ranks {
+        places.push(start_at(alloc, script, me, ranks)?)?;
+    }
+    Ok(places)
+}
+
+// A rank before its statements.
+fn start_at<'a>(
+    alloc: Global,
+    script: &'a Script,
+    me: u8,
+    ranks: u8,
+) -> Result<Rank<'a>, OutOfMemory>
+    requires few { ranks ≤ 64 }
+    requires me { me < ranks }
+    ensures { IfOk result (λ rank. StartsAt script.now.statements ranks me (rank_of rank)) }
+{
+    Rank::new(alloc, me, ranks, script.statements(me))
+}
+
+// The ranks that have something left, in rising order.
+fn waiting_of(alloc: Global, places: &[Rank<'_>], ranks: u8) -> Result<Vec<u8>, OutOfMemory>
+    requires { ranks ≤ length places.now }
+    ensures { IfOk result (λ waiting. waiting.items ≡ which (λ p. is_waiting_at (slice_get (map rank_of places.now) p)) ranks) }
+{
+    let mut waiting = Vec::new(alloc);
+    for p in 0..ranks {
+        push_where(&mut waiting, p, places[p as usize].is_waiting())?;
+    }
+    Ok(waiting)
+}
+
+// Adds the rank where the test holds.
+fn push_where(ranks: &mut Vec<u8>, rank: u8, test: bool) -> Result<(), OutOfMemory>
+    ensures { OnOk result (ranks.new.items ≡ ranks.old.items ++ cond test (rank ∷ []) []) }
+{
+    if !test {
+        return Ok(());
+    }
+    ranks.push(rank)?;
+    Ok(())
+}
+
+// The lines of each rank.
+fn lines_of(alloc: Global, places: Vec<Rank<'_>>) -> Result<Vec<Vec<String>>, OutOfMemory>
+    ensures { IfOk result (λ transcripts. map (λ lines. map string_bytes lines.items) transcripts.items ≡ map (λ (r : RankView). r.lines) (map rank_of places.entry.items)) }
+{
+    let mut transcripts = Vec::new(alloc);
+    for place in places {
+        transcripts.push(place.into_lines())?;
+    }
+    Ok(transcripts)
+}

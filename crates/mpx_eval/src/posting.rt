@@ -1,0 +1,118 @@
+// What a rank's statements that post come to.
+ghost use Rattle.std.specs.Prelude.{◌≡◌, ℕ, Some, length};
+ghost use Rattle.std.specs.Option.{option_copied};
+ghost use Rattle.mpx_post.specs.Births.{of_members};
+ghost use Rattle.mpx_post.specs.Gatherings.{ChecksGathering, gathering};
+ghost use Rattle.mpx_script.specs.Ranks.{post_gathered, post_on};
+ghost use Rattle.mpx_value.specs.Histories.{birth_of, history_of};
+ghost use Rattle.mpx_eval.specs.Places.{IsBornSo, attempt_by, gathering_name};
+ghost use Rattle.mpx_eval.specs.Tables.{Posted, Shows, Tries, table_of};
+
+use crate::table::Table;
+use join_core::Exact;
+use mpx_group::Proc;
+use mpx_name::Name;
+use mpx_post::{Birth, Draft, Gathering, PostError};
+use mpx_script::Posting;
+use std::alloc::Global;
+
+/// What a statement of a process comes to on the communicator that its word is bound to: the context and the number of the
+/// call, or the refusal.
+pub(crate) fn attempt(
+    alloc: Global,
+    table: &mut Table,
+    me: Proc,
+    on: Option<&(Name, Birth)>,
+    posting: &Posting,
+) -> Result<(Name, u32), PostError>
+    ensures { (ranks : ℕ) (made : Posted) → Shows ranks (table_of table.old) made → IsBornSo ranks made (option_copied on.entry)
+        → Tries ranks made me (attempt_by me (made me) posting.now (option_copied on.entry)) result (table_of table.new) }
+{
+    let Some((name, birth)) = on else {
+        return Err(PostError::NotMember);
+    };
+    let Ok(draft) = posting.draft(alloc) else {
+        return Err(PostError::OutOfMemory);
+    };
+    match posting {
+        Posting::Call { .. } => post_on(alloc, table, me, name, birth, draft),
+        Posting::Start { .. } => post_on(alloc, table, me, name, birth, draft),
+        Posting::New { .. } => post_on(alloc, table, me, name, birth, draft),
+        Posting::CreateGroup { tag, ranks, .. } => {
+            post_gathered(alloc, table, me, name, birth, tag, ranks.as_slice(), draft)
+        }
+    }
+}
+
+// A post on a context.
+fn post_on(
+    alloc: Global,
+    table: &mut Table,
+    me: Proc,
+    name: &Name,
+    birth: &Birth,
+    draft: Draft,
+) -> Result<(Name, u32), PostError>
+    ensures { (ranks : ℕ) (made : Posted) → Shows ranks (table_of table.old) made → birth_of (history_of made) ranks name.now ≡ Some birth.now
+        → Tries ranks made me (post_on me (made me) draft name.now birth.now) result (table_of table.new) }
+{
+    match name.copy(alloc) {
+        Ok(name) => table.post(alloc, me, name, birth, draft),
+        Err(_) => Err(PostError::OutOfMemory),
+    }
+}
+
+// A post on the gathering of members of a context with these ranks.
+fn post_gathered(
+    alloc: Global,
+    table: &mut Table,
+    me: Proc,
+    parent: &Name,
+    birth: &Birth,
+    tag: &i128,
+    ranks: &[i128],
+    draft: Draft,
+) -> Result<(Name, u32), PostError>
+    ensures { (count : ℕ) (made : Posted) → Shows count (table_of table.old) made → birth_of (history_of made) count parent.now ≡ Some birth.now
+        → Tries count made me (post_gathered me (made me) draft parent.now (gathering birth.now me (length parent.now) tag.now ranks.now)) result (table_of table.new) }
+{
+    match gathered(alloc, birth, me, parent, tag, ranks) {
+        Ok(gathering) => post_below(alloc, table, me, parent, &gathering, draft),
+        Err(refusal) => Err(refusal),
+    }
+}
+
+// The gathering of members of a context with these ranks.
+fn gathered(
+    alloc: Global,
+    birth: &Birth,
+    me: Proc,
+    parent: &Name,
+    tag: &i128,
+    ranks: &[i128],
+) -> Result<Gathering, PostError>
+    ensures { ChecksGathering (gathering birth.now me (length parent.now) tag.now ranks.now) result }
+{
+    Gathering::check(alloc, birth, me, parent.depth(), *tag, ranks)
+}
+
+// A post on this gathering below a context.
+fn post_below(
+    alloc: Global,
+    table: &mut Table,
+    me: Proc,
+    parent: &Name,
+    gathering: &Gathering,
+    draft: Draft,
+) -> Result<(Name, u32), PostError>
+    ensures { (ranks : ℕ) (made : Posted) → Shows ranks (table_of table.old) made → birth_of (history_of made) ranks (gathering_name parent.now gathering.now) ≡ Some (of_members gathering.now.members)
+        → Tries ranks made me (post_on me (made me) draft (gathering_name parent.now gathering.now) (of_members gathering.now.members)) result (table_of table.new) }
+{
+    let Ok(name) = parent.gathering(alloc, gathering.tag(), gathering.members()) else {
+        return Err(PostError::OutOfMemory);
+    };
+    match gathering.birth(alloc) {
+        Ok(birth) => table.post(alloc, me, name, &birth, draft),
+        Err(_) => Err(PostError::OutOfMemory),
+    }
+}

@@ -1,0 +1,111 @@
+// The contexts on which somebody has posted.
+ghost use Rattle.std.specs.Prelude.{◌≡◌, ℕ, IfOk, OnOk, None, Some, is_some, true};
+ghost use Rattle.std.specs.Option.{option_map};
+ghost use Rattle.mpx_name.specs.Name.{Name as NameView};
+ghost use Rattle.mpx_script.specs.Ranks.{post_on};
+ghost use Rattle.mpx_value.specs.Histories.{birth_of, history_of};
+ghost use Rattle.mpx_eval.specs.Answered.{answer_of};
+ghost use Rattle.mpx_eval.specs.Contexts.{ContextView};
+ghost use Rattle.mpx_eval.specs.Tables.{Posted, PostsOn, Shows, Tries, answer_on, opened, table_of};
+
+use crate::context::{Answered, Context};
+use join_core::{Exact, OutOfMemory};
+use mpx_group::Proc;
+use mpx_name::Name;
+use mpx_post::{Birth, Draft, PostError};
+use std::alloc::Global;
+use std::collections::BTreeMap;
+
+/// The contexts on which somebody has posted, or would have, by their names.
+#[derive(Drop)]
+pub(crate) struct Table {
+    contexts: BTreeMap<Name, Context>,
+}
+
+impl Table {
+    /// Before any post.
+    pub(crate) fn new(alloc: Global) -> Table
+        ensures { (name : NameView) → table_of result name ≡ None }
+    {
+        Table {
+            contexts: BTreeMap::new(alloc),
+        }
+    }
+
+    /// Posts the draft of a process as its next call on the context of this name, which came to be so, and gives the name and
+    /// the number of the call. The refusals are those of [`Draft::check`].
+    pub(crate) fn post(
+        &mut self,
+        alloc: Global,
+        me: Proc,
+        name: Name,
+        birth: &Birth,
+        draft: Draft,
+    ) -> Result<(Name, u32), PostError>
+        ensures { (ranks : ℕ) (made : Posted) → Shows ranks (table_of self.old) made → birth_of (history_of made) ranks name ≡ Some birth.now
+            → Tries ranks made me (post_on me (made me) draft name birth.now) result (table_of self.new) }
+    {
+        match self.open(alloc, &name, birth) {
+            Ok(()) => match self.post_on(alloc, me, &name, draft) {
+                Ok(call) => Ok((name, call)),
+                Err(refusal) => Err(refusal),
+            },
+            Err(_) => Err(PostError::OutOfMemory),
+        }
+    }
+
+    /// What a call gives a process, where all members have posted to it.
+    pub(crate) fn answer(
+        &self,
+        alloc: Global,
+        me: Proc,
+        name: &Name,
+        call: u32,
+    ) -> Result<Option<Answered>, OutOfMemory>
+        ensures { IfOk result (λ answer. option_map answer_of answer ≡ answer_on (table_of self.now) me name.now call) }
+    {
+        match self.contexts.get(name) {
+            Some(context) => context.answer(alloc, me, name, call),
+            None => Ok(None),
+        }
+    }
+
+    /// Whether all members have posted to a call, of which the process is one.
+    pub(crate) fn has_answer(&self, me: Proc, name: &Name, call: u32) -> bool
+        ensures { result ≡ is_some (answer_on (table_of self.now) me name.now call) }
+    {
+        match self.contexts.get(name) {
+            Some(context) => context.has_answer(me, call),
+            None => false,
+        }
+    }
+
+    // Puts in a context without posts, where there is none of this name.
+    fn open(&mut self, alloc: Global, name: &Name, birth: &Birth) -> Result<(), OutOfMemory>
+        ensures { OnOk result ((q : NameView) → table_of self.new q ≡ opened name.now birth.now (table_of self.old) q) }
+    {
+        if self.contexts.contains_key(name) {
+            return Ok(());
+        }
+        let context = Context::new(alloc, birth.copy(alloc)?)?;
+        self.contexts.insert(name.copy(alloc)?, context)?;
+        Ok(())
+    }
+
+    // Posts on a context that is there.
+    fn post_on(
+        &mut self,
+        alloc: Global,
+        me: Proc,
+        name: &Name,
+        draft: Draft,
+    ) -> Result<u32, PostError>
+        requires { is_some (table_of self.old name.now) ≡ true }
+        ensures { (c : ContextView) → table_of self.old name.now ≡ Some c → PostsOn me name.now draft result c (table_of self.old) (table_of self.new) }
+    {
+        let Some(context) = self.contexts.get_mut(name) else {
+            unreachable!();
+        };
+        context.post(alloc, me, name, draft)
+    }
+}

@@ -1,0 +1,13 @@
+use Rattle.std.proofs.Common.{◌∙◌, ap, string_bytes}
+use Rattle.mpx_script.specs.Reports.{transcripts_of}
+use Rattle.mpx_script.specs.Transcripts.{text_upto}
+use Rattle.mpx_run.specs.Runs.{lines_at}
+use Rattle.mpx_run.proofs.Reporting.{evaluated, if_both}
+use Rattle.mpx_run.proofs.report.print_evaluation.Goals as goal
+
+pub returns : goal.returns
+returns c =
+    let report = c.in_ok-report.report in
+    let said = transcripts_of report in
+    if_both c.print_report.result c.print_report.ensures.text c.print_report.ensures.end (λ printed text ends.
+    evaluated c.args.script.now said report.waiting.items printed.end (string_bytes printed.text) c.in_ok-report.ensures (text ∙ ap (text_upto (lines_at said)) c.ranks.ensures.ranks) ends)

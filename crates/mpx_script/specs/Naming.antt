@@ -1,0 +1,82 @@
+-- Names: which words are some, which are bound, and what a line's names are refused for.
+use Rattle.std.specs.Prelude.{ℕ, nat_le, Bool, false, not, ◌==◌, ◌||◌, ◌&&◌, List, [], ◌∷◌, ◌++◌, length, slice_index_or, codes, bytes_eq, Option, Some, None, pos, negsuc}
+use Rattle.std.specs.List.{filter_map, list_all, list_any, range_with_len}
+use Rattle.std.specs.Option.{option_map_or, option_to_list}
+use Rattle.mpx_script.specs.Statements.{communicators_of, requests_of, target_of, request_of}
+use Rattle.mpx_script.specs.Grammar.{DirectiveSyntax, label_in, statement_in}
+use Rattle.mpx_script.specs.declared.grammar.Label.{Label}
+use Rattle.mpx_script.specs.declared.grammar.Label.TheVariants.{Every, Numbered}
+use Rattle.mpx_script.specs.declared.statement.Statement.{Statement}
+
+-- a to z
+abbrev pub is_small_letter : ℕ → Bool
+is_small_letter byte = nat_le 97 byte && nat_le byte 122
+
+-- a to z, 0 to 9 or `_`
+abbrev pub is_name_byte : ℕ → Bool
+is_name_byte byte = is_small_letter byte || (nat_le 48 byte && nat_le byte 57) || byte == 95
+
+-- a small letter, then small letters, digits or `_`, at most 32 bytes in all
+unfoldable pub is_name : List ℕ → Bool
+is_name [] = false
+is_name (first ∷ more) = is_small_letter first && list_all is_name_byte more && nat_le (length (first ∷ more)) 32
+
+-- the names that a rank has bound, to communicators and to requests
+pub record BoundNames : Type 0 where
+  pub communicators : List (List ℕ)
+  pub requests : List (List ℕ)
+
+-- those that these statements bind, with `world`, which is bound from the start
+abbrev pub names_bound : List Statement → BoundNames
+names_bound statements = record { communicators = codes "world" ∷ filter_map target_of statements; requests = filter_map request_of statements }
+
+-- the names of a rank that there isn't
+abbrev pub nothing_bound : BoundNames
+nothing_bound = record { communicators = []; requests = [] }
+
+-- one of the names is the word
+abbrev pub is_bound : List (List ℕ) → List ℕ → Bool
+is_bound names word = list_any (bytes_eq word) names
+
+-- the names that a statement binds: at most one, to a communicator or to a request
+abbrev pub new_names_of : Statement → List (List ℕ)
+new_names_of statement = option_to_list (target_of statement) ++ option_to_list (request_of statement)
+
+-- and with them those that it uses
+abbrev pub names_of : Statement → List (List ℕ)
+names_of statement = communicators_of statement ++ requests_of statement ++ new_names_of statement
+
+-- a word of the statement is no name
+abbrev pub misnames : Statement → Bool
+misnames statement = list_any (λ word. not (is_name word)) (names_of statement)
+
+-- a word stands for a communicator and isn't bound to one, or for a request and isn't bound to one
+abbrev pub lacks_name : Statement → BoundNames → Bool
+lacks_name statement names = list_any (λ word. not (is_bound names.communicators word)) (communicators_of statement)
+    || list_any (λ word. not (is_bound names.requests word)) (requests_of statement)
+
+-- a new name is bound already, to a communicator or to a request
+abbrev pub takes_name : Statement → BoundNames → Bool
+takes_name statement names = list_any (λ word. is_bound names.communicators word || is_bound names.requests word) (new_names_of statement)
+
+-- the ranks that a label names
+abbrev pub ranks_labelled : ℕ → Option Label → List ℕ
+ranks_labelled ranks None = []
+ranks_labelled ranks (Some Every) = range_with_len 0 ranks
+ranks_labelled ranks (Some (Numbered (pos n))) = n ∷ []
+ranks_labelled ranks (Some (Numbered (negsuc n))) = []
+
+-- that holds of the names of one of these ranks
+abbrev pub at_some_rank : List BoundNames → List ℕ → (BoundNames → Bool) → Bool
+at_some_rank bound ranks test = list_any (λ rank. test (slice_index_or bound rank nothing_bound)) ranks
+
+-- What a line's names are refused for, where its words say a statement: `bound` has the names of each rank
+
+unfoldable pub has_bad_name : DirectiveSyntax → Bool
+has_bad_name directive = option_map_or misnames (statement_in directive) false
+
+unfoldable pub has_unknown_name : List BoundNames → ℕ → DirectiveSyntax → Bool
+has_unknown_name bound ranks directive = option_map_or (λ statement. at_some_rank bound (ranks_labelled ranks (label_in directive)) (lacks_name statement)) (statement_in directive) false
+
+unfoldable pub has_taken_name : List BoundNames → ℕ → DirectiveSyntax → Bool
+has_taken_name bound ranks directive = option_map_or (λ statement. at_some_rank bound (ranks_labelled ranks (label_in directive)) (takes_name statement)) (statement_in directive) false

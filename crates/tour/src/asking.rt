@@ -1,0 +1,125 @@
+//! Requests that overlap, and waits that make turns.
+ghost use Rattle.std.specs.Prelude.{◌≡◌, ◌≤◌, ℕ, IfOk, Some, drop};
+ghost use Rattle.mpx_board.specs.Looks.{look};
+ghost use Rattle.mpx_node.specs.Shown.{node_of};
+ghost use Rattle.mpx_comm.specs.Requests.{result_of};
+
+use crate::desks::{desk_of, number_of, numbers, swap};
+use crate::inbox::Inbox;
+use crate::stop::Stop;
+use mpx_board::Board;
+use mpx_comm::{Comm, Desk, Host, Request, Tested};
+use mpx_group::Proc;
+use mpx_node::{Finished, Node, PartError};
+use mpx_num::{Op, Ty};
+use mpx_post::PostError;
+use std::alloc::Global;
+use std::collections::VecDeque;
+
+/// Posts the sum of all ranks' numbers. It waits for nobody.
+pub fn post_sum<H: Host>(
+    alloc: Global,
+    desk: &mut Desk<H>,
+    comm: &Comm,
+    number: i128,
+) -> Result<Request, Stop> {
+    let items = numbers(alloc, &[number])?;
+    Ok(desk.iallreduce(alloc, comm, Op::Sum, Ty::I32, items)?)
+}
+
+/// The result of a call that is done: the stored one.
+pub fn tested<H: Host>(
+    alloc: Global,
+    desk: &mut Desk<H>,
+    request: Request,
+) -> Result<Finished, Stop>
+    ensures { IfOk result (λ finished. result_of (H.node desk.new.host) request ≡ Some finished) }
+{
+    match desk.test(alloc, request)? {
+        Tested::Done(finished) => Ok(finished),
+        Tested::NotYet(_) => Err(Stop::NoAnswer),
+    }
+}
+
+/// Two sums at once. The last one is asked for first.
+pub fn two_sums(
+    alloc: Global,
+    left: &mut Desk<Node>,
+    right: &mut Desk<Node>,
+) -> Result<(i128, i128), Stop> {
+    let (here, there) = (Comm::world(alloc, 2, 0), Comm::world(alloc, 2, 1));
+    let first = post_sum(alloc, left, &here, 1)?;
+    let last = post_sum(alloc, left, &here, 2)?;
+    post_sum(alloc, right, &there, 2)?;
+    post_sum(alloc, right, &there, 3)?;
+    swap(alloc, left, right)?;
+    let last = tested(alloc, left, last)?;
+    let first = left.wait(alloc, first, 0)?;
+    Ok((number_of(&first)?, number_of(&last)?))
+}
+
+/// The first open request that is done: the number of its call, and the sum.
+pub fn any_sum<H: Host>(alloc: Global, desk: &mut Desk<H>) -> Result<(u32, i128), Stop> {
+    match desk.testany(alloc)? {
+        Some((request, finished)) => Ok((request.call(), number_of(&finished)?)),
+        None => Err(Stop::NoAnswer),
+    }
+}
+
+/// A broadcast by a rank that the communicator doesn't have: why it is refused.
+pub fn refusal<H: Host>(alloc: Global, desk: &mut Desk<H>, comm: &Comm) -> Result<PostError, Stop> {
+    let items = numbers(alloc, &[])?;
+    match desk.ibcast(alloc, comm, 9, Ty::U8, 1, items) {
+        Err(PostError::OutOfMemory) => Err(Stop::OutOfMemory),
+        Err(refusal) => Ok(refusal),
+        Ok(_) => Err(Stop::NoAnswer),
+    }
+}
+
+/// Waits over an inbox: what it took are the next boards, at most as many as the turns.
+pub fn awaited(
+    alloc: Global,
+    desk: &mut Desk<Inbox>,
+    request: Request,
+    turns: u64,
+) -> Result<Finished, Stop>
+    ensures { IfOk result (λ finished. (n : ℕ) × (n ≤ turns) × (desk.new.host.boards.items ≡ drop n desk.old.host.boards.items)) }
+{
+    Ok(desk.wait(alloc, request, turns)?)
+}
+
+// The rank's whole board, as one that can be sent.
+fn board_of(alloc: Global, desk: &Desk<Node>) -> Result<Board, Stop>
+    ensures { IfOk result (λ board. look board ≡ (node_of desk.now.host).board) }
+{
+    match desk.host().part(alloc, 1_048_576) {
+        Ok(board) => Ok(board),
+        Err(PartError::OutOfMemory) => Err(Stop::OutOfMemory),
+        Err(PartError::DoesNotFit) => Err(Stop::NoAnswer),
+    }
+}
+
+// Three boards of rank 1: its post of the sum is on the second and the third.
+fn boards_of_other(alloc: Global, other: &mut Desk<Node>) -> Result<VecDeque<Board>, Stop> {
+    let mut boards = VecDeque::new(alloc);
+    boards.push_back(board_of(alloc, other)?)?;
+    post_sum(alloc, other, &Comm::world(alloc, 2, 1), 20)?;
+    boards.push_back(board_of(alloc, other)?)?;
+    boards.push_back(board_of(alloc, other)?)?;
+    Ok(boards)
+}
+
+// The desk of rank 0 with these boards in its inbox.
+fn desk_with(alloc: Global, boards: VecDeque<Board>) -> Result<Desk<Inbox>, Stop> {
+    let node = Node::new(alloc, Proc::new(0), 2, 2)?;
+    Ok(Desk::new(alloc, Inbox { node, boards }))
+}
+
+/// The sum, and how many boards are left in the inbox.
+pub fn sum_from_inbox(alloc: Global) -> Result<(i128, usize), Stop> {
+    let boards = boards_of_other(alloc, &mut desk_of(alloc, 1, 2)?)?;
+    let mut desk = desk_with(alloc, boards)?;
+    let request = post_sum(alloc, &mut desk, &Comm::world(alloc, 2, 0), 10)?;
+    let finished = awaited(alloc, &mut desk, request, 5)?;
+    Ok((number_of(&finished)?, desk.host().boards.len()))
+}

@@ -1,0 +1,41 @@
+//! Desks of nodes, and what goes between them.
+ghost use Rattle.std.specs.Prelude.{◌≡◌, ◌<◌, ◌≤◌, IfOk, OnOk};
+
+use crate::stop::Stop;
+use mpx_comm::Desk;
+use mpx_group::Proc;
+use mpx_node::{Finished, Node};
+use mpx_num::Numbers;
+use mpx_value::Outcome;
+use std::alloc::Global;
+
+/// The desk of the rank `me` of so many.
+pub fn desk_of(alloc: Global, me: u8, ranks: u8) -> Result<Desk<Node>, Stop>
+    requires me { me < ranks }
+    requires few { ranks ≤ 64 }
+{
+    let node = Node::new(alloc, Proc::new(me), ranks, ranks)?;
+    Ok(Desk::new(alloc, node))
+}
+
+/// Each takes the other's board.
+pub fn swap(alloc: Global, left: &mut Desk<Node>, right: &mut Desk<Node>) -> Result<(), Stop> {
+    left.take(alloc, right.host().board())?;
+    right.take(alloc, left.host().board())?;
+    Ok(())
+}
+
+/// The numbers, as calls take them.
+pub fn numbers(alloc: Global, list: &[i128]) -> Result<Numbers, Stop>
+    ensures { IfOk result (λ numbers. numbers ≡ list.now) }
+{
+    Ok(Numbers::new(alloc, Vec::from_slice(alloc, list)?)?)
+}
+
+/// The first number that a call gave.
+pub fn number_of(finished: &Finished) -> Result<i128, Stop> {
+    match &finished.outcome {
+        Outcome::Items(items) => items.nums().first().copied().ok_or(Stop::NoAnswer),
+        _ => Err(Stop::NoAnswer),
+    }
+}

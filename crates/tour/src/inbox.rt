@@ -1,0 +1,69 @@
+//! A host of the program's own.
+ghost use Rattle.std.specs.Prelude.{◌≡◌, refl, drop};
+ghost use Rattle.mpx_node.specs.Bounded.{node_bounded};
+ghost use Rattle.tour.specs.Turns.{take_more};
+
+use join_core::OutOfMemory;
+use mpx_board::Board;
+use mpx_comm::Host;
+use mpx_name::Name;
+use mpx_node::{Finished, Harvest, Node};
+use mpx_post::{Draft, PostError};
+use std::alloc::Global;
+use std::collections::VecDeque;
+
+/// A node and the boards that came for it. A turn takes the next one.
+#[derive(Debug, Drop)]
+pub struct Inbox {
+    pub node: Node,
+    pub boards: VecDeque<Board>,
+}
+
+impl Host for Inbox {
+    ghost use Rattle.mpx_node.specs.Shown.{node_of};
+
+    ghost node = { λ h. node_of h.node };
+
+    // So many turns take so many boards out of the inbox.
+    ghost turned = { λ a n b. b.boards.items ≡ drop n a.boards.items };
+
+    fn post(&mut self, alloc: Global, name: &Name, draft: Draft) -> Result<u32, PostError> {
+        self.node.post(alloc, name, draft)
+    }
+
+    fn refusal(&self, name: &Name, draft: &Draft) -> Option<PostError> {
+        self.node.refusal(name, draft)
+    }
+
+    fn open_gathering(
+        &mut self,
+        alloc: Global,
+        parent: &Name,
+        tag: i128,
+        ranks: &[i128],
+    ) -> Result<Name, PostError> {
+        self.node.open_gathering(alloc, parent, tag, ranks)
+    }
+
+    fn harvest(&mut self, alloc: Global, name: &Name) -> Result<Harvest, OutOfMemory> {
+        self.node.harvest(alloc, name)
+    }
+
+    fn result(&self, name: &Name, call: u32) -> Option<&Finished> {
+        self.node.result(name, call)
+    }
+
+    fn turn(&mut self, alloc: Global) -> Result<(), OutOfMemory> {
+        if let Some(board) = self.boards.front() {
+            self.node.take(alloc, board)?;
+            self.boards.pop_front();
+        }
+        Ok(())
+    }
+
+    ghost bounded = { λ h name. node_bounded h.node name };
+
+    ghost turns_none = { λ h. refl };
+
+    ghost turns_more = { λ a b c m n x y. take_more m n a.boards.items b.boards.items c.boards.items x y };
+}

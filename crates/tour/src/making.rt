@@ -1,0 +1,128 @@
+//! Calls that make communicators, and calls on what they made.
+ghost use Rattle.std.specs.Prelude.{◌≡◌, Err, IfOk, Some};
+ghost use Rattle.mpx_node.specs.declared.finished.Finished.{Finished as FinishedView};
+ghost use Rattle.mpx_comm.specs.Comms.{comm_of};
+ghost use Rattle.mpx_comm.specs.Requests.{result_of};
+ghost use Rattle.mpx_comm.specs.declared.answers.CallError.TheVariants.{StillWaiting};
+
+use crate::desks::{number_of, numbers, swap};
+use crate::stop::Stop;
+use mpx_comm::{CallError, Comm, Desk, Host, Request};
+use mpx_node::{Finished, Node};
+use mpx_num::Ty;
+use mpx_post::DraftedNeighbour;
+use std::alloc::Global;
+
+/// The request of a blocking call that is posted, and not done.
+pub fn still_open(answer: Result<Finished, CallError>) -> Result<Request, Stop>
+    ensures { IfOk result (λ request. answer ≡ Err (StillWaiting request)) }
+{
+    match answer {
+        Err(CallError::StillWaiting(request)) => Ok(request),
+        Err(error) => Err(error.into()),
+        Ok(_) => Err(Stop::NoAnswer),
+    }
+}
+
+/// The communicator that a call gave, or none where the rank is in none.
+pub fn comm_from<H: Host>(
+    alloc: Global,
+    desk: &mut Desk<H>,
+    request: Request,
+) -> Result<Option<Comm>, Stop>
+    ensures { IfOk result (λ comm. (finished : FinishedView) × (result_of (H.node desk.new.host) request ≡ Some finished) × (comm ≡ comm_of finished.outcome)) }
+{
+    let finished = desk.wait(alloc, request, 0)?;
+    Ok(Comm::of(alloc, &finished)?)
+}
+
+/// The same where there has to be one.
+pub fn made<H: Host>(alloc: Global, desk: &mut Desk<H>, request: Request) -> Result<Comm, Stop> {
+    comm_from(alloc, desk, request)?.ok_or(Stop::NoAnswer)
+}
+
+/// Both in one communicator, ordered by key: its size, and the rank of the left one.
+pub fn split_by_key(
+    alloc: Global,
+    left: &mut Desk<Node>,
+    right: &mut Desk<Node>,
+) -> Result<(u8, u8), Stop> {
+    let (here, there) = (Comm::world(alloc, 2, 0), Comm::world(alloc, 2, 1));
+    let mine = still_open(left.split(alloc, &here, Some(7), 5, 0))?;
+    still_open(right.split(alloc, &there, Some(7), -5, 0))?;
+    swap(alloc, left, right)?;
+    let comm = made(alloc, left, mine)?;
+    Ok((comm.size(), comm.rank()))
+}
+
+/// The left one alone, and the right one in none: whether it got none.
+pub fn split_apart(
+    alloc: Global,
+    left: &mut Desk<Node>,
+    right: &mut Desk<Node>,
+) -> Result<bool, Stop> {
+    let (here, there) = (Comm::world(alloc, 2, 0), Comm::world(alloc, 2, 1));
+    still_open(left.split(alloc, &here, Some(7), 0, 0))?;
+    let undefined = still_open(right.split(alloc, &there, None, 0, 0))?;
+    swap(alloc, left, right)?;
+    Ok(comm_from(alloc, right, undefined)?.is_none())
+}
+
+/// By the members alone, in the order of the list: its size, and the rank of the left one.
+pub fn group(
+    alloc: Global,
+    left: &mut Desk<Node>,
+    right: &mut Desk<Node>,
+) -> Result<(u8, u8), Stop> {
+    let (here, there) = (Comm::world(alloc, 2, 0), Comm::world(alloc, 2, 1));
+    let mine = still_open(left.create_group(alloc, &here, 9, &[1, 0], 0))?;
+    still_open(right.create_group(alloc, &there, 9, &[1, 0], 0))?;
+    swap(alloc, left, right)?;
+    let comm = made(alloc, left, mine)?;
+    Ok((comm.size(), comm.rank()))
+}
+
+/// Posts a graph in which the other rank is source and destination.
+fn post_graph(
+    alloc: Global,
+    desk: &mut Desk<Node>,
+    world: &Comm,
+    other: i128,
+) -> Result<Request, Stop> {
+    let other = DraftedNeighbour {
+        rank: other,
+        weight: 0,
+    };
+    let (sources, destinations) = (vec![in alloc; other]?, vec![in alloc; other]?);
+    still_open(desk.dist_graph_adjacent(alloc, world, false, sources, destinations, 0))
+}
+
+/// Posts a number for the neighbours in the graph that the request made.
+fn post_to_neighbours(
+    alloc: Global,
+    desk: &mut Desk<Node>,
+    graph: Request,
+    number: i128,
+) -> Result<Request, Stop> {
+    let graph = made(alloc, desk, graph)?;
+    let items = numbers(alloc, &[number])?;
+    Ok(desk.ineighbor_allgather(alloc, &graph, Ty::I32, 1, items)?)
+}
+
+/// A graph of two neighbours: what each hears of the other.
+pub fn neighbours(
+    alloc: Global,
+    left: &mut Desk<Node>,
+    right: &mut Desk<Node>,
+) -> Result<(i128, i128), Stop> {
+    let (here, there) = (Comm::world(alloc, 2, 0), Comm::world(alloc, 2, 1));
+    let mine = post_graph(alloc, left, &here, 1)?;
+    let theirs = post_graph(alloc, right, &there, 0)?;
+    swap(alloc, left, right)?;
+    let mine = post_to_neighbours(alloc, left, mine, 20)?;
+    let theirs = post_to_neighbours(alloc, right, theirs, 22)?;
+    swap(alloc, left, right)?;
+    let mine = left.wait(alloc, mine, 0)?;
+    let theirs = right.wait(alloc, theirs, 0)?;
+    Ok((number_of(&mine)?, number_of(&theirs)?))
+}

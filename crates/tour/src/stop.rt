@@ -1,0 +1,87 @@
+//! Why the tour stops.
+use join_core::OutOfMemory;
+use mpx_comm::{CallError, WaitError};
+use mpx_post::PostError;
+use std::alloc::{AllocError, AllocFailed};
+use std::io;
+use thiserror::Error;
+
+/// Why a program with this library may have to stop.
+#[derive(Debug, Drop, Error)]
+pub enum Stop {
+    #[error("out of memory")]
+    OutOfMemory,
+    /// A call was refused, and not posted.
+    #[error("refused {0}")]
+    Refused(PostError),
+    /// A call isn't done, or it gave something else.
+    #[error("no answer")]
+    NoAnswer,
+    /// The writer failed.
+    #[error("write fault")]
+    Write,
+}
+
+impl Stop {
+    /// The exit status of a program that stops so.
+    pub fn status(&self) -> u8 {
+        match self {
+            Stop::Refused(_) => 2,
+            Stop::NoAnswer => 3,
+            Stop::OutOfMemory => 4,
+            Stop::Write => 5,
+        }
+    }
+}
+
+impl From<OutOfMemory> for Stop {
+    fn from(_error: OutOfMemory) -> Stop {
+        Stop::OutOfMemory
+    }
+}
+
+impl From<AllocError> for Stop {
+    fn from(_error: AllocError) -> Stop {
+        Stop::OutOfMemory
+    }
+}
+
+impl<T: Drop> From<AllocFailed<T>> for Stop {
+    fn from(_error: AllocFailed<T>) -> Stop {
+        Stop::OutOfMemory
+    }
+}
+
+impl From<PostError> for Stop {
+    fn from(error: PostError) -> Stop {
+        match error {
+            PostError::OutOfMemory => Stop::OutOfMemory,
+            refusal => Stop::Refused(refusal),
+        }
+    }
+}
+
+impl From<CallError> for Stop {
+    fn from(error: CallError) -> Stop {
+        match error {
+            CallError::Refused(refusal) => refusal.into(),
+            CallError::StillWaiting(_) => Stop::NoAnswer,
+            CallError::OutOfMemory(_) => Stop::OutOfMemory,
+        }
+    }
+}
+
+impl<R: Drop> From<WaitError<R>> for Stop {
+    fn from(error: WaitError<R>) -> Stop {
+        match error {
+            WaitError::StillWaiting(_) => Stop::NoAnswer,
+            WaitError::OutOfMemory(_) => Stop::OutOfMemory,
+        }
+    }
+}
+
+impl From<io::Error> for Stop {
+    fn from(_error: io::Error) -> Stop {
+        Stop::Write
+    }
+}
