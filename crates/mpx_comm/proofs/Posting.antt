@@ -212,6 +212,12 @@ post_done old new name call draft rs after q bounded all posts is keys =
     let last : after ≡ rs ++ q ∷ [] = goes_last old q rs after all made.last keys in
     ((is ∙ (λ i. record { name = name; call = at.last i }), subst (HasPosted name draft old) (sym at.made) (has_posted old name at.given draft bounded at.checked), last), posted_added old new draft rs after q all made last)
 
+-- it is posted as it was drafted, and nothing else changes
+pub posted_exactly : (old new : NodeView) (name : Name) (call : ℕ) (draft : Draft) → Posts name (checked_on old name draft) (Ok call) old new → new ≡ post_at name (given_by draft) old
+posted_exactly old new name call draft posts =
+    let at : IsMade name call old new (checked_on old name draft) = is_made name call old new (checked_on old name draft) posts in
+    at.made ∙ ap (λ given. post_at name given old) (given_is (old.opened name) (told (old.board.contexts name).birth) old.me name draft at.given at.checked)
+
 -- REFUSALS
 
 -- what is refused is told so

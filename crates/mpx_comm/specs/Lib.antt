@@ -5,3 +5,4 @@ pub mod Lines
 pub mod Counts
 pub mod Keeps
 pub mod Comms
+pub mod Harvested

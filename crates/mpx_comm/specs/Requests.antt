@@ -1,5 +1,5 @@
 -- Requests, and the open ones in order of posting.
-use Rattle.std.specs.Prelude.{◌≡◌, ℕ, ℤ, ◌<◌, ◌≤◌, ◌==◌, ◌&&◌, ◌++◌, ◌⊎◌, Bool, List, [], ◌∷◌, Vec, Result, Ok, Err, IsOk, Option, Some, None, map, remove, slice_get, length}
+use Rattle.std.specs.Prelude.{◌≡◌, ℕ, ℤ, ◌<◌, ◌≤◌, ◌==◌, ◌&&◌, ◌++◌, ◌⊎◌, Bool, true, false, IsTrue, is_some, List, [], ◌∷◌, Vec, Result, Ok, Err, IsOk, Option, Some, None, map, remove, slice_get, length}
 use Rattle.std.specs.declared.alloc.Global.{Global}
 use Rattle.std.specs.declared.alloc.AllocFailed.{AllocFailed}
 use Rattle.std.specs.Set.{remove_key}
@@ -76,6 +76,11 @@ abbrev pub Tests : Request → Result (Tested Finished Request) (AllocFailed Req
 Tests request (Ok (Done finished)) node before after = (result_of node request ≡ Some finished) × (after ≡ close before request)
 Tests request (Ok (NotYet back)) node before after = (back ≡ request) × IsPending node request.name request.call × (after ≡ before)
 Tests request (Err refused) node before after = (refused.value ≡ request) × (after ≡ before)
+
+-- a call's status is done just where its result is stored
+abbrev pub HasStatus : (done : Bool) → Request → NodeView → Type 0
+HasStatus true request node = IsTrue (is_some (result_of node request))
+HasStatus false request node = IsPending node request.name request.call
 
 -- one of them isn't done
 abbrev pub OneIsPending : NodeView → List Request → Type 0

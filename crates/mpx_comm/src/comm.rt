@@ -68,3 +68,9 @@ impl Comm {
         self.rank
     }
 }
+
+/// The context of a gathering that was opened: some members of a communicator, under a tag.
+#[derive(Debug, Drop)]
+pub struct Gathering {
+    pub(crate) name: Name,
+}

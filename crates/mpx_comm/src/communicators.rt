@@ -66,11 +66,11 @@ impl<H: Host> Desk<H> {
         ensures { IsNotGathered comm.now.name tag ranks.now (λ n. H.turned self.old.host n self.new.host) result (H.node self.old.host) (H.node self.new.host) self.old.requests.keys self.new.requests.keys
             ⊎ CallsGathered comm.now.name tag ranks.now turns (λ n. H.turned self.old.host n self.new.host) result (H.node self.old.host) (H.node self.new.host) self.old.requests.keys self.new.requests.keys }
     {
-        match self.gather_on(alloc, &comm.name, tag, ranks) {
+        match self.open_gathering(alloc, comm, tag, ranks) {
             Err(refusal) => Err(CallError::Refused(refusal)),
-            Ok(name) => {
+            Ok(gathering) => {
                 let drafted = plain(alloc, Call::NewCommunicator(NewCommunicator::CreateGroup));
-                self.call_on(alloc, &name, drafted, turns)
+                self.call_on(alloc, &comm.name, drafted, turns)
             }
         }
     }

@@ -1,12 +1,15 @@
 ghost use Rattle.std.specs.Prelude.{◌≡◌, ◌≤◌, [], ℕ, OnOk, IfOk};
-ghost use Rattle.mpx_node.specs.Nodes.{Opens, gathers_on};
+ghost use Rattle.mpx_node.specs.Nodes.{Opens, gathers_on, post_at};
+ghost use Rattle.mpx_post.specs.Drafts.{given_by};
 ghost use Rattle.mpx_post.specs.declared.draft.Draft.{Draft as DraftView};
+ghost use Rattle.mpx_comm.specs.Comms.{gathering_in};
+ghost use Rattle.mpx_comm.specs.Harvested.{Harvested};
 ghost use Rattle.mpx_comm.specs.Later.{Later, IsPending};
 ghost use Rattle.mpx_comm.specs.Turns.{Awaits};
-ghost use Rattle.mpx_comm.specs.Requests.{Asks, Calls, Starts, Tests, TestsAll, TestsAny, Waits, WaitsAll, ArePosted, OneIsPending};
+ghost use Rattle.mpx_comm.specs.Requests.{Asks, Calls, HasStatus, Starts, Tests, TestsAll, TestsAny, Waits, WaitsAll, ArePosted, OneIsPending};
 
 use crate::answers::{CallError, Tested, WaitError};
-use crate::comm::Comm;
+use crate::comm::{Comm, Gathering};
 use crate::host::Host;
 use crate::look::{await_all, await_one, close_each, look, look_all, look_any};
 use crate::request::Request;
@@ -55,9 +58,43 @@ impl<H: Host> Desk<H> {
     /// draft isn't refused.
     pub fn post(&mut self, alloc: Global, comm: &Comm, draft: Draft) -> Result<Request, PostError>
         ensures asks { Asks comm.now.name draft result (H.node self.old.host) (H.node self.new.host) self.old.requests.keys self.new.requests.keys }
+        ensures exact { IfOk result (λ request. H.node self.new.host ≡ post_at comm.now.name (given_by draft) (H.node self.old.host)) }
         ensures no_turn { H.turned self.old.host 0 self.new.host }
     {
         self.post_on(alloc, &comm.name, draft)
+    }
+
+    /// Opens the gathering with this tag of the members with these ranks, for the posts of `MPI_COMM_CREATE_GROUP` (MPI 4.1
+    /// section 7.4.2), which go there by [`Desk::post_gathered`]. An `Err` changes nothing.
+    pub fn open_gathering(
+        &mut self,
+        alloc: Global,
+        comm: &Comm,
+        tag: i128,
+        ranks: &[i128],
+    ) -> Result<Gathering, PostError>
+        ensures opens { Opens comm.now.name (gathers_on (H.node self.old.host) comm.now.name tag ranks.now) (gathering_in result) (H.node self.old.host) (H.node self.new.host) }
+        ensures no_turn { H.turned self.old.host 0 self.new.host }
+        ensures requests { self.new.requests.keys ≡ self.old.requests.keys }
+    {
+        match self.host.open_gathering(alloc, &comm.name, tag, ranks) {
+            Ok(name) => Ok(Gathering { name }),
+            Err(refusal) => Err(refusal),
+        }
+    }
+
+    /// Posts the draft as the next call of a gathering, as [`Desk::post`] does on a communicator.
+    pub fn post_gathered(
+        &mut self,
+        alloc: Global,
+        gathering: &Gathering,
+        draft: Draft,
+    ) -> Result<Request, PostError>
+        ensures asks { Asks gathering.now.name draft result (H.node self.old.host) (H.node self.new.host) self.old.requests.keys self.new.requests.keys }
+        ensures exact { IfOk result (λ request. H.node self.new.host ≡ post_at gathering.now.name (given_by draft) (H.node self.old.host)) }
+        ensures no_turn { H.turned self.old.host 0 self.new.host }
+    {
+        self.post_on(alloc, &gathering.name, draft)
     }
 
     /// Whether the call is done, after as many harvests as there are.
@@ -68,6 +105,7 @@ impl<H: Host> Desk<H> {
     ) -> Result<Tested<Finished, Request>, AllocFailed<Request>>
         ensures tests { Tests request result (H.node self.new.host) self.old.requests.keys self.new.requests.keys }
         ensures later { Later (H.node self.old.host) (H.node self.new.host) }
+        ensures harvested { Harvested (H.node self.old.host) (H.node self.new.host) }
         ensures no_turn { H.turned self.old.host 0 self.new.host }
     {
         match look(alloc, &mut self.host, &request) {
@@ -80,6 +118,21 @@ impl<H: Host> Desk<H> {
         }
     }
 
+    /// Whether the call is done, after as many harvests as there are (`MPI_REQUEST_GET_STATUS`, MPI 4.1 section 3.7.6): its
+    /// request stays open.
+    pub fn status(&mut self, alloc: Global, request: &Request) -> Result<bool, OutOfMemory>
+        ensures status { IfOk result (λ done. HasStatus done request.now (H.node self.new.host)) }
+        ensures later { Later (H.node self.old.host) (H.node self.new.host) }
+        ensures harvested { Harvested (H.node self.old.host) (H.node self.new.host) }
+        ensures no_turn { H.turned self.old.host 0 self.new.host }
+        ensures requests { self.new.requests.keys ≡ self.old.requests.keys }
+    {
+        match look(alloc, &mut self.host, request)? {
+            Some(_) => Ok(true),
+            None => Ok(false),
+        }
+    }
+
     /// Whether all of these are done (`MPI_TESTALL`, MPI 4.1 section 3.7.5): all are closed, or none is.
     pub fn testall(
         &mut self,
@@ -88,6 +141,7 @@ impl<H: Host> Desk<H> {
     ) -> Result<Tested<Vec<Finished>, Vec<Request>>, AllocFailed<Vec<Request>>>
         ensures tests { TestsAll requests.items result (H.node self.new.host) self.old.requests.keys self.new.requests.keys }
         ensures later { Later (H.node self.old.host) (H.node self.new.host) }
+        ensures harvested { Harvested (H.node self.old.host) (H.node self.new.host) }
         ensures no_turn { H.turned self.old.host 0 self.new.host }
     {
         match look_all(alloc, &mut self.host, &requests) {
@@ -105,6 +159,7 @@ impl<H: Host> Desk<H> {
     pub fn testany(&mut self, alloc: Global) -> Result<Option<(Request, Finished)>, OutOfMemory>
         ensures tests { TestsAny result (H.node self.old.host) (H.node self.new.host) self.old.requests.keys self.new.requests.keys }
         ensures later { Later (H.node self.old.host) (H.node self.new.host) }
+        ensures harvested { Harvested (H.node self.old.host) (H.node self.new.host) }
         ensures no_turn { H.turned self.old.host 0 self.new.host }
     {
         match look_any(alloc, &mut self.host, self.requests.as_slice())? {
@@ -161,6 +216,7 @@ impl<H: Host> Desk<H> {
     // Posts the draft as the next call on the context.
     fn post_on(&mut self, alloc: Global, name: &Name, draft: Draft) -> Result<Request, PostError>
         ensures asks { Asks name.now draft result (H.node self.old.host) (H.node self.new.host) self.old.requests.keys self.new.requests.keys }
+        ensures exact { IfOk result (λ request. H.node self.new.host ≡ post_at name.now (given_by draft) (H.node self.old.host)) }
         ensures no_turn { H.turned self.old.host 0 self.new.host }
     {
         if let Some(refusal) = self.host.refusal(name, &draft) {
@@ -215,20 +271,5 @@ impl<H: Host> Desk<H> {
             Err(WaitError::StillWaiting(request)) => Err(CallError::StillWaiting(request)),
             Err(WaitError::OutOfMemory(request)) => Err(CallError::OutOfMemory(request)),
         }
-    }
-
-    // Opens the gathering with this tag of the members with these ranks.
-    pub(crate) fn gather_on(
-        &mut self,
-        alloc: Global,
-        parent: &Name,
-        tag: i128,
-        ranks: &[i128],
-    ) -> Result<Name, PostError>
-        ensures opens { Opens parent.now (gathers_on (H.node self.old.host) parent.now tag ranks.now) result (H.node self.old.host) (H.node self.new.host) }
-        ensures no_turn { H.turned self.old.host 0 self.new.host }
-        ensures requests { self.new.requests.keys ≡ self.old.requests.keys }
-    {
-        self.host.open_gathering(alloc, parent, tag, ranks)
     }
 }

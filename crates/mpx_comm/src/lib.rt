@@ -4,7 +4,7 @@
 //! [`results_say_what_was_posted`] and [`answers_are_stored_results`]. Contracts see a desk by its host's node and the list
 //! of its open requests in order of posting. What each call comes to is said in `specs/Requests.antt`, by the cases of its
 //! answer, and which draft it posts in `specs/Lines.antt`, one row a call; `specs/Later.antt` says what stays of a node
-//! meanwhile, and `specs/Turns.antt` what a wait does.
+//! meanwhile, `specs/Harvested.antt` what a test does to it, and `specs/Turns.antt` what a wait does.
 #![tactic(auto)]
 
 mod alone;
@@ -23,7 +23,7 @@ mod request;
 mod rooted;
 
 pub use answers::{CallError, Tested, WaitError};
-pub use comm::Comm;
+pub use comm::{Comm, Gathering};
 pub use desk::Desk;
 pub use host::Host;
 pub use laws::{

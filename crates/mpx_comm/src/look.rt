@@ -1,4 +1,5 @@
 ghost use Rattle.std.specs.Prelude.{◌≡◌, ◌≤◌, ℕ, IfOk, MatchOption, length, slice_get};
+ghost use Rattle.mpx_comm.specs.Harvested.{Harvested};
 ghost use Rattle.mpx_comm.specs.Later.{Later, IsPending};
 ghost use Rattle.mpx_comm.specs.Turns.{Awaits};
 ghost use Rattle.mpx_comm.specs.Requests.{result_of, close_all, OneIsPending, AreResults, WerePending};
@@ -17,6 +18,7 @@ pub fn look<H: Host>(
     request: &Request,
 ) -> Result<Option<Finished>, OutOfMemory>
     ensures later { Later (H.node host.old) (H.node host.new) }
+    ensures harvested { Harvested (H.node host.old) (H.node host.new) }
     ensures no_turn { H.turned host.old 0 host.new }
     ensures found { IfOk result (λ found. MatchOption found
         (IsPending (H.node host.new) request.now.name request.now.call)
@@ -41,6 +43,7 @@ pub fn look_all<H: Host>(
     requests: &[Request],
 ) -> Result<Option<Vec<Finished>>, OutOfMemory>
     ensures later { Later (H.node host.old) (H.node host.new) }
+    ensures harvested { Harvested (H.node host.old) (H.node host.new) }
     ensures no_turn { H.turned host.old 0 host.new }
     ensures found { IfOk result (λ found. MatchOption found
         (OneIsPending (H.node host.new) requests.now)
@@ -63,6 +66,7 @@ pub fn look_any<H: Host>(
     requests: &[Request],
 ) -> Result<Option<(usize, Finished)>, OutOfMemory>
     ensures later { Later (H.node host.old) (H.node host.new) }
+    ensures harvested { Harvested (H.node host.old) (H.node host.new) }
     ensures no_turn { H.turned host.old 0 host.new }
     ensures found { IfOk result (λ found. MatchOption found
         (WerePending (H.node host.old) (H.node host.new) (length requests.now) requests.now)

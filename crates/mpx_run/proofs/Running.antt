@@ -1,6 +1,6 @@
 -- What the steps of a process keep of a run.
 use Rattle.std.proofs.Common.{◌≡◌, ℕ, zero, suc, ◌+◌, ◌<◌, Bool, true, false, cond, List, [], ◌∷◌, ◌++◌, length, map, take, drop, set, get_or, Option, Some, None, refl, sym, ap, ◌∙◌, subst, arith, length-append}
-use Rattle.std.specs.Prelude.{slice_get, unwrap_or, Result, Ok, Err, OnOk, OnErr}
+use Rattle.std.specs.Prelude.{slice_get, is_some, unwrap_or, Result, Ok, Err, OnOk, OnErr}
 use Rattle.std.specs.List.{All, items_where_true}
 use Rattle.std.proofs.lemmas.Grind.{get_or_picked}
 use Rattle.std.proofs.lemmas.List.{map-append, length-set}
@@ -8,6 +8,8 @@ use Rattle.std.proofs.lemmas.List.Elements.{All-push}
 use Rattle.std.proofs.lemmas.Option.{slice_get-map, slice_get-get_or, slice_get_within, same_Some}
 use Rattle.std.specs.Option.{option_map}
 use Rattle.std.specs.Str.{bytes_eq}
+use Rattle.join_core.specs.declared.memory.OutOfMemory.{OutOfMemory}
+use Rattle.mpx_comm.specs.Harvested.{Harvested, stay, on}
 use Rattle.mpx_post.specs.declared.draft.PostError.{PostError}
 use Rattle.mpx_post.specs.Births.{BirthView}
 use Rattle.mpx_board.specs.declared.errors.PruneError.{PruneError}
@@ -196,14 +198,20 @@ keeps_node_then a b c f g r is = keeps_then r (record r { node = b }) (record r 
 keeps_stored : (name : Name) (old new : NodeView) → new ≡ stored name (next_result old name) old → KeepsNode old new
 keeps_stored name old new e r is = subst (λ m. Keeps r (record r { node = m })) (ap (λ n. stored name (next_result n name) n) is ∙ sym e) (keeps_harvest name r)
 
-pub keeps_node_harvest : (opened : Bool) (name : Name) (next : Option Finished) (h : Harvest) (old new : NodeView) → next ≡ next_result old name → HarvestsOn opened name next (Ok h) old new → KeepsNode old new
-keeps_node_harvest false name next h old new e x = keeps_node_itself old new x.1
-keeps_node_harvest true name (Some finished) (Done call) old new e x = keeps_stored name old new (x.1 ∙ ap (λ o. stored name o old) e)
-keeps_node_harvest true name (Some finished) NotYet old new e x = absurd x
-keeps_node_harvest true name (Some finished) NotOpened old new e x = absurd x
-keeps_node_harvest true name None (Done call) old new e x = absurd x
-keeps_node_harvest true name None NotYet old new e x = keeps_node_itself old new x
-keeps_node_harvest true name None NotOpened old new e x = absurd x
+pub keeps_node_harvest : (opened : Bool) (name : Name) (next : Option Finished) (answer : Result Harvest OutOfMemory) (old new : NodeView) → next ≡ next_result old name → HarvestsOn opened name next answer old new → KeepsNode old new
+keeps_node_harvest false name next answer old new e x = keeps_node_itself old new x.1
+keeps_node_harvest true name (Some finished) (Ok (Done call)) old new e x = keeps_stored name old new (x.1 ∙ ap (λ o. stored name o old) e)
+keeps_node_harvest true name (Some finished) (Ok NotYet) old new e x = absurd x
+keeps_node_harvest true name (Some finished) (Ok NotOpened) old new e x = absurd x
+keeps_node_harvest true name (Some finished) (Err refused) old new e x = keeps_node_itself old new x
+keeps_node_harvest true name None (Ok (Done call)) old new e x = absurd x
+keeps_node_harvest true name None (Ok NotYet) old new e x = keeps_node_itself old new x
+keeps_node_harvest true name None (Ok NotOpened) old new e x = absurd x
+keeps_node_harvest true name None (Err refused) old new e x = absurd x
+
+pub keeps_harvested : (a b : NodeView) → Harvested a b → KeepsNode a b
+keeps_harvested a b (stay x y e) = keeps_node_itself a b e
+keeps_harvested a b (on x d y name answer done more) = keeps_node_then a d b (keeps_node_harvest (is_some (a.opened name)) name (next_result a name) answer a d refl done) (keeps_harvested d b more)
 
 pub keeps_node_prune : (name : Name) (n : ℕ) (answer : Result (Unit {0}) PruneError) (old new : NodeView) → answer ≡ pruned (floor_on old.board name) n → OnOk answer (new ≡ learn (only (Dropped name n)) old) → OnErr answer (new ≡ old) → KeepsNode old new
 keeps_node_prune name n answer old new e f g r is =
@@ -535,7 +543,7 @@ run_starts script ranks size processes s = record {
     nodes = λ p r e. (s.each p r e).node;
     stands = λ p r e l.
         let h = s.each p r e in
-        record { me = h.me; bound = h.bound; requests = h.requests; todo = ap (λ o. doing (unwrap_or o [])) (h.todo l) ∙ ap (λ w. todo_of w r.todo) (sym h.waits); lines = h.lines };
+        record { me = h.me; bound = h.bound l; requests = h.requests; todo = ap (λ o. doing (unwrap_or o [])) (h.todo l) ∙ ap (λ w. todo_of w r.todo) (sym h.waits); lines = h.lines };
     sent = λ k d l. absurd (omega (arith, l));
   };
 }

@@ -8,10 +8,11 @@ use Rattle.mpx_name.specs.Name.{Name}
 use Rattle.mpx_value.specs.Histories.{Answer, Results, answer_with}
 use Rattle.mpx_node.specs.declared.finished.Finished.{Finished}
 use Rattle.mpx_node.specs.Nodes.{NodeView, results_on}
+use Rattle.mpx_comm.specs.Later.{Later}
 use Rattle.mpx_world.proofs.Lists.{both_true}
 use Rattle.mpx_script.specs.Grammar.{named}
-use Rattle.mpx_script.specs.Ranks.{Requests, Idle, Told, answers, awaited_by, awaited_then, line_then, waited_lines, without, without_all}
-use Rattle.mpx_script.specs.Transcripts.{line_text}
+use Rattle.mpx_script.specs.Ranks.{Requests, answers, awaited_by, awaited_then, line_then, waited_lines, without, without_all}
+use Rattle.mpx_script.specs.Transcripts.{line_text, outcome_text}
 use Rattle.mpx_run.specs.Systems.{node_births, node_tells}
 use Rattle.mpx_run.specs.Running.{Open, or_new, closes, closes_all, is_held, are_held, request_line, result_line, wait_lines}
 
@@ -139,3 +140,37 @@ module _ (node : NodeView) where
   passing (word ∷ words) opened requests same h =
       let held = held_first node opened word words h in
       passing_first opened requests word words same held.0 (passing words (closes word opened) (without word requests) (are_closed word opened requests same) held.1) (named requests word) refl
+
+-- WHAT STAYS HELD
+
+module _ (a b : NodeView) (later : Later a b) where
+  held_both : (call : Name × ℕ) → is_held a (Some call) ≡ true → (f : Finished) × (slice_get (results_on a call.0) call.1 ≡ Some f) × (slice_get (results_on b call.0) call.1 ≡ Some f)
+  held_both call h = let found = held_call a call h in (found.0, found.1, later.stored call.0 call.1 found.0 found.1)
+
+  pub held_later : (o : Option (Name × ℕ)) → is_held a o ≡ true → is_held b o ≡ true
+  held_later None h = refl
+  held_later (Some call) h = ap is_some (held_both call h).2
+
+  pub all_held_later : (opened : Open) (words : List (List ℕ)) → are_held a opened words ≡ true → are_held b opened words ≡ true
+  all_held_later opened [] h = refl
+  all_held_later opened (word ∷ words) h =
+      let parts = both_true (is_held a (opened word)) (are_held a opened words) h in
+      together (is_held b (opened word)) (are_held b opened words) (held_later (opened word) parts.0) (all_held_later opened words parts.1)
+
+  pub line_later : (o : Option (Name × ℕ)) → is_held a o ≡ true → request_line b o ≡ request_line a o
+  line_later None h = refl
+  line_later (Some call) h = let x = held_both call h in ap result_line (x.2 ∙ sym x.1)
+
+  -- the line of a result that came later
+  pub line_told : (o : Option (Name × ℕ)) (call : Name × ℕ) → o ≡ Some call → is_held a o ≡ true → (f : Finished) → slice_get (results_on b call.0) call.1 ≡ Some f → outcome_text f.outcome ≡ request_line a o
+  line_told o call e h f is = let x = held_both call (ap (is_held a) (sym e) ∙ h) in ap result_line (sym is ∙ x.2 ∙ sym x.1) ∙ ap (request_line a) (sym e)
+
+  pub not_pending : (o : Option (Name × ℕ)) (call : Name × ℕ) → o ≡ Some call → is_held a o ≡ true → slice_get (results_on b call.0) call.1 ≡ None → ⊥
+  not_pending o call e h none = let x = held_both call (ap (is_held a) (sym e) ∙ h) in let no : None ≡ Some x.0 = sym none ∙ x.2 in cc no
+
+-- one word more
+pub held_last : (node : NodeView) (opened : Open) (words : List (List ℕ)) (word : List ℕ) → are_held node opened words ≡ true → is_held node (opened word) ≡ true → are_held node opened (words ++ word ∷ []) ≡ true
+held_last node opened [] word h e = together (is_held node (opened word)) true e refl
+held_last node opened (x ∷ xs) word h e =
+    let parts = both_true (is_held node (opened x)) (are_held node opened xs) h in
+    together (is_held node (opened x)) (are_held node opened (xs ++ word ∷ [])) parts.0 (held_last node opened xs word parts.1 e)

@@ -242,7 +242,7 @@ Receives b old new = (script : List (List Statement)) (ranks size : ℕ) (proces
 pub record StartsAt (script : List (List Statement)) (ranks p : ℕ) (r : RankView) : Type 0 where
   pub me : r.me ≡ p
   pub node : r.node ≡ start_node p ranks
-  pub bound : (word : List ℕ) → r.bound word ≡ names_in (bound_at_start ranks) word
+  pub bound : p < ranks → (word : List ℕ) → r.bound word ≡ names_in (bound_at_start ranks) word
   pub requests : (word : List ℕ) → r.requests word ≡ None
   pub todo : p < ranks → slice_get script p ≡ Some r.todo
   pub waits : r.waits ≡ None

@@ -3,13 +3,14 @@ ghost use Rattle.std.specs.Prelude.{◌≡◌, true, map, All, IfOk, IfNone, IfS
 ghost use Rattle.mpx_board.specs.Boards.{join_all};
 ghost use Rattle.mpx_board.specs.Looks.{look, parts_of};
 ghost use Rattle.mpx_format.specs.Encoding.{is_too_long};
+ghost use Rattle.mpx_node.specs.Shown.{node_of};
 ghost use Rattle.mpx_parts.specs.Facts.{OnlyFactsOf};
 ghost use Rattle.mpx_run.specs.Shown.{part_of};
 
 use crate::frame::Frame;
 use join_core::OutOfMemory;
 use mpx_board::Board;
-use mpx_parts::parts;
+use mpx_node::Node;
 use mpx_wire::{EncodeError, WireError, decode, encode};
 use std::alloc::Global;
 
@@ -27,19 +28,19 @@ pub(crate) fn opened(alloc: Global, frame: &Frame) -> Result<Board, OutOfMemory>
     }
 }
 
-/// The frames of a board: one, or one for each of its parts where its bytes are too many. They come in this turn and those
-/// after it, one in each.
+/// The frames of a node's board: one, or one for each of its parts where its bytes are too many. They come in this turn and
+/// those after it, one in each.
 pub(crate) fn frames_of(
     alloc: Global,
-    board: &Board,
+    node: &Node,
     to: usize,
     turn: u64,
 ) -> Result<Vec<Frame>, OutOfMemory>
-    ensures facts { IfOk result (λ made. All (λ frame. OnlyFactsOf (part_of frame) (look board.now)) made.items) }
-    ensures join { IfOk result (λ made. join_all (map part_of made.items) ≡ look board.now) }
+    ensures facts { IfOk result (λ made. All (λ frame. OnlyFactsOf (part_of frame) (node_of node.now).board) made.items) }
+    ensures join { IfOk result (λ made. join_all (map part_of made.items) ≡ (node_of node.now).board) }
 {
-    let Some(frame) = framed(alloc, board, to, turn)? else {
-        return frames_of_parts(alloc, board, to, turn);
+    let Some(frame) = framed(alloc, node.board(), to, turn)? else {
+        return frames_of_parts(alloc, node, to, turn);
     };
     let mut made = Vec::new(alloc);
     made.push(frame)?;
@@ -58,17 +59,17 @@ fn framed(alloc: Global, board: &Board, to: usize, turn: u64) -> Result<Option<F
     }
 }
 
-// A frame for each part of the board.
+// A frame for each part of the node's board.
 fn frames_of_parts(
     alloc: Global,
-    board: &Board,
+    node: &Node,
     to: usize,
     turn: u64,
 ) -> Result<Vec<Frame>, OutOfMemory>
-    ensures facts { IfOk result (λ made. All (λ frame. OnlyFactsOf (part_of frame) (look board.now)) made.items) }
-    ensures join { IfOk result (λ made. join_all (map part_of made.items) ≡ look board.now) }
+    ensures facts { IfOk result (λ made. All (λ frame. OnlyFactsOf (part_of frame) (node_of node.now).board) made.items) }
+    ensures join { IfOk result (λ made. join_all (map part_of made.items) ≡ (node_of node.now).board) }
 {
-    let parts = parts(alloc, board, MOST_BYTES)?;
+    let parts = node.parts(alloc, MOST_BYTES)?;
     let mut made = Vec::new(alloc);
     for i in 0..parts.len() {
         let Some(frame) = framed(alloc, &parts[i], to, turn.saturating_add(i as u64))? else {

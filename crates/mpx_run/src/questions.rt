@@ -7,8 +7,9 @@ ghost use Rattle.mpx_script.specs.Ranks.{birth_in};
 ghost use Rattle.mpx_run.specs.Running.{answered_on, communicator_in, known_to};
 ghost use Rattle.mpx_run.specs.Shown.{bound_of};
 
-use crate::rank::context_of;
+use crate::rank::comm_at;
 use join_core::OutOfMemory;
+use mpx_comm::Comm;
 use mpx_group::Proc;
 use mpx_name::Name;
 use mpx_node::Node;
@@ -23,7 +24,7 @@ pub(crate) fn answer(
     alloc: Global,
     node: &Node,
     me: Proc,
-    bound: &BTreeMap<Word, Option<Name>>,
+    bound: &BTreeMap<Word, Option<Comm>>,
     question: &Question,
 ) -> Result<String, OutOfMemory>
     ensures { IfOk result (λ text. string_bytes text ≡ line_text (answered_on me (bound_of bound.now) question.now (node_of node.now))) }
@@ -49,24 +50,24 @@ pub(crate) fn answer(
 // The communicator that a word is bound to, and how it came to be, as far as the node knows.
 fn known<'m>(
     node: &'m Node,
-    bound: &'m BTreeMap<Word, Option<Name>>,
+    bound: &'m BTreeMap<Word, Option<Comm>>,
     word: &Word,
 ) -> Option<(&'m Name, &'m Birth)>
     ensures { option_map (λ c. (c.0.now, c.1.now)) result ≡ known_to (node_of node.now) (communicator_in (bound_of bound.now word.now)) }
 {
-    let name = context_of(bound, word)?;
-    let birth = node.board().birth(name)?;
-    Some((name, birth))
+    let comm = comm_at(bound, word)?;
+    let birth = node.board().birth(comm.name())?;
+    Some((comm.name(), birth))
 }
 
 // How it came to be.
 fn birth_of<'m>(
     node: &'m Node,
-    bound: &BTreeMap<Word, Option<Name>>,
+    bound: &BTreeMap<Word, Option<Comm>>,
     word: &Word,
 ) -> Option<&'m Birth>
     ensures { option_copied result ≡ birth_in (known_to (node_of node.now) (communicator_in (bound_of bound.now word.now))) }
 {
-    let name = context_of(bound, word)?;
-    node.board().birth(name)
+    let comm = comm_at(bound, word)?;
+    node.board().birth(comm.name())
 }

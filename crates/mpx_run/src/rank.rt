@@ -1,47 +1,47 @@
 ghost use Rattle.std.specs.Prelude.{◌≡◌, ◌<◌, ◌≤◌, ◌↔◌, ◌∷◌, ℕ, List, IfOk, OnOk, IsTrue, Some, None, [], false, map, string_bytes};
 ghost use Rattle.std.specs.BTreeMap.{get};
 ghost use Rattle.std.specs.Cmp.Lexicographic.{slice_cmp};
-ghost use Rattle.std.specs.Option.{option_copied};
+ghost use Rattle.std.specs.Option.{option_copied, option_map};
 ghost use Rattle.std.specs.Ordering.{nat_cmp};
+ghost use Rattle.mpx_comm.specs.Comms.{gathering_in};
 ghost use Rattle.mpx_node.specs.Nodes.{Opens, checked_on, gathers_on};
 ghost use Rattle.mpx_node.specs.Shown.{node_of};
 ghost use Rattle.mpx_script.specs.declared.statement.Statement.TheVariants.{Ask, Post, Wait as WaitFor};
 ghost use Rattle.mpx_script.specs.Evaluation.{bound_at_start};
-ghost use Rattle.mpx_run.specs.Running.{KeepsNode, Tries, binds, communicator_in, given_name, names_in, tried_on, tried_post};
-ghost use Rattle.mpx_run.specs.Shown.{bound_of, wait_of};
+ghost use Rattle.mpx_run.specs.Running.{KeepsNode, Tries, binds, communicator_in, names_in, tried_on, tried_post};
+ghost use Rattle.mpx_run.specs.Shown.{bound_of, call_in, name_in, wait_of};
 
 use crate::questions::answer;
-use crate::requests::{close_all, harvest_until, look_for};
+use crate::requests::{are_done, close_all};
 use join_core::{Exact, OutOfMemory};
 use mpx_board::Board;
+use mpx_comm::{Comm, Desk, Gathering, Request, Tested};
 use mpx_group::Proc;
 use mpx_name::Name;
 use mpx_node::Node;
 use mpx_num::Numbers;
 use mpx_post::{Draft, PostError};
 use mpx_script::{Posting, Question, Statement, Word, WordList, line, refused_line};
-use mpx_value::Outcome;
 use std::alloc::Global;
 use std::collections::BTreeMap;
 
-// The call whose outcome a rank waits for, and the word that its new communicator gets.
+// The request whose outcome a rank waits for, and the word that its new communicator gets.
 #[derive(Drop)]
 struct Wait<'a> {
-    name: Name,
-    call: u32,
+    request: Request,
     target: Option<&'a Word>,
 }
 
-/// A process of a run: who it is, its node, the contexts that it looks at, what its words are bound to (None: the null
-/// communicator), its open requests, each with the call that it stands for, the statements that are left, the call whose
-/// outcome it waits for, and its lines. A relay has no statements.
+/// A process of a run: who it is, the desk over its node, the contexts that it looks at, what its words are bound to (None: the
+/// null communicator), its open requests, the statements that are left, the request whose outcome it waits for, and its lines.
+/// A relay has no statements.
 #[derive(Drop)]
 pub(crate) struct Rank<'a> {
     me: Proc,
-    node: Node,
+    desk: Desk<Node>,
     contexts: Vec<Name>,
-    bound: BTreeMap<Word, Option<Name>>,
-    requests: BTreeMap<Word, (Name, u32)>,
+    bound: BTreeMap<Word, Option<Comm>>,
+    requests: BTreeMap<Word, Request>,
     todo: &'a [Statement],
     waits: Option<Wait<'a>>,
     lines: Vec<String>,
@@ -67,20 +67,20 @@ impl<'a> Rank<'a> {
         requires me { me < processes }
         ensures me { IfOk result (λ rank. (rank_of rank).me ≡ me) }
         ensures node { IfOk result (λ rank. (rank_of rank).node ≡ start_node me ranks) }
-        ensures bound { IfOk result (λ rank. (word : List ℕ) → (rank_of rank).bound word ≡ names_in (bound_at_start ranks) word) }
+        ensures bound { IfOk result (λ rank. me < ranks → (word : List ℕ) → (rank_of rank).bound word ≡ names_in (bound_at_start ranks) word) }
         ensures requests { IfOk result (λ rank. (word : List ℕ) → (rank_of rank).requests word ≡ None) }
         ensures todo { IfOk result (λ rank. (rank_of rank).todo ≡ todo.now) }
         ensures waits { IfOk result (λ rank. (rank_of rank).waits ≡ None) }
         ensures lines { IfOk result (λ rank. (rank_of rank).lines ≡ []) }
     {
+        let bound = words_at_start(alloc, me, ranks)?;
         let me = Proc::new(me);
         let node = Node::new(alloc, me, ranks, processes)?;
         let mut contexts = Vec::new(alloc);
         contexts.push(Name::world(alloc))?;
-        let bound = world_alone(alloc)?;
         Ok(Rank {
             me,
-            node,
+            desk: Desk::new(alloc, node),
             contexts,
             bound,
             requests: BTreeMap::new(alloc),
@@ -96,7 +96,7 @@ impl<'a> Rank<'a> {
     pub(crate) fn go_on(&mut self, alloc: Global) -> Result<bool, OutOfMemory>
         ensures { OnOk result (Moves (rank_of self.old) (rank_of self.new)) }
     {
-        harvest_all(alloc, &mut self.node, &self.contexts, self.waits.is_some())?;
+        harvest_all(alloc, &mut self.desk, &self.contexts, self.waits.is_some())?;
         let mut moved = false;
         while self.move_on(alloc)? {
             moved = true;
@@ -109,22 +109,29 @@ impl<'a> Rank<'a> {
     pub(crate) fn prune(&mut self) -> bool
         ensures { Keeps (rank_of self.old) (rank_of self.new) }
     {
-        prune_all(&mut self.node, &self.contexts)
+        prune_all(&mut self.desk, &self.contexts)
     }
 
     /// Takes a frame.
     pub(crate) fn receive(&mut self, alloc: Global, part: &Board) -> Result<(), OutOfMemory>
         ensures { OnOk result (Receives (look part.now) (rank_of self.old) (rank_of self.new)) }
     {
-        self.node.take(alloc, part)?;
+        self.desk.take(alloc, part)?;
         Ok(())
+    }
+
+    /// Its node.
+    pub(crate) fn node(&self) -> &Node
+        ensures { node_of result.now ≡ (rank_of self.now).node }
+    {
+        self.desk.host()
     }
 
     /// The board of its node.
     pub(crate) fn board(&self) -> &Board
         ensures { look result.now ≡ (rank_of self.now).node.board }
     {
-        self.node.board()
+        self.desk.host().board()
     }
 
     /// Whether it waits for an outcome, or has statements left.
@@ -139,10 +146,10 @@ impl<'a> Rank<'a> {
         ensures node { node_of result.0 ≡ (rank_of self.entry).node }
         ensures lines { map string_bytes result.1.items ≡ (rank_of self.entry).lines }
     {
-        (self.node, self.lines)
+        (self.desk.into_host(), self.lines)
     }
 
-    // One move: the line of the outcome that the rank waits for, once its node holds it, else the next statement. It answers
+    // One move: the line of the outcome that the rank waits for, once it is there, else the next statement. It answers
     // whether there was one.
     fn move_on(&mut self, alloc: Global) -> Result<bool, OutOfMemory>
         ensures moves { OnOk result (Moves (rank_of self.old) (rank_of self.new)) }
@@ -154,23 +161,28 @@ impl<'a> Rank<'a> {
         }
     }
 
-    // Looks for the outcome that it waits for.
+    // Tests the request that it waits for.
     fn hear(&mut self, alloc: Global, wait: Wait<'a>) -> Result<bool, OutOfMemory>
         requires { (rank_of self.old).waits ≡ None }
         ensures moves { OnOk result (Moves (record (rank_of self.old) { waits = Some (wait_of wait.entry) }) (rank_of self.new)) }
         ensures less { IfOk result (λ moved. IsTrue moved → left_of (rank_of self.new) ≡ left_of (rank_of self.old)) }
     {
-        harvest_until(alloc, &mut self.node, &wait.name, wait.call)?;
-        let Some(finished) = self.node.result(&wait.name, wait.call) else {
-            self.waits = Some(wait);
-            return Ok(false);
-        };
-        let text = line(alloc, &finished.outcome)?;
-        let given = given_name(alloc, &finished.outcome)?;
-        self.lines.push(text)?;
-        look_at_given(alloc, &mut self.contexts, &given)?;
-        bind(alloc, &mut self.bound, wait.target, given)?;
-        Ok(true)
+        let target = wait.target;
+        match self.desk.test(alloc, wait.request) {
+            Err(_) => Err(OutOfMemory),
+            Ok(Tested::NotYet(request)) => {
+                self.waits = Some(Wait { request, target });
+                Ok(false)
+            }
+            Ok(Tested::Done(finished)) => {
+                let text = line(alloc, &finished.outcome)?;
+                let given = Comm::of(alloc, &finished)?;
+                self.lines.push(text)?;
+                look_at_given(alloc, &mut self.contexts, &given)?;
+                bind(alloc, &mut self.bound, target, given)?;
+                Ok(true)
+            }
+        }
     }
 
     // The next statement: its post or the line of its refusal, the lines of the requests that it waits for, where all of them
@@ -204,16 +216,16 @@ impl<'a> Rank<'a> {
         ensures less { OnOk result (left_of (rank_of self.new) < left_of (rank_of self.old)) }
     {
         self.todo = rest;
-        let on = context_of(&self.bound, posting.on());
-        match attempt(alloc, &mut self.node, on, posting) {
-            Ok((name, call)) => {
-                look_at_gathering(alloc, &mut self.contexts, &name, call)?;
+        let on = comm_at(&self.bound, posting.on());
+        match attempt(alloc, &mut self.desk, on, posting) {
+            Ok(request) => {
+                look_at_gathering(alloc, &mut self.contexts, &request)?;
                 match posting.request() {
                     None => {
                         let target = posting.target();
-                        self.waits = Some(Wait { name, call, target });
+                        self.waits = Some(Wait { request, target });
                     }
-                    Some(word) => bind(alloc, &mut self.requests, Some(word), (name, call))?,
+                    Some(word) => bind(alloc, &mut self.requests, Some(word), request)?,
                 }
                 Ok(())
             }
@@ -229,8 +241,8 @@ impl<'a> Rank<'a> {
         }
     }
 
-    // Waits for the requests of the next statement: where its node can store the results of all that are open, it tells
-    // them and closes the requests. It answers whether it has.
+    // Waits for the requests of the next statement: where all that are open are done, it tests them, tells their outcomes, and
+    // so closes them. It answers whether it has.
     fn wait_next(
         &mut self,
         alloc: Global,
@@ -242,12 +254,12 @@ impl<'a> Rank<'a> {
         ensures moves { OnOk result (Moves (rank_of self.old) (rank_of self.new)) }
         ensures less { IfOk result (λ moved. IsTrue moved → left_of (rank_of self.new) < left_of (rank_of self.old)) }
     {
-        if !look_for(alloc, &mut self.node, &self.requests, words.as_slice())? {
+        if !are_done(alloc, &mut self.desk, &self.requests, words.as_slice())? {
             return Ok(false);
         }
         close_all(
             alloc,
-            &self.node,
+            &mut self.desk,
             &mut self.requests,
             &mut self.lines,
             words.as_slice(),
@@ -268,7 +280,7 @@ impl<'a> Rank<'a> {
         ensures moves { OnOk result (Moves (rank_of self.old) (rank_of self.new)) }
         ensures less { OnOk result (left_of (rank_of self.new) < left_of (rank_of self.old)) }
     {
-        let text = answer(alloc, &self.node, self.me, &self.bound, question)?;
+        let text = answer(alloc, self.desk.host(), self.me, &self.bound, question)?;
         self.lines.push(text)?;
         self.todo = rest;
         Ok(())
@@ -279,10 +291,10 @@ impl<'a> Rank<'a> {
 fn look_at_given(
     alloc: Global,
     contexts: &mut Vec<Name>,
-    given: &Option<Name>,
+    given: &Option<Comm>,
 ) -> Result<(), OutOfMemory> {
-    if let Some(name) = given {
-        contexts.push(name.copy(alloc)?)?;
+    if let Some(comm) = given {
+        contexts.push(comm.name().copy(alloc)?)?;
     }
     Ok(())
 }
@@ -291,38 +303,33 @@ fn look_at_given(
 fn look_at_gathering(
     alloc: Global,
     contexts: &mut Vec<Name>,
-    name: &Name,
-    call: u32,
+    request: &Request,
 ) -> Result<(), OutOfMemory> {
-    if call == 0 && name.is_gathering() {
-        contexts.push(name.copy(alloc)?)?;
+    if request.call() == 0 && request.name().is_gathering() {
+        contexts.push(request.name().copy(alloc)?)?;
     }
     Ok(())
 }
 
 /// The communicator that a word is bound to, where it is one.
-pub(crate) fn context_of<'m>(
-    bound: &'m BTreeMap<Word, Option<Name>>,
-    word: &Word,
-) -> Option<&'m Name>
-    ensures { option_copied result ≡ communicator_in (bound_of bound.now word.now) }
+pub(crate) fn comm_at<'m>(bound: &'m BTreeMap<Word, Option<Comm>>, word: &Word) -> Option<&'m Comm>
+    ensures { name_in (option_copied result) ≡ communicator_in (bound_of bound.now word.now) }
 {
     match bound.get(word) {
-        Some(Some(name)) => Some(name),
+        Some(Some(comm)) => Some(comm),
         Some(None) => None,
         None => None,
     }
 }
 
-// What a node has of a statement that posts, on what its word is bound to: the context and the number of the call, or the
-// refusal.
+// The request of a statement that posts, on what its word is bound to, or the refusal.
 fn attempt(
     alloc: Global,
-    node: &mut Node,
-    on: Option<&Name>,
+    desk: &mut Desk<Node>,
+    on: Option<&Comm>,
     posting: &Posting,
-) -> Result<(Name, u32), PostError>
-    ensures { Tries (tried_on posting.now (option_copied on.entry) (node_of node.old)) result (node_of node.new) }
+) -> Result<Request, PostError>
+    ensures { Tries (tried_on posting.now (name_in (option_copied on.entry)) (node_of desk.old.host)) (call_in result) (node_of desk.new.host) }
 {
     let Some(on) = on else {
         return Err(PostError::NotMember);
@@ -332,68 +339,63 @@ fn attempt(
     };
     match posting {
         Posting::CreateGroup { tag, ranks, .. } => {
-            let name = open_gathering(alloc, node, on, tag, ranks)?;
-            post(alloc, node, name, draft)
+            let gathering = open_gathering(alloc, desk, on, tag, ranks)?;
+            post_gathered(alloc, desk, &gathering, draft)
         }
-        Posting::Call { .. } => post_on(alloc, node, on, draft),
-        Posting::Start { .. } => post_on(alloc, node, on, draft),
-        Posting::New { .. } => post_on(alloc, node, on, draft),
+        Posting::Call { .. } => post_on(alloc, desk, on, draft),
+        Posting::Start { .. } => post_on(alloc, desk, on, draft),
+        Posting::New { .. } => post_on(alloc, desk, on, draft),
     }
 }
 
 fn open_gathering(
     alloc: Global,
-    node: &mut Node,
-    parent: &Name,
+    desk: &mut Desk<Node>,
+    parent: &Comm,
     tag: &i128,
     ranks: &Numbers,
-) -> Result<Name, PostError>
-    ensures { Opens parent.now (gathers_on (node_of node.old) parent.now tag.now ranks.now) result (node_of node.old) (node_of node.new) }
+) -> Result<Gathering, PostError>
+    ensures { Opens parent.now.name (gathers_on (node_of desk.old.host) parent.now.name tag.now ranks.now) (gathering_in result) (node_of desk.old.host) (node_of desk.new.host) }
 {
-    node.open_gathering(alloc, parent, *tag, ranks.as_slice())
+    desk.open_gathering(alloc, parent, *tag, ranks.as_slice())
+}
+
+fn post_gathered(
+    alloc: Global,
+    desk: &mut Desk<Node>,
+    gathering: &Gathering,
+    draft: Draft,
+) -> Result<Request, PostError>
+    ensures { Tries (tried_post gathering.now.name (checked_on (node_of desk.old.host) gathering.now.name draft) (node_of desk.old.host)) (call_in result) (node_of desk.new.host) }
+{
+    desk.post_gathered(alloc, gathering, draft)
 }
 
 fn post_on(
     alloc: Global,
-    node: &mut Node,
-    on: &Name,
+    desk: &mut Desk<Node>,
+    on: &Comm,
     draft: Draft,
-) -> Result<(Name, u32), PostError>
-    ensures { Tries (tried_post on.now (checked_on (node_of node.old) on.now draft) (node_of node.old)) result (node_of node.new) }
+) -> Result<Request, PostError>
+    ensures { Tries (tried_post on.now.name (checked_on (node_of desk.old.host) on.now.name draft) (node_of desk.old.host)) (call_in result) (node_of desk.new.host) }
 {
-    match on.copy(alloc) {
-        Ok(name) => post(alloc, node, name, draft),
-        Err(_) => Err(PostError::OutOfMemory),
-    }
+    desk.post(alloc, on, draft)
 }
 
-fn post(alloc: Global, node: &mut Node, name: Name, draft: Draft) -> Result<(Name, u32), PostError>
-    ensures { Tries (tried_post name (checked_on (node_of node.old) name draft) (node_of node.old)) result (node_of node.new) }
-{
-    let call = node.post(alloc, &name, draft)?;
-    Ok((name, call))
-}
-
-// The communicator that an outcome gives.
-fn given_name(alloc: Global, outcome: &Outcome) -> Result<Option<Name>, OutOfMemory>
-    ensures { IfOk result (λ given. given ≡ given_name outcome.now) }
-{
-    match outcome {
-        Outcome::NewComm { name, .. } => Ok(Some(name.copy(alloc)?)),
-        Outcome::Nothing => Ok(None),
-        Outcome::Absent => Ok(None),
-        Outcome::Items(_) => Ok(None),
-        Outcome::Null => Ok(None),
-        Outcome::Fault(_) => Ok(None),
-    }
-}
-
-// `world` alone, bound to the world.
-fn world_alone(alloc: Global) -> Result<BTreeMap<Word, Option<Name>>, OutOfMemory>
-    ensures { IfOk result (λ bound. (ranks : ℕ) (word : List ℕ) → bound_of bound word ≡ names_in (bound_at_start ranks) word) }
+// A rank has `world` alone, bound to the world, and a relay no word.
+fn words_at_start(
+    alloc: Global,
+    me: u8,
+    ranks: u8,
+) -> Result<BTreeMap<Word, Option<Comm>>, OutOfMemory>
+    requires { ranks ≤ 64 }
+    ensures { IfOk result (λ bound. me < ranks → (word : List ℕ) → bound_of bound word ≡ names_in (bound_at_start ranks) word) }
 {
     let mut bound = BTreeMap::new(alloc);
-    bound.insert(Word::new(alloc, b"world")?, Some(Name::world(alloc)))?;
+    if me < ranks {
+        let world = Comm::world(alloc, ranks, me);
+        bound.insert(Word::new(alloc, b"world")?, Some(world))?;
+    }
     Ok(bound)
 }
 
@@ -420,28 +422,28 @@ fn bind<V: Drop>(
 // by itself.
 fn harvest_all(
     alloc: Global,
-    node: &mut Node,
+    desk: &mut Desk<Node>,
     contexts: &[Name],
     waits: bool,
 ) -> Result<(), OutOfMemory>
-    ensures { OnOk result (KeepsNode (node_of node.old) (node_of node.new)) }
+    ensures { OnOk result (KeepsNode (node_of desk.old.host) (node_of desk.new.host)) }
 {
     if waits {
         return Ok(());
     }
     for name in contexts {
-        node.harvest(alloc, name)?;
+        desk.harvest(alloc, name)?;
     }
     Ok(())
 }
 
 // Drops on each context what all members have harvested. It answers whether there was anything.
-fn prune_all(node: &mut Node, contexts: &[Name]) -> bool
-    ensures { KeepsNode (node_of node.old) (node_of node.new) }
+fn prune_all(desk: &mut Desk<Node>, contexts: &[Name]) -> bool
+    ensures { KeepsNode (node_of desk.old.host) (node_of desk.new.host) }
 {
     let mut changed = false;
     for name in contexts {
-        let pruned = prune_on(node, name);
+        let pruned = prune_on(desk, name);
         changed |= pruned;
     }
     changed
@@ -452,20 +454,20 @@ fn has_none_to_drop(node: &Node, name: &Name, dropped: u32) -> bool {
     node.posted(name) > 0 && node.front(name) <= dropped
 }
 
-fn prune_on(node: &mut Node, name: &Name) -> bool
-    ensures { KeepsNode (node_of node.old) (node_of node.new) }
+fn prune_on(desk: &mut Desk<Node>, name: &Name) -> bool
+    ensures { KeepsNode (node_of desk.old.host) (node_of desk.new.host) }
 {
-    let dropped = node.board().dropped(name);
-    if has_none_to_drop(node, name, dropped) {
+    let dropped = desk.host().board().dropped(name);
+    if has_none_to_drop(desk.host(), name, dropped) {
         return false;
     }
-    let Some(floor) = node.board().floor(name) else {
+    let Some(floor) = desk.host().board().floor(name) else {
         return false;
     };
     if floor <= dropped {
         return false;
     }
-    node.prune(name, floor).is_ok()
+    desk.prune(name, floor).is_ok()
 }
 
 fn is_want_of_memory(refusal: PostError) -> bool

@@ -137,7 +137,7 @@ fn sent(alloc: Global, process: &Rank<'_>, to: usize, turn: u64) -> Result<Vec<F
     ensures facts { IfOk result (λ made. All (λ frame. OnlyFactsOf (part_of frame) (rank_of process.now).node.board) made.items) }
     ensures join { IfOk result (λ made. join_all (map part_of made.items) ≡ (rank_of process.now).node.board) }
 {
-    frames_of(alloc, process.board(), to, turn)
+    frames_of(alloc, process.node(), to, turn)
 }
 
 // Every process sends the frames of its board, where those of its last one are out.

@@ -10,6 +10,8 @@ mod examples;
 #[cfg(test)]
 mod kinds;
 #[cfg(test)]
+mod long_boards;
+#[cfg(test)]
 mod making;
 #[cfg(test)]
 mod neighbourhoods;

@@ -53,16 +53,26 @@ pub fn end_of(answer: &Result<End, RunError>) -> Came {
 /// A script, what its run comes to, and its text.
 pub type Row = (&'static [u8], Came, &'static [u8]);
 
+/// Runs without options, and evaluations: where nothing is lost both print the same.
 pub fn check_runs(rt: &impl Abort, alloc: Global, table: &[Row]) {
-    check_runs_with(rt, alloc, USUAL, table);
+    check_jobs(rt, alloc, &RUN, table);
+    let evaluation = Job {
+        command: Command::Eval,
+        options: USUAL,
+    };
+    check_jobs(rt, alloc, &evaluation, table);
 }
 
 pub fn check_runs_with(rt: &impl Abort, alloc: Global, options: Options, table: &[Row]) {
+    check_jobs(rt, alloc, &run_with(options), table);
+}
+
+fn check_jobs(rt: &impl Abort, alloc: Global, job: &Job, table: &[Row]) {
     for (i, row) in table.iter().enumerate() {
         let (script, end, text) = *row;
         let mut reader = script;
         let mut out = Vec::new(alloc);
-        let answer = run_text(alloc, &run_with(options), &mut reader, &mut out);
+        let answer = run_text(alloc, job, &mut reader, &mut out);
         assert_eq!(rt; end_of(&answer), end, "row {i}");
         assert_eq!(rt; out.as_slice(), text, "row {i}");
     }

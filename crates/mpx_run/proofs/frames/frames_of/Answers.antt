@@ -7,4 +7,4 @@ use Rattle.mpx_run.proofs.frames.frames_of.Goals as goal
 
 pub returns-clause-join : goal.returns-clause-join
 returns-clause-join c = rw (c.in_ok-push.ensures.items, c.new-made.ensures.items)
-    (ap (join empty) (shown_by c.in_ok-frame.field-0 c.in-Some.frame (look c.args.board.now) c.in-Some.is c.in_ok-frame.ensures.whole) ∙ join-empty (parts_of c.args.board.now))
+    (ap (join empty) (shown_by c.in_ok-frame.field-0 c.in-Some.frame (look c.board.result.now) c.in-Some.is c.in_ok-frame.ensures.whole) ∙ join-empty (parts_of c.board.result.now) ∙ c.board.ensures)

@@ -3,4 +3,4 @@ use Rattle.mpx_run.specs.Running.{KeepsNode}
 use Rattle.mpx_run.proofs.rank.harvest_all.Given as goal
 
 abbrev pub invariant-loop-name : goal.invariant-loop-name
-invariant-loop-name l = KeepsNode (node_of l.fn.node) (node_of l.node)
+invariant-loop-name l = KeepsNode (node_of l.fn.desk.host) (node_of l.desk.host)

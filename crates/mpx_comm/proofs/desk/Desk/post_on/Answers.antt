@@ -2,7 +2,7 @@ use Rattle.std.proofs.Common.{◌≡◌, ◌++◌, [], ◌∷◌, List, sym, ap,
 use Rattle.indexmap.specs.IndexSet.{insert_key}
 use Rattle.mpx_comm.specs.declared.request.Request.{Request}
 use Rattle.mpx_comm.specs.Requests.{same_request}
-use Rattle.mpx_comm.proofs.Posting.{ok_holds, post_done}
+use Rattle.mpx_comm.proofs.Posting.{ok_holds, post_done, posted_exactly}
 use Rattle.mpx_comm.proofs.desk.Desk.post_on.Goals as goal
 
 pub invariant_of-self-2 : goal.invariant_of-self-2
@@ -18,3 +18,6 @@ returns-clause-asks g c =
     let keys : c.insert.new.self.keys ≡ insert_key same_request c.args.self.now.requests.keys c.new.result = ok_holds c.insert.result (c.insert.ensures.succeeds c.in-Ok-reserve.ensures.ok) c.insert.ensures.keys ∙ ap (λ (rs : List Request). insert_key same_request rs c.new.result) c.reserve.ensures.keys in
     let done = post_done (g.H.Host.node c.args.self.now.host) (g.H.Host.node c.post.new.self) c.args.name.now c.in_ok-call.call c.args.draft c.args.self.now.requests.keys c.insert.new.self.keys c.new.result (g.met.H.Host.bounded c.args.self.now.host c.args.name.now) c.args.self.now.posted c.in_ok-call.ensures.posts is keys in
     (same ∙ done.0.0, done.0.1, done.0.2 ∙ ap (λ (r : Request). c.args.self.now.requests.keys ++ r ∷ []) (sym same))
+
+pub returns-clause-exact : goal.returns-clause-exact
+returns-clause-exact g c = posted_exactly (g.H.Host.node c.args.self.now.host) (g.H.Host.node c.post.new.self) c.args.name.now c.in_ok-call.call c.args.draft c.in_ok-call.ensures.posts

@@ -1,5 +1,7 @@
-use Rattle.std.proofs.Common.{sym, subst, refl, string_bytes}
-use Rattle.mpx_run.specs.Running.{Moves, RankView}
+use Rattle.std.proofs.Common.{sym, ap, ◌∙◌, subst, refl, string_bytes}
+use Rattle.mpx_node.specs.Shown.{node_of}
+use Rattle.mpx_script.specs.Transcripts.{line_text}
+use Rattle.mpx_run.specs.Running.{Moves, RankView, answered_on}
 use Rattle.mpx_run.specs.Shown.{rank_of}
 use Rattle.mpx_run.proofs.Running.{lines_push, moves_asks}
 use Rattle.mpx_run.proofs.rank.Rank.ask_next.Goals as goal
@@ -10,4 +12,4 @@ returns-clause-moves c =
     let text = string_bytes c.in_ok-text.text in
     let lines = lines_push string_bytes c.args.self.now.lines.items c.push.new.self.items c.in_ok-text.text text c.in_ok-push.ensures.items refl in
     subst (Moves old) (λ i. let r : RankView = record { me = old.me; node = old.node; bound = old.bound; requests = old.requests; todo = c.args.rest.now; waits = sym c.requires.waits i; lines = sym lines i } in r)
-    (moves_asks old c.args.question.now c.args.rest.now text c.requires.waits c.requires.todo c.in_ok-text.ensures)
+    (moves_asks old c.args.question.now c.args.rest.now text c.requires.waits c.requires.todo (c.in_ok-text.ensures ∙ ap (λ n. line_text (answered_on old.me old.bound c.args.question.now (node_of n))) c.host.ensures))

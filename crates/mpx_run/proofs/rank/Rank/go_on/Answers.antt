@@ -8,7 +8,7 @@ use Rattle.mpx_run.proofs.rank.Rank.go_on.Goals as goal
 pub loop-moved-init : goal.loop-moved-init
 loop-moved-init c =
     let old = rank_of c.args.self.now in
-    moves_keeps old (let r : RankView = record old { node = node_of c.harvest_all.new.node } in r) (c.in_ok-harvest_all.ensures old refl)
+    moves_keeps old (let r : RankView = record old { node = node_of c.harvest_all.new.desk.host } in r) (c.in_ok-harvest_all.ensures old refl)
 
 pub loop-moved-preserved : goal.loop-moved-preserved
 loop-moved-preserved c = moves_then (rank_of c.args.self.now) (rank_of c.loop-moved.self) (rank_of c.move_on.new.self) c.loop-moved.invariant c.in_ok-move_on.ensures.moves

@@ -8,4 +8,4 @@ use Rattle.mpx_run.proofs.rank.Rank.receive.Goals as goal
 pub returns : goal.returns
 returns c =
     let old = rank_of c.args.self.now in
-    receives (look c.args.part.now) old (rank_of (record c.args.self.now { node = c.take.new.self })) (ap (λ n. let r : RankView = record old { node = n } in r) c.in_ok-take.ensures.ok)
+    receives (look c.args.part.now) old (rank_of (record c.args.self.now { desk = c.take.new.self })) (ap (λ n. let r : RankView = record old { node = n } in r) c.in_ok-take.ensures.ok)

@@ -1,0 +1,12 @@
+-- What the calls that make no turn do to a node, but for posts.
+use Rattle.std.specs.Prelude.{◌≡◌, is_some, Result}
+use Rattle.join_core.specs.declared.memory.OutOfMemory.{OutOfMemory}
+use Rattle.mpx_name.specs.Name.{Name}
+use Rattle.mpx_node.specs.declared.node.Harvest.{Harvest}
+use Rattle.mpx_node.specs.Harvests.{Harvests}
+use Rattle.mpx_node.specs.Nodes.{NodeView, next_result}
+
+-- harvests, one after the other, of any contexts
+pub data Harvested : NodeView → NodeView → Type 0 where
+  stay : (a b : NodeView) → b ≡ a → Harvested a b
+  on : (a b c : NodeView) (name : Name) (answer : Result Harvest OutOfMemory) → Harvests (is_some (a.opened name)) name (next_result a name) answer a b → Harvested b c → Harvested a c
