@@ -70,7 +70,7 @@ impl<H: Host> Desk<H> {
             Err(refusal) => Err(CallError::Refused(refusal)),
             Ok(gathering) => {
                 let drafted = plain(alloc, Call::NewCommunicator(NewCommunicator::CreateGroup));
-                self.call_on(alloc, &comm.name, drafted, turns)
+                self.call_on(alloc, &gathering.name, drafted, turns)
             }
         }
     }
