@@ -2,14 +2,8 @@
 //! script's evaluation, or how much the script has.
 #![tactic(auto)]
 
-mod command;
-mod job;
-mod status;
-#[cfg(test)]
-mod tests;
-
-use command::not_text;
-use job::{refuse, run_job};
+use mpx_program::{refuse, run_job};
+use mpx_words::not_text;
 use std::alloc::AllocError;
 use std::process::ExitCode;
 use std::{env, io};

@@ -1,70 +1,158 @@
-use join_core::Exact;
+// Names of communicators. No function owns more than it looks at: each exit of a function walks the drop of all that it owns.
+ghost use Rattle.std.specs.Prelude.{◌<◌, ◌^◌};
+
+use join_core::{Exact, OutOfMemory};
 use mpx_group::{Group, Proc};
 use mpx_name::{Name, NameError, Step};
+use std::alloc::{AllocError, Global};
 use std::test::Fail;
+
+// The gathering of one process below world.
+fn gathering_of_one(alloc: Global, tag: u16) -> Result<Name, Fail>
+    requires { tag < 2 ^ 15 }
+{
+    let lone = Group::new(vec![in alloc; Proc::new(0)]?)?;
+    Ok(Name::world(alloc).gathering(alloc, tag, &lone)?)
+}
+
+fn gathering_of_two(alloc: Global) -> Result<Name, Fail> {
+    let pair = Group::new(vec![in alloc; Proc::new(0), Proc::new(1)]?)?;
+    Ok(Name::world(alloc).gathering(alloc, 0, &pair)?)
+}
+
+fn grandchild(alloc: Global) -> Result<Name, NameError> {
+    let first = Name::world(alloc).child(alloc, 0, 0)?;
+    first.child(alloc, 5, 0)
+}
+
+// The names in their order, by their places.
+fn ordered(alloc: Global, place: u8) -> Result<Name, Fail> {
+    match place {
+        0 => Ok(Name::world(alloc)),
+        1 => Ok(Name::world(alloc).child(alloc, 0, 0)?),
+        2 => Ok(grandchild(alloc)?),
+        3 => Ok(Name::world(alloc).child(alloc, 0, 1)?),
+        4 => Ok(Name::world(alloc).child(alloc, 1, 0)?),
+        5 => gathering_of_one(alloc, 0),
+        6 => gathering_of_two(alloc),
+        _ => gathering_of_one(alloc, 1),
+    }
+}
+
+fn is_copied(alloc: Global, name: &Name) -> Result<bool, OutOfMemory> {
+    let copy = name.copy(alloc)?;
+    Ok(name.same(name) & (copy == *name))
+}
+
+// Whether the name is above the last one, and the same as its copy.
+fn rises(alloc: Global, last: &Name, name: &Name) -> Result<bool, OutOfMemory> {
+    Ok((*last < *name) & (*name > *last) & (*last != *name) & is_copied(alloc, name)?)
+}
+
+// Whether the name at the next place rises above the one at this.
+fn rises_at(alloc: Global, place: u8) -> Result<bool, Fail> {
+    let last = ordered(alloc, place)?;
+    let name = ordered(alloc, place.saturating_add(1))?;
+    Ok(rises(alloc, &last, &name)?)
+}
 
 #[test]
 fn names_strictly_rise(rt: HostRuntime) -> Result<(), Fail> {
-    let alloc = rt.alloc();
-    let world = Name::world(alloc);
-    let pair = Group::new(vec![in alloc; Proc::new(0), Proc::new(1)]?)?;
-    let lone = Group::new(vec![in alloc; Proc::new(0)]?)?;
-    let first = world.child(alloc, 0, 0)?;
-    let rising = vec![in alloc;
-        first.child(alloc, 5, 0)?,
-        world.child(alloc, 0, 1)?,
-        world.child(alloc, 1, 0)?,
-        world.gathering(alloc, 0, &lone)?,
-        world.gathering(alloc, 0, &pair)?,
-        world.gathering(alloc, 1, &lone)?,
-    ]?;
-    assert!(rt; world < first);
-    let mut last = first;
-    for name in rising {
-        assert!(rt; last < name && name > last && last != name);
-        assert!(rt; name.same(&name) && name.copy(alloc)? == name);
-        last = name;
+    for place in 0..7 {
+        assert!(rt; rises_at(rt.alloc(), place)?);
     }
     Ok(())
+}
+
+fn gathering(alloc: Global) -> Result<Name, Fail> {
+    let pair = Group::new(vec![in alloc; Proc::new(3), Proc::new(1)]?)?;
+    Ok(Name::world(alloc).gathering(alloc, 9, &pair)?)
+}
+
+// The name seven children below.
+fn deepest(alloc: Global, gathering: Name) -> Result<Name, NameError> {
+    let mut name = gathering;
+    for call in 1..8 {
+        name = name.child(alloc, call, 2)?;
+    }
+    Ok(name)
+}
+
+// Whether neither a child nor a gathering is below the name of eight steps.
+fn is_full(alloc: Global, name: &Name) -> Result<bool, Fail> {
+    let pair = Group::new(vec![in alloc; Proc::new(3), Proc::new(1)]?)?;
+    let gathered = name.gathering(alloc, 0, &pair);
+    Ok(
+        (name.depth() == 8)
+            & matches!(gathered, Err(NameError::DepthUsedUp))
+            & has_no_child(alloc, name),
+    )
+}
+
+fn has_no_child(alloc: Global, name: &Name) -> bool {
+    matches!(name.child(alloc, 0, 0), Err(NameError::DepthUsedUp))
+}
+
+fn is_parent(alloc: Global, parent: &Name, name: &Name) -> Result<bool, NameError> {
+    let child = parent.child(alloc, 7, 2)?;
+    Ok((parent.depth() == 7) & (child == *name) & !parent.is_gathering())
+}
+
+fn has_parent(alloc: Global, name: &Name) -> Result<bool, Fail> {
+    match name.parent(alloc)? {
+        Some(parent) => Ok(is_parent(alloc, &parent, name)?),
+        None => Ok(false),
+    }
+}
+
+fn world_has_no_parent(alloc: Global) -> Result<bool, OutOfMemory> {
+    Ok(Name::world(alloc).parent(alloc)?.is_none())
+}
+
+fn has_eight_steps(name: &Name) -> bool {
+    matches!(name.step(0), Some(Step::Gathering { tag: 9, .. }))
+        & matches!(name.step(7), Some(Step::Child { call: 7, colour: 2 }))
+        & name.step(8).is_none()
+}
+
+// Whether all is so of the name of eight steps.
+fn is_deepest(alloc: Global, name: &Name) -> Result<bool, Fail> {
+    let parented = has_parent(alloc, name)? & world_has_no_parent(alloc)?;
+    Ok(parented & is_full(alloc, name)? & has_eight_steps(name))
 }
 
 #[test]
 fn goes_down_eight_steps(rt: HostRuntime) -> Result<(), Fail> {
-    let alloc = rt.alloc();
-    let pair = Group::new(vec![in alloc; Proc::new(3), Proc::new(1)]?)?;
-    let mut name = Name::world(alloc).gathering(alloc, 9, &pair)?;
-    assert!(rt; name.is_gathering());
-    for call in 1..8 {
-        name = name.child(alloc, call, 2)?;
-    }
-    assert_eq!(rt; name.depth(), 8);
-    assert_eq!(rt; name.child(alloc, 0, 0).err(), Some(NameError::DepthUsedUp));
-    assert_eq!(rt;
-        name.gathering(alloc, 0, &pair).err(),
-        Some(NameError::DepthUsedUp)
-    );
-    let parent = name.parent(alloc)?.ok_or("no parent")?;
-    assert_eq!(rt; parent.depth(), 7);
-    assert!(rt; parent.child(alloc, 7, 2)? == name && !parent.is_gathering());
-    assert!(rt; Name::world(alloc).parent(alloc)?.is_none());
-    assert!(rt; matches!(name.step(0), Some(Step::Gathering { tag: 9, .. })));
-    assert!(rt; matches!(name.step(7), Some(Step::Child { call: 7, colour: 2 })));
-    assert!(rt; name.step(8).is_none());
+    let gathering = gathering(rt.alloc())?;
+    assert!(rt; gathering.is_gathering());
+    let name = deepest(rt.alloc(), gathering)?;
+    assert!(rt; is_deepest(rt.alloc(), &name)?);
     Ok(())
+}
+
+// Whether the name is that of the newer child below the older one.
+fn is_grandchild(alloc: Global, name: &Name) -> Result<bool, NameError> {
+    let older = Name::world(alloc).child(alloc, 5, 1)?;
+    let newer = older.child(alloc, 0, 2)?;
+    Ok(*name == newer)
+}
+
+fn has_two_steps(name: &Name) -> bool {
+    matches!(
+        name.steps(),
+        [Step::Child { call: 5, .. }, Step::Child { call: 0, .. }]
+    )
+}
+
+fn of_steps(alloc: Global) -> Result<Name, AllocError> {
+    let older = Step::Child { call: 5, colour: 1 };
+    let newer = Step::Child { call: 0, colour: 2 };
+    Ok(Name::of(vec![in alloc; older, newer]?))
 }
 
 #[test]
 fn steps_make_their_name(rt: HostRuntime) -> Result<(), Fail> {
-    let alloc = rt.alloc();
-    let older = Step::Child { call: 5, colour: 1 };
-    let newer = Step::Child { call: 0, colour: 2 };
-    let name = Name::of(vec![in alloc; older, newer]?);
-    assert!(rt; name == Name::world(alloc).child(alloc, 5, 1)?.child(alloc, 0, 2)?);
-    assert!(rt;
-        matches!(
-            name.steps(),
-            [Step::Child { call: 5, .. }, Step::Child { call: 0, .. }]
-        )
-    );
+    let name = of_steps(rt.alloc())?;
+    assert!(rt; is_grandchild(rt.alloc(), &name)? & has_two_steps(&name));
     Ok(())
 }

@@ -4,3 +4,4 @@ pub mod Views
 pub mod Passes
 pub mod Fronts
 pub mod Takes
+pub mod Merges

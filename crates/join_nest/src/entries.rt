@@ -135,28 +135,44 @@ pub fn merged<K: Key, J: Join>(
 {
     let mut made = Vec::new(alloc);
     made.reserve(left.len().max(right.len()))?;
+    push_merged(alloc, &mut made, left, right)?;
+    Ok(made)
+}
+
+// Adds each key of either slice once, with the join of what both have there.
+fn push_merged<K: Key, J: Join>(
+    alloc: Global,
+    made: &mut Vec<(K, J)>,
+    left: &[(K, J)],
+    right: &[(K, J)],
+) -> Result<(), OutOfMemory>
+    ensures { OnOk result (seen J.view made.new.items
+        ≡ seen J.view made.old.items ++ merge K.cmp J.joining.join (seen J.view left.now) (seen J.view right.now)) }
+{
     let mut i = 0;
     let mut j = 0;
     while i < left.len() && j < right.len() {
-        match left[i].0.cmp(&right[j].0) {
+        let mine = &left[i];
+        let theirs = &right[j];
+        match mine.0.cmp(&theirs.0) {
             Ordering::Less => {
-                push_copy(alloc, &mut made, &left[i])?;
+                push_copy(alloc, made, mine)?;
                 i += 1;
             }
             Ordering::Greater => {
-                push_copy(alloc, &mut made, &right[j])?;
+                push_copy(alloc, made, theirs)?;
                 j += 1;
             }
             Ordering::Equal => {
-                push_joined(alloc, &mut made, &left[i], &right[j].1)?;
+                push_joined(alloc, made, mine, &theirs.1)?;
                 i += 1;
                 j += 1;
             }
         }
     }
-    push_copies(alloc, &mut made, &left[i..])?;
-    push_copies(alloc, &mut made, &right[j..])?;
-    Ok(made)
+    push_copies(alloc, made, &left[i..])?;
+    push_copies(alloc, made, &right[j..])?;
+    Ok(())
 }
 
 // What is made of an entry that isn't below the known one: what that lacks, or the join of both.

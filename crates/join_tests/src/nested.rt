@@ -14,115 +14,271 @@ fn map_of(alloc: Global, entries: &[(u32, u32)]) -> Result<Keyed<u32, Max>, OutO
     Ok(map)
 }
 
-#[test]
-fn maps_join_key_by_key(rt: HostRuntime) -> Result<(), Fail> {
-    let alloc = rt.alloc();
-    let left = map_of(alloc, &[(1, 3), (5, 9), (5, 1)])?;
-    let right = map_of(alloc, &[(5, 4), (2, 7)])?;
-    assert!(rt; laws_hold(alloc, &left, &right)?);
-    assert!(rt; laws_hold(alloc, &right, &left)?);
-    let joined = left.joined(alloc, &right)?;
-    assert!(rt; joined.same(&map_of(alloc, &[(1, 3), (2, 7), (5, 4)])?));
-    assert!(rt; !joined.leq(&left));
-    assert!(rt;
-        joined
-            .delta(alloc, &right)?
-            .same(&map_of(alloc, &[(1, 3)])?)
-    );
-    assert_eq!(rt; joined.get(&5).map_or(0, |n| n.0), 4);
-    assert!(rt; joined.get(&3).is_none());
-    assert_eq!(rt; joined.len(), 3);
-    assert!(rt; joined.delta(alloc, &joined)?.is_empty());
+// The board of these entries, none of which is below the front.
+fn board_of(alloc: Global, front: u32, entries: &[(u32, u32)]) -> Result<Trunc<Max>, OutOfMemory> {
+    let mut board = Trunc::new(alloc, front);
+    for entry in entries {
+        if board.dropped() <= entry.0 {
+            board.put(entry.0, Max(entry.1))?;
+        }
+    }
+    Ok(board)
+}
+
+// Whether the map is that of these entries.
+fn is_map(
+    alloc: Global,
+    map: &Keyed<u32, Max>,
+    entries: &[(u32, u32)],
+) -> Result<bool, OutOfMemory> {
+    let wanted = map_of(alloc, entries)?;
+    Ok(map.same(&wanted))
+}
+
+// Whether the board is that of these entries, with nothing below the front.
+fn is_board(
+    alloc: Global,
+    board: &Trunc<Max>,
+    front: u32,
+    entries: &[(u32, u32)],
+) -> Result<bool, OutOfMemory> {
+    let wanted = board_of(alloc, front, entries)?;
+    Ok(board.same(&wanted))
+}
+
+// Whether what the known map lacks of the other is the map of these entries.
+fn lacks(
+    alloc: Global,
+    map: &Keyed<u32, Max>,
+    known: &Keyed<u32, Max>,
+    entries: &[(u32, u32)],
+) -> Result<bool, OutOfMemory> {
+    let delta = map.delta(alloc, known)?;
+    is_map(alloc, &delta, entries)
+}
+
+fn lacks_nothing_itself(alloc: Global, map: &Keyed<u32, Max>) -> Result<bool, OutOfMemory> {
+    let delta = map.delta(alloc, map)?;
+    Ok(delta.is_empty())
+}
+
+fn keys_rise(map: &Keyed<u32, Max>) -> bool {
+    let mut rise = true;
     let mut keys = 0;
-    for entry in joined.entries() {
-        assert!(rt; keys < entry.0);
+    for entry in map.entries() {
+        rise &= keys < entry.0;
         keys = entry.0;
     }
+    rise
+}
+
+// Whether the map of three entries has 4 at 5, and nothing at 3.
+fn has_three(map: &Keyed<u32, Max>) -> bool {
+    matches!(map.get(&5), Some(Max(4))) & map.get(&3).is_none() & (map.len() == 3) & keys_rise(map)
+}
+
+// Whether the join of both maps is the map of three entries, and what both lack of it.
+fn is_joined(
+    alloc: Global,
+    joined: &Keyed<u32, Max>,
+    left: &Keyed<u32, Max>,
+    right: &Keyed<u32, Max>,
+) -> Result<bool, OutOfMemory> {
+    Ok(
+        is_map(alloc, joined, &[(1, 3), (2, 7), (5, 4)])?
+            & !joined.leq(left)
+            & lacks(alloc, joined, right, &[(1, 3)])?
+            & lacks_nothing_itself(alloc, joined)?,
+    )
+}
+
+// Whether the laws hold of both maps, and their join is as told.
+fn join(
+    alloc: Global,
+    left: &Keyed<u32, Max>,
+    right: &Keyed<u32, Max>,
+) -> Result<bool, OutOfMemory> {
+    let lawful = laws_hold(alloc, left, right)? & laws_hold(alloc, right, left)?;
+    let joined = left.joined(alloc, right)?;
+    Ok(lawful & is_joined(alloc, &joined, left, right)? & has_three(&joined))
+}
+
+#[test]
+fn maps_join_key_by_key(rt: HostRuntime) -> Result<(), Fail> {
+    let left = map_of(rt.alloc(), &[(1, 3), (5, 9), (5, 1)])?;
+    let right = map_of(rt.alloc(), &[(5, 4), (2, 7)])?;
+    assert!(rt; join(rt.alloc(), &left, &right)?);
     Ok(())
+}
+
+// Joins the part of these entries to the map in place.
+fn take(
+    alloc: Global,
+    map: &mut Keyed<u32, Max>,
+    entries: &[(u32, u32)],
+) -> Result<(), OutOfMemory> {
+    let part = map_of(alloc, entries)?;
+    map.take(alloc, &part)
+}
+
+fn is_taken_whole(alloc: Global, map: &Keyed<u32, Max>) -> Result<bool, OutOfMemory> {
+    let mut empty = Keyed::new(alloc);
+    empty.take(alloc, map)?;
+    Ok(empty.same(map))
+}
+
+// Whether the map is that of the wanted entries once the part of these is taken.
+fn takes(
+    alloc: Global,
+    map: &mut Keyed<u32, Max>,
+    entries: &[(u32, u32)],
+    wanted: &[(u32, u32)],
+) -> Result<bool, OutOfMemory> {
+    take(alloc, map, entries)?;
+    is_map(alloc, map, wanted)
 }
 
 // A part below the map leaves it as it is; other parts leave the join of both, also where keys are new before, between and
 // behind those of the map.
 #[test]
 fn a_part_is_taken_in_place(rt: HostRuntime) -> Result<(), Fail> {
-    let alloc = rt.alloc();
-    let mut map = map_of(alloc, &[(2, 3), (5, 9), (8, 1)])?;
-    map.take(alloc, &map_of(alloc, &[(5, 9), (8, 0)])?)?;
-    map.take(alloc, &Keyed::new(alloc))?;
-    assert!(rt; map.same(&map_of(alloc, &[(2, 3), (5, 9), (8, 1)])?));
-    map.take(alloc, &map_of(alloc, &[(2, 4), (5, 7), (8, 6)])?)?;
-    assert!(rt; map.same(&map_of(alloc, &[(2, 4), (5, 9), (8, 6)])?));
-    map.take(alloc, &map_of(alloc, &[(1, 7), (3, 0), (8, 2), (9, 5)])?)?;
-    assert!(rt; map.same(&map_of(alloc, &[(1, 7), (2, 4), (3, 0), (5, 9), (8, 6), (9, 5)])?));
-    let mut empty = Keyed::new(alloc);
-    empty.take(alloc, &map)?;
-    assert!(rt; empty.same(&map));
+    let mut map = map_of(rt.alloc(), &[(2, 3), (5, 9), (8, 1)])?;
+    for (part, wanted) in [
+        (
+            [(5, 9), (8, 0)].as_slice(),
+            [(2, 3), (5, 9), (8, 1)].as_slice(),
+        ),
+        (&[], &[(2, 3), (5, 9), (8, 1)]),
+        (&[(2, 4), (5, 7), (8, 6)], &[(2, 4), (5, 9), (8, 6)]),
+        (
+            &[(1, 7), (3, 0), (8, 2), (9, 5)],
+            &[(1, 7), (2, 4), (3, 0), (5, 9), (8, 6), (9, 5)],
+        ),
+    ] {
+        assert!(rt; takes(rt.alloc(), &mut map, part, wanted)?);
+    }
+    assert!(rt; is_taken_whole(rt.alloc(), &map)?);
     Ok(())
+}
+
+// A board of two known values.
+fn two_known(alloc: Global) -> Result<Trunc<Flat<u32>>, OutOfMemory> {
+    let mut part = Trunc::new(alloc, 0);
+    part.put(3, Flat::Known(7u32))?;
+    part.put(6, Flat::Known(8))?;
+    Ok(part)
+}
+
+// Whether the join of both is this board.
+fn joins_to(
+    alloc: Global,
+    left: &Trunc<Flat<u32>>,
+    right: &Trunc<Flat<u32>>,
+    wanted: &Trunc<Flat<u32>>,
+) -> Result<bool, OutOfMemory> {
+    let joined = left.joined(alloc, right)?;
+    Ok(wanted.same(&joined))
+}
+
+// Whether what is below 5 is dropped, and 6 alone is there.
+fn has_dropped(joined: &Trunc<Flat<u32>>) -> bool {
+    (joined.dropped() == 5)
+        & joined.get(&3).is_none()
+        & joined.get(&6).is_some()
+        & (joined.entries().len() == 1)
+}
+
+// Whether the laws hold of both, and their join is as told, from either side.
+fn stay_dropped(
+    alloc: Global,
+    board: &Trunc<Flat<u32>>,
+    part: &Trunc<Flat<u32>>,
+) -> Result<bool, OutOfMemory> {
+    let lawful = laws_hold(alloc, board, part)? & laws_hold(alloc, part, board)?;
+    let joined = board.joined(alloc, part)?;
+    Ok(lawful & joins_to(alloc, part, board, &joined)? & has_dropped(&joined))
 }
 
 // What either side has dropped is gone from the join, whichever way it is made.
 #[test]
 fn dropped_calls_stay_dropped(rt: HostRuntime) -> Result<(), Fail> {
-    let alloc = rt.alloc();
-    let board = Trunc::<Flat<u32>>::new(alloc, 5);
-    let mut part = Trunc::new(alloc, 0);
-    part.put(3, Flat::Known(7u32))?;
-    part.put(6, Flat::Known(8))?;
-    assert!(rt; laws_hold(alloc, &board, &part)?);
-    assert!(rt; laws_hold(alloc, &part, &board)?);
-    let joined = board.joined(alloc, &part)?;
-    assert!(rt; joined.same(&part.joined(alloc, &board)?));
-    assert_eq!(rt; joined.dropped(), 5);
-    assert!(rt; joined.get(&3).is_none());
-    assert!(rt; joined.get(&6).is_some());
-    assert_eq!(rt; joined.entries().len(), 1);
+    let part = two_known(rt.alloc())?;
+    assert!(rt; stay_dropped(rt.alloc(), &Trunc::new(rt.alloc(), 5), &part)?);
     Ok(())
+}
+
+// Whether the value at 5 is replaced, and none at 4.
+fn replaces_in_map(map: &mut Keyed<u32, Max>) -> bool {
+    matches!(map.replace(&5, Max(2)), Some(Max(9))) & map.replace(&4, Max(7)).is_none()
 }
 
 #[test]
 fn a_value_is_replaced_at_a_present_key_only(rt: HostRuntime) -> Result<(), Fail> {
-    let alloc = rt.alloc();
-    let mut map = map_of(alloc, &[(1, 3), (5, 9)])?;
-    assert_eq!(rt; map.replace(&5, Max(2)).map_or(0, |n| n.0), 9);
-    assert!(rt; map.replace(&4, Max(7)).is_none());
-    assert!(rt; map.same(&map_of(alloc, &[(1, 3), (5, 2)])?));
-    let mut board = Trunc::new(alloc, 2);
-    board.put(3, Max(6))?;
-    assert_eq!(rt; board.replace(&3, Max(1)).map_or(0, |n| n.0), 6);
-    assert!(rt; board.replace(&1, Max(7)).is_none());
-    assert_eq!(rt; board.get(&3).map_or(0, |n| n.0), 1);
-    assert_eq!(rt; board.dropped(), 2);
-    assert_eq!(rt; board.entries().len(), 1);
+    let mut map = map_of(rt.alloc(), &[(1, 3), (5, 9)])?;
+    assert!(rt; replaces_in_map(&mut map));
+    assert!(rt; is_map(rt.alloc(), &map, &[(1, 3), (5, 2)])?);
     Ok(())
+}
+
+// Whether the value at 3 is replaced, and none at 1.
+fn replaces_in_board(board: &mut Trunc<Max>) -> bool {
+    matches!(board.replace(&3, Max(1)), Some(Max(6))) & board.replace(&1, Max(7)).is_none()
+}
+
+// Whether what is below 2 is dropped, and 3 alone is there.
+fn has_replaced(board: &Trunc<Max>) -> bool {
+    matches!(board.get(&3), Some(Max(1))) & (board.dropped() == 2) & (board.entries().len() == 1)
+}
+
+#[test]
+fn a_value_of_a_board_is_replaced_at_a_present_key_only(rt: HostRuntime) -> Result<(), Fail> {
+    let mut board = board_of(rt.alloc(), 2, &[(3, 6)])?;
+    assert!(rt; replaces_in_board(&mut board));
+    assert!(rt; has_replaced(&board));
+    Ok(())
+}
+
+// Whether dropping what is below the front leaves the board as it is.
+fn keeps_all(alloc: Global, board: &mut Trunc<Max>, front: u32) -> Result<bool, OutOfMemory> {
+    let copy = board.copy(alloc)?;
+    board.drop_below(front);
+    Ok(board.same(&copy))
+}
+
+// Whether what is below 4 is dropped, and 4 with one more is there.
+fn has_dropped_below(board: &Trunc<Max>) -> bool {
+    (board.dropped() == 4)
+        & board.get(&3).is_none()
+        & board.get(&4).is_some()
+        & (board.entries().len() == 2)
 }
 
 #[test]
 fn calls_below_a_front_are_dropped(rt: HostRuntime) -> Result<(), Fail> {
-    let alloc = rt.alloc();
-    let mut board = Trunc::new(alloc, 1);
-    board.put(2, Max(6))?;
-    board.put(3, Max(7))?;
-    board.put(4, Max(8))?;
-    board.put(6, Max(9))?;
+    let mut board = board_of(rt.alloc(), 1, &[(2, 6), (3, 7), (4, 8), (6, 9)])?;
     board.drop_below(4);
-    assert_eq!(rt; board.dropped(), 4);
-    assert!(rt; board.get(&3).is_none());
-    assert!(rt; board.get(&4).is_some());
-    let copy = board.copy(alloc)?;
-    board.drop_below(2);
-    assert!(rt; board.same(&copy));
-    assert_eq!(rt; board.entries().len(), 2);
+    assert!(rt; has_dropped_below(&board));
+    assert!(rt; keeps_all(rt.alloc(), &mut board, 2)? && has_dropped_below(&board));
     Ok(())
+}
+
+// Whether the delta of the board against itself is the board with no entry.
+fn has_no_delta_itself(alloc: Global, board: &Trunc<Max>) -> Result<bool, OutOfMemory> {
+    let delta = board.delta(alloc, board)?;
+    is_board(alloc, &delta, 0, &[])
+}
+
+// Whether the delta of the board against an empty one has dropped what is below 5.
+fn has_dropped_delta(alloc: Global, board: &Trunc<Max>) -> Result<bool, OutOfMemory> {
+    let delta = board.delta(alloc, &Trunc::new(alloc, 0))?;
+    Ok(delta.dropped() == 5)
 }
 
 #[test]
 fn a_delta_against_itself_is_empty(rt: HostRuntime) -> Result<(), Fail> {
-    let alloc = rt.alloc();
-    let mut board = Trunc::new(alloc, 5);
-    board.put(6, Max(8))?;
-    let none = Trunc::new(alloc, 0);
-    assert!(rt; board.delta(alloc, &board)?.same(&none));
-    assert_eq!(rt; board.delta(alloc, &none)?.dropped(), 5);
+    let board = board_of(rt.alloc(), 5, &[(6, 8)])?;
+    assert!(rt; has_no_delta_itself(rt.alloc(), &board)?);
+    assert!(rt; has_dropped_delta(rt.alloc(), &board)?);
     Ok(())
 }
 
@@ -130,11 +286,14 @@ fn a_delta_against_itself_is_empty(rt: HostRuntime) -> Result<(), Fail> {
 fn rising_entries_make_their_map(rt: HostRuntime) -> Result<(), Fail> {
     let alloc = rt.alloc();
     let map = Keyed::from_rising(vec![in alloc; (1u32, Max(3)), (5, Max(9))]?);
-    assert!(rt; map.same(&map_of(alloc, &[(5, 9), (1, 3)])?));
+    assert!(rt; is_map(alloc, &map, &[(5, 9), (1, 3)])?);
+    Ok(())
+}
+
+#[test]
+fn rising_entries_make_their_board(rt: HostRuntime) -> Result<(), Fail> {
+    let alloc = rt.alloc();
     let board = Trunc::from_rising(2, vec![in alloc; (2, Max(6)), (4, Max(8))]?);
-    let mut put = Trunc::new(alloc, 2);
-    put.put(4, Max(8))?;
-    put.put(2, Max(6))?;
-    assert!(rt; board.same(&put));
+    assert!(rt; is_board(alloc, &board, 2, &[(4, 8), (2, 6)])?);
     Ok(())
 }

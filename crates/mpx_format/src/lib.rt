@@ -4,7 +4,7 @@
 //! the front with the bytes after it, or the first field that is wrong. The formats of frames are built of a few such forms:
 //! fields and names in `specs/Fields.antt`, births in `specs/Births.antt`, posts in `specs/Posts.antt`, whole boards in
 //! `specs/Contexts.antt`; `specs/Decoding.antt` says which bytes spell a board and how a refusal is placed. The code that
-//! reads them is `mpx_decode`, and what writes them `mpx_wire`.
+//! reads them is `mpx_decode`, and what writes them `mpx_encode`.
 #![tactic(auto)]
 
 mod faults;

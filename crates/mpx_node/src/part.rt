@@ -6,7 +6,7 @@ ghost use Rattle.mpx_node.specs.declared.part.PartError.TheVariants as E;
 
 use join_core::{Exact, OutOfMemory};
 use mpx_board::Board;
-use mpx_wire::frame_len;
+use mpx_encode::frame_len;
 use std::alloc::Global;
 use thiserror::Error;
 

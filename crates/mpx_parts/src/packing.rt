@@ -9,7 +9,7 @@ ghost use Rattle.mpx_parts.specs.Pieces.{Says};
 use crate::walk::pieces;
 use join_core::{Exact, Join, OutOfMemory};
 use mpx_board::Board;
-use mpx_wire::frame_len;
+use mpx_encode::frame_len;
 use std::alloc::Global;
 
 /// The board in parts, each of which has only facts of the board and a frame of at most so many bytes, and whose join is

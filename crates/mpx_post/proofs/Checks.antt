@@ -71,6 +71,10 @@ module _ (draft : Draft) where
   abbrev pub items_are_fine : Type 0
   items_are_fine = (cut ≡ false) × (strange ≡ false) × (many ≡ false)
 
+by_counts : (c : Bool) (after : Option PostError) (e : PostError) (given : Given) → Checks (unless (cond c after (Some TooManyItems)) given) (Err e) → Checks (unless (option_or (cond (not c) (Some TooManyItems) None) after) given) (Err e)
+by_counts true after e given h = h
+by_counts false after e given h = h
+
 module _ (draft : Draft) (after : Option PostError) where
   abbrev numbered : Result Given PostError
   numbered = unless (option_or (numbers_refusal draft) after) (given_by draft)
@@ -78,14 +82,12 @@ module _ (draft : Draft) (after : Option PostError) where
   pub refused_by_items : {A : Type 0} (x : A) (e : PostError) → Err e ≡ unless (items_refusal draft.ty (drafted_numbers draft)) x → Checks numbered (Err e)
   refused_by_items x e h = items_refused (cut draft) (strange draft) (many draft) (not (counted draft)) after x e (given_by draft) h
 
-  pub refused_by_counts : items_are_fine draft → counted draft ≡ false → Checks numbered (Err TooManyItems)
-  refused_by_counts items counts = rw (items.0, items.1, items.2, counts) refl
-
   behind_numbers : items_are_fine draft → counted draft ≡ true → numbered ≡ unless after (given_by draft)
   behind_numbers items counts = rw (items.0, items.1, items.2, counts) refl
 
-  pub refused_after : (e : PostError) → items_are_fine draft → counted draft ≡ true → after ≡ Some e → Checks numbered (Err e)
-  refused_after e items counts h = rw (behind_numbers items counts, h) refl
+  -- by what comes after the items
+  pub refused_by_rest : (e : PostError) → items_are_fine draft → Checks (unless (cond (counted draft) after (Some TooManyItems)) (given_by draft)) (Err e) → Checks numbered (Err e)
+  refused_by_rest e items h = rw (items.0, items.1, items.2) (by_counts (counted draft) after e (given_by draft) h)
 
   pub accepted : items_are_fine draft → counted draft ≡ true → after ≡ None → numbered ≡ Ok (given_by draft)
   accepted items counts h = behind_numbers items counts ∙ ap (λ o. unless o (given_by draft)) h

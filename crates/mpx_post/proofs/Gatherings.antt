@@ -1,6 +1,7 @@
 -- Gatherings: their members, and what an accepted one is.
-use Rattle.std.proofs.Common.{◌≡◌, ◌≢◌, [], ◌∷◌, ℕ, zero, suc, ◌^◌, ◌<◌, nat_le, nat_lt, ◌||◌, Bool, true, false, not, List, ℤ, pos, length, get_or, Option, Some, None, Result, Ok, Err, refl, sym, ap, ◌∙◌, arith}
+use Rattle.std.proofs.Common.{◌≡◌, ◌≢◌, [], ◌∷◌, ℕ, zero, suc, ◌^◌, ◌+◌, ◌<◌, nat_le, nat_lt, ◌||◌, Bool, true, false, not, List, ℤ, pos, negsuc, nat_abs, length, get_or, take, map, ◌++◌, Option, Some, None, Result, Ok, Err, refl, sym, ap, ◌∙◌, arith}
 use Rattle.std.proofs.lemmas.List.{get_or-map, get_or_default, length-map}
+use Rattle.std.proofs.lemmas.Simd.{map-map}
 use Rattle.std.specs.List.{list_all}
 use Rattle.std.specs.Prelude.{int_le}
 use Rattle.std.proofs.lemmas.Bool.{and_from, and_parts, eq-eqb, or_left, or_parts, or_right, true≢false}
@@ -12,6 +13,7 @@ use Rattle.mpx_post.specs.Births.{BirthView, rank_in}
 use Rattle.mpx_post.specs.Drafts.{first_that_holds, is_rank, is_tag, most_steps, natural, naturals, unless}
 use Rattle.mpx_post.specs.Gatherings.{GatheringView, gathering, gathering_at, is_bad_group, members_at}
 use Rattle.mpx_post.proofs.Limits.{from_not}
+use Rattle.mpx_post.proofs.Lists.{map_pushed}
 
 pub length-members_at : (members : List ℕ) (ranks : List ℤ) → length (members_at members ranks) ≡ length ranks
 length-members_at members ranks = length-map (naturals ranks) (λ r. get_or members r 0) ∙ length-map ranks natural
@@ -22,6 +24,19 @@ member_at members ranks i r x l is k e =
     let first : get_or (members_at members ranks) i x ≡ get_or members (get_or (naturals ranks) i 0) 0 = get_or-map (λ r. get_or members r 0) (naturals ranks) i 0 x (omega (arith, length-map ranks natural)) in
     let second : get_or (naturals ranks) i 0 ≡ r = get_or-map natural ranks i (pos 0) 0 l ∙ sym is in
     e ∙ get_or_default members r x 0 k ∙ ap (λ n. get_or members n 0) (sym second) ∙ sym first
+
+-- a rank as the number of a place
+pub rank_as : (size : ℕ) (z : ℤ) → is_rank size z ≡ true → (nat_abs z < size) × (nat_abs z ≡ natural z)
+rank_as size (pos n) h =
+    let below : n < size = grind (arith, nat_tests, h) in
+    (below, refl)
+rank_as size (negsuc n) h = cc
+
+-- after a push of the member at the next rank
+pub members_at-pushed : (members : List ℕ) (ranks : List ℤ) (i : ℕ) → i < length ranks → (before after : List ℕ) (x : ℕ) → before ≡ members_at members (take i ranks) → after ≡ before ++ x ∷ [] → x ≡ get_or members (natural (get_or ranks i (pos 0))) 0 → after ≡ members_at members (take (i + 1) ranks)
+members_at-pushed members ranks i l before after x was push is =
+    let both : (zs : List ℤ) → map (λ z. get_or members (natural z) 0) zs ≡ members_at members zs = λ zs. sym (map-map (λ r. get_or members r 0) natural zs) in
+    map_pushed (λ z. get_or members (natural z) 0) ranks i (pos 0) l before after x (was ∙ sym (both (take i ranks))) push is ∙ both (take (i + 1) ranks)
 
 -- WHAT A CHECK SAYS
 

@@ -5,6 +5,7 @@ pub mod Sums
 pub mod Blocks
 pub mod Contributions
 pub mod Seen
+pub mod Lists
 pub mod Limits
 pub mod Checks
 pub mod Graphs

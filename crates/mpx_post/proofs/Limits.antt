@@ -1,9 +1,11 @@
 -- What the fields of a draft within its limits say of the post's.
-use Rattle.std.proofs.Common.{◌≡◌, ◌*◌, Bool, true, false, not, cond, is_some, [], ℤ, List, length, nat_lt, pos, refl, arith}
+use Rattle.std.proofs.Common.{◌≡◌, ◌≤◌, ◌*◌, Bool, true, false, not, cond, is_some, [], ℤ, List, length, nat_lt, pos, negsuc, refl, arith}
 use Rattle.std.specs.Prelude.{◌&&◌, int_le}
+use Rattle.std.specs.List.{list_all}
 use Rattle.std.specs.Option.{option_map_or}
 use Rattle.std.proofs.lemmas.Bool.{and_parts}
 use Rattle.std.proofs.lemmas.Bool.Decides.{nat_tests}
+use Rattle.std.proofs.lemmas.List.{length-map}
 use Rattle.mpx_num.specs.declared.operations.Op.{Op}
 use Rattle.mpx_num.specs.declared.types.Ty.{Ty}
 use Rattle.mpx_num.specs.declared.types.Ty.TheVariants.{I8}
@@ -13,8 +15,9 @@ use Rattle.mpx_num.specs.Types.{item_len}
 use Rattle.mpx_kind.specs.declared.kinds.Kind.{Kind}
 use Rattle.mpx_kind.specs.declared.kinds.Kind.TheVariants.{Barrier, Bcast, Gather, Gatherv, Scatter, Scatterv, Allgather, Allgatherv, Alltoall, Alltoallv, Reduce, Allreduce, ReduceScatterBlock, ReduceScatter, Scan, Exscan, Dup, Split, Create, CreateGroup, DistGraph, DistGraphAdjacent, NeighborAllgather, NeighborAllgatherv, NeighborAlltoall, NeighborAlltoallv}
 use Rattle.mpx_post.specs.Kinds.{fields_of}
-use Rattle.mpx_post.specs.Posts.{NoneUnless, few_items, most_items}
-use Rattle.mpx_post.specs.Drafts.{is_rank, natural, naturals, where_had}
+use Rattle.mpx_post.specs.Posts.{AreCounts, NoneUnless, few_items, most_counts, most_items}
+use Rattle.mpx_post.specs.Drafts.{is_count, is_rank, natural, naturals, where_had}
+use Rattle.mpx_post.proofs.Graphs.{all_made}
 
 pub from_not : (b : Bool) → not b ≡ false → b ≡ true
 from_not true h = refl
@@ -45,6 +48,16 @@ few_given false ty nums few = tt
 pub root_given : (had : Bool) (z : ℤ) → cond had (is_rank 64 z) true ≡ true → option_map_or (λ root. nat_lt root 64) (where_had had (natural z)) true ≡ true
 root_given true z h = (and_parts (int_le (pos 0) z) (nat_lt (natural z) 64) h).1
 root_given false z h = refl
+
+is_count-below : (z : ℤ) → is_count z ≡ true → natural z ≤ most_items
+is_count-below (pos n) h = grind (arith, nat_tests)
+is_count-below (negsuc n) h = omega arith
+
+pub AreCounts-from : (numbers : List ℤ) → list_all is_count numbers ≡ true → length numbers ≤ most_counts → AreCounts (naturals numbers)
+AreCounts-from numbers h few = record {
+  small = all_made is_count natural (λ count. count ≤ most_items) is_count-below numbers h;
+  few = omega (arith, length-map numbers natural);
+}
 
 pub counts_given : (had : Bool) (numbers : List ℤ) → NoneUnless had (naturals (cond had numbers []))
 counts_given true numbers = tt

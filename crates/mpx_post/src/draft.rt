@@ -1,17 +1,20 @@
-ghost use Rattle.std.specs.Prelude.{◌≡◌, ◌≤◌, ◌&&◌, ◌||◌, cond, nat_le, None, Some, not, length, true, IfOk};
+ghost use Rattle.std.specs.Prelude.{◌≡◌, ◌≤◌, ◌&&◌, ◌||◌, cond, nat_le, None, Some, not, length, true, IfOk, IfErr, Err};
+ghost use Rattle.std.specs.List.{list_all};
 ghost use Rattle.std.specs.Option.{option_or};
 ghost use Rattle.mpx_num.specs.Operations.{fits};
 ghost use Rattle.mpx_post.specs.Kinds.{family_of, fields_of, is_gathered, kind_of, makes_communicators};
 ghost use Rattle.mpx_post.specs.Seats.{lacks_topology};
 ghost use Rattle.mpx_post.specs.Topologies.{most_neighbours};
 ghost use Rattle.mpx_post.specs.Blocks.{blocks_sent};
-ghost use Rattle.mpx_post.specs.Drafts.{misfill};
+ghost use Rattle.mpx_post.specs.Drafts.{misfill, is_count, naturals, drafted_making};
+ghost use Rattle.mpx_post.specs.declared.draft.PostError.TheVariants.{TooManyItems};
 ghost use Rattle.mpx_post.specs.Drafts.{Checks, refusal_of, asked_first, at, are_ranks, given_by, has_colour_and_key, has_making, is_misfilled, is_misplaced, most_steps, numbers_refusal, ranks_in, checked, checked_in, is_rank as is_rank_of, is_drafted_root, are_so_many, drafted_seat, sent_counts, received_counts, drafted_numbers, first_that_holds, place_refusals, stray_refusals, unless};
 ghost use Rattle.mpx_post.specs.Posts.{most_counts};
 
-use crate::counts::are_counts;
+use crate::counts::{Counts, are_counts};
 use crate::drafted_edges::DraftedGraph;
 use crate::graph_fields::{are_edges, edge_count};
+use crate::making::Making;
 use crate::making_fields::{are_ranks, given_making, is_colour, is_key};
 use crate::post::Post;
 use crate::post_fields::{
@@ -24,6 +27,7 @@ use mpx_kind::{Call, Makes, Seat, Sent};
 use mpx_name::Name;
 use mpx_num::{Numbers, Op, Ty, op_fits};
 use std::alloc::Global;
+use std::fmt;
 use thiserror::Error;
 
 /// What a process would post, with numbers that nobody has checked yet. The fields that the kind hasn't are not looked at.
@@ -80,51 +84,43 @@ impl At {
 #[derive(Clone, Copy, Debug, PartialEq, Eq, Error)]
 pub enum PostError {
     /// The process is no member of the communicator.
-    #[error("NotMember")]
     NotMember,
     /// The root is no rank of the communicator.
-    #[error("RootOutOfRange")]
     RootOutOfRange,
     /// The operation isn't defined on the type.
-    #[error("OpNotForType")]
     OpNotForType,
     /// A list of counts has another length than the kind asks for.
-    #[error("CountsLength")]
     CountsLength,
     /// There are more or fewer items than the counts tell, or an item of two numbers is cut.
-    #[error("ItemsLength")]
     ItemsLength,
     /// A number is outside its type.
-    #[error("ItemOutOfRange")]
     ItemOutOfRange,
     /// There are over 4,096 items, or a count is outside 0 to 4,096.
-    #[error("TooManyItems")]
     TooManyItems,
     /// The communicator has no topology, along whose edges the kind's calls go.
-    #[error("NoTopology")]
     NoTopology,
     /// 4,294,967,295 calls are made.
-    #[error("CallsUsedUp")]
     CallsUsedUp,
     /// The name of a new communicator would have over 8 steps.
-    #[error("DepthUsedUp")]
     DepthUsedUp,
     /// A rank of a group is none of the communicator or stands twice; for `create_group` also a list without the caller.
     /// Calls of `create_group` are made on gatherings, and no others.
-    #[error("BadGroup")]
     BadGroup,
     /// An edge goes from or to no rank of the communicator, or its weight is out of its limit.
-    #[error("BadEdge")]
     BadEdge,
     /// There are over 512 edges.
-    #[error("TooManyEdges")]
     TooManyEdges,
     /// A tag, a colour or a key is out of its limit.
-    #[error("BadTag")]
     BadTag,
     /// A growth was refused.
-    #[error("OutOfMemory")]
     OutOfMemory,
+}
+
+// The name of the reason.
+impl fmt::Display for PostError {
+    fn fmt<W: fmt::Write>(&self, f: &mut fmt::Formatter<W>) -> fmt::Result {
+        fmt::Debug::fmt(self, f)
+    }
 }
 
 /// So many calls may be made on a communicator.
@@ -280,14 +276,51 @@ impl Draft {
         requires making { refusal ≡ None → has_making (fields_of (kind_of self.call)).makes self ≡ true }
         ensures { Checks (unless (option_or (numbers_refusal self) refusal) (given_by self)) result }
     {
-        let fields = self.call.kind().fields();
         let (kind, mode) = (self.call.kind(), self.call.mode());
+        let fields = kind.fields();
         let root = given_root(fields.root, self.root);
         let op = given_op(fields.op, self.op);
-        let items = match given_items(fields.items, self.ty, self.items) {
-            Ok(items) => items,
-            Err(refusal) => return Err(refusal),
-        };
+        let ty = self.ty;
+        // before the items are moved out of the draft
+        let rest = self.rest(alloc, refusal);
+        match given_items(fields.items, ty, self.into_items()) {
+            Ok(items) => match rest {
+                Ok((scounts, rcounts, making)) => Ok(Post::new(
+                    kind, mode, root, op, scounts, rcounts, items, making,
+                )),
+                Err(refusal) => Err(refusal),
+            },
+            Err(refusal) => Err(refusal),
+        }
+    }
+
+    // The numbers of the items that are sent.
+    fn into_items(self) -> Numbers
+        ensures { result ≡ self.items }
+    {
+        self.items
+    }
+
+    // The counts of the post, and what it says of a new communicator; or why its counts are none, or else this refusal.
+    fn rest(
+        &self,
+        alloc: Global,
+        refusal: Option<PostError>,
+    ) -> Result<(Counts, Counts, Making), PostError>
+        requires sent { length (sent_counts self.now) ≤ most_counts }
+        requires received { length (received_counts self.now) ≤ most_counts }
+        requires making { refusal ≡ None → has_making (fields_of (kind_of self.now.call)).makes self.now ≡ true }
+        ensures ok { IfOk result (λ rest.
+            ((list_all is_count (sent_counts self.now) && list_all is_count (received_counts self.now)) ≡ true)
+            × (refusal ≡ None)
+            × (rest.0 ≡ naturals (sent_counts self.now))
+            × (rest.1 ≡ naturals (received_counts self.now))
+            × (rest.2 ≡ drafted_making (fields_of (kind_of self.now.call)).makes self.now)) }
+        ensures err { IfErr result (λ e. Checks
+            (unless (cond (list_all is_count (sent_counts self.now) && list_all is_count (received_counts self.now)) refusal (Some TooManyItems)) (given_by self.now))
+            (Err e)) }
+    {
+        let fields = self.call.kind().fields();
         let sent = where_had(fields.scounts.is_had(), &self.scounts);
         let received = where_had(fields.rcounts.is_had(), &self.rcounts);
         if !(are_counts(sent) & are_counts(received)) {
@@ -297,18 +330,10 @@ impl Draft {
             return Err(refusal);
         }
         let group = self.group.as_slice();
-        match given_making(
-            alloc,
-            fields.makes,
-            self.colour,
-            self.key,
-            group,
-            &self.graph,
-        ) {
+        let (colour, key) = (self.colour, self.key);
+        match given_making(alloc, fields.makes, colour, key, group, &self.graph) {
             Ok(making) => match given_counts(alloc, sent, received) {
-                Ok((scounts, rcounts)) => Ok(Post::new(
-                    kind, mode, root, op, scounts, rcounts, items, making,
-                )),
+                Ok((scounts, rcounts)) => Ok((scounts, rcounts, making)),
                 Err(_) => Err(PostError::OutOfMemory),
             },
             Err(_) => Err(PostError::OutOfMemory),

@@ -1,7 +1,2 @@
-pub mod Coupling
-pub mod Waiting
-pub mod Running
-pub mod Reporting
-pub mod Pieces
-pub mod Bindings
-pub mod Sending
+mod Reporting
+mod Pieces

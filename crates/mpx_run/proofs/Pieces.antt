@@ -8,7 +8,7 @@ use Rattle.std.specs.Prelude.{min, Result, Err, OnErr}
 use Rattle.std.proofs.Math.Seq.{take-add, take-append_seam}
 use Rattle.std.proofs.Common.{Ok}
 use Rattle.mpx_run.specs.declared.end.End.{End}
-use Rattle.mpx_run.specs.declared.options.Job.{Job}
+use Rattle.mpx_job.specs.declared.Job.{Job}
 use Rattle.mpx_script.specs.Words.{bytes_limit}
 use Rattle.mpx_run.specs.Texts.{Prints, TakesInput, TakesPart, Runs}
 use Rattle.mpx_run.specs.declared.texts.RunError.{RunError}

@@ -1,5 +1,2 @@
-pub mod Systems
-pub mod Running
-pub mod Shown
-pub mod Runs
+pub mod Reports
 pub mod Texts

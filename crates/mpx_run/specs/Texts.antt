@@ -11,12 +11,12 @@ use Rattle.mpx_run.specs.declared.bytes.ReadFault.{ReadFault}
 use Rattle.mpx_run.specs.declared.bytes.ReadFault.TheVariants as Fault
 use Rattle.mpx_run.specs.declared.end.End.{End}
 use Rattle.mpx_run.specs.declared.end.End.TheVariants.{Finished}
-use Rattle.mpx_run.specs.declared.options.Command.{Command}
-use Rattle.mpx_run.specs.declared.options.Command.TheVariants.{Run, Eval, Check}
-use Rattle.mpx_run.specs.declared.options.Job.{Job}
+use Rattle.mpx_job.specs.declared.Command.{Command}
+use Rattle.mpx_job.specs.declared.Command.TheVariants.{Run, Eval, Check}
+use Rattle.mpx_job.specs.declared.Job.{Job}
 use Rattle.mpx_run.specs.declared.texts.RunError.{RunError}
 use Rattle.mpx_run.specs.declared.texts.RunError.TheVariants as E
-use Rattle.mpx_run.specs.Runs.{IsEvaluatedText, IsReport}
+use Rattle.mpx_run.specs.Reports.{IsEvaluatedText, IsReport}
 
 -- the bytes that are read, where it is known what there is: one more than a script may have, or all
 abbrev pub IsInput : Option (List ℕ) → List ℕ → Type 0

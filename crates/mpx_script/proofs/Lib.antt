@@ -12,5 +12,6 @@ pub mod Steps
 pub mod Ways
 pub mod Ahead
 pub mod Ends
+mod Spaced
 pub mod Tells
 mod EvaluationExamples

@@ -3,8 +3,9 @@ ghost use Rattle.std.specs.Prelude.{◌≡◌, [], true, false, not, pos, if◌t
 ghost use Rattle.std.specs.List.{filter_map, list_any};
 ghost use Rattle.std.specs.Option.{option_copied};
 ghost use Rattle.mpx_num.specs.Text.{number_of};
+ghost use Rattle.mpx_post.specs.Kinds.{family_of};
 ghost use Rattle.mpx_script.specs.Words.{words};
-ghost use Rattle.mpx_script.specs.Grammar.{is_number, is_one, list_named, counts_named, operation_named, type_named, colour_named, said, call_draft_in, draft_in};
+ghost use Rattle.mpx_script.specs.Grammar.{is_number, is_one, list_named, counts_named, operation_named, type_named, colour_named, said, call_draft_in, call_with, draft_in};
 ghost use Rattle.mpx_script.specs.Sentences.{IsRefusal, counts_refusal, draft_refusal, fields_refusal, read_at};
 
 use crate::faults::{LineError, ScriptFault};
@@ -146,21 +147,50 @@ fn call_draft_in(
     let Some(items) = numbers_in(alloc, call.items)? else {
         return Err(LineError::Fault(ScriptFault::BadNumber));
     };
-    let (scounts, rcounts) = match counts_in(alloc, kind.fields(), call) {
+    let counts = match counts_in(alloc, kind.fields(), call) {
         Ok(counts) => counts,
         Err(e) => return Err(e),
     };
+    let draft = plain_draft(alloc, kind, mode, call, root, counts, items)?;
+    Ok(draft)
+}
+
+// The draft with these parts, which says nothing of a new communicator.
+fn plain_draft(
+    alloc: Global,
+    kind: Kind,
+    mode: Mode,
+    call: &CallSyntax<'_>,
+    root: i128,
+    counts: (Numbers, Numbers),
+    items: Numbers,
+) -> Result<Draft, AllocError>
+    ensures { IfOk result (λ draft. draft ≡ record {
+      call = call_with mode (family_of kind);
+      root = root;
+      op = said operation_named Op.Sum call.now.operation;
+      ty = said type_named Ty.I8 call.now.ty;
+      scounts = counts.0;
+      rcounts = counts.1;
+      items = items;
+      colour = None;
+      key = pos 0;
+      group = [];
+      graph = None;
+    }) }
+{
+    let group = Numbers::new(alloc, Vec::new(alloc))?;
     Ok(Draft {
         call: call_with(mode, kind),
         root,
         op: operation_at(call.operation),
         ty: type_at(call.ty),
-        scounts,
-        rcounts,
+        scounts: counts.0,
+        rcounts: counts.1,
         items,
         colour: None,
         key: 0,
-        group: Numbers::new(alloc, Vec::new(alloc))?,
+        group,
         graph: None,
     })
 }

@@ -14,7 +14,7 @@ use mpx_post::{Call, Family, Kind, Mode, NewCommunicator, Number};
 use std::alloc::{AllocError, Global};
 
 /// Which ranks a further line is for.
-#[derive(Clone, Copy, Debug)]
+#[derive(Clone, Copy)]
 pub enum Label {
     /// Every rank.
     Every,
@@ -146,7 +146,7 @@ fn started_named(word: &[u8]) -> Option<Kind>
 }
 
 /// How many requests a wait is for.
-#[derive(Clone, Copy, Debug)]
+#[derive(Clone, Copy)]
 pub enum Waited {
     One,
     /// Any number of them, but none.
@@ -154,7 +154,7 @@ pub enum Waited {
 }
 
 /// What a statement asks that doesn't wait for an answer.
-#[derive(Clone, Copy, Debug)]
+#[derive(Clone, Copy)]
 pub enum Asked {
     /// The neighbours on a side of a communicator.
     Neighbours(Side),
@@ -165,7 +165,7 @@ pub enum Asked {
 }
 
 /// What a statement's word stands for.
-#[derive(Clone, Copy, Debug)]
+#[derive(Clone, Copy)]
 pub enum Form {
     /// A call of a kind, and whether it blocks.
     Call(Kind, Mode),
@@ -400,7 +400,7 @@ pub fn is_arrow(word: &[u8]) -> bool
 }
 
 /// Which words a kind of call has, beside the fields of its posts.
-#[derive(Clone, Copy, Debug)]
+#[derive(Clone, Copy)]
 pub struct Shape {
     /// A colour and a key.
     pub colour: bool,

@@ -1,5 +1,5 @@
 // The statements of one rank.
-ghost use Rattle.std.specs.Prelude.{◌≡◌, ℕ, List, [], ◌∷◌, ◌++◌, OnErr, OnOk};
+ghost use Rattle.std.specs.Prelude.{◌≡◌, ◌<◌, ℕ, List, [], ◌∷◌, ◌++◌, OnErr, OnOk, vec_capacity, vec_len};
 ghost use Rattle.std.specs.BTreeSet.{IsUnchanged};
 ghost use Rattle.mpx_script.specs.ScriptView.{AreBound, AreNames};
 ghost use Rattle.mpx_script.specs.declared.statement.Statement.{Statement as StatementView};
@@ -71,9 +71,9 @@ impl RankStatements {
     pub fn push(&mut self, alloc: Global, statement: Statement) -> Result<(), OutOfMemory>
         ensures { OnOk result (self.new ≡ self.old ++ statement ∷ []) }
     {
-        self.statements.reserve(1)?;
-        add_names(
+        prepare(
             alloc,
+            &mut self.statements,
             &mut self.communicators,
             &mut self.requests,
             &statement,
@@ -81,6 +81,25 @@ impl RankStatements {
         self.statements.push_reserved(statement);
         Ok(())
     }
+}
+
+// Makes room for a statement, and then adds the word that it binds.
+fn prepare(
+    alloc: Global,
+    statements: &mut Vec<Statement>,
+    communicators: &mut BTreeSet<Vec<u8>>,
+    requests: &mut BTreeSet<Vec<u8>>,
+    statement: &Statement,
+) -> Result<(), OutOfMemory>
+    ensures kept { statements.new.items ≡ statements.old.items }
+    ensures room { OnOk result (vec_len statements.new < vec_capacity statements.new) }
+    ensures added { OnOk result ((statements : List StatementView) → AreBound communicators.old requests.old statements
+        → AreBound communicators.new requests.new (statements ++ statement.now ∷ [])) }
+    ensures kept_communicators { OnErr result (IsUnchanged communicators.old communicators.new) }
+    ensures kept_requests { OnErr result (IsUnchanged requests.old requests.new) }
+{
+    statements.reserve(1)?;
+    add_names(alloc, communicators, requests, statement)
 }
 
 // Adds the word that a statement binds, where it binds one, to its sort of names.

@@ -1,4 +1,4 @@
-ghost use Rattle.std.specs.Prelude.{◌≡◌, ◌<◌, ◌≤◌, [], ◌∷◌, ◌++◌, length, map, slice_index_or, slice_set, IfOk, OnOk, vec_len};
+ghost use Rattle.std.specs.Prelude.{◌≡◌, ◌-◌, ◌<◌, ◌≤◌, [], ◌∷◌, ◌++◌, length, map, slice_index_or, slice_set, IfOk, OnOk, vec_len};
 ghost use Rattle.std.specs.List.{range_with_len};
 ghost use Rattle.mpx_script.specs.ScriptView.{Adds};
 ghost use Rattle.mpx_script.specs.Naming.{is_bound, names_bound, nothing_bound};
@@ -124,15 +124,48 @@ fn give(
     ensures added { OnOk result (Adds assignment.from assignment.to assignment.statement
         statements.old.items statements.new.items) }
 {
-    let Assignment {
-        from,
-        to,
-        statement,
-    } = assignment;
+    let last = assignment.to - 1;
+    give_copies(
+        alloc,
+        statements,
+        assignment.from,
+        assignment.to,
+        &assignment.statement,
+    )?;
+    push_to(alloc, statements, last, assignment.statement)
+}
+
+/// Adds copies of a statement for these ranks without their last.
+fn give_copies(
+    alloc: Global,
+    statements: &mut Vec<RankStatements>,
+    from: u8,
+    to: u8,
+    statement: &Statement,
+) -> Result<(), OutOfMemory>
+    requires some { from < to }
+    requires within { to ≤ vec_len statements.old }
+    ensures len { vec_len statements.new ≡ vec_len statements.old }
+    ensures added { OnOk result (Adds from (to - 1) statement.now statements.old.items statements.new.items) }
+{
     for rank in from..to - 1 {
-        let copied = statement.copy(alloc)?;
-        push_to(alloc, statements, rank, copied)?;
+        push_copy(alloc, statements, rank, statement)?;
     }
-    push_to(alloc, statements, to - 1, statement)?;
     Ok(())
+}
+
+/// Adds a copy of a statement at the end of a rank's.
+fn push_copy(
+    alloc: Global,
+    statements: &mut Vec<RankStatements>,
+    rank: u8,
+    statement: &Statement,
+) -> Result<(), OutOfMemory>
+    requires { rank < vec_len statements.old }
+    ensures len { vec_len statements.new ≡ vec_len statements.old }
+    ensures pushed { OnOk result (statements.new.items
+        ≡ slice_set statements.old.items rank (slice_index_or statements.old.items rank [] ++ statement.now ∷ [])) }
+{
+    let copied = statement.copy(alloc)?;
+    push_to(alloc, statements, rank, copied)
 }

@@ -6,7 +6,8 @@ ghost use Rattle.mpx_script.specs.Words.{words, counts, is_ascii};
 ghost use Rattle.mpx_script.specs.Grammar.{ask_in, call_posted, directive_in, label_in, new_posted, ranks_in, ranks_named, posting_said, question_said, said, statement_as, statement_in};
 ghost use Rattle.mpx_script.specs.Naming.{names_bound};
 ghost use Rattle.mpx_script.specs.Reading.{refusal, plain_context, bounded_context};
-ghost use Rattle.mpx_script.specs.Sentences.{IsAssignment, Says, IsRefusal, form_refusal, read_at, statement_refusal, call_refusal};
+ghost use Rattle.mpx_script.specs.Sentences.{IsAssignment, Says, IsRefusal, form_refusal, read_at, statement_refusal, call_refusal, names_refusal};
+ghost use Rattle.std.specs.List.{range_with_len};
 
 use crate::calls::{draft_in, number_at};
 use crate::faults::{LineError, ScriptFault};
@@ -289,6 +290,20 @@ fn further_line(
         Ok(statement) => statement,
         Err(e) => return Err(e),
     };
+    assigned(script, from, to, statement)
+}
+
+// The statement for these ranks, unless it is refused for its names.
+fn assigned(
+    script: &Script,
+    from: u8,
+    to: u8,
+    statement: Statement,
+) -> Result<Assignment, LineError>
+    ensures accepted { OnOk result (names_refusal (map names_bound script.now.statements) (range_with_len from (to - from)) statement ≡ None) }
+    ensures assignment { IfOk result (λ assignment. assignment ≡ record { from = from; to = to; statement = statement }) }
+    ensures refused { IfErr result (IsRefusal (names_refusal (map names_bound script.now.statements) (range_with_len from (to - from)) statement)) }
+{
     match names_fault(script, from, to, &statement) {
         Some(what) => Err(LineError::Fault(what)),
         None => Ok(Assignment {

@@ -1,6 +1,8 @@
-ghost use Rattle.std.specs.Prelude.{◌≡◌, ◌∷◌, IfOk};
+ghost use Rattle.std.specs.Prelude.{◌≡◌, [], ◌∷◌, IfOk};
 ghost use Rattle.std.specs.Option.{option_copied, option_to_list};
 ghost use Rattle.mpx_script.specs.Statements.{create_group_draft};
+ghost use Rattle.mpx_script.specs.declared.statement.Posting.TheVariants.{Call as BlockingCall, CreateGroup, New, Start};
+ghost use Rattle.mpx_script.specs.declared.statement.Question.TheVariants.{Compare, Translate};
 
 use crate::rank_list::RankList;
 use crate::word::{Word, WordList};
@@ -138,26 +140,12 @@ impl Posting {
         ensures { IfOk result (λ copied. copied ≡ self.now) }
     {
         match self {
-            Posting::Call { on, draft } => Ok(Posting::Call {
-                on: on.copy(alloc)?,
-                draft: draft.copy()?,
-            }),
-            Posting::Start { on, draft, request } => Ok(Posting::Start {
-                on: on.copy(alloc)?,
-                draft: draft.copy()?,
-                request: request.copy(alloc)?,
-            }),
-            Posting::New { on, draft, to } => Ok(Posting::New {
-                on: on.copy(alloc)?,
-                draft: draft.copy()?,
-                to: to.copy(alloc)?,
-            }),
-            Posting::CreateGroup { on, tag, ranks, to } => Ok(Posting::CreateGroup {
-                on: on.copy(alloc)?,
-                tag: *tag,
-                ranks: ranks.copy()?,
-                to: to.copy(alloc)?,
-            }),
+            Posting::Call { on, draft } => call_copied(alloc, on, draft),
+            Posting::Start { on, draft, request } => start_copied(alloc, on, draft, request),
+            Posting::New { on, draft, to } => new_copied(alloc, on, draft, to),
+            Posting::CreateGroup { on, tag, ranks, to } => {
+                create_group_copied(alloc, on, *tag, ranks, to)
+            }
         }
     }
 }
@@ -184,15 +172,8 @@ impl Question {
                 on: on.copy(alloc)?,
                 side: *side,
             }),
-            Question::Compare { first, second } => Ok(Question::Compare {
-                first: first.copy(alloc)?,
-                second: second.copy(alloc)?,
-            }),
-            Question::Translate { from, to, ranks } => Ok(Question::Translate {
-                from: from.copy(alloc)?,
-                to: to.copy(alloc)?,
-                ranks: ranks.copy(alloc)?,
-            }),
+            Question::Compare { first, second } => compare_copied(alloc, first, second),
+            Question::Translate { from, to, ranks } => translate_copied(alloc, from, to, ranks),
         }
     }
 }
@@ -245,22 +226,110 @@ impl Statement {
     }
 }
 
+// Two words once more.
+fn words_copied(alloc: Global, first: &Word, second: &Word) -> Result<(Word, Word), OutOfMemory>
+    ensures { IfOk result (λ copied. (copied.0 ≡ first.now) × (copied.1 ≡ second.now)) }
+{
+    let first = first.copy(alloc)?;
+    let second = second.copy(alloc)?;
+    Ok((first, second))
+}
+
+// A blocking call like this one.
+fn call_copied(alloc: Global, on: &Word, draft: &Draft) -> Result<Posting, OutOfMemory>
+    ensures { IfOk result (λ copied. copied ≡ BlockingCall on.now draft.now) }
+{
+    let on = on.copy(alloc)?;
+    let draft = draft.copy()?;
+    Ok(Posting::Call { on, draft })
+}
+
+// A nonblocking call like this one.
+fn start_copied(
+    alloc: Global,
+    on: &Word,
+    draft: &Draft,
+    request: &Word,
+) -> Result<Posting, OutOfMemory>
+    ensures { IfOk result (λ copied. copied ≡ Start on.now draft.now request.now) }
+{
+    let (on, request) = words_copied(alloc, on, request)?;
+    let draft = draft.copy()?;
+    Ok(Posting::Start { on, draft, request })
+}
+
+// A call like this one, which gives a communicator.
+fn new_copied(alloc: Global, on: &Word, draft: &Draft, to: &Word) -> Result<Posting, OutOfMemory>
+    ensures { IfOk result (λ copied. copied ≡ New on.now draft.now to.now) }
+{
+    let (on, to) = words_copied(alloc, on, to)?;
+    let draft = draft.copy()?;
+    Ok(Posting::New { on, draft, to })
+}
+
+// A `create_group` like this one.
+fn create_group_copied(
+    alloc: Global,
+    on: &Word,
+    tag: i128,
+    ranks: &Numbers,
+    to: &Word,
+) -> Result<Posting, OutOfMemory>
+    ensures { IfOk result (λ copied. copied ≡ CreateGroup on.now tag ranks.now to.now) }
+{
+    let (on, to) = words_copied(alloc, on, to)?;
+    let ranks = ranks.copy()?;
+    Ok(Posting::CreateGroup { on, tag, ranks, to })
+}
+
+// A comparison like this one.
+fn compare_copied(alloc: Global, first: &Word, second: &Word) -> Result<Question, OutOfMemory>
+    ensures { IfOk result (λ copied. copied ≡ Compare first.now second.now) }
+{
+    let (first, second) = words_copied(alloc, first, second)?;
+    Ok(Question::Compare { first, second })
+}
+
+// A translation like this one.
+fn translate_copied(
+    alloc: Global,
+    from: &Word,
+    to: &Word,
+    ranks: &RankList,
+) -> Result<Question, OutOfMemory>
+    ensures { IfOk result (λ copied. copied ≡ Translate from.now to.now ranks.now) }
+{
+    let (from, to) = words_copied(alloc, from, to)?;
+    let ranks = ranks.copy(alloc)?;
+    Ok(Question::Translate { from, to, ranks })
+}
+
+// Two lists of no numbers.
+fn two_empty_lists(alloc: Global) -> Result<(Numbers, Numbers), OutOfMemory>
+    ensures { IfOk result (λ lists. (lists.0 ≡ []) × (lists.1 ≡ [])) }
+{
+    let first = Numbers::new(alloc, Vec::new(alloc))?;
+    let second = first.copy()?;
+    Ok((first, second))
+}
+
 // The draft of `create_group`, whose kind has no fields.
 fn create_group_draft(alloc: Global) -> Result<Draft, OutOfMemory>
     ensures { IfOk result (λ draft. draft ≡ create_group_draft) }
 {
-    let none = Numbers::new(alloc, Vec::new(alloc))?;
+    let (scounts, rcounts) = two_empty_lists(alloc)?;
+    let (items, group) = two_empty_lists(alloc)?;
     Ok(Draft {
         call: Call::NewCommunicator(NewCommunicator::CreateGroup),
         root: 0,
         op: Op::Sum,
         ty: Ty::I8,
-        scounts: none.copy()?,
-        rcounts: none.copy()?,
-        items: none.copy()?,
+        scounts,
+        rcounts,
+        items,
         colour: None,
         key: 0,
-        group: none,
+        group,
         graph: None,
     })
 }

@@ -69,10 +69,17 @@ pub(crate) fn ranks_line(alloc: Global, ranks: &[Rank]) -> Result<String, OutOfM
     let mut text = String::new(alloc);
     push_rank(&mut text, *first)?;
     for rank in rest {
-        text.push_str(" ")?;
-        push_rank(&mut text, *rank)?;
+        push_spaced_rank(&mut text, *rank)?;
     }
     Ok(text)
+}
+
+// Appends a rank behind a space.
+fn push_spaced_rank(text: &mut String, rank: Rank) -> Result<(), OutOfMemory>
+    ensures { OnOk result (string_bytes text.new ≡ string_bytes text.old ++ 32 ∷ translated_text rank) }
+{
+    text.push_str(" ")?;
+    push_rank(text, rank)
 }
 
 // Appends a rank.
@@ -102,10 +109,21 @@ pub fn neighbours_line(
     let mut text = String::new(alloc);
     push_neighbour(&mut text, weighted, *first)?;
     for neighbour in rest {
-        text.push_str(" ")?;
-        push_neighbour(&mut text, weighted, *neighbour)?;
+        push_spaced_neighbour(&mut text, weighted, *neighbour)?;
     }
     Ok(text)
+}
+
+// Appends a neighbour's words behind a space.
+fn push_spaced_neighbour(
+    text: &mut String,
+    weighted: bool,
+    neighbour: Neighbour,
+) -> Result<(), OutOfMemory>
+    ensures { OnOk result (string_bytes text.new ≡ string_bytes text.old ++ 32 ∷ neighbour_text weighted neighbour) }
+{
+    text.push_str(" ")?;
+    push_neighbour(text, weighted, neighbour)
 }
 
 // Appends a neighbour's rank, and its weight, where edges have weights.
@@ -133,10 +151,18 @@ fn numbers_line(alloc: Global, numbers: &[i128]) -> Result<String, OutOfMemory>
     let mut text = String::new(alloc);
     push_number(&mut text, *first)?;
     for number in rest {
-        text.push_str(" ")?;
-        push_number(&mut text, *number)?;
+        push_spaced_number(&mut text, *number)?;
     }
     Ok(text)
+}
+
+// Appends a number behind a space.
+fn push_spaced_number(text: &mut String, number: i128) -> Result<(), OutOfMemory>
+    ensures { OnOk result (string_bytes text.new ≡ string_bytes text.old ++ 32 ∷ number_text number) }
+{
+    text.push_str(" ")?;
+    push_number(text, number)?;
+    Ok(())
 }
 
 fn communicator_line(alloc: Global, size: u8, rank: u8) -> Result<String, OutOfMemory>

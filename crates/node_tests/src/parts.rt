@@ -1,9 +1,9 @@
 // What nodes give of their boards where a frame has a limit.
 use crate::making::posted;
 use join_core::Exact;
+use mpx_encode::frame_len;
 use mpx_group::Proc;
 use mpx_node::{Node, PartError};
-use mpx_wire::frame_len;
 use std::alloc::Global;
 use std::process::Abort;
 use std::test::Fail;

@@ -1,28 +1,28 @@
 use mpx_num::{parse_number, print_number, push_number};
+use std::alloc::{AllocError, Global};
 use std::test::Fail;
 
 #[test]
 fn reads_numbers(rt: HostRuntime) {
-    assert_eq!(rt; parse_number(b"0"), Some(0));
-    assert_eq!(rt; parse_number(b"-0"), Some(0));
-    assert_eq!(rt; parse_number(b"007"), Some(7));
-    assert_eq!(rt;
-        parse_number(b"-00000000000000000000000000000000000000042"),
-        Some(-42)
-    );
-    assert_eq!(rt;
-        parse_number(b"18446744073709551615"),
-        Some(18446744073709551615)
-    );
-    assert_eq!(rt; parse_number(b"18446744073709551616"), None);
-    assert_eq!(rt; parse_number(b"99999999999999999999"), None);
-    assert_eq!(rt;
-        parse_number(b"-9223372036854775808"),
-        Some(-9223372036854775808)
-    );
-    assert_eq!(rt; parse_number(b"-9223372036854775809"), None);
+    for (text, number) in [
+        (b"0".as_slice(), 0),
+        (b"-0", 0),
+        (b"007", 7),
+        (b"-00000000000000000000000000000000000000042", -42),
+        (b"18446744073709551615", 18446744073709551615),
+        (b"-9223372036854775808", -9223372036854775808),
+    ] {
+        assert_eq!(rt; parse_number(text), Some(number));
+    }
+}
+
+#[test]
+fn reads_nothing_else(rt: HostRuntime) {
     for text in [
-        b"".as_slice(),
+        b"18446744073709551616".as_slice(),
+        b"99999999999999999999",
+        b"-9223372036854775809",
+        b"",
         b"-",
         b"+1",
         b"--1",
@@ -38,28 +38,49 @@ fn reads_numbers(rt: HostRuntime) {
     }
 }
 
+// What is read of a million of the digit, with a 9 behind them or none.
+fn read(alloc: Global, digit: u8, nine: bool) -> Result<Option<i128>, AllocError> {
+    let mut text = vec![in alloc; digit; 1000000]?;
+    if nine {
+        text.push(b'9')?;
+    }
+    Ok(parse_number(&text))
+}
+
 #[test]
 fn reads_a_million_digits(rt: HostRuntime) -> Result<(), Fail> {
-    let mut text = vec![in rt.alloc(); b'0'; 1000000]?;
-    assert_eq!(rt; parse_number(&text), Some(0));
-    text.push(b'9')?;
-    assert_eq!(rt; parse_number(&text), Some(9));
-    let nines = vec![in rt.alloc(); b'9'; 1000000]?;
-    assert_eq!(rt; parse_number(&nines), None);
+    for (digit, nine, number) in [
+        (b'0', false, Some(0)),
+        (b'0', true, Some(9)),
+        (b'9', false, None),
+    ] {
+        assert!(rt; read(rt.alloc(), digit, nine)? == number);
+    }
     Ok(())
+}
+
+fn prints(alloc: Global, number: i128, wanted: &str) -> Result<bool, AllocError> {
+    Ok(print_number(alloc, number)?.as_str() == wanted)
+}
+
+// The text of the number, and behind it 10.
+fn appended(alloc: Global, number: i128) -> Result<String, AllocError> {
+    let mut text = print_number(alloc, number)?;
+    text.push_str(" ")?;
+    push_number(&mut text, 10)?;
+    Ok(text)
 }
 
 #[test]
 fn prints_numbers(rt: HostRuntime) -> Result<(), Fail> {
-    assert_eq!(rt; print_number(rt.alloc(), 0)?.as_str(), "0");
-    assert_eq!(rt; print_number(rt.alloc(), -1)?.as_str(), "-1");
-    assert_eq!(rt;
-        print_number(rt.alloc(), 18446744073709551615)?.as_str(),
-        "18446744073709551615"
-    );
-    let mut text = print_number(rt.alloc(), -9223372036854775808)?;
-    text.push_str(" ")?;
-    push_number(&mut text, 10)?;
-    assert_eq!(rt; text.as_str(), "-9223372036854775808 10");
+    for (number, text) in [
+        (0, "0"),
+        (-1, "-1"),
+        (18446744073709551615, "18446744073709551615"),
+    ] {
+        assert!(rt; prints(rt.alloc(), number, text)?);
+    }
+    let text = appended(rt.alloc(), -9223372036854775808)?;
+    assert!(rt; text.as_str() == "-9223372036854775808 10");
     Ok(())
 }

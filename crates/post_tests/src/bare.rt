@@ -1,8 +1,8 @@
 //! Posts of drafts without a communicator: what they tell, and each reason for none.
 use crate::making::{Told, is_told, kind_alone};
 use mpx_num::{Op, Ty};
-use mpx_post::{Kind, Making};
-use std::alloc::Global;
+use mpx_post::{Kind, Making, Post};
+use std::alloc::{AllocError, Global};
 use std::process::Abort;
 use std::test::Fail;
 use test_drafts::{Drafted, Edges, bare, just};
@@ -25,7 +25,7 @@ fn has_post(alloc: Global, drafted: &Drafted<'_>) -> Option<bool> {
 
 fn check_posts(rt: &impl Abort, alloc: Global, wanted: bool, table: &[Drafted<'_>]) {
     for (i, drafted) in table.iter().enumerate() {
-        assert_eq!(rt; has_post(alloc, drafted), Some(wanted), "row {i}");
+        assert!(rt; has_post(alloc, drafted) == Some(wanted), "row {i}");
     }
 }
 
@@ -128,27 +128,35 @@ fn graph<'a>(kind: Kind, weighted: bool, edges: &'a [(i128, i128, i128)]) -> Dra
     }
 }
 
-// Whether the post of this data has one edge with a weight.
+// Whether the post has one edge with a weight.
+fn is_edge(post: &Post) -> bool {
+    match post.making() {
+        Making::Edges(edges) => edges.weighted() & (edges.as_slice().len() == 1),
+        _ => false,
+    }
+}
+
 fn has_edge(alloc: Global, drafted: &Drafted<'_>) -> bool {
     match bare(alloc, drafted) {
-        Ok(Some(post)) => match post.making() {
-            Making::Edges(edges) => edges.weighted() & (edges.as_slice().len() == 1),
-            _ => false,
-        },
+        Ok(Some(post)) => is_edge(&post),
         Ok(None) => false,
         Err(_) => false,
     }
 }
 
-// Whether the post of this data has neighbours without weights, and none of them.
+// Whether the post has neighbours without weights, and none of them.
+fn is_without_neighbours(post: &Post) -> bool {
+    match post.making() {
+        Making::Neighbours(own) => {
+            !own.weighted() & own.sources().is_empty() & own.destinations().is_empty()
+        }
+        _ => false,
+    }
+}
+
 fn has_no_neighbours(alloc: Global, drafted: &Drafted<'_>) -> bool {
     match bare(alloc, drafted) {
-        Ok(Some(post)) => match post.making() {
-            Making::Neighbours(own) => {
-                !own.weighted() & own.sources().is_empty() & own.destinations().is_empty()
-            }
-            _ => false,
-        },
+        Ok(Some(post)) => is_without_neighbours(&post),
         Ok(None) => false,
         Err(_) => false,
     }
@@ -200,6 +208,10 @@ fn no_new_communicator(rt: HostRuntime) {
     check_posts(&rt, rt.alloc(), false, &table);
 }
 
+fn zeros(alloc: Global, length: usize) -> Result<Vec<i128>, AllocError> {
+    vec![in alloc; 0; length]
+}
+
 // So many items, send counts and receive counts of 0 each.
 fn long<'a>(scounts: &'a [i128], rcounts: &'a [i128], items: &'a [i128]) -> Drafted<'a> {
     Drafted {
@@ -210,32 +222,42 @@ fn long<'a>(scounts: &'a [i128], rcounts: &'a [i128], items: &'a [i128]) -> Draf
     }
 }
 
+// Whether lists of so many send counts, receive counts and items of 0 each have a post, where there is memory.
+fn has_long(
+    alloc: Global,
+    scounts: usize,
+    rcounts: usize,
+    items: usize,
+) -> Result<Option<bool>, AllocError> {
+    let scounts = zeros(alloc, scounts)?;
+    let rcounts = zeros(alloc, rcounts)?;
+    let items = zeros(alloc, items)?;
+    Ok(has_post(alloc, &long(&scounts, &rcounts, &items)))
+}
+
 #[test]
 fn long_lists(rt: HostRuntime) -> Result<(), Fail> {
-    let alloc = rt.alloc();
-    let zeros = vec![in alloc; 0; 65536]?;
-    let (all, most) = (zeros.as_slice(), &zeros[..65535]);
-    let few = &zeros[..4096];
-    check_posts(&rt, alloc, true, &[long(most, most, few)]);
-    let table = [
-        long(all, most, few),
-        long(most, all, few),
-        long(most, most, &zeros[..4097]),
-    ];
-    check_posts(&rt, alloc, false, &table);
+    for (scounts, rcounts, items, wanted) in [
+        (65535, 65535, 4096, true),
+        (65536, 65535, 4096, false),
+        (65535, 65536, 4096, false),
+        (65535, 65535, 4097, false),
+    ] {
+        assert!(rt; has_long(rt.alloc(), scounts, rcounts, items)? == Some(wanted));
+    }
     Ok(())
+}
+
+// Whether so many edges have a post, where there is memory.
+fn has_edges(alloc: Global, count: usize) -> Result<Option<bool>, AllocError> {
+    let edges = vec![in alloc; (0, 1, 2); count]?;
+    Ok(has_post(alloc, &graph(Kind::DistGraph, true, &edges)))
 }
 
 #[test]
 fn many_edges(rt: HostRuntime) -> Result<(), Fail> {
-    let alloc = rt.alloc();
-    let edges = vec![in alloc; (0, 1, 2); 513]?;
-    check_posts(
-        &rt,
-        alloc,
-        true,
-        &[graph(Kind::DistGraph, true, &edges[..512])],
-    );
-    check_posts(&rt, alloc, false, &[graph(Kind::DistGraph, true, &edges)]);
+    for (count, wanted) in [(512, true), (513, false)] {
+        assert!(rt; has_edges(rt.alloc(), count)? == Some(wanted));
+    }
     Ok(())
 }

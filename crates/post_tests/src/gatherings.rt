@@ -82,7 +82,7 @@ fn check_refusals(rt: &impl Abort, alloc: Global, table: &[(u8, usize, i128, &[i
     for (i, row) in table.iter().enumerate() {
         let (number, depth, tag, ranks, wanted) = *row;
         let told = refusal(alloc, number, depth, tag, ranks);
-        assert_eq!(rt; told, Some(wanted), "row {i}");
+        assert!(rt; told == Some(wanted), "row {i}");
     }
 }
 

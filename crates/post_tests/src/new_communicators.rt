@@ -168,17 +168,22 @@ fn drafts_are_copied(rt: HostRuntime) -> Result<(), Fail> {
     )
 }
 
-// Where call 0 stands of the gathering of process 1 alone below a child of world.
-fn gathered(alloc: Global) -> Result<At, Fail> {
+// Where call 0 stands of the gathering of process 1 alone below the name.
+fn gathered(alloc: Global, name: &Name) -> Result<At, Fail> {
     let members = Group::new(vec![in alloc; proc(1)]?)?;
+    Ok(At::on(&name.gathering(alloc, 9, &members)?, 0))
+}
+
+// The same below a child of world.
+fn gathered_below_child(alloc: Global) -> Result<At, Fail> {
     let child = Name::world(alloc).child(alloc, 0, 0)?;
-    Ok(At::on(&child.gathering(alloc, 9, &members)?, 0))
+    gathered(alloc, &child)
 }
 
 #[test]
 fn places_of_calls(rt: HostRuntime) -> Result<(), Fail> {
     let alloc = rt.alloc();
-    assert_eq!(rt; At::on(&Name::world(alloc), 3), on(3, 0, false));
-    assert_eq!(rt; gathered(alloc)?, on(0, 2, true));
+    let child = gathered_below_child(alloc)?;
+    assert!(rt; (At::on(&Name::world(alloc), 3) == on(3, 0, false)) & (child == on(0, 2, true)));
     Ok(())
 }

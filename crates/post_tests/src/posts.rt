@@ -1,9 +1,9 @@
 //! What no clause says: that a check succeeds where memory is there, and what posts and births then tell.
 use crate::making::{Told, check_told, in_world, kind_alone, proc};
-use join_core::Exact;
+use join_core::{Exact, OutOfMemory};
 use mpx_num::{Op, Ty};
 use mpx_post::{Birth, Kind};
-use std::alloc::Global;
+use std::alloc::{AllocError, Global};
 use std::test::Fail;
 use test_drafts::{Drafted, birth, just};
 
@@ -71,15 +71,26 @@ fn ranks_of_members(rt: HostRuntime) -> Result<(), Fail> {
     Ok(())
 }
 
+// How many members are born of so many times process 5, if any.
+fn born(alloc: Global, count: usize) -> Result<Option<usize>, AllocError> {
+    let members = vec![in alloc; proc(5); count]?;
+    match birth(alloc, members) {
+        Some(birth) => Ok(Some(birth.members().len())),
+        None => Ok(None),
+    }
+}
+
+fn most_born(alloc: Global) -> Result<usize, OutOfMemory> {
+    let world = Birth::world(alloc, 64)?;
+    Ok(world.members().len())
+}
+
 #[test]
 fn births_of_members(rt: HostRuntime) -> Result<(), Fail> {
-    let alloc = rt.alloc();
     for (count, wanted) in [(0, None), (1, Some(1)), (2, None), (64, None)] {
-        let members = vec![in alloc; proc(5); count]?;
-        let made = birth(alloc, members).map(|birth| birth.members().len());
-        assert_eq!(rt; made, wanted);
+        assert!(rt; born(rt.alloc(), count)? == wanted);
     }
-    assert_eq!(rt; Birth::world(alloc, 64)?.members().len(), 64);
+    assert!(rt; most_born(rt.alloc())? == 64);
     Ok(())
 }
 

@@ -1,7 +1,7 @@
 use Rattle.std.proofs.Common.{◌≡◌, string_bytes}
 use Rattle.mpx_script.specs.Reports.{transcripts_of}
 use Rattle.mpx_script.specs.Transcripts.{text_upto}
-use Rattle.mpx_run.specs.Runs.{lines_at}
+use Rattle.mpx_run.specs.Reports.{lines_at}
 use Rattle.mpx_run.proofs.report.text_of.Given as goal
 
 abbrev pub invariant-loop-p : goal.invariant-loop-p

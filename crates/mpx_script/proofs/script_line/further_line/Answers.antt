@@ -1,14 +1,16 @@
-use Rattle.std.proofs.Common.{◌≡◌, ◌+◌, ◌-◌, ℕ, false, nat_lt, map, None, Some, sym, ap, ◌∙◌, arith, rules}
+use Rattle.std.proofs.Common.{◌≡◌, ◌≤◌, ◌<◌, ◌+◌, ◌-◌, ◌&&◌, ℕ, false, IfErr, subst, nat_le, nat_lt, map, None, Some, sym, ap, ◌∙◌, arith, rules}
 use Rattle.std.proofs.lemmas.Bool.Decides.{nat_tests}
+use Rattle.std.proofs.lemmas.Result.{IfOk-weaker, on_ok_weaker}
 use Rattle.std.specs.List.{range_with_len}
-use Rattle.mpx_script.specs.Grammar.{DirectiveSyntax, directive_in, is_past, label_in, statement_in, statements_in}
+use Rattle.mpx_script.specs.Grammar.{DirectiveSyntax, directive_in, is_meant, is_past, label_in, names_rank, ranks_meant, statement_in, statements_in}
 use Rattle.mpx_script.specs.Naming.{names_bound, ranks_labelled}
 use Rattle.mpx_script.specs.Reading.{refusal, plain_context, statements_limit}
 use Rattle.mpx_script.specs.Words.{words}
-use Rattle.mpx_script.specs.Sentences.{IsRefusal, statement_refusal}
-use Rattle.mpx_script.proofs.Refusals.{names_asked, refusal_of_label, refusal_of_names, refusal_of_statement}
+use Rattle.mpx_script.specs.Sentences.{IsAssignment, IsRefusal, names_refusal, statement_refusal}
+use Rattle.mpx_script.specs.declared.script_line.Assignment.{Assignment}
+use Rattle.mpx_script.proofs.Refusals.{count_of_statement, names_asked, refusal_of_label, refusal_of_names, refusal_of_statement}
 use Rattle.mpx_script.proofs.script_line.further_line.Goals as goal
-use Rattle.mpx_script.proofs.script_line.further_line.Goals.{After-names_fault, After-ranks_labelled}
+use Rattle.mpx_script.proofs.script_line.further_line.Goals.{After-assigned, After-ranks_labelled}
 
 few_statements : (c : After-ranks_labelled) → nat_lt statements_limit (c.args.statements + statements_in c.args.script.now.ranks (directive_in (words c.args.line.now))) ≡ false
 few_statements c =
@@ -24,7 +26,7 @@ returns-in-Err-statement_in-clause-refused c =
     let refused : IsRefusal (statement_refusal (directive_in (words c.args.line.now))) c.in-Err-statement_in.e = search rules in
     refusal_of_statement c.args.line.now c.args.script.now.ranks c.args.statements (map names_bound c.args.script.now.statements) c.requires.ascii c.requires.counts (few_statements (goal.at.returns-in-Err-statement_in-clause-refused c).After-ranks_labelled) (search rules) c.in-Err-statement_in.e refused
 
-names_found : (c : After-names_fault) → nat_lt statements_limit (c.args.statements + statements_in c.args.script.now.ranks (directive_in (words c.args.line.now))) ≡ false → refusal (plain_context c.args.line.now (Some c.args.script.now.ranks) c.args.statements (map names_bound c.args.script.now.statements)) ≡ c.names_fault.result
+names_found : (c : After-assigned) → nat_lt statements_limit (c.args.statements + statements_in c.args.script.now.ranks (directive_in (words c.args.line.now))) ≡ false → refusal (plain_context c.args.line.now (Some c.args.script.now.ranks) c.args.statements (map names_bound c.args.script.now.statements)) ≡ names_refusal (map names_bound c.args.script.now.statements) (range_with_len c.in-Ok.named.0 (c.in-Ok.named.1 - c.in-Ok.named.0)) c.in-Ok-statement_in.statement
 names_found c few =
     let p : DirectiveSyntax = directive_in (words c.args.line.now) in
     let n : ℕ = c.args.script.now.ranks in
@@ -34,10 +36,24 @@ names_found c few =
     let labelled : ranks_labelled n (label_in p) ≡ range_with_len c.in-Ok.named.0 (c.in-Ok.named.1 - c.in-Ok.named.0) = search rules in
     refusal_of_names c.args.line.now n c.args.statements (map names_bound c.args.script.now.statements) c.requires.ascii c.requires.counts few there fine
     ∙ names_asked p c.in-Ok-statement_in.statement n (map names_bound c.args.script.now.statements) (range_with_len c.in-Ok.named.0 (c.in-Ok.named.1 - c.in-Ok.named.0)) said labelled
-    ∙ sym c.names_fault.ensures
 
-pub returns-in-Some-clause-refused : goal.returns-in-Some-clause-refused
-returns-in-Some-clause-refused c = names_found (goal.at.returns-in-Some-clause-refused c).After-names_fault (few_statements (goal.at.returns-in-Some-clause-refused c).After-ranks_labelled) ∙ c.in-Some.is
+pub returns-clause-refused : goal.returns-clause-refused
+returns-clause-refused c = subst (λ found. IfErr c.assigned.result (IsRefusal found)) (sym (names_found (goal.at.returns-clause-refused c).After-assigned (few_statements (goal.at.returns-clause-refused c).After-ranks_labelled))) c.assigned.ensures.refused
 
-pub returns-in-None-clause-accepted : goal.returns-in-None-clause-accepted
-returns-in-None-clause-accepted c = names_found (goal.at.returns-in-None-clause-accepted c).After-names_fault (few_statements (goal.at.returns-in-None-clause-accepted c).After-ranks_labelled) ∙ c.in-None.is
+pub returns-clause-accepted : goal.returns-clause-accepted
+returns-clause-accepted c = on_ok_weaker c.assigned.result (λ none. names_found (goal.at.returns-clause-accepted c).After-assigned (few_statements (goal.at.returns-clause-accepted c).After-ranks_labelled) ∙ none) c.assigned.ensures.accepted
+
+pub returns-clause-assignment : goal.returns-clause-assignment
+unfolding names_rank
+returns-clause-assignment c =
+    let n : ℕ = c.args.script.now.ranks in
+    let p : DirectiveSyntax = directive_in (words c.args.line.now) in
+    let said : statement_in p ≡ Some c.in-Ok-statement_in.statement = search rules in
+    let some : c.in-Ok.named.0 < c.in-Ok.named.1 = search rules in
+    let within : c.in-Ok.named.1 ≤ n = search rules in
+    let meant : (rank : ℕ) → rank < n → is_meant rank (label_in p) ≡ (nat_le c.in-Ok.named.0 rank && nat_lt rank c.in-Ok.named.1) = λ rank h. search rules in
+    let count : ranks_meant n (label_in p) ≡ c.in-Ok.named.1 - c.in-Ok.named.0 = search rules in
+    IfOk-weaker c.assigned.result _ (IsAssignment n p) (λ assignment is. subst (IsAssignment n p) (sym is) (record { some = some; within = within; named = meant; count = count_of_statement n p c.in-Ok-statement_in.statement said ∙ count; statement = said })) c.assigned.ensures.assignment
+
+pub returns-clause-few : goal.returns-clause-few
+returns-clause-few c = IfOk-weaker c.assigned.result _ _ (λ assignment is. subst (λ (a : Assignment). c.args.statements + (a.to - a.from) ≤ statements_limit) (sym is) (search (rules, count_of_statement))) c.assigned.ensures.assignment

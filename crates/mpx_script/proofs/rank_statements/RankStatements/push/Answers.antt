@@ -5,4 +5,4 @@ use Rattle.mpx_script.proofs.rank_statements.RankStatements.push.Goals as goal
 pub invariant_of-self-2 : goal.invariant_of-self-2
 invariant_of-self-2 c =
     let pushed : c.push_reserved.new.self.items ≡ c.self.inside.statements.items ++ c.args.statement ∷ [] = search rules in
-    subst (λ statements. AreBound c.add_names.new.communicators c.add_names.new.requests statements) (sym pushed) (c.in_ok-add_names.ensures.added c.self.inside.statements.items c.self.invariant)
+    subst (λ statements. AreBound c.prepare.new.communicators c.prepare.new.requests statements) (sym pushed) (c.in_ok-prepare.ensures.added c.self.inside.statements.items c.self.invariant)

@@ -1,7 +1,0 @@
-use Rattle.std.proofs.Common.{◌++◌, codes, take}
-use Rattle.std.specs.Io.KnownBytes.{Appends}
-use Rattle.gossipmpi.specs.Status.{ranks_text}
-use Rattle.gossipmpi.proofs.status.write_waiting.Given as goal
-
-abbrev pub invariant-loop-rank : goal.invariant-loop-rank
-invariant-loop-rank g l = Appends (g.W.Write.contents l.fn.writer) (g.W.Write.contents l.writer) (codes "waiting:" ++ ranks_text (take l.rank-index l.ranks))

@@ -1,0 +1,15 @@
+use Rattle.std.proofs.Common.{◌≡◌, reverse, [], ◌∷◌, ◌++◌, length, ap, ◌∙◌}
+use Rattle.std.specs.List.{list_all}
+use Rattle.mpx_format.specs.Fields.{step}
+use Rattle.mpx_encode.proofs.Births.{name_spelled, name_steps}
+use Rattle.mpx_encode.proofs.Maps.{told_behind}
+use Rattle.mpx_encode.proofs.write_names.NameWriteKey.write.Goals as goal
+
+pub write_list-requires : goal.write_list-requires
+write_list-requires c = ap (list_all step.fits) c.steps-steps.ensures.value ∙ name_steps c.args.self.now c.requires
+
+pub returns : goal.returns
+returns c =
+    let n = c.args.self.now in
+    let first : c.write_u8.new.out.items ≡ c.args.out.now.items ++ length (reverse n) ∷ [] = rw c.steps-steps.ensures.value at c.in_ok-write_u8.ensures in
+    told_behind c.write_list.result c.args.out.now.items c.write_u8.new.out.items c.write_list.new.out.items _ _ _ (name_spelled n) first (rw c.steps-steps.ensures.value at c.write_list.ensures)

@@ -1,0 +1,112 @@
+ghost use Rattle.std.specs.Prelude.{◌≡◌, ◌↔◌, ◌+◌, ◌-◌, true, cond, nat_le, None, Some, IfOk, IfSome, length};
+ghost use Rattle.std.specs.Result.{IsErrOf};
+ghost use Rattle.std.specs.FinMap.{len};
+ghost use Rattle.mpx_board.specs.Looks.{parts_of};
+ghost use Rattle.mpx_board.specs.Tidy.{all_entries, is_tidy};
+ghost use Rattle.mpx_board.specs.Views.{view_of_parts};
+ghost use Rattle.mpx_format.specs.Contexts.{frame};
+ghost use Rattle.mpx_format.specs.Decoding.{Spells, most_bytes};
+ghost use Rattle.mpx_format.specs.Encoding.{has_many_names, most_names, is_too_long, length_told};
+ghost use Rattle.mpx_encode.specs.declared.encoding.EncodeError.TheVariants as E;
+
+use crate::write_contexts::{room_after_frame, write_frame};
+use join_core::OutOfMemory;
+use mpx_board::{Board, Parts};
+use std::alloc::{AllocError, Global};
+use thiserror::Error;
+
+/// The greatest number of bytes of a frame.
+const MOST_BYTES: usize = 1_048_576;
+
+/// The greatest number of names in one list.
+const MOST_NAMES: usize = 4096;
+
+/// Why a board has no frame.
+#[derive(Clone, Copy, Debug, PartialEq, Eq, Error)]
+pub enum EncodeError {
+    /// Its frame would be over 1,048,576 bytes, or a list in it over 4,096 names.
+    #[error("TooLong")]
+    TooLong,
+    /// A growth was refused.
+    #[error("OutOfMemory")]
+    OutOfMemory,
+}
+
+impl From<OutOfMemory> for EncodeError {
+    ghost from_gives = { λ _ e. e ≡ E.OutOfMemory };
+
+    fn from(_e: OutOfMemory) -> EncodeError {
+        EncodeError::OutOfMemory
+    }
+}
+
+impl From<AllocError> for EncodeError {
+    ghost from_gives = { λ _ e. e ≡ E.OutOfMemory };
+
+    fn from(_e: AllocError) -> EncodeError {
+        EncodeError::OutOfMemory
+    }
+}
+
+// Whether no process acknowledges too many names.
+fn has_few_acks(parts: &Parts) -> bool
+    ensures { result ≡ all_entries (λ p a. nat_le (len a) most_names) (view_of_parts parts.now).1 }
+{
+    let processes = parts.second.entries();
+    processes.iter().all(|e| e.1.len() <= MOST_NAMES)
+}
+
+// Whether a list of names has too many.
+fn has_many_names(parts: &Parts) -> bool
+    ensures { result ≡ has_many_names (view_of_parts parts.now) }
+{
+    let names = parts.first.len();
+    if names > MOST_NAMES {
+        return true;
+    }
+    !has_few_acks(parts)
+}
+
+/// The frame of the board: `MPXG`, the version 1, what is known of each context by its name, and what each process
+/// acknowledges, all numbers with the highest byte first. It takes memory once, for all its bytes.
+///
+/// # Errors
+/// `TooLong` where the frame would be over 1,048,576 bytes or a list in it over 4,096 names, `OutOfMemory` where memory is
+/// refused.
+pub fn encode(alloc: Global, board: &Board) -> Result<Vec<u8>, EncodeError>
+    ensures spelled { IfOk result (λ bytes. Spells bytes.items (parts_of board.now)) }
+    ensures too_long { IsErrOf result EncodeError.TooLong ↔ (is_too_long (parts_of board.now) ≡ true) }
+{
+    let parts = board.pair();
+    match frame_room(parts) {
+        None => Err(EncodeError::TooLong),
+        Some(left) => {
+            let mut out = Vec::with_capacity(alloc, MOST_BYTES - left)?;
+            write_frame(parts, &mut out)?;
+            Ok(out)
+        }
+    }
+}
+
+// What the frame of these parts leaves of the bytes that a frame may have, where it isn't too long.
+fn frame_room(parts: &Parts) -> Option<usize>
+    requires { is_tidy (view_of_parts parts.now) ≡ true }
+    ensures value { result ≡ cond (is_too_long (view_of_parts parts.now)) None (Some (most_bytes - length (frame.spelling (view_of_parts parts.now)))) }
+    ensures fits { IfSome result (λ left. frame.fits (view_of_parts parts.now) ≡ true) }
+    ensures few { IfSome result (λ left. length (frame.spelling (view_of_parts parts.now)) + left ≡ most_bytes) }
+{
+    if has_many_names(parts) {
+        return None;
+    }
+    room_after_frame(parts, MOST_BYTES)
+}
+
+/// How many bytes the frame of the board has, 1,048,577 where it is too long. It takes no memory.
+pub fn frame_len(board: &Board) -> usize
+    ensures { result ≡ length_told (parts_of board.now) }
+{
+    match frame_room(board.pair()) {
+        None => MOST_BYTES + 1,
+        Some(left) => MOST_BYTES - left,
+    }
+}

@@ -1,0 +1,18 @@
+//! From boards to frames. Which bytes spell a board is said in `mpx_format`; [`encode`] writes them, and [`frame_len`] tells how
+//! many there are.
+#![tactic(auto)]
+
+mod encoding;
+mod room;
+mod write_births;
+mod write_codes;
+mod write_contexts;
+mod write_entries;
+mod write_items;
+mod write_makings;
+mod write_maps;
+mod write_names;
+mod write_numbers;
+mod write_posts;
+
+pub use encoding::{EncodeError, encode, frame_len};

@@ -1,0 +1,190 @@
+// What frames say of contexts, and whole frames.
+ghost use Rattle.std.specs.Prelude.{◌≡◌, ◌≤◌, ◌++◌, ◌&&◌, false, not, true, IfSome, OnOk, length, nat_le};
+ghost use Rattle.std.specs.FinMap.{len};
+ghost use Rattle.join_core.specs.Flat.{FlatView};
+ghost use Rattle.join_core.specs.FlatSeen.{flat_view};
+ghost use Rattle.mpx_board.specs.Parts.{AcksView, CallView, EntryView, OfProcesses, PartsView};
+ghost use Rattle.mpx_board.specs.Tidy.{all_entries, are_tidy_acks, are_tidy_posts, is_tidy, is_tidy_acks, is_tidy_call, is_tidy_entry, is_unknown};
+ghost use Rattle.mpx_board.specs.Views.{view_of_acks, view_of_call, view_of_calls, view_of_entry, view_of_parts};
+ghost use Rattle.mpx_post.specs.Births.{BirthView};
+ghost use Rattle.mpx_post.specs.Posts.{Given};
+ghost use Rattle.mpx_format.specs.Births.{birth as birth_format};
+ghost use Rattle.mpx_format.specs.Contexts.{call_posts, context, frame, held as held_format, parts as parts_format, posted, told as told_format};
+ghost use Rattle.mpx_format.specs.Encoding.{has_many_names, most_names};
+ghost use Rattle.mpx_format.specs.Fields.{acks as acks_format};
+ghost use Rattle.mpx_encode.specs.Room.{room_left};
+
+use crate::room::room_left;
+use crate::write_births::{birth_len, write_birth};
+use crate::write_entries::{WriteValue, room_after_counted, write_entries};
+use crate::write_maps::{room_after_fronts, write_fronts};
+use crate::write_numbers::{write_u8, write_u16, write_u32};
+use crate::write_posts::{post_len, write_post};
+use join_core::{Flat, OutOfMemory};
+use join_nest::Trunc;
+use mpx_board::{Acks, Call, Entry, Parts};
+use mpx_post::{Birth, Post};
+
+impl WriteValue for Flat<Post> {
+    ghost Seen = { FlatView Given };
+
+    ghost seen = { flat_view (λ p. p) };
+
+    ghost format = { posted };
+
+    ghost ready = { λ p. not (is_unknown p) };
+
+    fn room_after(&self, room: usize) -> Option<usize> {
+        match self {
+            Flat::Unknown => room_left(1, room),
+            Flat::Known(post) => room_left(1 + post_len(post), room),
+            Flat::Clash => room_left(1, room),
+        }
+    }
+
+    fn write(&self, out: &mut Vec<u8>) -> Result<(), OutOfMemory> {
+        match self {
+            Flat::Unknown => write_u8(0, out),
+            Flat::Known(post) => {
+                write_u8(1, out)?;
+                write_post(post, out)
+            }
+            Flat::Clash => write_u8(2, out),
+        }
+    }
+}
+
+// What is left of so much room behind what is told of a birth.
+fn room_after_birth(birth: &Flat<Birth>, room: usize) -> Option<usize>
+    ensures value { result ≡ room_left (length ((told_format birth_format).spelling (flat_view (λ b. b) birth.now))) room }
+    ensures fits { IfSome result (λ left. (told_format birth_format).fits (flat_view (λ b. b) birth.now) ≡ true) }
+{
+    match birth {
+        Flat::Unknown => room_left(1, room),
+        Flat::Known(birth) => room_left(1 + birth_len(birth), room),
+        Flat::Clash => room_left(1, room),
+    }
+}
+
+fn write_told_birth(birth: &Flat<Birth>, out: &mut Vec<u8>) -> Result<(), OutOfMemory>
+    requires { (told_format birth_format).fits (flat_view (λ b. b) birth.now) ≡ true }
+    ensures { OnOk result (out.new.items ≡ out.old.items ++ (told_format birth_format).spelling (flat_view (λ b. b) birth.now)) }
+{
+    match birth {
+        Flat::Unknown => write_u8(0, out),
+        Flat::Known(birth) => {
+            write_u8(1, out)?;
+            write_birth(birth, out)
+        }
+        Flat::Clash => write_u8(2, out),
+    }
+}
+
+impl WriteValue for Call {
+    ghost Seen = { CallView };
+
+    ghost seen = { view_of_call };
+
+    ghost format = { call_posts };
+
+    ghost ready = { are_tidy_posts };
+
+    fn room_after(&self, room: usize) -> Option<usize> {
+        room_after_counted(1, self.entries(), room)
+    }
+
+    fn write(&self, out: &mut Vec<u8>) -> Result<(), OutOfMemory> {
+        let entries = self.entries();
+        write_u8(entries.len() as u8, out)?;
+        write_entries(entries, out)
+    }
+}
+
+// What is left of so much room behind the dropped front and the calls at or above it.
+fn room_after_held(held: &Trunc<Call>, room: usize) -> Option<usize>
+    requires { all_entries is_tidy_call (view_of_calls held.now).calls ≡ true }
+    ensures value { result ≡ room_left (length (held_format.spelling (view_of_calls held.now))) room }
+    ensures fits { IfSome result (λ left. held_format.fits (view_of_calls held.now) ≡ true) }
+{
+    let _dropped = held.dropped();
+    room_after_counted(8, held.entries(), room)
+}
+
+fn write_held(held: &Trunc<Call>, out: &mut Vec<u8>) -> Result<(), OutOfMemory>
+    requires { held_format.fits (view_of_calls held.now) ≡ true }
+    ensures { OnOk result (out.new.items ≡ out.old.items ++ held_format.spelling (view_of_calls held.now)) }
+{
+    let entries = held.entries();
+    write_u32(held.dropped(), out)?;
+    write_u32(entries.len() as u32, out)?;
+    write_entries(entries, out)
+}
+
+impl WriteValue for Entry {
+    ghost Seen = { EntryView };
+
+    ghost seen = { view_of_entry };
+
+    ghost format = { context };
+
+    ghost ready = { is_tidy_entry };
+
+    fn room_after(&self, room: usize) -> Option<usize> {
+        let behind_birth = room_after_birth(&self.first, room)?;
+        let behind_fronts = room_after_fronts(&self.second.first, behind_birth)?;
+        room_after_held(&self.second.second, behind_fronts)
+    }
+
+    fn write(&self, out: &mut Vec<u8>) -> Result<(), OutOfMemory> {
+        write_told_birth(&self.first, out)?;
+        write_fronts(&self.second.first, out)?;
+        write_held(&self.second.second, out)
+    }
+}
+
+impl WriteValue for Acks {
+    ghost Seen = { AcksView };
+
+    ghost seen = { view_of_acks };
+
+    ghost format = { acks_format };
+
+    ghost ready = { λ a. is_tidy_acks a && nat_le (len a) most_names };
+
+    fn room_after(&self, room: usize) -> Option<usize> {
+        room_after_counted(2, self.entries(), room)
+    }
+
+    fn write(&self, out: &mut Vec<u8>) -> Result<(), OutOfMemory> {
+        let entries = self.entries();
+        write_u16(entries.len() as u16, out)?;
+        write_entries(entries, out)
+    }
+}
+
+// What is left of so much room behind the frame of these parts.
+pub fn room_after_frame(parts: &Parts, room: usize) -> Option<usize>
+    requires tidy { is_tidy (view_of_parts parts.now) ≡ true }
+    requires few { has_many_names (view_of_parts parts.now) ≡ false }
+    ensures value { result ≡ room_left (length (frame.spelling (view_of_parts parts.now))) room }
+    ensures fits { IfSome result (λ left. frame.fits (view_of_parts parts.now) ≡ true) }
+{
+    let names = parts.first.entries();
+    let processes = parts.second.entries();
+    let left = room_after_counted(7, names, room)?;
+    room_after_counted(1, processes, left)
+}
+
+// Writes the frame of these parts at the end.
+pub fn write_frame(parts: &Parts, out: &mut Vec<u8>) -> Result<(), OutOfMemory>
+    requires { frame.fits (view_of_parts parts.now) ≡ true }
+    ensures { OnOk result (out.new.items ≡ out.old.items ++ frame.spelling (view_of_parts parts.now)) }
+{
+    let names = parts.first.entries();
+    let processes = parts.second.entries();
+    out.extend_from_slice(b"MPXG\x01")?;
+    write_u16(names.len() as u16, out)?;
+    write_entries(names, out)?;
+    write_u8(processes.len() as u8, out)?;
+    write_entries(processes, out)
+}

@@ -1,0 +1,78 @@
+// Names of contexts, and lists of members.
+ghost use Rattle.std.specs.Prelude.{◌≡◌, ◌≤◌, ◌+◌, ◌++◌, true, OnOk, IfSome, length};
+ghost use Rattle.mpx_format.specs.Fields.{members as members_format, name, step};
+ghost use Rattle.mpx_name.specs.declared.steps.Step.TheVariants.{Child, Gathering};
+ghost use Rattle.mpx_encode.specs.Room.{room_left};
+
+use crate::room::room_left;
+use crate::write_entries::{WriteKey, room_after_list, write_list};
+use crate::write_numbers::{write_u8, write_u16, write_u32};
+use join_core::OutOfMemory;
+use mpx_group::Proc;
+use mpx_name::{Name, Step};
+
+// Writes the members at the end.
+pub fn write_members(members: &[Proc], out: &mut Vec<u8>) -> Result<(), OutOfMemory>
+    requires { members_format.fits members.now ≡ true }
+    ensures { OnOk result (out.new.items ≡ out.old.items ++ members_format.spelling members.now) }
+{
+    write_u8(members.len() as u8, out)?;
+    write_list(members, out)
+}
+
+fn write_child(call: u32, colour: u32, out: &mut Vec<u8>) -> Result<(), OutOfMemory>
+    ensures { OnOk result (out.new.items ≡ out.old.items ++ step.spelling (Child call colour)) }
+{
+    write_u8(0, out)?;
+    write_u32(call, out)?;
+    write_u32(colour, out)
+}
+
+fn write_gathering(tag: u16, members: &[Proc], out: &mut Vec<u8>) -> Result<(), OutOfMemory>
+    requires { members_format.fits members.now ≡ true }
+    ensures { OnOk result (out.new.items ≡ out.old.items ++ step.spelling (Gathering tag members.now)) }
+{
+    write_u8(1, out)?;
+    write_u16(tag, out)?;
+    write_members(members, out)
+}
+
+impl WriteKey for Step {
+    ghost format = { step };
+
+    ghost ready = { step.fits };
+
+    fn room_after(&self, room: usize) -> Option<usize> {
+        match self {
+            Step::Child { .. } => room_left(9, room),
+            Step::Gathering { members, .. } => room_left(4 + usize::from(members.size()), room),
+        }
+    }
+
+    fn write(&self, out: &mut Vec<u8>) -> Result<(), OutOfMemory> {
+        match self {
+            Step::Child { call, colour } => write_child(*call, *colour, out),
+            Step::Gathering { tag, members } => write_gathering(*tag, members.members(), out),
+        }
+    }
+}
+
+impl WriteKey for Name {
+    ghost format = { name };
+
+    ghost ready = { λ n. true };
+
+    fn room_after(&self, room: usize) -> Option<usize> {
+        // so that the proof knows its limits
+        let _depth = self.depth();
+        let steps = self.steps();
+        let left = room_left(1, room)?;
+        room_after_list(steps, left)
+    }
+
+    fn write(&self, out: &mut Vec<u8>) -> Result<(), OutOfMemory> {
+        let steps = self.steps();
+        write_u8(steps.len() as u8, out)?;
+        write_list(steps, out)
+    }
+}

@@ -1,0 +1,34 @@
+//! What a call of the program asks for: a [`Job`] is a [`Command`] and the [`Options`] of a run.
+#![tactic(auto)]
+
+/// How a run is simulated.
+#[derive(Clone, Copy, Debug, PartialEq, Eq)]
+pub struct Options {
+    /// What all draws follow from.
+    pub seed: u64,
+    /// How many frames of a hundred are lost: 0 to 100.
+    pub loss: u8,
+    /// How many processes only carry frames: 0 to 63.
+    pub relays: u8,
+    /// How many turns are made at most: 1 to 10,000,000.
+    pub turns: u32,
+}
+
+/// What is asked for.
+#[derive(Clone, Copy, Debug, PartialEq, Eq)]
+pub enum Command {
+    /// The script's ranks are run over a simulated interconnect.
+    Run,
+    /// The script is evaluated, which no loss and no order change.
+    Eval,
+    /// The script is read alone.
+    Check,
+}
+
+/// What is asked for, and how a run is simulated.
+#[derive(Clone, Copy, Debug, PartialEq, Eq)]
+pub struct Job {
+    pub command: Command,
+    /// What counts for [`Command::Run`] alone.
+    pub options: Options,
+}

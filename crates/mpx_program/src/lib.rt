@@ -1,0 +1,12 @@
+//! What a call of the program does, over any streams: the job that its words ask for, the message for the standard error, and
+//! the exit status.
+//!
+//! In the order of reading: [`run_job`], which answers an [`Exit`], and [`refuse`] for words that give no job; [`status_of`] and
+//! [`write_message`] are their parts.
+#![tactic(auto)]
+
+mod job;
+mod status;
+
+pub use job::{Exit, refuse, run_job};
+pub use status::{status_of, write_message};

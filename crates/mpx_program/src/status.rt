@@ -1,0 +1,68 @@
+//! What the program says on the standard error, and its exit status.
+ghost use Rattle.std.specs.Prelude.{◌≡◌, OnOk, codes};
+ghost use Rattle.std.specs.Io.KnownBytes.{Appends};
+ghost use Rattle.clap.specs.Words.{kind_of};
+ghost use Rattle.mpx_program.specs.Status.{message, refusal_status, status, waiting_text};
+
+use clap::error::ErrorKind;
+use mpx_run::{End, RunError};
+use std::io;
+use std::io::Write;
+
+/// The exit status of a job.
+pub fn status_of(answer: &Result<End, RunError>) -> u8
+    ensures { result ≡ status answer.now }
+{
+    match answer {
+        Ok(End::Finished) => 0,
+        Ok(End::Waiting(_)) => 3,
+        Err(RunError::Script(_)) => 2,
+        Err(RunError::TooManyProcesses) => 1,
+        Err(RunError::Memory) => 4,
+        Err(RunError::Read | RunError::Write) => 5,
+    }
+}
+
+/// The exit status of a call whose words give no job: 1 for usage, help among it.
+pub fn refusal_status(refusal: &clap::Error) -> u8
+    ensures { result ≡ refusal_status (kind_of refusal.now) }
+{
+    match refusal.kind() {
+        ErrorKind::OutOfMemory => 4,
+        _ => 1,
+    }
+}
+
+/// Writes what the standard error is told of a job: nothing where it is finished. After an error of the writer a
+/// part of it may be out.
+pub fn write_message<W: Write>(answer: &Result<End, RunError>, writer: &mut W) -> io::Result<()>
+    ensures { OnOk result (Appends (W.contents writer.old) (W.contents writer.new) (message answer.now)) }
+{
+    match answer {
+        Ok(End::Finished) => Ok(()),
+        Ok(End::Waiting(ranks)) => write_waiting(ranks, writer),
+        Err(error) => writeln!(writer, "{error}"),
+    }
+}
+
+// Writes the line of the ranks that wait.
+fn write_waiting<W: Write>(ranks: &[u8], writer: &mut W) -> io::Result<()>
+    ensures { OnOk result (Appends (W.contents writer.old) (W.contents writer.new) (waiting_text ranks.now)) }
+{
+    writer.write_all(b"waiting:")?;
+    for rank in ranks {
+        write!(writer, " {rank}")?;
+    }
+    writer.write_all(b"\n")
+}
+
+/// Writes clap's text of a refusal, or `out of memory`. No clause says what clap's text is.
+pub fn write_refusal<W: Write>(refusal: &clap::Error, writer: &mut W) -> io::Result<()>
+    ensures { kind_of refusal.now ≡ ErrorKind.OutOfMemory
+        → OnOk result (Appends (W.contents writer.old) (W.contents writer.new) (codes "out of memory\n")) }
+{
+    match refusal.kind() {
+        ErrorKind::OutOfMemory => writer.write_all(b"out of memory\n"),
+        _ => write!(writer, "{refusal}"),
+    }
+}

@@ -1,9 +1,0 @@
-use Rattle.std.proofs.Common.{rules, ◌∙◌, ◌<◌, length, ap}
-use Rattle.mpx_run.specs.Shown.{part_of}
-use Rattle.mpx_run.proofs.Running.{kept}
-use Rattle.mpx_run.proofs.turns.delay_some.Goals as goal
-
-pub loop-i-preserved : goal.loop-i-preserved
-loop-i-preserved c =
-    let within : c.loop-i.i < length c.loop-i.frames.items = search rules in
-    kept part_of c.loop-i.frames.items c.loop-i.i c.index_mut.result.now c.delay.new.frame within (c.delay.ensures ∙ ap part_of c.index_mut.ensures.value) ∙ c.loop-i.invariant

@@ -1,9 +1,0 @@
-use Rattle.std.proofs.Common.{◌≤◌, List, ℕ, map}
-use Rattle.mpx_board.specs.Boards.{Look}
-use Rattle.mpx_script.specs.declared.statement.Statement.{Statement}
-use Rattle.mpx_run.specs.Shown.{rank_of}
-use Rattle.mpx_run.specs.Running.{IsUnderWay}
-use Rattle.mpx_run.proofs.turns.go_round.Given as goal
-
-abbrev pub invariant-loop-p : goal.invariant-loop-p
-invariant-loop-p l = (script : List (List Statement)) (ranks size : ℕ) (frames : List Look) → l.count ≤ ranks → IsUnderWay script ranks size (map rank_of l.fn.processes) frames → IsUnderWay script ranks size (map rank_of l.processes) frames

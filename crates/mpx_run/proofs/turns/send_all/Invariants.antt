@@ -1,8 +1,0 @@
-use Rattle.std.proofs.Common.{map, List, ℕ}
-use Rattle.mpx_script.specs.declared.statement.Statement.{Statement}
-use Rattle.mpx_run.specs.Shown.{rank_of, part_of}
-use Rattle.mpx_run.specs.Running.{IsUnderWay}
-use Rattle.mpx_run.proofs.turns.send_all.Given as goal
-
-abbrev pub invariant-loop-p : goal.invariant-loop-p
-invariant-loop-p l = (script : List (List Statement)) (ranks size : ℕ) → IsUnderWay script ranks size (map rank_of l.processes) (map part_of l.fn.frames.items) → IsUnderWay script ranks size (map rank_of l.processes) (map part_of l.frames.items)

@@ -1,0 +1,73 @@
+-- Frames, and the board whose bytes they are.
+use Rattle.std.proofs.Common.{◌≡◌, ◌≤◌, ◌<◌, ◌+◌, ℕ, suc, true, false, cond, List, [], ◌∷◌, ◌++◌, length, map, take, get_or, Option, Some, Result, Err, refl, sym, ap, ◌∙◌, subst, arith}
+use Rattle.std.specs.Prelude.{All, IfSome, IsTrue, is_ok, slice_get}
+use Rattle.std.proofs.lemmas.List.{map-append, take_more}
+use Rattle.std.proofs.lemmas.List.Elements.{All-nil, All-cons, All-head, All-tail, All-map}
+use Rattle.mpx_board.specs.declared.board.Board.{Board}
+use Rattle.mpx_board.specs.Boards.{Look}
+use Rattle.mpx_board.specs.Contexts.{look_of}
+use Rattle.mpx_board.specs.Looks.{look}
+use Rattle.mpx_board.specs.Parts.{PartsView}
+use Rattle.mpx_format.specs.declared.faults.WireError.{WireError}
+use Rattle.mpx_format.specs.declared.faults.WireError.TheVariants as E
+use Rattle.mpx_format.specs.Contexts.{frame}
+use Rattle.mpx_format.specs.Decoding.{Spells, Refuses, most_bytes, decoded}
+use Rattle.mpx_format.specs.Encoding.{is_too_long, length_told}
+use Rattle.mpx_format.proofs.Decoded.{decoded_again}
+use Rattle.mpx_parts.specs.Facts.{OnlyFactsOf}
+use Rattle.mpx_script.specs.declared.statement.Statement.{Statement}
+use Rattle.mpx_sim.specs.declared.frame.Frame.{Frame}
+use Rattle.mpx_system.specs.Running.{IsUnderWay, RankView}
+use Rattle.mpx_sim.specs.Shown.{part_of, shown}
+use Rattle.mpx_system.proofs.Running.{run_sends}
+
+-- BYTES
+
+pub spelled_ok : (bytes : List ℕ) (v : PartsView) → Spells bytes v → IsTrue (is_ok (decoded bytes))
+spelled_ok bytes v s = ap is_ok (decoded_again bytes v s)
+
+pub spelled_shown : (bytes : List ℕ) (v : PartsView) → Spells bytes v → shown (decoded bytes) ≡ look_of v
+spelled_shown bytes v s = ap shown (decoded_again bytes v s)
+
+is_refused : (r : Result PartsView WireError) (e : WireError) → IsTrue (is_ok r) → r ≡ Err e → ⊥
+is_refused r e ok f = let none : false ≡ true = sym (ap is_ok f) ∙ ok in cc none
+
+-- what is decoded is refused for want of memory alone
+pub only_memory : (e : WireError) (r : Result PartsView WireError) → IsTrue (is_ok r) → Refuses e r → (e ≡ E.OutOfMemory → ⊥) → ⊥
+only_memory E.OutOfMemory r ok f other = other refl
+only_memory E.TooLong r ok f other = is_refused r E.TooLong ok f
+only_memory E.BadMagic r ok f other = is_refused r E.BadMagic ok f
+only_memory E.BadVersion r ok f other = is_refused r E.BadVersion ok f
+only_memory E.ShortFrame r ok f other = is_refused r E.ShortFrame ok f
+only_memory (E.OutOfLimits at) r ok f other = is_refused r (E.OutOfLimits at) ok f
+only_memory (E.NotCanonical at) r ok f other = is_refused r (E.NotCanonical at) ok f
+
+pub has_frame : (v : PartsView) → length_told v ≤ 1048576 → is_too_long v ≡ true → ⊥
+has_frame v few long =
+    let l : suc most_bytes ≤ 1048576 = subst (λ b. cond b (suc most_bytes) (length (frame.spelling v)) ≤ 1048576) long few in
+    omega (arith, l)
+
+-- PARTS
+
+pub one_more_part : (frames : List Frame) (parts : List Board) (i : ℕ) (d : Board) (new : Frame) → i < length parts → map part_of frames ≡ map look (take i parts) → part_of new ≡ look (get_or parts i d)
+    → map part_of (frames ++ new ∷ []) ≡ map look (take (i + 1) parts)
+one_more_part frames parts i d new lt before is =
+    map-append part_of frames (new ∷ []) ∙ (λ j. before j ++ is j ∷ []) ∙ sym (map-append look (take i parts) (get_or parts i d ∷ [])) ∙ ap (map look) (sym (take_more parts i d lt))
+
+pub all_behind : {A B : Type 0} (f : A → B) (P : B → Type 0) (xs : List A) → All P (map f xs) → All (λ x. P (f x)) xs
+all_behind f P [] h = All-nil (λ x. P (f x))
+all_behind f P (x ∷ xs) h = All-cons (λ y. P (f y)) x xs (All-head P (f x) (map f xs) h) (all_behind f P xs (All-tail P (f x) (map f xs) h))
+
+-- what is so of each part is so of each frame that shows it
+pub all_same : {A B C : Type 0} (f : A → C) (g : B → C) (P : C → Type 0) (xs : List A) (ys : List B) → map f xs ≡ map g ys → All (λ y. P (g y)) ys → All (λ x. P (f x)) xs
+all_same f g P xs ys e h = all_behind f P xs (subst (All P) (sym e) (All-map P g ys h))
+
+pub shown_by : (found : Option Frame) (new : Frame) (b : Look) → found ≡ Some new → IfSome found (λ f. part_of f ≡ b) → part_of new ≡ b
+shown_by found new b e h = subst (λ x. IfSome x (λ f. part_of f ≡ b)) e h
+
+-- A FRAME GOES OUT
+
+pub goes_out : (script : List (List Statement)) (ranks size : ℕ) (processes : List RankView) (p : ℕ) (r : RankView) (frames : List Frame) (new : Frame) → slice_get processes p ≡ Some r → OnlyFactsOf (part_of new) r.node.board
+    → IsUnderWay script ranks size processes (map part_of frames) → IsUnderWay script ranks size processes (map part_of (frames ++ new ∷ []))
+goes_out script ranks size processes p r frames new at only run =
+    subst (λ (bs : List Look). IsUnderWay script ranks size processes bs) (sym (map-append part_of frames (new ∷ []))) (run_sends script ranks size processes (map part_of frames) p r (part_of new) at only run)

@@ -1,0 +1,14 @@
+use Rattle.std.proofs.Common.{ap, sym, ◌∙◌}
+use Rattle.std.specs.BTreeMap.{get}
+use Rattle.std.specs.Cmp.Lexicographic.{slice_cmp}
+use Rattle.std.specs.Option.{option_copied}
+use Rattle.std.specs.Ordering.{nat_cmp}
+use Rattle.mpx_system.specs.Running.{binds}
+use Rattle.mpx_sim.proofs.Bindings.{binds_new, none_there}
+use Rattle.mpx_sim.proofs.rank.bind.Goals as goal
+
+pub returns : goal.returns
+returns g c = λ word.
+    c.in_ok-insert.ensures.updates.0 word
+    ∙ binds_new (get (slice_cmp nat_cmp) c.args.bound.now) c.in_ok-copy.field-0 c.in-Some.word.now word c.args.to c.in_ok-copy.ensures (none_there _ (sym c.contains_key.ensures ∙ c.if-contains_key.false))
+    ∙ ap (λ t. binds t c.args.to (get (slice_cmp nat_cmp) c.args.bound.now) word) (sym (ap option_copied c.in-Some.is))

@@ -1,0 +1,19 @@
+use Rattle.std.proofs.Common.{rules, [], ◌∷◌, sym, subst}
+use Rattle.std.specs.Prelude.{All}
+use Rattle.std.proofs.lemmas.Iterator.Adapters.{YieldsList-from_vec}
+use Rattle.std.proofs.lemmas.Iterator.Consumers.{YieldsList-end}
+use Rattle.mpx_parts.specs.Facts.{OnlyFactsOf}
+use Rattle.mpx_parts.proofs.Adding.{All-front, All-last}
+use Rattle.mpx_sim.specs.Shown.{part_of}
+use Rattle.mpx_sim.proofs.Sending.{all_behind}
+use Rattle.mpx_sim.proofs.turns.send_each.Goals as goal
+
+pub loop-frame-preserved : goal.loop-frame-preserved
+loop-frame-preserved c script ranks size processes p r at all run =
+    c.in_ok-send.ensures script ranks size processes p r at (All-last (λ f. OnlyFactsOf (part_of f) r.node.board) c.loop-frame.yielded c.in-Some.frame all)
+    (c.loop-frame.invariant script ranks size processes p r at (All-front (λ f. OnlyFactsOf (part_of f) r.node.board) c.loop-frame.yielded (c.in-Some.frame ∷ []) all) run)
+
+pub returns : goal.returns
+returns c script ranks size processes p r at all run =
+    let end = YieldsList-end (YieldsList-from_vec c.args.made.items (search rules) (search rules)) c.loop-frame.yielded c.loop-frame.frame-iterator c.loop-frame.yielded_by c.next.result c.next.new.self c.in-None.is c.next.ensures.steps in
+    c.loop-frame.invariant script ranks size processes p r at (all_behind (λ f. f) (λ f. OnlyFactsOf (part_of f) r.node.board) c.loop-frame.yielded (subst (All (λ f. OnlyFactsOf (part_of f) r.node.board)) (sym end.0) all)) run

@@ -1,0 +1,92 @@
+//! What a run comes to.
+ghost use Rattle.std.specs.Prelude.{◌≡◌, ◌++◌, ◌≤◌, ◌+◌, ◌∷◌, [], cond, IfOk, OnOk, length, map, slice_get, string_bytes};
+ghost use Rattle.mpx_node.specs.Shown.{node_of};
+ghost use Rattle.mpx_script.specs.Evaluation.{State, IsEvaluation};
+ghost use Rattle.mpx_script.specs.Reports.{transcripts_of, which};
+ghost use Rattle.mpx_system.specs.Running.{RankView, is_waiting_at};
+ghost use Rattle.mpx_system.specs.Runs.{AreWhole, Begin, IsRun};
+ghost use Rattle.mpx_sim.specs.Shown.{rank_of};
+
+use crate::rank::Rank;
+use crate::turns::simulate;
+use join_core::OutOfMemory;
+use mpx_job::Options;
+use mpx_node::Node;
+use mpx_script::{Report, Script};
+use std::alloc::Global;
+
+/// What a run comes to, and the node of each process: first those of the ranks, then the relays'.
+#[derive(Drop)]
+pub struct Run {
+    /// The lines of each rank, and who waits.
+    pub report: Report,
+    /// The node of each process.
+    pub nodes: Vec<Node>,
+}
+
+/// Runs a script's ranks, and relays, over an interconnect that loses, repeats and reorders frames.
+///
+/// In each turn every rank in order goes on with its script until an outcome is missing, each process drops what all
+/// members have harvested, and sends its whole board to one process; then the turn's frames come in a drawn order, but for
+/// those that are lost. One in four of those that come is taken again, one to four turns later. The run ends once all ranks
+/// have finished, once no turn can change anything any more, or with the last turn. Equal options give equal runs.
+pub fn run_sim(alloc: Global, script: &Script, options: &Options) -> Result<Run, OutOfMemory>
+    requires { script.now.ranks + options.now.relays ≤ 64 }
+    ensures run { IfOk result (λ run. IsRun script.now options.now.relays (map node_of run.nodes.items) (transcripts_of run.report) run.report.waiting.items) }
+    ensures begins { IfOk result (λ run. (evaluation : State) → IsEvaluation script.now.statements script.now.ranks evaluation → Begin (transcripts_of run.report) evaluation) }
+    ensures whole { IfOk result (λ run. (evaluation : State) → IsEvaluation script.now.statements script.now.ranks evaluation → AreWhole (transcripts_of run.report) run.report.waiting.items evaluation) }
+{
+    let processes = simulate(alloc, script, options)?;
+    let ranks = script.ranks();
+    let waiting = waiting_of(alloc, processes.as_slice(), ranks)?;
+    let (mut transcripts, nodes) = parts_of(alloc, processes)?;
+    transcripts.truncate(ranks as usize);
+    Ok(Run {
+        report: Report {
+            transcripts,
+            waiting,
+        },
+        nodes,
+    })
+}
+
+// The ranks that have something left, in rising order.
+fn waiting_of(alloc: Global, processes: &[Rank<'_>], ranks: u8) -> Result<Vec<u8>, OutOfMemory>
+    requires { ranks ≤ length processes.now }
+    ensures { IfOk result (λ waiting. waiting.items ≡ which (λ p. is_waiting_at (slice_get (map rank_of processes.now) p)) ranks) }
+{
+    let mut waiting = Vec::new(alloc);
+    for p in 0..ranks {
+        push_where(&mut waiting, p, processes[p as usize].is_waiting())?;
+    }
+    Ok(waiting)
+}
+
+// Adds the rank where the test holds.
+fn push_where(ranks: &mut Vec<u8>, rank: u8, test: bool) -> Result<(), OutOfMemory>
+    ensures { OnOk result (ranks.new.items ≡ ranks.old.items ++ cond test (rank ∷ []) []) }
+{
+    if !test {
+        return Ok(());
+    }
+    ranks.push(rank)?;
+    Ok(())
+}
+
+// The lines and the node of each process.
+fn parts_of(
+    alloc: Global,
+    processes: Vec<Rank<'_>>,
+) -> Result<(Vec<Vec<String>>, Vec<Node>), OutOfMemory>
+    ensures lines { IfOk result (λ parts. map (λ lines. map string_bytes lines.items) parts.0.items ≡ map (λ (r : RankView). r.lines) (map rank_of processes.entry.items)) }
+    ensures nodes { IfOk result (λ parts. map node_of parts.1.items ≡ map (λ (r : RankView). r.node) (map rank_of processes.entry.items)) }
+{
+    let mut transcripts = Vec::new(alloc);
+    let mut nodes = Vec::new(alloc);
+    for process in processes {
+        let (node, lines) = process.into_parts();
+        transcripts.push(lines)?;
+        nodes.push(node)?;
+    }
+    Ok((transcripts, nodes))
+}

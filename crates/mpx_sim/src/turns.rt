@@ -1,0 +1,290 @@
+ghost use Rattle.std.specs.Prelude.{◌≡◌, ◌<◌, ◌≤◌, ◌+◌, All, IfOk, OnOk, length, map, slice_get, List, Some, ℕ};
+ghost use Rattle.mpx_board.specs.Boards.{Look, join_all};
+ghost use Rattle.mpx_parts.specs.Facts.{OnlyFactsOf};
+ghost use Rattle.mpx_script.specs.declared.statement.Statement.{Statement as Said};
+ghost use Rattle.mpx_sim.specs.Shown.{rank_of, part_of};
+ghost use Rattle.mpx_system.specs.Running.{IsUnderWay, RankView, Starts, StartsAt};
+
+use crate::frame::Frame;
+use crate::frames::{frames_of, opened};
+use crate::rank::Rank;
+use crate::schedule::Schedule;
+use crate::sender::{Sender, senders};
+use join_core::{Exact, OutOfMemory};
+use mpx_job::Options;
+use mpx_script::Script;
+use std::alloc::Global;
+
+/// The processes of a script's run after its last turn: all turns are used up, all ranks have finished, or no turn to come
+/// changes anything.
+pub(crate) fn simulate<'a>(
+    alloc: Global,
+    script: &'a Script,
+    options: &Options,
+) -> Result<Vec<Rank<'a>>, OutOfMemory>
+    requires { script.now.ranks + options.now.relays ≤ 64 }
+    ensures { IfOk result (λ processes. (frames : List Look) × IsUnderWay script.now.statements script.now.ranks (script.now.ranks + options.now.relays) (map rank_of processes.items) frames) }
+{
+    let mut processes = start(alloc, script, options.relays)?;
+    let mut schedule = Schedule::new(alloc, options.seed, options.loss, processes.len())?;
+    let mut senders = senders(alloc, processes.len())?;
+    let mut frames = Vec::new(alloc);
+    for number in 0..options.turns {
+        let goes_on = turn(
+            alloc,
+            &mut processes,
+            script.ranks() as usize,
+            &mut senders,
+            &mut frames,
+            &mut schedule,
+            u64::from(number),
+        )?;
+        if !goes_on {
+            return Ok(processes);
+        }
+    }
+    Ok(processes)
+}
+
+// A turn: every rank goes on until it must wait, every process drops what it may and sends its board where its last one is
+// out, and the turn's frames come. It answers whether there is need of another.
+//
+// Where nobody moved or dropped anything and all boards are equal, every frame, also those that come later, is below these
+// boards; and where every frame is lost, none comes.
+fn turn(
+    alloc: Global,
+    processes: &mut [Rank<'_>],
+    count: usize,
+    senders: &mut [Sender],
+    frames: &mut Vec<Frame>,
+    schedule: &mut Schedule,
+    number: u64,
+) -> Result<bool, OutOfMemory>
+    requires few { count ≤ length processes.old }
+    requires each { length processes.old ≤ length senders.old }
+    ensures { OnOk result ((script : List (List Said)) (ranks size : ℕ) → count ≤ ranks → IsUnderWay script ranks size (map rank_of processes.old) (map part_of frames.old.items)
+        → IsUnderWay script ranks size (map rank_of processes.new) (map part_of frames.new.items)) }
+{
+    let moved = go_round(alloc, processes, count)?;
+    let pruned = prune_all(processes);
+    if are_finished(processes, count) {
+        return Ok(false);
+    }
+    if !moved && !pruned && (schedule.loses_all() || are_same(processes)) {
+        return Ok(false);
+    }
+    send_all(alloc, processes, senders, frames, schedule, number)?;
+    schedule.shuffle(frames);
+    deliver(alloc, processes, frames.as_slice(), number)?;
+    keep_some(frames, schedule, number);
+    Ok(true)
+}
+
+// Every rank in order goes on until it must wait. It answers whether one moved.
+fn go_round(alloc: Global, processes: &mut [Rank<'_>], count: usize) -> Result<bool, OutOfMemory>
+    requires { count ≤ length processes.old }
+    ensures { OnOk result ((script : List (List Said)) (ranks size : ℕ) (frames : List Look) → count ≤ ranks → IsUnderWay script ranks size (map rank_of processes.old) frames
+        → IsUnderWay script ranks size (map rank_of processes.new) frames) }
+{
+    let mut changed = false;
+    for p in 0..count {
+        let moved = processes[p].go_on(alloc)?;
+        changed |= moved;
+    }
+    Ok(changed)
+}
+
+// Every process drops what it may. It answers whether one did.
+fn prune_all(processes: &mut [Rank<'_>]) -> bool
+    ensures { (script : List (List Said)) (ranks size : ℕ) (frames : List Look) → IsUnderWay script ranks size (map rank_of processes.old) frames
+        → IsUnderWay script ranks size (map rank_of processes.new) frames }
+{
+    let mut changed = false;
+    for p in 0..processes.len() {
+        let pruned = processes[p].prune();
+        changed |= pruned;
+    }
+    changed
+}
+
+// Whether every rank has finished.
+fn are_finished(processes: &[Rank<'_>], count: usize) -> bool
+    requires { count ≤ length processes.now }
+{
+    for p in 0..count {
+        if processes[p].is_waiting() {
+            return false;
+        }
+    }
+    true
+}
+
+// Whether all boards are equal.
+fn are_same(processes: &[Rank<'_>]) -> bool {
+    let Some((first, rest)) = processes.split_first() else {
+        return true;
+    };
+    for process in rest {
+        if !first.board().same(process.board()) {
+            return false;
+        }
+    }
+    true
+}
+
+// The frames of a process's board.
+fn sent(alloc: Global, process: &Rank<'_>, to: usize, turn: u64) -> Result<Vec<Frame>, OutOfMemory>
+    ensures facts { IfOk result (λ made. All (λ frame. OnlyFactsOf (part_of frame) (rank_of process.now).node.board) made.items) }
+    ensures join { IfOk result (λ made. join_all (map part_of made.items) ≡ (rank_of process.now).node.board) }
+{
+    frames_of(alloc, process.node(), to, turn)
+}
+
+// Every process sends the frames of its board, where those of its last one are out.
+fn send_all(
+    alloc: Global,
+    processes: &[Rank<'_>],
+    senders: &mut [Sender],
+    frames: &mut Vec<Frame>,
+    schedule: &mut Schedule,
+    turn: u64,
+) -> Result<(), OutOfMemory>
+    requires { length processes.now ≤ length senders.old }
+    ensures { OnOk result ((script : List (List Said)) (ranks size : ℕ) → IsUnderWay script ranks size (map rank_of processes.now) (map part_of frames.old.items)
+        → IsUnderWay script ranks size (map rank_of processes.now) (map part_of frames.new.items)) }
+{
+    for p in 0..processes.len() {
+        if senders[p].is_free(turn) {
+            let to = schedule.receiver(p, senders[p].lists(), processes.len());
+            let made = sent(alloc, &processes[p], to, turn)?;
+            senders[p].sends(turn, made.len());
+            send_each(made, frames, schedule)?;
+        }
+    }
+    Ok(())
+}
+
+// Frames with facts of a process's board go out, where they aren't lost.
+fn send_each(
+    made: Vec<Frame>,
+    frames: &mut Vec<Frame>,
+    schedule: &mut Schedule,
+) -> Result<(), OutOfMemory>
+    ensures { OnOk result ((script : List (List Said)) (ranks size : ℕ) (processes : List RankView) (p : ℕ) (r : RankView) → slice_get processes p ≡ Some r
+        → All (λ frame. OnlyFactsOf (part_of frame) r.node.board) made.items → IsUnderWay script ranks size processes (map part_of frames.old.items)
+        → IsUnderWay script ranks size processes (map part_of frames.new.items)) }
+{
+    for frame in made {
+        send(frame, frames, schedule)?;
+    }
+    Ok(())
+}
+
+// A frame goes out, where it isn't lost.
+fn send(frame: Frame, frames: &mut Vec<Frame>, schedule: &mut Schedule) -> Result<(), OutOfMemory>
+    ensures { OnOk result ((script : List (List Said)) (ranks size : ℕ) (processes : List RankView) (p : ℕ) (r : RankView) → slice_get processes p ≡ Some r
+        → OnlyFactsOf (part_of frame) r.node.board → IsUnderWay script ranks size processes (map part_of frames.old.items)
+        → IsUnderWay script ranks size processes (map part_of frames.new.items)) }
+{
+    if schedule.is_lost() {
+        return Ok(());
+    }
+    frames.push(frame)?;
+    Ok(())
+}
+
+// The turn's frames reach their processes.
+fn deliver(
+    alloc: Global,
+    processes: &mut [Rank<'_>],
+    frames: &[Frame],
+    turn: u64,
+) -> Result<(), OutOfMemory>
+    ensures { OnOk result ((script : List (List Said)) (ranks size : ℕ) → IsUnderWay script ranks size (map rank_of processes.old) (map part_of frames.now)
+        → IsUnderWay script ranks size (map rank_of processes.new) (map part_of frames.now)) }
+{
+    for i in 0..frames.len() {
+        arrive(alloc, processes, &frames[i], turn)?;
+    }
+    Ok(())
+}
+
+// A frame reaches its process, where this is its turn.
+fn arrive(
+    alloc: Global,
+    processes: &mut [Rank<'_>],
+    frame: &Frame,
+    turn: u64,
+) -> Result<(), OutOfMemory>
+    ensures { OnOk result ((script : List (List Said)) (ranks size : ℕ) (frames : List Look) (i : ℕ) → slice_get frames i ≡ Some (part_of frame.now) → IsUnderWay script ranks size (map rank_of processes.old) frames
+        → IsUnderWay script ranks size (map rank_of processes.new) frames) }
+{
+    if frame.turn != turn || frame.to >= processes.len() {
+        return Ok(());
+    }
+    let part = opened(alloc, frame)?;
+    processes[frame.to].receive(alloc, &part)?;
+    Ok(())
+}
+
+// One in four of the turn's frames is taken again in a later turn, and the others are let go.
+fn keep_some(frames: &mut Vec<Frame>, schedule: &mut Schedule, turn: u64)
+    ensures { (script : List (List Said)) (ranks size : ℕ) (processes : List RankView) → IsUnderWay script ranks size processes (map part_of frames.old.items)
+        → IsUnderWay script ranks size processes (map part_of frames.new.items) }
+{
+    delay_some(frames, schedule, turn);
+    frames.retain(|frame| frame.turn > turn);
+}
+
+// One in four of the turn's frames comes again.
+fn delay_some(frames: &mut Vec<Frame>, schedule: &mut Schedule, turn: u64)
+    ensures { map part_of frames.new.items ≡ map part_of frames.old.items }
+{
+    for i in 0..frames.len() {
+        delay(&mut frames[i], schedule, turn);
+    }
+}
+
+// It comes again, where this is its turn and it is drawn.
+fn delay(frame: &mut Frame, schedule: &mut Schedule, turn: u64)
+    ensures { part_of frame.new ≡ part_of frame.old }
+{
+    if frame.turn != turn {
+        return;
+    }
+    if let Some(later) = schedule.again() {
+        frame.turn = turn.saturating_add(later);
+    }
+}
+
+// A process before the first turn: a relay has no statements.
+fn start_at<'a>(
+    alloc: Global,
+    script: &'a Script,
+    me: u8,
+    size: u8,
+) -> Result<Rank<'a>, OutOfMemory>
+    requires me { me < size }
+    requires ranks { script.now.ranks ≤ size }
+    requires few { size ≤ 64 }
+    ensures { IfOk result (λ rank. StartsAt script.now.statements script.now.ranks me (rank_of rank)) }
+{
+    let ranks = script.ranks();
+    if me >= ranks {
+        return Rank::new(alloc, me, ranks, size, &script.statements(0)[..0]);
+    }
+    Rank::new(alloc, me, ranks, size, script.statements(me))
+}
+
+// The processes before the first turn.
+fn start<'a>(alloc: Global, script: &'a Script, relays: u8) -> Result<Vec<Rank<'a>>, OutOfMemory>
+    requires { script.now.ranks + relays ≤ 64 }
+    ensures { IfOk result (λ processes. Starts script.now.statements script.now.ranks (script.now.ranks + relays) (map rank_of processes.items)) }
+{
+    let mut processes = Vec::new(alloc);
+    let ranks = script.ranks();
+    for me in 0..ranks + relays {
+        processes.push(start_at(alloc, script, me, ranks + relays)?)?;
+    }
+    Ok(processes)
+}

@@ -1,0 +1,4 @@
+pub mod Coupling
+pub mod Waiting
+pub mod Running
+pub mod Results

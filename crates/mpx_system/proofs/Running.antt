@@ -1,0 +1,544 @@
+-- What the steps of a process keep of a run.
+use Rattle.std.proofs.Common.{◌≡◌, ℕ, zero, suc, ◌+◌, ◌<◌, Bool, true, false, cond, List, [], ◌∷◌, ◌++◌, length, map, take, drop, set, get_or, Option, Some, None, refl, sym, ap, ◌∙◌, subst, arith, length-append}
+use Rattle.std.specs.Prelude.{slice_get, is_some, unwrap_or, Result, Ok, Err, OnOk, OnErr}
+use Rattle.std.specs.List.{All, items_where_true}
+use Rattle.std.proofs.lemmas.Grind.{get_or_picked}
+use Rattle.std.proofs.lemmas.List.{map-append, length-set}
+use Rattle.std.proofs.lemmas.List.Elements.{All-push}
+use Rattle.std.proofs.lemmas.Option.{slice_get-map, slice_get-get_or, slice_get_within, same_Some}
+use Rattle.std.specs.Option.{option_map}
+use Rattle.std.specs.Str.{bytes_eq}
+use Rattle.join_core.specs.declared.memory.OutOfMemory.{OutOfMemory}
+use Rattle.mpx_post.specs.declared.draft.PostError.{PostError}
+use Rattle.mpx_post.specs.Births.{BirthView}
+use Rattle.mpx_board.specs.declared.errors.PruneError.{PruneError}
+use Rattle.mpx_name.specs.Name.{Name}
+use Rattle.mpx_board.specs.Boards.{Look, only, Dropped, floor_on}
+use Rattle.mpx_board.specs.Changes.{pruned}
+use Rattle.mpx_parts.specs.Facts.{OnlyFactsOf}
+use Rattle.mpx_value.specs.declared.outcomes.Outcome.{Outcome}
+use Rattle.mpx_value.specs.declared.outcomes.Outcome.TheVariants.{Nothing, Absent, Items, NewComm, Null, Fault}
+use Rattle.mpx_value.specs.Histories.{Answer, Made, Results}
+use Rattle.mpx_node.specs.declared.finished.Finished.{Finished}
+use Rattle.mpx_node.specs.declared.node.Harvest.{Harvest}
+use Rattle.mpx_node.specs.declared.node.Harvest.TheVariants.{Done, NotYet, NotOpened}
+use Rattle.mpx_node.specs.Harvests.{Harvests as HarvestsOn}
+use Rattle.mpx_node.specs.Nodes.{NodeView, learn, next_result}
+use Rattle.mpx_world.specs.declared.events.Event.TheVariants as E
+use Rattle.mpx_world.specs.declared.events.Cut.TheVariants as C
+use Rattle.mpx_world.specs.Worlds.{ProcessView, WorldView, stores, drops, takes, harvests, prunes, Happening, Harvests, Prunes, Sends, Takes, at_process}
+use Rattle.mpx_world.specs.Worlds.{goes_on as goes_on_world}
+use Rattle.mpx_world.proofs.Lists.{slice_get-append, slice_get-push, slice_get-push_cases}
+use Rattle.mpx_world.proofs.Steps.{at_here}
+use Rattle.mpx_world.proofs.Reached.{may_happen}
+use Rattle.mpx_script.specs.declared.statement.Posting.{Posting}
+use Rattle.mpx_script.specs.declared.statement.Question.{Question}
+use Rattle.mpx_script.specs.declared.statement.Statement.{Statement}
+use Rattle.mpx_script.specs.declared.statement.Statement.TheVariants.{Post, Wait, Ask}
+use Rattle.mpx_script.specs.Statements.{bound_to, posted_on as word_of, started_as}
+use Rattle.mpx_script.specs.Grammar.{named}
+use Rattle.mpx_script.specs.Ranks.{answered as answered_rank}
+use Rattle.mpx_script.specs.Ranks.{Await, Bindings, Bound, NullCommunicator, Line, Local, Told, Refused, answers, awaited_by, bind, bound_by, doing, done, next_call, step, waited_lines}
+use Rattle.mpx_script.specs.Transcripts.{line_text, outcome_text}
+use Rattle.mpx_script.proofs.Ends.{goes_on-at}
+use Rattle.mpx_script.proofs.Fronts.{append-nil}
+use Rattle.mpx_script.proofs.Steps.{heard, posted, started, told_at_once, turned_down, waited, step_asks, step_hears, step_passes, step_posts, step_refused, step_starts}
+use Rattle.mpx_system.specs.Systems.{System, node_tells, posts_bound, posts_of, Doing, Nets, Drives, does, does_all, MayDo, MayDoAll, Leads, start_system}
+use Rattle.mpx_system.specs.Running.{RankView, WaitView, Names, Tried, answered_on, are_held, closes_all, name_of, names_in, or_new, binds, given_name, tried, todo_of, wait_lines, IsAmong, stored, harvested, Stands, IsUnderWay, Keeps, KeepsNode, Moves, Receives, StartsAt, Starts}
+use Rattle.mpx_system.proofs.Coupling.{Couples, Driven, answered, answer_born, answer_same, attempt_at, attempts_same, couples_all, couples_start, driven, each_other, goes_on-other, not_same}
+use Rattle.mpx_system.proofs.Waiting.{named-more, are_all_closed, passing}
+
+-- LISTS
+
+-- where a list was written, it has the new value; elsewhere what it had
+set_cases : {A : Type 0} (xs : List A) (i p : ℕ) (y x : A) (P : A → Type 0) → slice_get (set xs i y) p ≡ Some x → (p ≡ i → P y) → (slice_get xs p ≡ Some x → (p ≡ i → ⊥) → P x) → P x
+set_cases [] i p y x P e f g = cc e
+set_cases (z ∷ xs) zero zero y x P e f g = subst P (let q : y ≡ x = cc e in q) (f refl)
+set_cases (z ∷ xs) zero (suc p) y x P e f g = g e (λ q. omega (arith, q))
+set_cases (z ∷ xs) (suc i) zero y x P e f g = g e (λ q. omega (arith, q))
+set_cases (z ∷ xs) (suc i) (suc p) y x P e f g = set_cases xs i p y x P e (λ q. f (ap suc q)) (λ s q. g s (λ r. q (omega (arith, r))))
+
+set_twice : {A : Type 0} (xs : List A) (i : ℕ) (x y : A) → set (set xs i x) i y ≡ set xs i y
+set_twice [] i x y = refl
+set_twice (z ∷ xs) zero x y = refl
+set_twice (z ∷ xs) (suc i) x y = ap (λ ys. z ∷ ys) (set_twice xs i x y)
+
+set_has : {A : Type 0} (xs : List A) (i : ℕ) (x y : A) → slice_get xs i ≡ Some x → slice_get (set xs i y) i ≡ Some y
+set_has [] i x y e = cc e
+set_has (z ∷ xs) zero x y e = refl
+set_has (z ∷ xs) (suc i) x y e = set_has xs i x y e
+
+set_same : {A : Type 0} (xs : List A) (i : ℕ) (x : A) → slice_get xs i ≡ Some x → set xs i x ≡ xs
+set_same [] i x e = cc e
+set_same (z ∷ xs) zero x e = ap (λ y. y ∷ xs) (let q : x ≡ z = cc e in q)
+set_same (z ∷ xs) (suc i) x e = ap (λ ys. z ∷ ys) (set_same xs i x e)
+
+all_at : {A : Type 0} (P : A → Type 0) (xs : List A) (i : ℕ) (x : A) → slice_get xs i ≡ Some x → All P xs → P x
+all_at P xs i x e h =
+    let l : i < length xs = slice_get_within xs i x e in
+    subst P (same_Some (get_or xs i x) x (sym (slice_get-get_or xs i x l) ∙ e)) (h i x l)
+
+all_more : {A : Type 0} (P Q : A → Type 0) → ((x : A) → P x → Q x) → (xs : List A) → All P xs → All Q xs
+all_more P Q f xs h k d l = f (get_or xs k d) (h k d l)
+
+-- DOINGS
+
+does_all-push : (ds : List Doing) (d : Doing) (s : System) → does_all s (ds ++ d ∷ []) ≡ does (does_all s ds) d
+does_all-push [] d s = refl
+does_all-push (x ∷ ds) d s = does_all-push ds d (does s x)
+
+may-push : (ranks : ℕ) (ds : List Doing) (d : Doing) (s : System) → MayDoAll ranks s ds → MayDo ranks (does_all s ds) d → MayDoAll ranks s (ds ++ d ∷ [])
+may-push ranks [] d s m n = (n, tt)
+may-push ranks (x ∷ ds) d s m n = (m.0, may-push ranks ds d (does s x) m.1 n)
+
+leads_on : (ranks : ℕ) (from to : System) (d : Doing) → Leads ranks from to → MayDo ranks to d → Leads ranks from (does to d)
+leads_on ranks from to d l m = record {
+  doings = l.doings ++ d ∷ [];
+  may = may-push ranks l.doings d from l.may (subst (λ s. MayDo ranks s d) (sym l.reached) m);
+  reached = does_all-push l.doings d from ∙ ap (λ s. does s d) l.reached;
+}
+
+pub coupled : (script : List (List Statement)) (ranks size : ℕ) (processes : List RankView) (frames : List Look) (run : IsUnderWay script ranks size processes frames) → Couples script ranks run.system
+coupled script ranks size processes frames run = subst (Couples script ranks) run.led.reached (couples_all script ranks run.led.doings (start_system script ranks size) (couples_start script ranks size) run.led.may)
+
+-- ONE PROCESS
+
+-- a doing of process p: what it shows after it, and the others as they were
+record IsDoneAt (ranks : ℕ) (s t : System) (p : ℕ) (new : RankView) : Type 0 where
+  node : new.node ≡ (t.world.each p).node
+  stands : p < ranks → Stands new (t.ranks p)
+  nodes : (q : ℕ) → (q ≡ p → ⊥) → (t.world.each q).node ≡ (s.world.each q).node
+  ranks_stay : (q : ℕ) → (q ≡ p → ⊥) → t.ranks q ≡ s.ranks q
+  parts : t.world.parts ≡ s.world.parts
+
+run_on : (script : List (List Statement)) (ranks size : ℕ) (processes : List RankView) (frames : List Look) (run : IsUnderWay script ranks size processes frames) (p : ℕ) (new : RankView) (d : Doing)
+    → MayDo ranks run.system d → IsDoneAt ranks run.system (does run.system d) p new → IsUnderWay script ranks size (set processes p new) frames
+run_on script ranks size processes frames run p new d may is =
+    let t = does run.system d in
+    record {
+      system = t;
+      led = leads_on ranks (start_system script ranks size) run.system d run.led may;
+      shows = record {
+        count = length-set processes p new ∙ run.shows.count;
+        nodes = λ q r e. set_cases processes p q new r (λ x. x.node ≡ (t.world.each q).node) e
+            (λ same. is.node ∙ ap (λ j. (t.world.each j).node) (sym same))
+            (λ old other. run.shows.nodes q r old ∙ sym (is.nodes q other));
+        stands = λ q r e l. set_cases processes p q new r (λ x. Stands x (t.ranks q)) e
+            (λ same. subst (λ j. Stands new (t.ranks j)) (sym same) (is.stands (subst (λ j. j < ranks) same l)))
+            (λ old other. subst (Stands r) (sym (is.ranks_stay q other)) (run.shows.stands q r old l));
+        sent = subst (λ ps. All (IsAmong ps) frames) (sym is.parts) run.shows.sent;
+      };
+    }
+
+-- a process that changes just its node
+done_net : (ranks : ℕ) (s : System) (p : ℕ) (r : RankView) (new : NodeView) (f : ProcessView → ProcessView) → (p < ranks → Stands r (s.ranks p)) → new ≡ (f (s.world.each p)).node
+    → IsDoneAt ranks s (record { world = at_process p f s.world; ranks = s.ranks }) p (record r { node = new })
+done_net ranks s p r new f stands e = record {
+  node = e ∙ ap (λ (v : ProcessView). v.node) (sym (at_here s.world p f));
+  stands = λ l. let h = stands l in record { me = h.me; bound = h.bound; requests = h.requests; todo = h.todo; lines = h.lines };
+  nodes = λ q other. ap (λ (v : ProcessView). v.node) (each_other s.world p f q other);
+  ranks_stay = λ q other. refl;
+  parts = refl;
+}
+
+-- A NODE'S STEPS
+
+stores_node : (name : Name) (o : Option Finished) (v : ProcessView) → (stores name o v).node ≡ stored name o v.node
+stores_node name None v = refl
+stores_node name (Some finished) v = refl
+
+pub keeps_harvest : (name : Name) (r : RankView) → Keeps r (harvested name r)
+keeps_harvest name r script ranks size processes frames p at run =
+    let s = run.system in
+    let v = s.world.each p in
+    let same : r.node ≡ v.node = run.shows.nodes p r at in
+    run_on script ranks size processes frames run p (harvested name r) (Nets (Harvests p name)) (tt, tt)
+    (done_net ranks s p r (stored name (next_result r.node name) r.node) (harvests name) (run.shows.stands p r at)
+    (ap (λ n. stored name (next_result n name) n) same ∙ sym (stores_node name (next_result v.node name) v)))
+
+abbrev pub pruned_by : Name → Result (Unit {0}) PruneError → ℕ → NodeView → NodeView
+pruned_by name (Ok u) n node = learn (only (Dropped name n)) node
+pruned_by name (Err refusal) n node = node
+
+drops_node : (name : Name) (n : ℕ) (x : Result (Unit {0}) PruneError) (v : ProcessView) → (drops name n x v).node ≡ pruned_by name x n v.node
+drops_node name n (Ok u) v = refl
+drops_node name n (Err refusal) v = refl
+
+pub keeps_prune : (name : Name) (r : RankView) (n : ℕ) → Keeps r (record r { node = pruned_by name (pruned (floor_on r.node.board name) n) n r.node })
+keeps_prune name r n script ranks size processes frames p at run =
+    let s = run.system in
+    let v = s.world.each p in
+    let same : r.node ≡ v.node = run.shows.nodes p r at in
+    let new = pruned_by name (pruned (floor_on r.node.board name) n) n r.node in
+    run_on script ranks size processes frames run p (record r { node = new }) (Nets (Prunes p name n)) (tt, tt)
+    (done_net ranks s p r new (prunes name n) (run.shows.stands p r at)
+    (ap (λ (m : NodeView). pruned_by name (pruned (floor_on m.board name) n) n m) same ∙ sym (drops_node name n (pruned (floor_on v.node.board name) n) v)))
+
+pub pruned_is : (name : Name) (r : Result (Unit {0}) PruneError) (n : ℕ) (old new : NodeView) → OnOk r (new ≡ learn (only (Dropped name n)) old) → OnErr r (new ≡ old) → new ≡ pruned_by name r n old
+pruned_is name (Ok u) n old new f g = f
+pruned_is name (Err refusal) n old new f g = g
+
+pub keeps_then : (a b c : RankView) → Keeps a b → Keeps b c → Keeps a c
+keeps_then a b c f g script ranks size processes frames p at run =
+    subst (λ rs. IsUnderWay script ranks size rs frames) (set_twice processes p b c)
+    (g script ranks size (set processes p b) frames p (set_has processes p a b at) (f script ranks size processes frames p at run))
+
+pub keeps_itself : (r : RankView) → Keeps r r
+keeps_itself r script ranks size processes frames p at run = subst (λ rs. IsUnderWay script ranks size rs frames) (sym (set_same processes p r at)) run
+
+-- A NODE ALONE
+
+pub keeps_node_itself : (old new : NodeView) → new ≡ old → KeepsNode old new
+keeps_node_itself old new e r is = subst (λ m. Keeps r (record r { node = m })) (is ∙ sym e) (keeps_itself r)
+
+pub keeps_node_then : (a b c : NodeView) → KeepsNode a b → KeepsNode b c → KeepsNode a c
+keeps_node_then a b c f g r is = keeps_then r (record r { node = b }) (record r { node = c }) (f r is) (g (record r { node = b }) refl)
+
+keeps_stored : (name : Name) (old new : NodeView) → new ≡ stored name (next_result old name) old → KeepsNode old new
+keeps_stored name old new e r is = subst (λ m. Keeps r (record r { node = m })) (ap (λ n. stored name (next_result n name) n) is ∙ sym e) (keeps_harvest name r)
+
+pub keeps_node_harvest : (opened : Bool) (name : Name) (next : Option Finished) (answer : Result Harvest OutOfMemory) (old new : NodeView) → next ≡ next_result old name → HarvestsOn opened name next answer old new → KeepsNode old new
+keeps_node_harvest false name next answer old new e x = keeps_node_itself old new x.1
+keeps_node_harvest true name (Some finished) (Ok (Done call)) old new e x = keeps_stored name old new (x.1 ∙ ap (λ o. stored name o old) e)
+keeps_node_harvest true name (Some finished) (Ok NotYet) old new e x = absurd x
+keeps_node_harvest true name (Some finished) (Ok NotOpened) old new e x = absurd x
+keeps_node_harvest true name (Some finished) (Err refused) old new e x = keeps_node_itself old new x
+keeps_node_harvest true name None (Ok (Done call)) old new e x = absurd x
+keeps_node_harvest true name None (Ok NotYet) old new e x = keeps_node_itself old new x
+keeps_node_harvest true name None (Ok NotOpened) old new e x = absurd x
+keeps_node_harvest true name None (Err refused) old new e x = absurd x
+
+pub keeps_node_prune : (name : Name) (n : ℕ) (answer : Result (Unit {0}) PruneError) (old new : NodeView) → answer ≡ pruned (floor_on old.board name) n → OnOk answer (new ≡ learn (only (Dropped name n)) old) → OnErr answer (new ≡ old) → KeepsNode old new
+keeps_node_prune name n answer old new e f g r is =
+    let to : new ≡ pruned_by name (pruned (floor_on r.node.board name) n) n r.node = pruned_is name answer n old new f g ∙ ap (λ x. pruned_by name x n old) e ∙ ap (λ (m : NodeView). pruned_by name (pruned (floor_on m.board name) n) n m) (sym is) in
+    subst (λ m. Keeps r (record r { node = m })) (sym to) (keeps_prune name r n)
+
+-- a frame is taken
+pub run_takes : (script : List (List Statement)) (ranks size : ℕ) (processes : List RankView) (frames : List Look) (p : ℕ) (r : RankView) (i : ℕ) (b : Look) → slice_get processes p ≡ Some r → slice_get frames i ≡ Some b
+    → IsUnderWay script ranks size processes frames → IsUnderWay script ranks size (set processes p (record r { node = learn b r.node })) frames
+run_takes script ranks size processes frames p r i b at got run =
+    let s = run.system in
+    let v = s.world.each p in
+    let found = all_at (IsAmong s.world.parts) frames i b got run.shows.sent in
+    run_on script ranks size processes frames run p (record r { node = learn b r.node }) (Nets (Takes p found.0)) (tt, tt)
+    (done_net ranks s p r (learn b r.node) (takes (slice_get s.world.parts found.0)) (run.shows.stands p r at)
+    (ap (learn b) (run.shows.nodes p r at) ∙ ap (λ o. (takes o v).node) (sym found.1)))
+
+-- a part of a board is sent
+pub run_sends : (script : List (List Statement)) (ranks size : ℕ) (processes : List RankView) (frames : List Look) (p : ℕ) (r : RankView) (part : Look) → slice_get processes p ≡ Some r → OnlyFactsOf part r.node.board
+    → IsUnderWay script ranks size processes frames → IsUnderWay script ranks size processes (frames ++ part ∷ [])
+run_sends script ranks size processes frames p r part at only run =
+    let s = run.system in
+    let c = coupled script ranks size processes frames run in
+    let d : Doing = Nets (Sends p part) in
+    let new = s.world.parts ++ part ∷ [] in
+    let here : OnlyFactsOf part (s.world.each p).node.board = subst (λ (n : NodeView). OnlyFactsOf part n.board) (run.shows.nodes p r at) only in
+    record {
+      system = does s d;
+      led = leads_on ranks (start_system script ranks size) s d run.led (tt, λ f has. may_happen s.world (E.Send p C.Whole) c.upheld.holds f (here f has));
+      shows = record {
+        count = run.shows.count;
+        nodes = run.shows.nodes;
+        stands = run.shows.stands;
+        sent = All-push (IsAmong new) frames part
+            (all_more (IsAmong s.world.parts) (IsAmong new) (λ b found. (found.0, slice_get-append s.world.parts (part ∷ []) found.0 b found.1)) frames run.shows.sent)
+            (length s.world.parts, slice_get-push s.world.parts part);
+      };
+    }
+
+-- frames are lost, repeated or reordered
+pub run_fewer : (script : List (List Statement)) (ranks size : ℕ) (processes : List RankView) (frames fewer : List Look) → ((P : Look → Type 0) → All P frames → All P fewer)
+    → IsUnderWay script ranks size processes frames → IsUnderWay script ranks size processes fewer
+run_fewer script ranks size processes frames fewer among run = record {
+  system = run.system;
+  led = run.led;
+  shows = record {
+    count = run.shows.count;
+    nodes = run.shows.nodes;
+    stands = run.shows.stands;
+    sent = among (IsAmong run.system.world.parts) run.shows.sent;
+  };
+}
+
+-- what is picked of a list
+picked_map : {A B : Type 0} (f : A → B) (bs : List Bool) (xs : List A) → map f (items_where_true bs xs) ≡ items_where_true bs (map f xs)
+picked_map f [] xs = refl
+picked_map f (b ∷ bs) [] = refl
+picked_map f (true ∷ bs) (x ∷ xs) = ap (λ ys. f x ∷ ys) (picked_map f bs xs)
+picked_map f (false ∷ bs) (x ∷ xs) = picked_map f bs xs
+
+pub all_picked : {A B : Type 0} (f : A → B) (P : B → Type 0) (bs : List Bool) (xs : List A) → All P (map f xs) → All P (map f (items_where_true bs xs))
+all_picked f P bs xs h = subst (All P) (sym (picked_map f bs xs)) (λ k d l. let found = get_or_picked bs (map f xs) k d l in subst P (sym found.1.2) (h found.1.0 d found.1.1))
+
+pub receives : (b : Look) (old new : RankView) → new ≡ record old { node = learn b old.node } → Receives b old new
+receives b old new e script ranks size processes frames p i at got run =
+    subst (λ (r : RankView). IsUnderWay script ranks size (set processes p r) frames) (sym e) (run_takes script ranks size processes frames p old i b at got run)
+
+-- A RANK'S MOVES
+
+pub moves_then : (a b c : RankView) → Moves a b → Moves b c → Moves a c
+moves_then a b c f g script ranks size processes frames p l at run =
+    subst (λ rs. IsUnderWay script ranks size rs frames) (set_twice processes p b c)
+    (g script ranks size (set processes p b) frames p l (set_has processes p a b at) (f script ranks size processes frames p l at run))
+
+-- BINDINGS
+
+-- a word more, seen as names
+names_by : (u : Bool) (before : Option Bound) (new : Bound) → option_map name_of (cond u (Some (or_new before new)) before) ≡ cond u (Some (or_new (option_map name_of before) (name_of new))) (option_map name_of before)
+names_by true None new = refl
+names_by true (Some old) new = refl
+names_by false before new = refl
+
+names_behind : (xs : Bindings) (to : List ℕ) (new : Bound) (word : List ℕ) → names_in (xs ++ (to, new) ∷ []) word ≡ cond (bytes_eq word to) (Some (or_new (names_in xs word) (name_of new))) (names_in xs word)
+names_behind xs to new word = ap (option_map name_of) (named-more xs to new word) ∙ names_by (bytes_eq word to) (named xs word) new
+
+names_bound : (target : Option (List ℕ)) (bound : Names) (xs : Bindings) (new : Bound) (word : List ℕ) → bound word ≡ names_in xs word → binds target (name_of new) bound word ≡ names_in (bind target new xs) word
+names_bound None bound xs new word e = e
+names_bound (Some to) bound xs new word e = ap (λ o. cond (bytes_eq word to) (Some (or_new o (name_of new))) o) e ∙ sym (names_behind xs to new word)
+
+-- what an answer binds a word to is what its outcome names, where the birth of a new communicator is known
+named_so : (outcome : Outcome) (born : Option BirthView) → ((new : Name) (size rank : ℕ) → outcome ≡ NewComm new size rank → (birth : BirthView) × (born ≡ Some birth)) → name_of (bound_by outcome born) ≡ given_name outcome
+named_so Nothing born h = refl
+named_so Absent born h = refl
+named_so (Items items) born h = refl
+named_so (NewComm new size rank) born h = let x = h new size rank refl in ap (λ o. name_of (bound_by (NewComm new size rank) o)) x.1
+named_so Null born h = refl
+named_so (Fault fault) born h = refl
+
+-- the post behind an answer
+answered_ok : (made : List Made) (o : Result Made PostError) (name : Name) (call : ℕ) → answered made o ≡ Ok (name, call) → (m : Made) × (o ≡ Ok m) × (m.name ≡ name) × (next_call m.name made ≡ call)
+answered_ok made (Ok m) name call e =
+    let pair : (m.name, next_call m.name made) ≡ (name, call) = cc e in
+    (m, refl, ap (λ (x : Name × ℕ). x.0) pair, ap (λ (x : Name × ℕ). x.1) pair)
+answered_ok made (Err refusal) name call e = cc e
+
+answered_err : (made : List Made) (o : Result Made PostError) (refusal : PostError) → answered made o ≡ Err refusal → o ≡ Err refusal
+answered_err made (Ok m) refusal e = cc e
+answered_err made (Err other) refusal e = let same : other ≡ refusal = cc e in ap (λ x. let r : Result Made PostError = Err x in r) same
+
+module _ (script : List (List Statement)) (ranks size : ℕ) (processes : List RankView) (frames : List Look) (p : ℕ) (l : p < ranks) (r : RankView) (at : slice_get processes p ≡ Some r) (run : IsUnderWay script ranks size processes frames) where
+  abbrev told : Results
+  told = node_tells (run.system.world.each p).node
+
+  -- a move by what the node tells, after which the world is so
+  moved : (hs : List Happening) (t : Local) (new : RankView) → posts_of p (run.system.ranks p).bound (run.system.ranks p).todo ≡ hs → step told (run.system.ranks p) ≡ Some t → Stands new t
+      → new.node ≡ ((goes_on_world run.system.world hs).each p).node
+      → ((q : ℕ) → (q ≡ p → ⊥) → ((goes_on_world run.system.world hs).each q).node ≡ (run.system.world.each q).node)
+      → (goes_on_world run.system.world hs).parts ≡ run.system.world.parts
+      → IsUnderWay script ranks size (set processes p new) frames
+  moved hs t new e step_is stands node nodes parts =
+      let world : goes_on_world run.system.world hs ≡ goes_on_world run.system.world (posts_of p (run.system.ranks p).bound (run.system.ranks p).todo) = ap (goes_on_world run.system.world) (sym e) in
+      run_on script ranks size processes frames run p new (Drives p) l (record {
+        node = node ∙ ap (λ (w : WorldView). (w.each p).node) world;
+        stands = λ m. subst (Stands new) (sym (goes_on-at run.system.ranks p told t step_is)) stands;
+        nodes = λ q other. ap (λ (w : WorldView). (w.each q).node) (sym world) ∙ nodes q other;
+        ranks_stay = λ q other. goes_on-other run.system.ranks p told q (not_same q p other);
+        parts = ap (λ (w : WorldView). w.parts) (sym world) ∙ parts;
+      })
+
+  stands_so : (waits : Option WaitView) (todo : List Statement) → r.waits ≡ waits → r.todo ≡ todo → (run.system.ranks p).todo ≡ todo_of waits todo
+  stands_so waits todo w t = (run.shows.stands p r at l).todo ∙ λ i. todo_of (w i) (t i)
+
+  lines_so : (text : List ℕ) (line : Line) → text ≡ line_text line → r.lines ++ text ∷ [] ≡ map line_text ((run.system.ranks p).lines ++ line ∷ [])
+  lines_so text line e = (λ i. (run.shows.stands p r at l).lines i ++ e i ∷ []) ∙ sym (map-append line_text (run.system.ranks p).lines (line ∷ []))
+
+  bound_so : (target : Option (List ℕ)) (new : Bound) (word : List ℕ) → binds target (name_of new) r.bound word ≡ names_in (bind target new (run.system.ranks p).bound) word
+  bound_so target new word = names_bound target r.bound (run.system.ranks p).bound new word ((run.shows.stands p r at l).bound word)
+
+  -- it hears an answer that its node tells
+  hears : (w : WaitView) (answer : Answer) (text : List ℕ) → r.waits ≡ Some w → node_tells r.node w.name w.call ≡ Some answer → text ≡ outcome_text answer.outcome
+      → IsUnderWay script ranks size (set processes p (record { me = r.me; node = r.node; bound = binds w.target (given_name answer.outcome) r.bound; requests = r.requests; todo = r.todo; waits = None; lines = r.lines ++ text ∷ [] })) frames
+  hears w answer text wait e t =
+      let c = coupled script ranks size processes frames run in
+      let local = run.system.ranks p in
+      let todo = stands_so (Some w) r.todo wait refl in
+      let known : told w.name w.call ≡ Some answer = ap (λ n. node_tells n w.name w.call) (sym (run.shows.nodes p r at)) ∙ e in
+      let to = bound_by answer.outcome answer.born in
+      let name_is : name_of to ≡ given_name answer.outcome = named_so answer.outcome answer.born (answer_born script ranks run.system c p w.name w.call answer known) in
+      moved [] (done local (heard local w.name w.call w.target (doing r.todo) answer)) (record { me = r.me; node = r.node; bound = binds w.target (given_name answer.outcome) r.bound; requests = r.requests; todo = r.todo; waits = None; lines = r.lines ++ text ∷ [] })
+      (ap (posts_of p local.bound) todo)
+      (step_hears told local w.name w.call w.target (doing r.todo) answer todo known)
+      (record { me = (run.shows.stands p r at l).me; bound = λ word. ap (λ n. binds w.target n r.bound word) (sym name_is) ∙ bound_so w.target to word; requests = (run.shows.stands p r at l).requests; todo = refl; lines = lines_so text (Told w.name w.call answer.outcome) t })
+      (run.shows.nodes p r at) (λ q other. refl) refl
+
+  -- what its node has of its next statement
+  post_driven : (posting : Posting) → Driven run.system.world p (posts_bound p posting (named (run.system.ranks p).bound (word_of posting))) (attempt_at script ranks run.system (coupled script ranks size processes frames run) p posting) (tried posting (r.bound (word_of posting)) r.node)
+  post_driven posting =
+      let c = coupled script ranks size processes frames run in
+      subst (λ (t : Tried). Driven run.system.world p (posts_bound p posting (named (run.system.ranks p).bound (word_of posting))) (attempt_at script ranks run.system c p posting) t)
+      (λ i. tried posting (sym ((run.shows.stands p r at l).bound (word_of posting)) i) (sym (run.shows.nodes p r at) i)) (driven script ranks run.system c p l posting)
+
+  -- it posts
+  posts_next : (posting : Posting) (rest : List Statement) (name : Name) (call : ℕ) → r.waits ≡ None → r.todo ≡ Post posting ∷ rest → started_as posting ≡ None → (tried posting (r.bound (word_of posting)) r.node).answer ≡ Ok (name, call)
+      → IsUnderWay script ranks size (set processes p (record { me = r.me; node = (tried posting (r.bound (word_of posting)) r.node).node; bound = r.bound; requests = r.requests; todo = rest; waits = Some (record { name = name; call = call; target = bound_to posting }); lines = r.lines })) frames
+  posts_next posting rest name call w t b e =
+      let c = coupled script ranks size processes frames run in
+      let local = run.system.ranks p in
+      let todo = stands_so None (Post posting ∷ rest) w t in
+      let d = post_driven posting in
+      let found = answered_ok (run.system.world.each p).made (attempt_at script ranks run.system c p posting) name call (sym d.answer ∙ e) in
+      let m : Made = found.0 in
+      let count : next_call m.name local.made ≡ call = ap (next_call m.name) (sym (c.made p)) ∙ found.3 in
+      moved (posts_bound p posting (named local.bound (word_of posting))) (done local (posted local (bound_to posting) (doing rest) m)) (record { me = r.me; node = (tried posting (r.bound (word_of posting)) r.node).node; bound = r.bound; requests = r.requests; todo = rest; waits = Some (record { name = name; call = call; target = bound_to posting }); lines = r.lines })
+      (ap (posts_of p local.bound) todo)
+      (step_posts told local posting (doing rest) m todo b (attempts_same script ranks run.system c p posting ∙ found.1))
+      (record { me = (run.shows.stands p r at l).me; bound = (run.shows.stands p r at l).bound; requests = (run.shows.stands p r at l).requests; todo = λ i. Await (found.2 i) (count i) (bound_to posting) ∷ doing rest; lines = (run.shows.stands p r at l).lines ∙ ap (map line_text) (sym (append-nil local.lines)) })
+      d.node d.nodes d.parts
+
+  -- it posts, and goes on: the request is open
+  starts_next : (posting : Posting) (rest : List Statement) (word : List ℕ) (name : Name) (call : ℕ) → r.waits ≡ None → r.todo ≡ Post posting ∷ rest → started_as posting ≡ Some word → (tried posting (r.bound (word_of posting)) r.node).answer ≡ Ok (name, call)
+      → IsUnderWay script ranks size (set processes p (record { me = r.me; node = (tried posting (r.bound (word_of posting)) r.node).node; bound = r.bound; requests = binds (Some word) (name, call) r.requests; todo = rest; waits = None; lines = r.lines })) frames
+  starts_next posting rest word name call w t b e =
+      let c = coupled script ranks size processes frames run in
+      let local = run.system.ranks p in
+      let stands = run.shows.stands p r at l in
+      let todo = stands_so None (Post posting ∷ rest) w t in
+      let d = post_driven posting in
+      let found = answered_ok (run.system.world.each p).made (attempt_at script ranks run.system c p posting) name call (sym d.answer ∙ e) in
+      let m : Made = found.0 in
+      let count : next_call m.name local.made ≡ call = ap (next_call m.name) (sym (c.made p)) ∙ found.3 in
+      moved (posts_bound p posting (named local.bound (word_of posting))) (done local (started local word (doing rest) m)) (record { me = r.me; node = (tried posting (r.bound (word_of posting)) r.node).node; bound = r.bound; requests = binds (Some word) (name, call) r.requests; todo = rest; waits = None; lines = r.lines })
+      (ap (posts_of p local.bound) todo)
+      (step_starts told local posting (doing rest) word m todo b (attempts_same script ranks run.system c p posting ∙ found.1))
+      (record {
+        me = stands.me;
+        bound = stands.bound;
+        requests = λ other. (λ i. cond (bytes_eq other word) (Some (or_new (stands.requests other i) (sym found.2 i, sym count i))) (stands.requests other i)) ∙ sym (named-more local.requests word (m.name, next_call m.name local.made) other);
+        todo = refl;
+        lines = stands.lines ∙ ap (map line_text) (sym (append-nil local.lines));
+      })
+      d.node d.nodes d.parts
+
+  -- it is refused
+  is_refused : (posting : Posting) (rest : List Statement) (refusal : PostError) (text : List ℕ) → r.waits ≡ None → r.todo ≡ Post posting ∷ rest → (tried posting (r.bound (word_of posting)) r.node).answer ≡ Err refusal → text ≡ line_text (Refused refusal)
+      → IsUnderWay script ranks size (set processes p (record { me = r.me; node = (tried posting (r.bound (word_of posting)) r.node).node; bound = binds (bound_to posting) None r.bound; requests = r.requests; todo = rest; waits = None; lines = r.lines ++ text ∷ [] })) frames
+  is_refused posting rest refusal text w t e u =
+      let c = coupled script ranks size processes frames run in
+      let local = run.system.ranks p in
+      let todo = stands_so None (Post posting ∷ rest) w t in
+      let d = post_driven posting in
+      let is = answered_err (run.system.world.each p).made (attempt_at script ranks run.system c p posting) refusal (sym d.answer ∙ e) in
+      moved (posts_bound p posting (named local.bound (word_of posting))) (done local (turned_down local (bound_to posting) (doing rest) refusal)) (record { me = r.me; node = (tried posting (r.bound (word_of posting)) r.node).node; bound = binds (bound_to posting) None r.bound; requests = r.requests; todo = rest; waits = None; lines = r.lines ++ text ∷ [] })
+      (ap (posts_of p local.bound) todo)
+      (step_refused told local posting (doing rest) refusal todo (attempts_same script ranks run.system c p posting ∙ is))
+      (record { me = (run.shows.stands p r at l).me; bound = bound_so (bound_to posting) NullCommunicator; requests = (run.shows.stands p r at l).requests; todo = refl; lines = lines_so text (Refused refusal) u })
+      d.node d.nodes d.parts
+
+  -- it passes a wait whose results its node holds
+  passes_next : (words : List (List ℕ)) (rest : List Statement) → r.waits ≡ None → r.todo ≡ Wait words ∷ rest → are_held r.node r.requests words ≡ true
+      → IsUnderWay script ranks size (set processes p (record { me = r.me; node = r.node; bound = r.bound; requests = closes_all words r.requests; todo = rest; waits = None; lines = r.lines ++ wait_lines r.node r.requests words })) frames
+  passes_next words rest w t h =
+      let local = run.system.ranks p in
+      let stands = run.shows.stands p r at l in
+      let todo = stands_so None (Wait words ∷ rest) w t in
+      let comes = passing r.node words r.requests local.requests stands.requests h in
+      let known : answers told (awaited_by local.requests words) ≡ Some comes.told = ap (λ n. answers (node_tells n) (awaited_by local.requests words)) (sym (run.shows.nodes p r at)) ∙ comes.known_as in
+      moved [] (done local (waited local words (doing rest) comes.told)) (record { me = r.me; node = r.node; bound = r.bound; requests = closes_all words r.requests; todo = rest; waits = None; lines = r.lines ++ wait_lines r.node r.requests words })
+      (ap (posts_of p local.bound) todo)
+      (step_passes told local words (doing rest) comes.told todo known)
+      (record {
+        me = stands.me;
+        bound = stands.bound;
+        requests = are_all_closed words r.requests local.requests stands.requests;
+        todo = refl;
+        lines = (λ i. stands.lines i ++ comes.lines_are i) ∙ sym (map-append line_text local.lines (waited_lines local.requests words comes.told));
+      })
+      (run.shows.nodes p r at) (λ q other. refl) refl
+
+  -- it asks
+  asks_next : (question : Question) (rest : List Statement) (text : List ℕ) → r.waits ≡ None → r.todo ≡ Ask question ∷ rest → text ≡ line_text (answered_on r.me r.bound question r.node)
+      → IsUnderWay script ranks size (set processes p (record { me = r.me; node = r.node; bound = r.bound; requests = r.requests; todo = rest; waits = None; lines = r.lines ++ text ∷ [] })) frames
+  asks_next question rest text w t u =
+      let c = coupled script ranks size processes frames run in
+      let local = run.system.ranks p in
+      let stands = run.shows.stands p r at l in
+      let todo = stands_so None (Ask question ∷ rest) w t in
+      let line : answered_on r.me r.bound question r.node ≡ answered_rank local.me local.bound question = (λ i. answered_on (stands.me i) (λ word. stands.bound word i) question (run.shows.nodes p r at i)) ∙ answer_same script ranks run.system c p l question in
+      moved [] (done local (told_at_once local question (doing rest))) (record { me = r.me; node = r.node; bound = r.bound; requests = r.requests; todo = rest; waits = None; lines = r.lines ++ text ∷ [] })
+      (ap (posts_of p local.bound) todo)
+      (step_asks told local question (doing rest) todo)
+      (record { me = stands.me; bound = stands.bound; requests = stands.requests; todo = refl; lines = lines_so text (answered_rank local.me local.bound question) (u ∙ ap line_text line) })
+      (run.shows.nodes p r at) (λ q other. refl) refl
+
+pub moves_hears : (r : RankView) (w : WaitView) (answer : Answer) (text : List ℕ) → r.waits ≡ Some w → node_tells r.node w.name w.call ≡ Some answer → text ≡ outcome_text answer.outcome
+    → Moves r (record { me = r.me; node = r.node; bound = binds w.target (given_name answer.outcome) r.bound; requests = r.requests; todo = r.todo; waits = None; lines = r.lines ++ text ∷ [] })
+moves_hears r w answer text wait e t script ranks size processes frames p l at run = hears script ranks size processes frames p l r at run w answer text wait e t
+
+pub moves_posts : (r : RankView) (posting : Posting) (rest : List Statement) (name : Name) (call : ℕ) → r.waits ≡ None → r.todo ≡ Post posting ∷ rest → started_as posting ≡ None → (tried posting (r.bound (word_of posting)) r.node).answer ≡ Ok (name, call)
+    → Moves r (record { me = r.me; node = (tried posting (r.bound (word_of posting)) r.node).node; bound = r.bound; requests = r.requests; todo = rest; waits = Some (record { name = name; call = call; target = bound_to posting }); lines = r.lines })
+moves_posts r posting rest name call w t b e script ranks size processes frames p l at run = posts_next script ranks size processes frames p l r at run posting rest name call w t b e
+
+pub moves_refused : (r : RankView) (posting : Posting) (rest : List Statement) (refusal : PostError) (text : List ℕ) → r.waits ≡ None → r.todo ≡ Post posting ∷ rest → (tried posting (r.bound (word_of posting)) r.node).answer ≡ Err refusal → text ≡ line_text (Refused refusal)
+    → Moves r (record { me = r.me; node = (tried posting (r.bound (word_of posting)) r.node).node; bound = binds (bound_to posting) None r.bound; requests = r.requests; todo = rest; waits = None; lines = r.lines ++ text ∷ [] })
+moves_refused r posting rest refusal text w t e u script ranks size processes frames p l at run = is_refused script ranks size processes frames p l r at run posting rest refusal text w t e u
+
+pub moves_starts : (r : RankView) (posting : Posting) (rest : List Statement) (word : List ℕ) (name : Name) (call : ℕ) → r.waits ≡ None → r.todo ≡ Post posting ∷ rest → started_as posting ≡ Some word → (tried posting (r.bound (word_of posting)) r.node).answer ≡ Ok (name, call)
+    → Moves r (record { me = r.me; node = (tried posting (r.bound (word_of posting)) r.node).node; bound = r.bound; requests = binds (Some word) (name, call) r.requests; todo = rest; waits = None; lines = r.lines })
+moves_starts r posting rest word name call w t b e script ranks size processes frames p l at run = starts_next script ranks size processes frames p l r at run posting rest word name call w t b e
+
+pub moves_passes : (r : RankView) (words : List (List ℕ)) (rest : List Statement) → r.waits ≡ None → r.todo ≡ Wait words ∷ rest → are_held r.node r.requests words ≡ true
+    → Moves r (record { me = r.me; node = r.node; bound = r.bound; requests = closes_all words r.requests; todo = rest; waits = None; lines = r.lines ++ wait_lines r.node r.requests words })
+moves_passes r words rest w t h script ranks size processes frames p l at run = passes_next script ranks size processes frames p l r at run words rest w t h
+
+pub moves_asks : (r : RankView) (question : Question) (rest : List Statement) (text : List ℕ) → r.waits ≡ None → r.todo ≡ Ask question ∷ rest → text ≡ line_text (answered_on r.me r.bound question r.node)
+    → Moves r (record { me = r.me; node = r.node; bound = r.bound; requests = r.requests; todo = rest; waits = None; lines = r.lines ++ text ∷ [] })
+moves_asks r question rest text w t u script ranks size processes frames p l at run = asks_next script ranks size processes frames p l r at run question rest text w t u
+
+pub moves_keeps : (old new : RankView) → Keeps old new → Moves old new
+moves_keeps old new k script ranks size processes frames p l at run = k script ranks size processes frames p at run
+
+pub moves_itself : (r : RankView) → Moves r r
+moves_itself r = moves_keeps r r (keeps_itself r)
+
+pub lines_push : {A : Type 0} (text_of : A → List ℕ) (lines new : List A) (line : A) (text : List ℕ) → new ≡ lines ++ line ∷ [] → text_of line ≡ text → map text_of new ≡ map text_of lines ++ text ∷ []
+lines_push text_of lines new line text e f = ap (map text_of) e ∙ map-append text_of lines (line ∷ []) ∙ ap (λ x. map text_of lines ++ x ∷ []) f
+
+-- THE CODE'S LISTS
+
+map_set : {A B : Type 0} (f : A → B) (xs : List A) (p : ℕ) (x : A) → map f (set xs p x) ≡ set (map f xs) p (f x)
+map_set f [] p x = refl
+map_set f (y ∷ xs) zero x = refl
+map_set f (y ∷ xs) (suc p) x = ap (λ zs. f y ∷ zs) (map_set f xs p x)
+
+pub written : {A B : Type 0} (f : A → B) (xs : List A) (p : ℕ) (x : A) → set (map f xs) p (f x) ≡ map f (set xs p x)
+written f xs p x = sym (map_set f xs p x)
+
+-- a write that leaves what f reads
+pub kept : {A B : Type 0} (f : A → B) (xs : List A) (p : ℕ) (d x : A) → p < length xs → f x ≡ f (get_or xs p d) → map f (set xs p x) ≡ map f xs
+kept f [] p d x l e = refl
+kept f (y ∷ ys) zero d x l e = ap (λ z. z ∷ map f ys) e
+kept f (y ∷ ys) (suc p) d x l e = ap (λ zs. f y ∷ zs) (kept f ys p d x (omega (arith, l)) e)
+
+pub element : {A B : Type 0} (f : A → B) (xs : List A) (p : ℕ) (d : A) → p < length xs → slice_get (map f xs) p ≡ Some (f (get_or xs p d))
+element f xs p d l = slice_get-map f xs p ∙ ap (option_map f) (slice_get-get_or xs p d l)
+
+-- a vector whose elements were lent has what was written there
+pub written_back : {A : Type 0} (len : ℕ) (old new : List A) → length new ≡ length old → length old ≡ len → take len (new ++ drop (length new) old) ≡ new
+written_back zero [] [] e f = refl
+written_back len [] (x ∷ xs) e f = absurd (omega (arith, e))
+written_back len (y ∷ ys) [] e f = absurd (omega (arith, e))
+written_back zero (y ∷ ys) (x ∷ xs) e f = absurd (omega (arith, f))
+written_back (suc len) [] [] e f = refl
+written_back (suc len) (y ∷ ys) (x ∷ xs) e f = ap (λ zs. x ∷ zs) (written_back len ys xs (omega (arith, e)) (omega (arith, f)))
+
+-- THE START
+
+pub one_more : (script : List (List Statement)) (ranks count : ℕ) (processes : List RankView) (r : RankView) → Starts script ranks count processes → StartsAt script ranks count r → Starts script ranks (count + 1) (processes ++ r ∷ [])
+one_more script ranks count processes r s at = record {
+  count_is = length-append processes (r ∷ []) ∙ omega (arith, s.count_is);
+  each = λ p x e. slice_get-push_cases (λ y j. StartsAt script ranks j y) processes r p x e (s.each p x) (λ same last. subst (StartsAt script ranks p) same (subst (λ j. StartsAt script ranks j r) (sym (last ∙ s.count_is)) at));
+}
+
+pub run_starts : (script : List (List Statement)) (ranks size : ℕ) (processes : List RankView) → Starts script ranks size processes → IsUnderWay script ranks size processes []
+run_starts script ranks size processes s = record {
+  system = start_system script ranks size;
+  led = record { doings = []; may = tt; reached = refl };
+  shows = record {
+    count = s.count_is;
+    nodes = λ p r e. (s.each p r e).node;
+    stands = λ p r e l.
+        let h = s.each p r e in
+        record { me = h.me; bound = h.bound l; requests = h.requests; todo = ap (λ o. doing (unwrap_or o [])) (h.todo l) ∙ ap (λ w. todo_of w r.todo) (sym h.waits); lines = h.lines };
+    sent = λ k d l. absurd (omega (arith, l));
+  };
+}

@@ -1,0 +1,3 @@
+pub mod Systems
+pub mod Running
+pub mod Runs

@@ -1,0 +1,35 @@
+-- What a run of a script comes to.
+use Rattle.std.specs.Prelude.{◌≡◌, ℕ, ◌≤◌, ◌+◌, List, [], length, slice_get, Some}
+use Rattle.mpx_node.specs.Nodes.{NodeView}
+use Rattle.mpx_script.specs.ScriptView.{ScriptView}
+use Rattle.mpx_script.specs.Evaluation.{State, IsEvaluation, IsPrefixOf, bound_at_start, statements_of}
+use Rattle.mpx_script.specs.Told.{CarriesOut}
+use Rattle.mpx_script.specs.Reports.{lines_in, waiting_in}
+use Rattle.mpx_world.specs.Soundness.{Sound}
+use Rattle.mpx_system.specs.Systems.{System, Leads, node_tells, start_system, TellsResults}
+
+-- doings lead from the start to a sound world with these nodes, in which each process has posted what its rank has and a
+-- relay nothing; the ranks carry out their statements by what their nodes hold and have these lines, each outcome among
+-- them beside the rank's own post; and these ranks have something left
+pub record IsRun (script : ScriptView) (relays : ℕ) (nodes : List NodeView) (transcripts : List (List (List ℕ))) (waiting : List ℕ) : Type 0 where
+  pub system : System
+  pub led : Leads script.ranks (start_system script.statements script.ranks (script.ranks + relays)) system
+  pub sound : Sound system.world
+  pub processes : length nodes ≡ script.ranks + relays
+  pub nodes_are : (p : ℕ) (node : NodeView) → slice_get nodes p ≡ Some node → node ≡ (system.world.each p).node
+  pub posts : (p : ℕ) → (system.world.each p).made ≡ (system.ranks p).made
+  pub relays_post_nothing : (p : ℕ) → script.ranks ≤ p → (system.world.each p).made ≡ []
+  pub carries_out : (p : ℕ) → CarriesOut (node_tells (system.world.each p).node) (bound_at_start script.ranks) (statements_of script.statements p) (system.ranks p)
+  pub told : (p : ℕ) → TellsResults (system.world.each p).node (system.ranks p)
+  pub ranks_are : length transcripts ≡ script.ranks
+  pub lines : (p : ℕ) (lines : List (List ℕ)) → slice_get transcripts p ≡ Some lines → lines ≡ lines_in system.ranks p
+  pub waiting_are : waiting ≡ waiting_in system.ranks script.ranks
+
+-- each rank's lines begin those that it has there
+abbrev pub Begin : List (List (List ℕ)) → State → Type 0
+Begin transcripts s = (p : ℕ) (lines : List (List ℕ)) → slice_get transcripts p ≡ Some lines → IsPrefixOf lines (lines_in s p)
+
+-- those of a rank that doesn't wait are all of them
+abbrev pub AreWhole : List (List (List ℕ)) → List ℕ → State → Type 0
+AreWhole transcripts waiting s = (p : ℕ) (lines : List (List ℕ)) → slice_get transcripts p ≡ Some lines
+    → ((place : ℕ) → (slice_get waiting place ≡ Some p) → ⊥) → lines ≡ lines_in s p

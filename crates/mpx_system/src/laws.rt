@@ -1,0 +1,27 @@
+//! What is so after every list of doings, as a call that a contract can name: it does nothing.
+ghost use Rattle.std.specs.Prelude.{◌≡◌, ◌≤◌, List, ℕ, []};
+ghost use Rattle.mpx_script.specs.declared.statement.Statement.{Statement};
+ghost use Rattle.mpx_script.specs.Evaluation.{State, IsEvaluation, IsPrefixOf, bound_at_start, statements_of};
+ghost use Rattle.mpx_script.specs.Told.{CarriesOut};
+ghost use Rattle.mpx_world.specs.Soundness.{Sound};
+ghost use Rattle.mpx_system.specs.Systems.{Doing, MayDoAll, TellsResults, does_all, node_tells, start_system};
+
+/// Whatever is sent, lost, repeated or reordered, and in whatever order ranks move: each rank's lines begin its lines in
+/// the evaluation, those of a rank that has nothing left are all of them, each line that tells an outcome tells that of
+/// the result which the rank's node holds, and what a process posted is what the rank posted: a relay posts nothing.
+pub fn every_run_begins_the_evaluation()
+    ensures lines { (script : List (List Statement)) (ranks size : ℕ) (doings : List Doing) (end : State) → MayDoAll ranks (start_system script ranks size) doings → IsEvaluation script ranks end
+        → (p : ℕ) → IsPrefixOf ((does_all (start_system script ranks size) doings).ranks p).lines (end p).lines }
+    ensures whole { (script : List (List Statement)) (ranks size : ℕ) (doings : List Doing) (end : State) → MayDoAll ranks (start_system script ranks size) doings → IsEvaluation script ranks end
+        → (p : ℕ) → ((does_all (start_system script ranks size) doings).ranks p).todo ≡ [] → (does_all (start_system script ranks size) doings).ranks p ≡ end p }
+    ensures told { (script : List (List Statement)) (ranks size : ℕ) (doings : List Doing) → MayDoAll ranks (start_system script ranks size) doings
+        → (p : ℕ) → TellsResults ((does_all (start_system script ranks size) doings).world.each p).node ((does_all (start_system script ranks size) doings).ranks p) }
+    ensures posts { (script : List (List Statement)) (ranks size : ℕ) (doings : List Doing) → MayDoAll ranks (start_system script ranks size) doings
+        → (p : ℕ) → ((does_all (start_system script ranks size) doings).world.each p).made ≡ ((does_all (start_system script ranks size) doings).ranks p).made }
+    ensures carries_out { (script : List (List Statement)) (ranks size : ℕ) (doings : List Doing) → MayDoAll ranks (start_system script ranks size) doings
+        → (p : ℕ) → CarriesOut (node_tells ((does_all (start_system script ranks size) doings).world.each p).node) (bound_at_start ranks) (statements_of script p) ((does_all (start_system script ranks size) doings).ranks p) }
+    ensures relays { (script : List (List Statement)) (ranks size : ℕ) (doings : List Doing) → MayDoAll ranks (start_system script ranks size) doings
+        → (p : ℕ) → ranks ≤ p → ((does_all (start_system script ranks size) doings).world.each p).made ≡ [] }
+    ensures sound { (script : List (List Statement)) (ranks size : ℕ) (doings : List Doing) → MayDoAll ranks (start_system script ranks size) doings
+        → Sound (does_all (start_system script ranks size) doings).world }
+{}

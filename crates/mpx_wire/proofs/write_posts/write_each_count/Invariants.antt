@@ -1,7 +1,0 @@
-use Rattle.std.proofs.Common.{◌≡◌, ◌++◌, take}
-use Rattle.std.specs.List.{flat_map}
-use Rattle.mpx_format.specs.Posts.{count}
-use Rattle.mpx_wire.proofs.write_posts.write_each_count.Given as goal
-
-abbrev pub invariant-loop-count : goal.invariant-loop-count
-invariant-loop-count l = l.out.items ≡ l.fn.out.items ++ flat_map count.spelling (take l.count-index l.counts)

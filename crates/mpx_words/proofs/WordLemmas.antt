@@ -1,0 +1,19 @@
+-- Options that words give.
+use Rattle.std.proofs.Common.{◌≡◌, ℕ, ◌≤◌, ◌-◌, List, [], ◌∷◌, length, map, drop, take, get_or, Some, refl, sym, ap, ◌∙◌, arith}
+use Rattle.std.specs.Prelude.{option_and_then}
+use Rattle.mpx_job.specs.declared.Options.{Options}
+use Rattle.mpx_words.specs.Words.{options_in, with_option}
+
+take_whole : {A : Type 0} (xs : List A) → take (length xs) xs ≡ xs
+take_whole [] = refl
+take_whole (x ∷ xs) = ap (λ ys. x ∷ ys) (take_whole xs)
+
+-- the first two words are an option
+pub one_option : {A : Type 0} (f : A → List ℕ) (o more : Options) (words : List A) (x y : A) → 2 ≤ length words → x ≡ get_or words 0 x → y ≡ get_or words 1 y → with_option o (f x) (f y) ≡ Some more
+    → options_in more (map f (take (length words - 2) (drop 2 words))) ≡ options_in o (map f words)
+one_option f o more [] x y l e g h = absurd (omega (arith, l))
+one_option f o more (u ∷ []) x y l e g h = absurd (omega (arith, l))
+one_option f o more (u ∷ v ∷ rest) x y l e g h =
+    let count : length (u ∷ v ∷ rest) - 2 ≡ length rest = omega arith in
+    ap (λ n. options_in more (map f (take n rest))) count ∙ ap (λ ws. options_in more (map f ws)) (take_whole rest)
+    ∙ ap (option_and_then (λ p. options_in p (map f rest))) (sym h ∙ λ i. with_option o (f (e i)) (f (g i)))

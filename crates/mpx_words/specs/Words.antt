@@ -1,0 +1,51 @@
+-- The words of a call, and the job that they ask for.
+use Rattle.std.specs.Prelude.{ℕ, ℤ, pos, negsuc, ◌&&◌, List, [], ◌∷◌, Option, Some, None, codes, bytes_eq, nat_le, option_and_then, if◌then◌else◌}
+use Rattle.std.specs.Option.{option_map}
+use Rattle.mpx_num.specs.Text.{number_of}
+use Rattle.mpx_job.specs.declared.Command.{Command}
+use Rattle.mpx_job.specs.declared.Command.TheVariants.{Run, Eval, Check}
+use Rattle.mpx_job.specs.declared.Job.{Job}
+use Rattle.mpx_job.specs.declared.Options.{Options}
+use Rattle.clap.specs.Walk.{Text}
+
+-- a number from the least to the most
+abbrev pub in_range : (least most : ℕ) → ℤ → Option ℕ
+in_range least most (pos n) = if nat_le least n && nat_le n most then Some n else None
+in_range least most (negsuc n) = None
+
+abbrev pub number_within : (least most : ℕ) → Text → Option ℕ
+number_within least most word = option_and_then (in_range least most) (number_of word)
+
+-- without options
+abbrev pub usual : Options
+usual = record { seed = 1; loss = 0; relays = 0; turns = 100000 }
+
+-- these options with one more
+abbrev pub with_option : Options → (option value : Text) → Option Options
+with_option o option value =
+    if bytes_eq option (codes "--seed") then option_map (λ n. record o { seed = n }) (number_within 0 18446744073709551615 value) else
+    if bytes_eq option (codes "--loss") then option_map (λ n. record o { loss = n }) (number_within 0 100 value) else
+    if bytes_eq option (codes "--relays") then option_map (λ n. record o { relays = n }) (number_within 0 63 value) else
+    if bytes_eq option (codes "--turns") then option_map (λ n. record o { turns = n }) (number_within 1 10000000 value) else
+    None
+
+-- these options with those that the words give, each followed by its number
+abbrev pub options_in : Options → List Text → Option Options
+options_in o [] = Some o
+options_in o (option ∷ []) = None
+options_in o (option ∷ value ∷ rest) = option_and_then (λ p. options_in p rest) (with_option o option value)
+
+-- a command that has no options
+abbrev pub alone : Command → List Text → Option Job
+alone command [] = Some (record { command = command; options = usual })
+alone command (word ∷ rest) = None
+
+-- what the words ask for: the program's name, `run` and options, or `eval` or `check` alone
+abbrev pub job_in : List Text → Option Job
+job_in [] = None
+job_in (name ∷ []) = None
+job_in (name ∷ command ∷ rest) =
+    if bytes_eq command (codes "run") then option_map (λ o. record { command = Run; options = o }) (options_in usual rest) else
+    if bytes_eq command (codes "eval") then alone Eval rest else
+    if bytes_eq command (codes "check") then alone Check rest else
+    None

@@ -1,0 +1,243 @@
+//! The words of a call, and the job that they ask for.
+ghost use Rattle.std.specs.Prelude.{◌≡◌, ◌≤◌, ◌⊎◌, IfErr, IfOk, IfSome, None, Some, length, map, string_bytes};
+ghost use Rattle.clap.specs.Words.{kind_of};
+ghost use Rattle.mpx_words.specs.Words.{alone, job_in, number_within, options_in, usual, with_option};
+
+use clap::error::ErrorKind;
+use clap::{Arg, Error};
+use mpx_job::{Command, Job, Options};
+use mpx_num::parse_number;
+use std::alloc::{AllocError, Global};
+
+/// The job that `words` ask for, of which the first is the program's own name and the second the command's: `run` with
+/// `--seed N` (any u64, else 1), `--loss P` (0 to 100, else 0), `--relays N` (0 to 63, else 0) and `--turns N` (1 to
+/// 10,000,000, else 100,000), or `eval` or `check` alone. Of an option that is given twice the last counts. A refusal has clap's
+/// text, or is want of memory.
+pub fn job_of(alloc: Global, words: &[String]) -> Result<Job, Error>
+    ensures ok { IfOk result (λ job. job_in (map string_bytes words.now) ≡ Some job) }
+    ensures err { IfErr result (λ e. job_in (map string_bytes words.now) ≡ None) }
+{
+    match job_in(words) {
+        Some(job) => Ok(job),
+        None => Err(no_job(alloc, words)),
+    }
+}
+
+fn job_in(words: &[String]) -> Option<Job>
+    ensures { result ≡ job_in (map string_bytes words.now) }
+{
+    match words {
+        [] => None,
+        [_] => None,
+        [_, command, rest @ ..] => {
+            let command = command.as_bytes();
+            if command == b"run".as_slice() {
+                let options = options_in(usual(), rest)?;
+                return Some(Job {
+                    command: Command::Run,
+                    options,
+                });
+            }
+            if command == b"eval".as_slice() {
+                return alone(Command::Eval, rest);
+            }
+            if command == b"check".as_slice() {
+                return alone(Command::Check, rest);
+            }
+            None
+        }
+    }
+}
+
+// A command that has no options.
+fn alone(command: Command, words: &[String]) -> Option<Job>
+    ensures { result ≡ alone command (map string_bytes words.now) }
+{
+    if !words.is_empty() {
+        return None;
+    }
+    Some(Job {
+        command,
+        options: usual(),
+    })
+}
+
+// Without options.
+fn usual() -> Options
+    ensures { result ≡ usual }
+{
+    Options {
+        seed: 1,
+        loss: 0,
+        relays: 0,
+        turns: 100_000,
+    }
+}
+
+// These options with those that the words give, each followed by its number.
+fn options_in(options: Options, words: &[String]) -> Option<Options>
+    ensures { result ≡ options_in options (map string_bytes words.now) }
+{
+    match words {
+        [] => Some(options),
+        [_] => None,
+        [option, value, rest @ ..] => {
+            let more = with_option(options, option.as_bytes(), value.as_bytes())?;
+            options_in(more, rest)
+        }
+    }
+}
+
+// These options with one more.
+fn with_option(options: Options, option: &[u8], value: &[u8]) -> Option<Options>
+    ensures { result ≡ with_option options option.now value.now }
+{
+    if option == b"--seed".as_slice() {
+        let seed = number_within(0, u64::MAX, value)?;
+        return Some(Options { seed, ..options });
+    }
+    if option == b"--loss".as_slice() {
+        let loss = number_within(0, 100, value)? as u8;
+        return Some(Options { loss, ..options });
+    }
+    if option == b"--relays".as_slice() {
+        let relays = number_within(0, 63, value)? as u8;
+        return Some(Options { relays, ..options });
+    }
+    if option == b"--turns".as_slice() {
+        let turns = number_within(1, 10_000_000, value)? as u32;
+        return Some(Options { turns, ..options });
+    }
+    None
+}
+
+// The number that a word is, from the least to the most.
+fn number_within(least: u64, most: u64, word: &[u8]) -> Option<u64>
+    ensures number { result ≡ number_within least most word.now }
+    ensures most { IfSome result (λ n. n ≤ most) }
+{
+    let number = parse_number(word)?;
+    if i128::from(least) <= number && number <= i128::from(most) {
+        Some(number as u64)
+    } else {
+        None
+    }
+}
+
+// The program's commands, as clap explains them.
+fn program<'a>(alloc: Global) -> Result<clap::Command<'a>, AllocError> {
+    let run = clap::Command::new(alloc, "run")
+        .about(
+            "Run the script on the standard input (gossipmpi run < SCRIPT) and print what each rank gets",
+        )
+        .arg(
+            Arg::new(alloc, "seed").long("seed").help(
+                "What loss, order and receivers are drawn from, 0 to 18446744073709551615 [default: 1]",
+            ),
+        )?
+        .arg(
+            Arg::new(alloc, "loss").long("loss").help(
+                "How many frames of a hundred are lost, 0 to 100 [default: 0]",
+            ),
+        )?
+        .arg(
+            Arg::new(alloc, "relays").long("relays").help(
+                "How many processes only carry frames, 0 to 63 [default: 0]",
+            ),
+        )?
+        .arg(
+            Arg::new(alloc, "turns").long("turns").help(
+                "How many turns are made at most, 1 to 10000000 [default: 100000]",
+            ),
+        )?;
+    let eval = clap::Command::new(alloc, "eval").about(
+        "Evaluate the script on the standard input (gossipmpi eval < SCRIPT), and print what each rank gets",
+    );
+    let check = clap::Command::new(alloc, "check").about(
+        "Read the script on the standard input (gossipmpi check < SCRIPT), and print how many ranks and statements it has",
+    );
+    clap::Command::new(alloc, "gossipmpi")
+        .bin_name("gossipmpi")?
+        .about("Run, evaluate or check a text script of MPI collectives for up to 64 ranks")
+        .subcommand_required(true)
+        .arg_required_else_help(true)
+        .subcommand(run)?
+        .subcommand(eval)?
+        .subcommand(check)
+}
+
+// Why the words ask for no job: clap's refusal, or what the first option that gives none should be followed by.
+fn no_job(alloc: Global, words: &[String]) -> Error {
+    let Ok(program) = program(alloc) else {
+        return Error::from(AllocError);
+    };
+    match program.try_get_matches_from(words) {
+        Ok(_) => { refusal(alloc, ErrorKind::InvalidValue, complaint_of(words)) }
+        Err(refusal) => refusal,
+    }
+}
+
+// What is wrong with words that clap takes.
+fn complaint_of(words: &[String]) -> &'static str {
+    match words {
+        [_, command, options @ ..] if command.as_bytes() == b"run".as_slice() => complaint(options),
+        _ => "this command stands alone",
+    }
+}
+
+// What is wrong with the first of these options that gives none.
+fn complaint(words: &[String]) -> &'static str {
+    for pair in words.chunks(2) {
+        match pair {
+            [option, value] => {
+                if with_option(usual(), option.as_bytes(), value.as_bytes()).is_none() {
+                    return limits_of(option.as_bytes());
+                }
+            }
+            _ => return NO_PAIR,
+        }
+    }
+    NO_PAIR
+}
+
+const NO_PAIR: &str = "each option is followed by its number, as a word of its own";
+
+// What an option is followed by.
+fn limits_of(option: &[u8]) -> &'static str {
+    if option == b"--seed".as_slice() {
+        return "--seed is followed by a number from 0 to 18446744073709551615";
+    }
+    if option == b"--loss".as_slice() {
+        return "--loss is followed by a number from 0 to 100";
+    }
+    if option == b"--relays".as_slice() {
+        return "--relays is followed by a number from 0 to 63";
+    }
+    if option == b"--turns".as_slice() {
+        return "--turns is followed by a number from 1 to 10000000";
+    }
+    NO_PAIR
+}
+
+/// The refusal of words of which one is no text.
+pub fn not_text(alloc: Global) -> Error
+    ensures { (kind_of result ≡ ErrorKind.InvalidValue) ⊎ (kind_of result ≡ ErrorKind.OutOfMemory) }
+{
+    refusal(
+        alloc,
+        ErrorKind::InvalidValue,
+        "an argument is not valid UTF-8",
+    )
+}
+
+fn refusal(alloc: Global, kind: ErrorKind, message: &str) -> Error
+    ensures { (kind_of result ≡ kind) ⊎ (kind_of result ≡ ErrorKind.OutOfMemory) }
+{
+    match program(alloc) {
+        Ok(mut commands) => match commands.error(kind, message) {
+            Ok(error) => error,
+            Err(error) => Error::from(error),
+        },
+        Err(error) => Error::from(error),
+    }
+}
