@@ -71,15 +71,22 @@ impl RankStatements {
     pub fn push(&mut self, alloc: Global, statement: Statement) -> Result<(), OutOfMemory>
         ensures { OnOk result (self.new ≡ self.old ++ statement ∷ []) }
     {
-        prepare(
+        match prepare(
             alloc,
             &mut self.statements,
             &mut self.communicators,
             &mut self.requests,
             &statement,
-        )?;
-        self.statements.push_reserved(statement);
-        Ok(())
+        ) {
+            Ok(()) => {
+                self.statements.push_reserved(statement);
+                Ok(())
+            }
+            Err(e) => {
+                drop(statement);
+                Err(e)
+            }
+        }
     }
 }
 

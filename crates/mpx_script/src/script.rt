@@ -124,15 +124,18 @@ fn give(
     ensures added { OnOk result (Adds assignment.from assignment.to assignment.statement
         statements.old.items statements.new.items) }
 {
-    let last = assignment.to - 1;
-    give_copies(
-        alloc,
-        statements,
-        assignment.from,
-        assignment.to,
-        &assignment.statement,
-    )?;
-    push_to(alloc, statements, last, assignment.statement)
+    let Assignment {
+        from,
+        to,
+        statement,
+    } = assignment;
+    match give_copies(alloc, statements, from, to, &statement) {
+        Ok(()) => push_to(alloc, statements, to - 1, statement),
+        Err(e) => {
+            drop(statement);
+            Err(e)
+        }
+    }
 }
 
 /// Adds copies of a statement for these ranks without their last.

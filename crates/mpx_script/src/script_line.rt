@@ -305,7 +305,10 @@ fn assigned(
     ensures refused { IfErr result (IsRefusal (names_refusal (map names_bound script.now.statements) (range_with_len from (to - from)) statement)) }
 {
     match names_fault(script, from, to, &statement) {
-        Some(what) => Err(LineError::Fault(what)),
+        Some(what) => {
+            drop(statement);
+            Err(LineError::Fault(what))
+        }
         None => Ok(Assignment {
             from,
             to,

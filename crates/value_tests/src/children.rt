@@ -1,17 +1,18 @@
 //! The communicators that calls make, and what they give each rank: values from MPI 4.1 section 7.4.2, and that the calls
 //! succeed.
-use crate::making::{lent, posts_of};
+use self::Given::{Comm, Null};
+use self::Posted::{Create, Just, Split};
+use crate::making::{List, NO, add_post, made_by, outcomes};
 use mpx_group::{Group, Proc};
-use mpx_name::Name;
-use mpx_post::{At, Birth, Kind, Post, Row};
-use mpx_value::{Fault, FaultKind, Outcome, children, outcome};
-use std::alloc::Global;
+use mpx_name::{Name, NameError};
+use mpx_post::{At, Birth, Kind, Post, PostError};
+use mpx_value::{FaultKind, Outcome};
+use std::alloc::{AllocError, Global};
 use std::process::Abort;
 use std::test::Fail;
-use test_drafts::{Drafted, birth, just};
+use test_drafts::{Drafted, birth, check, just};
 
 // What a call gives one rank: a communicator by its colour, its size and the rank in it.
-#[derive(Clone, Copy)]
 enum Given {
     Comm(u16, u8, u8),
     Null,
@@ -21,42 +22,80 @@ enum Given {
 // The colour of a communicator, and its members.
 type Child = (u16, &'static [u8]);
 
-const NO: &[i128] = &[];
+// What a member posts: a split by its colour and key, a creation by its group, or a call of no more.
+enum Posted {
+    Split(Option<i128>, i128),
+    Create(List),
+    Just(Kind),
+}
+
+// The name that a call is on.
+enum Place {
+    World,
+    // The gathering below the world of the members.
+    Gathering,
+    // A name so many steps below the world, with posts that are made on the world.
+    Below(usize),
+}
+
+// The members of a communicator and its name, what they post to a call, the communicators that it makes, and what it gives them.
+struct Case {
+    members: &'static [u8],
+    place: Place,
+    posted: &'static [Posted],
+    made: &'static [Child],
+    given: &'static [Given],
+}
 
 // The number of the call.
 const CALL: u32 = 3;
 
-fn split(colour: Option<i128>, key: i128) -> Drafted<'static> {
-    Drafted {
-        colour,
-        key,
-        ..just(Kind::Split)
+fn drafted(posted: &Posted) -> Drafted<'static> {
+    match posted {
+        Split(colour, key) => Drafted {
+            colour: *colour,
+            key: *key,
+            ..just(Kind::Split)
+        },
+        Create(group) => Drafted {
+            group: *group,
+            ..just(Kind::Create)
+        },
+        Just(kind) => just(*kind),
     }
 }
 
-fn create(group: &'static [i128]) -> Drafted<'static> {
-    Drafted {
-        group,
-        ..just(Kind::Create)
-    }
-}
-
-// The communicator of these processes.
-fn born(alloc: Global, members: &[u8]) -> Result<Birth, Fail> {
+fn processes_of(alloc: Global, members: &[u8]) -> Result<Vec<Proc>, AllocError> {
     let mut processes = Vec::new(alloc);
     for &member in members {
         if member < 64 {
             processes.push(Proc::new(member))?;
         }
     }
-    match birth(alloc, processes) {
+    Ok(processes)
+}
+
+// The communicator of these processes.
+fn born(alloc: Global, members: &[u8]) -> Result<Birth, Fail> {
+    match birth(alloc, processes_of(alloc, members)?) {
         None => Err("no birth")?,
         Some(birth) => Ok(birth),
     }
 }
 
+// Whether the name is that of the call's child of this colour below a name.
+fn is_child(alloc: Global, new: &Name, name: &Name, colour: u16) -> Result<bool, NameError> {
+    let child = name.child(alloc, CALL, u32::from(colour))?;
+    Ok(*new == child)
+}
+
 // Whether the outcome is this, of the call on this name.
-fn is_given(alloc: Global, name: &Name, outcome: &Outcome, given: Given) -> Result<bool, Fail> {
+fn is_given(
+    alloc: Global,
+    name: &Name,
+    outcome: &Outcome,
+    given: &Given,
+) -> Result<bool, NameError> {
     match (outcome, given) {
         (
             Outcome::NewComm {
@@ -64,23 +103,31 @@ fn is_given(alloc: Global, name: &Name, outcome: &Outcome, given: Given) -> Resu
                 size,
                 rank,
             },
-            Given::Comm(colour, n, r),
+            Comm(colour, n, r),
         ) => {
-            let wanted = name.child(alloc, CALL, u32::from(colour))?;
-            Ok(*new == wanted && *size == n && *rank == r)
+            let same = *size == *n && *rank == *r;
+            Ok(same && is_child(alloc, new, name, *colour)?)
         }
-        (Outcome::Null, Given::Null) => Ok(true),
-        (Outcome::Fault(fault), Given::Fault(what, rank)) => Ok(*fault == Fault { what, rank }),
+        (Outcome::Null, Null) => Ok(true),
+        (Outcome::Fault(fault), Given::Fault(what, rank)) => {
+            Ok(fault.what == *what && fault.rank == *rank)
+        }
         _ => Ok(false),
     }
 }
 
-fn are(processes: &[Proc], numbers: &[u8]) -> bool {
-    processes.len() == numbers.len()
-        && processes
-            .iter()
-            .zip(numbers)
-            .all(|(process, number)| process.number() == *number)
+// Whether the ranks are given this, by the call on this name.
+fn are_given(
+    alloc: Global,
+    name: &Name,
+    outcomes: &[Outcome],
+    given: &[Given],
+) -> Result<bool, NameError> {
+    let mut same = outcomes.len() == given.len();
+    for (outcome, wanted) in outcomes.iter().zip(given) {
+        same &= is_given(alloc, name, outcome, wanted)?;
+    }
+    Ok(same)
 }
 
 // Whether the call on this name with these posts gives the ranks this.
@@ -91,18 +138,16 @@ fn give(
     posts: &[Post],
     given: &[Given],
 ) -> Result<bool, Fail> {
-    let size = birth.members().len();
-    let lent = lent(alloc, posts)?;
-    if lent.len() != size || given.len() != size {
-        return Ok(false);
-    }
-    let row = Row::new(lent);
-    let mut same = true;
-    for (rank, wanted) in given.iter().enumerate() {
-        let outcome = outcome(alloc, birth, &row, name, CALL, rank as u8)?;
-        same &= is_given(alloc, name, &outcome, *wanted)?;
-    }
-    Ok(same)
+    let outcomes = outcomes(alloc, birth, posts, name, CALL)?;
+    Ok(are_given(alloc, name, &outcomes, given)?)
+}
+
+fn are(processes: &[Proc], numbers: &[u8]) -> bool {
+    processes.len() == numbers.len()
+        && processes
+            .iter()
+            .zip(numbers)
+            .all(|(process, number)| process.number() == *number)
 }
 
 // Whether these are the communicators of the call on this name.
@@ -111,10 +156,10 @@ fn are_made(
     name: &Name,
     made: &[(Name, Birth)],
     wanted: &[Child],
-) -> Result<bool, Fail> {
+) -> Result<bool, NameError> {
     let mut same = made.len() == wanted.len();
     for ((new, birth), (colour, members)) in made.iter().zip(wanted) {
-        same &= *new == name.child(alloc, CALL, u32::from(*colour))?;
+        same &= is_child(alloc, new, name, *colour)?;
         same &= are(birth.members(), members);
     }
     Ok(same)
@@ -128,148 +173,27 @@ fn make(
     posts: &[Post],
     wanted: &[Child],
 ) -> Result<bool, Fail> {
-    let lent = lent(alloc, posts)?;
-    if lent.len() != birth.members().len() {
-        return Ok(false);
-    }
-    let made = children(alloc, birth, &Row::new(lent), name, CALL)?;
-    are_made(alloc, name, &made, wanted)
+    let made = made_by(alloc, birth, posts, name, CALL)?;
+    Ok(are_made(alloc, name, &made, wanted)?)
 }
 
-// What members post, the communicators that their call makes, and what it gives them.
-#[derive(Clone, Copy)]
-struct Case<'a> {
-    posted: &'a [Drafted<'a>],
-    made: &'a [Child],
-    given: &'a [Given],
-}
-
-// That it is so of the call on this name, with posts that are made there.
-fn check_on(
-    rt: &impl Abort,
-    alloc: Global,
-    birth: &Birth,
-    name: &Name,
-    at: &At,
-    case: Case<'_>,
-) -> Result<(), Fail> {
-    let posts = posts_of(alloc, birth, at, case.posted)?;
-    let makes = make(alloc, birth, name, &posts, case.made)?;
-    let gives = give(alloc, birth, name, &posts, case.given)?;
-    assert!(rt; makes);
-    assert!(rt; gives);
-    Ok(())
-}
-
-// That it is so of the call on the world's name in the communicator of these processes.
-fn check_case(rt: &impl Abort, alloc: Global, members: &[u8], case: Case<'_>) -> Result<(), Fail> {
-    let world = Name::world(alloc);
-    let at = At::on(&world, CALL);
-    let birth = born(alloc, members)?;
-    check_on(rt, alloc, &birth, &world, &at, case)
-}
-
-#[test]
-fn splits_by_colour(rt: HostRuntime) -> Result<(), Fail> {
-    use Given::{Comm, Null};
-    let alloc = rt.alloc();
-    let by_colour = Case {
-        posted: &[
-            split(Some(1), 5),
-            split(Some(0), 0),
-            split(Some(1), 5),
-            split(None, 0),
-        ],
-        made: &[(0, &[1]), (1, &[0, 2])],
-        given: &[Comm(1, 2, 0), Comm(0, 1, 0), Comm(1, 2, 1), Null],
-    };
-    check_case(&rt, alloc, &[0, 1, 2, 3], by_colour)?;
-    let nobody = Case {
-        posted: &[split(None, 1), split(None, 0)],
-        made: &[],
-        given: &[Null, Null],
-    };
-    check_case(&rt, alloc, &[0, 1], nobody)
-}
-
-#[test]
-fn splits_by_key(rt: HostRuntime) -> Result<(), Fail> {
-    use Given::Comm;
-    let alloc = rt.alloc();
-    let reversed = Case {
-        posted: &[split(Some(7), 1), split(Some(7), 0), split(Some(7), -5)],
-        made: &[(7, &[9, 5, 4])],
-        given: &[Comm(7, 3, 2), Comm(7, 3, 1), Comm(7, 3, 0)],
-    };
-    check_case(&rt, alloc, &[4, 5, 9], reversed)?;
-    let equal = Case {
-        posted: &[split(Some(7), 1), split(Some(7), 1), split(Some(7), 1)],
-        made: &[(7, &[4, 5, 9])],
-        given: &[Comm(7, 3, 0), Comm(7, 3, 1), Comm(7, 3, 2)],
-    };
-    check_case(&rt, alloc, &[4, 5, 9], equal)
-}
-
-#[test]
-fn creates_of_groups(rt: HostRuntime) -> Result<(), Fail> {
-    use Given::{Comm, Fault, Null};
-    let alloc = rt.alloc();
-    let one = Case {
-        posted: &[create(&[2, 0]), create(NO), create(&[2, 0])],
-        made: &[(2, &[2, 0])],
-        given: &[Comm(2, 2, 1), Null, Comm(2, 2, 0)],
-    };
-    check_case(&rt, alloc, &[0, 1, 2], one)?;
-    let two = Case {
-        posted: &[create(&[2, 0]), create(&[1]), create(&[2, 0])],
-        made: &[(1, &[1]), (2, &[2, 0])],
-        given: &[Comm(2, 2, 1), Comm(1, 1, 0), Comm(2, 2, 0)],
-    };
-    check_case(&rt, alloc, &[0, 1, 2], two)?;
-    let differ = Case {
-        posted: &[create(&[0, 1]), create(&[1, 0]), create(NO)],
-        made: &[],
-        given: &[Fault(FaultKind::Groups, 0); 3],
-    };
-    check_case(&rt, alloc, &[0, 1, 2], differ)
-}
-
-// The gathering below the world with tag 9 of the members.
-fn gathering(alloc: Global, birth: &Birth) -> Result<Name, Fail> {
-    let members = Group::new(Vec::from_slice(alloc, birth.members())?)?;
+// The gathering below the world with tag 9 of these.
+fn gathering_of(alloc: Global, members: &Group) -> Result<Name, Fail> {
     if members.size() == 0 {
         Err("no members")?;
     }
-    Ok(Name::world(alloc).gathering(alloc, 9, &members)?)
+    Ok(Name::world(alloc).gathering(alloc, 9, members)?)
 }
 
-// That it is so of the call on that gathering.
-fn check_gathering(
-    rt: &impl Abort,
-    alloc: Global,
-    birth: &Birth,
-    case: Case<'_>,
-) -> Result<(), Fail> {
-    let name = gathering(alloc, birth)?;
-    check_on(rt, alloc, birth, &name, &At::on(&name, CALL), case)
+fn group_of(alloc: Global, birth: &Birth) -> Result<Group, Fail> {
+    let members = Vec::from_slice(alloc, birth.members())?;
+    Ok(Group::new(members)?)
 }
 
-#[test]
-fn communicators_of_all(rt: HostRuntime) -> Result<(), Fail> {
-    use Given::Comm;
-    let alloc = rt.alloc();
-    let dup = Case {
-        posted: &[just(Kind::Dup); 2],
-        made: &[(0, &[4, 2])],
-        given: &[Comm(0, 2, 0), Comm(0, 2, 1)],
-    };
-    let create_group = Case {
-        posted: &[just(Kind::CreateGroup); 2],
-        ..dup
-    };
-    check_case(&rt, alloc, &[4, 2], dup)?;
-    let birth = born(alloc, &[4, 2])?;
-    check_gathering(&rt, alloc, &birth, create_group)
+// That gathering of the members.
+fn gathering(alloc: Global, birth: &Birth) -> Result<Name, Fail> {
+    let members = group_of(alloc, birth)?;
+    gathering_of(alloc, &members)
 }
 
 // The name so many steps below the world.
@@ -281,29 +205,208 @@ fn below(alloc: Global, steps: usize) -> Result<Name, Fail> {
     Ok(name)
 }
 
-// That it is so of the call on the name so many steps below the world, with posts of two ranks that are made on the world.
-fn check_below(rt: &impl Abort, alloc: Global, steps: usize, case: Case<'_>) -> Result<(), Fail> {
-    let at = At::on(&Name::world(alloc), CALL);
-    let birth = born(alloc, &[0, 1])?;
-    let name = below(alloc, steps)?;
-    check_on(rt, alloc, &birth, &name, &at, case)
+// The name that the call of these members is on.
+fn name_of(alloc: Global, birth: &Birth, place: &Place) -> Result<Name, Fail> {
+    match place {
+        Place::World => Ok(Name::world(alloc)),
+        Place::Gathering => gathering(alloc, birth),
+        Place::Below(steps) => below(alloc, *steps),
+    }
 }
+
+// Where the posts to the call on this name are made.
+fn at_of(alloc: Global, name: &Name, place: &Place) -> At {
+    match place {
+        Place::Below(_) => At::on(&Name::world(alloc), CALL),
+        _ => At::on(name, CALL),
+    }
+}
+
+fn posts_of_case(
+    alloc: Global,
+    birth: &Birth,
+    name: &Name,
+    case: &Case,
+) -> Result<Vec<Post>, PostError> {
+    let at = at_of(alloc, name, &case.place);
+    let mut posts = Vec::new(alloc);
+    for (me, posted) in birth.members().iter().zip(case.posted) {
+        add_post(&mut posts, check(alloc, birth, *me, &at, &drafted(posted)))?;
+    }
+    Ok(posts)
+}
+
+// That it is so of the call on this name.
+fn check_named(
+    rt: &impl Abort,
+    alloc: Global,
+    birth: &Birth,
+    name: &Name,
+    case: &Case,
+) -> Result<(), Fail> {
+    let posts = posts_of_case(alloc, birth, name, case)?;
+    check_posts(rt, alloc, birth, name, &posts, case)
+}
+
+fn check_posts(
+    rt: &impl Abort,
+    alloc: Global,
+    birth: &Birth,
+    name: &Name,
+    posts: &[Post],
+    case: &Case,
+) -> Result<(), Fail> {
+    assert!(rt; make(alloc, birth, name, posts, case.made)?);
+    assert!(rt; give(alloc, birth, name, posts, case.given)?);
+    Ok(())
+}
+
+fn check_on(rt: &impl Abort, alloc: Global, birth: &Birth, case: &Case) -> Result<(), Fail> {
+    let name = name_of(alloc, birth, &case.place)?;
+    check_named(rt, alloc, birth, &name, case)
+}
+
+fn check_case(rt: &impl Abort, alloc: Global, case: &Case) -> Result<(), Fail> {
+    let birth = born(alloc, case.members)?;
+    check_on(rt, alloc, &birth, case)
+}
+
+fn check_cases(rt: &impl Abort, alloc: Global, cases: &[Case]) -> Result<(), Fail> {
+    for case in cases {
+        check_case(rt, alloc, case)?;
+    }
+    Ok(())
+}
+
+const COLOURS: &[Case] = &[
+    Case {
+        members: &[0, 1, 2, 3],
+        place: Place::World,
+        posted: &[
+            Split(Some(1), 5),
+            Split(Some(0), 0),
+            Split(Some(1), 5),
+            Split(None, 0),
+        ],
+        made: &[(0, &[1]), (1, &[0, 2])],
+        given: &[Comm(1, 2, 0), Comm(0, 1, 0), Comm(1, 2, 1), Null],
+    },
+    Case {
+        members: &[0, 1],
+        place: Place::World,
+        posted: &[Split(None, 1), Split(None, 0)],
+        made: &[],
+        given: &[Null, Null],
+    },
+];
+
+#[test]
+fn splits_by_colour(rt: HostRuntime) -> Result<(), Fail> {
+    check_cases(&rt, rt.alloc(), COLOURS)
+}
+
+const KEYS: &[Case] = &[
+    // The order of the keys reverses that of the ranks.
+    Case {
+        members: &[4, 5, 9],
+        place: Place::World,
+        posted: &[Split(Some(7), 1), Split(Some(7), 0), Split(Some(7), -5)],
+        made: &[(7, &[9, 5, 4])],
+        given: &[Comm(7, 3, 2), Comm(7, 3, 1), Comm(7, 3, 0)],
+    },
+    // The keys are equal.
+    Case {
+        members: &[4, 5, 9],
+        place: Place::World,
+        posted: &[Split(Some(7), 1), Split(Some(7), 1), Split(Some(7), 1)],
+        made: &[(7, &[4, 5, 9])],
+        given: &[Comm(7, 3, 0), Comm(7, 3, 1), Comm(7, 3, 2)],
+    },
+];
+
+#[test]
+fn splits_by_key(rt: HostRuntime) -> Result<(), Fail> {
+    check_cases(&rt, rt.alloc(), KEYS)
+}
+
+const GROUPS: &[Case] = &[
+    Case {
+        members: &[0, 1, 2],
+        place: Place::World,
+        posted: &[Create(&[2, 0]), Create(NO), Create(&[2, 0])],
+        made: &[(2, &[2, 0])],
+        given: &[Comm(2, 2, 1), Null, Comm(2, 2, 0)],
+    },
+    Case {
+        members: &[0, 1, 2],
+        place: Place::World,
+        posted: &[Create(&[2, 0]), Create(&[1]), Create(&[2, 0])],
+        made: &[(1, &[1]), (2, &[2, 0])],
+        given: &[Comm(2, 2, 1), Comm(1, 1, 0), Comm(2, 2, 0)],
+    },
+    // The groups differ.
+    Case {
+        members: &[0, 1, 2],
+        place: Place::World,
+        posted: &[Create(&[0, 1]), Create(&[1, 0]), Create(NO)],
+        made: &[],
+        given: &[
+            Given::Fault(FaultKind::Groups, 0),
+            Given::Fault(FaultKind::Groups, 0),
+            Given::Fault(FaultKind::Groups, 0),
+        ],
+    },
+];
+
+#[test]
+fn creates_of_groups(rt: HostRuntime) -> Result<(), Fail> {
+    check_cases(&rt, rt.alloc(), GROUPS)
+}
+
+const OF_ALL: &[Case] = &[
+    Case {
+        members: &[4, 2],
+        place: Place::World,
+        posted: &[Just(Kind::Dup), Just(Kind::Dup)],
+        made: &[(0, &[4, 2])],
+        given: &[Comm(0, 2, 0), Comm(0, 2, 1)],
+    },
+    Case {
+        members: &[4, 2],
+        place: Place::Gathering,
+        posted: &[Just(Kind::CreateGroup), Just(Kind::CreateGroup)],
+        made: &[(0, &[4, 2])],
+        given: &[Comm(0, 2, 0), Comm(0, 2, 1)],
+    },
+];
+
+#[test]
+fn communicators_of_all(rt: HostRuntime) -> Result<(), Fail> {
+    check_cases(&rt, rt.alloc(), OF_ALL)
+}
+
+const EIGHTH_AND_NINTH: &[Case] = &[
+    Case {
+        members: &[0, 1],
+        place: Place::Below(7),
+        posted: &[Just(Kind::Dup), Just(Kind::Dup)],
+        made: &[(0, &[0, 1])],
+        given: &[Comm(0, 2, 0), Comm(0, 2, 1)],
+    },
+    Case {
+        members: &[0, 1],
+        place: Place::Below(8),
+        posted: &[Just(Kind::Dup), Just(Kind::Dup)],
+        made: &[],
+        given: &[
+            Given::Fault(FaultKind::Amount, 0),
+            Given::Fault(FaultKind::Amount, 0),
+        ],
+    },
+];
 
 // Below a name of seven steps there is an eighth, and no ninth.
 #[test]
 fn no_ninth_step(rt: HostRuntime) -> Result<(), Fail> {
-    use Given::{Comm, Fault};
-    let alloc = rt.alloc();
-    let eighth = Case {
-        posted: &[just(Kind::Dup); 2],
-        made: &[(0, &[0, 1])],
-        given: &[Comm(0, 2, 0), Comm(0, 2, 1)],
-    };
-    check_below(&rt, alloc, 7, eighth)?;
-    let ninth = Case {
-        made: &[],
-        given: &[Fault(FaultKind::Amount, 0); 2],
-        ..eighth
-    };
-    check_below(&rt, alloc, 8, ninth)
+    check_cases(&rt, rt.alloc(), EIGHTH_AND_NINTH)
 }

@@ -1,283 +1,260 @@
 //! What calls give each rank: values from outside, and that the calls succeed.
-use crate::making::{lent, posts_of};
+use crate::making::Given::{Absent, Items, Nothing};
+use crate::making::{Given, List, NO, add_post, are_given, outcomes};
 use mpx_name::Name;
 use mpx_num::{Op, Ty};
-use mpx_post::{At, Birth, Kind, Post, Row};
-use mpx_value::{Outcome, outcome};
+use mpx_post::{At, Birth, Kind, Post, PostError};
 use std::alloc::Global;
 use std::process::Abort;
 use std::test::Fail;
-use test_drafts::{Drafted, just};
+use test_drafts::{Drafted, check, just};
 
-// What a call gives one rank.
-#[derive(Clone, Copy)]
-enum Given {
-    Nothing,
-    Absent,
-    Items(&'static [i128]),
+// What a rank posts: how many items it sends to each, how many it gets of each, and its items.
+type Posted = (List, List, List);
+
+// A call with rank 1 as its root, what each rank posts to it, and what it gives each.
+struct Case {
+    kind: Kind,
+    op: Op,
+    ty: Ty,
+    posted: &'static [Posted],
+    given: &'static [Given],
 }
 
-const NO: &[i128] = &[];
-
-// A call of the kind, whose root is rank 1.
-fn posted(kind: Kind, rcounts: &'static [i128], items: &'static [i128]) -> Drafted<'static> {
+fn drafted(case: &Case, posted: Posted) -> Drafted<'static> {
+    let (scounts, rcounts, items) = posted;
     Drafted {
         root: 1,
+        op: case.op,
+        ty: case.ty,
+        scounts,
         rcounts,
         items,
-        ..just(kind)
+        ..just(case.kind)
     }
 }
 
-fn is_given(outcome: &Outcome, given: Given) -> bool {
-    match (outcome, given) {
-        (Outcome::Nothing, Given::Nothing) => true,
-        (Outcome::Absent, Given::Absent) => true,
-        (Outcome::Items(items), Given::Items(numbers)) => items.nums() == numbers,
-        _ => false,
-    }
-}
-
-// Whether the world's call 0 with these posts gives the ranks this.
-fn give_by_posts(
-    alloc: Global,
-    birth: &Birth,
-    posts: &[Post],
-    given: &[Given],
-) -> Result<bool, Fail> {
-    let size = birth.members().len();
-    let lent = lent(alloc, posts)?;
-    if lent.len() != size || given.len() != size {
-        return Ok(false);
-    }
-    let row = Row::new(lent);
-    let world = Name::world(alloc);
-    let mut same = true;
-    for (rank, wanted) in given.iter().enumerate() {
-        let outcome = outcome(alloc, birth, &row, &world, 0, rank as u8)?;
-        same &= is_given(&outcome, *wanted);
-    }
-    Ok(same)
-}
-
-fn give_by_birth(
-    alloc: Global,
-    birth: &Birth,
-    calls: &[Drafted<'_>],
-    given: &[Given],
-) -> Result<bool, Fail> {
+fn posts_of_case(alloc: Global, birth: &Birth, case: &Case) -> Result<Vec<Post>, PostError> {
     let at = At::on(&Name::world(alloc), 0);
-    let posts = posts_of(alloc, birth, &at, calls)?;
-    give_by_posts(alloc, birth, &posts, given)
+    let mut posts = Vec::new(alloc);
+    for (me, posted) in birth.members().iter().zip(case.posted) {
+        add_post(
+            &mut posts,
+            check(alloc, birth, *me, &at, &drafted(case, *posted)),
+        )?;
+    }
+    Ok(posts)
 }
 
-// That the calls of all ranks give them this.
-fn check_given(
-    rt: &impl Abort,
-    alloc: Global,
-    calls: &[Drafted<'_>],
-    given: &[Given],
-) -> Result<(), Fail> {
-    if calls.is_empty() || calls.len() > 64 {
+fn is_so_on(alloc: Global, birth: &Birth, case: &Case) -> Result<bool, Fail> {
+    let posts = posts_of_case(alloc, birth, case)?;
+    let outcomes = outcomes(alloc, birth, &posts, &Name::world(alloc), 0)?;
+    Ok(are_given(&outcomes, case.given))
+}
+
+// Whether the call of a world of as many ranks gives them this.
+fn is_so(alloc: Global, case: &Case) -> Result<bool, Fail> {
+    let size = case.posted.len();
+    if size == 0 || 64 < size {
         Err("no world")?;
     }
-    let birth = Birth::world(alloc, calls.len() as u8)?;
-    let same = give_by_birth(alloc, &birth, calls, given)?;
-    assert!(rt; same);
+    let birth = Birth::world(alloc, size as u8)?;
+    is_so_on(alloc, &birth, case)
+}
+
+fn check_cases(rt: &impl Abort, alloc: Global, cases: &[Case]) -> Result<(), Fail> {
+    for (i, case) in cases.iter().enumerate() {
+        assert!(rt; is_so(alloc, case)?, "case {i}");
+    }
     Ok(())
 }
+
+const REDUCTIONS: &[Case] = &[
+    Case {
+        kind: Kind::Reduce,
+        op: Op::Sum,
+        ty: Ty::I32,
+        posted: &[(NO, NO, &[5, 1]), (NO, NO, &[6, 2]), (NO, NO, &[7, 3])],
+        given: &[Nothing, Items(&[18, 6]), Nothing],
+    },
+    Case {
+        kind: Kind::Allreduce,
+        op: Op::Sum,
+        ty: Ty::I32,
+        posted: &[(NO, NO, &[9]), (NO, NO, &[9]), (NO, NO, &[9])],
+        given: &[Items(&[27]), Items(&[27]), Items(&[27])],
+    },
+];
 
 #[test]
 fn reductions(rt: HostRuntime) -> Result<(), Fail> {
-    use Given::{Items, Nothing};
-    let alloc = rt.alloc();
-
-    let reduce = [
-        posted(Kind::Reduce, NO, &[5, 1]),
-        posted(Kind::Reduce, NO, &[6, 2]),
-        posted(Kind::Reduce, NO, &[7, 3]),
-    ];
-    check_given(&rt, alloc, &reduce, &[Nothing, Items(&[18, 6]), Nothing])?;
-
-    let allreduce = [Kind::Allreduce; 3].map(|kind| posted(kind, NO, &[9]));
-    check_given(
-        &rt,
-        alloc,
-        &allreduce,
-        &[Items(&[27]), Items(&[27]), Items(&[27])],
-    )?;
-    Ok(())
+    check_cases(&rt, rt.alloc(), REDUCTIONS)
 }
+
+const SCANS: &[Case] = &[
+    Case {
+        kind: Kind::Scan,
+        op: Op::Sum,
+        ty: Ty::I32,
+        posted: &[(NO, NO, &[5]), (NO, NO, &[6]), (NO, NO, &[7])],
+        given: &[Items(&[5]), Items(&[11]), Items(&[18])],
+    },
+    Case {
+        kind: Kind::Exscan,
+        op: Op::Sum,
+        ty: Ty::I32,
+        posted: &[(NO, NO, &[5]), (NO, NO, &[6]), (NO, NO, &[7])],
+        given: &[Absent, Items(&[5]), Items(&[11])],
+    },
+];
 
 #[test]
 fn scans(rt: HostRuntime) -> Result<(), Fail> {
-    use Given::{Absent, Items};
-    let alloc = rt.alloc();
-
-    let scan = [
-        posted(Kind::Scan, NO, &[5]),
-        posted(Kind::Scan, NO, &[6]),
-        posted(Kind::Scan, NO, &[7]),
-    ];
-    check_given(
-        &rt,
-        alloc,
-        &scan,
-        &[Items(&[5]), Items(&[11]), Items(&[18])],
-    )?;
-
-    let exscan = [
-        posted(Kind::Exscan, NO, &[5]),
-        posted(Kind::Exscan, NO, &[6]),
-        posted(Kind::Exscan, NO, &[7]),
-    ];
-    check_given(&rt, alloc, &exscan, &[Absent, Items(&[5]), Items(&[11])])?;
-    Ok(())
+    check_cases(&rt, rt.alloc(), SCANS)
 }
+
+const SCATTERED_REDUCTIONS: &[Case] = &[
+    Case {
+        kind: Kind::ReduceScatter,
+        op: Op::Sum,
+        ty: Ty::I32,
+        posted: &[(NO, &[1, 2], &[1, 2, 3]), (NO, &[1, 2], &[10, 20, 30])],
+        given: &[Items(&[11]), Items(&[22, 33])],
+    },
+    Case {
+        kind: Kind::ReduceScatterBlock,
+        op: Op::Sum,
+        ty: Ty::I32,
+        posted: &[(NO, &[2], &[1, 2, 3, 4]), (NO, &[2], &[10, 20, 30, 40])],
+        given: &[Items(&[11, 22]), Items(&[33, 44])],
+    },
+];
 
 #[test]
 fn scattered_reductions(rt: HostRuntime) -> Result<(), Fail> {
-    use Given::Items;
-    let alloc = rt.alloc();
-
-    let unequal = [
-        posted(Kind::ReduceScatter, &[1, 2], &[1, 2, 3]),
-        posted(Kind::ReduceScatter, &[1, 2], &[10, 20, 30]),
-    ];
-    check_given(&rt, alloc, &unequal, &[Items(&[11]), Items(&[22, 33])])?;
-
-    let equal = [
-        posted(Kind::ReduceScatterBlock, &[2], &[1, 2, 3, 4]),
-        posted(Kind::ReduceScatterBlock, &[2], &[10, 20, 30, 40]),
-    ];
-    check_given(&rt, alloc, &equal, &[Items(&[11, 22]), Items(&[33, 44])])?;
-    Ok(())
+    check_cases(&rt, rt.alloc(), SCATTERED_REDUCTIONS)
 }
+
+const PAIRS_AND_TRUTH_VALUES: &[Case] = &[
+    Case {
+        kind: Kind::Allreduce,
+        op: Op::Maxloc,
+        ty: Ty::TwoInt,
+        posted: &[(NO, NO, &[7, 2]), (NO, NO, &[9, 5]), (NO, NO, &[9, 3])],
+        given: &[Items(&[9, 3]), Items(&[9, 3]), Items(&[9, 3])],
+    },
+    Case {
+        kind: Kind::Allreduce,
+        op: Op::Land,
+        ty: Ty::I32,
+        posted: &[(NO, NO, &[5])],
+        given: &[Items(&[5])],
+    },
+];
 
 #[test]
 fn pairs_and_truth_values(rt: HostRuntime) -> Result<(), Fail> {
-    use Given::Items;
-    let alloc = rt.alloc();
-
-    let maxloc = [&[7, 2], &[9, 5], &[9, 3]].map(|pair| Drafted {
-        op: Op::Maxloc,
-        ty: Ty::TwoInt,
-        ..posted(Kind::Allreduce, NO, pair)
-    });
-    check_given(
-        &rt,
-        alloc,
-        &maxloc,
-        &[Items(&[9, 3]), Items(&[9, 3]), Items(&[9, 3])],
-    )?;
-
-    let alone = [Drafted {
-        op: Op::Land,
-        ..posted(Kind::Allreduce, NO, &[5])
-    }];
-    check_given(&rt, alloc, &alone, &[Items(&[5])])?;
-    Ok(())
+    check_cases(&rt, rt.alloc(), PAIRS_AND_TRUTH_VALUES)
 }
+
+const GATHERS: &[Case] = &[
+    Case {
+        kind: Kind::Gather,
+        op: Op::Sum,
+        ty: Ty::I32,
+        posted: &[(NO, NO, &[1]), (NO, NO, &[2]), (NO, NO, &[3])],
+        given: &[Nothing, Items(&[1, 2, 3]), Nothing],
+    },
+    Case {
+        kind: Kind::Gatherv,
+        op: Op::Sum,
+        ty: Ty::I32,
+        posted: &[(NO, NO, &[1, 2]), (NO, &[2, 0, 1], NO), (NO, NO, &[3])],
+        given: &[Nothing, Items(&[1, 2, 3]), Nothing],
+    },
+    Case {
+        kind: Kind::Allgatherv,
+        op: Op::Sum,
+        ty: Ty::I32,
+        posted: &[(NO, &[1, 2], &[4]), (NO, &[1, 2], &[5, 6])],
+        given: &[Items(&[4, 5, 6]), Items(&[4, 5, 6])],
+    },
+];
 
 #[test]
 fn gathers(rt: HostRuntime) -> Result<(), Fail> {
-    use Given::{Items, Nothing};
-    let alloc = rt.alloc();
-
-    let gather = [
-        posted(Kind::Gather, NO, &[1]),
-        posted(Kind::Gather, NO, &[2]),
-        posted(Kind::Gather, NO, &[3]),
-    ];
-    check_given(&rt, alloc, &gather, &[Nothing, Items(&[1, 2, 3]), Nothing])?;
-
-    let unequal = [
-        posted(Kind::Gatherv, NO, &[1, 2]),
-        posted(Kind::Gatherv, &[2, 0, 1], &[]),
-        posted(Kind::Gatherv, NO, &[3]),
-    ];
-    check_given(&rt, alloc, &unequal, &[Nothing, Items(&[1, 2, 3]), Nothing])?;
-
-    let all = [
-        posted(Kind::Allgatherv, &[1, 2], &[4]),
-        posted(Kind::Allgatherv, &[1, 2], &[5, 6]),
-    ];
-    check_given(&rt, alloc, &all, &[Items(&[4, 5, 6]), Items(&[4, 5, 6])])?;
-    Ok(())
+    check_cases(&rt, rt.alloc(), GATHERS)
 }
+
+const SCATTERS: &[Case] = &[
+    Case {
+        kind: Kind::Scatter,
+        op: Op::Sum,
+        ty: Ty::I32,
+        posted: &[(NO, &[2], NO), (NO, &[2], &[1, 2, 3, 4])],
+        given: &[Items(&[1, 2]), Items(&[3, 4])],
+    },
+    Case {
+        kind: Kind::Scatterv,
+        op: Op::Sum,
+        ty: Ty::I32,
+        posted: &[
+            (NO, &[1], NO),
+            (&[1, 0, 2], &[0], &[4, 5, 6]),
+            (NO, &[2], NO),
+        ],
+        given: &[Items(&[4]), Items(NO), Items(&[5, 6])],
+    },
+];
 
 #[test]
 fn scatters(rt: HostRuntime) -> Result<(), Fail> {
-    use Given::Items;
-    let alloc = rt.alloc();
-
-    let scatter = [
-        posted(Kind::Scatter, &[2], NO),
-        posted(Kind::Scatter, &[2], &[1, 2, 3, 4]),
-    ];
-    check_given(&rt, alloc, &scatter, &[Items(&[1, 2]), Items(&[3, 4])])?;
-
-    let unequal = [
-        posted(Kind::Scatterv, &[1], NO),
-        Drafted {
-            scounts: &[1, 0, 2],
-            ..posted(Kind::Scatterv, &[0], &[4, 5, 6])
-        },
-        posted(Kind::Scatterv, &[2], NO),
-    ];
-    check_given(
-        &rt,
-        alloc,
-        &unequal,
-        &[Items(&[4]), Items(&[]), Items(&[5, 6])],
-    )?;
-    Ok(())
+    check_cases(&rt, rt.alloc(), SCATTERS)
 }
+
+const EXCHANGES_OF_ALL: &[Case] = &[
+    Case {
+        kind: Kind::Alltoall,
+        op: Op::Sum,
+        ty: Ty::I32,
+        posted: &[(NO, &[1], &[1, 2]), (NO, &[1], &[3, 4])],
+        given: &[Items(&[1, 3]), Items(&[2, 4])],
+    },
+    Case {
+        kind: Kind::Alltoallv,
+        op: Op::Sum,
+        ty: Ty::TwoInt,
+        posted: &[
+            (&[2, 1], &[2, 0], &[1, 2, 3, 4, 5, 6]),
+            (&[0, 1], &[1, 1], &[7, 8]),
+        ],
+        given: &[Items(&[1, 2, 3, 4]), Items(&[5, 6, 7, 8])],
+    },
+];
 
 #[test]
 fn exchanges_of_all(rt: HostRuntime) -> Result<(), Fail> {
-    use Given::Items;
-    let alloc = rt.alloc();
-
-    let equal = [
-        posted(Kind::Alltoall, &[1], &[1, 2]),
-        posted(Kind::Alltoall, &[1], &[3, 4]),
-    ];
-    check_given(&rt, alloc, &equal, &[Items(&[1, 3]), Items(&[2, 4])])?;
-
-    let unequal = [
-        Drafted {
-            ty: Ty::TwoInt,
-            scounts: &[2, 1],
-            ..posted(Kind::Alltoallv, &[2, 0], &[1, 2, 3, 4, 5, 6])
-        },
-        Drafted {
-            ty: Ty::TwoInt,
-            scounts: &[0, 1],
-            ..posted(Kind::Alltoallv, &[1, 1], &[7, 8])
-        },
-    ];
-    check_given(
-        &rt,
-        alloc,
-        &unequal,
-        &[Items(&[1, 2, 3, 4]), Items(&[5, 6, 7, 8])],
-    )?;
-    Ok(())
+    check_cases(&rt, rt.alloc(), EXCHANGES_OF_ALL)
 }
+
+const BROADCASTS_AND_BARRIERS: &[Case] = &[
+    Case {
+        kind: Kind::Bcast,
+        op: Op::Sum,
+        ty: Ty::I32,
+        posted: &[(NO, &[2], NO), (NO, &[2], &[8, 9])],
+        given: &[Items(&[8, 9]), Items(&[8, 9])],
+    },
+    Case {
+        kind: Kind::Barrier,
+        op: Op::Sum,
+        ty: Ty::I32,
+        posted: &[(NO, NO, NO), (NO, NO, NO)],
+        given: &[Nothing, Nothing],
+    },
+];
 
 #[test]
 fn broadcasts_and_barriers(rt: HostRuntime) -> Result<(), Fail> {
-    use Given::{Items, Nothing};
-    let alloc = rt.alloc();
-
-    let bcast = [
-        posted(Kind::Bcast, &[2], NO),
-        posted(Kind::Bcast, &[2], &[8, 9]),
-    ];
-    check_given(&rt, alloc, &bcast, &[Items(&[8, 9]), Items(&[8, 9])])?;
-
-    let barrier = [Kind::Barrier; 2].map(|kind| posted(kind, NO, NO));
-    check_given(&rt, alloc, &barrier, &[Nothing, Nothing])?;
-    Ok(())
+    check_cases(&rt, rt.alloc(), BROADCASTS_AND_BARRIERS)
 }

@@ -1,15 +1,13 @@
 //! Verdicts of rows, with values from MPI 4.1.
-use crate::making::{lent, posts_of};
-use mpx_match::{Fault, FaultKind, Verdict, verdict};
+use crate::making::{List, NO, posts_of, verdict_of_posts};
+use mpx_match::{Fault, FaultKind, Verdict};
 use mpx_name::Name;
 use mpx_num::{Op, Ty};
-use mpx_post::{At, Birth, Call, Kind, Mode, Post, Reduction, Row};
+use mpx_post::{At, Birth, Call, Kind, Mode, Reduction};
 use std::alloc::Global;
 use std::process::Abort;
 use std::test::Fail;
 use test_drafts::{Drafted, just};
-
-const NO: &[i128] = &[];
 
 const SEVENS: &[i128] = &[7, 7, 7, 7, 7, 7];
 
@@ -43,14 +41,6 @@ fn bcast(root: i128) -> Drafted<'static> {
     }
 }
 
-fn verdict_of_posts(alloc: Global, birth: &Birth, posts: &[Post]) -> Result<Verdict, Fail> {
-    let row = lent(alloc, posts)?;
-    if row.is_empty() || row.len() > 64 {
-        Err("no row")?;
-    }
-    Ok(verdict(birth, &Row::new(row)))
-}
-
 fn verdict_of(alloc: Global, birth: &Birth, calls: &[Drafted<'_>]) -> Result<Verdict, Fail> {
     let at = At::on(&Name::world(alloc), 0);
     let posts = posts_of(alloc, birth, &at, calls)?;
@@ -74,8 +64,8 @@ fn check_rows(
     table: &[(&[Drafted<'_>], Verdict)],
 ) -> Result<(), Fail> {
     for (i, row) in table.iter().enumerate() {
-        let (calls, wanted) = row;
-        assert!(rt; verdict_of_three(alloc, calls)? == *wanted, "row {i}");
+        let told = verdict_of_three(alloc, row.0)?;
+        assert!(rt; told == row.1, "row {i}");
     }
     Ok(())
 }
@@ -111,9 +101,15 @@ fn posts_agree_with_that_of_rank_0(rt: HostRuntime) -> Result<(), Fail> {
 }
 
 // Each rank's counts, and each rank's number of items, of three.
-type Counts = [&'static [i128]; 3];
+type Counts = [List; 3];
 
 type Items = [usize; 3];
+
+// The amounts of a call in a world of three: each rank's counts of what it sends and of what it gets, and its number of items;
+// and the rank whose amounts differ, if not all are fine.
+type Amounts = (Kind, Counts, Counts, Items, Option<u8>);
+
+const NONE: Counts = [NO; 3];
 
 // The call of a rank of three.
 fn ranked(
@@ -131,189 +127,184 @@ fn ranked(
 }
 
 // The verdict on amounts in a world of three with rank 1 as its root.
-fn told(
-    alloc: Global,
-    kind: Kind,
-    scounts: Counts,
-    rcounts: Counts,
-    items: Items,
-) -> Result<Verdict, Fail> {
+fn told(alloc: Global, row: &Amounts) -> Result<Verdict, Fail> {
+    let (kind, scounts, rcounts, items, _) = row;
     let calls = [
-        ranked(kind, scounts[0], rcounts[0], items[0]),
-        ranked(kind, scounts[1], rcounts[1], items[1]),
-        ranked(kind, scounts[2], rcounts[2], items[2]),
+        ranked(*kind, scounts[0], rcounts[0], items[0]),
+        ranked(*kind, scounts[1], rcounts[1], items[1]),
+        ranked(*kind, scounts[2], rcounts[2], items[2]),
     ];
     verdict_of_three(alloc, &calls)
 }
 
 // That the amounts are fine, or those of this rank differ.
-fn check_amounts(
-    rt: &impl Abort,
-    alloc: Global,
-    table: &[(Kind, Counts, Counts, Items, Option<u8>)],
-) -> Result<(), Fail> {
+fn check_amounts(rt: &impl Abort, alloc: Global, table: &[Amounts]) -> Result<(), Fail> {
     for (i, row) in table.iter().enumerate() {
-        let (kind, scounts, rcounts, items, rank) = *row;
-        let wanted = match rank {
+        let wanted = match row.4 {
             None => Verdict::Fine,
             Some(rank) => fault(FaultKind::Amount, rank),
         };
-        let told = told(alloc, kind, scounts, rcounts, items)?;
+        let kind = row.0;
+        let told = told(alloc, row)?;
         assert!(rt; told == wanted, "{kind:?} {i}");
     }
     Ok(())
 }
 
+const AS_MANY_ITEMS: &[Amounts] = &[
+    (Kind::Barrier, NONE, NONE, [0, 0, 0], None),
+    (Kind::Gather, NONE, NONE, [2, 1, 1], Some(0)),
+    (Kind::Gather, NONE, NONE, [1, 1, 2], Some(2)),
+    (Kind::Allgather, NONE, NONE, [1, 1, 1], None),
+    (Kind::Allgather, NONE, NONE, [1, 1, 0], Some(2)),
+    (Kind::Reduce, NONE, NONE, [1, 0, 0], Some(1)),
+    (Kind::Allreduce, NONE, NONE, [1, 0, 1], Some(1)),
+    (Kind::Scan, NONE, NONE, [1, 1, 2], Some(2)),
+    (Kind::Exscan, NONE, NONE, [1, 2, 2], Some(1)),
+];
+
 #[test]
 fn as_many_items(rt: HostRuntime) -> Result<(), Fail> {
-    for (kind, items, rank) in [
-        (Kind::Barrier, [0, 0, 0], None),
-        (Kind::Gather, [2, 1, 1], Some(0)),
-        (Kind::Gather, [1, 1, 2], Some(2)),
-        (Kind::Allgather, [1, 1, 1], None),
-        (Kind::Allgather, [1, 1, 0], Some(2)),
-        (Kind::Reduce, [1, 0, 0], Some(1)),
-        (Kind::Allreduce, [1, 0, 1], Some(1)),
-        (Kind::Scan, [1, 1, 2], Some(2)),
-        (Kind::Exscan, [1, 2, 2], Some(1)),
-    ] {
-        check_amounts(&rt, rt.alloc(), &[(kind, [NO; 3], [NO; 3], items, rank)])?;
-    }
-    Ok(())
+    check_amounts(&rt, rt.alloc(), AS_MANY_ITEMS)
 }
+
+const AS_MANY_AS_ONE_COUNT: &[Amounts] = &[
+    (Kind::Bcast, NONE, [&[2], &[2], &[2]], [0, 2, 0], None),
+    (Kind::Bcast, NONE, [&[2], &[2], &[3]], [0, 2, 0], Some(2)),
+    (Kind::Bcast, NONE, [&[3], &[2], &[2]], [0, 2, 0], Some(1)),
+    (Kind::Scatter, NONE, [&[1], &[1], &[1]], [0, 3, 0], None),
+    (Kind::Scatter, NONE, [&[2], &[1], &[1]], [0, 3, 0], Some(0)),
+    (Kind::Scatter, NONE, [&[1], &[1], &[2]], [0, 3, 0], Some(2)),
+    (Kind::Alltoall, NONE, [&[1], &[0], &[1]], [3, 0, 3], Some(1)),
+    (
+        Kind::ReduceScatterBlock,
+        NONE,
+        [&[1], &[1], &[2]],
+        [3, 3, 6],
+        Some(2),
+    ),
+];
 
 #[test]
 fn as_many_as_one_count(rt: HostRuntime) -> Result<(), Fail> {
-    let no = [NO; 3];
-    check_amounts(
-        &rt,
-        rt.alloc(),
-        &[
-            (Kind::Bcast, no, [&[2], &[2], &[2]], [0, 2, 0], None),
-            (Kind::Bcast, no, [&[2], &[2], &[3]], [0, 2, 0], Some(2)),
-            (Kind::Bcast, no, [&[3], &[2], &[2]], [0, 2, 0], Some(1)),
-            (Kind::Scatter, no, [&[1], &[1], &[1]], [0, 3, 0], None),
-            (Kind::Scatter, no, [&[2], &[1], &[1]], [0, 3, 0], Some(0)),
-            (Kind::Scatter, no, [&[1], &[1], &[2]], [0, 3, 0], Some(2)),
-            (Kind::Alltoall, no, [&[1], &[0], &[1]], [3, 0, 3], Some(1)),
-            (
-                Kind::ReduceScatterBlock,
-                no,
-                [&[1], &[1], &[2]],
-                [3, 3, 6],
-                Some(2),
-            ),
-        ],
-    )
+    check_amounts(&rt, rt.alloc(), AS_MANY_AS_ONE_COUNT)
 }
+
+const COUNTED: Counts = [NO, &[1, 2, 0], NO];
+
+const SENT: Items = [0, 3, 0];
+
+const AS_MANY_AS_THE_ROOT_COUNTS: &[Amounts] = &[
+    (Kind::Gatherv, NONE, COUNTED, [1, 2, 0], None),
+    (Kind::Gatherv, NONE, COUNTED, [0, 2, 0], Some(0)),
+    (Kind::Gatherv, NONE, COUNTED, [1, 1, 0], Some(1)),
+    (Kind::Gatherv, NONE, COUNTED, [1, 2, 1], Some(2)),
+    (Kind::Scatterv, COUNTED, [&[1], &[2], &[0]], SENT, None),
+    (Kind::Scatterv, COUNTED, [&[0], &[2], &[0]], SENT, Some(0)),
+    (Kind::Scatterv, COUNTED, [&[1], &[1], &[0]], SENT, Some(1)),
+    (Kind::Scatterv, COUNTED, [&[1], &[2], &[1]], SENT, Some(2)),
+];
 
 #[test]
 fn as_many_as_the_root_counts(rt: HostRuntime) -> Result<(), Fail> {
-    let no = [NO; 3];
-    let counted: Counts = [NO, &[1, 2, 0], NO];
-    let sent = [0, 3, 0];
-    check_amounts(
-        &rt,
-        rt.alloc(),
-        &[
-            (Kind::Gatherv, no, counted, [1, 2, 0], None),
-            (Kind::Gatherv, no, counted, [0, 2, 0], Some(0)),
-            (Kind::Gatherv, no, counted, [1, 1, 0], Some(1)),
-            (Kind::Gatherv, no, counted, [1, 2, 1], Some(2)),
-            (Kind::Scatterv, counted, [&[1], &[2], &[0]], sent, None),
-            (Kind::Scatterv, counted, [&[0], &[2], &[0]], sent, Some(0)),
-            (Kind::Scatterv, counted, [&[1], &[1], &[0]], sent, Some(1)),
-            (Kind::Scatterv, counted, [&[1], &[2], &[1]], sent, Some(2)),
-        ],
-    )
+    check_amounts(&rt, rt.alloc(), AS_MANY_AS_THE_ROOT_COUNTS)
 }
+
+const TWOS: List = &[2, 2, 2];
+
+const AWAITED: Counts = [&[0, 0, 1], &[2, 0, 0], &[0, 0, 0]];
+
+const KEPT: List = &[1, 0, 1];
+
+const AS_MANY_AS_EACH_RANK_COUNTS: &[Amounts] = &[
+    (Kind::Allgatherv, NONE, [TWOS, TWOS, TWOS], [2, 2, 2], None),
+    (
+        Kind::Allgatherv,
+        NONE,
+        [TWOS, TWOS, &[2, 1, 2]],
+        [2, 2, 2],
+        Some(1),
+    ),
+    (
+        Kind::ReduceScatter,
+        NONE,
+        [KEPT, KEPT, KEPT],
+        [2, 2, 2],
+        None,
+    ),
+    (
+        Kind::ReduceScatter,
+        NONE,
+        [KEPT, KEPT, &[1, 1, 0]],
+        [2, 2, 2],
+        Some(2),
+    ),
+    (
+        Kind::Alltoallv,
+        [&[0, 2, 0], &[0, 0, 0], &[1, 0, 0]],
+        AWAITED,
+        [2, 0, 1],
+        None,
+    ),
+    (
+        Kind::Alltoallv,
+        [&[0, 0, 2], &[0, 0, 0], &[1, 0, 0]],
+        AWAITED,
+        [2, 0, 1],
+        Some(0),
+    ),
+    (
+        Kind::Alltoallv,
+        [&[0, 2, 0], &[0, 0, 0], &[0, 1, 0]],
+        AWAITED,
+        [2, 0, 1],
+        Some(2),
+    ),
+];
 
 #[test]
 fn as_many_as_each_rank_counts(rt: HostRuntime) -> Result<(), Fail> {
-    let no = [NO; 3];
-    let twos = &[2, 2, 2];
-    let awaited: Counts = [&[0, 0, 1], &[2, 0, 0], &[0, 0, 0]];
-    let items = [2, 0, 1];
-    check_amounts(
-        &rt,
-        rt.alloc(),
-        &[
-            (Kind::Allgatherv, no, [twos, twos, twos], [2; 3], None),
-            (
-                Kind::Allgatherv,
-                no,
-                [twos, twos, &[2, 1, 2]],
-                [2; 3],
-                Some(1),
-            ),
-            (Kind::ReduceScatter, no, [&[1, 0, 1]; 3], [2; 3], None),
-            (
-                Kind::ReduceScatter,
-                no,
-                [&[1, 0, 1], &[1, 0, 1], &[1, 1, 0]],
-                [2; 3],
-                Some(2),
-            ),
-            (
-                Kind::Alltoallv,
-                [&[0, 2, 0], &[0, 0, 0], &[1, 0, 0]],
-                awaited,
-                items,
-                None,
-            ),
-            (
-                Kind::Alltoallv,
-                [&[0, 0, 2], &[0, 0, 0], &[1, 0, 0]],
-                awaited,
-                items,
-                Some(0),
-            ),
-            (
-                Kind::Alltoallv,
-                [&[0, 2, 0], &[0, 0, 0], &[0, 1, 0]],
-                awaited,
-                items,
-                Some(2),
-            ),
-        ],
-    )
+    check_amounts(&rt, rt.alloc(), AS_MANY_AS_EACH_RANK_COUNTS)
+}
+
+// The verdict of the row of what the first ranks of a world of two post.
+fn verdict_of_two(alloc: Global, calls: &[Drafted<'_>]) -> Result<Verdict, Fail> {
+    let world = Birth::world(alloc, 2)?;
+    verdict_of(alloc, &world, calls)
 }
 
 // Rank 0 keeps two items that it does not await, and rank 1 awaits one that nobody sends.
 #[test]
 fn blocks_that_nobody_awaits(rt: HostRuntime) -> Result<(), Fail> {
-    let alloc = rt.alloc();
     let sends = ranked(Kind::Alltoallv, &[2, 0], &[0, 0], 2);
     let awaits = ranked(Kind::Alltoallv, &[0, 0], &[1, 0], 0);
-    let birth = Birth::world(alloc, 2)?;
-    let told = verdict_of(alloc, &birth, &[sends, awaits])?;
+    let told = verdict_of_two(rt.alloc(), &[sends, awaits])?;
     assert!(rt; told == fault(FaultKind::Amount, 0));
     Ok(())
+}
+
+// That the misfit is told first, at either rank, beside a sum.
+fn check_misfit(rt: &impl Abort, alloc: Global, misfit: Drafted<'static>) -> Result<(), Fail> {
+    let one = sum();
+    check_rows(
+        rt,
+        alloc,
+        &[
+            (&[misfit, one], fault(FaultKind::Amount, 0)),
+            (&[one, misfit], fault(FaultKind::Amount, 1)),
+        ],
+    )
 }
 
 // Posts made for a communicator of three ranks, in a row of two.
 #[test]
 fn misfits_are_told_first(rt: HostRuntime) -> Result<(), Fail> {
-    let one = sum();
-    for misfit in [
-        bcast(2),
-        ranked(Kind::Alltoall, NO, &[1], 3),
-        ranked(Kind::Allgatherv, NO, &[1, 1, 1], 1),
-    ] {
-        check_rows(
-            &rt,
-            rt.alloc(),
-            &[
-                (&[misfit, one], fault(FaultKind::Amount, 0)),
-                (&[one, misfit], fault(FaultKind::Amount, 1)),
-            ],
-        )?;
-    }
-    check_rows(
-        &rt,
-        rt.alloc(),
-        &[(&[create(NO), create(&[1, 2])], fault(FaultKind::Amount, 1))],
-    )
+    let alloc = rt.alloc();
+    check_misfit(&rt, alloc, bcast(2))?;
+    check_misfit(&rt, alloc, ranked(Kind::Alltoall, NO, &[1], 3))?;
+    check_misfit(&rt, alloc, ranked(Kind::Allgatherv, NO, &[1, 1, 1], 1))?;
+    let created = [create(NO), create(&[1, 2])];
+    check_rows(&rt, alloc, &[(&created, fault(FaultKind::Amount, 1))])
 }
 
 fn create(group: &'static [i128]) -> Drafted<'static> {

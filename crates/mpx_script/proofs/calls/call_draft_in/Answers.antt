@@ -1,4 +1,6 @@
+use mir.Syntax.{w128}
 use Rattle.std.proofs.Common.{◌≡◌, [], None, pos, sym, ◌∙◌, rules, subst}
+use Rattle.std.proofs.lemmas.Int.{to_z-of_z}
 use Rattle.std.specs.List.{filter_map}
 use Rattle.mpx_num.specs.Text.{number_of}
 use Rattle.mpx_post.specs.Kinds.{fields_of}
@@ -23,4 +25,5 @@ returns-clause-draft c =
     let sent : said (counts_named (fields_of c.args.kind).scounts) [] c.args.call.now.scounts ≡ c.in-Ok.counts.0 = said_is (counts_named (fields_of c.args.kind).scounts) [] c.args.call.now.scounts c.in-Ok.counts.0 (search rules) in
     let received : said (counts_named (fields_of c.args.kind).rcounts) [] c.args.call.now.rcounts ≡ c.in-Ok.counts.1 = said_is (counts_named (fields_of c.args.kind).rcounts) [] c.args.call.now.rcounts c.in-Ok.counts.1 (search rules) in
     let items : filter_map number_of c.args.call.now.items ≡ c.in-Some-2.items = search rules in
-    rw (root, sent, received, items) (search rules)
+    let draft = rw (to_z-of_z w128 c.in-Some.root (search rules)) at c.in_ok-draft.ensures in
+    rw (root, sent, received, items) draft
