@@ -7,18 +7,18 @@ use Rattle.std.proofs.lemmas.Bool.{or_parts}
 use Rattle.std.proofs.lemmas.Bool.Decides.{Decides-eqb}
 use Rattle.std.proofs.lemmas.List.{length-set}
 use Rattle.std.proofs.lemmas.Option.{slice_get-map, slice_get-get_or, slice_get_within}
-use Rattle.mpx_script.specs.declared.statement.Statement.{Statement}
-use Rattle.mpx_script.specs.Ranks.{step}
-use Rattle.mpx_script.specs.Evaluation.{State, IsQuiet, IsReached, known, move, moves, or_stay, start}
-use Rattle.mpx_script.proofs.Ends.{move-quiet}
-use Rattle.mpx_script.proofs.Steps.{step_ends}
-use Rattle.mpx_script.proofs.Tells.{each-bound, each-me}
+use Rattle.mpx_statement.specs.declared.statement.Statement.{Statement}
+use Rattle.mpx_evaluation.specs.Ranks.{step}
+use Rattle.mpx_evaluation.specs.Evaluation.{State, IsQuiet, IsReached, known, move, moves, or_stay, start}
+use Rattle.mpx_evaluation.proofs.Ends.{move-quiet}
+use Rattle.mpx_evaluation.proofs.Steps.{step_ends}
+use Rattle.mpx_evaluation.proofs.Tells.{each-bound, each-me}
 use Rattle.mpx_eval.specs.Places.{After, Before, Moves, RankView, Stands, left_of}
 use Rattle.mpx_eval.specs.Rounds.{AreAtEnd, AreIn, GoesOn, IsStuck, Leads, Round, Rounds, all_left}
 use Rattle.mpx_eval.specs.Tables.{Table}
 use Rattle.mpx_eval.proofs.Moving.{move_stays}
 use Rattle.mpx_eval.proofs.Tables.{some_of}
-use Rattle.mpx_eval.proofs.Words.{none_there}
+use Rattle.mpx_evaluation.proofs.Standing.{none_there}
 
 -- LISTS
 

@@ -7,23 +7,25 @@ use Rattle.std.proofs.lemmas.List.{map-append}
 use Rattle.mpx_name.specs.Name.{Name}
 use Rattle.mpx_post.specs.declared.draft.PostError.{PostError}
 use Rattle.mpx_value.specs.Histories.{Answer, Made, Results}
-use Rattle.mpx_script.specs.declared.statement.Posting.{Posting}
-use Rattle.mpx_script.specs.declared.statement.Question.{Question}
-use Rattle.mpx_script.specs.declared.statement.Statement.{Statement}
-use Rattle.mpx_script.specs.declared.statement.Statement.TheVariants.{Post, Wait, Ask}
-use Rattle.mpx_script.specs.Statements.{bound_to, posted_on as word_of, started_as}
-use Rattle.mpx_script.specs.Grammar.{named}
-use Rattle.mpx_script.specs.Ranks.{Act, Bound, Communicator, NullCommunicator, Line, Told, Refused, answered, answered_by, answers, attempt, attempt_on, awaited_by, bind, bound_by, communicator_of, doing, done, next_call, step, waited_lines}
-use Rattle.mpx_script.specs.Transcripts.{line_text, outcome_text}
-use Rattle.mpx_script.specs.Evaluation.{State, known, move, or_stay}
-use Rattle.mpx_script.proofs.Ends.{goes_on-at}
-use Rattle.mpx_script.proofs.Fronts.{append-nil}
-use Rattle.mpx_script.proofs.Steps.{heard, posted, started, turned_down, waited, told_at_once, step_asks, step_ends, step_hears, step_passes, step_posts, step_refused, step_starts, step_stays, step_waits}
-use Rattle.mpx_eval.specs.Places.{After, Before, CommunicatorView, IsBornSo, RankView, Stands, WaitView, are_done, attempt_by, binds, bound_as, closed_all, communicator_in, posted_by, todo_of, wait_lines, with_word}
+use Rattle.mpx_statement.specs.declared.statement.Posting.{Posting}
+use Rattle.mpx_statement.specs.declared.statement.Question.{Question}
+use Rattle.mpx_statement.specs.declared.statement.Statement.{Statement}
+use Rattle.mpx_statement.specs.declared.statement.Statement.TheVariants.{Post, Wait, Ask}
+use Rattle.mpx_statement.specs.Statements.{bound_to, posted_on as word_of, started_as}
+use Rattle.mpx_statement.specs.Lookups.{named}
+use Rattle.mpx_evaluation.specs.Ranks.{Act, Bound, Communicator, NullCommunicator, Line, Told, Refused, answered, answered_by, answers, attempt, attempt_on, awaited_by, bind, bound_by, communicator_of, doing, done, next_call, step, waited_lines}
+use Rattle.mpx_evaluation.specs.Transcripts.{line_text, outcome_text}
+use Rattle.mpx_evaluation.specs.Evaluation.{State, known, move, or_stay}
+use Rattle.mpx_evaluation.proofs.Ends.{goes_on-at}
+use Rattle.mpx_evaluation.proofs.Fronts.{append-nil}
+use Rattle.mpx_evaluation.proofs.Steps.{heard, posted, started, turned_down, waited, told_at_once, step_asks, step_ends, step_hears, step_passes, step_posts, step_refused, step_starts, step_stays, step_waits}
+use Rattle.mpx_evaluation.specs.Standing.{WaitView, binds, closed_all, todo_of}
+use Rattle.mpx_eval.specs.Places.{After, Before, CommunicatorView, IsBornSo, RankView, Stands, are_done, attempt_by, bound_as, communicator_in, posted_by, wait_lines}
 use Rattle.mpx_eval.specs.Tables.{Shows, Table, Tries, answer_on, with_made}
 use Rattle.mpx_eval.proofs.Outcomes.{results_same}
 use Rattle.mpx_eval.proofs.Tables.{some_of}
-use Rattle.mpx_eval.proofs.Words.{answers_done, bound_behind, communicator_same, lines_told, named_behind, named_without_all, none_there}
+use Rattle.mpx_evaluation.proofs.Standing.{named_behind, named_without_all, none_there}
+use Rattle.mpx_eval.proofs.Words.{answers_done, bound_behind, communicator_same, lines_told}
 
 attempt_same : (me : ℕ) (made : List Made) (posting : Posting) (b : Option Bound) → attempt_on me made posting b ≡ attempt_by me made posting (communicator_of b)
 attempt_same me made posting None = refl
@@ -161,14 +163,14 @@ module _ (ranks p : ℕ) (s : State) (r : RankView) (t : Table) (b : Before rank
 
     -- it posts, and its request is open
     pub starts : (name : Name) (call : ℕ) (word : List ℕ) → started_as posting ≡ Some word → Tries ranks (posted_by s) r.me (attempt_by r.me (posted_by s r.me) posting (communicator_in (r.bound (word_of posting)))) (Ok (name, call)) u
-        → After ranks p (record { me = r.me; bound = r.bound; requests = with_word word (name, call) r.requests; todo = rest; waits = None; lines = r.lines }) u s true
+        → After ranks p (record { me = r.me; bound = r.bound; requests = binds (Some word) (name, call) r.requests; todo = rest; waits = None; lines = r.lines }) u s true
     starts name call word open_as tried =
         let m : Made = tried.0 in
         let place : (name, call) ≡ (m.name, next_call m.name (s p).made) = λ i. (tried.2 i, (tried.3 ∙ ap (λ me. next_call m.name (s me).made) b.me) i) in
-        moved (started (s p) word (doing rest) m) (record { me = r.me; bound = r.bound; requests = with_word word (name, call) r.requests; todo = rest; waits = None; lines = r.lines }) u
+        moved (started (s p) word (doing rest) m) (record { me = r.me; bound = r.bound; requests = binds (Some word) (name, call) r.requests; todo = rest; waits = None; lines = r.lines }) u
         (step_starts (known ranks s p) (s p) posting (doing rest) word m (todo_is None (Post posting ∷ rest) w e) open_as (attempt_is posting ∙ tried.1))
         b.me
-        (record { bound = b.stands.bound; requests = λ other. (λ i. with_word word (place i) (requests_are i) other) ∙ sym (named_behind (s p).requests word (m.name, next_call m.name (s p).made) other); todo = refl; lines = b.stands.lines ∙ ap (map line_text) (sym (append-nil (s p).lines)) })
+        (record { bound = b.stands.bound; requests = λ other. (λ i. binds (Some word) (place i) (requests_are i) other) ∙ sym (named_behind (s p).requests word (m.name, next_call m.name (s p).made) other); todo = refl; lines = b.stands.lines ∙ ap (map line_text) (sym (append-nil (s p).lines)) })
         (shown_after m u tried.4)
 
     -- it is refused

@@ -5,14 +5,15 @@ use Rattle.std.specs.Option.{option_map}
 use Rattle.std.proofs.lemmas.List.{length-map}
 use Rattle.std.proofs.lemmas.Option.{slice_get-map, same_Some}
 use Rattle.mpx_name.specs.Name.{Name}
-use Rattle.mpx_script.specs.declared.statement.Statement.{Statement}
+use Rattle.mpx_statement.specs.declared.statement.Statement.{Statement}
 use Rattle.mpx_script.specs.ScriptView.{ScriptView}
-use Rattle.mpx_script.specs.Ranks.{doing}
-use Rattle.mpx_script.specs.Evaluation.{IsReached, start}
-use Rattle.mpx_script.specs.Reports.{is_left, lines_in, which}
-use Rattle.mpx_script.proofs.Ends.{start_quiet}
+use Rattle.mpx_evaluation.specs.Ranks.{doing}
+use Rattle.mpx_evaluation.specs.Evaluation.{IsReached, start}
+use Rattle.mpx_evaluation.specs.Reports.{is_left, lines_in, which}
+use Rattle.mpx_evaluation.proofs.Ends.{start_quiet}
 use Rattle.mpx_eval.specs.Evaluated.{IsEvaluated}
-use Rattle.mpx_eval.specs.Places.{RankView, WaitView, has_statements, todo_of}
+use Rattle.mpx_evaluation.specs.Standing.{WaitView, has_statements, todo_of}
+use Rattle.mpx_eval.specs.Places.{RankView}
 use Rattle.mpx_eval.specs.Rounds.{AreAtEnd, AreIn, Start, StartsAt, is_waiting_at}
 use Rattle.mpx_eval.specs.Tables.{Table}
 

@@ -22,8 +22,8 @@ use Rattle.mpx_post.specs.Drafts.{at, checked}
 use Rattle.mpx_post.specs.Posts.{Given}
 use Rattle.mpx_value.specs.Histories.{Grows, Made, birth_of, history_of, posts_on}
 use Rattle.mpx_value.proofs.Growth.{birth-grows, posts_on-append}
-use Rattle.mpx_script.specs.Ranks.{made_on, next_call, post_on}
-use Rattle.mpx_script.proofs.Fronts.{append-nil, slice_get-append}
+use Rattle.mpx_evaluation.specs.Ranks.{made_on, next_call, post_on}
+use Rattle.mpx_evaluation.proofs.Fronts.{append-nil, slice_get-append}
 use Rattle.mpx_eval.specs.Contexts.{ContextView, Posts, added_at, checked_there, count_in, fresh, posts_at, with_post}
 use Rattle.mpx_eval.specs.Tables.{Posted, PostsOn, Shows, Table, Tries, opened, or_fresh, with_made}
 use Rattle.mpx_eval.proofs.Contexts.{checked_stranger}

@@ -1,77 +1,26 @@
 -- Words that a map binds, and waits for requests.
 use Rattle.std.proofs.Common.{◌≡◌, ℕ, ◌+◌, ◌<◌, Bool, true, false, cond, List, [], ◌∷◌, ◌++◌, length, map, drop, get_or, append_assoc, Option, Some, None, refl, sym, ap, ◌∙◌}
-use Rattle.std.specs.Prelude.{◌&&◌, is_some, not, bytes_eq, option_and_then, if◌then◌else◌}
-use Rattle.std.specs.Cmp.Lexicographic.{slice_cmp}
+use Rattle.std.specs.Prelude.{◌&&◌, is_some, bytes_eq, option_and_then}
 use Rattle.std.specs.List.{list_all}
 use Rattle.std.specs.Option.{option_map}
-use Rattle.std.specs.Ordering.{is_eq, nat_cmp}
 use Rattle.std.proofs.lemmas.List.{at_drop_more}
-use Rattle.std.proofs.lemmas.Map.Text.{is_eq-slice_cmp}
 use Rattle.std.proofs.lemmas.Option.{option_and_then_some, same_Some}
-use Rattle.std.proofs.lemmas.Slice.Eq.{bytes_eq-Decides}
 use Rattle.mpx_name.specs.Name.{Name}
 use Rattle.mpx_value.specs.Histories.{Answer, Results}
-use Rattle.mpx_script.specs.Grammar.{named}
-use Rattle.mpx_script.specs.Ranks.{Bindings, Requests, Idle, answers, awaited_by, awaited_then, bind, communicator_of, line_then, waited_lines, without, without_all}
-use Rattle.mpx_script.specs.Transcripts.{line_text}
-use Rattle.mpx_eval.specs.Places.{CommunicatorView, are_done, binds, bound_as, closed, closed_all, communicator_in, is_done, or_new, request_line, told_line, wait_lines, with_word}
+use Rattle.mpx_statement.specs.Lookups.{named}
+use Rattle.mpx_evaluation.specs.Ranks.{Bindings, Requests, Idle, answers, awaited_by, awaited_then, bind, communicator_of, line_then, waited_lines, without}
+use Rattle.mpx_evaluation.specs.Transcripts.{line_text}
+use Rattle.mpx_evaluation.specs.Standing.{binds, closed, closed_all}
+use Rattle.mpx_evaluation.proofs.Standing.{binds_seen, named_behind, named_without, same_word}
+use Rattle.mpx_eval.specs.Places.{CommunicatorView, are_done, bound_as, communicator_in, is_done, request_line, told_line, wait_lines}
 use Rattle.mpx_eval.proofs.Contexts.{is_some-all_of}
 
 -- WORDS
 
-pub none_there : {A : Type 0} (o : Option A) → is_some o ≡ false → o ≡ None
-none_there None e = refl
-none_there (Some x) e = cc e
-
-pub same_word : (a b : List ℕ) → bytes_eq a b ≡ true → a ≡ b
-same_word a b e = (bytes_eq-Decides a b).0 e
-
-turned : (a b : List ℕ) → bytes_eq a b ≡ true → bytes_eq b a ≡ true
-turned a b e = (bytes_eq-Decides b a).1 (sym (same_word a b e))
-
-either_way : (a b : List ℕ) → bytes_eq a b ≡ bytes_eq b a
-either_way a b = by_tests (bytes_eq a b) (bytes_eq b a) refl refl where
-  by_tests : (t u : Bool) → bytes_eq a b ≡ t → bytes_eq b a ≡ u → bytes_eq a b ≡ bytes_eq b a
-  by_tests true true e f = e ∙ sym f
-  by_tests false false e f = e ∙ sym f
-  by_tests true false e f = cc (turned a b e, f)
-  by_tests false true e f = cc (turned b a f, e)
-
--- a new word, inserted
-pub with_new : {A : Type 0} (words : List ℕ → Option A) (key new word : List ℕ) (to : A) → key ≡ new → words new ≡ None → cond (is_eq (slice_cmp nat_cmp key word)) (Some to) (words word) ≡ with_word new to words word
-with_new words key new word to k none =
-    ap (λ b. cond b (Some to) (words word)) (is_eq-slice_cmp key word ∙ ap (λ x. bytes_eq x word) k ∙ either_way new word)
-    ∙ by_test (bytes_eq word new) refl where
-      by_test : (b : Bool) → bytes_eq word new ≡ b → cond b (Some to) (words word) ≡ cond b (Some (or_new (words word) to)) (words word)
-      by_test true e = ap (λ o. Some (or_new o to)) (sym (ap words (same_word word new e) ∙ none))
-      by_test false e = refl
-
--- a word fewer
-pub without_word : {A : Type 0} (words : List ℕ → Option A) (old word : List ℕ) → cond (is_eq (slice_cmp nat_cmp old word)) None (words word) ≡ closed old words word
-without_word words old word = ap (λ b. cond b None (words word)) (is_eq-slice_cmp old word)
-
--- a word more behind a table
-if_cond : {A : Type 0} (t u : Bool) (to : A) (x : A) (before after : Option A) → after ≡ cond u (Some (or_new before to)) before → (if t then Some x else after) ≡ cond u (Some (or_new (if t then Some x else before) to)) (if t then Some x else before)
-if_cond true true to x before after e = refl
-if_cond true false to x before after e = refl
-if_cond false u to x before after e = e
-
-if_first : {A : Type 0} (t : Bool) (to : A) → (if t then Some to else None) ≡ cond t (Some to) None
-if_first true to = refl
-if_first false to = refl
-
-pub named_behind : {A : Type 0} (xs : List (List ℕ × A)) (new : List ℕ) (to : A) (word : List ℕ) → named (xs ++ (new, to) ∷ []) word ≡ with_word new to (named xs) word
-named_behind [] new to word = if_first (bytes_eq word new) to
-named_behind (x ∷ xs) new to word = if_cond (bytes_eq word x.0) (bytes_eq word new) to x.1 (named xs word) (named (xs ++ (new, to) ∷ []) word) (named_behind xs new to word)
-
 -- what a word is bound to
 pub bound_behind : (target : Option (List ℕ)) (to : Option CommunicatorView) (bound : List ℕ → Option (Option CommunicatorView)) (xs : Bindings) → ((word : List ℕ) → option_map bound_as (bound word) ≡ named xs word) → (word : List ℕ) → option_map bound_as (binds target to bound word) ≡ named (bind target (bound_as to) xs) word
 bound_behind None to bound xs e word = e word
-bound_behind (Some new) to bound xs e word = mapped (bytes_eq word new) (bound word) ∙ ap (λ o. cond (bytes_eq word new) (Some (or_new o (bound_as to))) o) (e word) ∙ sym (named_behind xs new (bound_as to) word) where
-  mapped : (b : Bool) (o : Option (Option CommunicatorView)) → option_map bound_as (cond b (Some (or_new o to)) o) ≡ cond b (Some (or_new (option_map bound_as o) (bound_as to))) (option_map bound_as o)
-  mapped true None = refl
-  mapped true (Some x) = refl
-  mapped false o = refl
+bound_behind (Some new) to bound xs e word = binds_seen bound_as (Some new) to bound word ∙ (λ i. binds (Some new) (bound_as to) (λ w. e w i) word) ∙ sym (named_behind xs new (bound_as to) word)
 
 pub communicator_same : (o : Option (Option CommunicatorView)) → communicator_of (option_map bound_as o) ≡ communicator_in o
 communicator_same None = refl
@@ -79,24 +28,6 @@ communicator_same (Some None) = refl
 communicator_same (Some (Some c)) = refl
 
 -- WAITS
-
-none_either : (b : Bool) → let none : Option (Name × ℕ) = None in none ≡ cond b none none
-none_either true = refl
-none_either false = refl
-
--- a request fewer
-pub named_without : (old : List ℕ) (xs : Requests) (word : List ℕ) → named (without old xs) word ≡ closed old (named xs) word
-named_without old [] word = none_either (bytes_eq old word)
-named_without old (x ∷ xs) word = by_first (bytes_eq old x.0) (bytes_eq old word) refl refl (named_without old xs word) where
-  by_first : (t u : Bool) → bytes_eq old x.0 ≡ t → bytes_eq old word ≡ u → named (without old xs) word ≡ cond u None (named xs word) → named (cond (not t) (x ∷ without old xs) (without old xs)) word ≡ cond u None (if bytes_eq word x.0 then Some x.1 else named xs word)
-  by_first true true e f g = g
-  by_first true false e f g = g ∙ ap (λ b. if b then Some x.1 else named xs word) (sym (either_way word x.0 ∙ ap (λ w. bytes_eq w word) (sym (same_word old x.0 e)) ∙ f))
-  by_first false true e f g = ap (λ b. if b then Some x.1 else named (without old xs) word) (ap (λ w. bytes_eq w x.0) (sym (same_word old word f)) ∙ e) ∙ g
-  by_first false false e f g = ap (λ o. if bytes_eq word x.0 then Some x.1 else o) g
-
-pub named_without_all : (olds : List (List ℕ)) (xs : Requests) (requests : List ℕ → Option (Name × ℕ)) → ((word : List ℕ) → requests word ≡ named xs word) → (word : List ℕ) → closed_all olds requests word ≡ named (without_all olds xs) word
-named_without_all [] xs requests e word = e word
-named_without_all (old ∷ olds) xs requests e word = named_without_all olds (without old xs) (closed old requests) (λ w. ap (cond (bytes_eq old w) None) (e w) ∙ sym (named_without old xs w)) word
 
 module _ (r : Results) where
   -- what is closed is done

@@ -1,8 +1,8 @@
 -- What the evaluation of a script comes to.
 use Rattle.std.specs.Prelude.{◌≡◌, ℕ, List, length, slice_get, Some}
 use Rattle.mpx_script.specs.ScriptView.{ScriptView}
-use Rattle.mpx_script.specs.Evaluation.{State, IsEvaluation}
-use Rattle.mpx_script.specs.Reports.{lines_in, waiting_in}
+use Rattle.mpx_evaluation.specs.Evaluation.{State, IsEvaluation}
+use Rattle.mpx_evaluation.specs.Reports.{lines_in, waiting_in}
 
 -- there is an evaluation of the script with these lines of its ranks and these ranks that wait
 pub record IsEvaluated (script : ScriptView) (transcripts : List (List (List ℕ))) (waiting : List ℕ) : Type 0 where

@@ -1,10 +1,7 @@
 -- Where a rank stands in its statements, and what its moves do.
-use Rattle.std.specs.Prelude.{◌≡◌, ℕ, ◌+◌, ◌*◌, Bool, true, false, ◌||◌, is_some, cond, List, [], ◌∷◌, length, map, bytes_eq, Option, Some, None, Result, Err}
-use Rattle.std.specs.BTreeMap.{BTreeMap, get}
-use Rattle.std.specs.Cmp.Lexicographic.{slice_cmp}
+use Rattle.std.specs.Prelude.{◌≡◌, ℕ, ◌+◌, ◌*◌, Bool, true, ◌||◌, is_some, List, [], ◌∷◌, length, map, Option, Some, None, Result, Err}
 use Rattle.std.specs.List.{list_all}
 use Rattle.std.specs.Option.{option_map}
-use Rattle.std.specs.Ordering.{nat_cmp}
 use Rattle.mpx_name.specs.Name.{Name}
 use Rattle.mpx_name.specs.declared.steps.Step.TheVariants.{Gathering}
 use Rattle.mpx_post.specs.declared.draft.PostError.{PostError}
@@ -12,28 +9,19 @@ use Rattle.mpx_post.specs.declared.draft.PostError.TheVariants.{NotMember}
 use Rattle.mpx_post.specs.Births.{BirthView}
 use Rattle.mpx_post.specs.Gatherings.{GatheringView}
 use Rattle.mpx_value.specs.Histories.{Answer, Made, Results, birth_of, history_of}
-use Rattle.mpx_script.specs.declared.statement.Posting.{Posting}
-use Rattle.mpx_script.specs.declared.statement.Statement.{Statement}
-use Rattle.mpx_script.specs.Statements.{draft_of, gathers_of}
-use Rattle.mpx_script.specs.Grammar.{named}
-use Rattle.mpx_script.specs.Ranks.{Bound, Communicator, NullCommunicator, Line, Told, Idle, Todo, Await, Local, attempt_in, doing, step}
-use Rattle.mpx_script.specs.Transcripts.{line_text}
-use Rattle.mpx_script.specs.Evaluation.{State, history, known, move}
+use Rattle.mpx_statement.specs.declared.statement.Posting.{Posting}
+use Rattle.mpx_statement.specs.declared.statement.Statement.{Statement}
+use Rattle.mpx_statement.specs.Statements.{draft_of, gathers_of}
+use Rattle.mpx_statement.specs.Lookups.{named}
+use Rattle.mpx_evaluation.specs.Ranks.{Bound, Communicator, NullCommunicator, Line, Told, Idle, Local, attempt_in, step}
+use Rattle.mpx_evaluation.specs.Standing.{WaitView, awaited, closed, has_statements, todo_of}
+use Rattle.mpx_evaluation.specs.Transcripts.{line_text}
+use Rattle.mpx_evaluation.specs.Evaluation.{State, history, known, move}
 use Rattle.mpx_eval.specs.Tables.{Posted, Shows, Table}
 
 -- a communicator: its name, and how it came to be
 abbrev pub CommunicatorView : Type 0
 CommunicatorView = Name × BirthView
-
--- what a word stands for in a map
-abbrev pub looked_up : {A : Type 0} → BTreeMap (List ℕ) A → List ℕ → Option A
-looked_up m word = get (slice_cmp nat_cmp) m word
-
--- a call whose outcome is awaited, and the word that its new communicator gets
-pub record WaitView : Type 0 where
-  pub name : Name
-  pub call : ℕ
-  pub target : Option (List ℕ)
 
 -- who it is, what its words are bound to (None is the null communicator) and which calls its open requests stand for, the
 -- statements that are left, what it waits for, and the lines so far
@@ -55,28 +43,6 @@ bound_as (Some c) = Communicator c.0 c.1
 abbrev pub communicator_in : Option (Option CommunicatorView) → Option CommunicatorView
 communicator_in None = None
 communicator_in (Some to) = to
-
--- what was there stays
-abbrev pub or_new : {A : Type 0} → Option A → A → A
-or_new (Some old) new = old
-or_new None new = new
-
--- a word more
-abbrev pub with_word : {A : Type 0} → (new : List ℕ) → A → (List ℕ → Option A) → List ℕ → Option A
-with_word new to words word = cond (bytes_eq word new) (Some (or_new (words word) to)) (words word)
-
--- the word, where there is one, is bound to this
-abbrev pub binds : Option (List ℕ) → Option CommunicatorView → (List ℕ → Option (Option CommunicatorView)) → List ℕ → Option (Option CommunicatorView)
-binds None to bound = bound
-binds (Some new) to bound = with_word new to bound
-
--- a word fewer
-abbrev pub closed : {A : Type 0} → List ℕ → (List ℕ → Option A) → List ℕ → Option A
-closed old words word = cond (bytes_eq old word) None (words word)
-
-abbrev pub closed_all : {A : Type 0} → List (List ℕ) → (List ℕ → Option A) → List ℕ → Option A
-closed_all [] words = words
-closed_all (old ∷ more) words = closed_all more (closed old words)
 
 -- POSTS
 
@@ -120,21 +86,9 @@ wait_lines r requests (word ∷ words) = request_line r (requests word) ∷ wait
 
 -- WHERE A RANK STANDS
 
-abbrev pub todo_of : Option WaitView → List Statement → List Todo
-todo_of (Some w) rest = Await w.name w.call w.target ∷ doing rest
-todo_of None rest = doing rest
-
-abbrev pub awaited : Option WaitView → ℕ
-awaited (Some w) = 1
-awaited None = 0
-
 -- so much is left at most
 abbrev pub left_of : RankView → ℕ
 left_of r = 2 * length r.todo + awaited r.waits
-
-abbrev pub has_statements : List Statement → Bool
-has_statements [] = false
-has_statements (x ∷ rest) = true
 
 -- whether it waits for an outcome, or has statements left
 abbrev pub is_waiting : RankView → Bool

@@ -2,10 +2,10 @@
 use Rattle.std.specs.Prelude.{◌≡◌, ℕ, ◌+◌, ◌<◌, Bool, false, List, [], ◌∷◌, length, slice_get, slice_index_or, Option, Some, None}
 use Rattle.std.proofs.Common.{set}
 use Rattle.std.specs.Option.{option_map}
-use Rattle.mpx_script.specs.Grammar.{named}
-use Rattle.mpx_script.specs.declared.statement.Statement.{Statement}
-use Rattle.mpx_script.specs.Ranks.{step}
-use Rattle.mpx_script.specs.Evaluation.{State, IsEvaluation, IsQuiet, IsReached, bound_at_start, known}
+use Rattle.mpx_statement.specs.Lookups.{named}
+use Rattle.mpx_statement.specs.declared.statement.Statement.{Statement}
+use Rattle.mpx_evaluation.specs.Ranks.{step}
+use Rattle.mpx_evaluation.specs.Evaluation.{State, IsEvaluation, IsQuiet, IsReached, bound_at_start, known}
 use Rattle.mpx_eval.specs.Places.{RankView, Stands, bound_as, is_waiting, left_of, posted_by}
 use Rattle.mpx_eval.specs.Tables.{Shows, Table}
 

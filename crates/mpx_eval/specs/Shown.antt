@@ -3,7 +3,8 @@ use Rattle.std.specs.Prelude.{map, string_bytes}
 use Rattle.std.specs.Option.{option_copied, option_map}
 use Rattle.mpx_eval.specs.declared.rank.Rank.{Rank}
 use Rattle.mpx_eval.specs.declared.rank.Wait.{Wait}
-use Rattle.mpx_eval.specs.Places.{RankView, WaitView, looked_up}
+use Rattle.mpx_evaluation.specs.Standing.{WaitView, looked_up}
+use Rattle.mpx_eval.specs.Places.{RankView}
 
 abbrev pub wait_of : Wait → WaitView
 wait_of w = record { name = w.name; call = w.call; target = option_copied w.target }

@@ -10,7 +10,7 @@ use Rattle.mpx_post.specs.declared.draft.PostError.TheVariants.{OutOfMemory}
 use Rattle.mpx_post.specs.Births.{BirthView}
 use Rattle.mpx_post.specs.Posts.{Given}
 use Rattle.mpx_value.specs.Histories.{Answer, Made, birth_of, history_of, posts_on}
-use Rattle.mpx_script.specs.Ranks.{next_call}
+use Rattle.mpx_evaluation.specs.Ranks.{next_call}
 use Rattle.mpx_eval.specs.Contexts.{ContextView, answer_in, checked_there, count_in, fresh, with_post}
 use Rattle.mpx_eval.specs.declared.table.Table.{Table as Held}
 

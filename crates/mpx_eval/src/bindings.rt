@@ -1,11 +1,12 @@
-// What a rank's words are bound to, and its open requests.
-ghost use Rattle.std.specs.Prelude.{◌≡◌, ◌<◌, ◌≤◌, ℕ, IfOk, List, OnOk};
+// What a rank's words are bound to.
+ghost use Rattle.std.specs.Prelude.{◌≡◌, ◌<◌, ◌≤◌, ℕ, IfOk, List};
 ghost use Rattle.std.specs.Option.{option_copied, option_map};
-ghost use Rattle.mpx_script.specs.Evaluation.{bound_at_start};
-ghost use Rattle.mpx_script.specs.Grammar.{named};
-ghost use Rattle.mpx_script.specs.Ranks.{bound_by};
+ghost use Rattle.mpx_evaluation.specs.Evaluation.{bound_at_start};
+ghost use Rattle.mpx_statement.specs.Lookups.{named};
+ghost use Rattle.mpx_evaluation.specs.Ranks.{bound_by};
 ghost use Rattle.mpx_eval.specs.Answered.{answer_of};
-ghost use Rattle.mpx_eval.specs.Places.{binds, bound_as, communicator_in, looked_up, with_word};
+ghost use Rattle.mpx_evaluation.specs.Standing.{looked_up};
+ghost use Rattle.mpx_eval.specs.Places.{bound_as, communicator_in};
 
 use crate::context::Answered;
 use join_core::OutOfMemory;
@@ -43,42 +44,6 @@ pub(crate) fn communicator<'m>(
         Some(None) => None,
         None => None,
     }
-}
-
-/// Binds a word, where there is one; what was bound stays.
-pub(crate) fn bind(
-    alloc: Global,
-    bound: &mut BTreeMap<Word, Option<(Name, Birth)>>,
-    target: Option<&Word>,
-    to: Option<(Name, Birth)>,
-) -> Result<(), OutOfMemory>
-    ensures { OnOk result ((word : List ℕ) → looked_up bound.new word ≡ binds (option_copied target.entry) to (looked_up bound.old) word) }
-{
-    let Some(word) = target else {
-        return Ok(());
-    };
-    if bound.contains_key(word) {
-        return Ok(());
-    }
-    bound.insert(word.copy(alloc)?, to)?;
-    Ok(())
-}
-
-/// Opens a request for a call; what was open stays.
-pub(crate) fn open_request(
-    alloc: Global,
-    requests: &mut BTreeMap<Word, (Name, u32)>,
-    word: &Word,
-    name: Name,
-    call: u32,
-) -> Result<(), OutOfMemory>
-    ensures { OnOk result ((other : List ℕ) → looked_up requests.new other ≡ with_word word.now (name, call) (looked_up requests.old) other) }
-{
-    if requests.contains_key(word) {
-        return Ok(());
-    }
-    requests.insert(word.copy(alloc)?, (name, call))?;
-    Ok(())
 }
 
 /// The communicator that a call gave, where it gave one.

@@ -1,7 +1,7 @@
 // The evaluation of a script.
 ghost use Rattle.std.specs.Prelude.{◌≡◌, ◌<◌, ◌≤◌, ◌++◌, ◌∷◌, ℕ, IfOk, List, None, OnOk, [], cond, length, map, slice_get, string_bytes};
 ghost use Rattle.mpx_name.specs.Name.{Name as NameView};
-ghost use Rattle.mpx_script.specs.Reports.{transcripts_of, which};
+ghost use Rattle.mpx_evaluation.specs.Reports.{transcripts_of, which};
 ghost use Rattle.mpx_eval.specs.Evaluated.{IsEvaluated};
 ghost use Rattle.mpx_eval.specs.Places.{RankView};
 ghost use Rattle.mpx_eval.specs.Rounds.{Start, StartsAt, is_waiting_at};

@@ -3,7 +3,7 @@ ghost use Rattle.std.specs.Prelude.{◌≡◌, ℕ, Some, length};
 ghost use Rattle.std.specs.Option.{option_copied};
 ghost use Rattle.mpx_post.specs.Births.{of_members};
 ghost use Rattle.mpx_post.specs.Gatherings.{ChecksGathering, gathering};
-ghost use Rattle.mpx_script.specs.Ranks.{post_gathered, post_on};
+ghost use Rattle.mpx_evaluation.specs.Ranks.{post_gathered, post_on};
 ghost use Rattle.mpx_value.specs.Histories.{birth_of, history_of};
 ghost use Rattle.mpx_eval.specs.Places.{IsBornSo, attempt_by, gathering_name};
 ghost use Rattle.mpx_eval.specs.Tables.{Posted, Shows, Tries, table_of};

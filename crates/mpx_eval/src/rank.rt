@@ -1,20 +1,22 @@
 // A rank that goes on with its statements.
 ghost use Rattle.std.specs.Prelude.{◌≡◌, ◌<◌, ◌≤◌, ◌∷◌, ℕ, IfOk, IsTrue, List, None, OnOk, Some, [], false, map, string_bytes, true, ◌↔◌};
 ghost use Rattle.std.specs.Option.{option_copied, option_map};
-ghost use Rattle.mpx_script.specs.declared.statement.Statement.TheVariants.{Ask, Post, Wait as WaitFor};
-ghost use Rattle.mpx_script.specs.Evaluation.{bound_at_start};
-ghost use Rattle.mpx_script.specs.Grammar.{named};
-ghost use Rattle.mpx_script.specs.Ranks.{answered_by, birth_in};
-ghost use Rattle.mpx_script.specs.Transcripts.{line_text};
-ghost use Rattle.mpx_eval.specs.Places.{bound_as, communicator_in, looked_up};
+ghost use Rattle.mpx_statement.specs.declared.statement.Statement.TheVariants.{Ask, Post, Wait as WaitFor};
+ghost use Rattle.mpx_evaluation.specs.Evaluation.{bound_at_start};
+ghost use Rattle.mpx_statement.specs.Lookups.{named};
+ghost use Rattle.mpx_evaluation.specs.Ranks.{answered_by, birth_in};
+ghost use Rattle.mpx_evaluation.specs.Transcripts.{line_text};
+ghost use Rattle.mpx_evaluation.specs.Standing.{looked_up};
+ghost use Rattle.mpx_eval.specs.Places.{bound_as, communicator_in};
 ghost use Rattle.mpx_eval.specs.Tables.{table_of};
 ghost use Rattle.mpx_eval.specs.Shown.{wait_of};
 
-use crate::bindings::{bind, communicator, given, open_request, world_alone};
+use crate::bindings::{communicator, given, world_alone};
 use crate::posting::attempt;
 use crate::table::Table;
 use crate::waiting::{are_done, close_all};
 use join_core::OutOfMemory;
+use mpx_evaluation::bind;
 use mpx_group::Proc;
 use mpx_name::Name;
 use mpx_post::{Birth, PostError};
@@ -175,7 +177,7 @@ impl<'a> Rank<'a> {
         match attempt(alloc, table, self.me, on, posting) {
             Ok((name, call)) => match posting.request() {
                 Some(word) => {
-                    open_request(alloc, &mut self.requests, word, name, call)?;
+                    bind(alloc, &mut self.requests, Some(word), (name, call))?;
                     Ok(())
                 }
                 None => {

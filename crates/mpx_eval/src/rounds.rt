@@ -1,7 +1,7 @@
 // Rounds: every rank in order goes on until it must wait.
 ghost use Rattle.std.specs.Prelude.{◌≡◌, ◌<◌, ◌≤◌, ℕ, IfOk, IsTrue, List, OnOk, length, map};
-ghost use Rattle.mpx_script.specs.declared.statement.Statement.{Statement as Said};
-ghost use Rattle.mpx_script.specs.Evaluation.{State, IsReached};
+ghost use Rattle.mpx_statement.specs.declared.statement.Statement.{Statement as Said};
+ghost use Rattle.mpx_evaluation.specs.Evaluation.{State, IsReached};
 ghost use Rattle.mpx_eval.specs.Rounds.{AreAtEnd, AreIn, Round, all_left};
 ghost use Rattle.mpx_eval.specs.Shown.{rank_of};
 ghost use Rattle.mpx_eval.specs.Tables.{table_of};

@@ -2,7 +2,7 @@
 ghost use Rattle.std.specs.Prelude.{◌≡◌, ℕ, IfOk, OnOk, None, Some, is_some, true};
 ghost use Rattle.std.specs.Option.{option_map};
 ghost use Rattle.mpx_name.specs.Name.{Name as NameView};
-ghost use Rattle.mpx_script.specs.Ranks.{post_on};
+ghost use Rattle.mpx_evaluation.specs.Ranks.{post_on};
 ghost use Rattle.mpx_value.specs.Histories.{birth_of, history_of};
 ghost use Rattle.mpx_eval.specs.Answered.{answer_of};
 ghost use Rattle.mpx_eval.specs.Contexts.{ContextView};

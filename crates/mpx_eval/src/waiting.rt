@@ -1,8 +1,9 @@
 // Waits for open requests.
 ghost use Rattle.std.specs.Prelude.{◌≡◌, ◌++◌, ℕ, IfOk, List, OnOk, map, string_bytes};
 ghost use Rattle.std.specs.Option.{option_copied};
-ghost use Rattle.mpx_script.specs.Transcripts.{line_text};
-ghost use Rattle.mpx_eval.specs.Places.{are_done, closed_all, is_done, looked_up, request_line, wait_lines};
+ghost use Rattle.mpx_evaluation.specs.Transcripts.{line_text};
+ghost use Rattle.mpx_evaluation.specs.Standing.{closed_all, looked_up};
+ghost use Rattle.mpx_eval.specs.Places.{are_done, is_done, request_line, wait_lines};
 ghost use Rattle.mpx_eval.specs.Tables.{answer_on, table_of};
 
 use crate::table::Table;

@@ -4,9 +4,9 @@ use Rattle.std.specs.Prelude.{slice_get, unwrap_or, IfOk, Result, Ok, Err}
 use Rattle.mpx_num.specs.Text.{number_text}
 use Rattle.mpx_node.specs.Nodes.{NodeView}
 use Rattle.mpx_script.specs.ScriptView.{ScriptView}
-use Rattle.mpx_script.specs.Evaluation.{State, IsEvaluation}
-use Rattle.mpx_script.specs.Transcripts.{rank_text, text_upto}
-use Rattle.mpx_script.specs.Reports.{lines_in}
+use Rattle.mpx_evaluation.specs.Evaluation.{State, IsEvaluation}
+use Rattle.mpx_evaluation.specs.Transcripts.{rank_text, text_upto}
+use Rattle.mpx_evaluation.specs.Reports.{lines_in}
 use Rattle.mpx_eval.specs.Evaluated.{IsEvaluated}
 use Rattle.mpx_system.specs.Runs.{IsRun, Begin, AreWhole}
 use Rattle.mpx_system.proofs.Results.{some_at}

@@ -2,9 +2,9 @@
 use Rattle.std.specs.Prelude.{◌≡◌, ◌≢◌, ℕ, List, [], slice_get, unwrap_or}
 use Rattle.mpx_node.specs.Nodes.{NodeView}
 use Rattle.mpx_script.specs.ScriptView.{ScriptView}
-use Rattle.mpx_script.specs.Evaluation.{State, IsEvaluation}
-use Rattle.mpx_script.specs.Reports.{lines_in, waiting_in}
-use Rattle.mpx_script.specs.Transcripts.{text_upto}
+use Rattle.mpx_evaluation.specs.Evaluation.{State, IsEvaluation}
+use Rattle.mpx_evaluation.specs.Reports.{lines_in, waiting_in}
+use Rattle.mpx_evaluation.specs.Transcripts.{text_upto}
 use Rattle.mpx_system.specs.Runs.{IsRun, Begin, AreWhole}
 use Rattle.mpx_run.specs.declared.end.End.{End}
 use Rattle.mpx_run.specs.declared.end.End.TheVariants.{Finished, Waiting}

@@ -1,7 +1,7 @@
 //! The text of a run or an evaluation.
 ghost use Rattle.std.specs.Prelude.{◌≡◌, ◌++◌, ◌≤◌, ◌+◌, IfOk, OnOk, length, map, string_bytes};
-ghost use Rattle.mpx_script.specs.Reports.{transcripts_of};
-ghost use Rattle.mpx_script.specs.Transcripts.{rank_text, text_upto};
+ghost use Rattle.mpx_evaluation.specs.Reports.{transcripts_of};
+ghost use Rattle.mpx_evaluation.specs.Transcripts.{rank_text, text_upto};
 ghost use Rattle.mpx_run.specs.Reports.{EndsSo, IsEvaluatedText, IsReport, lines_at};
 
 use crate::end::End;

@@ -4,7 +4,7 @@ use Rattle.std.proofs.Math.ListN.{set, length-set}
 use Rattle.std.proofs.lemmas.Bool.{cases_eq}
 use Rattle.std.proofs.lemmas.Bool.Decides.{nat_tests}
 use Rattle.std.proofs.lemmas.List.{append-nil, get_or-set_same, get_or-set_other}
-use Rattle.mpx_script.specs.declared.statement.Statement.{Statement}
+use Rattle.mpx_statement.specs.declared.statement.Statement.{Statement}
 use Rattle.mpx_script.specs.ScriptView.{Adds}
 
 added_last : (from to : ℕ) (statement : Statement) (old mid new : List (List Statement)) → from ≤ to → to < length old → Adds from to statement old mid → new ≡ set mid to (get_or mid to [] ++ statement ∷ []) → get_or new to [] ≡ get_or old to [] ++ cond (leb from to && ltb to (to + 1)) (statement ∷ []) []

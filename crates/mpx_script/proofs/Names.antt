@@ -10,11 +10,11 @@ use Rattle.std.proofs.lemmas.List.Elements.{filter_map-append}
 use Rattle.std.proofs.lemmas.List.Folds.{list_any-append}
 use Rattle.std.proofs.lemmas.Map.Lookups.{exact_bytes}
 use Rattle.std.proofs.lemmas.Map.Text.{is_eq-slice_cmp}
-use Rattle.mpx_script.specs.Statements.{request_of, target_of}
+use Rattle.mpx_statement.specs.Statements.{request_of, target_of}
 use Rattle.mpx_script.specs.ScriptView.{AreBound, AreNames}
-use Rattle.mpx_script.specs.declared.statement.Statement.{Statement}
-use Rattle.mpx_script.specs.declared.statement.Statement.TheVariants.{Post, Wait, Ask}
-use Rattle.mpx_script.specs.declared.statement.Posting.TheVariants.{Call, Start, New, CreateGroup}
+use Rattle.mpx_statement.specs.declared.statement.Statement.{Statement}
+use Rattle.mpx_statement.specs.declared.statement.Statement.TheVariants.{Post, Wait, Ask}
+use Rattle.mpx_statement.specs.declared.statement.Posting.TheVariants.{Call, Start, New, CreateGroup}
 
 last_first : (a b : Bool) → (a || b) ≡ (b || a)
 last_first true true = refl

@@ -12,7 +12,7 @@ use Rattle.mpx_script.specs.Naming.{BoundNames, has_bad_name, has_unknown_name, 
 use Rattle.mpx_script.specs.Reading.{refusal, first_holding, plain_context, statements_limit}
 use Rattle.mpx_script.specs.Sentences.{IsRefusal, form_refusal, statement_refusal, names_refusal, call_refusal, draft_refusal, read_at}
 use Rattle.mpx_script.specs.declared.grammar.Form.{Form}
-use Rattle.mpx_script.specs.declared.statement.Statement.{Statement}
+use Rattle.mpx_statement.specs.declared.statement.Statement.{Statement}
 use Rattle.mpx_script.specs.declared.faults.LineError.{LineError}
 use Rattle.mpx_script.specs.declared.faults.LineError.TheVariants.{Fault, OutOfMemory}
 use Rattle.mpx_script.specs.declared.faults.ScriptFault.{ScriptFault}

@@ -36,13 +36,14 @@ use Rattle.mpx_script.specs.declared.grammar.Label.TheVariants.{Every, Numbered}
 use Rattle.mpx_script.specs.declared.grammar.Shape.{Shape}
 use Rattle.mpx_script.specs.declared.grammar.Waited.{Waited}
 use Rattle.mpx_script.specs.declared.grammar.Waited.TheVariants as W
-use Rattle.mpx_script.specs.declared.statement.Posting.{Posting}
-use Rattle.mpx_script.specs.declared.statement.Posting.TheVariants.{Call, Start, New, CreateGroup}
-use Rattle.mpx_script.specs.declared.statement.Question.{Question}
-use Rattle.mpx_script.specs.declared.statement.Question.TheVariants.{Neighbours, Compare, Translate}
-use Rattle.mpx_script.specs.declared.statement.Side.TheVariants.{Sources, Destinations}
-use Rattle.mpx_script.specs.declared.statement.Statement.{Statement}
-use Rattle.mpx_script.specs.declared.statement.Statement.TheVariants.{Post, Wait, Ask}
+use Rattle.mpx_statement.specs.Lookups.{below, named}
+use Rattle.mpx_statement.specs.declared.statement.Posting.{Posting}
+use Rattle.mpx_statement.specs.declared.statement.Posting.TheVariants.{Call, Start, New, CreateGroup}
+use Rattle.mpx_statement.specs.declared.statement.Question.{Question}
+use Rattle.mpx_statement.specs.declared.statement.Question.TheVariants.{Neighbours, Compare, Translate}
+use Rattle.mpx_statement.specs.declared.statement.Side.TheVariants.{Sources, Destinations}
+use Rattle.mpx_statement.specs.declared.statement.Statement.{Statement}
+use Rattle.mpx_statement.specs.declared.statement.Statement.TheVariants.{Post, Wait, Ask}
 
 infixl 10 ◌>>=◌
 abbrev pub ◌>>=◌ : {A B : Type 0} → Option A → (A → Option B) → Option B
@@ -52,11 +53,6 @@ option >>= next = option_and_then next option
 abbrev pub fails : (List ℕ → Bool) → Option (List ℕ) → Bool
 fails test None = false
 fails test (Some word) = not (test word)
-
--- the number as a natural one below the limit
-abbrev pub below : ℕ → ℤ → Option ℕ
-below limit (pos n) = if nat_lt n limit then Some n else None
-below limit (negsuc n) = None
 
 -- a number of ranks: from 1 to 64
 abbrev pub rank_count : ℤ → Option ℕ
@@ -69,11 +65,6 @@ ranks_number words = do
   head ← slice_get words 0
   number ← slice_get words 1
   if bytes_eq head (codes "ranks") && is_none (slice_get words 2) then number_of number else None
-
--- what a table has for a word
-abbrev pub named : {A : Type 0} → List (List ℕ × A) → List ℕ → Option A
-named [] word = None
-named (entry ∷ more) word = if bytes_eq word entry.0 then Some entry.1 else named more word
 
 -- STATEMENTS: a word for each kind of call, which with `i` before it stands for the nonblocking call, and one for each
 -- statement that doesn't post. Behind the word of a call stands its communicator, and behind that in the order `COLOUR KEY TAG

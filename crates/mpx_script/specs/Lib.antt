@@ -1,6 +1,5 @@
 pub mod Faults
 pub mod Words
-pub mod Statements
 pub mod Grammar
 pub mod Naming
 pub mod ScriptView
@@ -8,8 +7,3 @@ pub mod Reading
 pub mod Sentences
 pub mod PartialScripts
 pub mod Answer
-pub mod Ranks
-pub mod Evaluation
-pub mod Told
-pub mod Transcripts
-pub mod Reports

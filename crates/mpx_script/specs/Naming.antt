@@ -2,11 +2,11 @@
 use Rattle.std.specs.Prelude.{ℕ, nat_le, Bool, false, not, ◌==◌, ◌||◌, ◌&&◌, List, [], ◌∷◌, ◌++◌, length, slice_index_or, codes, bytes_eq, Option, Some, None, pos, negsuc}
 use Rattle.std.specs.List.{filter_map, list_all, list_any, range_with_len}
 use Rattle.std.specs.Option.{option_map_or, option_to_list}
-use Rattle.mpx_script.specs.Statements.{communicators_of, requests_of, target_of, request_of}
+use Rattle.mpx_statement.specs.Statements.{communicators_of, requests_of, target_of, request_of}
 use Rattle.mpx_script.specs.Grammar.{DirectiveSyntax, label_in, statement_in}
 use Rattle.mpx_script.specs.declared.grammar.Label.{Label}
 use Rattle.mpx_script.specs.declared.grammar.Label.TheVariants.{Every, Numbered}
-use Rattle.mpx_script.specs.declared.statement.Statement.{Statement}
+use Rattle.mpx_statement.specs.declared.statement.Statement.{Statement}
 
 -- a to z
 abbrev pub is_small_letter : ℕ → Bool

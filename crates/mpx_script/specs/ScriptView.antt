@@ -4,8 +4,8 @@ use Rattle.std.specs.BTreeSet.{BTreeSet, contains_by}
 use Rattle.std.specs.Cmp.Lexicographic.{slice_cmp}
 use Rattle.std.specs.List.{filter_map, list_any}
 use Rattle.std.specs.Ordering.{nat_cmp}
-use Rattle.mpx_script.specs.Statements.{request_of, target_of}
-use Rattle.mpx_script.specs.declared.statement.Statement.{Statement}
+use Rattle.mpx_statement.specs.Statements.{request_of, target_of}
+use Rattle.mpx_statement.specs.declared.statement.Statement.{Statement}
 
 -- how many ranks there are, and each rank's statements in their order
 pub record ScriptView : Type 0 where

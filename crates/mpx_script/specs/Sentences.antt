@@ -14,7 +14,7 @@ use Rattle.mpx_script.specs.declared.grammar.Form.{Form}
 use Rattle.mpx_script.specs.declared.script_line.Assignment.{Assignment}
 use Rattle.mpx_script.specs.declared.script_line.Sentence.{Sentence}
 use Rattle.mpx_script.specs.declared.script_line.Sentence.TheVariants.{Passed, Opening, Further}
-use Rattle.mpx_script.specs.declared.statement.Statement.{Statement}
+use Rattle.mpx_statement.specs.declared.statement.Statement.{Statement}
 use Rattle.mpx_script.specs.declared.faults.LineError.{LineError}
 use Rattle.mpx_script.specs.declared.faults.LineError.TheVariants.{Fault, OutOfMemory}
 

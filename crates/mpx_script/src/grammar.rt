@@ -1,16 +1,16 @@
 // What a single word of a script means.
 ghost use Rattle.std.specs.Prelude.{◌≡◌, map, IfOk};
 ghost use Rattle.mpx_post.specs.Kinds.{family_of};
-ghost use Rattle.mpx_script.specs.Grammar.{below, call_with, rank_count, ranks_number, label_of, named, kind_named, started_named, local_named, form_named, operation_named, type_named, list_named, rank_named, ranks_named, is_nonblocking, is_one, has_second, has_ranks, colour_named, is_arrow, shape_in, shape_of, shape_of_new};
+ghost use Rattle.mpx_script.specs.Grammar.{call_with, rank_count, ranks_number, label_of, kind_named, started_named, local_named, form_named, operation_named, type_named, list_named, rank_named, ranks_named, is_nonblocking, is_one, has_second, has_ranks, colour_named, is_arrow, shape_in, shape_of, shape_of_new};
+ghost use Rattle.mpx_statement.specs.Lookups.{below, named};
 ghost use Rattle.mpx_script.specs.Naming.{is_small_letter, is_name_byte, is_name};
 ghost use Rattle.mpx_script.specs.Words.{words};
 ghost use Rattle.std.specs.List.{list_all};
 
-use crate::rank_list::RankList;
-use crate::statement::Side;
 use crate::words::first_word;
 use mpx_num::{Numbers, Op, Ty, parse_number};
 use mpx_post::{Call, Family, Kind, Mode, NewCommunicator, Number};
+use mpx_statement::{RankList, Side};
 use std::alloc::{AllocError, Global};
 
 /// Which ranks a further line is for.

@@ -2,12 +2,11 @@
 ghost use Rattle.std.specs.Prelude.{◌≡◌, ◌<◌, ℕ, List, [], ◌∷◌, ◌++◌, OnErr, OnOk, vec_capacity, vec_len};
 ghost use Rattle.std.specs.BTreeSet.{IsUnchanged};
 ghost use Rattle.mpx_script.specs.ScriptView.{AreBound, AreNames};
-ghost use Rattle.mpx_script.specs.declared.statement.Statement.{Statement as StatementView};
+ghost use Rattle.mpx_statement.specs.declared.statement.Statement.{Statement as StatementView};
 ghost use Rattle.mpx_script.specs.Naming.{is_bound, names_bound};
 
-use crate::statement::Statement;
-use crate::word::Word;
 use join_core::OutOfMemory;
+use mpx_statement::{Statement, Word};
 use std::alloc::Global;
 use std::collections::BTreeSet;
 use std::marker::Model;
@@ -24,7 +23,7 @@ pub struct RankStatements {
 
 impl Model for RankStatements {
     ghost use Rattle.std.specs.Prelude.{List};
-    ghost use Rattle.mpx_script.specs.declared.statement.Statement.{Statement as StatementView};
+    ghost use Rattle.mpx_statement.specs.declared.statement.Statement.{Statement as StatementView};
     ghost use Rattle.mpx_script.specs.ScriptView.{AreBound};
 
     ghost Value = { List StatementView };

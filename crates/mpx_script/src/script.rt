@@ -5,8 +5,8 @@ ghost use Rattle.mpx_script.specs.Naming.{is_bound, names_bound, nothing_bound};
 
 use crate::rank_statements::RankStatements;
 use crate::script_line::Assignment;
-use crate::statement::Statement;
 use join_core::OutOfMemory;
+use mpx_statement::Statement;
 use std::alloc::{AllocError, Global};
 use std::marker::Model;
 

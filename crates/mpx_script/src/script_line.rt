@@ -13,17 +13,15 @@ use crate::calls::{draft_in, number_at};
 use crate::faults::{LineError, ScriptFault};
 use crate::grammar::{Asked, Form, Waited, rank_count, ranks_named, ranks_number, shape_of};
 use crate::naming::names_fault;
-use crate::rank_list::RankList;
 use crate::script::Script;
-use crate::statement::{Posting, Question, Statement};
 use crate::syntax::{
     AskSyntax, CallSyntax, DirectiveSyntax, NewSyntax, ask_in, call_in, directive_in, lacks,
     new_in, ranks_labelled,
 };
-use crate::word::{Word, WordList};
 use crate::words::{counts, first_word, is_ascii};
 use join_core::OutOfMemory;
 use mpx_post::{Draft, Family, Kind, Mode, NewCommunicator};
+use mpx_statement::{Posting, Question, RankList, Statement, Word, WordList};
 use std::alloc::{AllocError, Global};
 
 /// How many statements a script may have.

@@ -1,12 +1,12 @@
 -- What harvests keep of a run, and of the requests of a rank.
-use Rattle.std.proofs.Common.{◌≡◌, ℕ, ◌&&◌, true, List, [], ◌∷◌, Option, Some, None, refl, sym, ap, ◌∙◌}
+use Rattle.std.proofs.Common.{◌≡◌, ℕ, true, List, [], ◌∷◌, Option, Some, None, refl, sym, ap, ◌∙◌}
 use Rattle.std.specs.Prelude.{is_some, slice_get}
 use Rattle.mpx_name.specs.Name.{Name}
 use Rattle.mpx_node.specs.declared.finished.Finished.{Finished}
 use Rattle.mpx_node.specs.Nodes.{NodeView, next_result, results_on}
 use Rattle.mpx_comm.specs.Harvested.{Harvested, stay, on}
 use Rattle.mpx_comm.specs.Later.{Later}
-use Rattle.mpx_script.specs.Transcripts.{outcome_text}
+use Rattle.mpx_evaluation.specs.Transcripts.{outcome_text}
 use Rattle.mpx_world.proofs.Lists.{both_true}
 use Rattle.mpx_system.specs.Running.{KeepsNode, Open, are_held, is_held, request_line, result_line}
 use Rattle.mpx_system.proofs.Running.{keeps_node_harvest, keeps_node_itself, keeps_node_then}

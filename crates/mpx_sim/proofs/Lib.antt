@@ -1,3 +1,3 @@
-pub mod Bindings
+pub mod Tried
 pub mod Harvests
 pub mod Sending

@@ -15,7 +15,7 @@ use Rattle.mpx_format.specs.Decoding.{Spells, Refuses, most_bytes, decoded}
 use Rattle.mpx_format.specs.Encoding.{is_too_long, length_told}
 use Rattle.mpx_format.proofs.Decoded.{decoded_again}
 use Rattle.mpx_parts.specs.Facts.{OnlyFactsOf}
-use Rattle.mpx_script.specs.declared.statement.Statement.{Statement}
+use Rattle.mpx_statement.specs.declared.statement.Statement.{Statement}
 use Rattle.mpx_sim.specs.declared.frame.Frame.{Frame}
 use Rattle.mpx_system.specs.Running.{IsUnderWay, RankView}
 use Rattle.mpx_sim.specs.Shown.{part_of, shown}

@@ -1,9 +1,7 @@
 -- What the program's processes show.
 use Rattle.std.specs.Prelude.{ℕ, List, map, string_bytes, Option, Result, Ok, Err}
-use Rattle.std.specs.BTreeMap.{BTreeMap, get}
-use Rattle.std.specs.Cmp.Lexicographic.{slice_cmp}
+use Rattle.std.specs.BTreeMap.{BTreeMap}
 use Rattle.std.specs.Option.{option_copied, option_map}
-use Rattle.std.specs.Ordering.{nat_cmp}
 use Rattle.mpx_board.specs.Boards.{Look, empty}
 use Rattle.mpx_board.specs.Contexts.{look_of}
 use Rattle.mpx_board.specs.Parts.{PartsView}
@@ -17,7 +15,8 @@ use Rattle.mpx_node.specs.Shown.{node_of}
 use Rattle.mpx_sim.specs.declared.frame.Frame.{Frame}
 use Rattle.mpx_sim.specs.declared.rank.Rank.{Rank}
 use Rattle.mpx_sim.specs.declared.rank.Wait.{Wait}
-use Rattle.mpx_system.specs.Running.{Names, Open, RankView, WaitView}
+use Rattle.mpx_evaluation.specs.Standing.{WaitView, looked_up}
+use Rattle.mpx_system.specs.Running.{Names, Open, RankView}
 
 abbrev pub name_in : Option Comm → Option Name
 name_in o = option_map (λ (comm : Comm). comm.name) o
@@ -31,10 +30,10 @@ call_in (Ok request) = Ok (call_of request)
 call_in (Err refusal) = Err refusal
 
 abbrev pub bound_of : BTreeMap (List ℕ) (Option Comm) → Names
-bound_of bound word = option_map name_in (get (slice_cmp nat_cmp) bound word)
+bound_of bound word = option_map name_in (looked_up bound word)
 
 abbrev pub requests_of : BTreeMap (List ℕ) Request → Open
-requests_of opened word = option_map call_of (get (slice_cmp nat_cmp) opened word)
+requests_of opened word = option_map call_of (looked_up opened word)
 
 abbrev pub wait_of : Wait → WaitView
 wait_of w = record { name = w.request.name; call = w.request.call; target = option_copied w.target }

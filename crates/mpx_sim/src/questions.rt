@@ -2,8 +2,8 @@
 ghost use Rattle.std.specs.Prelude.{◌≡◌, IfOk, string_bytes};
 ghost use Rattle.std.specs.Option.{option_copied, option_map};
 ghost use Rattle.mpx_node.specs.Shown.{node_of};
-ghost use Rattle.mpx_script.specs.Transcripts.{line_text};
-ghost use Rattle.mpx_script.specs.Ranks.{birth_in};
+ghost use Rattle.mpx_evaluation.specs.Transcripts.{line_text};
+ghost use Rattle.mpx_evaluation.specs.Ranks.{birth_in};
 ghost use Rattle.mpx_system.specs.Running.{answered_on, communicator_in, known_to};
 ghost use Rattle.mpx_sim.specs.Shown.{bound_of};
 

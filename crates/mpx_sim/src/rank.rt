@@ -1,14 +1,11 @@
 ghost use Rattle.std.specs.Prelude.{◌≡◌, ◌<◌, ◌≤◌, ◌↔◌, ◌∷◌, ℕ, List, IfOk, OnOk, IsTrue, Some, None, [], false, map, string_bytes};
-ghost use Rattle.std.specs.BTreeMap.{get};
-ghost use Rattle.std.specs.Cmp.Lexicographic.{slice_cmp};
 ghost use Rattle.std.specs.Option.{option_copied, option_map};
-ghost use Rattle.std.specs.Ordering.{nat_cmp};
 ghost use Rattle.mpx_comm.specs.Comms.{gathering_in};
 ghost use Rattle.mpx_node.specs.Nodes.{Opens, checked_on, gathers_on};
 ghost use Rattle.mpx_node.specs.Shown.{node_of};
-ghost use Rattle.mpx_script.specs.declared.statement.Statement.TheVariants.{Ask, Post, Wait as WaitFor};
-ghost use Rattle.mpx_script.specs.Evaluation.{bound_at_start};
-ghost use Rattle.mpx_system.specs.Running.{KeepsNode, Tries, binds, communicator_in, names_in, tried_on, tried_post};
+ghost use Rattle.mpx_statement.specs.declared.statement.Statement.TheVariants.{Ask, Post, Wait as WaitFor};
+ghost use Rattle.mpx_evaluation.specs.Evaluation.{bound_at_start};
+ghost use Rattle.mpx_system.specs.Running.{KeepsNode, Tries, communicator_in, names_in, tried_on, tried_post};
 ghost use Rattle.mpx_sim.specs.Shown.{bound_of, call_in, name_in, wait_of};
 
 use crate::questions::answer;
@@ -16,6 +13,7 @@ use crate::requests::{are_done, close_all};
 use join_core::{Exact, OutOfMemory};
 use mpx_board::Board;
 use mpx_comm::{Comm, Desk, Gathering, Request, Tested};
+use mpx_evaluation::bind;
 use mpx_group::Proc;
 use mpx_name::Name;
 use mpx_node::Node;
@@ -397,25 +395,6 @@ fn words_at_start(
         bound.insert(Word::new(alloc, b"world")?, Some(world))?;
     }
     Ok(bound)
-}
-
-// Binds a word, where there is one; what was bound stays.
-fn bind<V: Drop>(
-    alloc: Global,
-    bound: &mut BTreeMap<Word, V>,
-    target: Option<&Word>,
-    to: V,
-) -> Result<(), OutOfMemory>
-    ensures { OnOk result ((word : List ℕ) → get (slice_cmp nat_cmp) bound.new word ≡ binds (option_copied target.entry) to (get (slice_cmp nat_cmp) bound.old) word) }
-{
-    let Some(word) = target else {
-        return Ok(());
-    };
-    if bound.contains_key(word) {
-        return Ok(());
-    }
-    bound.insert(word.copy(alloc)?, to)?;
-    Ok(())
 }
 
 // Stores the next result on each context, where there is one. A rank that awaits the outcome of a blocking call looks for that

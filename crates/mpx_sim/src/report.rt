@@ -1,8 +1,8 @@
 //! What a run comes to.
 ghost use Rattle.std.specs.Prelude.{◌≡◌, ◌++◌, ◌≤◌, ◌+◌, ◌∷◌, [], cond, IfOk, OnOk, length, map, slice_get, string_bytes};
 ghost use Rattle.mpx_node.specs.Shown.{node_of};
-ghost use Rattle.mpx_script.specs.Evaluation.{State, IsEvaluation};
-ghost use Rattle.mpx_script.specs.Reports.{transcripts_of, which};
+ghost use Rattle.mpx_evaluation.specs.Evaluation.{State, IsEvaluation};
+ghost use Rattle.mpx_evaluation.specs.Reports.{transcripts_of, which};
 ghost use Rattle.mpx_system.specs.Running.{RankView, is_waiting_at};
 ghost use Rattle.mpx_system.specs.Runs.{AreWhole, Begin, IsRun};
 ghost use Rattle.mpx_sim.specs.Shown.{rank_of};

@@ -3,7 +3,8 @@ ghost use Rattle.std.specs.Prelude.{◌≡◌, ◌++◌, ℕ, List, IfOk, IsTrue
 ghost use Rattle.mpx_node.specs.Shown.{node_of};
 ghost use Rattle.mpx_comm.specs.Harvested.{Harvested};
 ghost use Rattle.mpx_comm.specs.Later.{Later};
-ghost use Rattle.mpx_system.specs.Running.{KeepsNode, are_held, closes, closes_all, is_held, request_line, wait_lines};
+ghost use Rattle.mpx_evaluation.specs.Standing.{closed, closed_all};
+ghost use Rattle.mpx_system.specs.Running.{KeepsNode, are_held, is_held, request_line, wait_lines};
 ghost use Rattle.mpx_sim.specs.Shown.{requests_of};
 
 use join_core::OutOfMemory;
@@ -59,7 +60,7 @@ pub(crate) fn close_all(
     requires { are_held (node_of desk.old.host) (requests_of requests.old) words.now ≡ true }
     ensures keeps { OnOk result (KeepsNode (node_of desk.old.host) (node_of desk.new.host)) }
     ensures lines { OnOk result (map string_bytes lines.new.items ≡ map string_bytes lines.old.items ++ wait_lines (node_of desk.old.host) (requests_of requests.old) words.now) }
-    ensures requests { OnOk result ((word : List ℕ) → requests_of requests.new word ≡ closes_all words.now (requests_of requests.old) word) }
+    ensures requests { OnOk result ((word : List ℕ) → requests_of requests.new word ≡ closed_all words.now (requests_of requests.old) word) }
 {
     for word in words {
         let text = close(alloc, desk, requests, word)?;
@@ -79,7 +80,7 @@ fn close(
     ensures harvested { Harvested (node_of desk.old.host) (node_of desk.new.host) }
     ensures later { Later (node_of desk.old.host) (node_of desk.new.host) }
     ensures line { IfOk result (λ text. string_bytes text ≡ request_line (node_of desk.old.host) (requests_of requests.old word.now)) }
-    ensures requests { OnOk result ((other : List ℕ) → requests_of requests.new other ≡ closes word.now (requests_of requests.old) other) }
+    ensures requests { OnOk result ((other : List ℕ) → requests_of requests.new other ≡ closed word.now (requests_of requests.old) other) }
 {
     let Some(request) = requests.remove(word) else {
         return idle_line(alloc);

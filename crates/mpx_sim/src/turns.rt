@@ -1,7 +1,7 @@
 ghost use Rattle.std.specs.Prelude.{◌≡◌, ◌<◌, ◌≤◌, ◌+◌, All, IfOk, OnOk, length, map, slice_get, List, Some, ℕ};
 ghost use Rattle.mpx_board.specs.Boards.{Look, join_all};
 ghost use Rattle.mpx_parts.specs.Facts.{OnlyFactsOf};
-ghost use Rattle.mpx_script.specs.declared.statement.Statement.{Statement as Said};
+ghost use Rattle.mpx_statement.specs.declared.statement.Statement.{Statement as Said};
 ghost use Rattle.mpx_sim.specs.Shown.{rank_of, part_of};
 ghost use Rattle.mpx_system.specs.Running.{IsUnderWay, RankView, Starts, StartsAt};
 

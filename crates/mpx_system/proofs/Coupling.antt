@@ -27,23 +27,23 @@ use Rattle.mpx_world.proofs.Truth.{told_agrees}
 use Rattle.mpx_world.proofs.Steps.{Holds, board_so, holds_happens, holds_start, at_here}
 use Rattle.mpx_world.proofs.Born.{gathered_there}
 use Rattle.mpx_world.proofs.Opened.{AllIn, gathering_opened, in_happens, in_start}
-use Rattle.mpx_script.specs.declared.statement.Posting.{Posting}
-use Rattle.mpx_script.specs.declared.statement.Question.{Question}
-use Rattle.mpx_script.specs.declared.statement.Statement.{Statement}
-use Rattle.mpx_script.specs.declared.statement.Statement.TheVariants.{Post, Wait, Ask}
-use Rattle.mpx_script.specs.Statements.{Gathers as Asked, bound_to, draft_of, gathers_of, posted_on as word_of, started_as}
-use Rattle.mpx_script.specs.Grammar.{named}
-use Rattle.mpx_script.specs.Ranks.{Bound, Communicator, NullCommunicator, Todo, Do, Await, Local, answered_by, answers, attempt, attempt_in, attempt_on, awaited_by, bind, bound_by, communicator_of, made_on, next_call, done, post_gathered, post_on, step}
-use Rattle.mpx_script.specs.Ranks.{answered as answered_rank}
-use Rattle.mpx_script.specs.Evaluation.{State, start, bound_at_start, world_of, statements_of, known, or_stay, goes_on, move, moves, IsReached}
-use Rattle.mpx_script.specs.Evaluation.{history as history_of_ranks}
-use Rattle.mpx_script.specs.Told.{CarriesOut, none}
-use Rattle.mpx_script.proofs.Fronts.{append-nil}
-use Rattle.mpx_script.proofs.Steps.{heard, posted, started, told_at_once, turned_down, waited, step_asks, step_ends, step_hears, step_passes, step_posts, step_refused, step_starts, step_stays, step_waits}
-use Rattle.mpx_script.proofs.Ways.{step-grows}
-use Rattle.mpx_script.proofs.Ahead.{goes_on_cases}
-use Rattle.mpx_script.proofs.Ends.{goes_on-at}
-use Rattle.mpx_script.proofs.Tells.{carries_out-grows, step-carries_out, carried_out-tell, each-me, each-bound, given_by, mapped_some, named-bound}
+use Rattle.mpx_statement.specs.declared.statement.Posting.{Posting}
+use Rattle.mpx_statement.specs.declared.statement.Question.{Question}
+use Rattle.mpx_statement.specs.declared.statement.Statement.{Statement}
+use Rattle.mpx_statement.specs.declared.statement.Statement.TheVariants.{Post, Wait, Ask}
+use Rattle.mpx_statement.specs.Statements.{Gathers as Asked, bound_to, draft_of, gathers_of, posted_on as word_of, started_as}
+use Rattle.mpx_statement.specs.Lookups.{named}
+use Rattle.mpx_evaluation.specs.Ranks.{Bound, Communicator, NullCommunicator, Todo, Do, Await, Local, answered_by, answers, attempt, attempt_in, attempt_on, awaited_by, bind, bound_by, communicator_of, made_on, next_call, done, post_gathered, post_on, step}
+use Rattle.mpx_evaluation.specs.Ranks.{answered as answered_rank}
+use Rattle.mpx_evaluation.specs.Evaluation.{State, start, bound_at_start, world_of, statements_of, known, or_stay, goes_on, move, moves, IsReached}
+use Rattle.mpx_evaluation.specs.Evaluation.{history as history_of_ranks}
+use Rattle.mpx_evaluation.specs.Told.{CarriesOut, none}
+use Rattle.mpx_evaluation.proofs.Fronts.{append-nil}
+use Rattle.mpx_evaluation.proofs.Steps.{heard, posted, started, told_at_once, turned_down, waited, step_asks, step_ends, step_hears, step_passes, step_posts, step_refused, step_starts, step_stays, step_waits}
+use Rattle.mpx_evaluation.proofs.Ways.{step-grows}
+use Rattle.mpx_evaluation.proofs.Ahead.{goes_on_cases}
+use Rattle.mpx_evaluation.proofs.Ends.{goes_on-at}
+use Rattle.mpx_evaluation.proofs.Tells.{carries_out-grows, step-carries_out, carried_out-tell, each-me, each-bound, given_by, mapped_some, named-bound}
 use Rattle.mpx_system.specs.Systems.{System, node_births, node_tells, posts_bound, posts_gathered, posts_in, posts_of, Doing, Nets, Drives, does, does_all, MayDo, MayDoAll, start_system, TellsResults}
 use Rattle.mpx_system.specs.Running.{Tried, answered_on, communicator_in, known_to, name_of, names_in, tried, tried_gathered, tried_in, tried_post}
 

@@ -1,6 +1,6 @@
 -- What the processes of a run come to.
-use Rattle.std.proofs.Common.{◌≡◌, ℕ, zero, suc, ◌+◌, ◌<◌, ◌≤◌, Bool, true, false, cond, List, [], ◌∷◌, ◌++◌, length, map, take, drop, Option, Some, None, refl, sym, ap, ◌∙◌, subst, arith, pos, codes}
-use Rattle.std.specs.Prelude.{slice_get, nat_lt, unwrap_or, ◌||◌, is_some, IfOk, Result, Ok, Err}
+use Rattle.std.proofs.Common.{◌≡◌, ℕ, zero, suc, ◌+◌, ◌<◌, ◌≤◌, Bool, true, false, cond, List, [], ◌∷◌, ◌++◌, length, map, take, Option, Some, None, refl, sym, ap, ◌∙◌, subst, arith}
+use Rattle.std.specs.Prelude.{slice_get, nat_lt, ◌||◌, is_some}
 use Rattle.std.proofs.lemmas.List.{map-append, length-map}
 use Rattle.std.proofs.lemmas.Option.{slice_get-map}
 use Rattle.std.proofs.lemmas.Bool.Decides.{nat_tests}
@@ -8,17 +8,18 @@ use Rattle.mpx_node.specs.Nodes.{NodeView}
 use Rattle.mpx_board.specs.Boards.{Look}
 use Rattle.mpx_world.proofs.Lists.{slice_get-append, slice_get-push}
 use Rattle.mpx_world.proofs.Steps.{sound_of}
-use Rattle.mpx_script.specs.declared.statement.Statement.{Statement}
+use Rattle.mpx_statement.specs.declared.statement.Statement.{Statement}
 use Rattle.mpx_script.specs.ScriptView.{ScriptView}
-use Rattle.mpx_script.specs.Ranks.{Todo, Line, Local, doing}
-use Rattle.mpx_script.specs.Evaluation.{State, IsEvaluation, IsPrefixOf, known}
-use Rattle.mpx_script.specs.Transcripts.{line_text}
-use Rattle.mpx_script.specs.Reports.{which, is_left, lines_in, waiting_in}
-use Rattle.mpx_script.proofs.Ways.{Way, way-adds}
-use Rattle.mpx_script.proofs.Ahead.{on_way-reached, finished}
-use Rattle.mpx_system.specs.Running.{RankView, WaitView, IsUnderWay, todo_of, has_statements, is_waiting_at}
+use Rattle.mpx_evaluation.specs.Ranks.{Todo, Line, Local, doing}
+use Rattle.mpx_evaluation.specs.Evaluation.{State, IsEvaluation, IsPrefixOf, known}
+use Rattle.mpx_evaluation.specs.Transcripts.{line_text}
+use Rattle.mpx_evaluation.specs.Reports.{which, is_left, lines_in, waiting_in}
+use Rattle.mpx_evaluation.proofs.Ways.{Way, way-adds}
+use Rattle.mpx_evaluation.proofs.Ahead.{on_way-reached, finished}
+use Rattle.mpx_evaluation.specs.Standing.{WaitView, todo_of, has_statements}
+use Rattle.mpx_system.specs.Running.{RankView, IsUnderWay, is_waiting_at}
 use Rattle.mpx_system.specs.Runs.{IsRun, Begin, AreWhole}
-use Rattle.mpx_script.proofs.Tells.{mapped_some}
+use Rattle.mpx_evaluation.proofs.Tells.{mapped_some}
 use Rattle.mpx_system.proofs.Coupling.{tells_results}
 use Rattle.mpx_system.proofs.Running.{coupled}
 

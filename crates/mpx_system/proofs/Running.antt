@@ -1,6 +1,6 @@
 -- What the steps of a process keep of a run.
 use Rattle.std.proofs.Common.{◌≡◌, ℕ, zero, suc, ◌+◌, ◌<◌, Bool, true, false, cond, List, [], ◌∷◌, ◌++◌, length, map, take, drop, set, get_or, Option, Some, None, refl, sym, ap, ◌∙◌, subst, arith, length-append}
-use Rattle.std.specs.Prelude.{slice_get, is_some, unwrap_or, Result, Ok, Err, OnOk, OnErr}
+use Rattle.std.specs.Prelude.{slice_get, unwrap_or, Result, Ok, Err, OnOk, OnErr}
 use Rattle.std.specs.List.{All, items_where_true}
 use Rattle.std.proofs.lemmas.Grind.{get_or_picked}
 use Rattle.std.proofs.lemmas.List.{map-append, length-set}
@@ -31,22 +31,24 @@ use Rattle.mpx_world.specs.Worlds.{goes_on as goes_on_world}
 use Rattle.mpx_world.proofs.Lists.{slice_get-append, slice_get-push, slice_get-push_cases}
 use Rattle.mpx_world.proofs.Steps.{at_here}
 use Rattle.mpx_world.proofs.Reached.{may_happen}
-use Rattle.mpx_script.specs.declared.statement.Posting.{Posting}
-use Rattle.mpx_script.specs.declared.statement.Question.{Question}
-use Rattle.mpx_script.specs.declared.statement.Statement.{Statement}
-use Rattle.mpx_script.specs.declared.statement.Statement.TheVariants.{Post, Wait, Ask}
-use Rattle.mpx_script.specs.Statements.{bound_to, posted_on as word_of, started_as}
-use Rattle.mpx_script.specs.Grammar.{named}
-use Rattle.mpx_script.specs.Ranks.{answered as answered_rank}
-use Rattle.mpx_script.specs.Ranks.{Await, Bindings, Bound, NullCommunicator, Line, Local, Told, Refused, answers, awaited_by, bind, bound_by, doing, done, next_call, step, waited_lines}
-use Rattle.mpx_script.specs.Transcripts.{line_text, outcome_text}
-use Rattle.mpx_script.proofs.Ends.{goes_on-at}
-use Rattle.mpx_script.proofs.Fronts.{append-nil}
-use Rattle.mpx_script.proofs.Steps.{heard, posted, started, told_at_once, turned_down, waited, step_asks, step_hears, step_passes, step_posts, step_refused, step_starts}
+use Rattle.mpx_statement.specs.declared.statement.Posting.{Posting}
+use Rattle.mpx_statement.specs.declared.statement.Question.{Question}
+use Rattle.mpx_statement.specs.declared.statement.Statement.{Statement}
+use Rattle.mpx_statement.specs.declared.statement.Statement.TheVariants.{Post, Wait, Ask}
+use Rattle.mpx_statement.specs.Statements.{bound_to, posted_on as word_of, started_as}
+use Rattle.mpx_statement.specs.Lookups.{named}
+use Rattle.mpx_evaluation.specs.Ranks.{answered as answered_rank}
+use Rattle.mpx_evaluation.specs.Ranks.{Await, Bindings, Bound, NullCommunicator, Line, Local, Told, Refused, answers, awaited_by, bind, bound_by, doing, done, next_call, step, waited_lines}
+use Rattle.mpx_evaluation.specs.Transcripts.{line_text, outcome_text}
+use Rattle.mpx_evaluation.proofs.Ends.{goes_on-at}
+use Rattle.mpx_evaluation.proofs.Fronts.{append-nil}
+use Rattle.mpx_evaluation.proofs.Steps.{heard, posted, started, told_at_once, turned_down, waited, step_asks, step_hears, step_passes, step_posts, step_refused, step_starts}
 use Rattle.mpx_system.specs.Systems.{System, node_tells, posts_bound, posts_of, Doing, Nets, Drives, does, does_all, MayDo, MayDoAll, Leads, start_system}
-use Rattle.mpx_system.specs.Running.{RankView, WaitView, Names, Tried, answered_on, are_held, closes_all, name_of, names_in, or_new, binds, given_name, tried, todo_of, wait_lines, IsAmong, stored, harvested, Stands, IsUnderWay, Keeps, KeepsNode, Moves, Receives, StartsAt, Starts}
+use Rattle.mpx_evaluation.specs.Standing.{WaitView, closed_all, or_new, binds, todo_of}
+use Rattle.mpx_system.specs.Running.{RankView, Names, Tried, answered_on, are_held, name_of, names_in, given_name, tried, wait_lines, IsAmong, stored, harvested, Stands, IsUnderWay, Keeps, KeepsNode, Moves, Receives, StartsAt, Starts}
 use Rattle.mpx_system.proofs.Coupling.{Couples, Driven, answered, answer_born, answer_same, attempt_at, attempts_same, couples_all, couples_start, driven, each_other, goes_on-other, not_same}
-use Rattle.mpx_system.proofs.Waiting.{named-more, are_all_closed, passing}
+use Rattle.mpx_evaluation.proofs.Standing.{binds_seen, named_behind, named_without_all}
+use Rattle.mpx_system.proofs.Waiting.{passing}
 
 -- LISTS
 
@@ -284,17 +286,9 @@ moves_then a b c f g script ranks size processes frames p l at run =
 -- BINDINGS
 
 -- a word more, seen as names
-names_by : (u : Bool) (before : Option Bound) (new : Bound) → option_map name_of (cond u (Some (or_new before new)) before) ≡ cond u (Some (or_new (option_map name_of before) (name_of new))) (option_map name_of before)
-names_by true None new = refl
-names_by true (Some old) new = refl
-names_by false before new = refl
-
-names_behind : (xs : Bindings) (to : List ℕ) (new : Bound) (word : List ℕ) → names_in (xs ++ (to, new) ∷ []) word ≡ cond (bytes_eq word to) (Some (or_new (names_in xs word) (name_of new))) (names_in xs word)
-names_behind xs to new word = ap (option_map name_of) (named-more xs to new word) ∙ names_by (bytes_eq word to) (named xs word) new
-
 names_bound : (target : Option (List ℕ)) (bound : Names) (xs : Bindings) (new : Bound) (word : List ℕ) → bound word ≡ names_in xs word → binds target (name_of new) bound word ≡ names_in (bind target new xs) word
 names_bound None bound xs new word e = e
-names_bound (Some to) bound xs new word e = ap (λ o. cond (bytes_eq word to) (Some (or_new o (name_of new))) o) e ∙ sym (names_behind xs to new word)
+names_bound (Some to) bound xs new word e = ap (λ o. cond (bytes_eq word to) (Some (or_new o (name_of new))) o) e ∙ sym (ap (option_map name_of) (named_behind xs to new word) ∙ binds_seen name_of (Some to) new (named xs) word)
 
 -- what an answer binds a word to is what its outcome names, where the birth of a new communicator is known
 named_so : (outcome : Outcome) (born : Option BirthView) → ((new : Name) (size rank : ℕ) → outcome ≡ NewComm new size rank → (birth : BirthView) × (born ≡ Some birth)) → name_of (bound_by outcome born) ≡ given_name outcome
@@ -403,7 +397,7 @@ module _ (script : List (List Statement)) (ranks size : ℕ) (processes : List R
       (record {
         me = stands.me;
         bound = stands.bound;
-        requests = λ other. (λ i. cond (bytes_eq other word) (Some (or_new (stands.requests other i) (sym found.2 i, sym count i))) (stands.requests other i)) ∙ sym (named-more local.requests word (m.name, next_call m.name local.made) other);
+        requests = λ other. (λ i. cond (bytes_eq other word) (Some (or_new (stands.requests other i) (sym found.2 i, sym count i))) (stands.requests other i)) ∙ sym (named_behind local.requests word (m.name, next_call m.name local.made) other);
         todo = refl;
         lines = stands.lines ∙ ap (map line_text) (sym (append-nil local.lines));
       })
@@ -426,20 +420,20 @@ module _ (script : List (List Statement)) (ranks size : ℕ) (processes : List R
 
   -- it passes a wait whose results its node holds
   passes_next : (words : List (List ℕ)) (rest : List Statement) → r.waits ≡ None → r.todo ≡ Wait words ∷ rest → are_held r.node r.requests words ≡ true
-      → IsUnderWay script ranks size (set processes p (record { me = r.me; node = r.node; bound = r.bound; requests = closes_all words r.requests; todo = rest; waits = None; lines = r.lines ++ wait_lines r.node r.requests words })) frames
+      → IsUnderWay script ranks size (set processes p (record { me = r.me; node = r.node; bound = r.bound; requests = closed_all words r.requests; todo = rest; waits = None; lines = r.lines ++ wait_lines r.node r.requests words })) frames
   passes_next words rest w t h =
       let local = run.system.ranks p in
       let stands = run.shows.stands p r at l in
       let todo = stands_so None (Wait words ∷ rest) w t in
       let comes = passing r.node words r.requests local.requests stands.requests h in
       let known : answers told (awaited_by local.requests words) ≡ Some comes.told = ap (λ n. answers (node_tells n) (awaited_by local.requests words)) (sym (run.shows.nodes p r at)) ∙ comes.known_as in
-      moved [] (done local (waited local words (doing rest) comes.told)) (record { me = r.me; node = r.node; bound = r.bound; requests = closes_all words r.requests; todo = rest; waits = None; lines = r.lines ++ wait_lines r.node r.requests words })
+      moved [] (done local (waited local words (doing rest) comes.told)) (record { me = r.me; node = r.node; bound = r.bound; requests = closed_all words r.requests; todo = rest; waits = None; lines = r.lines ++ wait_lines r.node r.requests words })
       (ap (posts_of p local.bound) todo)
       (step_passes told local words (doing rest) comes.told todo known)
       (record {
         me = stands.me;
         bound = stands.bound;
-        requests = are_all_closed words r.requests local.requests stands.requests;
+        requests = named_without_all words local.requests r.requests stands.requests;
         todo = refl;
         lines = (λ i. stands.lines i ++ comes.lines_are i) ∙ sym (map-append line_text local.lines (waited_lines local.requests words comes.told));
       })
@@ -477,7 +471,7 @@ pub moves_starts : (r : RankView) (posting : Posting) (rest : List Statement) (w
 moves_starts r posting rest word name call w t b e script ranks size processes frames p l at run = starts_next script ranks size processes frames p l r at run posting rest word name call w t b e
 
 pub moves_passes : (r : RankView) (words : List (List ℕ)) (rest : List Statement) → r.waits ≡ None → r.todo ≡ Wait words ∷ rest → are_held r.node r.requests words ≡ true
-    → Moves r (record { me = r.me; node = r.node; bound = r.bound; requests = closes_all words r.requests; todo = rest; waits = None; lines = r.lines ++ wait_lines r.node r.requests words })
+    → Moves r (record { me = r.me; node = r.node; bound = r.bound; requests = closed_all words r.requests; todo = rest; waits = None; lines = r.lines ++ wait_lines r.node r.requests words })
 moves_passes r words rest w t h script ranks size processes frames p l at run = passes_next script ranks size processes frames p l r at run words rest w t h
 
 pub moves_asks : (r : RankView) (question : Question) (rest : List Statement) (text : List ℕ) → r.waits ≡ None → r.todo ≡ Ask question ∷ rest → text ≡ line_text (answered_on r.me r.bound question r.node)

@@ -1,66 +1,20 @@
--- Words that a list binds at its end or no longer, and what a wait comes to by what a node holds.
+-- What a wait comes to by what a node holds.
 use Rattle.std.proofs.Common.{◌≡◌, ℕ, zero, suc, ◌+◌, ◌<◌, Bool, true, false, cond, List, [], ◌∷◌, ◌++◌, length, map, drop, get_or, Option, Some, None, refl, sym, ap, ◌∙◌, arith}
-use Rattle.std.specs.Prelude.{◌&&◌, not, slice_get, is_some, if◌then◌else◌}
+use Rattle.std.specs.Prelude.{◌&&◌, slice_get}
 use Rattle.std.specs.Option.{option_map}
 use Rattle.std.specs.Str.{bytes_eq}
-use Rattle.std.proofs.lemmas.Slice.Eq.{bytes_eq-Decides}
 use Rattle.mpx_name.specs.Name.{Name}
 use Rattle.mpx_value.specs.Histories.{Answer, Results, answer_with}
 use Rattle.mpx_node.specs.declared.finished.Finished.{Finished}
 use Rattle.mpx_node.specs.Nodes.{NodeView, results_on}
 use Rattle.mpx_world.proofs.Lists.{both_true}
-use Rattle.mpx_script.specs.Grammar.{named}
-use Rattle.mpx_script.specs.Ranks.{Requests, answers, awaited_by, awaited_then, line_then, waited_lines, without, without_all}
-use Rattle.mpx_script.specs.Transcripts.{line_text, outcome_text}
+use Rattle.mpx_statement.specs.Lookups.{named}
+use Rattle.mpx_evaluation.specs.Ranks.{Requests, answers, awaited_by, awaited_then, line_then, waited_lines, without}
+use Rattle.mpx_evaluation.specs.Standing.{closed}
+use Rattle.mpx_evaluation.specs.Transcripts.{line_text}
+use Rattle.mpx_evaluation.proofs.Standing.{named_without}
 use Rattle.mpx_system.specs.Systems.{node_births, node_tells}
-use Rattle.mpx_system.specs.Running.{Open, or_new, closes, closes_all, is_held, are_held, request_line, result_line, wait_lines}
-
--- ONE MORE
-
-first : {A : Type 0} (t : Bool) (new : A) → (if t then Some new else None) ≡ cond t (Some new) None
-first true new = refl
-first false new = refl
-
-by_word : {A : Type 0} (t u : Bool) (old new : A) (before after : Option A) → after ≡ cond u (Some (or_new before new)) before
-    → (if t then Some old else after) ≡ cond u (Some (or_new (if t then Some old else before) new)) (if t then Some old else before)
-by_word true true old new before after e = refl
-by_word true false old new before after e = refl
-by_word false u old new before after e = e
-
-pub named-more : {A : Type 0} (xs : List (List ℕ × A)) (to : List ℕ) (new : A) (word : List ℕ) → named (xs ++ (to, new) ∷ []) word ≡ cond (bytes_eq word to) (Some (or_new (named xs word) new)) (named xs word)
-named-more [] to new word = first (bytes_eq word to) new
-named-more (x ∷ xs) to new word = by_word (bytes_eq word x.0) (bytes_eq word to) x.1 new (named xs word) (named (xs ++ (to, new) ∷ []) word) (named-more xs to new word)
-
--- ONE LESS
-
--- whether the word is the entry's, whether it is the one that is left out, and whether the entry is left out
-by_words : {A : Type 0} (t u out : Bool) (x : A) (before after : Option A) → (out ≡ true → t ≡ true → u ≡ true) → (out ≡ false → t ≡ true → u ≡ false) → after ≡ cond u None before
-    → cond (not out) (if t then Some x else after) after ≡ cond u None (if t then Some x else before)
-by_words true true true x before after f g e = e
-by_words true true false x before after f g e = cc (g refl refl)
-by_words true false true x before after f g e = cc (f refl refl)
-by_words true false false x before after f g e = refl
-by_words false u true x before after f g e = e
-by_words false u false x before after f g e = e
-
-named-cond : {A : Type 0} (b : Bool) (xs ys : List (List ℕ × A)) (word : List ℕ) → named (cond b xs ys) word ≡ cond b (named xs word) (named ys word)
-named-cond true xs ys word = refl
-named-cond false xs ys word = refl
-
-same_words : (a b c : List ℕ) → bytes_eq a b ≡ true → bytes_eq c b ≡ true → bytes_eq a c ≡ true
-same_words a b c e f = (bytes_eq-Decides a c).1 ((bytes_eq-Decides a b).0 e ∙ sym ((bytes_eq-Decides c b).0 f))
-
-other_words : (a b c : List ℕ) → bytes_eq a b ≡ false → bytes_eq c b ≡ true → bytes_eq a c ≡ false
-other_words a b c e f = ap (bytes_eq a) ((bytes_eq-Decides c b).0 f) ∙ e
-
-pub named-without : (word : List ℕ) (requests : Requests) (other : List ℕ) → named (without word requests) other ≡ cond (bytes_eq word other) None (named requests other)
-named-without word [] other = nothing (bytes_eq word other) where
-  nothing : (b : Bool) → let o : Option (Name × ℕ) = None in o ≡ cond b None None
-  nothing true = refl
-  nothing false = refl
-named-without word (x ∷ xs) other =
-    named-cond (not (bytes_eq word x.0)) (x ∷ without word xs) (without word xs) other
-    ∙ by_words (bytes_eq other x.0) (bytes_eq word other) (bytes_eq word x.0) x.1 (named xs other) (named (without word xs) other) (same_words word x.0 other) (other_words word x.0 other) (named-without word xs other)
+use Rattle.mpx_system.specs.Running.{Open, is_held, are_held, request_line, result_line, wait_lines}
 
 -- REQUESTS
 
@@ -68,12 +22,8 @@ named-without word (x ∷ xs) other =
 abbrev pub AreOpen : Open → Requests → Type 0
 AreOpen opened requests = (word : List ℕ) → opened word ≡ named requests word
 
-are_closed : (word : List ℕ) (opened : Open) (requests : Requests) → AreOpen opened requests → AreOpen (closes word opened) (without word requests)
-are_closed word opened requests same other = ap (cond (bytes_eq word other) None) (same other) ∙ sym (named-without word requests other)
-
-pub are_all_closed : (words : List (List ℕ)) (opened : Open) (requests : Requests) → AreOpen opened requests → AreOpen (closes_all words opened) (without_all words requests)
-are_all_closed [] opened requests same = same
-are_all_closed (word ∷ words) opened requests same = are_all_closed words (closes word opened) (without word requests) (are_closed word opened requests same)
+are_closed : (word : List ℕ) (opened : Open) (requests : Requests) → AreOpen opened requests → AreOpen (closed word opened) (without word requests)
+are_closed word opened requests same other = ap (cond (bytes_eq word other) None) (same other) ∙ sym (named_without word requests other)
 
 -- A WAIT
 
@@ -85,13 +35,13 @@ held_closed node true o e = refl
 held_closed node false o e = e
 
 -- fewer open requests are held too
-pub held_less : (node : NodeView) (word : List ℕ) (opened : Open) (words : List (List ℕ)) → are_held node opened words ≡ true → are_held node (closes word opened) words ≡ true
+pub held_less : (node : NodeView) (word : List ℕ) (opened : Open) (words : List (List ℕ)) → are_held node opened words ≡ true → are_held node (closed word opened) words ≡ true
 held_less node word opened [] h = refl
 held_less node word opened (x ∷ xs) h =
     let parts = both_true (is_held node (opened x)) (are_held node opened xs) h in
-    together (is_held node (closes word opened x)) (are_held node (closes word opened) xs) (held_closed node (bytes_eq word x) (opened x) parts.0) (held_less node word opened xs parts.1)
+    together (is_held node (closed word opened x)) (are_held node (closed word opened) xs) (held_closed node (bytes_eq word x) (opened x) parts.0) (held_less node word opened xs parts.1)
 
-pub held_first : (node : NodeView) (opened : Open) (word : List ℕ) (words : List (List ℕ)) → are_held node opened (word ∷ words) ≡ true → (is_held node (opened word) ≡ true) × (are_held node (closes word opened) words ≡ true)
+pub held_first : (node : NodeView) (opened : Open) (word : List ℕ) (words : List (List ℕ)) → are_held node opened (word ∷ words) ≡ true → (is_held node (opened word) ≡ true) × (are_held node (closed word opened) words ≡ true)
 held_first node opened word words h =
     let parts = both_true (is_held node (opened word)) (are_held node opened words) h in
     (parts.0, held_less node word opened words parts.1)
@@ -117,7 +67,7 @@ module _ (node : NodeView) where
     by_result None e = cc (h, e)
     by_result (Some f) e = (f, e)
 
-  passing_first : (opened : Open) (requests : Requests) (word : List ℕ) (words : List (List ℕ)) → AreOpen opened requests → is_held node (opened word) ≡ true → Passing (node_tells node) (without word requests) words (wait_lines node (closes word opened) words)
+  passing_first : (opened : Open) (requests : Requests) (word : List ℕ) (words : List (List ℕ)) → AreOpen opened requests → is_held node (opened word) ≡ true → Passing (node_tells node) (without word requests) words (wait_lines node (closed word opened) words)
       → (o : Option (Name × ℕ)) → named requests word ≡ o → Passing (node_tells node) requests (word ∷ words) (wait_lines node opened (word ∷ words))
   passing_first opened requests word words same h rest None e = record {
     told = rest.told;
@@ -138,7 +88,7 @@ module _ (node : NodeView) where
   passing [] opened requests same h = record { told = []; known_as = refl; lines_are = refl }
   passing (word ∷ words) opened requests same h =
       let held = held_first node opened word words h in
-      passing_first opened requests word words same held.0 (passing words (closes word opened) (without word requests) (are_closed word opened requests same) held.1) (named requests word) refl
+      passing_first opened requests word words same held.0 (passing words (closed word opened) (without word requests) (are_closed word opened requests same) held.1) (named requests word) refl
 
 -- one word more
 pub held_last : (node : NodeView) (opened : Open) (words : List (List ℕ)) (word : List ℕ) → are_held node opened words ≡ true → is_held node (opened word) ≡ true → are_held node opened (words ++ word ∷ []) ≡ true

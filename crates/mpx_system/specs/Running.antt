@@ -1,9 +1,8 @@
 -- The processes of a run, and which system they show.
-use Rattle.std.specs.Prelude.{◌≡◌, ℕ, ◌<◌, ◌+◌, ◌*◌, Bool, true, false, ◌||◌, is_some, cond, List, [], ◌∷◌, length, map, slice_get, Option, Some, None, Result, Ok, Err}
+use Rattle.std.specs.Prelude.{◌≡◌, ℕ, ◌<◌, ◌+◌, ◌*◌, Bool, true, false, ◌||◌, is_some, List, [], ◌∷◌, length, map, slice_get, Option, Some, None, Result, Ok, Err}
 use Rattle.std.proofs.Common.{set}
 use Rattle.std.specs.List.{All, list_all}
 use Rattle.std.specs.Option.{option_map}
-use Rattle.std.specs.Str.{bytes_eq}
 use Rattle.mpx_name.specs.Name.{Name}
 use Rattle.mpx_post.specs.Posts.{Given}
 use Rattle.mpx_post.specs.declared.draft.Draft.{Draft}
@@ -16,21 +15,16 @@ use Rattle.mpx_value.specs.declared.outcomes.Outcome.{Outcome}
 use Rattle.mpx_value.specs.declared.outcomes.Outcome.TheVariants.{Nothing, Absent, Items, NewComm, Null, Fault}
 use Rattle.mpx_node.specs.Nodes.{NodeView, add_result, checked_on, children_on, front_on, gathering_name, gathers_on, next_result, open_gathering_node, post_at, posted_on, results_on, start_node}
 use Rattle.mpx_node.specs.declared.finished.Finished.{Finished}
-use Rattle.mpx_script.specs.declared.statement.Posting.{Posting}
-use Rattle.mpx_script.specs.declared.statement.Question.{Question}
-use Rattle.mpx_script.specs.declared.statement.Statement.{Statement}
-use Rattle.mpx_script.specs.Statements.{Gathers as Asked, draft_of, gathers_of}
-use Rattle.mpx_script.specs.Grammar.{named}
-use Rattle.mpx_script.specs.Ranks.{Bindings, Bound, Communicator, NullCommunicator, Line, Idle, Todo, Await, Local, answered_by, doing}
-use Rattle.mpx_script.specs.Evaluation.{bound_at_start}
-use Rattle.mpx_script.specs.Transcripts.{line_text, outcome_text}
+use Rattle.mpx_statement.specs.declared.statement.Posting.{Posting}
+use Rattle.mpx_statement.specs.declared.statement.Question.{Question}
+use Rattle.mpx_statement.specs.declared.statement.Statement.{Statement}
+use Rattle.mpx_statement.specs.Statements.{Gathers as Asked, draft_of, gathers_of}
+use Rattle.mpx_statement.specs.Lookups.{named}
+use Rattle.mpx_evaluation.specs.Ranks.{Bindings, Bound, Communicator, NullCommunicator, Line, Idle, Local, answered_by}
+use Rattle.mpx_evaluation.specs.Evaluation.{bound_at_start}
+use Rattle.mpx_evaluation.specs.Standing.{WaitView, awaited, closed, has_statements, todo_of}
+use Rattle.mpx_evaluation.specs.Transcripts.{line_text, outcome_text}
 use Rattle.mpx_system.specs.Systems.{System, Leads, node_births, start_system}
-
--- a call whose outcome is awaited, and the word that its new communicator gets
-pub record WaitView : Type 0 where
-  pub name : Name
-  pub call : ℕ
-  pub target : Option (List ℕ)
 
 -- what each word is bound to: the name of a communicator, or None for the null communicator
 abbrev pub Names : Type 0
@@ -68,16 +62,6 @@ given_name (Items items) = None
 given_name (NewComm name size rank) = Some name
 given_name Null = None
 given_name (Fault fault) = None
-
--- what was bound stays
-abbrev pub or_new : {A : Type 0} → Option A → A → A
-or_new (Some old) new = old
-or_new None new = new
-
--- the word, where there is one, is bound to this
-abbrev pub binds : {A : Type 0} → Option (List ℕ) → A → (List ℕ → Option A) → List ℕ → Option A
-binds None to bound word = bound word
-binds (Some new) to bound word = cond (bytes_eq word new) (Some (or_new (bound word) to)) (bound word)
 
 -- POSTS
 
@@ -129,15 +113,6 @@ answered_on me bound question node = answered_by me (λ word. known_to node (com
 
 -- WAITING
 
--- the requests but for that of a word
-abbrev pub closes : List ℕ → Open → Open
-closes word opened other = cond (bytes_eq word other) None (opened other)
-
--- which are left open after a wait for these words
-abbrev pub closes_all : List (List ℕ) → Open → Open
-closes_all [] opened = opened
-closes_all (word ∷ words) opened = closes_all words (closes word opened)
-
 -- whether the node holds the result of the call, if a request stands for one
 abbrev pub is_held : NodeView → Option (Name × ℕ) → Bool
 is_held node None = true
@@ -159,25 +134,13 @@ request_line node (Some call) = result_line (slice_get (results_on node call.0) 
 -- the lines of a wait for these words: a request that was closed before is idle
 abbrev pub wait_lines : NodeView → Open → List (List ℕ) → List (List ℕ)
 wait_lines node opened [] = []
-wait_lines node opened (word ∷ words) = request_line node (opened word) ∷ wait_lines node (closes word opened) words
+wait_lines node opened (word ∷ words) = request_line node (opened word) ∷ wait_lines node (closed word opened) words
 
 -- WHERE A RANK STANDS
-
-abbrev pub todo_of : Option WaitView → List Statement → List Todo
-todo_of (Some w) rest = Await w.name w.call w.target ∷ doing rest
-todo_of None rest = doing rest
-
-abbrev pub awaited : Option WaitView → ℕ
-awaited (Some w) = 1
-awaited None = 0
 
 -- so much is left at most
 abbrev pub left_of : RankView → ℕ
 left_of r = 2 * length r.todo + awaited r.waits
-
-abbrev pub has_statements : List Statement → Bool
-has_statements [] = false
-has_statements (x ∷ rest) = true
 
 -- whether it waits for an outcome, or has statements left
 abbrev pub is_waiting : RankView → Bool

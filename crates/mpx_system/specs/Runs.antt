@@ -2,9 +2,9 @@
 use Rattle.std.specs.Prelude.{◌≡◌, ℕ, ◌≤◌, ◌+◌, List, [], length, slice_get, Some}
 use Rattle.mpx_node.specs.Nodes.{NodeView}
 use Rattle.mpx_script.specs.ScriptView.{ScriptView}
-use Rattle.mpx_script.specs.Evaluation.{State, IsEvaluation, IsPrefixOf, bound_at_start, statements_of}
-use Rattle.mpx_script.specs.Told.{CarriesOut}
-use Rattle.mpx_script.specs.Reports.{lines_in, waiting_in}
+use Rattle.mpx_evaluation.specs.Evaluation.{State, IsPrefixOf, bound_at_start, statements_of}
+use Rattle.mpx_evaluation.specs.Told.{CarriesOut}
+use Rattle.mpx_evaluation.specs.Reports.{lines_in, waiting_in}
 use Rattle.mpx_world.specs.Soundness.{Sound}
 use Rattle.mpx_system.specs.Systems.{System, Leads, node_tells, start_system, TellsResults}
 

@@ -13,13 +13,13 @@ use Rattle.mpx_node.specs.declared.finished.Finished.{Finished}
 use Rattle.mpx_node.specs.Nodes.{NodeView, gathering_name, results_on}
 use Rattle.mpx_world.specs.Worlds.{WorldView, Happening, Posts, Gathers, IsNoPost, happens, MayHappen}
 use Rattle.mpx_world.specs.Worlds.{goes_on as goes_on_world, start as start_world}
-use Rattle.mpx_script.specs.declared.statement.Posting.{Posting}
-use Rattle.mpx_script.specs.declared.statement.Statement.{Statement}
-use Rattle.mpx_script.specs.declared.statement.Statement.TheVariants.{Post, Wait, Ask}
-use Rattle.mpx_script.specs.Statements.{Gathers as Asked, draft_of, gathers_of, posted_on}
-use Rattle.mpx_script.specs.Grammar.{named}
-use Rattle.mpx_script.specs.Ranks.{Bindings, Bound, Communicator, NullCommunicator, Todo, Do, Await, Local, Told}
-use Rattle.mpx_script.specs.Evaluation.{State, start, goes_on}
+use Rattle.mpx_statement.specs.declared.statement.Posting.{Posting}
+use Rattle.mpx_statement.specs.declared.statement.Statement.{Statement}
+use Rattle.mpx_statement.specs.declared.statement.Statement.TheVariants.{Post, Wait, Ask}
+use Rattle.mpx_statement.specs.Statements.{Gathers as Asked, draft_of, gathers_of, posted_on}
+use Rattle.mpx_statement.specs.Lookups.{named}
+use Rattle.mpx_evaluation.specs.Ranks.{Bindings, Bound, Communicator, NullCommunicator, Todo, Do, Await, Local, Told}
+use Rattle.mpx_evaluation.specs.Evaluation.{State, start, goes_on}
 
 pub record System : Type 0 where
   pub world : WorldView

@@ -1,8 +1,8 @@
 //! What is so after every list of doings, as a call that a contract can name: it does nothing.
 ghost use Rattle.std.specs.Prelude.{◌≡◌, ◌≤◌, List, ℕ, []};
-ghost use Rattle.mpx_script.specs.declared.statement.Statement.{Statement};
-ghost use Rattle.mpx_script.specs.Evaluation.{State, IsEvaluation, IsPrefixOf, bound_at_start, statements_of};
-ghost use Rattle.mpx_script.specs.Told.{CarriesOut};
+ghost use Rattle.mpx_statement.specs.declared.statement.Statement.{Statement};
+ghost use Rattle.mpx_evaluation.specs.Evaluation.{State, IsEvaluation, IsPrefixOf, bound_at_start, statements_of};
+ghost use Rattle.mpx_evaluation.specs.Told.{CarriesOut};
 ghost use Rattle.mpx_world.specs.Soundness.{Sound};
 ghost use Rattle.mpx_system.specs.Systems.{Doing, MayDoAll, TellsResults, does_all, node_tells, start_system};
 

@@ -1,7 +1,7 @@
 use Rattle.std.proofs.Common.{◌≡◌, List, map, length, ap, sym, ◌∙◌, subst}
 use Rattle.std.specs.Prelude.{slice_get}
-use Rattle.mpx_script.specs.Evaluation.{start}
-use Rattle.mpx_script.specs.Reports.{transcripts_of, which}
+use Rattle.mpx_evaluation.specs.Evaluation.{start}
+use Rattle.mpx_evaluation.specs.Reports.{transcripts_of, which}
 use Rattle.mpx_eval.specs.declared.rank.Rank.{Rank}
 use Rattle.mpx_eval.specs.Places.{RankView}
 use Rattle.mpx_eval.specs.Rounds.{AreIn, is_waiting_at}

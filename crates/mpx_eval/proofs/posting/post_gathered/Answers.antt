@@ -1,7 +1,7 @@
 use Rattle.std.proofs.Common.{◌≡◌, sym, subst, length}
 use Rattle.std.specs.Prelude.{Ok}
 use Rattle.mpx_post.specs.Gatherings.{gathering}
-use Rattle.mpx_script.specs.Ranks.{post_gathered}
+use Rattle.mpx_evaluation.specs.Ranks.{post_gathered}
 use Rattle.mpx_value.specs.Histories.{history_of}
 use Rattle.mpx_eval.specs.Tables.{Tries, table_of}
 use Rattle.mpx_eval.proofs.Gathered.{born_below, checks_gathering}

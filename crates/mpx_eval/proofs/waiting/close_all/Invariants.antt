@@ -1,6 +1,7 @@
 use Rattle.std.proofs.Common.{◌≡◌, ◌++◌, ℕ, List, map, string_bytes, drop}
-use Rattle.mpx_script.specs.Transcripts.{line_text}
-use Rattle.mpx_eval.specs.Places.{closed_all, looked_up, wait_lines}
+use Rattle.mpx_evaluation.specs.Transcripts.{line_text}
+use Rattle.mpx_evaluation.specs.Standing.{closed_all, looked_up}
+use Rattle.mpx_eval.specs.Places.{wait_lines}
 use Rattle.mpx_eval.specs.Tables.{answer_on, table_of}
 use Rattle.mpx_eval.proofs.waiting.close_all.Given as goal
 

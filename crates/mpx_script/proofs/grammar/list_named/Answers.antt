@@ -6,7 +6,7 @@ use Rattle.std.specs.List.{slice_split}
 use Rattle.mpx_num.specs.Text.{number_of}
 use Rattle.mpx_post.specs.Rows.{all_of}
 use Rattle.mpx_script.specs.Grammar.{list_named}
-use Rattle.mpx_script.proofs.Entries.{all_of_push, all_of_none}
+use Rattle.mpx_statement.proofs.Entries.{all_of_push, all_of_none}
 use Rattle.mpx_script.proofs.grammar.list_named.Goals as goal
 
 -- another word than `-`

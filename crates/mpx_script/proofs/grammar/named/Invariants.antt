@@ -1,5 +1,5 @@
 use Rattle.std.proofs.Common.{◌≡◌, map, drop}
-use Rattle.mpx_script.specs.Grammar.{named}
+use Rattle.mpx_statement.specs.Lookups.{named}
 use Rattle.mpx_script.proofs.grammar.named.Given as goal
 
 abbrev pub invariant-loop-name : goal.invariant-loop-name

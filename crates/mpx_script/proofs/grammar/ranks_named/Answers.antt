@@ -5,7 +5,7 @@ use Rattle.std.proofs.lemmas.List.{map_push}
 use Rattle.std.specs.List.{slice_split}
 use Rattle.mpx_post.specs.Rows.{all_of}
 use Rattle.mpx_script.specs.Grammar.{rank_named, ranks_named}
-use Rattle.mpx_script.proofs.Entries.{all_of_push, all_of_none}
+use Rattle.mpx_statement.proofs.Entries.{all_of_push, all_of_none}
 use Rattle.mpx_script.proofs.grammar.ranks_named.Goals as goal
 
 -- another word than `-`

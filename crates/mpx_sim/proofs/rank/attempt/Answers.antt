@@ -2,11 +2,11 @@ use Rattle.std.proofs.Common.{◌≡◌, ap, sym, ◌∙◌, subst}
 use Rattle.std.specs.Option.{option_copied}
 use Rattle.mpx_node.specs.Nodes.{gathers_on}
 use Rattle.mpx_node.specs.Shown.{node_of}
-use Rattle.mpx_script.specs.declared.statement.Posting.TheVariants.{CreateGroup}
-use Rattle.mpx_script.specs.Statements.{create_group_draft, draft_of}
+use Rattle.mpx_statement.specs.declared.statement.Posting.TheVariants.{CreateGroup}
+use Rattle.mpx_statement.specs.Statements.{create_group_draft, draft_of}
 use Rattle.mpx_system.specs.Running.{Tries, tried_on, tried_gathered}
 use Rattle.mpx_sim.specs.Shown.{call_in, name_in}
-use Rattle.mpx_sim.proofs.Bindings.{tries_gathered}
+use Rattle.mpx_sim.proofs.Tried.{tries_gathered}
 use Rattle.mpx_sim.proofs.rank.attempt.Goals as goal
 
 pub returns-in_ok-gathering-in-CreateGroup : goal.returns-in_ok-gathering-in-CreateGroup

@@ -1,5 +1,5 @@
 use Rattle.mpx_node.specs.Shown.{node_of}
-use Rattle.mpx_sim.proofs.Bindings.{tries_asked}
+use Rattle.mpx_sim.proofs.Tried.{tries_asked}
 use Rattle.mpx_sim.proofs.rank.post_on.Goals as goal
 
 pub returns : goal.returns

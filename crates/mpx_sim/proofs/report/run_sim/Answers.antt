@@ -1,7 +1,7 @@
 use Rattle.std.proofs.Common.{◌≡◌, ap, ◌∙◌, map, take}
 use Rattle.std.specs.Prelude.{slice_get}
 use Rattle.mpx_node.specs.Shown.{node_of}
-use Rattle.mpx_script.specs.Reports.{transcripts_of, which}
+use Rattle.mpx_evaluation.specs.Reports.{transcripts_of, which}
 use Rattle.mpx_system.specs.Running.{RankView, is_waiting_at}
 use Rattle.mpx_sim.specs.Shown.{rank_of}
 use Rattle.mpx_system.proofs.Results.{map_taken, run_said, begin_said, whole_said}

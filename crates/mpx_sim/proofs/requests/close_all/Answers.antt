@@ -1,6 +1,7 @@
 use Rattle.std.proofs.Common.{◌≡◌, ◌++◌, [], ◌∷◌, ◌+◌, map, drop, string_bytes, refl, sym, ap, ◌∙◌, append_assoc}
 use Rattle.mpx_node.specs.Shown.{node_of}
-use Rattle.mpx_system.specs.Running.{are_held, closes, closes_all, wait_lines}
+use Rattle.mpx_evaluation.specs.Standing.{closed, closed_all}
+use Rattle.mpx_system.specs.Running.{are_held, wait_lines}
 use Rattle.mpx_sim.specs.Shown.{requests_of}
 use Rattle.mpx_system.proofs.Running.{keeps_node_itself, keeps_node_then, lines_push}
 use Rattle.mpx_system.proofs.Waiting.{held_first, next_left}
@@ -31,18 +32,18 @@ loop-word-preserved c =
     let held = held_first node opened word rest (ap (are_held node opened) (sym left) ∙ c.loop-word.invariant.held) in
     let before_it = node_of c.loop-word.desk.host in
     let now = node_of c.close.new.desk.host in
-    let closed : requests_of c.close.new.requests ≡ closes word opened = λ i other. c.in_ok-text.ensures.requests other i in
+    let closed_now : requests_of c.close.new.requests ≡ closed word opened = λ i other. c.in_ok-text.ensures.requests other i in
     let text = string_bytes c.in_ok-text.text in
     let before = map string_bytes c.loop-word.lines.items in
     record {
       kept = keeps_node_then node before_it now c.loop-word.invariant.kept (keeps_harvested before_it now c.close.ensures.harvested);
       later = later_more node before_it now c.loop-word.invariant.later c.close.ensures.later;
       lines =
-          (λ i. lines_push string_bytes c.loop-word.lines.items c.push.new.self.items c.in_ok-text.text text c.in_ok-push.ensures.items refl i ++ wait_lines node (closed i) rest)
-          ∙ append_assoc before (text ∷ []) (wait_lines node (closes word opened) rest)
-          ∙ (λ i. before ++ (c.in_ok-text.ensures.line ∙ line_later node before_it c.loop-word.invariant.later (opened word) held.0) i ∷ wait_lines node (closes word opened) rest)
+          (λ i. lines_push string_bytes c.loop-word.lines.items c.push.new.self.items c.in_ok-text.text text c.in_ok-push.ensures.items refl i ++ wait_lines node (closed_now i) rest)
+          ∙ append_assoc before (text ∷ []) (wait_lines node (closed word opened) rest)
+          ∙ (λ i. before ++ (c.in_ok-text.ensures.line ∙ line_later node before_it c.loop-word.invariant.later (opened word) held.0) i ∷ wait_lines node (closed word opened) rest)
           ∙ ap (λ ws. before ++ wait_lines node opened ws) (sym left)
           ∙ c.loop-word.invariant.lines;
-      requests = λ other. (λ i. closes_all rest (closed i) other) ∙ ap (λ ws. closes_all ws opened other) (sym left) ∙ c.loop-word.invariant.requests other;
-      held = ap (λ r. are_held node r rest) closed ∙ held.1;
+      requests = λ other. (λ i. closed_all rest (closed_now i) other) ∙ ap (λ ws. closed_all ws opened other) (sym left) ∙ c.loop-word.invariant.requests other;
+      held = ap (λ r. are_held node r rest) closed_now ∙ held.1;
     }

@@ -1,5 +1,5 @@
 use Rattle.std.proofs.Common.{map, List, ℕ}
-use Rattle.mpx_script.specs.declared.statement.Statement.{Statement}
+use Rattle.mpx_statement.specs.declared.statement.Statement.{Statement}
 use Rattle.mpx_sim.specs.Shown.{rank_of, part_of}
 use Rattle.mpx_system.specs.Running.{IsUnderWay}
 use Rattle.mpx_sim.proofs.turns.deliver.Given as goal

@@ -1,6 +1,6 @@
 use Rattle.std.proofs.Common.{◌≤◌, List, ℕ, map}
 use Rattle.mpx_board.specs.Boards.{Look}
-use Rattle.mpx_script.specs.declared.statement.Statement.{Statement}
+use Rattle.mpx_statement.specs.declared.statement.Statement.{Statement}
 use Rattle.mpx_sim.specs.Shown.{rank_of}
 use Rattle.mpx_system.specs.Running.{IsUnderWay}
 use Rattle.mpx_sim.proofs.turns.go_round.Given as goal

@@ -1,7 +1,7 @@
 use Rattle.std.proofs.Common.{◌≡◌, List, ℕ, Some, map}
 use Rattle.std.specs.Prelude.{All, slice_get}
 use Rattle.mpx_parts.specs.Facts.{OnlyFactsOf}
-use Rattle.mpx_script.specs.declared.statement.Statement.{Statement}
+use Rattle.mpx_statement.specs.declared.statement.Statement.{Statement}
 use Rattle.mpx_sim.specs.Shown.{part_of}
 use Rattle.mpx_system.specs.Running.{IsUnderWay, RankView}
 use Rattle.mpx_sim.proofs.turns.send_each.Given as goal

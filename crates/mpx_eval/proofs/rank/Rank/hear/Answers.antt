@@ -2,7 +2,8 @@ use Rattle.std.proofs.Common.{◌≡◌, List, ℕ, ap, sym, ◌∙◌, refl, su
 use Rattle.std.specs.Option.{option_map}
 use Rattle.mpx_value.specs.Histories.{Answer}
 use Rattle.mpx_eval.specs.Answered.{answer_of}
-use Rattle.mpx_eval.specs.Places.{After, RankView, WaitView, binds, looked_up}
+use Rattle.mpx_evaluation.specs.Standing.{WaitView, binds, looked_up}
+use Rattle.mpx_eval.specs.Places.{After, RankView}
 use Rattle.mpx_eval.specs.Shown.{rank_of, wait_of}
 use Rattle.mpx_eval.specs.Tables.{answer_on, table_of}
 use Rattle.mpx_eval.proofs.Moving.{hears, lines_push, waits_still}

@@ -1,6 +1,6 @@
 use Rattle.std.proofs.Common.{◌≡◌, codes, bytes_eq, false, ap, ◌∙◌, rules}
 use Rattle.std.specs.List.{filter_map, list_any}
-use Rattle.mpx_script.specs.Statements.{target_of}
+use Rattle.mpx_statement.specs.Statements.{target_of}
 use Rattle.mpx_script.proofs.rank_statements.RankStatements.has_communicator.Goals as goal
 
 pub returns-else-eq : goal.returns-else-eq

@@ -1,6 +1,6 @@
 use Rattle.std.proofs.Common.{sym, ap, ◌∙◌, subst, refl, string_bytes}
 use Rattle.mpx_node.specs.Shown.{node_of}
-use Rattle.mpx_script.specs.Transcripts.{line_text}
+use Rattle.mpx_evaluation.specs.Transcripts.{line_text}
 use Rattle.mpx_system.specs.Running.{Moves, RankView, answered_on}
 use Rattle.mpx_sim.specs.Shown.{rank_of}
 use Rattle.mpx_system.proofs.Running.{lines_push, moves_asks}

@@ -2,18 +2,17 @@ use Rattle.std.proofs.Common.{◌≡◌, ℕ, List, ◌++◌, ◌∷◌, [], ap,
 use Rattle.std.specs.Prelude.{slice_get, Ok}
 use Rattle.mpx_comm.specs.declared.answers.Tested.TheVariants.{Done, NotYet}
 use Rattle.mpx_comm.specs.Requests.{Tests}
-use Rattle.std.specs.BTreeMap.{get}
-use Rattle.std.specs.Cmp.Lexicographic.{slice_cmp}
 use Rattle.std.specs.Option.{option_copied, option_map}
-use Rattle.std.specs.Ordering.{nat_cmp}
 use Rattle.mpx_value.specs.Histories.{Answer, answer_with}
 use Rattle.mpx_node.specs.declared.finished.Finished.{Finished}
 use Rattle.mpx_node.specs.Nodes.{results_on}
 use Rattle.mpx_node.specs.Shown.{node_of}
 use Rattle.mpx_system.specs.Systems.{node_births, node_tells}
-use Rattle.mpx_system.specs.Running.{Moves, RankView, WaitView, binds, given_name}
+use Rattle.mpx_evaluation.specs.Standing.{WaitView, binds, looked_up}
+use Rattle.mpx_system.specs.Running.{Moves, RankView, given_name}
 use Rattle.mpx_sim.specs.Shown.{bound_of, name_in, rank_of, wait_of}
-use Rattle.mpx_sim.proofs.Bindings.{binds_seen, given_is}
+use Rattle.mpx_evaluation.proofs.Standing.{binds_seen}
+use Rattle.mpx_sim.proofs.Tried.{given_is}
 use Rattle.mpx_sim.proofs.Harvests.{keeps_harvested}
 use Rattle.mpx_system.proofs.Running.{moves_hears, moves_keeps, moves_then, lines_push}
 use Rattle.mpx_sim.proofs.rank.Rank.hear.Goals as goal
@@ -42,6 +41,6 @@ returns-clause-moves c =
     let after : RankView = record { me = old.me; node = mid.node; bound = binds w.target (given_name finished.outcome) old.bound; requests = old.requests; todo = old.todo; waits = None; lines = old.lines ++ text ∷ [] } in
     let given : given_name finished.outcome ≡ name_in c.in_ok-given-in-Ok-Done.given = sym (ap name_in c.in_ok-given-in-Ok-Done.ensures ∙ given_is finished.outcome) in
     let bound : (word : List ℕ) → after.bound word ≡ bound_of c.bind.new.bound word = λ word.
-    ap (λ n. binds w.target n old.bound word) given ∙ sym (ap (option_map name_in) (c.in_ok-bind-in-Ok-Done.ensures word) ∙ binds_seen name_in w.target c.in_ok-given-in-Ok-Done.given (get (slice_cmp nat_cmp) c.args.self.now.bound) word) in
+    ap (λ n. binds w.target n old.bound word) given ∙ sym (ap (option_map name_in) (c.in_ok-bind-in-Ok-Done.ensures word) ∙ binds_seen name_in w.target c.in_ok-given-in-Ok-Done.given (looked_up c.args.self.now.bound) word) in
     subst (Moves old) (λ i. let r : RankView = record { me = old.me; node = mid.node; bound = λ word. bound word i; requests = old.requests; todo = old.todo; waits = sym c.requires i; lines = sym lines i } in r)
     (moves_then old mid after kept (moves_hears mid w answer text refl tells c.in_ok-text-in-Ok-Done.ensures))

@@ -1,0 +1,9 @@
+pub mod Standing
+pub mod Fronts
+pub mod Steps
+pub mod Ways
+pub mod Ahead
+pub mod Ends
+mod Spaced
+pub mod Tells
+mod EvaluationExamples

@@ -1,0 +1,6 @@
+pub mod Ranks
+pub mod Standing
+pub mod Evaluation
+pub mod Told
+pub mod Transcripts
+pub mod Reports

@@ -1,0 +1,39 @@
+//! What the lines of a transcript tell, and what they have to do with the statements.
+ghost use Rattle.std.specs.Prelude.{◌≡◌, ℕ, ◌<◌, List, [], Some, slice_get, codes};
+ghost use Rattle.mpx_name.specs.Name.{Name};
+ghost use Rattle.mpx_value.specs.declared.outcomes.Outcome.{Outcome};
+ghost use Rattle.mpx_statement.specs.declared.statement.Statement.{Statement};
+ghost use Rattle.mpx_post.specs.Births.{BirthView};
+ghost use Rattle.mpx_statement.specs.Lookups.{named};
+ghost use Rattle.mpx_evaluation.specs.Ranks.{Communicator, Told};
+ghost use Rattle.mpx_evaluation.specs.Evaluation.{State, IsReached, bound_at_start, known, statements_of, world_of};
+ghost use Rattle.mpx_evaluation.specs.Told.{CarriesOut, IsMemberOf, IsToldOf, Passes};
+
+/// After any list of moves each line that tells the outcome of a call of a context tells the value of that call: all
+/// members of the context have posted to it, and the outcome is what their posts give this rank.
+pub fn lines_tell_the_values_of_all_posts()
+    ensures { (script : List (List Statement)) (ranks : ℕ) (s : State) → IsReached script ranks s →
+        (p i : ℕ) (name : Name) (call : ℕ) (outcome : Outcome) → slice_get (s p).lines i ≡ Some (Told name call outcome) → IsToldOf ranks s p name call outcome }
+{}
+
+/// After any list of moves a rank has passed the first of its statements, in their order. Each one that posts was accepted,
+/// and then its post is the next one that the rank made; or it was refused, and then its line says why, and there is no post.
+/// The line of a blocking call tells the outcome of that very call. A nonblocking call has no line: its request is open from
+/// then on. A wait has a line for each of its requests: the outcome of the very call that the open request stands for, or that
+/// the request is idle; then none of them is open. A statement that asks a question has no post, and its line answers it by
+/// the communicators that its words are bound to. The rank has made no other post, but for that of the blocking call whose
+/// outcome it waits for, and has no other line. One that has nothing left to do has passed all of its statements.
+///
+/// `world` is bound to the communicator of all ranks. A word of a statement is bound to the communicator that its call gave,
+/// and to the null communicator where it gave none or was refused. A rank is a member of each communicator that a word of
+/// its is bound to.
+pub fn ranks_carry_out_their_statements()
+    ensures carries_out { (script : List (List Statement)) (ranks : ℕ) (s : State) → IsReached script ranks s →
+        (p : ℕ) → CarriesOut (known ranks s p) (bound_at_start ranks) (statements_of script p) (s p) }
+    ensures all { (script : List (List Statement)) (ranks : ℕ) (s : State) → IsReached script ranks s →
+        (p : ℕ) → (s p).todo ≡ [] → Passes (known ranks s p) p (bound_at_start ranks) [] [] (statements_of script p) (s p).bound (s p).requests (s p).made (s p).lines }
+    ensures me { (script : List (List Statement)) (ranks : ℕ) (s : State) → IsReached script ranks s → (p : ℕ) → (s p).me ≡ p }
+    ensures world { (script : List (List Statement)) (ranks : ℕ) (s : State) → IsReached script ranks s → (p : ℕ) → named (s p).bound (codes "world") ≡ Some (Communicator [] (world_of ranks)) }
+    ensures bound { (script : List (List Statement)) (ranks : ℕ) (s : State) → IsReached script ranks s → (p : ℕ) → p < ranks
+        → (word : List ℕ) (name : Name) (birth : BirthView) → named (s p).bound word ≡ Some (Communicator name birth) → IsMemberOf ranks s p name birth }
+{}
