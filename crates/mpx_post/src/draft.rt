@@ -163,18 +163,21 @@ impl Draft {
     pub fn copy(&self) -> Result<Draft, OutOfMemory>
         ensures { IfOk result (λ copied. copied ≡ self.now) }
     {
+        let (scounts, rcounts) = copied_pair(&self.scounts, &self.rcounts)?;
+        let (items, group) = copied_pair(&self.items, &self.group)?;
+        let graph = copied(&self.graph)?;
         Ok(Draft {
             call: self.call,
             root: self.root,
             op: self.op,
             ty: self.ty,
-            scounts: self.scounts.copy()?,
-            rcounts: self.rcounts.copy()?,
-            items: self.items.copy()?,
+            scounts,
+            rcounts,
+            items,
             colour: self.colour,
             key: self.key,
-            group: self.group.copy()?,
-            graph: copied(&self.graph)?,
+            group,
+            graph,
         })
     }
 
@@ -491,6 +494,15 @@ impl Draft {
     {
         where_had(self.call.kind().fields().rcounts.is_had(), &self.rcounts)
     }
+}
+
+// Both lists once more, with shared numbers.
+fn copied_pair(first: &Numbers, second: &Numbers) -> Result<(Numbers, Numbers), OutOfMemory>
+    ensures { IfOk result (λ copied. copied ≡ (first.now, second.now)) }
+{
+    let first = first.copy()?;
+    let second = second.copy()?;
+    Ok((first, second))
 }
 
 // The same graph once more, shared, where there is one.

@@ -124,47 +124,83 @@ fn number_within(least: u64, most: u64, word: &[u8]) -> Option<u64>
     }
 }
 
-// The program's commands, as clap explains them.
+// The program's commands, as clap explains them. Each of the functions below has few commands and arguments at once.
 fn program<'a>(alloc: Global) -> Result<clap::Command<'a>, AllocError> {
-    let run = clap::Command::new(alloc, "run")
-        .about(
-            "Run the script on the standard input (gossipmpi run < SCRIPT) and print what each rank gets",
-        )
-        .arg(
-            Arg::new(alloc, "seed").long("seed").help(
-                "What loss, order and receivers are drawn from, 0 to 18446744073709551615 [default: 1]",
-            ),
-        )?
-        .arg(
-            Arg::new(alloc, "loss").long("loss").help(
-                "How many frames of a hundred are lost, 0 to 100 [default: 0]",
-            ),
-        )?
-        .arg(
-            Arg::new(alloc, "relays").long("relays").help(
-                "How many processes only carry frames, 0 to 63 [default: 0]",
-            ),
-        )?
-        .arg(
-            Arg::new(alloc, "turns").long("turns").help(
-                "How many turns are made at most, 1 to 10000000 [default: 100000]",
-            ),
-        )?;
-    let eval = clap::Command::new(alloc, "eval").about(
-        "Evaluate the script on the standard input (gossipmpi eval < SCRIPT), and print what each rank gets",
-    );
-    let check = clap::Command::new(alloc, "check").about(
-        "Read the script on the standard input (gossipmpi check < SCRIPT), and print how many ranks and statements it has",
-    );
+    let commands = commands(alloc)?;
+    bare_program(alloc)?.subcommands(commands)
+}
+
+// The program without its commands.
+fn bare_program<'a>(alloc: Global) -> Result<clap::Command<'a>, AllocError> {
     clap::Command::new(alloc, "gossipmpi")
-        .bin_name("gossipmpi")?
         .about("Run, evaluate or check a text script of MPI collectives for up to 64 ranks")
         .subcommand_required(true)
         .arg_required_else_help(true)
-        .subcommand(run)?
-        .subcommand(eval)?
-        .subcommand(check)
+        .bin_name("gossipmpi")
 }
+
+fn commands<'a>(alloc: Global) -> Result<Vec<clap::Command<'a>>, AllocError> {
+    let mut commands = Vec::new(alloc);
+    commands.push(run(alloc)?)?;
+    for (name, about) in &BARE_COMMANDS {
+        commands.push(command(alloc, name, about))?;
+    }
+    Ok(commands)
+}
+
+// The commands without options, and what each does.
+const BARE_COMMANDS: [(&str, &str); 2] = [
+    (
+        "eval",
+        "Evaluate the script on the standard input (gossipmpi eval < SCRIPT), and print what each rank gets",
+    ),
+    (
+        "check",
+        "Read the script on the standard input (gossipmpi check < SCRIPT), and print how many ranks and statements it has",
+    ),
+];
+
+fn run<'a>(alloc: Global) -> Result<clap::Command<'a>, AllocError> {
+    let options = options(alloc)?;
+    command(
+        alloc,
+        "run",
+        "Run the script on the standard input (gossipmpi run < SCRIPT) and print what each rank gets",
+    )
+    .args(options)
+}
+
+fn command<'a>(alloc: Global, name: &'a str, about: &'a str) -> clap::Command<'a> {
+    clap::Command::new(alloc, name).about(about)
+}
+
+fn options<'a>(alloc: Global) -> Result<Vec<Arg<'a>>, AllocError> {
+    let mut options = Vec::new(alloc);
+    for (name, help) in &OPTIONS {
+        options.push(Arg::new(alloc, name).long(name).help(help))?;
+    }
+    Ok(options)
+}
+
+// The options of `run`, and what each says.
+const OPTIONS: [(&str, &str); 4] = [
+    (
+        "seed",
+        "What loss, order and receivers are drawn from, 0 to 18446744073709551615 [default: 1]",
+    ),
+    (
+        "loss",
+        "How many frames of a hundred are lost, 0 to 100 [default: 0]",
+    ),
+    (
+        "relays",
+        "How many processes only carry frames, 0 to 63 [default: 0]",
+    ),
+    (
+        "turns",
+        "How many turns are made at most, 1 to 10000000 [default: 100000]",
+    ),
+];
 
 // Why the words ask for no job: clap's refusal, or what the first option that gives none should be followed by.
 fn no_job(alloc: Global, words: &[String]) -> Error {
@@ -233,11 +269,17 @@ pub fn not_text(alloc: Global) -> Error
 fn refusal(alloc: Global, kind: ErrorKind, message: &str) -> Error
     ensures { (kind_of result ≡ kind) ⊎ (kind_of result ≡ ErrorKind.OutOfMemory) }
 {
-    match program(alloc) {
-        Ok(mut commands) => match commands.error(kind, message) {
-            Ok(error) => error,
-            Err(error) => Error::from(error),
-        },
+    match error(alloc, kind, message) {
+        Ok(error) => error,
         Err(error) => Error::from(error),
     }
+}
+
+fn error(alloc: Global, kind: ErrorKind, message: &str) -> Result<Error, AllocError>
+    ensures { IfOk result (λ e. kind_of e ≡ kind) }
+{
+    let mut program = program(alloc)?;
+    let error = program.error(kind, message);
+    drop(program);
+    error
 }
