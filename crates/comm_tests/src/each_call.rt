@@ -1,11 +1,9 @@
 // Each call by its name, blocking and nonblocking, by the only rank of a communicator that has an edge to itself.
-use crate::making::{
-    called, called_for_nothing, desk_of, gave, gave_nothing, made, numbers, waited,
-};
-use mpx_comm::{Comm, Desk, Request};
+use crate::making::{desk_of, made, numbers, waited};
+use mpx_comm::{CallError, Comm, Desk, Request};
 use mpx_node::{Finished, Node};
 use mpx_num::{Numbers, Op, Ty};
-use mpx_post::{DraftedEdge, DraftedNeighbour, PostError};
+use mpx_post::{DraftedEdge, DraftedNeighbour, Kind, PostError};
 use mpx_value::Outcome;
 use std::alloc::Global;
 use std::process::Abort;
@@ -13,426 +11,244 @@ use std::test::Fail;
 
 const SEVEN: &[i128] = &[7];
 
-// An item.
-fn item(alloc: Global) -> Result<Numbers, Fail> {
-    numbers(alloc, SEVEN)
-}
+// The kinds that are given one list, the items.
+const OF_ITEMS: [Kind; 12] = [
+    Kind::Bcast,
+    Kind::Gather,
+    Kind::Scatter,
+    Kind::Allgather,
+    Kind::Alltoall,
+    Kind::Reduce,
+    Kind::Allreduce,
+    Kind::ReduceScatterBlock,
+    Kind::Scan,
+    Kind::Exscan,
+    Kind::NeighborAllgather,
+    Kind::NeighborAlltoall,
+];
 
-// A count and an item.
-fn pair(alloc: Global) -> Result<(Numbers, Numbers), Fail> {
-    let count = numbers(alloc, &[1])?;
-    Ok((count, item(alloc)?))
-}
+// The kinds that are also given one list of counts.
+const OF_COUNTS: [Kind; 5] = [
+    Kind::Gatherv,
+    Kind::Scatterv,
+    Kind::Allgatherv,
+    Kind::ReduceScatter,
+    Kind::NeighborAllgatherv,
+];
 
-// Two counts and an item.
-fn triple(alloc: Global) -> Result<(Numbers, (Numbers, Numbers)), Fail> {
-    let count = numbers(alloc, &[1])?;
-    Ok((count, pair(alloc)?))
-}
+// The kinds that are given two lists of counts.
+const OF_BOTH_COUNTS: [Kind; 2] = [Kind::Alltoallv, Kind::NeighborAlltoallv];
 
-// The result of the nonblocking call, without a turn.
-fn result(
-    alloc: Global,
-    desk: &mut Desk<Node>,
-    answer: Result<Request, PostError>,
-) -> Option<Finished> {
-    match answer {
-        Err(_) => None,
-        Ok(request) => desk.wait(alloc, request, 0).ok(),
-    }
-}
-
-// Whether the nonblocking call gives just the item.
-fn gives(alloc: Global, desk: &mut Desk<Node>, answer: Result<Request, PostError>) -> bool {
-    match result(alloc, desk, answer) {
-        Some(finished) => gave(&finished, SEVEN),
-        None => false,
-    }
-}
-
-fn bcast(alloc: Global, desk: &mut Desk<Node>, comm: &Comm, items: Numbers) -> bool {
-    called(desk.bcast(alloc, comm, 0, Ty::I64, 1, items, 0), SEVEN)
-}
-
-fn ibcast(alloc: Global, desk: &mut Desk<Node>, comm: &Comm, items: Numbers) -> bool {
-    let answer = desk.ibcast(alloc, comm, 0, Ty::I64, 1, items);
-    gives(alloc, desk, answer)
-}
-
-fn gather(alloc: Global, desk: &mut Desk<Node>, comm: &Comm, items: Numbers) -> bool {
-    called(desk.gather(alloc, comm, 0, Ty::I64, items, 0), SEVEN)
-}
-
-fn igather(alloc: Global, desk: &mut Desk<Node>, comm: &Comm, items: Numbers) -> bool {
-    let answer = desk.igather(alloc, comm, 0, Ty::I64, items);
-    gives(alloc, desk, answer)
-}
-
-fn gatherv(alloc: Global, desk: &mut Desk<Node>, comm: &Comm, numbers: (Numbers, Numbers)) -> bool {
-    let (rcounts, items) = numbers;
-    called(
-        desk.gatherv(alloc, comm, 0, Ty::I64, rcounts, items, 0),
-        SEVEN,
-    )
-}
-
-fn igatherv(
+fn call_of_items(
     alloc: Global,
     desk: &mut Desk<Node>,
     comm: &Comm,
-    numbers: (Numbers, Numbers),
-) -> bool {
-    let (rcounts, items) = numbers;
-    let answer = desk.igatherv(alloc, comm, 0, Ty::I64, rcounts, items);
-    gives(alloc, desk, answer)
-}
-
-fn scatter(alloc: Global, desk: &mut Desk<Node>, comm: &Comm, items: Numbers) -> bool {
-    called(desk.scatter(alloc, comm, 0, Ty::I64, 1, items, 0), SEVEN)
-}
-
-fn iscatter(alloc: Global, desk: &mut Desk<Node>, comm: &Comm, items: Numbers) -> bool {
-    let answer = desk.iscatter(alloc, comm, 0, Ty::I64, 1, items);
-    gives(alloc, desk, answer)
-}
-
-fn scatterv(
-    alloc: Global,
-    desk: &mut Desk<Node>,
-    comm: &Comm,
-    numbers: (Numbers, Numbers),
-) -> bool {
-    let (scounts, items) = numbers;
-    called(
-        desk.scatterv(alloc, comm, 0, Ty::I64, scounts, 1, items, 0),
-        SEVEN,
-    )
-}
-
-fn iscatterv(
-    alloc: Global,
-    desk: &mut Desk<Node>,
-    comm: &Comm,
-    numbers: (Numbers, Numbers),
-) -> bool {
-    let (scounts, items) = numbers;
-    let answer = desk.iscatterv(alloc, comm, 0, Ty::I64, scounts, 1, items);
-    gives(alloc, desk, answer)
-}
-
-fn allgather(alloc: Global, desk: &mut Desk<Node>, comm: &Comm, items: Numbers) -> bool {
-    called(desk.allgather(alloc, comm, Ty::U8, items, 0), SEVEN)
-}
-
-fn iallgather(alloc: Global, desk: &mut Desk<Node>, comm: &Comm, items: Numbers) -> bool {
-    let answer = desk.iallgather(alloc, comm, Ty::U8, items);
-    gives(alloc, desk, answer)
-}
-
-fn allgatherv(
-    alloc: Global,
-    desk: &mut Desk<Node>,
-    comm: &Comm,
-    numbers: (Numbers, Numbers),
-) -> bool {
-    let (rcounts, items) = numbers;
-    called(
-        desk.allgatherv(alloc, comm, Ty::U8, rcounts, items, 0),
-        SEVEN,
-    )
-}
-
-fn iallgatherv(
-    alloc: Global,
-    desk: &mut Desk<Node>,
-    comm: &Comm,
-    numbers: (Numbers, Numbers),
-) -> bool {
-    let (rcounts, items) = numbers;
-    let answer = desk.iallgatherv(alloc, comm, Ty::U8, rcounts, items);
-    gives(alloc, desk, answer)
-}
-
-fn alltoall(alloc: Global, desk: &mut Desk<Node>, comm: &Comm, items: Numbers) -> bool {
-    called(desk.alltoall(alloc, comm, Ty::U8, 1, items, 0), SEVEN)
-}
-
-fn ialltoall(alloc: Global, desk: &mut Desk<Node>, comm: &Comm, items: Numbers) -> bool {
-    let answer = desk.ialltoall(alloc, comm, Ty::U8, 1, items);
-    gives(alloc, desk, answer)
-}
-
-fn alltoallv(
-    alloc: Global,
-    desk: &mut Desk<Node>,
-    comm: &Comm,
-    numbers: (Numbers, (Numbers, Numbers)),
-) -> bool {
-    let (scounts, (rcounts, items)) = numbers;
-    called(
-        desk.alltoallv(alloc, comm, Ty::U8, scounts, rcounts, items, 0),
-        SEVEN,
-    )
-}
-
-fn ialltoallv(
-    alloc: Global,
-    desk: &mut Desk<Node>,
-    comm: &Comm,
-    numbers: (Numbers, (Numbers, Numbers)),
-) -> bool {
-    let (scounts, (rcounts, items)) = numbers;
-    let answer = desk.ialltoallv(alloc, comm, Ty::U8, scounts, rcounts, items);
-    gives(alloc, desk, answer)
-}
-
-fn reduce(alloc: Global, desk: &mut Desk<Node>, comm: &Comm, items: Numbers) -> bool {
-    called(
-        desk.reduce(alloc, comm, 0, Op::Sum, Ty::I64, items, 0),
-        SEVEN,
-    )
-}
-
-fn ireduce(alloc: Global, desk: &mut Desk<Node>, comm: &Comm, items: Numbers) -> bool {
-    let answer = desk.ireduce(alloc, comm, 0, Op::Sum, Ty::I64, items);
-    gives(alloc, desk, answer)
-}
-
-fn allreduce(alloc: Global, desk: &mut Desk<Node>, comm: &Comm, items: Numbers) -> bool {
-    called(
-        desk.allreduce(alloc, comm, Op::Sum, Ty::I64, items, 0),
-        SEVEN,
-    )
-}
-
-fn iallreduce(alloc: Global, desk: &mut Desk<Node>, comm: &Comm, items: Numbers) -> bool {
-    let answer = desk.iallreduce(alloc, comm, Op::Sum, Ty::I64, items);
-    gives(alloc, desk, answer)
-}
-
-fn reduce_scatter_block(alloc: Global, desk: &mut Desk<Node>, comm: &Comm, items: Numbers) -> bool {
-    called(
-        desk.reduce_scatter_block(alloc, comm, Op::Sum, Ty::I64, 1, items, 0),
-        SEVEN,
-    )
-}
-
-fn ireduce_scatter_block(
-    alloc: Global,
-    desk: &mut Desk<Node>,
-    comm: &Comm,
+    kind: Kind,
     items: Numbers,
-) -> bool {
-    let answer = desk.ireduce_scatter_block(alloc, comm, Op::Sum, Ty::I64, 1, items);
-    gives(alloc, desk, answer)
-}
-
-fn reduce_scatter(
-    alloc: Global,
-    desk: &mut Desk<Node>,
-    comm: &Comm,
-    numbers: (Numbers, Numbers),
-) -> bool {
-    let (rcounts, items) = numbers;
-    called(
-        desk.reduce_scatter(alloc, comm, Op::Sum, Ty::I64, rcounts, items, 0),
-        SEVEN,
-    )
-}
-
-fn ireduce_scatter(
-    alloc: Global,
-    desk: &mut Desk<Node>,
-    comm: &Comm,
-    numbers: (Numbers, Numbers),
-) -> bool {
-    let (rcounts, items) = numbers;
-    let answer = desk.ireduce_scatter(alloc, comm, Op::Sum, Ty::I64, rcounts, items);
-    gives(alloc, desk, answer)
-}
-
-fn scan(alloc: Global, desk: &mut Desk<Node>, comm: &Comm, items: Numbers) -> bool {
-    called(desk.scan(alloc, comm, Op::Sum, Ty::I64, items, 0), SEVEN)
-}
-
-fn iscan(alloc: Global, desk: &mut Desk<Node>, comm: &Comm, items: Numbers) -> bool {
-    let answer = desk.iscan(alloc, comm, Op::Sum, Ty::I64, items);
-    gives(alloc, desk, answer)
-}
-
-fn neighbor_allgather(alloc: Global, desk: &mut Desk<Node>, comm: &Comm, items: Numbers) -> bool {
-    called(
-        desk.neighbor_allgather(alloc, comm, Ty::I8, 1, items, 0),
-        SEVEN,
-    )
-}
-
-fn ineighbor_allgather(alloc: Global, desk: &mut Desk<Node>, comm: &Comm, items: Numbers) -> bool {
-    let answer = desk.ineighbor_allgather(alloc, comm, Ty::I8, 1, items);
-    gives(alloc, desk, answer)
-}
-
-fn neighbor_allgatherv(
-    alloc: Global,
-    desk: &mut Desk<Node>,
-    comm: &Comm,
-    numbers: (Numbers, Numbers),
-) -> bool {
-    let (rcounts, items) = numbers;
-    called(
-        desk.neighbor_allgatherv(alloc, comm, Ty::I8, rcounts, items, 0),
-        SEVEN,
-    )
-}
-
-fn ineighbor_allgatherv(
-    alloc: Global,
-    desk: &mut Desk<Node>,
-    comm: &Comm,
-    numbers: (Numbers, Numbers),
-) -> bool {
-    let (rcounts, items) = numbers;
-    let answer = desk.ineighbor_allgatherv(alloc, comm, Ty::I8, rcounts, items);
-    gives(alloc, desk, answer)
-}
-
-fn neighbor_alltoall(alloc: Global, desk: &mut Desk<Node>, comm: &Comm, items: Numbers) -> bool {
-    called(
-        desk.neighbor_alltoall(alloc, comm, Ty::I8, 1, 1, items, 0),
-        SEVEN,
-    )
-}
-
-fn ineighbor_alltoall(alloc: Global, desk: &mut Desk<Node>, comm: &Comm, items: Numbers) -> bool {
-    let answer = desk.ineighbor_alltoall(alloc, comm, Ty::I8, 1, 1, items);
-    gives(alloc, desk, answer)
-}
-
-fn neighbor_alltoallv(
-    alloc: Global,
-    desk: &mut Desk<Node>,
-    comm: &Comm,
-    numbers: (Numbers, (Numbers, Numbers)),
-) -> bool {
-    let (scounts, (rcounts, items)) = numbers;
-    called(
-        desk.neighbor_alltoallv(alloc, comm, Ty::I8, scounts, rcounts, items, 0),
-        SEVEN,
-    )
-}
-
-fn ineighbor_alltoallv(
-    alloc: Global,
-    desk: &mut Desk<Node>,
-    comm: &Comm,
-    numbers: (Numbers, (Numbers, Numbers)),
-) -> bool {
-    let (scounts, (rcounts, items)) = numbers;
-    let answer = desk.ineighbor_alltoallv(alloc, comm, Ty::I8, scounts, rcounts, items);
-    gives(alloc, desk, answer)
-}
-
-fn barrier(alloc: Global, desk: &mut Desk<Node>, comm: &Comm) -> bool {
-    called_for_nothing(desk.barrier(alloc, comm, 0))
-}
-
-fn ibarrier(alloc: Global, desk: &mut Desk<Node>, comm: &Comm) -> bool {
-    let answer = desk.ibarrier(alloc, comm);
-    match result(alloc, desk, answer) {
-        Some(finished) => gave_nothing(&finished),
-        None => false,
+) -> Result<Finished, CallError> {
+    match kind {
+        Kind::Bcast => desk.bcast(alloc, comm, 0, Ty::I64, 1, items, 0),
+        Kind::Gather => desk.gather(alloc, comm, 0, Ty::I64, items, 0),
+        Kind::Scatter => desk.scatter(alloc, comm, 0, Ty::I64, 1, items, 0),
+        Kind::Allgather => desk.allgather(alloc, comm, Ty::U8, items, 0),
+        Kind::Alltoall => desk.alltoall(alloc, comm, Ty::U8, 1, items, 0),
+        Kind::Reduce => desk.reduce(alloc, comm, 0, Op::Sum, Ty::I64, items, 0),
+        Kind::Allreduce => desk.allreduce(alloc, comm, Op::Sum, Ty::I64, items, 0),
+        Kind::ReduceScatterBlock => {
+            desk.reduce_scatter_block(alloc, comm, Op::Sum, Ty::I64, 1, items, 0)
+        }
+        Kind::Scan => desk.scan(alloc, comm, Op::Sum, Ty::I64, items, 0),
+        Kind::Exscan => desk.exscan(alloc, comm, Op::Sum, Ty::I64, items, 0),
+        Kind::NeighborAllgather => desk.neighbor_allgather(alloc, comm, Ty::I8, 1, items, 0),
+        Kind::NeighborAlltoall => desk.neighbor_alltoall(alloc, comm, Ty::I8, 1, 1, items, 0),
+        _ => Err(CallError::Refused(PostError::NotMember)),
     }
 }
 
-fn is_absent(finished: &Finished) -> bool {
-    matches!(&finished.outcome, Outcome::Absent)
+fn start_of_items(
+    alloc: Global,
+    desk: &mut Desk<Node>,
+    comm: &Comm,
+    kind: Kind,
+    items: Numbers,
+) -> Result<Request, PostError> {
+    match kind {
+        Kind::Bcast => desk.ibcast(alloc, comm, 0, Ty::I64, 1, items),
+        Kind::Gather => desk.igather(alloc, comm, 0, Ty::I64, items),
+        Kind::Scatter => desk.iscatter(alloc, comm, 0, Ty::I64, 1, items),
+        Kind::Allgather => desk.iallgather(alloc, comm, Ty::U8, items),
+        Kind::Alltoall => desk.ialltoall(alloc, comm, Ty::U8, 1, items),
+        Kind::Reduce => desk.ireduce(alloc, comm, 0, Op::Sum, Ty::I64, items),
+        Kind::Allreduce => desk.iallreduce(alloc, comm, Op::Sum, Ty::I64, items),
+        Kind::ReduceScatterBlock => {
+            desk.ireduce_scatter_block(alloc, comm, Op::Sum, Ty::I64, 1, items)
+        }
+        Kind::Scan => desk.iscan(alloc, comm, Op::Sum, Ty::I64, items),
+        Kind::Exscan => desk.iexscan(alloc, comm, Op::Sum, Ty::I64, items),
+        Kind::NeighborAllgather => desk.ineighbor_allgather(alloc, comm, Ty::I8, 1, items),
+        Kind::NeighborAlltoall => desk.ineighbor_alltoall(alloc, comm, Ty::I8, 1, 1, items),
+        _ => Err(PostError::NotMember),
+    }
 }
 
-// Nothing is below rank 0.
-fn exscan(alloc: Global, desk: &mut Desk<Node>, comm: &Comm, items: Numbers) -> bool {
-    match desk.exscan(alloc, comm, Op::Sum, Ty::I64, items, 0) {
-        Ok(finished) => is_absent(&finished),
+fn call_of_counts(
+    alloc: Global,
+    desk: &mut Desk<Node>,
+    comm: &Comm,
+    kind: Kind,
+    counts: Numbers,
+    items: Numbers,
+) -> Result<Finished, CallError> {
+    match kind {
+        Kind::Gatherv => desk.gatherv(alloc, comm, 0, Ty::I64, counts, items, 0),
+        Kind::Scatterv => desk.scatterv(alloc, comm, 0, Ty::I64, counts, 1, items, 0),
+        Kind::Allgatherv => desk.allgatherv(alloc, comm, Ty::U8, counts, items, 0),
+        Kind::ReduceScatter => {
+            desk.reduce_scatter(alloc, comm, Op::Sum, Ty::I64, counts, items, 0)
+        }
+        Kind::NeighborAllgatherv => {
+            desk.neighbor_allgatherv(alloc, comm, Ty::I8, counts, items, 0)
+        }
+        _ => Err(CallError::Refused(PostError::NotMember)),
+    }
+}
+
+fn start_of_counts(
+    alloc: Global,
+    desk: &mut Desk<Node>,
+    comm: &Comm,
+    kind: Kind,
+    counts: Numbers,
+    items: Numbers,
+) -> Result<Request, PostError> {
+    match kind {
+        Kind::Gatherv => desk.igatherv(alloc, comm, 0, Ty::I64, counts, items),
+        Kind::Scatterv => desk.iscatterv(alloc, comm, 0, Ty::I64, counts, 1, items),
+        Kind::Allgatherv => desk.iallgatherv(alloc, comm, Ty::U8, counts, items),
+        Kind::ReduceScatter => {
+            desk.ireduce_scatter(alloc, comm, Op::Sum, Ty::I64, counts, items)
+        }
+        Kind::NeighborAllgatherv => {
+            desk.ineighbor_allgatherv(alloc, comm, Ty::I8, counts, items)
+        }
+        _ => Err(PostError::NotMember),
+    }
+}
+
+fn call_of_both_counts(
+    alloc: Global,
+    desk: &mut Desk<Node>,
+    comm: &Comm,
+    kind: Kind,
+    counts: (Numbers, Numbers),
+    items: Numbers,
+) -> Result<Finished, CallError> {
+    let (scounts, rcounts) = counts;
+    match kind {
+        Kind::Alltoallv => desk.alltoallv(alloc, comm, Ty::U8, scounts, rcounts, items, 0),
+        _ => desk.neighbor_alltoallv(alloc, comm, Ty::I8, scounts, rcounts, items, 0),
+    }
+}
+
+fn start_of_both_counts(
+    alloc: Global,
+    desk: &mut Desk<Node>,
+    comm: &Comm,
+    kind: Kind,
+    counts: (Numbers, Numbers),
+    items: Numbers,
+) -> Result<Request, PostError> {
+    let (scounts, rcounts) = counts;
+    match kind {
+        Kind::Alltoallv => desk.ialltoallv(alloc, comm, Ty::U8, scounts, rcounts, items),
+        _ => desk.ineighbor_alltoallv(alloc, comm, Ty::I8, scounts, rcounts, items),
+    }
+}
+
+// Whether the call gives just the item; a barrier gives nothing, and nothing is below rank 0.
+fn is_right(kind: Kind, finished: &Finished) -> bool {
+    match &finished.outcome {
+        Outcome::Items(items) => items.nums() == SEVEN,
+        Outcome::Nothing => kind == Kind::Barrier,
+        Outcome::Absent => kind == Kind::Exscan,
+        _ => false,
+    }
+}
+
+fn gives(kind: Kind, answer: Result<Finished, CallError>) -> bool {
+    match answer {
+        Ok(finished) => is_right(kind, &finished),
         Err(_) => false,
     }
 }
 
-fn iexscan(alloc: Global, desk: &mut Desk<Node>, comm: &Comm, items: Numbers) -> bool {
-    let answer = desk.iexscan(alloc, comm, Op::Sum, Ty::I64, items);
-    match result(alloc, desk, answer) {
-        Some(finished) => is_absent(&finished),
-        None => false,
+// Whether the request does, without a turn.
+fn gives_later(
+    alloc: Global,
+    desk: &mut Desk<Node>,
+    kind: Kind,
+    answer: Result<Request, PostError>,
+) -> bool {
+    let Ok(request) = answer else {
+        return false;
+    };
+    match desk.wait(alloc, request, 0) {
+        Ok(finished) => is_right(kind, &finished),
+        Err(_) => false,
     }
 }
 
-fn rooted(rt: &impl Abort, alloc: Global, desk: &mut Desk<Node>, comm: &Comm) -> Result<(), Fail> {
-    assert!(rt; barrier(alloc, desk, comm));
-    assert!(rt; ibarrier(alloc, desk, comm));
-    assert!(rt; bcast(alloc, desk, comm, item(alloc)?));
-    assert!(rt; ibcast(alloc, desk, comm, item(alloc)?));
-    assert!(rt; gather(alloc, desk, comm, item(alloc)?));
-    assert!(rt; igather(alloc, desk, comm, item(alloc)?));
-    assert!(rt; gatherv(alloc, desk, comm, pair(alloc)?));
-    assert!(rt; igatherv(alloc, desk, comm, pair(alloc)?));
-    assert!(rt; scatter(alloc, desk, comm, item(alloc)?));
-    assert!(rt; iscatter(alloc, desk, comm, item(alloc)?));
-    assert!(rt; scatterv(alloc, desk, comm, pair(alloc)?));
-    assert!(rt; iscatterv(alloc, desk, comm, pair(alloc)?));
-    Ok(())
-}
-
-fn exchanges(
-    rt: &impl Abort,
+// The call and its nonblocking form.
+fn calls_of_items(
     alloc: Global,
     desk: &mut Desk<Node>,
     comm: &Comm,
-) -> Result<(), Fail> {
-    assert!(rt; allgather(alloc, desk, comm, item(alloc)?));
-    assert!(rt; iallgather(alloc, desk, comm, item(alloc)?));
-    assert!(rt; allgatherv(alloc, desk, comm, pair(alloc)?));
-    assert!(rt; iallgatherv(alloc, desk, comm, pair(alloc)?));
-    assert!(rt; alltoall(alloc, desk, comm, item(alloc)?));
-    assert!(rt; ialltoall(alloc, desk, comm, item(alloc)?));
-    assert!(rt; alltoallv(alloc, desk, comm, triple(alloc)?));
-    assert!(rt; ialltoallv(alloc, desk, comm, triple(alloc)?));
-    Ok(())
+    kind: Kind,
+) -> Result<bool, Fail> {
+    let items = numbers(alloc, SEVEN)?;
+    let called = gives(kind, call_of_items(alloc, desk, comm, kind, items));
+    let items = numbers(alloc, SEVEN)?;
+    let answer = start_of_items(alloc, desk, comm, kind, items);
+    Ok(gives_later(alloc, desk, kind, answer) && called)
 }
 
-fn reductions(
-    rt: &impl Abort,
+fn calls_of_counts(
     alloc: Global,
     desk: &mut Desk<Node>,
     comm: &Comm,
-) -> Result<(), Fail> {
-    assert!(rt; reduce(alloc, desk, comm, item(alloc)?));
-    assert!(rt; ireduce(alloc, desk, comm, item(alloc)?));
-    assert!(rt; allreduce(alloc, desk, comm, item(alloc)?));
-    assert!(rt; iallreduce(alloc, desk, comm, item(alloc)?));
-    assert!(rt; reduce_scatter_block(alloc, desk, comm, item(alloc)?));
-    assert!(rt; ireduce_scatter_block(alloc, desk, comm, item(alloc)?));
-    assert!(rt; reduce_scatter(alloc, desk, comm, pair(alloc)?));
-    assert!(rt; ireduce_scatter(alloc, desk, comm, pair(alloc)?));
-    assert!(rt; scan(alloc, desk, comm, item(alloc)?));
-    assert!(rt; iscan(alloc, desk, comm, item(alloc)?));
-    assert!(rt; exscan(alloc, desk, comm, item(alloc)?));
-    assert!(rt; iexscan(alloc, desk, comm, item(alloc)?));
-    Ok(())
+    kind: Kind,
+) -> Result<bool, Fail> {
+    let (counts, items) = (numbers(alloc, &[1])?, numbers(alloc, SEVEN)?);
+    let called = gives(kind, call_of_counts(alloc, desk, comm, kind, counts, items));
+    let (counts, items) = (numbers(alloc, &[1])?, numbers(alloc, SEVEN)?);
+    let answer = start_of_counts(alloc, desk, comm, kind, counts, items);
+    Ok(gives_later(alloc, desk, kind, answer) && called)
 }
 
-fn neighbourhoods(
-    rt: &impl Abort,
+fn calls_of_both_counts(
     alloc: Global,
     desk: &mut Desk<Node>,
     comm: &Comm,
-) -> Result<(), Fail> {
-    assert!(rt; neighbor_allgather(alloc, desk, comm, item(alloc)?));
-    assert!(rt; ineighbor_allgather(alloc, desk, comm, item(alloc)?));
-    assert!(rt; neighbor_allgatherv(alloc, desk, comm, pair(alloc)?));
-    assert!(rt; ineighbor_allgatherv(alloc, desk, comm, pair(alloc)?));
-    assert!(rt; neighbor_alltoall(alloc, desk, comm, item(alloc)?));
-    assert!(rt; ineighbor_alltoall(alloc, desk, comm, item(alloc)?));
-    assert!(rt; neighbor_alltoallv(alloc, desk, comm, triple(alloc)?));
-    assert!(rt; ineighbor_alltoallv(alloc, desk, comm, triple(alloc)?));
-    Ok(())
+    kind: Kind,
+) -> Result<bool, Fail> {
+    let (counts, items) = (ones(alloc)?, numbers(alloc, SEVEN)?);
+    let called = gives(
+        kind,
+        call_of_both_counts(alloc, desk, comm, kind, counts, items),
+    );
+    let (counts, items) = (ones(alloc)?, numbers(alloc, SEVEN)?);
+    let answer = start_of_both_counts(alloc, desk, comm, kind, counts, items);
+    Ok(gives_later(alloc, desk, kind, answer) && called)
+}
+
+fn ones(alloc: Global) -> Result<(Numbers, Numbers), Fail> {
+    Ok((numbers(alloc, &[1])?, numbers(alloc, &[1])?))
+}
+
+fn barriers(alloc: Global, desk: &mut Desk<Node>, comm: &Comm) -> bool {
+    let called = gives(Kind::Barrier, desk.barrier(alloc, comm, 0));
+    let answer = desk.ibarrier(alloc, comm);
+    gives_later(alloc, desk, Kind::Barrier, answer) && called
 }
 
 // By any edges.
@@ -443,36 +259,52 @@ fn of_edges(alloc: Global, desk: &mut Desk<Node>, comm: &Comm) -> Result<Comm, F
         weight: 0,
     };
     let edges = vec![in alloc; edge]?;
-    made(
-        alloc,
-        waited(desk.dist_graph(alloc, comm, false, edges, 0))?,
-    )
+    let finished = waited(desk.dist_graph(alloc, comm, false, edges, 0))?;
+    made(alloc, finished)
 }
 
 // By the own neighbours.
 fn of_neighbours(alloc: Global, desk: &mut Desk<Node>, comm: &Comm) -> Result<Comm, Fail> {
     let near = DraftedNeighbour { rank: 0, weight: 4 };
-    let sources = vec![in alloc; near]?;
-    let destinations = vec![in alloc; near]?;
-    made(
-        alloc,
-        waited(desk.dist_graph_adjacent(alloc, comm, true, sources, destinations, 0))?,
-    )
+    let (sources, destinations) = (vec![in alloc; near]?, vec![in alloc; near]?);
+    let answer = desk.dist_graph_adjacent(alloc, comm, true, sources, destinations, 0);
+    made(alloc, waited(answer)?)
 }
 
-fn along_edges(rt: &impl Abort, alloc: Global, desk: &mut Desk<Node>) -> Result<(), Fail> {
+fn with_edges(alloc: Global, desk: &mut Desk<Node>) -> Result<Comm, Fail> {
     let general = of_edges(alloc, desk, &Comm::world(alloc, 1, 0))?;
-    let adjacent = of_neighbours(alloc, desk, &general)?;
-    neighbourhoods(rt, alloc, desk, &adjacent)
+    of_neighbours(alloc, desk, &general)
+}
+
+fn all_calls(
+    rt: &impl Abort,
+    alloc: Global,
+    desk: &mut Desk<Node>,
+    comm: &Comm,
+) -> Result<(), Fail> {
+    assert!(rt; barriers(alloc, desk, comm));
+    for kind in OF_ITEMS {
+        assert!(rt; calls_of_items(alloc, desk, comm, kind)?, "{kind:?}");
+    }
+    for kind in OF_COUNTS {
+        assert!(rt; calls_of_counts(alloc, desk, comm, kind)?, "{kind:?}");
+    }
+    for kind in OF_BOTH_COUNTS {
+        assert!(rt; calls_of_both_counts(alloc, desk, comm, kind)?, "{kind:?}");
+    }
+    Ok(())
+}
+
+fn calls(rt: &impl Abort, alloc: Global, desk: &mut Desk<Node>) -> Result<(), Fail> {
+    let comm = with_edges(alloc, desk)?;
+    all_calls(rt, alloc, desk, &comm)
 }
 
 #[test]
 fn calls_by_name(rt: HostRuntime) -> Result<(), Fail> {
     let alloc = rt.alloc();
     let mut desk = desk_of(alloc, 0, 1)?;
-    let world = Comm::world(alloc, 1, 0);
-    rooted(&rt, alloc, &mut desk, &world)?;
-    exchanges(&rt, alloc, &mut desk, &world)?;
-    reductions(&rt, alloc, &mut desk, &world)?;
-    along_edges(&rt, alloc, &mut desk)
+    let answer = calls(&rt, alloc, &mut desk);
+    drop(desk);
+    answer
 }

@@ -4,7 +4,9 @@
 #![tactic(auto)]
 
 #[cfg(test)]
-mod communicators;
+mod acts;
+#[cfg(test)]
+mod calls;
 #[cfg(test)]
 mod each_call;
 #[cfg(test)]
@@ -12,8 +14,6 @@ mod linked;
 #[cfg(test)]
 mod making;
 #[cfg(test)]
-mod overlap;
-#[cfg(test)]
-mod tests;
+mod rows;
 #[cfg(test)]
 mod turns;

@@ -1,62 +1,87 @@
-// Blocking calls over a host that makes turns.
+//! Blocking calls over a host that makes turns.
 use crate::linked::Linked;
-use crate::making::{called_for_nothing, left_open, numbers, refusal};
-use mpx_comm::{Comm, Desk};
+use crate::making::{desk_of, numbers};
+use mpx_comm::{CallError, Comm, Desk, Request};
 use mpx_group::Proc;
 use mpx_node::Node;
 use mpx_num::Ty;
 use mpx_post::PostError;
+use mpx_value::Outcome;
 use std::alloc::Global;
 use std::process::Abort;
 use std::test::Fail;
 
-// The second rank's desk, which has posted a barrier and made three turns in vain.
-fn other(alloc: Global) -> Result<Desk<Node>, Fail> {
-    let mut desk = Desk::new(alloc, Node::new(alloc, Proc::new(1), 2, 2)?);
-    left_open(desk.barrier(alloc, &Comm::world(alloc, 2, 1), 3))?;
-    Ok(desk)
+// The second rank, which has posted a barrier and made three turns in vain.
+fn other(alloc: Global) -> Result<Node, Fail> {
+    let mut desk = desk_of(alloc, 1, 2)?;
+    let answer = desk.barrier(alloc, &Comm::world(alloc, 2, 1), 3);
+    match answer {
+        Err(CallError::StillWaiting(_)) => Ok(desk.into_host()),
+        _ => {
+            drop(desk);
+            Err(Fail::from("it isn't open"))
+        }
+    }
 }
 
-// The first barrier takes a turn; the second isn't done after five.
+// Whether a barrier with five turns is done; if not, its request.
+fn is_met(alloc: Global, desk: &mut Desk<Linked>, world: &Comm) -> Result<Option<Request>, Fail> {
+    match desk.barrier(alloc, world, 5) {
+        Ok(finished) => {
+            if matches!(&finished.outcome, Outcome::Nothing) {
+                return Ok(None);
+            }
+            Err(Fail::from("it gave something"))
+        }
+        Err(CallError::StillWaiting(request)) => Ok(Some(request)),
+        Err(_) => Err(Fail::from("it isn't posted")),
+    }
+}
+
+// The first barrier takes a turn; the second isn't done after five, nor after two more.
 fn barriers_make_turns(
     rt: &impl Abort,
     alloc: Global,
     desk: &mut Desk<Linked>,
     world: &Comm,
 ) -> Result<(), Fail> {
-    assert!(rt; called_for_nothing(desk.barrier(alloc, world, 5)));
-    assert_eq!(rt; desk.host().turns, 1);
-    let second = left_open(desk.barrier(alloc, world, 5))?;
+    assert!(rt; is_met(alloc, desk, world)?.is_none() && desk.host().turns == 1);
+    let second = is_met(alloc, desk, world)?.ok_or("it is done")?;
     assert_eq!(rt; desk.host().turns, 6);
-    assert!(rt; desk.wait(alloc, second, 2).is_err());
-    assert_eq!(rt; desk.host().turns, 8);
+    assert!(rt; desk.wait(alloc, second, 2).is_err() && desk.host().turns == 8);
     Ok(())
 }
 
-// A refused call makes none.
-fn refusals_make_none(
-    rt: &impl Abort,
-    alloc: Global,
-    desk: &mut Desk<Linked>,
-    world: &Comm,
-) -> Result<(), Fail> {
+// Why a broadcast by rank 2 of two is refused.
+fn refusal(alloc: Global, desk: &mut Desk<Linked>, world: &Comm) -> Result<PostError, Fail> {
     let items = numbers(alloc, &[7])?;
-    let told = refusal(desk.bcast(alloc, world, 2, Ty::I32, 1, items, 5));
-    assert!(rt; told == Some(PostError::RootOutOfRange));
+    match desk.bcast(alloc, world, 2, Ty::I32, 1, items, 5) {
+        Err(CallError::Refused(refusal)) => Ok(refusal),
+        _ => Err(Fail::from("it isn't refused")),
+    }
+}
+
+// A refused call makes no turn.
+fn makes_turns(rt: &impl Abort, alloc: Global, desk: &mut Desk<Linked>) -> Result<(), Fail> {
+    let world = Comm::world(alloc, 2, 0);
+    assert_eq!(rt; refusal(alloc, desk, &world)?, PostError::RootOutOfRange);
     assert_eq!(rt; desk.host().turns, 0);
-    Ok(())
+    barriers_make_turns(rt, alloc, desk, &world)
+}
+
+fn linked(alloc: Global) -> Result<Linked, Fail> {
+    Ok(Linked {
+        mine: Node::new(alloc, Proc::new(0), 2, 2)?,
+        theirs: other(alloc)?,
+        turns: 0,
+    })
 }
 
 #[test]
 fn blocking_calls_make_turns(rt: HostRuntime) -> Result<(), Fail> {
     let alloc = rt.alloc();
-    let host = Linked {
-        mine: Node::new(alloc, Proc::new(0), 2, 2)?,
-        theirs: other(alloc)?.into_host(),
-        turns: 0,
-    };
-    let mut desk = Desk::new(alloc, host);
-    let world = Comm::world(alloc, 2, 0);
-    refusals_make_none(&rt, alloc, &mut desk, &world)?;
-    barriers_make_turns(&rt, alloc, &mut desk, &world)
+    let mut desk = Desk::new(alloc, linked(alloc)?);
+    let answer = makes_turns(&rt, alloc, &mut desk);
+    drop(desk);
+    answer
 }

@@ -1,5 +1,5 @@
 // The limits of a post.
-use crate::making::sum_of;
+use crate::making::{proc, sum_of};
 use join_core::Exact;
 use mpx_group::Proc;
 use mpx_name::Name;
@@ -37,49 +37,53 @@ fn is_copied(alloc: Global, post: &Post) -> bool {
     }
 }
 
-fn is_posted(alloc: Global, me: Proc, call: u32, number: i128, count: usize) -> bool {
-    match repeated(alloc, me, call, number, count) {
-        Ok(post) => is_copied(alloc, &post),
-        Err(_) => false,
-    }
-}
-
-// As many items and calls as there may be.
-#[test]
-fn posts_at_the_limits(rt: HostRuntime) {
-    let (one, other) = (Proc::new(0), Proc::new(1));
-    let last = 4_294_967_294;
-    assert!(rt; is_posted(rt.alloc(), one, 0, 7, 4096));
-    assert!(rt; is_posted(rt.alloc(), other, last, -9223372036854775808, 0));
-}
-
-fn refusal(alloc: Global, me: Proc, call: u32, number: i128, count: usize) -> Option<PostError> {
-    match repeated(alloc, me, call, number, count) {
-        Ok(_) => None,
+// Why it is refused; none where it is posted and can be copied.
+fn refusal(alloc: Global, me: u8, call: u32, number: i128, count: usize) -> Option<PostError> {
+    match repeated(alloc, proc(me), call, number, count) {
+        Ok(post) => {
+            if is_copied(alloc, &post) {
+                return None;
+            }
+            Some(PostError::OutOfMemory)
+        }
         Err(refusal) => Some(refusal),
     }
 }
 
+const LEAST: i128 = -9223372036854775808;
+
+const ONE_TOO_LARGE: i128 = 9223372036854775808;
+
+const LAST: u32 = 4_294_967_294;
+
+const NONE_LEFT: u32 = 4_294_967_295;
+
+// As many items and calls as there may be, and one more.
 #[test]
-fn refusals_beyond_the_limits(rt: HostRuntime) {
-    let one_too_large = 9223372036854775808;
-    let last = 4_294_967_295;
-    let me = Proc::new(0);
+fn posts_at_the_limits(rt: HostRuntime) {
     for (me, call, number, count, wanted) in [
-        (me, 0, 7, 4097, PostError::TooManyItems),
-        (me, 0, one_too_large, 1, PostError::ItemOutOfRange),
-        (me, last, one_too_large, 4097, PostError::ItemOutOfRange),
-        (me, last, 7, 4097, PostError::TooManyItems),
-        (me, last, 7, 1, PostError::CallsUsedUp),
+        (0, 0, 7, 4096, None),
+        (1, LAST, LEAST, 0, None),
+        (0, 0, 7, 4097, Some(PostError::TooManyItems)),
+        (0, 0, ONE_TOO_LARGE, 1, Some(PostError::ItemOutOfRange)),
         (
-            Proc::new(2),
-            last,
-            one_too_large,
+            0,
+            NONE_LEFT,
+            ONE_TOO_LARGE,
             4097,
-            PostError::NotMember,
+            Some(PostError::ItemOutOfRange),
+        ),
+        (0, NONE_LEFT, 7, 4097, Some(PostError::TooManyItems)),
+        (0, NONE_LEFT, 7, 1, Some(PostError::CallsUsedUp)),
+        (
+            2,
+            NONE_LEFT,
+            ONE_TOO_LARGE,
+            4097,
+            Some(PostError::NotMember),
         ),
     ] {
         let told = refusal(rt.alloc(), me, call, number, count);
-        assert_eq!(rt; told, Some(wanted));
+        assert_eq!(rt; told, wanted);
     }
 }

@@ -1,15 +1,59 @@
-//! Drafts, posts and nodes that the tests use.
-ghost use Rattle.std.specs.Prelude.{◌<◌};
-
-use mpx_group::Proc;
+//! Contexts, drafts and posts that the tests use.
+use mpx_group::{Group, Proc};
 use mpx_name::Name;
-use mpx_node::Node;
 use mpx_num::Ty;
-use mpx_post::{Kind, PostError};
+use mpx_post::{Kind, Post};
 use std::alloc::Global;
-use std::process::Abort;
 use std::test::Fail;
-use test_drafts::{Drafted, draft, just};
+use test_drafts::{Drafted, bare, just};
+
+// A context.
+#[derive(Clone, Copy)]
+pub enum On {
+    // So many steps below the context of all, each the first child.
+    Below(u8),
+    // The gathering of ranks 0 and 2 with tag 9, below the context of all.
+    Gathering,
+    // The same of ranks 2 and 0.
+    Reversed,
+    // The first child of the gathering.
+    OfGathering,
+}
+
+pub const WORLD: On = On::Below(0);
+
+// The process with this number, which is below 64.
+pub fn proc(number: u8) -> Proc {
+    if number < 64 {
+        return Proc::new(number);
+    }
+    Proc::new(0)
+}
+
+fn below(alloc: Global, depth: u8) -> Result<Name, Fail> {
+    let mut name = Name::world(alloc);
+    for _ in 0..depth {
+        name = name.child(alloc, 0, 0)?;
+    }
+    Ok(name)
+}
+
+fn gathering(alloc: Global, one: u8, other: u8) -> Result<Name, Fail> {
+    let members = Group::new(vec![in alloc; proc(one), proc(other)]?)?;
+    if members.size() == 0 {
+        return Err(Fail::from("no members"));
+    }
+    Ok(Name::world(alloc).gathering(alloc, 9, &members)?)
+}
+
+pub fn name_of(alloc: Global, on: On) -> Result<Name, Fail> {
+    match on {
+        On::Below(depth) => below(alloc, depth),
+        On::Gathering => gathering(alloc, 0, 2),
+        On::Reversed => gathering(alloc, 2, 0),
+        On::OfGathering => Ok(gathering(alloc, 0, 2)?.child(alloc, 0, 0)?),
+    }
+}
 
 pub fn sum_of(items: &[i128]) -> Drafted<'_> {
     Drafted {
@@ -19,41 +63,7 @@ pub fn sum_of(items: &[i128]) -> Drafted<'_> {
     }
 }
 
-// What the node answers to this as its next call.
-pub fn post_on(
-    alloc: Global,
-    node: &mut Node,
-    name: &Name,
-    drafted: &Drafted<'_>,
-) -> Result<u32, PostError> {
-    match draft(alloc, drafted) {
-        Ok(draft) => node.post(alloc, name, draft),
-        Err(_) => Err(PostError::OutOfMemory),
-    }
-}
-
-// The node gives these numbers to its next call on the world, which is this one.
-pub fn post(rt: &impl Abort, alloc: Global, node: &mut Node, call: u32, nums: &[i128]) {
-    let world = Name::world(alloc);
-    let told = post_on(alloc, node, &world, &sum_of(nums));
-    assert_eq!(rt; told, Ok(call));
-    assert!(rt; node.posted(&world) > call);
-}
-
-// A rank of so many beside one relay, with these calls posted.
-pub fn posted(
-    rt: &impl Abort,
-    alloc: Global,
-    me: Proc,
-    ranks: u8,
-    posts: &[(u32, &[i128])],
-) -> Result<Node, Fail>
-    requires me { me < ranks }
-    requires few { ranks < 64 }
-{
-    let mut node = Node::new(alloc, me, ranks, ranks + 1)?;
-    for (call, nums) in posts {
-        post(rt, alloc, &mut node, *call, nums);
-    }
-    Ok(node)
+// A post of these numbers.
+pub fn post_of(alloc: Global, items: &[i128]) -> Result<Post, Fail> {
+    Ok(bare(alloc, &sum_of(items))?.ok_or("refused")?)
 }

@@ -46,12 +46,13 @@ pub fn two_sums(
     alloc: Global,
     left: &mut Desk<Node>,
     right: &mut Desk<Node>,
+    worlds: (&Comm, &Comm),
 ) -> Result<(i128, i128), Stop> {
-    let (here, there) = (Comm::world(alloc, 2, 0), Comm::world(alloc, 2, 1));
-    let first = post_sum(alloc, left, &here, 1)?;
-    let last = post_sum(alloc, left, &here, 2)?;
-    post_sum(alloc, right, &there, 2)?;
-    post_sum(alloc, right, &there, 3)?;
+    let (here, there) = worlds;
+    let first = post_sum(alloc, left, here, 1)?;
+    let last = post_sum(alloc, left, here, 2)?;
+    post_sum(alloc, right, there, 2)?;
+    post_sum(alloc, right, there, 3)?;
     swap(alloc, left, right)?;
     let last = tested(alloc, left, last)?;
     let first = left.wait(alloc, first, 0)?;
@@ -99,27 +100,57 @@ fn board_of(alloc: Global, desk: &Desk<Node>) -> Result<Board, Stop>
     }
 }
 
+// One more board of the rank comes.
+fn send(alloc: Global, desk: &Desk<Node>, boards: &mut VecDeque<Board>) -> Result<(), Stop> {
+    boards.push_back(board_of(alloc, desk)?)?;
+    Ok(())
+}
+
 // Three boards of rank 1: its post of the sum is on the second and the third.
-fn boards_of_other(alloc: Global, other: &mut Desk<Node>) -> Result<VecDeque<Board>, Stop> {
-    let mut boards = VecDeque::new(alloc);
-    boards.push_back(board_of(alloc, other)?)?;
+fn send_three(
+    alloc: Global,
+    other: &mut Desk<Node>,
+    boards: &mut VecDeque<Board>,
+) -> Result<(), Stop> {
+    send(alloc, other, boards)?;
     post_sum(alloc, other, &Comm::world(alloc, 2, 1), 20)?;
-    boards.push_back(board_of(alloc, other)?)?;
-    boards.push_back(board_of(alloc, other)?)?;
-    Ok(boards)
+    send(alloc, other, boards)?;
+    send(alloc, other, boards)
 }
 
-// The desk of rank 0 with these boards in its inbox.
-fn desk_with(alloc: Global, boards: VecDeque<Board>) -> Result<Desk<Inbox>, Stop> {
+// All that rank 1 sends.
+fn sent(alloc: Global, other: &mut Desk<Node>) -> Result<VecDeque<Board>, Stop> {
+    let mut boards = VecDeque::new(alloc);
+    match send_three(alloc, other, &mut boards) {
+        Ok(()) => Ok(boards),
+        Err(stop) => {
+            drop(boards);
+            Err(stop)
+        }
+    }
+}
+
+// An inbox of rank 0 with that.
+fn inbox(alloc: Global) -> Result<Inbox, Stop> {
+    let mut other = desk_of(alloc, 1, 2)?;
+    let boards = sent(alloc, &mut other);
+    drop(other);
+    let boards = boards?;
     let node = Node::new(alloc, Proc::new(0), 2, 2)?;
-    Ok(Desk::new(alloc, Inbox { node, boards }))
+    Ok(Inbox { node, boards })
 }
 
-/// The sum, and how many boards are left in the inbox.
-pub fn sum_from_inbox(alloc: Global) -> Result<(i128, usize), Stop> {
-    let boards = boards_of_other(alloc, &mut desk_of(alloc, 1, 2)?)?;
-    let mut desk = desk_with(alloc, boards)?;
-    let request = post_sum(alloc, &mut desk, &Comm::world(alloc, 2, 0), 10)?;
-    let finished = awaited(alloc, &mut desk, request, 5)?;
+// The sum, and how many boards are left in the inbox.
+fn sum_of(alloc: Global, desk: &mut Desk<Inbox>) -> Result<(i128, usize), Stop> {
+    let request = post_sum(alloc, desk, &Comm::world(alloc, 2, 0), 10)?;
+    let finished = awaited(alloc, desk, request, 5)?;
     Ok((number_of(&finished)?, desk.host().boards.len()))
+}
+
+/// The sum with the number of a rank whose boards come to an inbox, and how many of them are left there.
+pub fn sum_from_inbox(alloc: Global) -> Result<(i128, usize), Stop> {
+    let mut desk = Desk::new(alloc, inbox(alloc)?);
+    let answer = sum_of(alloc, &mut desk);
+    drop(desk);
+    answer
 }

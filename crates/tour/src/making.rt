@@ -46,10 +46,11 @@ pub fn split_by_key(
     alloc: Global,
     left: &mut Desk<Node>,
     right: &mut Desk<Node>,
+    worlds: (&Comm, &Comm),
 ) -> Result<(u8, u8), Stop> {
-    let (here, there) = (Comm::world(alloc, 2, 0), Comm::world(alloc, 2, 1));
-    let mine = still_open(left.split(alloc, &here, Some(7), 5, 0))?;
-    still_open(right.split(alloc, &there, Some(7), -5, 0))?;
+    let (here, there) = worlds;
+    let mine = still_open(left.split(alloc, here, Some(7), 5, 0))?;
+    still_open(right.split(alloc, there, Some(7), -5, 0))?;
     swap(alloc, left, right)?;
     let comm = made(alloc, left, mine)?;
     Ok((comm.size(), comm.rank()))
@@ -60,10 +61,11 @@ pub fn split_apart(
     alloc: Global,
     left: &mut Desk<Node>,
     right: &mut Desk<Node>,
+    worlds: (&Comm, &Comm),
 ) -> Result<bool, Stop> {
-    let (here, there) = (Comm::world(alloc, 2, 0), Comm::world(alloc, 2, 1));
-    still_open(left.split(alloc, &here, Some(7), 0, 0))?;
-    let undefined = still_open(right.split(alloc, &there, None, 0, 0))?;
+    let (here, there) = worlds;
+    still_open(left.split(alloc, here, Some(7), 0, 0))?;
+    let undefined = still_open(right.split(alloc, there, None, 0, 0))?;
     swap(alloc, left, right)?;
     Ok(comm_from(alloc, right, undefined)?.is_none())
 }
@@ -73,10 +75,11 @@ pub fn group(
     alloc: Global,
     left: &mut Desk<Node>,
     right: &mut Desk<Node>,
+    worlds: (&Comm, &Comm),
 ) -> Result<(u8, u8), Stop> {
-    let (here, there) = (Comm::world(alloc, 2, 0), Comm::world(alloc, 2, 1));
-    let mine = still_open(left.create_group(alloc, &here, 9, &[1, 0], 0))?;
-    still_open(right.create_group(alloc, &there, 9, &[1, 0], 0))?;
+    let (here, there) = worlds;
+    let mine = still_open(left.create_group(alloc, here, 9, &[1, 0], 0))?;
+    still_open(right.create_group(alloc, there, 9, &[1, 0], 0))?;
     swap(alloc, left, right)?;
     let comm = made(alloc, left, mine)?;
     Ok((comm.size(), comm.rank()))
@@ -114,10 +117,11 @@ pub fn neighbours(
     alloc: Global,
     left: &mut Desk<Node>,
     right: &mut Desk<Node>,
+    worlds: (&Comm, &Comm),
 ) -> Result<(i128, i128), Stop> {
-    let (here, there) = (Comm::world(alloc, 2, 0), Comm::world(alloc, 2, 1));
-    let mine = post_graph(alloc, left, &here, 1)?;
-    let theirs = post_graph(alloc, right, &there, 0)?;
+    let (here, there) = worlds;
+    let mine = post_graph(alloc, left, here, 1)?;
+    let theirs = post_graph(alloc, right, there, 0)?;
     swap(alloc, left, right)?;
     let mine = post_to_neighbours(alloc, left, mine, 20)?;
     let theirs = post_to_neighbours(alloc, right, theirs, 22)?;

@@ -13,13 +13,14 @@ fn print_requests<W: Write>(
     alloc: Global,
     left: &mut Desk<Node>,
     right: &mut Desk<Node>,
+    worlds: (&Comm, &Comm),
     out: &mut W,
 ) -> Result<(), Stop> {
-    let (first, last) = two_sums(alloc, left, right)?;
+    let (first, last) = two_sums(alloc, left, right, worlds)?;
     writeln!(out, "sum {first} {last}")?;
     let (call, sum) = any_sum(alloc, right)?;
     writeln!(out, "any {call} {sum}")?;
-    let refused = refusal(alloc, left, &Comm::world(alloc, 2, 0))?;
+    let refused = refusal(alloc, left, worlds.0)?;
     writeln!(out, "refused {refused}")?;
     let (sum, boards) = sum_from_inbox(alloc)?;
     writeln!(out, "inbox {sum} {boards}")?;
@@ -31,24 +32,38 @@ fn print_communicators<W: Write>(
     alloc: Global,
     left: &mut Desk<Node>,
     right: &mut Desk<Node>,
+    worlds: (&Comm, &Comm),
     out: &mut W,
 ) -> Result<(), Stop> {
-    let (size, rank) = split_by_key(alloc, left, right)?;
+    let (size, rank) = split_by_key(alloc, left, right, worlds)?;
     writeln!(out, "split {size} {rank}")?;
-    let none = split_apart(alloc, left, right)?;
+    let none = split_apart(alloc, left, right, worlds)?;
     writeln!(out, "null {none}")?;
-    let (size, rank) = group(alloc, left, right)?;
+    let (size, rank) = group(alloc, left, right, worlds)?;
     writeln!(out, "group {size} {rank}")?;
-    let (mine, theirs) = neighbours(alloc, left, right)?;
+    let (mine, theirs) = neighbours(alloc, left, right, worlds)?;
     writeln!(out, "graph {mine} {theirs}")?;
     Ok(())
+}
+
+fn print_all<W: Write>(
+    alloc: Global,
+    left: &mut Desk<Node>,
+    right: &mut Desk<Node>,
+    out: &mut W,
+) -> Result<(), Stop> {
+    let (here, there) = (Comm::world(alloc, 2, 0), Comm::world(alloc, 2, 1));
+    print_requests(alloc, left, right, (&here, &there), out)?;
+    print_communicators(alloc, left, right, (&here, &there), out)
 }
 
 /// Prints the tour.
 pub fn print_tour<W: Write>(alloc: Global, out: &mut W) -> Result<(), Stop> {
     let mut left = desk_of(alloc, 0, 2)?;
     let mut right = desk_of(alloc, 1, 2)?;
-    print_requests(alloc, &mut left, &mut right, out)?;
-    print_communicators(alloc, &mut left, &mut right, out)?;
+    let answer = print_all(alloc, &mut left, &mut right, out);
+    drop(left);
+    drop(right);
+    answer?;
     Ok(out.flush()?)
 }

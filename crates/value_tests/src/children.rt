@@ -1,18 +1,19 @@
-//! The communicators that calls make, and what they give each rank: values from MPI 4.1 section 7.4.2, and that the calls
+//! The communicators that calls make, by their names and members: values from MPI 4.1 section 7.4.2, and that the calls
 //! succeed.
+ghost use Rattle.std.specs.Prelude.{length, IfOk, ◌≡◌};
+
 use self::Given::{Comm, Null};
 use self::Posted::{Create, Just, Split};
-use crate::making::{List, NO, add_post, made_by, outcomes};
+use crate::making::{add_post, create, lent, processes, split};
 use mpx_group::{Group, Proc};
 use mpx_name::{Name, NameError};
-use mpx_post::{At, Birth, Kind, Post, PostError};
-use mpx_value::{FaultKind, Outcome};
-use std::alloc::{AllocError, Global};
-use std::process::Abort;
+use mpx_post::{At, Birth, Kind, Post, PostError, Row};
+use mpx_value::{FaultKind, Outcome, children, outcome};
+use std::alloc::Global;
 use std::test::Fail;
 use test_drafts::{Drafted, birth, check, just};
 
-// What a call gives one rank: a communicator by its colour, its size and the rank in it.
+// What a call gives rank 0: a communicator by its colour, its size and the rank in it.
 enum Given {
     Comm(u16, u8, u8),
     Null,
@@ -25,7 +26,7 @@ type Child = (u16, &'static [u8]);
 // What a member posts: a split by its colour and key, a creation by its group, or a call of no more.
 enum Posted {
     Split(Option<i128>, i128),
-    Create(List),
+    Create(&'static [i128]),
     Just(Kind),
 }
 
@@ -38,46 +39,103 @@ enum Place {
     Below(usize),
 }
 
-// The members of a communicator and its name, what they post to a call, the communicators that it makes, and what it gives them.
+// The members of a communicator and its name, what they post to a call, the communicators that it makes, and what it gives rank 0.
 struct Case {
     members: &'static [u8],
     place: Place,
     posted: &'static [Posted],
     made: &'static [Child],
-    given: &'static [Given],
+    given: Given,
 }
 
 // The number of the call.
 const CALL: u32 = 3;
 
+const CASES: &[Case] = &[
+    Case {
+        members: &[0, 1, 2, 3],
+        place: Place::World,
+        posted: &[
+            Split(Some(1), 5),
+            Split(Some(0), 0),
+            Split(Some(1), 5),
+            Split(None, 0),
+        ],
+        made: &[(0, &[1]), (1, &[0, 2])],
+        given: Comm(1, 2, 0),
+    },
+    Case {
+        members: &[0, 1],
+        place: Place::World,
+        posted: &[Split(None, 1), Split(None, 0)],
+        made: &[],
+        given: Null,
+    },
+    // The order of the keys reverses that of the ranks.
+    Case {
+        members: &[4, 5, 9],
+        place: Place::World,
+        posted: &[Split(Some(7), 1), Split(Some(7), 0), Split(Some(7), -5)],
+        made: &[(7, &[9, 5, 4])],
+        given: Comm(7, 3, 2),
+    },
+    Case {
+        members: &[0, 1, 2],
+        place: Place::World,
+        posted: &[Create(&[2, 0]), Create(&[1]), Create(&[2, 0])],
+        made: &[(1, &[1]), (2, &[2, 0])],
+        given: Comm(2, 2, 1),
+    },
+    // The groups differ.
+    Case {
+        members: &[0, 1, 2],
+        place: Place::World,
+        posted: &[Create(&[0, 1]), Create(&[1, 0]), Create(&[])],
+        made: &[],
+        given: Given::Fault(FaultKind::Groups, 0),
+    },
+    Case {
+        members: &[4, 2],
+        place: Place::World,
+        posted: &[Just(Kind::Dup), Just(Kind::Dup)],
+        made: &[(0, &[4, 2])],
+        given: Comm(0, 2, 0),
+    },
+    Case {
+        members: &[4, 2],
+        place: Place::Gathering,
+        posted: &[Just(Kind::CreateGroup), Just(Kind::CreateGroup)],
+        made: &[(0, &[4, 2])],
+        given: Comm(0, 2, 0),
+    },
+    // Below a name of seven steps there is an eighth, and no ninth.
+    Case {
+        members: &[0, 1],
+        place: Place::Below(7),
+        posted: &[Just(Kind::Dup), Just(Kind::Dup)],
+        made: &[(0, &[0, 1])],
+        given: Comm(0, 2, 0),
+    },
+    Case {
+        members: &[0, 1],
+        place: Place::Below(8),
+        posted: &[Just(Kind::Dup), Just(Kind::Dup)],
+        made: &[],
+        given: Given::Fault(FaultKind::Amount, 0),
+    },
+];
+
 fn drafted(posted: &Posted) -> Drafted<'static> {
     match posted {
-        Split(colour, key) => Drafted {
-            colour: *colour,
-            key: *key,
-            ..just(Kind::Split)
-        },
-        Create(group) => Drafted {
-            group: *group,
-            ..just(Kind::Create)
-        },
+        Split(colour, key) => split(*colour, *key),
+        Create(group) => create(*group),
         Just(kind) => just(*kind),
     }
 }
 
-fn processes_of(alloc: Global, members: &[u8]) -> Result<Vec<Proc>, AllocError> {
-    let mut processes = Vec::new(alloc);
-    for &member in members {
-        if member < 64 {
-            processes.push(Proc::new(member))?;
-        }
-    }
-    Ok(processes)
-}
-
 // The communicator of these processes.
 fn born(alloc: Global, members: &[u8]) -> Result<Birth, Fail> {
-    match birth(alloc, processes_of(alloc, members)?) {
+    match birth(alloc, processes(alloc, members)?) {
         None => Err("no birth")?,
         Some(birth) => Ok(birth),
     }
@@ -116,32 +174,6 @@ fn is_given(
     }
 }
 
-// Whether the ranks are given this, by the call on this name.
-fn are_given(
-    alloc: Global,
-    name: &Name,
-    outcomes: &[Outcome],
-    given: &[Given],
-) -> Result<bool, NameError> {
-    let mut same = outcomes.len() == given.len();
-    for (outcome, wanted) in outcomes.iter().zip(given) {
-        same &= is_given(alloc, name, outcome, wanted)?;
-    }
-    Ok(same)
-}
-
-// Whether the call on this name with these posts gives the ranks this.
-fn give(
-    alloc: Global,
-    birth: &Birth,
-    name: &Name,
-    posts: &[Post],
-    given: &[Given],
-) -> Result<bool, Fail> {
-    let outcomes = outcomes(alloc, birth, posts, name, CALL)?;
-    Ok(are_given(alloc, name, &outcomes, given)?)
-}
-
 fn are(processes: &[Proc], numbers: &[u8]) -> bool {
     processes.len() == numbers.len()
         && processes
@@ -165,16 +197,78 @@ fn are_made(
     Ok(same)
 }
 
+// The row of these posts of all members.
+fn row_of<'a>(alloc: Global, birth: &Birth, posts: &'a [Post]) -> Result<Row<'a>, Fail>
+    ensures members { IfOk result (λ row. length row ≡ length birth.now.members) }
+{
+    let row = lent(alloc, posts)?;
+    if row.is_empty() || row.len() > 64 || row.len() != birth.members().len() {
+        Err("another number of posts than of members")?;
+    }
+    Ok(Row::new(row))
+}
+
 // Whether the call on this name with these posts makes these communicators.
-fn make(
+fn makes(
+    alloc: Global,
+    birth: &Birth,
+    name: &Name,
+    row: &Row<'_>,
+    wanted: &[Child],
+) -> Result<bool, Fail>
+    requires members { length row.now ≡ length birth.now.members }
+{
+    let made = children(alloc, birth, row, name, CALL)?;
+    Ok(are_made(alloc, name, &made, wanted)?)
+}
+
+// Whether the call on this name with these posts gives rank 0 this.
+fn gives(
+    alloc: Global,
+    birth: &Birth,
+    name: &Name,
+    row: &Row<'_>,
+    given: &Given,
+) -> Result<bool, Fail>
+    requires members { length row.now ≡ length birth.now.members }
+{
+    prove!(0 < row.len());
+    let came = outcome(alloc, birth, row, name, CALL, 0)?;
+    Ok(is_given(alloc, name, &came, given)?)
+}
+
+fn posts_of(
+    alloc: Global,
+    birth: &Birth,
+    name: &Name,
+    case: &Case,
+) -> Result<Vec<Post>, PostError> {
+    let at = match case.place {
+        Place::Below(_) => At::on(&Name::world(alloc), CALL),
+        _ => At::on(name, CALL),
+    };
+    let mut posts = Vec::new(alloc);
+    for (me, posted) in birth.members().iter().zip(case.posted) {
+        add_post(&mut posts, check(alloc, birth, *me, &at, &drafted(posted)))?;
+    }
+    Ok(posts)
+}
+
+fn is_so_of(
     alloc: Global,
     birth: &Birth,
     name: &Name,
     posts: &[Post],
-    wanted: &[Child],
+    case: &Case,
 ) -> Result<bool, Fail> {
-    let made = made_by(alloc, birth, posts, name, CALL)?;
-    Ok(are_made(alloc, name, &made, wanted)?)
+    let row = row_of(alloc, birth, posts)?;
+    let made = makes(alloc, birth, name, &row, case.made)?;
+    Ok(made & gives(alloc, birth, name, &row, &case.given)?)
+}
+
+fn is_so_at(alloc: Global, birth: &Birth, name: &Name, case: &Case) -> Result<bool, Fail> {
+    let posts = posts_of(alloc, birth, name, case)?;
+    is_so_of(alloc, birth, name, &posts, case)
 }
 
 // The gathering below the world with tag 9 of these.
@@ -185,14 +279,9 @@ fn gathering_of(alloc: Global, members: &Group) -> Result<Name, Fail> {
     Ok(Name::world(alloc).gathering(alloc, 9, members)?)
 }
 
-fn group_of(alloc: Global, birth: &Birth) -> Result<Group, Fail> {
-    let members = Vec::from_slice(alloc, birth.members())?;
-    Ok(Group::new(members)?)
-}
-
 // That gathering of the members.
 fn gathering(alloc: Global, birth: &Birth) -> Result<Name, Fail> {
-    let members = group_of(alloc, birth)?;
+    let members = Group::new(Vec::from_slice(alloc, birth.members())?)?;
     gathering_of(alloc, &members)
 }
 
@@ -214,199 +303,20 @@ fn name_of(alloc: Global, birth: &Birth, place: &Place) -> Result<Name, Fail> {
     }
 }
 
-// Where the posts to the call on this name are made.
-fn at_of(alloc: Global, name: &Name, place: &Place) -> At {
-    match place {
-        Place::Below(_) => At::on(&Name::world(alloc), CALL),
-        _ => At::on(name, CALL),
-    }
-}
-
-fn posts_of_case(
-    alloc: Global,
-    birth: &Birth,
-    name: &Name,
-    case: &Case,
-) -> Result<Vec<Post>, PostError> {
-    let at = at_of(alloc, name, &case.place);
-    let mut posts = Vec::new(alloc);
-    for (me, posted) in birth.members().iter().zip(case.posted) {
-        add_post(&mut posts, check(alloc, birth, *me, &at, &drafted(posted)))?;
-    }
-    Ok(posts)
-}
-
-// That it is so of the call on this name.
-fn check_named(
-    rt: &impl Abort,
-    alloc: Global,
-    birth: &Birth,
-    name: &Name,
-    case: &Case,
-) -> Result<(), Fail> {
-    let posts = posts_of_case(alloc, birth, name, case)?;
-    check_posts(rt, alloc, birth, name, &posts, case)
-}
-
-fn check_posts(
-    rt: &impl Abort,
-    alloc: Global,
-    birth: &Birth,
-    name: &Name,
-    posts: &[Post],
-    case: &Case,
-) -> Result<(), Fail> {
-    assert!(rt; make(alloc, birth, name, posts, case.made)?);
-    assert!(rt; give(alloc, birth, name, posts, case.given)?);
-    Ok(())
-}
-
-fn check_on(rt: &impl Abort, alloc: Global, birth: &Birth, case: &Case) -> Result<(), Fail> {
+fn is_so_on(alloc: Global, birth: &Birth, case: &Case) -> Result<bool, Fail> {
     let name = name_of(alloc, birth, &case.place)?;
-    check_named(rt, alloc, birth, &name, case)
+    is_so_at(alloc, birth, &name, case)
 }
 
-fn check_case(rt: &impl Abort, alloc: Global, case: &Case) -> Result<(), Fail> {
+fn is_so(alloc: Global, case: &Case) -> Result<bool, Fail> {
     let birth = born(alloc, case.members)?;
-    check_on(rt, alloc, &birth, case)
+    is_so_on(alloc, &birth, case)
 }
 
-fn check_cases(rt: &impl Abort, alloc: Global, cases: &[Case]) -> Result<(), Fail> {
-    for case in cases {
-        check_case(rt, alloc, case)?;
+#[test]
+fn calls_make_communicators(rt: HostRuntime) -> Result<(), Fail> {
+    for (i, case) in CASES.iter().enumerate() {
+        assert!(rt; is_so(rt.alloc(), case)?, "case {i}");
     }
     Ok(())
-}
-
-const COLOURS: &[Case] = &[
-    Case {
-        members: &[0, 1, 2, 3],
-        place: Place::World,
-        posted: &[
-            Split(Some(1), 5),
-            Split(Some(0), 0),
-            Split(Some(1), 5),
-            Split(None, 0),
-        ],
-        made: &[(0, &[1]), (1, &[0, 2])],
-        given: &[Comm(1, 2, 0), Comm(0, 1, 0), Comm(1, 2, 1), Null],
-    },
-    Case {
-        members: &[0, 1],
-        place: Place::World,
-        posted: &[Split(None, 1), Split(None, 0)],
-        made: &[],
-        given: &[Null, Null],
-    },
-];
-
-#[test]
-fn splits_by_colour(rt: HostRuntime) -> Result<(), Fail> {
-    check_cases(&rt, rt.alloc(), COLOURS)
-}
-
-const KEYS: &[Case] = &[
-    // The order of the keys reverses that of the ranks.
-    Case {
-        members: &[4, 5, 9],
-        place: Place::World,
-        posted: &[Split(Some(7), 1), Split(Some(7), 0), Split(Some(7), -5)],
-        made: &[(7, &[9, 5, 4])],
-        given: &[Comm(7, 3, 2), Comm(7, 3, 1), Comm(7, 3, 0)],
-    },
-    // The keys are equal.
-    Case {
-        members: &[4, 5, 9],
-        place: Place::World,
-        posted: &[Split(Some(7), 1), Split(Some(7), 1), Split(Some(7), 1)],
-        made: &[(7, &[4, 5, 9])],
-        given: &[Comm(7, 3, 0), Comm(7, 3, 1), Comm(7, 3, 2)],
-    },
-];
-
-#[test]
-fn splits_by_key(rt: HostRuntime) -> Result<(), Fail> {
-    check_cases(&rt, rt.alloc(), KEYS)
-}
-
-const GROUPS: &[Case] = &[
-    Case {
-        members: &[0, 1, 2],
-        place: Place::World,
-        posted: &[Create(&[2, 0]), Create(NO), Create(&[2, 0])],
-        made: &[(2, &[2, 0])],
-        given: &[Comm(2, 2, 1), Null, Comm(2, 2, 0)],
-    },
-    Case {
-        members: &[0, 1, 2],
-        place: Place::World,
-        posted: &[Create(&[2, 0]), Create(&[1]), Create(&[2, 0])],
-        made: &[(1, &[1]), (2, &[2, 0])],
-        given: &[Comm(2, 2, 1), Comm(1, 1, 0), Comm(2, 2, 0)],
-    },
-    // The groups differ.
-    Case {
-        members: &[0, 1, 2],
-        place: Place::World,
-        posted: &[Create(&[0, 1]), Create(&[1, 0]), Create(NO)],
-        made: &[],
-        given: &[
-            Given::Fault(FaultKind::Groups, 0),
-            Given::Fault(FaultKind::Groups, 0),
-            Given::Fault(FaultKind::Groups, 0),
-        ],
-    },
-];
-
-#[test]
-fn creates_of_groups(rt: HostRuntime) -> Result<(), Fail> {
-    check_cases(&rt, rt.alloc(), GROUPS)
-}
-
-const OF_ALL: &[Case] = &[
-    Case {
-        members: &[4, 2],
-        place: Place::World,
-        posted: &[Just(Kind::Dup), Just(Kind::Dup)],
-        made: &[(0, &[4, 2])],
-        given: &[Comm(0, 2, 0), Comm(0, 2, 1)],
-    },
-    Case {
-        members: &[4, 2],
-        place: Place::Gathering,
-        posted: &[Just(Kind::CreateGroup), Just(Kind::CreateGroup)],
-        made: &[(0, &[4, 2])],
-        given: &[Comm(0, 2, 0), Comm(0, 2, 1)],
-    },
-];
-
-#[test]
-fn communicators_of_all(rt: HostRuntime) -> Result<(), Fail> {
-    check_cases(&rt, rt.alloc(), OF_ALL)
-}
-
-const EIGHTH_AND_NINTH: &[Case] = &[
-    Case {
-        members: &[0, 1],
-        place: Place::Below(7),
-        posted: &[Just(Kind::Dup), Just(Kind::Dup)],
-        made: &[(0, &[0, 1])],
-        given: &[Comm(0, 2, 0), Comm(0, 2, 1)],
-    },
-    Case {
-        members: &[0, 1],
-        place: Place::Below(8),
-        posted: &[Just(Kind::Dup), Just(Kind::Dup)],
-        made: &[],
-        given: &[
-            Given::Fault(FaultKind::Amount, 0),
-            Given::Fault(FaultKind::Amount, 0),
-        ],
-    },
-];
-
-// Below a name of seven steps there is an eighth, and no ninth.
-#[test]
-fn no_ninth_step(rt: HostRuntime) -> Result<(), Fail> {
-    check_cases(&rt, rt.alloc(), EIGHTH_AND_NINTH)
 }

@@ -1,15 +1,26 @@
-//! Tests of verdicts and values of rows, and of the communicators that they make, with values from outside.
+//! What scripts don't show of numbers, births, drafts, posts, rows and the communicators that calls make, with values from
+//! outside. No function owns more than it looks at: each exit of a function walks the drop of all that it owns.
 #![tactic(auto)]
 
 #[cfg(test)]
+mod bare;
+#[cfg(test)]
+mod births;
+#[cfg(test)]
 mod children;
 #[cfg(test)]
-mod edges;
+mod gatherings;
 #[cfg(test)]
 mod making;
 #[cfg(test)]
-mod neighbourhoods;
+mod misfits;
 #[cfg(test)]
-mod values;
+mod numbers;
 #[cfg(test)]
-mod verdicts;
+mod pairs;
+#[cfg(test)]
+mod posts;
+#[cfg(test)]
+mod refusals;
+#[cfg(test)]
+mod told;

@@ -1,0 +1,105 @@
+//! Boards at the limits of a frame, and beyond them, in parts.
+ghost use Rattle.std.specs.Prelude.{◌≤◌};
+
+use crate::making::{post_of, proc};
+use join_core::Exact;
+use mpx_board::Board;
+use mpx_name::Name;
+use mpx_parts::parts;
+use mpx_post::{Birth, Post};
+use mpx_wire::{EncodeError, decode, encode, frame_len};
+use std::alloc::Global;
+use std::process::Abort;
+use std::test::Fail;
+
+// A post with 4,096 items of 64 bits.
+fn long_post(alloc: Global) -> Result<Post, Fail> {
+    let items = vec![in alloc; -5i128; 4096]?;
+    post_of(alloc, &items)
+}
+
+// A board of so many such posts, and a front.
+fn long_board(alloc: Global, processes: u8) -> Result<Board, Fail>
+    requires { processes ≤ 64 }
+{
+    let mut board = Board::new(alloc);
+    let world = Name::world(alloc);
+    for process in 0..processes {
+        board.join_post(alloc, &world, 0, proc(process), long_post(alloc)?)?;
+    }
+    board.raise_front(alloc, &world, proc(0), 1)?;
+    Ok(board)
+}
+
+fn is_one_part(alloc: Global, board: &Board) -> Result<bool, Fail> {
+    let made = parts(alloc, board, 524_288)?;
+    Ok(made.len() == 1 && made.iter().all(|part| part.same(board)))
+}
+
+#[test]
+fn a_board_that_fits_is_one_part(rt: HostRuntime) -> Result<(), Fail> {
+    let alloc = rt.alloc();
+    let board = long_board(alloc, 15)?;
+    assert!(rt; is_one_part(alloc, &board)?);
+    Ok(())
+}
+
+// Whether the parts, the last one first, join to the board.
+fn are_back(alloc: Global, made: &[Board], board: &Board) -> Result<bool, Fail> {
+    let mut back = Board::new(alloc);
+    for part in made.iter().rev() {
+        back.take(alloc, part)?;
+    }
+    Ok(back.same(board))
+}
+
+fn is_in_parts(alloc: Global, board: &Board) -> Result<bool, Fail> {
+    let made = parts(alloc, board, 1_048_576)?;
+    let joined = Board::take_all(alloc, &made)?;
+    Ok(made.len() > 1 && joined.same(board) && are_back(alloc, &made, board)?)
+}
+
+#[test]
+fn parts_are_joined_in_either_order(rt: HostRuntime) -> Result<(), Fail> {
+    let alloc = rt.alloc();
+    let board = long_board(alloc, 33)?;
+    assert!(rt; matches!(encode(alloc, &board), Err(EncodeError::TooLong)));
+    assert!(rt; frame_len(&board) == 1_048_577 && is_in_parts(alloc, &board)?);
+    Ok(())
+}
+
+// A name of eight steps, each with the greatest numbers.
+fn deep_name(alloc: Global) -> Result<Name, Fail> {
+    let mut name = Name::world(alloc);
+    for _ in 0..8 {
+        name = name.child(alloc, 4_294_967_294, 2_147_483_647)?;
+    }
+    Ok(name)
+}
+
+// The context has 64 members, all of which have harvested as many calls as there may be, and the last call has a post of
+// 4,096 items of 64 bits.
+fn tells_of_a_deep_context(alloc: Global, board: &mut Board) -> Result<(), Fail> {
+    let name = deep_name(alloc)?;
+    board.add_birth(alloc, &name, Birth::world(alloc, 64)?)?;
+    for process in 0..64 {
+        board.raise_front(alloc, &name, proc(process), 4_294_967_295)?;
+    }
+    let last = 4_294_967_294;
+    Ok(board.join_post(alloc, &name, last, proc(63), long_post(alloc)?)?)
+}
+
+fn comes_back(rt: &impl Abort, alloc: Global, board: &Board) -> Result<(), Fail> {
+    let bytes = encode(alloc, board)?;
+    assert_eq!(rt; frame_len(board), bytes.len());
+    assert!(rt; decode(alloc, &bytes)?.same(board));
+    Ok(())
+}
+
+#[test]
+fn a_board_at_the_limits(rt: HostRuntime) -> Result<(), Fail> {
+    let alloc = rt.alloc();
+    let mut board = Board::new(alloc);
+    tells_of_a_deep_context(alloc, &mut board)?;
+    comes_back(&rt, alloc, &board)
+}

@@ -1,0 +1,183 @@
+//! Posts of drafts without a communicator: what they tell, and each reason for none.
+use crate::making::{blocks, create, split};
+use crate::told::{Told, has_created, has_split, is_told, kind_alone, reduced};
+use mpx_num::{Op, Ty};
+use mpx_post::{Kind, Making, Post};
+use std::alloc::{AllocError, Global};
+use std::test::Fail;
+use test_drafts::{Drafted, Edges, bare, just};
+
+fn tells(alloc: Global, drafted: &Drafted<'_>, wanted: &Told<'_>) -> bool {
+    match bare(alloc, drafted) {
+        Ok(Some(post)) => is_told(&post, wanted),
+        Ok(None) => false,
+        Err(_) => false,
+    }
+}
+
+// Whether it has a post, where there is memory.
+fn has_post(alloc: Global, drafted: &Drafted<'_>) -> Option<bool> {
+    match bare(alloc, drafted) {
+        Ok(post) => Some(post.is_some()),
+        Err(_) => None,
+    }
+}
+
+fn reduce(root: i128, op: Op, ty: Ty, items: &'static [i128]) -> Drafted<'static> {
+    Drafted {
+        root,
+        op,
+        ty,
+        items,
+        ..just(Kind::Reduce)
+    }
+}
+
+// As many counts as there are members, and as many items as they tell, are not asked for.
+#[test]
+fn posts_tell_their_fields(rt: HostRuntime) {
+    let exchanged = Told {
+        has_items: true,
+        count: 1,
+        sent: 3,
+        received_first: 4096,
+        rcounts: &[4096, 0, 5],
+        ..kind_alone(Kind::Alltoallv)
+    };
+    let no_fields = blocks(Kind::Barrier, &[-1], &[5000], &[1 << 40]);
+    let coloured = split(Some(2147483647), -2147483648);
+    let table = [
+        (
+            reduce(63, Op::Maxloc, Ty::TwoInt, &[7, 0, -7, 1]),
+            reduced(63),
+        ),
+        (
+            blocks(Kind::Alltoallv, &[1, 2], &[4096, 0, 5], &[-6]),
+            exchanged,
+        ),
+        (no_fields, kind_alone(Kind::Barrier)),
+        (coloured, has_split(Some(2147483647), -2147483648)),
+        (create(&[63, 0]), has_created(&[63, 0])),
+    ];
+    for (i, row) in table.iter().enumerate() {
+        assert!(rt; tells(rt.alloc(), &row.0, &row.1), "row {i}");
+    }
+}
+
+fn graph<'a>(kind: Kind, weighted: bool, edges: &'a [(i128, i128, i128)]) -> Drafted<'a> {
+    Drafted {
+        graph: Some(Edges {
+            weighted,
+            edges,
+            sources: &[(64, 0)],
+            destinations: &[(0, 1 << 31)],
+        }),
+        ..just(kind)
+    }
+}
+
+// Whether the post has one edge with a weight, or neighbours without weights, and none of them.
+fn is_part(post: &Post) -> bool {
+    match post.making() {
+        Making::Edges(edges) => edges.weighted() & (edges.as_slice().len() == 1),
+        Making::Neighbours(own) => {
+            !own.weighted() & own.sources().is_empty() & own.destinations().is_empty()
+        }
+        _ => false,
+    }
+}
+
+fn has_part(alloc: Global, drafted: &Drafted<'_>) -> bool {
+    match bare(alloc, drafted) {
+        Ok(Some(post)) => is_part(&post),
+        Ok(None) => false,
+        Err(_) => false,
+    }
+}
+
+#[test]
+fn parts_of_graphs(rt: HostRuntime) {
+    let edge = graph(Kind::DistGraph, true, &[(63, 0, 2147483647)]);
+    let neighbours = just(Kind::DistGraphAdjacent);
+    assert!(rt; has_part(rt.alloc(), &edge) & has_part(rt.alloc(), &neighbours));
+}
+
+#[test]
+fn no_posts(rt: HostRuntime) {
+    let table = [
+        reduce(64, Op::Sum, Ty::I32, &[1]),
+        reduce(-1, Op::Sum, Ty::I32, &[1]),
+        reduce(0, Op::Maxloc, Ty::I32, &[1]),
+        reduce(0, Op::Maxloc, Ty::TwoInt, &[1]),
+        reduce(0, Op::Sum, Ty::I8, &[128]),
+        blocks(Kind::Alltoallv, &[4097], &[0], &[]),
+        blocks(Kind::Alltoallv, &[-1], &[0], &[]),
+        blocks(Kind::Alltoallv, &[0], &[4097], &[]),
+        blocks(Kind::Alltoallv, &[0], &[-1], &[]),
+        split(Some(-1), 0),
+        split(Some(2147483648), 0),
+        split(None, 2147483648),
+        create(&[64]),
+        create(&[5, 5]),
+        graph(Kind::DistGraph, true, &[(0, 64, 0)]),
+        graph(Kind::DistGraph, true, &[(0, 0, -1)]),
+        graph(Kind::DistGraphAdjacent, true, &[]),
+    ];
+    for (i, drafted) in table.iter().enumerate() {
+        assert!(rt; has_post(rt.alloc(), drafted) == Some(false), "row {i}");
+    }
+}
+
+fn zeros(alloc: Global, length: usize) -> Result<Vec<i128>, AllocError> {
+    vec![in alloc; 0; length]
+}
+
+// So many items, send counts and receive counts of 0 each.
+fn long<'a>(scounts: &'a [i128], rcounts: &'a [i128], items: &'a [i128]) -> Drafted<'a> {
+    Drafted {
+        scounts,
+        rcounts,
+        items,
+        ..just(Kind::Alltoallv)
+    }
+}
+
+// Whether lists of so many send counts, receive counts and items of 0 each have a post, where there is memory.
+fn has_long(
+    alloc: Global,
+    scounts: usize,
+    rcounts: usize,
+    items: usize,
+) -> Result<Option<bool>, AllocError> {
+    let scounts = zeros(alloc, scounts)?;
+    let rcounts = zeros(alloc, rcounts)?;
+    let items = zeros(alloc, items)?;
+    Ok(has_post(alloc, &long(&scounts, &rcounts, &items)))
+}
+
+#[test]
+fn long_lists(rt: HostRuntime) -> Result<(), Fail> {
+    for (scounts, rcounts, items, wanted) in [
+        (65535, 65535, 4096, true),
+        (65536, 65535, 4096, false),
+        (65535, 65536, 4096, false),
+        (65535, 65535, 4097, false),
+    ] {
+        assert!(rt; has_long(rt.alloc(), scounts, rcounts, items)? == Some(wanted));
+    }
+    Ok(())
+}
+
+// Whether so many edges have a post, where there is memory.
+fn has_edges(alloc: Global, count: usize) -> Result<Option<bool>, AllocError> {
+    let edges = vec![in alloc; (0, 1, 2); count]?;
+    Ok(has_post(alloc, &graph(Kind::DistGraph, true, &edges)))
+}
+
+#[test]
+fn many_edges(rt: HostRuntime) -> Result<(), Fail> {
+    for (count, wanted) in [(512, true), (513, false)] {
+        assert!(rt; has_edges(rt.alloc(), count)? == Some(wanted));
+    }
+    Ok(())
+}

@@ -1,0 +1,78 @@
+//! Verdicts of rows with a post that was made for a communicator of three ranks, where there are two: this is told before
+//! the posts are compared.
+use crate::making::{add_post, blocks, create, in_world, lent};
+use mpx_match::{Fault, FaultKind, Verdict, verdict};
+use mpx_post::{Birth, Kind, Post, PostError, Row};
+use std::alloc::Global;
+use std::test::Fail;
+use test_drafts::{Drafted, Edges, check, just};
+
+// What ranks 0 and 1 of a world post.
+fn posts_on(alloc: Global, world: &Birth, calls: &[Drafted<'_>]) -> Result<Vec<Post>, PostError> {
+    let mut posts = Vec::new(alloc);
+    for (me, drafted) in world.members().iter().zip(calls) {
+        add_post(&mut posts, check(alloc, world, *me, &in_world(0), drafted))?;
+    }
+    Ok(posts)
+}
+
+// The verdict of the row of these posts.
+fn verdict_of(alloc: Global, world: &Birth, posts: &[Post]) -> Result<Verdict, Fail> {
+    let row = lent(alloc, posts)?;
+    if row.is_empty() || row.len() > 64 {
+        Err("no row")?;
+    }
+    Ok(verdict(world, &Row::new(row)))
+}
+
+fn verdict_on(alloc: Global, world: &Birth, calls: &[Drafted<'_>]) -> Result<Verdict, Fail> {
+    let posts = posts_on(alloc, world, calls)?;
+    verdict_of(alloc, world, &posts)
+}
+
+// Whether the verdict of what the first ranks of a world of three post is that the amounts of this rank differ.
+fn is_misfit(alloc: Global, calls: &[Drafted<'_>], rank: u8) -> Result<bool, Fail> {
+    let world = Birth::world(alloc, 3)?;
+    let what = FaultKind::Amount;
+    Ok(verdict_on(alloc, &world, calls)? == Verdict::Fault(Fault { what, rank }))
+}
+
+// A call of the kind, whose root is rank 1.
+fn rooted(drafted: Drafted<'static>, root: i128) -> Drafted<'static> {
+    Drafted { root, ..drafted }
+}
+
+// The neighbour 2.
+fn far() -> Drafted<'static> {
+    Drafted {
+        graph: Some(Edges {
+            weighted: false,
+            edges: &[],
+            sources: &[],
+            destinations: &[(2, 0)],
+        }),
+        ..just(Kind::DistGraphAdjacent)
+    }
+}
+
+#[test]
+fn misfits_are_told_first(rt: HostRuntime) -> Result<(), Fail> {
+    let sum = blocks(Kind::Allreduce, &[], &[], &[7]);
+    let to_all = blocks(Kind::Alltoall, &[], &[1], &[7, 7, 7]);
+    let of_all = blocks(Kind::Allgatherv, &[], &[1, 1, 1], &[7]);
+    let root = rooted(blocks(Kind::Bcast, &[], &[0], &[]), 2);
+    let table = [
+        ([root, sum], 0),
+        ([sum, root], 1),
+        ([to_all, sum], 0),
+        ([sum, to_all], 1),
+        ([of_all, sum], 0),
+        ([sum, of_all], 1),
+        ([create(&[]), create(&[1, 2])], 1),
+        ([just(Kind::DistGraphAdjacent), far()], 1),
+    ];
+    for (i, row) in table.iter().enumerate() {
+        assert!(rt; is_misfit(rt.alloc(), &row.0, row.1)?, "row {i}");
+    }
+    Ok(())
+}

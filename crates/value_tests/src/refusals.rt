@@ -1,0 +1,101 @@
+//! Refusals of drafts that no script shows: strangers, calls used up, and contexts of other calls.
+use crate::making::{blocks, in_world, on, post_at, proc, reduce, split};
+use mpx_num::Ty;
+use mpx_post::{At, Birth, Draft, Kind, PostError};
+use std::alloc::Global;
+use std::process::Abort;
+use test_drafts::{Drafted, draft, just};
+
+fn refusal(alloc: Global, number: u8, at: &At, drafted: &Drafted<'_>) -> Option<PostError> {
+    match post_at(alloc, number, at, drafted) {
+        Ok(_) => None,
+        Err(refusal) => Some(refusal),
+    }
+}
+
+fn refusal_of_lent(alloc: Global, number: u8, at: &At, draft: &Draft) -> Option<PostError> {
+    match Birth::world(alloc, 2) {
+        Ok(pair) => draft.refusal(&pair, proc(number), at),
+        Err(_) => Some(PostError::OutOfMemory),
+    }
+}
+
+// The same, told of the draft alone.
+fn refusal_of_draft(
+    alloc: Global,
+    number: u8,
+    at: &At,
+    drafted: &Drafted<'_>,
+) -> Option<PostError> {
+    match draft(alloc, drafted) {
+        Ok(draft) => refusal_of_lent(alloc, number, at, &draft),
+        Err(_) => Some(PostError::OutOfMemory),
+    }
+}
+
+// That what each of these processes drafts there is refused so, or not at all.
+fn check_refusals(
+    rt: &impl Abort,
+    alloc: Global,
+    table: &[(u8, At, Drafted<'_>, Option<PostError>)],
+) {
+    for (i, row) in table.iter().enumerate() {
+        let (number, at, drafted, wanted) = row;
+        let told = refusal(alloc, *number, at, drafted);
+        let told_of_draft = refusal_of_draft(alloc, *number, at, drafted);
+        assert!(rt; (told == *wanted) & (told_of_draft == *wanted), "row {i}");
+    }
+}
+
+// Of several reasons the first in their order is told: who is no member, then what the draft says, then its place.
+#[test]
+fn strangers_and_calls_used_up(rt: HostRuntime) {
+    use PostError::{CallsUsedUp, ItemsLength, NoTopology, NotMember};
+    let at = in_world(0);
+    let (last, past) = (in_world(4294967294), in_world(4294967295));
+    let along_edges = blocks(Kind::NeighborAlltoallv, &[1], &[], &[7]);
+    let cut = Drafted {
+        ty: Ty::TwoInt,
+        items: &[i128::MAX],
+        ..just(Kind::Gather)
+    };
+    check_refusals(
+        &rt,
+        rt.alloc(),
+        &[
+            (2, at, reduce(2), Some(NotMember)),
+            (2, at, along_edges, Some(NotMember)),
+            (0, past, along_edges, Some(NoTopology)),
+            (0, at, cut, Some(ItemsLength)),
+            (0, last, just(Kind::Barrier), None),
+            (0, past, just(Kind::Barrier), Some(CallsUsedUp)),
+            (
+                0,
+                on(4294967295, 8, true),
+                just(Kind::Dup),
+                Some(CallsUsedUp),
+            ),
+        ],
+    );
+}
+
+// On a gathering `create_group` alone is called, and nowhere else.
+#[test]
+fn calls_have_their_contexts(rt: HostRuntime) {
+    use PostError::{BadGroup, DepthUsedUp};
+    let (plain, gathering) = (on(0, 1, false), on(0, 1, true));
+    check_refusals(
+        &rt,
+        rt.alloc(),
+        &[
+            (0, plain, just(Kind::CreateGroup), Some(BadGroup)),
+            (0, gathering, just(Kind::CreateGroup), None),
+            (0, gathering, just(Kind::Barrier), Some(BadGroup)),
+            (0, gathering, just(Kind::Dup), Some(BadGroup)),
+            (0, gathering, just(Kind::Split), Some(BadGroup)),
+            (0, gathering, just(Kind::Create), Some(BadGroup)),
+            (0, on(0, 8, true), just(Kind::Dup), Some(DepthUsedUp)),
+            (0, on(0, 7, true), split(Some(-1), 0), Some(BadGroup)),
+        ],
+    );
+}
