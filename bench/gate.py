@@ -1,0 +1,79 @@
+#!/usr/bin/env python3
+"""Runs the gate, and tells how many minutes of one processor each crate took: its proof, its tests, its wrong bodies.
+
+    bench/gate.py            runs `rt ci` at the top, whose output goes to the standard error; the table comes behind it
+    bench/gate.py COMMAND..  another command in its place, as `rt must-fail mpx_fold`
+
+It looks twice a second at what the command started, so that each process's last half second is missed: two in a hundred."""
+import collections
+import os
+import pathlib
+import subprocess
+import sys
+import time
+
+TOP = pathlib.Path(__file__).resolve().parent.parent
+TICKS = os.sysconf("SC_CLK_TCK")
+PARTS = ("proof", "tests", "wrong bodies")
+
+
+def processes():
+    """Of each process its parent, when it started, and how long it has run, in ticks."""
+    found = {}
+    for name in os.listdir("/proc"):
+        if name.isdigit():
+            try:
+                fields = pathlib.Path("/proc", name, "stat").read_text().rpartition(")")[2].split()
+            except OSError:
+                continue
+            found[int(name)] = int(fields[1]), fields[19], int(fields[11]) + int(fields[12])
+    return found
+
+
+def work_of(pid):
+    """Which crate the process works on, and at what, where its words tell."""
+    try:
+        words = pathlib.Path(f"/proc/{pid}/cmdline").read_bytes().decode(errors="replace").split("\0")
+        folder = os.readlink(f"/proc/{pid}/cwd")
+    except OSError:
+        return None
+    if "--crate-name" not in words:
+        return None
+    crate = words[words.index("--crate-name") + 1]
+    return crate, "wrong bodies" if "rt-edit-" in folder else "tests" if "--test" in words else "proof"
+
+
+def look(top, works, spent):
+    """Adds what each process below the top one has taken so far; a process works at what its parent does, if it doesn't say."""
+    found = processes()
+    for pid in sorted(found, key=lambda it: int(found[it][1])):
+        parent, started, ticks = found[pid]
+        key, above = (pid, started), (parent, found[parent][1] if parent in found else "")
+        if pid == top or key in works or above in works:
+            works[key] = work_of(pid) or works.get(key) or works.get(above)
+            spent[key] = ticks
+
+
+def main(words):
+    began = time.time()
+    running = subprocess.Popen(words or ["rt", "ci"], cwd=TOP, stdout=sys.stderr, stdin=subprocess.DEVNULL)
+    works, spent = {}, {}
+    while running.poll() is None:
+        look(running.pid, works, spent)
+        time.sleep(0.5)
+    minutes = collections.Counter()
+    for key, ticks in spent.items():
+        minutes[works[key] or ("rt", "proof")] += ticks / TICKS / 60
+    crates = sorted({crate for crate, _ in minutes}, key=lambda it: -sum(minutes[it, part] for part in PARTS))
+    print("| crate | " + " | ".join(PARTS) + " | all |")
+    for crate in crates:
+        each = [minutes[crate, part] for part in PARTS]
+        print(f"| {crate} | " + " | ".join(f"{it:.1f}" if it else "-" for it in each) + f" | {sum(each):.1f} |")
+    sums = [sum(minutes[crate, part] for crate in crates) for part in PARTS]
+    print("| all | " + " | ".join(f"{it:.1f}" for it in sums) + f" | {sum(sums):.1f} |")
+    print(f"{(time.time() - began) / 60:.1f} minutes, status {running.returncode}")
+    return running.returncode
+
+
+if __name__ == "__main__":
+    sys.exit(main(sys.argv[1:]))
