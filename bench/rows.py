@@ -3,7 +3,8 @@
 
 Each examples/NAME.job with its NAME.out is to be a row of `run` and one of `eval`. Of `check`, `eval` and `run` the second opinion
 tells what a row prints on both streams, and the status. A run with options that ends early prints a beginning of each rank's
-lines, and has status 3. Texts of usage, and calls with more than 64 processes, are known to the program alone.
+lines, and has status 3. Texts of usage, and calls with more than 64 processes, are known to the program alone, and so are
+words that are no call (`statements`, `reader 5 run`). Scripts that are made of pieces (`>*`) would take it minutes.
 
 rows.py     prints what disagrees, and how many rows were held; exit status 1 if any disagrees. No gate runs it.
 """
@@ -21,23 +22,33 @@ def contents(*names):
         return file.read()
 
 
+def of_pieces(lines):
+    """The script of which each line tells a number, and a piece that stands in it so many times."""
+    text = bytearray()
+    for line in lines:
+        count, _, piece = line.partition(b" ")
+        for number in range(int(count)):
+            text += piece.replace(b"%", b"%d" % number).replace(b"|", b"\n")
+    return bytes(text)
+
+
 def rows_asked(stdin):
     """Each row's words, its own line, and its script, which ends before the line feed in front of the next row."""
     rows, script = [], []
     for line in stdin.split(b"\n"):
-        if line.startswith((b"> ", b">> ")):
-            if line.startswith(b"> "):
-                script = []
-            rows.append((line, script))
+        if line.startswith((b"> ", b">* ", b">> ")):
+            if not line.startswith(b">> "):
+                script, of = [], of_pieces if line.startswith(b">* ") else b"\n".join
+            rows.append((line, script, of))
         else:
             script.append(line)
-    return [(line, b"\n".join(script)) for line, script in rows]
+    return [(line, of(script), of is of_pieces) for line, script, of in rows]
 
 
 def rows_told(asked, stdout):
     """What each row prints, on both streams, and its status; None where the rows don't follow one another."""
     told, at, last = [], 0, None
-    for line, _ in asked:
+    for line, *_ in asked:
         if not stdout.startswith(line + b"\n", at):
             return None
         at += len(line) + 1
@@ -88,10 +99,10 @@ def main():
         print("the rows of stdout don't follow those of stdin")
         return 1
     differ, held, opinions, printed = 0, 0, {}, {}
-    for (line, script), came in zip(asked, told):
+    for (line, script, is_long), came in zip(asked, told):
         words = line.decode().split()[1:]
         printed[" ".join(words), script] = came
-        agrees = is_held(words, script, came, opinions)
+        agrees = None if is_long else is_held(words, script, came, opinions)
         held += agrees is not None
         if agrees is False:
             print("they differ on %s of\n%s" % (line.decode(), script.decode("latin-1")[:400]))

@@ -1,56 +1,33 @@
 //! The program `job_rows`: reads rows on the standard input and prints what each comes to. A row is a line `> WORDS` and
-//! a script, which ends before the line feed in front of the next row; a line `>> WORDS` asks for the script above once
-//! more. Behind each row's own line stand the text that is printed, what the standard error is told, and `= STATUS`, or
-//! `= as above`, where the script's row before came to the same. The word `statements` is no call of the program: it asks
-//! for all that each statement of the script says.
+//! a script, which ends before the line feed in front of the next row; a line `>* WORDS` has a script that is made of pieces
+//! ([`lines::of_pieces`]); a line `>> WORDS` asks for the script above once more. Behind each row's own line stand the text
+//! that is printed, what the standard error is told, and `= STATUS`, or `= as above`, where the script's row before came to the
+//! same. Words that are no call of the program, as `statements` or `reader 5 run`, are told in [`calls`].
 #![tactic(auto)]
 
+mod calls;
+mod lines;
 mod statements;
+mod streams;
 
-use crate::statements::statements;
-use mpx_program::run_job;
-use std::alloc::{AllocError, Global};
+use crate::calls::told;
+use crate::lines::of_pieces;
+use std::alloc::Global;
 use std::io;
 use std::io::{Read, Write};
 use std::process::ExitCode;
-
-/// The words of a call.
-fn words_of(alloc: Global, line: &[u8]) -> Result<Vec<String>, AllocError> {
-    let mut words = Vec::new(alloc);
-    words.push(String::from_str(alloc, "gossipmpi")?)?;
-    for word in line.split(|byte| *byte == b' ') {
-        if !word.is_empty() && !word.starts_with(b">") {
-            words.push(String::from_utf8_lossy(alloc, word)?)?;
-        }
-    }
-    Ok(words)
-}
-
-/// What a call comes to.
-fn told(alloc: Global, line: &[u8], script: &[u8]) -> io::Result<Vec<u8>> {
-    if line.ends_with(b"> statements") {
-        return statements(alloc, script);
-    }
-    let words = words_of(alloc, line)?;
-    let mut reader = script;
-    let mut out = Vec::new(alloc);
-    let mut err = Vec::new(alloc);
-    let exit = run_job(alloc, &words, &mut reader, &mut out, &mut err);
-    out.extend_from_slice(&err)?;
-    let status = exit.status;
-    let end = format!(in alloc; "= {status}\n")?;
-    out.extend_from_slice(end.as_bytes())?;
-    Ok(out)
-}
 
 /// Adds a row's line, and what its call comes to, where that isn't `last`. Gives what it comes to.
 fn tell(
     alloc: Global,
     line: &[u8],
-    script: &[u8],
+    script: &mut Vec<u8>,
     last: &[u8],
     text: &mut Vec<u8>,
 ) -> io::Result<Vec<u8>> {
+    if line.starts_with(b">* ") {
+        *script = of_pieces(alloc, script)?;
+    }
     let came = told(alloc, line, script)?;
     text.extend_from_slice(line)?;
     text.push(b'\n')?;
@@ -70,11 +47,12 @@ fn all_told(alloc: Global, rows: &[u8]) -> io::Result<Vec<u8>> {
     let mut last = Vec::new(alloc);
     let mut is_first = true;
     for line in rows.split(|byte| *byte == b'\n') {
-        if line.starts_with(b"> ") || line.starts_with(b">> ") {
+        let is_new = line.starts_with(b"> ") || line.starts_with(b">* ");
+        if is_new || line.starts_with(b">> ") {
             if !call.is_empty() {
-                last = tell(alloc, &call, &script, &last, &mut text)?;
+                last = tell(alloc, &call, &mut script, &last, &mut text)?;
             }
-            if line.starts_with(b"> ") {
+            if is_new {
                 script.clear();
                 last.clear();
             }
@@ -89,7 +67,7 @@ fn all_told(alloc: Global, rows: &[u8]) -> io::Result<Vec<u8>> {
             is_first = false;
         }
     }
-    tell(alloc, &call, &script, &last, &mut text)?;
+    tell(alloc, &call, &mut script, &last, &mut text)?;
     Ok(text)
 }
 

@@ -100,7 +100,7 @@ fn push_sort(text: &mut Vec<u8>, statement: &Statement) -> io::Result<()> {
     }
 }
 
-/// All that the statement says: what it is, the names that it binds, and what it drafts.
+// All that the statement says: what it is, the names that it binds, and what it drafts.
 fn push_statement(alloc: Global, text: &mut Vec<u8>, statement: &Statement) -> io::Result<()> {
     push_sort(text, statement)?;
     if let Some(word) = statement.target() {
@@ -145,5 +145,39 @@ pub fn statements(alloc: Global, script: &[u8]) -> io::Result<Vec<u8>> {
         Err(error) => writeln!(text, "{error}")?,
     }
     text.extend_from_slice(b"= 0\n")?;
+    Ok(text)
+}
+
+/// `sizes`: how long the script is, how many ranks it has and how many statements the first and the 64th of them have, or why
+/// it is refused.
+pub fn sizes(alloc: Global, script: &[u8]) -> io::Result<Vec<u8>> {
+    let mut text = Vec::new(alloc);
+    write!(text, "{} bytes, ", script.len())?;
+    match read_script(alloc, script) {
+        Ok(script) => write!(
+            text,
+            "{} ranks, {} and {} statements",
+            script.ranks(),
+            script.statements(0).len(),
+            script.statements(63).len(),
+        )?,
+        Err(error) => write!(text, "{error}")?,
+    }
+    text.extend_from_slice(b"\n= 0\n")?;
+    Ok(text)
+}
+
+/// `last`: all that the last statement of the first rank says.
+pub fn last_statement(alloc: Global, script: &[u8]) -> io::Result<Vec<u8>> {
+    let mut text = Vec::new(alloc);
+    match read_script(alloc, script) {
+        Ok(script) => {
+            if let Some(statement) = script.statements(0).last() {
+                push_statement(alloc, &mut text, statement)?;
+            }
+        }
+        Err(error) => write!(text, "{error}")?,
+    }
+    text.extend_from_slice(b"\n= 0\n")?;
     Ok(text)
 }

@@ -1,5 +1,5 @@
 //! What is drawn in a run. Equal seeds give equal draws.
-ghost use Rattle.std.specs.Prelude.{◌<◌, IfSome};
+ghost use Rattle.std.specs.Prelude.{◌≡◌, ◌<◌, ◌≤◌, ◌⊎◌, ◌↔◌, IfOk, IfSome, IsFalse, IsTrue};
 ghost use Rattle.std.specs.List.Sorted.{IsPermutation};
 
 use join_core::OutOfMemory;
@@ -29,7 +29,9 @@ impl Schedule {
         seed: u64,
         loss: u8,
         processes: usize,
-    ) -> Result<Schedule, OutOfMemory> {
+    ) -> Result<Schedule, OutOfMemory>
+        ensures { IfOk result (λ schedule. schedule.loss ≡ loss) }
+    {
         let mut shifts = Vec::new(alloc);
         for place in 0..MOST_SHIFTS {
             let shift = 1usize << place;
@@ -47,15 +49,23 @@ impl Schedule {
     }
 
     /// To whom a process sends that has made so many lists of frames: as many processes on as the shift of this number says.
-    /// Where a hundred percent arrive and each list is one frame, any turns of one round bring every fact to every process.
+    /// Where a hundred percent arrive and each list is one frame, any turns of one round bring every fact to every process. It is
+    /// another process, where there is one.
     pub(crate) fn receiver(&self, from: usize, lists: usize, processes: usize) -> usize
         requires { from < processes }
-        ensures { result < processes }
+        ensures below { result < processes }
+        ensures other { 1 < processes → (result < from) ⊎ (from < result) }
     {
-        if self.shifts.is_empty() {
+        if processes == 1 {
             return from;
         }
-        let shift = self.shifts[lists % self.shifts.len()] % processes;
+        let drawn = if self.shifts.is_empty() {
+            1
+        } else {
+            self.shifts[lists % self.shifts.len()]
+        };
+        // (each shift is from 1 on, and below the number of processes)
+        let shift = drawn.wrapping_sub(1) % (processes - 1) + 1;
         if shift < processes - from {
             from + shift
         } else {
@@ -63,13 +73,19 @@ impl Schedule {
         }
     }
 
-    /// Whether a frame is lost.
-    pub(crate) fn is_lost(&mut self) -> bool {
+    /// Whether a frame is lost: of a loss of 0 none is, and of a loss of 100 each.
+    pub(crate) fn is_lost(&mut self) -> bool
+        ensures none { self.old.loss ≡ 0 → IsFalse result }
+        ensures all { 100 ≤ self.old.loss → IsTrue result }
+        ensures loss { self.new.loss ≡ self.old.loss }
+    {
         below(&mut self.words, 100) < self.loss
     }
 
     /// Whether every frame is lost.
-    pub(crate) fn loses_all(&self) -> bool {
+    pub(crate) fn loses_all(&self) -> bool
+        ensures { IsTrue result ↔ (100 ≤ self.now.loss) }
+    {
         self.loss >= 100
     }
 

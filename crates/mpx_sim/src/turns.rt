@@ -1,4 +1,4 @@
-ghost use Rattle.std.specs.Prelude.{◌≡◌, ◌<◌, ◌≤◌, ◌+◌, All, IfOk, OnOk, length, map, slice_get, List, Some, ℕ};
+ghost use Rattle.std.specs.Prelude.{◌≡◌, ◌<◌, ◌≤◌, ◌+◌, ◌⊎◌, All, IfOk, OnOk, length, map, slice_get, List, Some, ℕ};
 ghost use Rattle.mpx_board.specs.Boards.{Look, join_all};
 ghost use Rattle.mpx_parts.specs.Facts.{OnlyFactsOf};
 ghost use Rattle.mpx_statement.specs.declared.statement.Statement.{Statement as Said};
@@ -62,6 +62,7 @@ fn turn(
 ) -> Result<bool, OutOfMemory>
     requires few { count ≤ length processes.old }
     requires each { length processes.old ≤ length senders.old }
+    requires number { number < 4294967296 }
     ensures { OnOk result ((script : List (List Said)) (ranks size : ℕ) → count ≤ ranks → IsUnderWay script ranks size (map rank_of processes.old) (map part_of frames.old.items)
         → IsUnderWay script ranks size (map rank_of processes.new) (map part_of frames.new.items)) }
 {
@@ -229,6 +230,7 @@ fn arrive(
 
 // One in four of the turn's frames is taken again in a later turn, and the others are let go.
 fn keep_some(frames: &mut Vec<Frame>, schedule: &mut Schedule, turn: u64)
+    requires { turn < 4294967296 }
     ensures { (script : List (List Said)) (ranks size : ℕ) (processes : List RankView) → IsUnderWay script ranks size processes (map part_of frames.old.items)
         → IsUnderWay script ranks size processes (map part_of frames.new.items) }
 {
@@ -238,6 +240,7 @@ fn keep_some(frames: &mut Vec<Frame>, schedule: &mut Schedule, turn: u64)
 
 // One in four of the turn's frames comes again.
 fn delay_some(frames: &mut Vec<Frame>, schedule: &mut Schedule, turn: u64)
+    requires { turn < 4294967296 }
     ensures { map part_of frames.new.items ≡ map part_of frames.old.items }
 {
     for i in 0..frames.len() {
@@ -245,9 +248,12 @@ fn delay_some(frames: &mut Vec<Frame>, schedule: &mut Schedule, turn: u64)
     }
 }
 
-// It comes again, where this is its turn and it is drawn.
+// It comes again, where this is its turn and it is drawn: later, to the same process, and with the same bytes.
 fn delay(frame: &mut Frame, schedule: &mut Schedule, turn: u64)
-    ensures { part_of frame.new ≡ part_of frame.old }
+    requires { turn < 4294967296 }
+    ensures later { (frame.new.turn ≡ frame.old.turn) ⊎ (turn < frame.new.turn) }
+    ensures bytes { frame.new.bytes ≡ frame.old.bytes }
+    ensures to { frame.new.to ≡ frame.old.to }
 {
     if frame.turn != turn {
         return;

@@ -1,17 +1,13 @@
-//! Times of frames: reads a frame from the standard input and, with a number N as the only word, tells in how many
-//! microseconds it is copied, read and written N times. Without a word it tells nothing. `bench/frames` runs it.
-#![tactic(auto)]
-
+//! How long a frame takes to be copied, read and written.
 use mpx_board::Board;
 use mpx_wire::{decode, encode};
 use std::alloc::{AllocError, Global};
 use std::io::Read;
-use std::process::ExitCode;
 use std::time::Instant;
 use std::{env, io};
 
-// How often, where one word says so.
-fn turns(rt: &HostRuntime) -> io::Result<Option<u32>> {
+/// How often, where one word says so.
+pub fn turns(rt: &HostRuntime) -> io::Result<Option<u32>> {
     let words: Vec<String> = env::args(rt)?.collect(rt.alloc())?;
     match words.as_slice() {
         [_, word] => Ok(word.as_str().parse::<u32>().ok()),
@@ -66,21 +62,12 @@ fn tell(rt: &HostRuntime, frame: &[u8], board: &Board, turns: u32) -> io::Result
     println!(rt; "{written} bytes written in {writing} us")
 }
 
-fn run(rt: &HostRuntime) -> io::Result<()> {
-    let Some(turns) = turns(rt)? else {
-        return Ok(());
-    };
+/// Reads a frame from the standard input, and tells in how many microseconds it is copied, read and written so many times.
+pub fn tell_times(rt: &HostRuntime, turns: u32) -> io::Result<()> {
     let mut frame = Vec::new(rt.alloc());
     rt.reader().read_to_end(&mut frame)?;
     match decode(rt.alloc(), &frame) {
         Ok(board) => tell(rt, &frame, &board, turns),
         Err(refusal) => println!(rt; "{refusal}"),
-    }
-}
-
-fn main(rt: HostRuntime) -> ExitCode {
-    match run(&rt) {
-        Ok(()) => ExitCode::SUCCESS,
-        Err(_) => ExitCode::FAILURE,
     }
 }
