@@ -15,8 +15,11 @@ module _ {H : Type 0} (turned : H → ℕ → H → Type 0) (more : (a b c : H) 
   none_and a b c n x y = let same : 0 + n ≡ n = omega arith in subst (λ m. turned a m c) same (more a b c 0 n x y)
 
   module _ (node : H → NodeView) (is_pending : NodeView → Type 0) where
-    pub awaits_none : (h : H) → turned h 0 h → Awaits node turned is_pending h 0 h
-    awaits_none h none = (none, (none, later_none (node h)))
+    -- no look yet
+    pub awaits_none : (h : H) (turns : ℕ) → turned h 0 h → Awaits node turned is_pending h (turns - turns) h
+    awaits_none h turns none =
+        let same : 0 ≡ turns - turns = omega arith in
+        subst (λ n. Awaits node turned is_pending h n h) same (none, (none, later_none (node h)))
 
     looked : (a b c : H) (n : ℕ) → Looks node turned is_pending a n b → turned b 0 c → Later (node b) (node c) → Looks node turned is_pending a n c
     looked a b c zero l none later = (and_none a b c 0 l.0 none, later_more (node a) (node b) (node c) l.1 later)

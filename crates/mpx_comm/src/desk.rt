@@ -1,4 +1,5 @@
 ghost use Rattle.std.specs.Prelude.{◌≡◌, ◌≤◌, [], ℕ, OnOk, IfOk};
+ghost use Rattle.indexmap.specs.IndexSet.{spare};
 ghost use Rattle.mpx_node.specs.Nodes.{Opens, gathers_on, post_at};
 ghost use Rattle.mpx_post.specs.Drafts.{given_by};
 ghost use Rattle.mpx_post.specs.declared.draft.Draft.{Draft as DraftView};
@@ -128,7 +129,10 @@ impl<H: Host> Desk<H> {
         ensures requests { self.new.requests.keys ≡ self.old.requests.keys }
     {
         match look(alloc, &mut self.host, request)? {
-            Some(_) => Ok(true),
+            Some(finished) => {
+                drop(finished);
+                Ok(true)
+            }
             None => Ok(false),
         }
     }
@@ -187,6 +191,7 @@ impl<H: Host> Desk<H> {
             Ok(None) => Err(WaitError::StillWaiting(request)),
             Ok(Some(finished)) => {
                 self.requests.shift_remove(&request);
+                drop(request);
                 Ok(finished)
             }
         }
@@ -220,15 +225,11 @@ impl<H: Host> Desk<H> {
         ensures no_turn { H.turned self.old.host 0 self.new.host }
     {
         if let Some(refusal) = self.host.refusal(name, &draft) {
+            drop(draft);
             return Err(refusal);
         }
-        let Ok(mine) = name.copy(alloc) else {
-            return Err(PostError::OutOfMemory);
-        };
-        let Ok(twin) = name.copy(alloc) else {
-            return Err(PostError::OutOfMemory);
-        };
-        let Ok(()) = self.requests.reserve(1) else {
+        let Ok((mine, twin)) = room_and_names(alloc, &mut self.requests, name) else {
+            drop(draft);
             return Err(PostError::OutOfMemory);
         };
         let call = self.host.post(alloc, name, draft)?;
@@ -272,4 +273,19 @@ impl<H: Host> Desk<H> {
             Err(WaitError::OutOfMemory(request)) => Err(CallError::OutOfMemory(request)),
         }
     }
+}
+
+// Room for one more request, and the name of its context twice. Here stand most exits of a post, and no draft is dropped at them.
+fn room_and_names(
+    alloc: Global,
+    requests: &mut IndexSet<Request>,
+    name: &Name,
+) -> Result<(Name, Name), OutOfMemory>
+    ensures keys { requests.new.keys ≡ requests.old.keys }
+    ensures room { OnOk result (1 ≤ spare requests.new) }
+    ensures names { IfOk result (λ names. (names.0 ≡ name.now) × (names.1 ≡ name.now)) }
+{
+    requests.reserve(1)?;
+    let mine = name.copy(alloc)?;
+    Ok((mine, name.copy(alloc)?))
 }

@@ -32,27 +32,7 @@ impl Counts {
     }
 }
 
-// A draft that tells nothing but the call.
-pub fn plain(alloc: Global, call: Call) -> Result<Draft, OutOfMemory>
-    ensures { IfOk result (λ draft. draft ≡ plain_draft call) }
-{
-    let none = Numbers::new(alloc, Vec::new(alloc))?;
-    Ok(Draft {
-        call,
-        root: 0,
-        op: Op::Sum,
-        ty: Ty::I8,
-        scounts: none.copy()?,
-        rcounts: none.copy()?,
-        items: none.copy()?,
-        colour: None,
-        key: 0,
-        group: none,
-        graph: None,
-    })
-}
-
-// A draft of items, which are sent in blocks of so many, and received so.
+// A draft of items, which are sent in blocks of so many, and received so. It is put together last: so no draft is dropped.
 pub fn of_items(
     alloc: Global,
     call: Call,
@@ -63,12 +43,30 @@ pub fn of_items(
 ) -> Result<Draft, OutOfMemory>
     ensures { IfOk result (λ draft. draft ≡ record (plain_draft call) { ty = ty; scounts = counts_of scounts; rcounts = counts_of rcounts; items = items }) }
 {
-    let mut draft = plain(alloc, call)?;
-    draft.ty = ty;
-    draft.scounts = scounts.numbers(alloc)?;
-    draft.rcounts = rcounts.numbers(alloc)?;
-    draft.items = items;
-    Ok(draft)
+    let scounts = scounts.numbers(alloc)?;
+    let rcounts = rcounts.numbers(alloc)?;
+    let group = Numbers::new(alloc, Vec::new(alloc))?;
+    Ok(Draft {
+        call,
+        root: 0,
+        op: Op::Sum,
+        ty,
+        scounts,
+        rcounts,
+        items,
+        colour: None,
+        key: 0,
+        group,
+        graph: None,
+    })
+}
+
+// A draft that tells nothing but the call.
+pub fn plain(alloc: Global, call: Call) -> Result<Draft, OutOfMemory>
+    ensures { IfOk result (λ draft. draft ≡ plain_draft call) }
+{
+    let none = Numbers::new(alloc, Vec::new(alloc))?;
+    of_items(alloc, call, Ty::I8, Counts::None, Counts::None, none)
 }
 
 // The same of a call with a root.
@@ -132,8 +130,9 @@ pub fn of_graph(
 ) -> Result<Draft, OutOfMemory>
     ensures { IfOk result (λ draft. draft ≡ record (plain_draft (Call.NewCommunicator new)) { graph = Some (record { weighted = weighted; edges = edges.items; sources = sources.items; destinations = destinations.items }) }) }
 {
+    let graph = DraftedGraph::new(alloc, weighted, edges, sources, destinations)?;
     let mut draft = plain(alloc, Call::NewCommunicator(new))?;
-    draft.graph = Some(DraftedGraph::new(alloc, weighted, edges, sources, destinations)?);
+    draft.graph = Some(graph);
     Ok(draft)
 }
 

@@ -1,7 +1,7 @@
 use Rattle.std.proofs.Common.{◌≡◌, ◌-◌, ◌<◌, arith}
 use Rattle.mpx_comm.specs.Requests.{AreResults, OneIsPending}
-use Rattle.mpx_comm.proofs.Steps.{later_more}
-use Rattle.mpx_comm.proofs.Turns.{awaits_look, awaits_end, awaits_turn}
+use Rattle.mpx_comm.proofs.Steps.{later_more, later_none}
+use Rattle.mpx_comm.proofs.Turns.{awaits_look, awaits_end, awaits_turn, awaits_none}
 use Rattle.mpx_comm.proofs.look.await_all.Goals as goal
 
 pub returns-in-Some-clause-found : goal.returns-in-Some-clause-found
@@ -24,3 +24,24 @@ returns-then-left-eq0-clause-found g c =
     let end : c.loop-all.left ≡ 0 = grind (arith, c.if-left-eq0.true) in
     let pending : OneIsPending (g.H.Host.node c.look_all.new.host) c.args.requests.now = rw c.in_default.is at c.in_ok-all.ensures.found in
     (pending, awaits_end g.H.Host.turned g.met.H.Host.turns_more g.H.Host.node (λ node. OneIsPending node c.args.requests.now) c.args.host.now c.loop-all.host c.look_all.new.host c.args.turns c.loop-all.left end c.loop-all.invariant.awaited c.look_all.ensures.no_turn c.look_all.ensures.later)
+
+pub returns-in_err-all-clause-later : goal.returns-in_err-all-clause-later
+returns-in_err-all-clause-later g c = later_more (g.H.Host.node c.args.host.now) (g.H.Host.node c.loop-all.host) (g.H.Host.node c.look_all.new.host) c.loop-all.invariant.later c.look_all.ensures.later
+
+pub returns-in-Some-clause-later : goal.returns-in-Some-clause-later
+returns-in-Some-clause-later g c = later_more (g.H.Host.node c.args.host.now) (g.H.Host.node c.loop-all.host) (g.H.Host.node c.look_all.new.host) c.loop-all.invariant.later c.look_all.ensures.later
+
+pub returns-then-left-eq0-clause-later : goal.returns-then-left-eq0-clause-later
+returns-then-left-eq0-clause-later g c = later_more (g.H.Host.node c.args.host.now) (g.H.Host.node c.loop-all.host) (g.H.Host.node c.look_all.new.host) c.loop-all.invariant.later c.look_all.ensures.later
+
+pub returns-in_err-turn-clause-later : goal.returns-in_err-turn-clause-later
+returns-in_err-turn-clause-later g c = later_more (g.H.Host.node c.args.host.now) (g.H.Host.node c.look_all.new.host) (g.H.Host.node c.turn.new.self) (later_more (g.H.Host.node c.args.host.now) (g.H.Host.node c.loop-all.host) (g.H.Host.node c.look_all.new.host) c.loop-all.invariant.later c.look_all.ensures.later) c.turn.ensures.later
+
+pub loop-all-init : goal.loop-all-init
+loop-all-init g c = record { later = later_none (g.H.Host.node c.args.host.now); awaited = awaits_none g.H.Host.turned g.met.H.Host.turns_more g.H.Host.node (λ node. OneIsPending node c.args.requests.now) c.args.host.now c.args.turns (g.met.H.Host.turns_none c.args.host.now); few = omega arith }
+
+pub loop-all-smaller : goal.loop-all-smaller
+loop-all-smaller g c = let some : 0 < c.loop-all.left = grind (arith, c.if-left-eq0.false) in omega (arith, some)
+
+pub overflow_sub-left : goal.overflow_sub-left
+overflow_sub-left g c = let some : 0 < c.loop-all.left = grind (arith, c.if-left-eq0.false) in omega (arith, some)

@@ -1,8 +1,8 @@
 use Rattle.std.proofs.Common.{◌≡◌, ◌-◌, ◌<◌, Some, arith}
 use Rattle.mpx_comm.specs.Later.{IsPending}
 use Rattle.mpx_comm.specs.Requests.{result_of}
-use Rattle.mpx_comm.proofs.Steps.{later_more}
-use Rattle.mpx_comm.proofs.Turns.{awaits_look, awaits_end, awaits_turn}
+use Rattle.mpx_comm.proofs.Steps.{later_more, later_none}
+use Rattle.mpx_comm.proofs.Turns.{awaits_look, awaits_end, awaits_turn, awaits_none}
 use Rattle.mpx_comm.proofs.look.await_one.Goals as goal
 
 pub returns-in-Some-clause-found : goal.returns-in-Some-clause-found
@@ -25,3 +25,24 @@ returns-then-left-eq0-clause-found g c =
     let end : c.loop-finished.left ≡ 0 = grind (arith, c.if-left-eq0.true) in
     let pending : IsPending (g.H.Host.node c.look.new.host) c.args.request.now.name c.args.request.now.call = rw c.in_default.is at c.in_ok-finished.ensures.found in
     (pending, awaits_end g.H.Host.turned g.met.H.Host.turns_more g.H.Host.node (λ node. IsPending node c.args.request.now.name c.args.request.now.call) c.args.host.now c.loop-finished.host c.look.new.host c.args.turns c.loop-finished.left end c.loop-finished.invariant.awaited c.look.ensures.no_turn c.look.ensures.later)
+
+pub returns-in_err-finished-clause-later : goal.returns-in_err-finished-clause-later
+returns-in_err-finished-clause-later g c = later_more (g.H.Host.node c.args.host.now) (g.H.Host.node c.loop-finished.host) (g.H.Host.node c.look.new.host) c.loop-finished.invariant.later c.look.ensures.later
+
+pub returns-in-Some-clause-later : goal.returns-in-Some-clause-later
+returns-in-Some-clause-later g c = later_more (g.H.Host.node c.args.host.now) (g.H.Host.node c.loop-finished.host) (g.H.Host.node c.look.new.host) c.loop-finished.invariant.later c.look.ensures.later
+
+pub returns-then-left-eq0-clause-later : goal.returns-then-left-eq0-clause-later
+returns-then-left-eq0-clause-later g c = later_more (g.H.Host.node c.args.host.now) (g.H.Host.node c.loop-finished.host) (g.H.Host.node c.look.new.host) c.loop-finished.invariant.later c.look.ensures.later
+
+pub returns-in_err-turn-clause-later : goal.returns-in_err-turn-clause-later
+returns-in_err-turn-clause-later g c = later_more (g.H.Host.node c.args.host.now) (g.H.Host.node c.look.new.host) (g.H.Host.node c.turn.new.self) (later_more (g.H.Host.node c.args.host.now) (g.H.Host.node c.loop-finished.host) (g.H.Host.node c.look.new.host) c.loop-finished.invariant.later c.look.ensures.later) c.turn.ensures.later
+
+pub loop-finished-init : goal.loop-finished-init
+loop-finished-init g c = record { later = later_none (g.H.Host.node c.args.host.now); awaited = awaits_none g.H.Host.turned g.met.H.Host.turns_more g.H.Host.node (λ node. IsPending node c.args.request.now.name c.args.request.now.call) c.args.host.now c.args.turns (g.met.H.Host.turns_none c.args.host.now); few = omega arith }
+
+pub loop-finished-smaller : goal.loop-finished-smaller
+loop-finished-smaller g c = let some : 0 < c.loop-finished.left = grind (arith, c.if-left-eq0.false) in omega (arith, some)
+
+pub overflow_sub-left : goal.overflow_sub-left
+overflow_sub-left g c = let some : 0 < c.loop-finished.left = grind (arith, c.if-left-eq0.false) in omega (arith, some)
