@@ -4,7 +4,7 @@ ghost use Rattle.mpx_board.specs.Looks.{look};
 ghost use Rattle.mpx_node.specs.Shown.{node_of};
 ghost use Rattle.mpx_comm.specs.Requests.{result_of};
 
-use crate::desks::{desk_of, number_of, numbers, swap};
+use crate::desks::{desk_of, number_in, numbers, swap};
 use crate::inbox::Inbox;
 use crate::stop::Stop;
 use mpx_board::Board;
@@ -54,15 +54,15 @@ pub fn two_sums(
     post_sum(alloc, right, there, 2)?;
     post_sum(alloc, right, there, 3)?;
     swap(alloc, left, right)?;
-    let last = tested(alloc, left, last)?;
-    let first = left.wait(alloc, first, 0)?;
-    Ok((number_of(&first)?, number_of(&last)?))
+    let last = number_in(tested(alloc, left, last)?)?;
+    let first = number_in(left.wait(alloc, first, 0)?)?;
+    Ok((first, last))
 }
 
 /// The first open request that is done: the number of its call, and the sum.
 pub fn any_sum<H: Host>(alloc: Global, desk: &mut Desk<H>) -> Result<(u32, i128), Stop> {
     match desk.testany(alloc)? {
-        Some((request, finished)) => Ok((request.call(), number_of(&finished)?)),
+        Some((request, finished)) => Ok((request.call(), number_in(finished)?)),
         None => Err(Stop::NoAnswer),
     }
 }
@@ -144,7 +144,7 @@ fn inbox(alloc: Global) -> Result<Inbox, Stop> {
 fn sum_of(alloc: Global, desk: &mut Desk<Inbox>) -> Result<(i128, usize), Stop> {
     let request = post_sum(alloc, desk, &Comm::world(alloc, 2, 0), 10)?;
     let finished = awaited(alloc, desk, request, 5)?;
-    Ok((number_of(&finished)?, desk.host().boards.len()))
+    Ok((number_in(finished)?, desk.host().boards.len()))
 }
 
 /// The sum with the number of a rank whose boards come to an inbox, and how many of them are left there.

@@ -5,7 +5,7 @@ ghost use Rattle.mpx_comm.specs.Comms.{comm_of};
 ghost use Rattle.mpx_comm.specs.Requests.{result_of};
 ghost use Rattle.mpx_comm.specs.declared.answers.CallError.TheVariants.{StillWaiting};
 
-use crate::desks::{number_of, numbers, swap};
+use crate::desks::{number_in, numbers, swap};
 use crate::stop::Stop;
 use mpx_comm::{CallError, Comm, Desk, Host, Request};
 use mpx_node::{Finished, Node};
@@ -33,7 +33,9 @@ pub fn comm_from<H: Host>(
     ensures { IfOk result (λ comm. (finished : FinishedView) × (result_of (H.node desk.new.host) request ≡ Some finished) × (comm ≡ comm_of finished.outcome)) }
 {
     let finished = desk.wait(alloc, request, 0)?;
-    Ok(Comm::of(alloc, &finished)?)
+    let comm = Comm::of(alloc, &finished);
+    drop(finished);
+    Ok(comm?)
 }
 
 /// The same where there has to be one.
@@ -126,7 +128,7 @@ pub fn neighbours(
     let mine = post_to_neighbours(alloc, left, mine, 20)?;
     let theirs = post_to_neighbours(alloc, right, theirs, 22)?;
     swap(alloc, left, right)?;
-    let mine = left.wait(alloc, mine, 0)?;
-    let theirs = right.wait(alloc, theirs, 0)?;
-    Ok((number_of(&mine)?, number_of(&theirs)?))
+    let mine = number_in(left.wait(alloc, mine, 0)?)?;
+    let theirs = number_in(right.wait(alloc, theirs, 0)?)?;
+    Ok((mine, theirs))
 }

@@ -8,6 +8,13 @@ use mpx_node::Node;
 use std::alloc::Global;
 use std::io::Write;
 
+// A line of two numbers.
+fn print_two<W: Write>(out: &mut W, word: &str, numbers: (i128, i128)) -> Result<(), Stop> {
+    let (first, last) = numbers;
+    writeln!(out, "{word} {first} {last}")?;
+    Ok(())
+}
+
 // The lines of requests.
 fn print_requests<W: Write>(
     alloc: Global,
@@ -16,15 +23,13 @@ fn print_requests<W: Write>(
     worlds: (&Comm, &Comm),
     out: &mut W,
 ) -> Result<(), Stop> {
-    let (first, last) = two_sums(alloc, left, right, worlds)?;
-    writeln!(out, "sum {first} {last}")?;
+    print_two(out, "sum", two_sums(alloc, left, right, worlds)?)?;
     let (call, sum) = any_sum(alloc, right)?;
-    writeln!(out, "any {call} {sum}")?;
+    print_two(out, "any", (i128::from(call), sum))?;
     let refused = refusal(alloc, left, worlds.0)?;
     writeln!(out, "refused {refused}")?;
     let (sum, boards) = sum_from_inbox(alloc)?;
-    writeln!(out, "inbox {sum} {boards}")?;
-    Ok(())
+    print_two(out, "inbox", (sum, boards as i128))
 }
 
 // The lines of communicators.
@@ -36,14 +41,12 @@ fn print_communicators<W: Write>(
     out: &mut W,
 ) -> Result<(), Stop> {
     let (size, rank) = split_by_key(alloc, left, right, worlds)?;
-    writeln!(out, "split {size} {rank}")?;
+    print_two(out, "split", (i128::from(size), i128::from(rank)))?;
     let none = split_apart(alloc, left, right, worlds)?;
     writeln!(out, "null {none}")?;
     let (size, rank) = group(alloc, left, right, worlds)?;
-    writeln!(out, "group {size} {rank}")?;
-    let (mine, theirs) = neighbours(alloc, left, right, worlds)?;
-    writeln!(out, "graph {mine} {theirs}")?;
-    Ok(())
+    print_two(out, "group", (i128::from(size), i128::from(rank)))?;
+    print_two(out, "graph", neighbours(alloc, left, right, worlds)?)
 }
 
 fn print_all<W: Write>(
