@@ -1,5 +1,5 @@
 -- What is told of a context, by look-ups.
-use Rattle.std.proofs.Common.{◌≡◌, ℕ, ◌<◌, ◌≤◌, ◌==◌, ◌&&◌, Bool, true, false, not, cond, nat_le, nat_lt, is_some, max, map, Option, Some, None, refl, sym, ap, ◌∙◌, subst, arith}
+use Rattle.std.proofs.Common.{◌≡◌, ◌⊎◌, inl, inr, ℕ, ◌<◌, ◌≤◌, ◌==◌, ◌&&◌, Bool, true, false, not, cond, nat_le, nat_lt, is_some, max, map, Option, Some, None, refl, sym, ap, ◌∙◌, subst, arith}
 use Rattle.std.proofs.lemmas.Bool.Decides.{nat_tests}
 use Rattle.std.specs.Option.{option_map}
 use Rattle.std.specs.declared.cmp.Ordering.{Ordering}
@@ -45,10 +45,6 @@ module _ {K V : Type 0} {R : K → K → Ordering} (o : IsTotalOrder R) where
   -- a value put in where there was none to take out
   pub set_by_put : (old between new : FinMap R V) (k : K) (b v : V) → None ≡ get old k → between ≡ replaced old k b → new ≡ insert between k v → IsSet R old new k v
   set_by_put old between new k b v none e f = set_by_insert old new k v (f ∙ ap (λ m. insert m k v) (e ∙ replaced_absent old k b none))
-
-  -- the key may be a copy
-  pub set_by_copy : (old between new : FinMap R V) (k q : K) (b v : V) → None ≡ get old k → between ≡ replaced old k b → q ≡ k → new ≡ insert between q v → IsSet R old new k v
-  set_by_copy old between new k q b v none e same f = set_by_put old between new k b v none e (f ∙ ap (λ x. insert between x v) same)
 
   set_twice : (here there still : Bool) (b v : V) (w : Option V) → there ≡ true → still ≡ true → cond (here && still) (Some v) (cond (here && there) (Some b) w) ≡ cond here (Some v) w
   set_twice true there still b v w e f = rw f refl
@@ -263,6 +259,42 @@ post_told e t call process post kept is = same_context (context_of (e.0, (e.1.0,
     (λ p. max_none (or_zero (get e.1.0 p)))
     (kept ∙ max_none e.1.1.dropped)
     (λ k p. is k p ∙ ap (λ d. cond (nat_le d k) (flat_join same_given (post_in p (get e.1.1.calls k)) (cond ((k == call) && (p == process)) (known post) unknown)) unknown) (max_none e.1.1.dropped))
+
+not_so : (b : Bool) → not b ≡ true → b ≡ false
+not_so true e = cc
+not_so false e = refl
+
+-- what tells something is no entry that says nothing
+not_nothing : (a b c d : Bool) → (a ≡ false) ⊎ ((b ≡ false) ⊎ ((c ≡ true) ⊎ (d ≡ false))) → not (a && (b && (not c && d))) ≡ true
+not_nothing false b c d some = refl
+not_nothing true false c d some = refl
+not_nothing true true true d some = refl
+not_nothing true true false false some = refl
+not_nothing true true false true (inl e) = cc
+not_nothing true true false true (inr (inl e)) = cc
+not_nothing true true false true (inr (inr (inl e))) = cc
+not_nothing true true false true (inr (inr (inr e))) = cc
+
+pub birth_told_tidy : (e : EntryView) (v : FlatView BirthView) (birth : BirthView) → v ≡ flat_join same_birth e.0 (known birth) → is_neat_entry e ≡ true → is_tidy_entry (v, e.1) ≡ true
+birth_told_tidy e v birth is neat =
+    both_true _ _ (not_nothing (is_unknown v) (is_bare e.1.0) (nat_lt 0 e.1.1.dropped) (is_bare e.1.1.calls) (inl (ap is_unknown is ∙ join_known same_birth e.0 birth))) neat
+
+pub front_told_tidy : (e : EntryView) (numbers : OfProcesses ℕ) → (has_no_zero e.1.0 ≡ true → is_tidy_numbers numbers ≡ true) → is_neat_entry e ≡ true → is_tidy_entry (e.0, (numbers, e.1.1)) ≡ true
+front_told_tidy e numbers raise neat =
+    let tidy = raise (first_true (has_no_zero e.1.0) (all_entries is_tidy_call e.1.1.calls) neat) in
+    both_true _ _
+    (not_nothing (is_unknown e.0) (is_bare numbers) (nat_lt 0 e.1.1.dropped) (is_bare e.1.1.calls) (inr (inl (not_so (is_bare numbers) (first_true (not (is_bare numbers)) (has_no_zero numbers) tidy)))))
+    (both_true _ _ (second_true (not (is_bare numbers)) (has_no_zero numbers) tidy) (second_true (has_no_zero e.1.0) (all_entries is_tidy_call e.1.1.calls) neat))
+
+pub post_told_tidy : (e : EntryView) (t : TruncView CallView) (call : ℕ) → t.dropped ≡ e.1.1.dropped → (call < e.1.1.dropped) ⊎ (is_bare t.calls ≡ false) → (all_entries is_tidy_call e.1.1.calls ≡ true → all_entries is_tidy_call t.calls ≡ true) → is_neat_entry e ≡ true → is_tidy_entry (e.0, (e.1.0, t)) ≡ true
+post_told_tidy e t call kept told tidy neat =
+    both_true _ _
+    (not_nothing (is_unknown e.0) (is_bare e.1.0) (nat_lt 0 t.dropped) (is_bare t.calls) (inr (inr (some told))))
+    (both_true _ _ (first_true (has_no_zero e.1.0) (all_entries is_tidy_call e.1.1.calls) neat) (tidy (second_true (has_no_zero e.1.0) (all_entries is_tidy_call e.1.1.calls) neat)))
+  where
+    some : (call < e.1.1.dropped) ⊎ (is_bare t.calls ≡ false) → (nat_lt 0 t.dropped ≡ true) ⊎ (is_bare t.calls ≡ false)
+    some (inl less) = let more : 0 < t.dropped = omega arith in inl (grind (arith, nat_tests))
+    some (inr calls) = inr calls
 
 -- DROPPED POSTS
 

@@ -1,4 +1,5 @@
 ghost use Rattle.std.specs.Prelude.{◌≡◌, ◌↔◌, ◌<◌, ◌≤◌, true, false, not, map, IfOk, OnOk, OnErr, IsErrOf, MatchOption, IsTrue};
+ghost use Rattle.std.specs.FinMap.{get, insert};
 ghost use Rattle.std.specs.Option.{option_copied, option_map};
 ghost use Rattle.join_core.specs.Flat.{known as knows};
 ghost use Rattle.mpx_board.specs.declared.errors.AddPostError.TheVariants as A;
@@ -7,7 +8,7 @@ ghost use Rattle.mpx_board.specs.Changes.{is_posted, pruned, cut_to};
 ghost use Rattle.mpx_board.specs.Contexts.{context_of, post_in};
 ghost use Rattle.mpx_post.specs.Drafts.{most_calls};
 ghost use Rattle.mpx_board.specs.Tidy.{is_tidy, is_unknown};
-ghost use Rattle.mpx_board.specs.Views.{view_of_call, view_of_entry, view_of_parts};
+ghost use Rattle.mpx_board.specs.Views.{view_of_call, view_of_entries, view_of_entry, view_of_parts};
 
 use crate::errors::{AddPostError, PruneError};
 use crate::fact::{Fact, drop_posts, tell};
@@ -115,7 +116,7 @@ impl Board {
     pub fn birth(&self, name: &Name) -> Option<&Birth>
         ensures { option_copied result ≡ told ((look self.now).contexts name.now).birth }
     {
-        match self.inside.first.get(name) {
+        match self.entry(name) {
             None => None,
             Some(entry) => known(&entry.first),
         }
@@ -125,7 +126,7 @@ impl Board {
     pub fn front(&self, name: &Name, process: Proc) -> u32
         ensures { result ≡ ((look self.now).contexts name.now).fronts process }
     {
-        match self.inside.first.get(name) {
+        match self.entry(name) {
             None => 0,
             Some(entry) => number_of(&entry.second.first, process),
         }
@@ -135,7 +136,7 @@ impl Board {
     pub fn dropped(&self, name: &Name) -> u32
         ensures { result ≡ ((look self.now).contexts name.now).dropped }
     {
-        match self.inside.first.get(name) {
+        match self.entry(name) {
             None => 0,
             Some(entry) => entry.second.second.dropped(),
         }
@@ -145,7 +146,7 @@ impl Board {
     pub fn holds(&self, name: &Name, call: u32, process: Proc) -> Option<&Post>
         ensures { option_copied result ≡ told (((look self.now).contexts name.now).posts call process) }
     {
-        match self.inside.first.get(name) {
+        match self.entry(name) {
             None => None,
             Some(entry) => post_of(entry, call, process),
         }
@@ -155,7 +156,7 @@ impl Board {
     pub fn row(&self, alloc: Global, name: &Name, call: u32) -> Result<Option<Row<'_>>, OutOfMemory>
         ensures { IfOk result (λ row. row ≡ row_on (look self.now) name.now call) }
     {
-        let Some(entry) = self.inside.first.get(name) else {
+        let Some(entry) = self.entry(name) else {
             return Ok(None);
         };
         let Some(birth) = known(&entry.first) else {
@@ -175,7 +176,7 @@ impl Board {
     pub fn floor(&self, name: &Name) -> Option<u32>
         ensures { result ≡ floor_on (look self.now) name.now }
     {
-        match self.inside.first.get(name) {
+        match self.entry(name) {
             None => None,
             Some(entry) => match known(&entry.first) {
                 None => None,
@@ -297,8 +298,8 @@ impl Board {
     {
         let mut first = Keyed::new(alloc);
         for name in names {
-            if let Some(entry) = self.inside.first.get(name) {
-                first.put(name.copy(alloc)?, entry.copy(alloc)?)?;
+            if let Some(entry) = self.entry(name) {
+                put_copy(alloc, &mut first, name, entry)?;
             }
         }
         Ok(Board {
@@ -320,11 +321,18 @@ impl Board {
         Ok(made)
     }
 
+    // What is known of the context with this name. Whoever looks into the map itself pays for its nested types.
+    fn entry(&self, name: &Name) -> Option<&Entry>
+        ensures { option_map view_of_entry (option_copied result) ≡ get (parts_of self.now).0 name.now }
+    {
+        self.inside.first.get(name)
+    }
+
     // Whether something is told of the process's post of the call, or that is dropped.
     fn is_posted(&self, name: &Name, call: u32, process: Proc) -> bool
         ensures { result ≡ is_posted ((look self.now).contexts name.now) call process }
     {
-        match self.inside.first.get(name) {
+        match self.entry(name) {
             None => false,
             Some(entry) => {
                 let posts = &entry.second.second;
@@ -332,6 +340,18 @@ impl Board {
             }
         }
     }
+}
+
+// Puts a copy of the entry under a copy of the name.
+fn put_copy(
+    alloc: Global,
+    entries: &mut Keyed<Name, Entry>,
+    name: &Name,
+    entry: &Entry,
+) -> Result<(), OutOfMemory>
+    ensures { OnOk result (view_of_entries entries.new ≡ insert (view_of_entries entries.old) name.now (view_of_entry entry.now)) }
+{
+    entries.put(name.copy(alloc)?, entry.copy(alloc)?)
 }
 
 // The post that the process made as this call, where it is known.

@@ -1,9 +1,10 @@
 // Facts about contexts, joined to their entries in place.
 ghost use Rattle.std.specs.Prelude.{◌≡◌, ◌<◌, ◌⊎◌, ◌==◌, ◌&&◌, ℕ, true, false, not, cond, nat_le, IfOk, OnOk, OnErr, is_some, max};
 ghost use Rattle.std.specs.Option.{option_copied, option_map};
-ghost use Rattle.std.specs.FinMap.{get};
+ghost use Rattle.std.specs.FinMap.{get, insert};
 ghost use Rattle.join_core.specs.Flat.{flat_join, known, unknown};
 ghost use Rattle.join_core.specs.FlatSeen.{flat_view};
+ghost use Rattle.join_nest.specs.Keyed.{replaced};
 ghost use Rattle.mpx_post.specs.Equality.{same_given};
 ghost use Rattle.mpx_name.specs.Name.{Name as NameView};
 ghost use Rattle.mpx_board.specs.Boards.{join_contexts, nothing};
@@ -51,18 +52,50 @@ pub fn tell(
         → are_tidy_entries (view_of_entries entries.new) ≡ true) }
     ensures err { OnErr result (view_of_entries entries.new ≡ view_of_entries entries.old) }
 {
-    match entries.replace(name, new_entry(alloc)) {
+    match swap(entries, name, new_entry(alloc)) {
         None => {
-            let mut entry = new_entry(alloc);
-            tell_entry(alloc, &mut entry, fact)?;
-            entries.put(name.copy(alloc)?, entry)
+            let entry = new_told(alloc, fact)?;
+            put_named(alloc, entries, name, entry)
         }
         Some(mut entry) => {
             let done = tell_entry(alloc, &mut entry, fact);
-            entries.replace(name, entry);
+            swap(entries, name, entry);
             done
         }
     }
+}
+
+// A new entry, of which this is told.
+fn new_told(alloc: Global, fact: Fact) -> Result<Entry, OutOfMemory>
+    requires { IsFit fact }
+    ensures ok { IfOk result (λ made. context_of (view_of_entry made) ≡ join_contexts nothing (context_told fact)) }
+    ensures tidy { IfOk result (λ made. is_tidy_entry (view_of_entry made) ≡ true) }
+{
+    let mut entry = new_entry(alloc);
+    tell_entry(alloc, &mut entry, fact)?;
+    Ok(entry)
+}
+
+// Puts the entry under a copy of the name.
+fn put_named(
+    alloc: Global,
+    entries: &mut Keyed<Name, Entry>,
+    name: &Name,
+    entry: Entry,
+) -> Result<(), OutOfMemory>
+    ensures ok { OnOk result (view_of_entries entries.new ≡ insert (view_of_entries entries.old) name.now (view_of_entry entry)) }
+    ensures err { OnErr result (view_of_entries entries.new ≡ view_of_entries entries.old) }
+{
+    entries.put(name.copy(alloc)?, entry)
+}
+
+// Puts the entry under the name, in place of the one that is there, and gives that; where there is none, nothing
+// changes. Whoever does so in the map itself pays for its nested types.
+fn swap(entries: &mut Keyed<Name, Entry>, name: &Name, entry: Entry) -> Option<Entry>
+    ensures old { option_map view_of_entry result ≡ get (view_of_entries entries.old) name.now }
+    ensures new { view_of_entries entries.new ≡ replaced (view_of_entries entries.old) name.now (view_of_entry entry) }
+{
+    entries.replace(name, entry)
 }
 
 // Joins it to an entry.
@@ -178,8 +211,8 @@ pub fn drop_posts(entries: &mut Keyed<Name, Entry>, name: &Name, front: u32)
         → are_tidy_entries (view_of_entries entries.new) ≡ true }
 {
     let blank = new_entry(entries.allocator());
-    if let Some(mut entry) = entries.replace(name, blank) {
+    if let Some(mut entry) = swap(entries, name, blank) {
         entry.second.second.drop_below(front);
-        entries.replace(name, entry);
+        swap(entries, name, entry);
     }
 }

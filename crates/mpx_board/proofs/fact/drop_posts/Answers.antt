@@ -17,7 +17,7 @@ returns-in-Some-clause-ok c =
     let e = c.in-Some.entry in
     let posts = e.second.second in
     let entry : EntryView = (flat_view (λ v. v) e.first, (keyed_view nat_cmp (λ n. n.0) e.second.first.entries.items, trunc_view (λ m. keyed_view nat_cmp (flat_view (λ v. v)) m.entries.items) posts.dropped posts.calls.items posts.sorted posts.above)) in
-    let set = set_by_swap name_total _ _ _ c.args.name.now _ _ _ c.in-Some.ensures.old c.in-Some.ensures.new c.replace-in-Some.ensures.new in
+    let set = set_by_swap name_total _ _ _ c.args.name.now _ _ _ c.in-Some.ensures.old c.in-Some.ensures.new c.swap-in-Some.ensures.new in
     told_by_name _ _ c.args.name.now _ told set
     (ap (λ t. context_of (entry.0, (entry.1.0, t))) c.drop_below.ensures
     ∙ posts_dropped entry c.args.front
@@ -28,5 +28,5 @@ returns-in-Some-clause-tidy c =
     let e = c.in-Some.entry in
     let posts = e.second.second in
     let entry : EntryView = (flat_view (λ v. v) e.first, (keyed_view nat_cmp (λ n. n.0) e.second.first.entries.items, trunc_view (λ m. keyed_view nat_cmp (flat_view (λ v. v)) m.entries.items) posts.dropped posts.calls.items posts.sorted posts.above)) in
-    swapped_entry_tidy _ _ _ c.args.name.now _ _ _ c.in-Some.ensures.old c.in-Some.ensures.new c.replace-in-Some.ensures.new
+    swapped_entry_tidy _ _ _ c.args.name.now _ _ _ c.in-Some.ensures.old c.in-Some.ensures.new c.swap-in-Some.ensures.new
     (λ tidy. ap (λ t. is_tidy_entry (entry.0, (entry.1.0, t))) c.drop_below.ensures ∙ dropped_tidy entry c.args.front tidy)

@@ -16,7 +16,7 @@ use Rattle.mpx_board.specs.Looks.{look, parts_of}
 use Rattle.mpx_board.specs.Tidy.{is_tidy, is_tidy_entry, is_tidy_acks, are_tidy_entries, are_tidy_acks}
 use Rattle.mpx_board.proofs.Entries.{entries_get, get_entries, all_empty}
 use Rattle.mpx_board.proofs.board.Board.cut.Goals as goal
-use Rattle.mpx_board.proofs.board.Board.cut.Goals.{in-Some+in_ok-copy+in_ok-copy-2+in_ok-put, in_default}
+use Rattle.mpx_board.proofs.board.Board.cut.Goals.{in-Some+in_ok-put_copy, in_default}
 
 -- the entries of these names
 abbrev IsCut : List Name → OfNames EntryView → OfNames EntryView → Type 0
@@ -42,8 +42,8 @@ more_names all names i k o h is found made after had put q =
       kept false = refl
 
 -- a copy of the entry that was found
-put_found : (m made : OfNames EntryView) (k k' : Name) (v v' : EntryView) → made ≡ insert m k' v' → k' ≡ k → v' ≡ v → (q : Name) → get made q ≡ cond (same_name q k) (Some v) (get m q)
-put_found m made k k' v v' put key value q = ap (λ n. get n q) put ∙ get-insert name_total m k' v' q ∙ λ i. cond (same_name q (key i)) (Some (value i)) (get m q)
+put_found : (m made : OfNames EntryView) (k : Name) (v : EntryView) → made ≡ insert m k v → (q : Name) → get made q ≡ cond (same_name q k) (Some v) (get m q)
+put_found m made k v put q = ap (λ n. get n q) put ∙ get-insert name_total m k v q
 
 skipped : (t : Bool) (o : Option EntryView) → (t ≡ true → o ≡ None) → o ≡ cond t None o
 skipped true o h = h refl
@@ -82,10 +82,10 @@ loop-name-init c = λ q. ap (λ m. get m q) c.new-first.ensures ∙ get-empty na
 
 pub loop-name-preserved : goal.loop-name-preserved
 loop-name-preserved c =
-    elim c.match-get.branch [
-      | in-Some+in_ok-copy+in_ok-copy-2+in_ok-put w ↦
+    elim c.match-entry.branch [
+      | in-Some+in_ok-put_copy w ↦
           rw w.first-is (more_names _ c.args.names.now c.loop-name.name-index c.name-item.result _ c.loop-name-test.true c.name-item.is w.in-Some.ensures _ _ c.loop-name.invariant
-          (put_found _ _ c.name-item.result _ _ _ w.in_ok-put.ensures.ok w.in_ok-copy.ensures w.in_ok-copy-2.ensures))
+          (put_found _ _ c.name-item.result _ w.in_ok-put_copy.ensures))
       | in_default w ↦
           rw w.first-is (more_names _ c.args.names.now c.loop-name.name-index c.name-item.result None c.loop-name-test.true c.name-item.is w.in_default.ensures _ _ c.loop-name.invariant
           (none_made _ _ c.name-item.result _ w.in_default.ensures c.loop-name.invariant))

@@ -41,4 +41,4 @@ pub returns-else-call-dropped : goal.returns-else-call-dropped
 unfolding look_of
 returns-else-call-dropped c =
     posted_above _ _ c.dropped.result c.args.call c.args.process c.is_told.result c.in-Some.ensures c.dropped.ensures c.if-call-dropped.false
-    (c.is_told.ensures ∙ ap (λ o. not (is_unknown (post_in c.args.process o))) c.get-else-call-dropped.ensures)
+    (c.is_told.ensures ∙ ap (λ o. not (is_unknown (post_in c.args.process o))) c.get.ensures)
