@@ -12,6 +12,9 @@ ghost use Rattle.mpx_board.specs.Views.{view_of_call, view_of_entries, view_of_e
 
 use crate::errors::{AddPostError, PruneError};
 use crate::fact::{Fact, drop_posts, tell};
+use crate::joins::{
+    delta_of_acks, delta_of_entries, joined_acks, joined_entries, leq_acks, leq_entries,
+};
 use crate::nested::{Call, Entry, Parts, is_tidy_board, known, number_of};
 use join_core::{Exact, Flat, Join, OutOfMemory, Pair};
 use join_nest::Keyed;
@@ -59,16 +62,21 @@ impl Join for Board {
     ghost use Rattle.mpx_board.specs.Parts.{parts_laws};
 
     fn leq(&self, other: &Board) -> bool {
-        self.inside.leq(&other.inside)
+        leq_entries(&self.inside.first, &other.inside.first)
+            && leq_acks(&self.inside.second, &other.inside.second)
     }
 
     fn joined(&self, alloc: Global, other: &Board) -> Result<Board, OutOfMemory> {
-        let inside = self.inside.joined(alloc, &other.inside)?;
+        let first = joined_entries(alloc, &self.inside.first, &other.inside.first)?;
+        let second = joined_acks(alloc, &self.inside.second, &other.inside.second)?;
+        let inside = Pair { first, second };
         Ok(Board { inside })
     }
 
     fn delta(&self, alloc: Global, known: &Board) -> Result<Board, OutOfMemory> {
-        let inside = self.inside.delta(alloc, &known.inside)?;
+        let first = delta_of_entries(alloc, &self.inside.first, &known.inside.first)?;
+        let second = delta_of_acks(alloc, &self.inside.second, &known.inside.second)?;
+        let inside = Pair { first, second };
         Ok(Board { inside })
     }
 
@@ -190,7 +198,7 @@ impl Board {
         ensures ok { OnOk result (look self.new ≡ join (look self.old) (look part.now)) }
         ensures err { OnErr result (look self.new ≡ look self.old) }
     {
-        let second = self.inside.second.joined(alloc, &part.inside.second)?;
+        let second = joined_acks(alloc, &self.inside.second, &part.inside.second)?;
         self.inside.first.take(alloc, &part.inside.first)?;
         self.inside.second = second;
         Ok(())

@@ -9,6 +9,7 @@
 mod board;
 mod errors;
 mod fact;
+mod joins;
 mod laws;
 mod nested;
 

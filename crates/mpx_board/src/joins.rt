@@ -1,0 +1,66 @@
+// Joins of the two maps of a board, one at a time: the proof of a call at a type as nested as that of both takes longer.
+ghost use Rattle.std.specs.Prelude.{◌≡◌, IfOk};
+ghost use Rattle.join_nest.specs.Keyed.{keyed_joining};
+ghost use Rattle.mpx_board.specs.Parts.{acks_joining, entry_joining};
+ghost use Rattle.mpx_board.specs.Views.{view_of_acks, view_of_entries};
+ghost use Rattle.std.specs.Ordering.{nat_cmp};
+ghost use Rattle.join_nest.specs.Seen.{keyed_view};
+
+use crate::nested::{Acks, Entry};
+use join_core::{Join, OutOfMemory};
+use join_nest::Keyed;
+use mpx_group::Proc;
+use mpx_name::Name;
+use std::alloc::Global;
+
+pub fn leq_entries(left: &Keyed<Name, Entry>, right: &Keyed<Name, Entry>) -> bool
+    ensures { result ≡ (keyed_joining entry_joining).leq (view_of_entries left.now) (view_of_entries right.now) }
+{
+    left.leq(right)
+}
+
+pub fn leq_acks(left: &Keyed<Proc, Acks>, right: &Keyed<Proc, Acks>) -> bool
+    ensures { result ≡ (keyed_joining acks_joining).leq (keyed_view nat_cmp view_of_acks left.now.entries.items) (keyed_view nat_cmp view_of_acks right.now.entries.items) }
+{
+    left.leq(right)
+}
+
+pub fn joined_entries(
+    alloc: Global,
+    left: &Keyed<Name, Entry>,
+    right: &Keyed<Name, Entry>,
+) -> Result<Keyed<Name, Entry>, OutOfMemory>
+    ensures { IfOk result (λ made. view_of_entries made ≡ (keyed_joining entry_joining).join (view_of_entries left.now) (view_of_entries right.now)) }
+{
+    left.joined(alloc, right)
+}
+
+pub fn joined_acks(
+    alloc: Global,
+    left: &Keyed<Proc, Acks>,
+    right: &Keyed<Proc, Acks>,
+) -> Result<Keyed<Proc, Acks>, OutOfMemory>
+    ensures { IfOk result (λ made. keyed_view nat_cmp view_of_acks made.entries.items ≡ (keyed_joining acks_joining).join (keyed_view nat_cmp view_of_acks left.now.entries.items) (keyed_view nat_cmp view_of_acks right.now.entries.items)) }
+{
+    left.joined(alloc, right)
+}
+
+pub fn delta_of_entries(
+    alloc: Global,
+    entries: &Keyed<Name, Entry>,
+    known: &Keyed<Name, Entry>,
+) -> Result<Keyed<Name, Entry>, OutOfMemory>
+    ensures { IfOk result (λ made. view_of_entries made ≡ (keyed_joining entry_joining).delta (view_of_entries entries.now) (view_of_entries known.now)) }
+{
+    entries.delta(alloc, known)
+}
+
+pub fn delta_of_acks(
+    alloc: Global,
+    acks: &Keyed<Proc, Acks>,
+    known: &Keyed<Proc, Acks>,
+) -> Result<Keyed<Proc, Acks>, OutOfMemory>
+    ensures { IfOk result (λ made. keyed_view nat_cmp view_of_acks made.entries.items ≡ (keyed_joining acks_joining).delta (keyed_view nat_cmp view_of_acks acks.now.entries.items) (keyed_view nat_cmp view_of_acks known.now.entries.items)) }
+{
+    acks.delta(alloc, known)
+}
