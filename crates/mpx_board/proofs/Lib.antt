@@ -5,3 +5,4 @@ pub mod Looking
 pub mod Telling
 pub mod Facts
 pub mod Order
+pub mod Tests

@@ -13,7 +13,8 @@ ghost use Rattle.mpx_board.specs.Views.{view_of_call, view_of_entries, view_of_e
 use crate::errors::{AddPostError, PruneError};
 use crate::fact::{Fact, drop_posts, tell};
 use crate::joins::{
-    delta_of_acks, delta_of_entries, joined_acks, joined_entries, leq_acks, leq_entries,
+    copied_acks, copied_entries, delta_of_acks, delta_of_entries, joined_acks, joined_entries,
+    leq_acks, leq_entries, same_acks, same_entries,
 };
 use crate::nested::{Call, Entry, Parts, is_tidy_board, known, number_of};
 use join_core::{Exact, Flat, Join, OutOfMemory, Pair};
@@ -47,11 +48,14 @@ impl Exact for Board {
     ghost joining = { parts_joining };
 
     fn same(&self, other: &Board) -> bool {
-        self.inside.same(&other.inside)
+        same_entries(&self.inside.first, &other.inside.first)
+            && same_acks(&self.inside.second, &other.inside.second)
     }
 
     fn copy(&self, alloc: Global) -> Result<Board, OutOfMemory> {
-        let inside = self.inside.copy(alloc)?;
+        let first = copied_entries(alloc, &self.inside.first)?;
+        let second = copied_acks(alloc, &self.inside.second)?;
+        let inside = Pair { first, second };
         Ok(Board { inside })
     }
 

@@ -1,17 +1,47 @@
-// Joins of the two maps of a board, one at a time: the proof of a call at a type as nested as that of both takes longer.
+// The two maps of a board, compared, copied and joined one at a time: the proof of a call at a type as nested as that of both takes longer.
 ghost use Rattle.std.specs.Prelude.{◌≡◌, IfOk};
-ghost use Rattle.join_nest.specs.Keyed.{keyed_joining};
-ghost use Rattle.mpx_board.specs.Parts.{acks_joining, entry_joining};
+ghost use Rattle.join_nest.specs.Keyed.{keyed_equal, keyed_joining};
+ghost use Rattle.mpx_board.specs.Parts.{acks_joining, entry_joining, same_acks, same_entry};
 ghost use Rattle.mpx_board.specs.Views.{view_of_acks, view_of_entries};
 ghost use Rattle.std.specs.Ordering.{nat_cmp};
 ghost use Rattle.join_nest.specs.Seen.{keyed_view};
 
 use crate::nested::{Acks, Entry};
-use join_core::{Join, OutOfMemory};
+use join_core::{Exact, Join, OutOfMemory};
 use join_nest::Keyed;
 use mpx_group::Proc;
 use mpx_name::Name;
 use std::alloc::Global;
+
+pub fn same_entries(left: &Keyed<Name, Entry>, right: &Keyed<Name, Entry>) -> bool
+    ensures { result ≡ keyed_equal same_entry (view_of_entries left.now) (view_of_entries right.now) }
+{
+    left.same(right)
+}
+
+pub fn same_acks(left: &Keyed<Proc, Acks>, right: &Keyed<Proc, Acks>) -> bool
+    ensures { result ≡ keyed_equal same_acks (keyed_view nat_cmp view_of_acks left.now.entries.items) (keyed_view nat_cmp view_of_acks right.now.entries.items) }
+{
+    left.same(right)
+}
+
+pub fn copied_entries(
+    alloc: Global,
+    entries: &Keyed<Name, Entry>,
+) -> Result<Keyed<Name, Entry>, OutOfMemory>
+    ensures { IfOk result (λ made. view_of_entries made ≡ view_of_entries entries.now) }
+{
+    entries.copy(alloc)
+}
+
+pub fn copied_acks(
+    alloc: Global,
+    acks: &Keyed<Proc, Acks>,
+) -> Result<Keyed<Proc, Acks>, OutOfMemory>
+    ensures { IfOk result (λ made. keyed_view nat_cmp view_of_acks made.entries.items ≡ keyed_view nat_cmp view_of_acks acks.now.entries.items) }
+{
+    acks.copy(alloc)
+}
 
 pub fn leq_entries(left: &Keyed<Name, Entry>, right: &Keyed<Name, Entry>) -> bool
     ensures { result ≡ (keyed_joining entry_joining).leq (view_of_entries left.now) (view_of_entries right.now) }

@@ -1,15 +1,10 @@
 -- The code tests each entry of a context, and then what each process says that it has.
-use Rattle.std.proofs.Common.{◌≡◌, Bool, true, false, ◌&&◌, sym, ap, ◌∙◌, rules, tests}
+use Rattle.std.proofs.Common.{rules, tests}
 use Rattle.std.proofs.lemmas.Iterator.{YieldsList-from_slice}
 use Rattle.mpx_board.specs.Tidy.{is_tidy_entry, is_tidy_acks}
 use Rattle.mpx_board.proofs.Shown.{all_shown}
+use Rattle.mpx_board.proofs.Tests.{second_left, first_fails}
 use Rattle.mpx_board.proofs.nested.is_tidy_board.Goals as goal
-
-second_left : (first second r s : Bool) → r ≡ true → r ≡ first → s ≡ second → s ≡ (first && second)
-second_left first second r s t e f = f ∙ ap (λ b. b && second) (sym t ∙ e)
-
-first_fails : (first second r : Bool) → r ≡ false → r ≡ first → r ≡ (first && second)
-first_fails first second r t e = t ∙ ap (λ b. b && second) (sym t ∙ e)
 
 pub returns-then-all : goal.returns-then-all
 returns-then-all c = second_left _ _ _ _ c.if-all.true
