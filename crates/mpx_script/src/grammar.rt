@@ -89,42 +89,42 @@ fn named<T: Copy>(table: &[(&[u8], T)], word: &[u8]) -> Option<T>
     None
 }
 
+// The words of the kinds of calls.
+const KINDS: &[(&[u8], Kind)] = &[
+    (b"barrier", Kind::Barrier),
+    (b"bcast", Kind::Bcast),
+    (b"gather", Kind::Gather),
+    (b"gatherv", Kind::Gatherv),
+    (b"scatter", Kind::Scatter),
+    (b"scatterv", Kind::Scatterv),
+    (b"allgather", Kind::Allgather),
+    (b"allgatherv", Kind::Allgatherv),
+    (b"alltoall", Kind::Alltoall),
+    (b"alltoallv", Kind::Alltoallv),
+    (b"reduce", Kind::Reduce),
+    (b"allreduce", Kind::Allreduce),
+    (b"reduce_scatter_block", Kind::ReduceScatterBlock),
+    (b"reduce_scatter", Kind::ReduceScatter),
+    (b"scan", Kind::Scan),
+    (b"exscan", Kind::Exscan),
+    (b"dup", Kind::Dup),
+    (b"split", Kind::Split),
+    (b"create", Kind::Create),
+    (b"create_group", Kind::CreateGroup),
+    (b"dist_graph", Kind::DistGraph),
+    (b"dist_graph_adjacent", Kind::DistGraphAdjacent),
+    (b"neighbor_allgather", Kind::NeighborAllgather),
+    (b"neighbor_allgatherv", Kind::NeighborAllgatherv),
+    (b"neighbor_alltoall", Kind::NeighborAlltoall),
+    (b"neighbor_alltoallv", Kind::NeighborAlltoallv),
+];
+
 /// The kind of call of a statement's word.
 #[tactic(auto, unfolding(crate::specs::Grammar::kind_named))]
 pub fn kind_named(word: &[u8]) -> Option<Kind>
     ensures { result ≡ kind_named word.now }
 {
-    named(
-        &[
-            (b"barrier".as_slice(), Kind::Barrier),
-            (b"bcast".as_slice(), Kind::Bcast),
-            (b"gather".as_slice(), Kind::Gather),
-            (b"gatherv".as_slice(), Kind::Gatherv),
-            (b"scatter".as_slice(), Kind::Scatter),
-            (b"scatterv".as_slice(), Kind::Scatterv),
-            (b"allgather".as_slice(), Kind::Allgather),
-            (b"allgatherv".as_slice(), Kind::Allgatherv),
-            (b"alltoall".as_slice(), Kind::Alltoall),
-            (b"alltoallv".as_slice(), Kind::Alltoallv),
-            (b"reduce".as_slice(), Kind::Reduce),
-            (b"allreduce".as_slice(), Kind::Allreduce),
-            (b"reduce_scatter_block".as_slice(), Kind::ReduceScatterBlock),
-            (b"reduce_scatter".as_slice(), Kind::ReduceScatter),
-            (b"scan".as_slice(), Kind::Scan),
-            (b"exscan".as_slice(), Kind::Exscan),
-            (b"dup".as_slice(), Kind::Dup),
-            (b"split".as_slice(), Kind::Split),
-            (b"create".as_slice(), Kind::Create),
-            (b"create_group".as_slice(), Kind::CreateGroup),
-            (b"dist_graph".as_slice(), Kind::DistGraph),
-            (b"dist_graph_adjacent".as_slice(), Kind::DistGraphAdjacent),
-            (b"neighbor_allgather".as_slice(), Kind::NeighborAllgather),
-            (b"neighbor_allgatherv".as_slice(), Kind::NeighborAllgatherv),
-            (b"neighbor_alltoall".as_slice(), Kind::NeighborAlltoall),
-            (b"neighbor_alltoallv".as_slice(), Kind::NeighborAlltoallv),
-        ],
-        word,
-    )
+    named(KINDS, word)
 }
 
 // The kind of a nonblocking call: `i` stands before its blocking call's word.
@@ -173,28 +173,25 @@ pub enum Form {
     Ask(Asked),
 }
 
+// The words of the statements that don't post.
+const LOCAL_FORMS: &[(&[u8], Form)] = &[
+    (b"wait", Form::Wait(Waited::One)),
+    (b"waitall", Form::Wait(Waited::All)),
+    (b"sources", Form::Ask(Asked::Neighbours(Side::Sources))),
+    (
+        b"destinations",
+        Form::Ask(Asked::Neighbours(Side::Destinations)),
+    ),
+    (b"compare", Form::Ask(Asked::Compare)),
+    (b"translate", Form::Ask(Asked::Translate)),
+];
+
 // The form of a statement that doesn't post.
 #[tactic(auto, unfolding(crate::specs::Grammar::local_named))]
 fn local_named(word: &[u8]) -> Option<Form>
     ensures { result ≡ local_named word.now }
 {
-    named(
-        &[
-            (b"wait".as_slice(), Form::Wait(Waited::One)),
-            (b"waitall".as_slice(), Form::Wait(Waited::All)),
-            (
-                b"sources".as_slice(),
-                Form::Ask(Asked::Neighbours(Side::Sources)),
-            ),
-            (
-                b"destinations".as_slice(),
-                Form::Ask(Asked::Neighbours(Side::Destinations)),
-            ),
-            (b"compare".as_slice(), Form::Ask(Asked::Compare)),
-            (b"translate".as_slice(), Form::Ask(Asked::Translate)),
-        ],
-        word,
-    )
+    named(LOCAL_FORMS, word)
 }
 
 /// What a statement's word stands for.
@@ -253,49 +250,49 @@ impl Asked {
     }
 }
 
+// The words of the operations.
+const OPERATIONS: &[(&[u8], Op)] = &[
+    (b"max", Op::Max),
+    (b"min", Op::Min),
+    (b"sum", Op::Sum),
+    (b"prod", Op::Prod),
+    (b"land", Op::Land),
+    (b"lor", Op::Lor),
+    (b"lxor", Op::Lxor),
+    (b"band", Op::Band),
+    (b"bor", Op::Bor),
+    (b"bxor", Op::Bxor),
+    (b"maxloc", Op::Maxloc),
+    (b"minloc", Op::Minloc),
+];
+
 /// The operation of a word.
 #[tactic(auto, unfolding(crate::specs::Grammar::operation_named))]
 pub fn operation_named(word: &[u8]) -> Option<Op>
     ensures { result ≡ operation_named word.now }
 {
-    named(
-        &[
-            (b"max".as_slice(), Op::Max),
-            (b"min".as_slice(), Op::Min),
-            (b"sum".as_slice(), Op::Sum),
-            (b"prod".as_slice(), Op::Prod),
-            (b"land".as_slice(), Op::Land),
-            (b"lor".as_slice(), Op::Lor),
-            (b"lxor".as_slice(), Op::Lxor),
-            (b"band".as_slice(), Op::Band),
-            (b"bor".as_slice(), Op::Bor),
-            (b"bxor".as_slice(), Op::Bxor),
-            (b"maxloc".as_slice(), Op::Maxloc),
-            (b"minloc".as_slice(), Op::Minloc),
-        ],
-        word,
-    )
+    named(OPERATIONS, word)
 }
+
+// The words of the types.
+const TYPES: &[(&[u8], Ty)] = &[
+    (b"i8", Ty::I8),
+    (b"i16", Ty::I16),
+    (b"i32", Ty::I32),
+    (b"i64", Ty::I64),
+    (b"u8", Ty::U8),
+    (b"u16", Ty::U16),
+    (b"u32", Ty::U32),
+    (b"u64", Ty::U64),
+    (b"2int", Ty::TwoInt),
+];
 
 /// The type of a word.
 #[tactic(auto, unfolding(crate::specs::Grammar::type_named))]
 pub fn type_named(word: &[u8]) -> Option<Ty>
     ensures { result ≡ type_named word.now }
 {
-    named(
-        &[
-            (b"i8".as_slice(), Ty::I8),
-            (b"i16".as_slice(), Ty::I16),
-            (b"i32".as_slice(), Ty::I32),
-            (b"i64".as_slice(), Ty::I64),
-            (b"u8".as_slice(), Ty::U8),
-            (b"u16".as_slice(), Ty::U16),
-            (b"u32".as_slice(), Ty::U32),
-            (b"u64".as_slice(), Ty::U64),
-            (b"2int".as_slice(), Ty::TwoInt),
-        ],
-        word,
-    )
+    named(TYPES, word)
 }
 
 /// The numbers of a list: numbers with commas between them, or `-` for none.
