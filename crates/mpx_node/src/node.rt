@@ -2,7 +2,9 @@ ghost use Rattle.std.specs.Prelude.{◌≡◌, ◌↔◌, ◌<◌, ◌≤◌, fa
 ghost use Rattle.std.specs.Option.{option_copied};
 ghost use Rattle.mpx_post.specs.Drafts.{Checks, at, checked, most_calls, refusal_of};
 ghost use Rattle.mpx_name.specs.Name.{Name as NameView};
-ghost use Rattle.mpx_board.specs.Boards.{join_all, only, floor_on, Dropped};
+ghost use Rattle.join_core.specs.Flat.{known};
+ghost use Rattle.mpx_post.specs.Births.{of_members, upto};
+ghost use Rattle.mpx_board.specs.Boards.{join, join_all, only, floor_on, Born, Dropped};
 ghost use Rattle.mpx_board.specs.Changes.{pruned};
 ghost use Rattle.mpx_board.specs.Looks.{look, parts_of};
 ghost use Rattle.mpx_format.specs.Encoding.{length_told};
@@ -14,7 +16,7 @@ use crate::finished::Finished;
 use crate::opened::Opened;
 use crate::opening::{open, store_and_open};
 use crate::part::{PartError, whole_part};
-use crate::results::{children_on, finished, harvest_part, has_result};
+use crate::results::{children_on, finished, harvested_board, has_result};
 use join_core::{Exact, Join, OutOfMemory};
 use mpx_board::{Board, PruneError};
 use mpx_group::Proc;
@@ -59,11 +61,14 @@ impl Node {
         requires me { me < processes }
         ensures { IfOk result (λ node. node_of node ≡ start_node me ranks) }
     {
-        let world = Name::world(alloc);
-        let mut board = Board::new(alloc);
-        board.add_birth(alloc, &world, Birth::world(alloc, ranks)?)?;
-        let opened = opened_at_start(alloc, me, ranks)?;
-        Ok(Node { me, board, opened })
+        let board = board_at_start(alloc, ranks)?;
+        match opened_at_start(alloc, me, ranks) {
+            Ok(opened) => Ok(Node { me, board, opened }),
+            Err(e) => {
+                drop(board);
+                Err(e)
+            }
+        }
     }
 
     /// Posts the draft as the next call on a context and gives its number. A context that isn't opened here, or whose birth
@@ -73,9 +78,11 @@ impl Node {
         ensures { Posts name.now (checked_on (node_of self.old) name.now draft) result (node_of self.old) (node_of self.new) }
     {
         let Some(opened) = self.opened.get_mut(name) else {
+            drop(draft);
             return Err(PostError::NotMember);
         };
         let Some(birth) = self.board.birth(name) else {
+            drop(draft);
             return Err(PostError::NotMember);
         };
         let call = opened.posted;
@@ -250,15 +257,51 @@ impl Node {
             ≡ add_result name.now finished (children_on (node_of self.old).board name.now call) (node_of self.old)) }
         ensures err { OnErr result (node_of self.new ≡ node_of self.old) }
     {
-        let made = children_on(alloc, &self.board, name, call)?;
+        let made = match children_on(alloc, &self.board, name, call) {
+            Ok(made) => made,
+            Err(e) => {
+                drop(finished);
+                return Err(e);
+            }
+        };
         if made.as_slice().is_empty() {
             return self.add_plain_result(alloc, name, call, finished);
         }
-        let part = harvest_part(alloc, name, self.me, call + 1, &made)?;
-        let board = self.board.joined(alloc, &part)?;
-        store_and_open(&mut self.opened, alloc, self.me, name, finished, &made)?;
-        self.board = board;
-        Ok(())
+        self.add_made_result(alloc, name, call, finished, made.as_slice())
+    }
+
+    // The same of a call that makes these communicators.
+    fn add_made_result(
+        &mut self,
+        alloc: Global,
+        name: &Name,
+        call: u32,
+        finished: Finished,
+        made: &[(Name, Birth)],
+    ) -> Result<(), OutOfMemory>
+        requires unfinished { HasUnfinished (node_of self.old).opened name.now }
+        requires front { call ≡ front_on (node_of self.old) name.now }
+        requires call { call < most_calls }
+        ensures ok { OnOk result (node_of self.new ≡ add_result name.now finished made.now (node_of self.old)) }
+        ensures err { OnErr result (node_of self.new ≡ node_of self.old) }
+    {
+        let board = match harvested_board(alloc, &self.board, name, self.me, call + 1, made) {
+            Ok(board) => board,
+            Err(e) => {
+                drop(finished);
+                return Err(e);
+            }
+        };
+        match store_and_open(&mut self.opened, alloc, self.me, name, finished, made) {
+            Ok(()) => {
+                self.board = board;
+                Ok(())
+            }
+            Err(e) => {
+                drop(board);
+                Err(e)
+            }
+        }
     }
 
     // The same of a call that makes nothing: the front is raised in place.
@@ -298,13 +341,51 @@ impl Node {
         let Ok(name) = parent.gathering(alloc, gathering.tag(), gathering.members()) else {
             return Err(OutOfMemory);
         };
-        let mut part = Board::new(alloc);
-        part.add_birth(alloc, &name, gathering.birth(alloc)?)?;
-        let board = self.board.joined(alloc, &part)?;
-        open(&mut self.opened, alloc, &name)?;
-        self.board = board;
-        Ok(name)
+        let board = match gathered_board(alloc, &self.board, &name, gathering) {
+            Ok(board) => board,
+            Err(e) => {
+                drop(name);
+                return Err(e);
+            }
+        };
+        match open(&mut self.opened, alloc, &name) {
+            Ok(_) => {
+                self.board = board;
+                Ok(name)
+            }
+            Err(e) => {
+                drop(board);
+                drop(name);
+                Err(e)
+            }
+        }
     }
+}
+
+// A board that has just the birth of the world.
+fn board_at_start(alloc: Global, ranks: u8) -> Result<Board, OutOfMemory>
+    requires some { 0 < ranks }
+    requires few { ranks ≤ 64 }
+    ensures { IfOk result (λ board. look board ≡ only (Born [] (known (of_members (upto ranks))))) }
+{
+    let world = Name::world(alloc);
+    let mut board = Board::new(alloc);
+    board.add_birth(alloc, &world, Birth::world(alloc, ranks)?)?;
+    Ok(board)
+}
+
+// The board with the birth of a gathering of this name.
+fn gathered_board(
+    alloc: Global,
+    board: &Board,
+    name: &Name,
+    gathering: &Gathering,
+) -> Result<Board, OutOfMemory>
+    ensures { IfOk result (λ after. look after ≡ join (look board.now) (only (Born name.now (known (of_members gathering.now.members))))) }
+{
+    let mut part = Board::new(alloc);
+    part.add_birth(alloc, name, gathering.birth(alloc)?)?;
+    board.joined(alloc, &part)
 }
 
 // The world, where the process is a rank.

@@ -1,13 +1,13 @@
 // What the board tells of a call: its result, and what it makes.
 ghost use Rattle.std.specs.Prelude.{◌≡◌, ◌<◌, ◌∷◌, IfOk, is_some};
-ghost use Rattle.mpx_board.specs.Boards.{Front, join_all, only, told};
+ghost use Rattle.mpx_board.specs.Boards.{Front, join, join_all, only, told};
 ghost use Rattle.mpx_board.specs.Looks.{look};
 ghost use Rattle.mpx_post.specs.Drafts.{most_calls};
 ghost use Rattle.mpx_post.specs.Rows.{all_of};
 ghost use Rattle.mpx_node.specs.Nodes.{births_of, children_on, outcome_on, result_of};
 
 use crate::finished::Finished;
-use join_core::{Exact, OutOfMemory};
+use join_core::{Exact, Join, OutOfMemory};
 use mpx_board::Board;
 use mpx_group::Proc;
 use mpx_name::Name;
@@ -49,13 +49,18 @@ pub fn finished(
     requires { call < most_calls }
     ensures { IfOk result (λ o. o ≡ result_of (look board.now) name.now me call) }
 {
-    let mine = match board.holds(name, call, me) {
-        Some(post) => post.copy(alloc)?,
-        None => return Ok(None),
+    let Some(post) = board.holds(name, call, me) else {
+        return Ok(None);
     };
-    match outcome_on(alloc, board, name, me, call)? {
-        Some(outcome) => Ok(Some(Finished { mine, outcome })),
-        None => Ok(None),
+    let Some(outcome) = outcome_on(alloc, board, name, me, call)? else {
+        return Ok(None);
+    };
+    match post.copy(alloc) {
+        Ok(mine) => Ok(Some(Finished { mine, outcome })),
+        Err(e) => {
+            drop(outcome);
+            Err(e)
+        }
     }
 }
 
@@ -102,7 +107,7 @@ pub fn children_on(
 }
 
 // What a process tells that has harvested so many calls, and of what the last of these made.
-pub fn harvest_part(
+fn harvest_part(
     alloc: Global,
     name: &Name,
     me: Proc,
@@ -117,4 +122,19 @@ pub fn harvest_part(
         part.add_birth(alloc, child, birth.copy(alloc)?)?;
     }
     Ok(part)
+}
+
+// The board with that.
+pub fn harvested_board(
+    alloc: Global,
+    board: &Board,
+    name: &Name,
+    me: Proc,
+    number: u32,
+    made: &[(Name, Birth)],
+) -> Result<Board, OutOfMemory>
+    ensures { IfOk result (λ after. look after ≡ join (look board.now) (join_all (only (Front name.now me number) ∷ births_of made.now))) }
+{
+    let part = harvest_part(alloc, name, me, number, made)?;
+    board.joined(alloc, &part)
 }

@@ -1,13 +1,4 @@
-use Rattle.std.proofs.Common.{◌≡◌, ◌∙◌, []}
-use Rattle.join_core.specs.Flat.{known}
-use Rattle.mpx_post.specs.Births.{BirthView, of_members, upto}
-use Rattle.mpx_board.specs.Boards.{join, only, Born}
-use Rattle.mpx_board.specs.Looks.{look}
-use Rattle.mpx_node.proofs.Stepping.{first_birth}
 use Rattle.mpx_node.proofs.node.Node.new.Goals as goal
 
-pub returns : goal.returns
-returns c =
-    let birth : BirthView = of_members (upto c.args.ranks) in
-    let board : look c.add_birth.new.self ≡ only (Born [] (known birth)) = c.in_ok-add_birth.ensures.ok ∙ (λ i. join (c.new-board.ensures i) (only (Born (c.world-world.ensures i) (known (c.in_ok-world.ensures i))))) ∙ first_birth [] birth in
-    λ i. record { me = c.args.me; board = board i; opened = λ name. c.in_ok-opened.ensures name i }
+pub returns-in-Ok : goal.returns-in-Ok
+returns-in-Ok c = λ i. record { me = c.args.me; board = c.in_ok-board.ensures i; opened = λ name. c.in-Ok.ensures name i }
