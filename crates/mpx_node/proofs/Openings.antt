@@ -1,6 +1,6 @@
 -- Contexts that are opened, and results that are stored, in the map of opened contexts.
 use Rattle.std.proofs.Common.{◌≡◌, Bool, true, false, cond, Option, Some, None, refl, sym, ap, ◌∙◌}
-use Rattle.std.specs.Prelude.{not, is_some, Result, Ok, Err, OnErr}
+use Rattle.std.specs.Prelude.{not, is_some}
 use Rattle.std.specs.Option.{option_map}
 use Rattle.std.specs.BTreeMap.{BTreeMap, get, get_by, is_at, Updates, UpdatesBy}
 use Rattle.mpx_name.specs.Order.{name_cmp}
@@ -78,8 +78,3 @@ module _ (m mid : BTreeMap Name Opened) (name : Name) (opened : (q : Name) → o
   -- what was open before is as it was
   pub open_before : false ≡ not (is_some (opened_by m name)) → (q : Name) → opened_by mid q ≡ opened_by m q
   open_before old q = opened q ∙ sym (kept_where (same_name q name) (opened_by m q) (λ s. ap is_some (at_name m name q s) ∙ is_there (opened_by m name) old))
-
--- a fact that holds anyway
-pub on_err : {A E : Type 0} (r : Result A E) (P : Type 0) → P → OnErr r P
-on_err (Ok x) P h = tt
-on_err (Err e) P h = h

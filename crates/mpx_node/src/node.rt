@@ -321,10 +321,20 @@ impl Node {
         let Some(opened) = self.opened.get_mut(name) else {
             unreachable!();
         };
-        opened.results.reserve(1)?;
-        self.board.raise_front(alloc, name, self.me, call + 1)?;
-        opened.results.push_reserved(finished);
-        Ok(())
+        if opened.results.reserve(1).is_err() {
+            drop(finished);
+            return Err(OutOfMemory);
+        }
+        match self.board.raise_front(alloc, name, self.me, call + 1) {
+            Ok(()) => {
+                opened.results.push_reserved(finished);
+                Ok(())
+            }
+            Err(e) => {
+                drop(finished);
+                Err(e)
+            }
+        }
     }
 
     // Opens a gathering, and tells of it. An `Err` changes nothing.

@@ -41,10 +41,14 @@ fn store(
     ensures ok { OnOk result ((q : NameView) → opened_by opened.new q ≡ stored_by name.now finished (opened_by opened.old) q) }
     ensures err { OnErr result ((q : NameView) → opened_by opened.new q ≡ opened_by opened.old q) }
 {
-    if let Some(opened) = opened.get_mut(name) {
-        opened.results.reserve(1)?;
-        opened.results.push_reserved(finished);
+    let Some(opened) = opened.get_mut(name) else {
+        unreachable!();
+    };
+    if opened.results.reserve(1).is_err() {
+        drop(finished);
+        return Err(OutOfMemory);
     }
+    opened.results.push_reserved(finished);
     Ok(())
 }
 

@@ -1,4 +1,4 @@
-use Rattle.std.proofs.Common.{◌≡◌, ◌∙◌, ◌+◌, ◌++◌, ◌∷◌, [], cond, sym, ap}
+use Rattle.std.proofs.Common.{◌≡◌, ◌∙◌, ◌+◌, ◌++◌, ◌∷◌, [], cond, sym, ap, rules}
 use Rattle.std.specs.Option.{option_map}
 use Rattle.mpx_name.specs.Name.{same_name}
 use Rattle.mpx_board.specs.Boards.{join, only, Front}
@@ -7,40 +7,39 @@ use Rattle.mpx_node.specs.declared.opened.Opened.{Opened}
 use Rattle.mpx_node.specs.Nodes.{OpenedView, front_on, harvest_part}
 use Rattle.mpx_node.specs.Shown.{node_of}
 use Rattle.mpx_node.proofs.Stepping.{Contexts, seen, stays, does, first_front}
-use Rattle.mpx_node.proofs.Openings.{on_err}
 use Rattle.mpx_node.proofs.node.Node.add_plain_result.Goals as goal
 
-pub returns-in_err-reserve-clause-err : goal.returns-in_err-reserve-clause-err
-returns-in_err-reserve-clause-err c =
+pub returns-then-is_err-clause-err : goal.returns-then-is_err-clause-err
+returns-then-is_err-clause-err c =
     let old = node_of c.args.self.now in
     let o = c.in-Some.opened.now in
-    let w : Opened = record { posted = o.posted; results = c.reserve.new.self; counted = c.in_err-reserve.opened-1-own.given.0 } in
+    let w : Opened = record { posted = o.posted; results = c.reserve.new.self; counted = search rules } in
     let n = c.get_mut.follows.lender w in
     let same : seen n ≡ seen c.args.self.now.opened = stays c.args.self.now.opened n c.args.name.now o w c.in-Some.ensures.value (c.get_mut.follows.holds w) (λ i. record { posted = o.posted; results = c.reserve.ensures.items i }) in
-    on_err c.from_residual.result _ (ap (λ (x : Contexts). record old { opened = x }) same)
+    ap (λ (x : Contexts). record old { opened = x }) same
 
-pub returns-in_err-raise_front-clause-err : goal.returns-in_err-raise_front-clause-err
-returns-in_err-raise_front-clause-err c =
+pub returns-in-Err-clause-err : goal.returns-in-Err-clause-err
+returns-in-Err-clause-err c =
     let old = node_of c.args.self.now in
     let o = c.in-Some.opened.now in
-    let w : Opened = record { posted = o.posted; results = c.reserve.new.self; counted = c.in_err-raise_front.opened-in-Break-branch-2-1-own.given.0 } in
+    let w : Opened = record { posted = o.posted; results = c.reserve.new.self; counted = search rules } in
     let n = c.get_mut.follows.lender w in
     let same : seen n ≡ seen c.args.self.now.opened = stays c.args.self.now.opened n c.args.name.now o w c.in-Some.ensures.value (c.get_mut.follows.holds w) (λ i. record { posted = o.posted; results = c.reserve.ensures.items i }) in
-    on_err c.from_residual-in_err-raise_front.result _ (λ i. record { me = old.me; board = c.in_err-raise_front.ensures.err i; opened = same i })
+    λ i. record { me = old.me; board = c.in-Err.ensures.err i; opened = same i }
 
-pub returns-clause-ok : goal.returns-clause-ok
-returns-clause-ok c =
+pub returns-in-Ok-clause-ok : goal.returns-in-Ok-clause-ok
+returns-in-Ok-clause-ok c =
     let name = c.args.name.now in
     let finished = c.args.finished in
     let old = node_of c.args.self.now in
     let o = c.in-Some.opened.now in
-    let w : Opened = record { posted = o.posted; results = c.push_reserved.new.self; counted = c.opened-2-1.given.0 } in
+    let w : Opened = record { posted = o.posted; results = c.push_reserved.new.self; counted = search rules } in
     let n = c.get_mut.follows.lender w in
     let results : c.push_reserved.new.self.items ≡ o.results.items ++ finished ∷ [] = c.push_reserved.ensures.items ∙ ap (λ rs. rs ++ finished ∷ []) c.reserve.ensures.items in
     let stores : OpenedView → OpenedView = λ v. record v { results = v.results ++ finished ∷ [] } in
     let added : seen n ≡ (λ q. cond (same_name q name) (option_map stores (seen c.args.self.now.opened q)) (seen c.args.self.now.opened q)) = does c.args.self.now.opened n name o w c.in-Some.ensures.value (c.get_mut.follows.holds w) stores (λ i. record { posted = o.posted; results = results i }) in
     let board : look c.raise_front.new.self ≡ join old.board (harvest_part name [] old) =
-    c.in_ok-raise_front.ensures.ok
+    c.in-Ok.ensures.ok
     ∙ ap (λ k. join old.board (only (Front name old.me (k + 1)))) c.requires.front
     ∙ ap (join old.board) (sym (first_front name old.me (front_on old name + 1))) in
     λ i. record { me = old.me; board = board i; opened = added i }
