@@ -71,11 +71,23 @@ impl<'a> Rank<'a> {
         ensures waits { IfOk result (λ rank. (rank_of rank).waits ≡ None) }
         ensures lines { IfOk result (λ rank. (rank_of rank).lines ≡ []) }
     {
-        let bound = words_at_start(alloc, me, ranks)?;
+        let contexts = contexts_at_start(alloc)?;
+        let bound = match words_at_start(alloc, me, ranks) {
+            Ok(bound) => bound,
+            Err(e) => {
+                drop(contexts);
+                return Err(e);
+            }
+        };
         let me = Proc::new(me);
-        let node = Node::new(alloc, me, ranks, processes)?;
-        let mut contexts = Vec::new(alloc);
-        contexts.push(Name::world(alloc))?;
+        let node = match Node::new(alloc, me, ranks, processes) {
+            Ok(node) => node,
+            Err(e) => {
+                drop(bound);
+                drop(contexts);
+                return Err(e);
+            }
+        };
         Ok(Rank {
             me,
             desk: Desk::new(alloc, node),
@@ -175,6 +187,7 @@ impl<'a> Rank<'a> {
             Ok(Tested::Done(finished)) => {
                 let text = line(alloc, &finished.outcome)?;
                 let given = Comm::of(alloc, &finished)?;
+                drop(finished);
                 self.lines.push(text)?;
                 look_at_given(alloc, &mut self.contexts, &given)?;
                 bind(alloc, &mut self.bound, target, given)?;
@@ -395,6 +408,13 @@ fn words_at_start(
         bound.insert(Word::new(alloc, b"world")?, Some(world))?;
     }
     Ok(bound)
+}
+
+// Every process looks at the world.
+fn contexts_at_start(alloc: Global) -> Result<Vec<Name>, OutOfMemory> {
+    let mut contexts = Vec::new(alloc);
+    contexts.push(Name::world(alloc))?;
+    Ok(contexts)
 }
 
 // Stores the next result on each context, where there is one. A rank that awaits the outcome of a blocking call looks for that

@@ -84,9 +84,22 @@ fn parts_of(
     let mut transcripts = Vec::new(alloc);
     let mut nodes = Vec::new(alloc);
     for process in processes {
-        let (node, lines) = process.into_parts();
-        transcripts.push(lines)?;
-        nodes.push(node)?;
+        push_parts(process, &mut transcripts, &mut nodes)?;
     }
     Ok((transcripts, nodes))
+}
+
+// Adds the lines and the node of a process.
+fn push_parts(
+    process: Rank<'_>,
+    transcripts: &mut Vec<Vec<String>>,
+    nodes: &mut Vec<Node>,
+) -> Result<(), OutOfMemory>
+    ensures lines { OnOk result (map (λ lines. map string_bytes lines.items) transcripts.new.items ≡ map (λ lines. map string_bytes lines.items) transcripts.old.items ++ (rank_of process.entry).lines ∷ []) }
+    ensures nodes { OnOk result (map node_of nodes.new.items ≡ map node_of nodes.old.items ++ (rank_of process.entry).node ∷ []) }
+{
+    let (node, lines) = process.into_parts();
+    transcripts.push(lines)?;
+    nodes.push(node)?;
+    Ok(())
 }
