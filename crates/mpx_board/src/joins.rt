@@ -1,4 +1,5 @@
-// The two maps of a board, compared, copied and joined one at a time: the proof of a call at a type as nested as that of both takes longer.
+// The two maps of a board, compared, copied and joined one at a time: the proof of a call at a type as nested as that of
+// both takes longer.
 ghost use Rattle.std.specs.Prelude.{◌≡◌, IfOk};
 ghost use Rattle.join_nest.specs.Keyed.{keyed_equal, keyed_joining};
 ghost use Rattle.mpx_board.specs.Parts.{acks_joining, entry_joining, same_acks, same_entry};
