@@ -54,12 +54,35 @@ pub(crate) fn given(answered: Answered) -> Option<(Name, Birth)>
     match outcome {
         Outcome::NewComm { name, .. } => match born {
             Some(birth) => Some((name, birth)),
-            None => None,
+            None => {
+                drop(name);
+                None
+            }
         },
-        Outcome::Nothing => None,
-        Outcome::Absent => None,
-        Outcome::Items(_) => None,
-        Outcome::Null => None,
-        Outcome::Fault(_) => None,
+        Outcome::Nothing => {
+            drop(outcome);
+            drop(born);
+            None
+        }
+        Outcome::Absent => {
+            drop(outcome);
+            drop(born);
+            None
+        }
+        Outcome::Items(_) => {
+            drop(outcome);
+            drop(born);
+            None
+        }
+        Outcome::Null => {
+            drop(outcome);
+            drop(born);
+            None
+        }
+        Outcome::Fault(_) => {
+            drop(outcome);
+            drop(born);
+            None
+        }
     }
 }

@@ -108,6 +108,13 @@ impl Context {
         Ok(Context { birth, columns })
     }
 
+    /// The same of a context that came to be in the same way.
+    pub(crate) fn of_copy(alloc: Global, birth: &Birth) -> Result<Context, OutOfMemory>
+        ensures { IfOk result (λ context. context ≡ fresh birth.now) }
+    {
+        Context::new(alloc, birth.copy(alloc)?)
+    }
+
     /// Posts the draft as the next call of a process on this context, which has this name, and gives its number. The refusals
     /// are those of [`Draft::check`].
     pub(crate) fn post(
@@ -123,6 +130,7 @@ impl Context {
         // so that the proof knows that no member stands twice
         let _members = self.birth.members();
         let Some(rank) = self.birth.rank_of(me) else {
+            drop(draft);
             return Err(PostError::NotMember);
         };
         let rank = usize::from(rank);
@@ -180,11 +188,17 @@ impl Context {
             return Ok(None);
         };
         let Some(rank) = self.birth.rank_of(me) else {
+            drop(row);
             return Ok(None);
         };
         let outcome = outcome(alloc, &self.birth, &row, name, call, rank)?;
-        let born = born(alloc, &self.birth, &row, name, call, &outcome)?;
-        Ok(Some(Answered { outcome, born }))
+        match born(alloc, &self.birth, &row, name, call, &outcome) {
+            Ok(born) => Ok(Some(Answered { outcome, born })),
+            Err(e) => {
+                drop(outcome);
+                Err(e)
+            }
+        }
     }
 }
 

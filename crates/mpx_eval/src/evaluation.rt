@@ -22,6 +22,7 @@ pub fn eval(alloc: Global, script: &Script) -> Result<Report, OutOfMemory>
     let mut ranks = start(alloc, script)?;
     let mut table = Table::new(alloc);
     rounds(alloc, &mut ranks, &mut table)?;
+    drop(table);
     let waiting = waiting_of(alloc, ranks.as_slice(), script.ranks())?;
     let transcripts = lines_of(alloc, ranks)?;
     Ok(Report {

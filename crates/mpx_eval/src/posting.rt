@@ -58,7 +58,10 @@ fn post_on(
 {
     match name.copy(alloc) {
         Ok(name) => table.post(alloc, me, name, birth, draft),
-        Err(_) => Err(PostError::OutOfMemory),
+        Err(_) => {
+            drop(draft);
+            Err(PostError::OutOfMemory)
+        }
     }
 }
 
@@ -78,7 +81,10 @@ fn post_gathered(
 {
     match gathered(alloc, birth, me, parent, tag, ranks) {
         Ok(gathering) => post_below(alloc, table, me, parent, &gathering, draft),
-        Err(refusal) => Err(refusal),
+        Err(refusal) => {
+            drop(draft);
+            Err(refusal)
+        }
     }
 }
 
@@ -109,10 +115,15 @@ fn post_below(
         → Tries ranks made me (post_on me (made me) draft (gathering_name parent.now gathering.now) (of_members gathering.now.members)) result (table_of table.new) }
 {
     let Ok(name) = parent.gathering(alloc, gathering.tag(), gathering.members()) else {
+        drop(draft);
         return Err(PostError::OutOfMemory);
     };
     match gathering.birth(alloc) {
         Ok(birth) => table.post(alloc, me, name, &birth, draft),
-        Err(_) => Err(PostError::OutOfMemory),
+        Err(_) => {
+            drop(draft);
+            drop(name);
+            Err(PostError::OutOfMemory)
+        }
     }
 }

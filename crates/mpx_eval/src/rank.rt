@@ -130,9 +130,11 @@ impl<'a> Rank<'a> {
             self.waits = Some(wait);
             return Ok(false);
         };
+        let target = wait.target;
+        drop(wait);
         let text = line(alloc, &answered.outcome)?;
         self.lines.push(text)?;
-        bind(alloc, &mut self.bound, wait.target, given(answered))?;
+        bind(alloc, &mut self.bound, target, given(answered))?;
         Ok(true)
     }
 

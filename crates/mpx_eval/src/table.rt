@@ -48,9 +48,16 @@ impl Table {
         match self.open(alloc, &name, birth) {
             Ok(()) => match self.post_on(alloc, me, &name, draft) {
                 Ok(call) => Ok((name, call)),
-                Err(refusal) => Err(refusal),
+                Err(refusal) => {
+                    drop(name);
+                    Err(refusal)
+                }
             },
-            Err(_) => Err(PostError::OutOfMemory),
+            Err(_) => {
+                drop(draft);
+                drop(name);
+                Err(PostError::OutOfMemory)
+            }
         }
     }
 
@@ -87,9 +94,17 @@ impl Table {
         if self.contexts.contains_key(name) {
             return Ok(());
         }
-        let context = Context::new(alloc, birth.copy(alloc)?)?;
-        self.contexts.insert(name.copy(alloc)?, context)?;
-        Ok(())
+        let context = Context::of_copy(alloc, birth)?;
+        match name.copy(alloc) {
+            Ok(name) => {
+                self.contexts.insert(name, context)?;
+                Ok(())
+            }
+            Err(e) => {
+                drop(context);
+                Err(e)
+            }
+        }
     }
 
     // Posts on a context that is there.

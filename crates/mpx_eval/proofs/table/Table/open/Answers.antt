@@ -8,9 +8,9 @@ use Rattle.mpx_eval.proofs.table.Table.open.Goals as goal
 pub returns-then-contains_key : goal.returns-then-contains_key
 returns-then-contains_key c = open_already c.args.self.now.contexts c.args.name.now c.args.birth.now (sym c.if-contains_key.ensures)
 
-pub returns : goal.returns
-returns c =
+pub returns-in_ok-insert-in-Ok : goal.returns-in_ok-insert-in-Ok
+returns-in_ok-insert-in-Ok c =
     open_new c.args.self.now.contexts c.args.name.now c.args.birth.now c.insert.new.self (sym c.if-contains_key.ensures)
-    (subst (λ k. Updates name_cmp c.args.self.now.contexts c.insert.new.self k (Some (fresh c.args.birth.now))) c.in_ok-copy-2.ensures
-    (subst (λ (x : ContextView). Updates name_cmp c.args.self.now.contexts c.insert.new.self c.in_ok-copy-2.field-0 (Some x)) (c.in_ok-context.ensures ∙ ap fresh c.in_ok-copy.ensures)
-    c.in_ok-insert.ensures.updates))
+    (subst (λ k. Updates name_cmp c.args.self.now.contexts c.insert.new.self k (Some (fresh c.args.birth.now))) c.in-Ok.ensures
+    (subst (λ (x : ContextView). Updates name_cmp c.args.self.now.contexts c.insert.new.self c.in-Ok.name (Some x)) c.in_ok-context.ensures
+    c.in_ok-insert-in-Ok.ensures.updates))
