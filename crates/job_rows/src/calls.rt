@@ -42,6 +42,8 @@ fn streamed(alloc: Global, word: &[u8], line: &[u8], script: &[u8]) -> io::Resul
         into_holding(alloc, line, script, first == 1)
     } else if word == b"length".as_slice() {
         length(alloc, line, script)
+    } else if word == b"many".as_slice() {
+        with_many(alloc, line, script, first)
     } else {
         let mut out = Vec::new(alloc);
         let mut reader = script;
@@ -59,10 +61,33 @@ fn called<R: Read, W: Write>(
     out: &mut W,
 ) -> io::Result<Vec<u8>> {
     let words = words_of(alloc, line, from)?;
+    called_by(alloc, &words, reader, out)
+}
+
+// The same, of these words.
+fn called_by<R: Read, W: Write>(
+    alloc: Global,
+    words: &[String],
+    reader: &mut R,
+    out: &mut W,
+) -> io::Result<Vec<u8>> {
     let mut said = Vec::new(alloc);
-    let exit = run_job(alloc, &words, reader, out, &mut said);
+    let exit = run_job(alloc, words, reader, out, &mut said);
     writeln!(said, "= {}", exit.status)?;
     Ok(said)
+}
+
+// `many N WORDS`: behind the words `--seed 1` stands so many times.
+fn with_many(alloc: Global, line: &[u8], script: &[u8], count: usize) -> io::Result<Vec<u8>> {
+    let mut words = words_of(alloc, line, 3)?;
+    for _ in 0..count {
+        words.push(String::from_str(alloc, "--seed")?)?;
+        words.push(String::from_str(alloc, "1")?)?;
+    }
+    let mut out = Vec::new(alloc);
+    let mut reader = script;
+    let said = called_by(alloc, &words, &mut reader, &mut out)?;
+    ended(out, &said)
 }
 
 // One after the other.

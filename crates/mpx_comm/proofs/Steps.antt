@@ -1,6 +1,6 @@
 -- The steps of a node, and what stays over them.
 use Rattle.std.proofs.Common.{◌≡◌, ℕ, zero, suc, ◌+◌, ◌-◌, ◌<◌, ◌≤◌, max, Bool, true, false, cond, List, [], ◌∷◌, ◌++◌, length, Option, Some, None, ◌⊎◌, inl, inr, refl, sym, ap, ◌∙◌, subst, arith, is_some}
-use Rattle.std.specs.Prelude.{Result, Ok, Err, OnOk, OnErr, slice_get, nat_le, nat_lt}
+use Rattle.std.specs.Prelude.{Result, Ok, Err, OnOk, OnErr, IfErr, slice_get, nat_le, nat_lt}
 use Rattle.std.specs.Option.{option_map}
 use Rattle.std.proofs.lemmas.Bool.Decides.{nat_tests}
 use Rattle.std.proofs.lemmas.Option.{same_Some, option_and_then_some, slice_get_cases}
@@ -26,6 +26,11 @@ use Rattle.mpx_node.specs.declared.node.Harvest.TheVariants.{Done, NotYet, NotOp
 use Rattle.mpx_node.specs.Harvests.{Harvests}
 use Rattle.mpx_node.specs.Nodes.{NodeView, OpenedView, posted_by, results_on, results_by, front_on, next_result, next_of, result_of, outcome_on, learn, add_result, children_on, or_new, opens, stores_on, is_new_to, harvest_part, Opens, gathering_fact, gathering_name, open_gathering_node}
 use Rattle.mpx_comm.specs.Later.{result_at, IsHeld, IsOwn, Later, IsPending, WasPending}
+
+-- a fact that holds whatever the refusal is
+pub if_err : {A E : Type 0} (r : Result A E) (P : Type 0) → P → IfErr r (λ e. P)
+if_err (Ok x) P h = tt
+if_err (Err e) P h = h
 
 -- TIME
 

@@ -1,5 +1,5 @@
 -- What stays of a node as time passes without posts of its own.
-use Rattle.std.specs.Prelude.{◌≡◌, ℕ, ◌<◌, ◌≤◌, true, Option, Some, None, slice_get}
+use Rattle.std.specs.Prelude.{◌≡◌, ℕ, ◌<◌, ◌≤◌, ◌⊎◌, IsTrue, is_some, true, Option, Some, None, slice_get}
 use Rattle.join_core.specs.Flat.{known, unknown, flat_leq}
 use Rattle.mpx_name.specs.Name.{Name}
 use Rattle.mpx_post.specs.Posts.{Given}
@@ -33,6 +33,10 @@ pub record Later (old new : NodeView) : Type 0 where
 pub record IsPending (node : NodeView) (name : Name) (call : ℕ) : Type 0 where
   pub none : result_at node name call ≡ None
   pub next : next_result node name ≡ None
+
+-- the call has a result, or the next one on its context can be had: here alone may a look want memory
+abbrev pub IsAtHand : NodeView → Name → (call : ℕ) → Type 0
+IsAtHand node name call = IsTrue (is_some (result_at node name call)) ⊎ IsTrue (is_some (next_result node name))
 
 -- at some moment between the two the call was not done
 pub record WasPending (old new : NodeView) (name : Name) (call : ℕ) : Type 0 where

@@ -20,7 +20,7 @@ use Rattle.mpx_comm.specs.declared.answers.WaitError.{WaitError}
 use Rattle.mpx_comm.specs.declared.answers.WaitError.TheVariants.{StillWaiting, OutOfMemory as NoMemory}
 use Rattle.mpx_comm.specs.declared.answers.CallError.{CallError}
 use Rattle.mpx_comm.specs.declared.answers.CallError.TheVariants as C
-use Rattle.mpx_comm.specs.Later.{result_at, IsOwn, IsPending, WasPending}
+use Rattle.mpx_comm.specs.Later.{result_at, IsAtHand, IsOwn, IsPending, WasPending}
 use Rattle.mpx_comm.specs.Lines.{create_group}
 
 abbrev pub same_request : Request → Request → Bool
@@ -71,11 +71,11 @@ Starts name draft (Err e) old new before after = ((checked_on old name draft ≡
 
 -- TESTS
 
--- a test is done just where the call's result is stored, and then closes it
+-- a test is done just where the call's result is stored, and then closes it; memory can be wanting only for what is at hand
 abbrev pub Tests : Request → Result (Tested Finished Request) (AllocFailed Request) → NodeView → (before after : List Request) → Type 0
 Tests request (Ok (Done finished)) node before after = (result_of node request ≡ Some finished) × (after ≡ close before request)
 Tests request (Ok (NotYet back)) node before after = (back ≡ request) × IsPending node request.name request.call × (after ≡ before)
-Tests request (Err refused) node before after = (refused.value ≡ request) × (after ≡ before)
+Tests request (Err refused) node before after = (refused.value ≡ request) × IsAtHand node request.name request.call × (after ≡ before)
 
 -- a call's status is done just where its result is stored
 abbrev pub HasStatus : (done : Bool) → Request → NodeView → Type 0
@@ -86,6 +86,10 @@ HasStatus false request node = IsPending node request.name request.call
 abbrev pub OneIsPending : NodeView → List Request → Type 0
 OneIsPending node requests = (i : ℕ) × (request : Request) × (slice_get requests i ≡ Some request) × IsPending node request.name request.call
 
+-- one of them is done, or may be
+abbrev pub OneIsAtHand : NodeView → List Request → Type 0
+OneIsAtHand node requests = (i : ℕ) × (request : Request) × (slice_get requests i ≡ Some request) × IsAtHand node request.name request.call
+
 -- these are the stored results of all of them, in their order
 abbrev pub AreResults : NodeView → List Request → List Finished → Type 0
 AreResults node requests all = map (result_of node) requests ≡ map Some all
@@ -94,7 +98,7 @@ AreResults node requests all = map (result_of node) requests ≡ map Some all
 abbrev pub TestsAll : List Request → Result (Tested (Vec Finished Global) (Vec Request Global)) (AllocFailed (Vec Request Global)) → NodeView → (before after : List Request) → Type 0
 TestsAll requests (Ok (Done all)) node before after = AreResults node requests all.items × (after ≡ close_all before requests)
 TestsAll requests (Ok (NotYet back)) node before after = (back.items ≡ requests) × OneIsPending node requests × (after ≡ before)
-TestsAll requests (Err refused) node before after = (refused.value.items ≡ requests) × (after ≡ before)
+TestsAll requests (Err refused) node before after = (refused.value.items ≡ requests) × OneIsAtHand node requests × (after ≡ before)
 
 -- each of the first so many was not done at some moment
 abbrev pub WerePending : (old new : NodeView) → (number : ℕ) → List Request → Type 0
@@ -105,7 +109,7 @@ abbrev pub TestsAny : Result (Option (Request × Finished)) OutOfMemory → (old
 TestsAny (Ok (Some (request, finished))) old new before after =
     (place : ℕ) × (slice_get before place ≡ Some request) × WerePending old new place before × (result_of new request ≡ Some finished) × (after ≡ remove before place)
 TestsAny (Ok None) old new before after = WerePending old new (length before) before × (after ≡ before)
-TestsAny (Err e) old new before after = after ≡ before
+TestsAny (Err e) old new before after = OneIsAtHand new before × (after ≡ before)
 
 -- WAITS
 

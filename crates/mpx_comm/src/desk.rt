@@ -1,11 +1,11 @@
-ghost use Rattle.std.specs.Prelude.{◌≡◌, ◌≤◌, [], ℕ, OnOk, IfOk};
+ghost use Rattle.std.specs.Prelude.{◌≡◌, ◌≤◌, [], ℕ, OnOk, IfOk, IfErr};
 ghost use Rattle.indexmap.specs.IndexSet.{spare};
 ghost use Rattle.mpx_node.specs.Nodes.{Opens, gathers_on, post_at};
 ghost use Rattle.mpx_post.specs.Drafts.{given_by};
 ghost use Rattle.mpx_post.specs.declared.draft.Draft.{Draft as DraftView};
 ghost use Rattle.mpx_comm.specs.Comms.{gathering_in};
 ghost use Rattle.mpx_comm.specs.Harvested.{Harvested};
-ghost use Rattle.mpx_comm.specs.Later.{Later, IsPending};
+ghost use Rattle.mpx_comm.specs.Later.{Later, IsAtHand, IsPending};
 ghost use Rattle.mpx_comm.specs.Turns.{Awaits};
 ghost use Rattle.mpx_comm.specs.Requests.{Asks, Calls, HasStatus, Starts, Tests, TestsAll, TestsAny, Waits, WaitsAll, ArePosted, OneIsPending};
 
@@ -123,6 +123,7 @@ impl<H: Host> Desk<H> {
     /// request stays open.
     pub fn status(&mut self, alloc: Global, request: &Request) -> Result<bool, OutOfMemory>
         ensures status { IfOk result (λ done. HasStatus done request.now (H.node self.new.host)) }
+        ensures wanting { IfErr result (λ e. IsAtHand (H.node self.new.host) request.now.name request.now.call) }
         ensures later { Later (H.node self.old.host) (H.node self.new.host) }
         ensures harvested { Harvested (H.node self.old.host) (H.node self.new.host) }
         ensures no_turn { H.turned self.old.host 0 self.new.host }

@@ -1,8 +1,8 @@
-ghost use Rattle.std.specs.Prelude.{◌≡◌, ◌≤◌, ℕ, IfOk, MatchOption, length, slice_get};
+ghost use Rattle.std.specs.Prelude.{◌≡◌, ◌≤◌, ℕ, IfOk, IfErr, MatchOption, length, slice_get};
 ghost use Rattle.mpx_comm.specs.Harvested.{Harvested};
-ghost use Rattle.mpx_comm.specs.Later.{Later, IsPending};
+ghost use Rattle.mpx_comm.specs.Later.{Later, IsAtHand, IsPending};
 ghost use Rattle.mpx_comm.specs.Turns.{Awaits};
-ghost use Rattle.mpx_comm.specs.Requests.{result_of, close_all, OneIsPending, AreResults, WerePending};
+ghost use Rattle.mpx_comm.specs.Requests.{result_of, close_all, OneIsAtHand, OneIsPending, AreResults, WerePending};
 
 use crate::host::Host;
 use crate::request::Request;
@@ -23,6 +23,7 @@ pub fn look<H: Host>(
     ensures found { IfOk result (λ found. MatchOption found
         (IsPending (H.node host.new) request.now.name request.now.call)
         (λ finished. result_of (H.node host.new) request.now ≡ Some finished)) }
+    ensures wanting { IfErr result (λ e. IsAtHand (H.node host.new) request.now.name request.now.call) }
 {
     loop {
         if let Some(finished) = host.result(&request.name, request.call) {
@@ -48,6 +49,7 @@ pub fn look_all<H: Host>(
     ensures found { IfOk result (λ found. MatchOption found
         (OneIsPending (H.node host.new) requests.now)
         (λ all. AreResults (H.node host.new) requests.now all.items)) }
+    ensures wanting { IfErr result (λ e. OneIsAtHand (H.node host.new) requests.now) }
 {
     let mut all = Vec::new(alloc);
     for request in requests {
@@ -72,6 +74,7 @@ pub fn look_any<H: Host>(
         (WerePending (H.node host.old) (H.node host.new) (length requests.now) requests.now)
         (λ p. WerePending (H.node host.old) (H.node host.new) p.0 requests.now
         × ((request : _) × (slice_get requests.now p.0 ≡ Some request) × (result_of (H.node host.new) request ≡ Some p.1)))) }
+    ensures wanting { IfErr result (λ e. OneIsAtHand (H.node host.new) requests.now) }
 {
     for place in 0..requests.len() {
         if let Some(finished) = look(alloc, host, &requests[place])? {

@@ -16,7 +16,7 @@ use mpx_comm::{Comm, Desk, Gathering, Request, Tested};
 use mpx_evaluation::bind;
 use mpx_group::Proc;
 use mpx_name::Name;
-use mpx_node::Node;
+use mpx_node::{Harvest, Node};
 use mpx_num::Numbers;
 use mpx_post::{Draft, PostError};
 use mpx_script::{Posting, Question, Statement, Word, WordList, line, refused_line};
@@ -100,13 +100,12 @@ impl<'a> Rank<'a> {
         })
     }
 
-    /// Goes on with the script until an outcome is missing. A rank that awaits the outcome of a blocking call looks at that
-    /// context alone; else it first stores the next result of each context that it looks at. It answers whether there was a
-    /// move.
+    /// Goes on with the script until an outcome is missing. It first stores the results of each context that it looks at, until
+    /// no further one can be had. It answers whether there was a move.
     pub(crate) fn go_on(&mut self, alloc: Global) -> Result<bool, OutOfMemory>
         ensures { OnOk result (Moves (rank_of self.old) (rank_of self.new)) }
     {
-        harvest_all(alloc, &mut self.desk, &self.contexts, self.waits.is_some())?;
+        harvest_all(alloc, &mut self.desk, &self.contexts)?;
         let mut moved = false;
         while self.move_on(alloc)? {
             moved = true;
@@ -417,21 +416,25 @@ fn contexts_at_start(alloc: Global) -> Result<Vec<Name>, OutOfMemory> {
     Ok(contexts)
 }
 
-// Stores the next result on each context, where there is one. A rank that awaits the outcome of a blocking call looks for that
-// by itself.
-fn harvest_all(
-    alloc: Global,
-    desk: &mut Desk<Node>,
-    contexts: &[Name],
-    waits: bool,
-) -> Result<(), OutOfMemory>
+// Stores the results of each context, until no further one can be had.
+fn harvest_all(alloc: Global, desk: &mut Desk<Node>, contexts: &[Name]) -> Result<(), OutOfMemory>
     ensures { OnOk result (KeepsNode (node_of desk.old.host) (node_of desk.new.host)) }
 {
-    if waits {
-        return Ok(());
-    }
     for name in contexts {
-        desk.harvest(alloc, name)?;
+        harvest_on(alloc, desk, name)?;
+    }
+    Ok(())
+}
+
+// The same of one context: each of its posted calls is harvested at most once.
+fn harvest_on(alloc: Global, desk: &mut Desk<Node>, name: &Name) -> Result<(), OutOfMemory>
+    ensures { OnOk result (KeepsNode (node_of desk.old.host) (node_of desk.new.host)) }
+{
+    for _call in desk.host().front(name)..desk.host().posted(name) {
+        match desk.harvest(alloc, name)? {
+            Harvest::Done(_) => {}
+            _ => return Ok(()),
+        }
     }
     Ok(())
 }

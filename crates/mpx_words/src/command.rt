@@ -78,14 +78,13 @@ fn usual() -> Options
 fn options_in(options: Options, words: &[String]) -> Option<Options>
     ensures { result ≡ options_in options (map string_bytes words.now) }
 {
-    match words {
-        [] => Some(options),
-        [_] => None,
-        [option, value, rest @ ..] => {
-            let more = with_option(options, option.as_bytes(), value.as_bytes())?;
-            options_in(more, rest)
-        }
+    let mut read = options;
+    let mut rest = words;
+    while let [option, value, more @ ..] = rest {
+        read = with_option(read, option.as_bytes(), value.as_bytes())?;
+        rest = more;
     }
+    if rest.is_empty() { Some(read) } else { None }
 }
 
 // These options with one more.
