@@ -1,5 +1,5 @@
 -- What an equality test and a join are.
-use Rattle.std.specs.Prelude.{◌≡◌, Bool, true, IsTrue}
+use Rattle.std.specs.Prelude.{◌≡◌, ◌⊎◌, Bool, true, IsTrue}
 
 -- the test holds exactly of equal values
 pub record IsEquality {V : Type 0} (equal : V → V → Bool) : Type 0 where
@@ -20,6 +20,10 @@ pub record Joining (V : Type 0) : Type 0 where
 abbrev pub never_joined : {V : Type 0} → Joining V
 never_joined = record { join = λ a b. a; leq = λ a b. true; delta = λ a b. a }
 
+-- what is left of values that are never joined: nothing is asked of it
+abbrev pub never_between : {V : Type 0} → V → V → V → Type 0
+never_between a b m = Unit {0}
+
 -- a is below b: the join of both is b
 abbrev pub IsBelow : {V : Type 0} → Joining V → V → V → Type 0
 IsBelow j a b = j.join a b ≡ b
@@ -37,3 +41,15 @@ pub record JoinLaws {V : Type 0} (j : Joining V) : Type 0 where
   pub delta_below : (a known : V) → IsBelow j (j.delta a known) a
   -- where known has all of it the delta tells nothing: it is below every value
   pub delta_empty : (a known b : V) → IsTrue (j.leq a known) → IsTrue (j.leq (j.delta a known) b)
+
+-- what a join in place of b into a may leave where memory is refused: a value between a and the join
+pub record BetweenLaws {V : Type 0} (j : Joining V) (between : V → V → V → Type 0) : Type 0 where
+  -- it may leave all as it was, or have done all
+  pub old : (a b : V) → between a b a
+  pub whole : (a b : V) → between a b (j.join a b)
+  pub above : (a b m : V) → between a b m → IsBelow j a m
+  pub below : (a b m : V) → between a b m → IsBelow j m (j.join a b)
+
+-- all or nothing
+abbrev pub old_or_joined : {V : Type 0} → Joining V → V → V → V → Type 0
+old_or_joined j a b m = (m ≡ a) ⊎ (m ≡ j.join a b)

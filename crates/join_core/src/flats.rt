@@ -1,3 +1,5 @@
+ghost use Rattle.join_core.specs.Laws.{old_or_joined};
+ghost use Rattle.join_core.specs.BetweenLaws.{old_or_joined-laws};
 ghost use Rattle.join_core.specs.Flat.{FlatView, flat_equal, flat_joining};
 ghost use Rattle.join_core.specs.FlatLaws.{flat_equality, flat_laws};
 ghost use Rattle.join_core.specs.FlatSeen.{flat_view};
@@ -23,6 +25,8 @@ impl<T: Exact> Exact for Flat<T> {
     ghost equal = { flat_equal T.equal };
 
     ghost joining = { flat_joining T.equal };
+
+    ghost between = { old_or_joined (flat_joining T.equal) };
 
     fn same(&self, other: &Flat<T>) -> bool {
         match (self, other) {
@@ -77,5 +81,14 @@ impl<T: Exact> Join for Flat<T> {
         }
     }
 
+    fn join_in(&mut self, alloc: Global, other: &Flat<T>) -> Result<(), OutOfMemory> {
+        if !other.leq(self) {
+            *self = self.joined(alloc, other)?;
+        }
+        Ok(())
+    }
+
     ghost laws = { flat_laws T.equality };
+
+    ghost between_laws = { old_or_joined-laws (flat_laws T.equality) };
 }

@@ -1,5 +1,5 @@
 //! What every implementation keeps, as calls that a contract can name: they do nothing.
-ghost use Rattle.join_core.specs.Laws.{IsEquality, JoinLaws};
+ghost use Rattle.join_core.specs.Laws.{BetweenLaws, IsEquality, JoinLaws};
 ghost use Rattle.join_core.specs.Order.{IsOrder, IsLeastUpperBound, DeltaServes};
 
 use crate::{Exact, Join};
@@ -28,4 +28,9 @@ pub fn joined_laws<J: Join>()
 /// itself, it is empty: below every value.
 pub fn delta_laws<J: Join>()
     ensures { DeltaServes J.joining }
+{}
+
+/// What a join in place may leave is at or above the old value and at or below the join; it may leave either.
+pub fn join_in_laws<J: Join>()
+    ensures { BetweenLaws J.joining J.between }
 {}

@@ -4,7 +4,7 @@
 //! whatever order and however often they took them. Read in this order: [`Exact`] (equality and
 //! copies), [`Join`] (the order, the join and deltas), [`Key`], then the joins [`Max`], [`Flat`] and
 //! [`Pair`]. What all of them keep is said by the calls [`same_laws`], [`join_laws`], [`leq_laws`],
-//! [`joined_laws`] and [`delta_laws`].
+//! [`joined_laws`], [`delta_laws`] and [`join_in_laws`].
 #![tactic(auto)]
 
 mod flats;
@@ -15,7 +15,7 @@ mod pairs;
 mod values;
 
 pub use flats::Flat;
-pub use laws::{delta_laws, join_laws, joined_laws, leq_laws, same_laws};
+pub use laws::{delta_laws, join_in_laws, join_laws, joined_laws, leq_laws, same_laws};
 pub use memory::OutOfMemory;
 pub use numbers::Max;
 pub use pairs::Pair;

@@ -1,6 +1,7 @@
 ghost use Rattle.std.specs.Prelude.{ℕ, nat_eq};
 ghost use Rattle.join_core.specs.Max.{nat_equality, max_joining, max_laws};
-ghost use Rattle.join_core.specs.Laws.{never_joined};
+ghost use Rattle.join_core.specs.Laws.{never_between, never_joined, old_or_joined};
+ghost use Rattle.join_core.specs.BetweenLaws.{old_or_joined-laws};
 ghost use Rattle.std.specs.FinMap.{nat_cmp-IsAntisymmetric};
 
 use crate::{Exact, Join, Key, OutOfMemory};
@@ -18,6 +19,8 @@ impl Exact for Max {
     ghost equal = { nat_eq };
 
     ghost joining = { max_joining };
+
+    ghost between = { old_or_joined max_joining };
 
     fn same(&self, other: &Max) -> bool {
         self.0 == other.0
@@ -47,7 +50,16 @@ impl Join for Max {
         }
     }
 
+    fn join_in(&mut self, _alloc: Global, other: &Max) -> Result<(), OutOfMemory> {
+        if self.0 < other.0 {
+            self.0 = other.0;
+        }
+        Ok(())
+    }
+
     ghost laws = { max_laws };
+
+    ghost between_laws = { old_or_joined-laws max_laws };
 }
 
 impl Exact for u32 {
@@ -58,6 +70,8 @@ impl Exact for u32 {
     ghost equal = { nat_eq };
 
     ghost joining = { never_joined };
+
+    ghost between = { never_between };
 
     fn same(&self, other: &u32) -> bool {
         *self == *other

@@ -1,4 +1,5 @@
-ghost use Rattle.join_core.specs.Pair.{pair_equal, pair_joining};
+ghost use Rattle.join_core.specs.Pair.{pair_between, pair_equal, pair_joining};
+ghost use Rattle.join_core.specs.BetweenLaws.{pair_between_laws};
 ghost use Rattle.join_core.specs.PairLaws.{pair_equality, pair_laws};
 
 use crate::{Exact, Join, OutOfMemory};
@@ -19,6 +20,8 @@ impl<A: Exact, B: Exact> Exact for Pair<A, B> {
     ghost equal = { pair_equal A.equal B.equal };
 
     ghost joining = { pair_joining A.joining B.joining };
+
+    ghost between = { pair_between A.between B.between };
 
     fn same(&self, other: &Pair<A, B>) -> bool {
         self.first.same(&other.first) && self.second.same(&other.second)
@@ -50,5 +53,13 @@ impl<A: Join, B: Join> Join for Pair<A, B> {
         Ok(Pair { first, second })
     }
 
+    fn join_in(&mut self, alloc: Global, other: &Pair<A, B>) -> Result<(), OutOfMemory> {
+        self.first.join_in(alloc, &other.first)?;
+        self.second.join_in(alloc, &other.second)?;
+        Ok(())
+    }
+
     ghost laws = { pair_laws A.laws B.laws };
+
+    ghost between_laws = { pair_between_laws A.between_laws B.between_laws };
 }

@@ -1,5 +1,5 @@
-ghost use Rattle.std.specs.Prelude.{◌≡◌, Bool, IfOk};
-ghost use Rattle.join_core.specs.Laws.{IsEquality, Joining, JoinLaws, IsInjective};
+ghost use Rattle.std.specs.Prelude.{◌≡◌, Bool, false, IfOk, OnOk, OnErr};
+ghost use Rattle.join_core.specs.Laws.{IsEquality, Joining, JoinLaws, BetweenLaws, IsInjective};
 ghost use Rattle.std.specs.FinMap.{IsAntisymmetric};
 
 use crate::OutOfMemory;
@@ -18,6 +18,10 @@ pub trait Exact: Drop {
     /// How values are joined, where the type is `Join`; elsewhere `never_joined`. It stands here since
     /// the type of a ghost member can't name those of a supertrait.
     ghost joining: { Joining View };
+
+    /// What a join in place that was refused memory may leave, by the old value and the other. It stands here as `joining`
+    /// does, with `never_between` where the type is no `Join`.
+    ghost between: { View → View → View → Type 0 };
 
     /// Whether both say the same.
     fn same(&self, other: &Self) -> bool
@@ -44,7 +48,17 @@ pub trait Join: Exact {
     fn delta(&self, alloc: Global, known: &Self) -> Result<Self, OutOfMemory>
         ensures { IfOk result (λ made. Self.view made ≡ Self.joining.delta (Self.view self.now) (Self.view known.now)) };
 
+    /// Joins the other to this value in place, where only what is new takes memory: where the other is below, none is taken.
+    /// An `Err` leaves a value between the old one and the join, each part of which is the old one's, the other's or the
+    /// join's.
+    fn join_in(&mut self, alloc: Global, other: &Self) -> Result<(), OutOfMemory>
+        ensures ok { OnOk result (Self.view self.new ≡ Self.joining.join (Self.view self.old) (Self.view other.now)) }
+        ensures err { OnErr result (Self.between (Self.view self.old) (Self.view other.now) (Self.view self.new)) }
+        ensures more { OnErr result (Self.joining.leq (Self.view other.now) (Self.view self.old) ≡ false) };
+
     ghost laws: { JoinLaws Self.joining };
+
+    ghost between_laws: { BetweenLaws Self.joining Self.between };
 }
 
 /// A key in a total order that answers `Equal` for equal keys alone.

@@ -1,7 +1,6 @@
 pub mod Optional
 pub mod Entries
 pub mod Keyed
-pub mod Wanted
 pub mod Seen
 pub mod Memory
 pub mod Place
@@ -12,3 +11,5 @@ pub mod EntriesLaws
 pub mod KeyedLaws
 pub mod Cut
 pub mod TruncLaws
+pub mod Between
+pub mod NestLaws

@@ -107,7 +107,7 @@ module _ {V : Type 0} {j : Joining V} (p : JoinLaws j) where
     | no n ↦ rw n (sym (get_dropped a q n))
   ])
 
-  no_call : (a b : TruncView V) (q : ℕ) → nat_le b.dropped q ≡ false → cond (nat_le a.dropped q && nat_le b.dropped q) (option_join j (get a.calls q) (get b.calls q)) None ≡ None
+  pub no_call : (a b : TruncView V) (q : ℕ) → nat_le b.dropped q ≡ false → cond (nat_le a.dropped q && nat_le b.dropped q) (option_join j (get a.calls q) (get b.calls q)) None ≡ None
   no_call a b q n = rw n (elim (nat_le a.dropped q) as (λ s. cond (s && false) (option_join j (get a.calls q) (get b.calls q)) None ≡ None) [ true ↦ refl | false ↦ refl ])
 
   leq_sound : (a b : TruncView V) → (trunc_joining j).leq a b ≡ true → (trunc_joining j).join a b ≡ b

@@ -1,14 +1,13 @@
 // Slices of entries whose keys strictly rise.
-ghost use Rattle.std.specs.Prelude.{◌≡◌, cond, is_some, IsTrue, IfOk, IfErr, OnOk, OnErr, ◌++◌, ◌∷◌, [], ◌+◌, ◌<◌, ◌≤◌};
+ghost use Rattle.std.specs.Prelude.{◌≡◌, cond, is_some, false, length, IsTrue, IfOk, IfErr, OnOk, OnErr, ◌++◌, ◌∷◌, [], ◌+◌, ◌<◌, ◌≤◌};
 ghost use Rattle.std.specs.FinMap.{find, is_sorted, put};
 ghost use Rattle.std.specs.Option.{option_copied, option_map};
-ghost use Rattle.std.specs.Vec.{vec_len, vec_capacity};
 ghost use Rattle.join_nest.specs.Entries.{merge, entries_leq, entries_delta, entries_equal, put_all, with_key};
+ghost use Rattle.join_nest.specs.Between.{keyed_between};
 ghost use Rattle.join_nest.specs.Keyed.{keyed_joining};
 ghost use Rattle.join_nest.specs.Optional.{option_delta};
 ghost use Rattle.join_nest.specs.Seen.{seen, keyed_view};
-ghost use Rattle.join_nest.specs.Wanted.{making};
-ghost use Rattle.join_nest.specs.Place.{IsAt, IsGap};
+ghost use Rattle.join_nest.specs.Place.{IsAt, IsGap, IsStart};
 
 use join_core::{Exact, Join, Key, OutOfMemory};
 use std::alloc::Global;
@@ -94,13 +93,14 @@ pub fn push_copy<K: Key, J: Exact>(
     Ok(())
 }
 
-// Adds copies at the end.
+// Adds copies at the end. Without entries no memory is asked for.
 pub fn push_copies<K: Key, J: Exact>(
     alloc: Global,
     made: &mut Vec<(K, J)>,
     entries: &[(K, J)],
 ) -> Result<(), OutOfMemory>
-    ensures { OnOk result (seen J.view made.new.items ≡ seen J.view made.old.items ++ seen J.view entries.now) }
+    ensures ok { OnOk result (seen J.view made.new.items ≡ seen J.view made.old.items ++ seen J.view entries.now) }
+    ensures some { OnErr result (0 < length entries.now) }
 {
     made.reserve(entries.len())?;
     for entry in entries {
@@ -175,24 +175,16 @@ fn push_merged<K: Key, J: Join>(
     Ok(())
 }
 
-// What is made of an entry that isn't below the known one: what that lacks, or the join of both.
-#[derive(Clone, Copy)]
-pub enum Wanted {
-    Delta,
-    Joined,
-}
-
-// Of each entry that isn't below the known ones what is wanted, in one pass over both.
+// Of each entry what the known ones lack, in one pass over both.
 pub fn lacking<K: Key, J: Join>(
     alloc: Global,
     entries: &[(K, J)],
     known: &[(K, J)],
-    wanted: Wanted,
 ) -> Result<Vec<(K, J)>, OutOfMemory>
     requires entries { IsTrue (is_sorted K.cmp entries.now) }
     requires known { IsTrue (is_sorted K.cmp known.now) }
     ensures { IfOk result (λ made. seen J.view made.items
-        ≡ entries_delta K.cmp (making wanted J.joining) (seen J.view entries.now) (seen J.view known.now)) }
+        ≡ entries_delta K.cmp J.joining (seen J.view entries.now) (seen J.view known.now)) }
 {
     let mut made = Vec::new(alloc);
     let mut i = 0;
@@ -207,7 +199,7 @@ pub fn lacking<K: Key, J: Join>(
             }
             Ordering::Greater => j += 1,
             Ordering::Equal => {
-                push_lacking(alloc, &mut made, mine, &theirs.1, wanted)?;
+                push_lacking(alloc, &mut made, mine, &theirs.1)?;
                 i += 1;
                 j += 1;
             }
@@ -217,46 +209,55 @@ pub fn lacking<K: Key, J: Join>(
     Ok(made)
 }
 
-// Adds what is wanted of the entry at the end, where it isn't below the known value.
+// Adds what the known value lacks of the entry at the end, where it isn't below that.
 fn push_lacking<K: Key, J: Join>(
     alloc: Global,
     made: &mut Vec<(K, J)>,
     entry: &(K, J),
     known: &J,
-    wanted: Wanted,
 ) -> Result<(), OutOfMemory>
     ensures { OnOk result (seen J.view made.new.items
-        ≡ seen J.view made.old.items ++ with_key entry.now.0 (option_delta (making wanted J.joining) (Some (J.view entry.now.1)) (Some (J.view known.now))) []) }
+        ≡ seen J.view made.old.items ++ with_key entry.now.0 (option_delta J.joining (Some (J.view entry.now.1)) (Some (J.view known.now))) []) }
 {
     if entry.1.leq(known) {
         Ok(())
     } else {
-        push_wanted(alloc, made, entry, known, wanted)
+        push_delta(alloc, made, entry, known)
     }
 }
 
-// Adds the key of the entry with what is wanted of it at the end.
-fn push_wanted<K: Key, J: Join>(
+// Adds the key of the entry with what the known value lacks of it at the end.
+fn push_delta<K: Key, J: Join>(
     alloc: Global,
     made: &mut Vec<(K, J)>,
     entry: &(K, J),
     known: &J,
-    wanted: Wanted,
 ) -> Result<(), OutOfMemory>
     ensures { OnOk result (seen J.view made.new.items
-        ≡ seen J.view made.old.items ++ (entry.now.0, (making wanted J.joining).delta (J.view entry.now.1) (J.view known.now)) ∷ []) }
+        ≡ seen J.view made.old.items ++ (entry.now.0, J.joining.delta (J.view entry.now.1) (J.view known.now)) ∷ []) }
 {
     let key = entry.0.copy(alloc)?;
-    let value = match wanted {
-        Wanted::Delta => entry.1.delta(alloc, known)?,
-        Wanted::Joined => known.joined(alloc, &entry.1)?,
-    };
+    let value = entry.1.delta(alloc, known)?;
     made.push((key, value))?;
     Ok(())
 }
 
-// Joins the others in: what is below stays as it is, and the rest is put in its place. An `Err` changes nothing.
-pub fn take_entries<K: Key, J: Join>(
+// Adds a copy at the end, with room for so many.
+fn push_with_room<K: Key, J: Exact>(
+    alloc: Global,
+    made: &mut Vec<(K, J)>,
+    entry: &(K, J),
+    room: usize,
+) -> Result<(), OutOfMemory>
+    ensures { OnOk result (seen J.view made.new.items ≡ seen J.view made.old.items ++ (entry.now.0, J.view entry.now.1) ∷ []) }
+{
+    made.reserve(room)?;
+    push_copy(alloc, made, entry)
+}
+
+// Joins the others in, in one pass over both: values of keys that are there in place, and then the new keys. An `Err`
+// leaves joined what was passed, and no new key; where all others are below, no memory is asked for.
+pub fn join_entries<K: Key, J: Join>(
     alloc: Global,
     entries: &mut Vec<(K, J)>,
     others: &[(K, J)],
@@ -266,38 +267,78 @@ pub fn take_entries<K: Key, J: Join>(
     ensures ok { OnOk result (keyed_view K.cmp J.view entries.new.items
         ≡ (keyed_joining J.joining).join (keyed_view K.cmp J.view entries.old.items) (keyed_view K.cmp J.view others.now)) }
     ensures sorted { IsTrue (is_sorted K.cmp entries.new.items) }
-    ensures err { OnErr result (entries.new.items ≡ entries.old.items) }
+    ensures between { keyed_between J.between (keyed_view K.cmp J.view entries.old.items) (keyed_view K.cmp J.view others.now)
+        (keyed_view K.cmp J.view entries.new.items) }
+    ensures more { OnErr result ((keyed_joining J.joining).leq (keyed_view K.cmp J.view others.now) (keyed_view K.cmp J.view entries.old.items)
+        ≡ false) }
 {
-    let changes = lacking(alloc, others, entries, Wanted::Joined)?;
+    let mut fresh = Vec::new(alloc);
+    let mut i = 0;
+    let mut j = 0;
+    while i < entries.len() && j < others.len() {
+        let theirs = &others[j];
+        match entries[i].0.cmp(&theirs.0) {
+            Ordering::Less => i += 1,
+            Ordering::Greater => {
+                push_with_room(alloc, &mut fresh, theirs, others.len() - j)?;
+                j += 1;
+            }
+            Ordering::Equal => {
+                entries[i].1.join_in(alloc, &theirs.1)?;
+                i += 1;
+                j += 1;
+            }
+        }
+    }
+    push_copies(alloc, &mut fresh, &others[j..])?;
+    put_changes(alloc, entries, fresh)
+}
+
+// Sets these values. From the greatest key on both lists go to a tail in turn, down to where the first change belongs, and
+// then back: no entry below that is moved, and none more than twice. An `Err` changes nothing.
+fn put_changes<K: Key, J: Drop>(
+    alloc: Global,
+    entries: &mut Vec<(K, J)>,
+    mut changes: Vec<(K, J)>,
+) -> Result<(), OutOfMemory>
+    requires entries { IsTrue (is_sorted K.cmp entries.old.items) }
+    requires changes { IsTrue (is_sorted K.cmp changes.items) }
+    ensures ok { OnOk result (entries.new.items ≡ put_all K.cmp changes.items entries.old.items) }
+    ensures err { OnErr result (entries.new.items ≡ entries.old.items) }
+    ensures some { OnErr result (0 < length changes.items) }
+{
+    if changes.is_empty() {
+        return Ok(());
+    }
     entries.reserve(changes.len())?;
-    put_changes(entries, changes);
+    let at = first_from(entries, &changes[0].0);
+    let mut tail = Vec::new(alloc);
+    if at < entries.len() {
+        tail.reserve(entries.len() - at + changes.len())?;
+    }
+    while at < entries.len() && !changes.is_empty() {
+        let last = &changes[changes.len() - 1];
+        match entries[entries.len() - 1].0.cmp(&last.0) {
+            Ordering::Less => tail.push_reserved(changes.take_last()),
+            Ordering::Equal => drop(entries.take_last()),
+            Ordering::Greater => tail.push_reserved(entries.take_last()),
+        }
+    }
+    let _appended = entries.append(&mut changes);
+    while !tail.is_empty() {
+        entries.push_reserved(tail.take_last());
+    }
     Ok(())
 }
 
-// Sets these values, of which there are at most as many as there is room for. It takes no memory.
-fn put_changes<K: Key, J: Drop>(entries: &mut Vec<(K, J)>, mut changes: Vec<(K, J)>)
-    requires sorted { IsTrue (is_sorted K.cmp entries.old.items) }
-    requires room { vec_len entries.old + vec_len changes ≤ vec_capacity entries.old }
-    ensures { entries.new.items ≡ put_all K.cmp changes.items entries.old.items }
+// Where the keys from this one on begin, or would.
+fn first_from<K: Ord, J>(entries: &[(K, J)], key: &K) -> usize
+    requires { IsTrue (is_sorted K.cmp entries.now) }
+    ensures { IsStart K.cmp entries.now key.now result }
 {
-    while let Some((key, value)) = changes.pop() {
-        put_in_room(entries, key, value);
-    }
-}
-
-// Sets the value of a key, with room for one more entry. It takes no memory.
-fn put_in_room<K: Key, J: Drop>(entries: &mut Vec<(K, J)>, key: K, value: J)
-    requires sorted { IsTrue (is_sorted K.cmp entries.old.items) }
-    requires room { vec_len entries.old < vec_capacity entries.old }
-    ensures items { entries.new.items ≡ put K.cmp key value entries.old.items }
-    ensures len { vec_len entries.new ≤ vec_len entries.old + 1 }
-    ensures capacity { vec_capacity entries.old ≤ vec_capacity entries.new }
-{
-    match place(entries, &key) {
-        Ok(at) => entries[at] = (key, value),
-        Err(at) => {
-            let _inserted = entries.insert(at, (key, value));
-        }
+    match place(entries, key) {
+        Ok(at) => at,
+        Err(at) => at,
     }
 }
 

@@ -1,13 +1,15 @@
 ghost use Rattle.std.specs.Prelude.{◌≡◌, nat_eq, IsTrue, IfOk, OnOk, OnErr};
 ghost use Rattle.std.specs.FinMap.{FinMap, is_sorted, empty, get, entries, len, insert, from_sorted};
 ghost use Rattle.std.specs.Option.{option_map, option_copied};
+ghost use Rattle.join_nest.specs.Between.{keyed_between};
+ghost use Rattle.join_nest.specs.NestLaws.{keyed_between_laws};
 ghost use Rattle.join_nest.specs.Keyed.{keyed_equal, keyed_joining, replaced};
 ghost use Rattle.join_nest.specs.KeyedLaws.{keyed_equality, keyed_laws};
 ghost use Rattle.join_nest.specs.Seen.{keyed_view, seen};
 
 use crate::entries::{
-    Wanted, all_below, lacking, lookup, merged, push_copies, put_entry, replace_entry,
-    same_entries, take_entries,
+    all_below, join_entries, lacking, lookup, merged, push_copies, put_entry, replace_entry,
+    same_entries,
 };
 use join_core::{Exact, Join, Key, OutOfMemory};
 use std::alloc::Global;
@@ -27,6 +29,8 @@ impl<K: Key, J: Exact> Exact for Keyed<K, J> {
     ghost equal = { keyed_equal J.equal };
 
     ghost joining = { keyed_joining J.joining };
+
+    ghost between = { keyed_between J.between };
 
     fn same(&self, other: &Keyed<K, J>) -> bool {
         same_entries(&self.entries, &other.entries)
@@ -52,11 +56,17 @@ impl<K: Key, J: Join> Join for Keyed<K, J> {
     }
 
     fn delta(&self, alloc: Global, known: &Keyed<K, J>) -> Result<Keyed<K, J>, OutOfMemory> {
-        let entries = lacking(alloc, &self.entries, &known.entries, Wanted::Delta)?;
+        let entries = lacking(alloc, &self.entries, &known.entries)?;
         Ok(Keyed { entries })
     }
 
+    fn join_in(&mut self, alloc: Global, other: &Keyed<K, J>) -> Result<(), OutOfMemory> {
+        join_entries(alloc, &mut self.entries, &other.entries)
+    }
+
     ghost laws = { keyed_laws K.total K.exact_order J.laws };
+
+    ghost between_laws = { keyed_between_laws K.total K.exact_order J.laws J.between_laws };
 }
 
 impl<K: Key, J: Exact> Keyed<K, J> {
@@ -132,16 +142,5 @@ impl<K: Key, J: Exact> Keyed<K, J> {
             ≡ replaced (⟦<Keyed<K, J> as Exact>⟧.view self.old) key.now (J.view value) }
     {
         replace_entry(&mut self.entries, key, value)
-    }
-}
-
-impl<K: Key, J: Join> Keyed<K, J> {
-    /// Joins the other to this one in place: what is below stays where it is. An `Err` changes nothing.
-    pub fn take(&mut self, alloc: Global, other: &Keyed<K, J>) -> Result<(), OutOfMemory>
-        ensures ok { OnOk result (⟦<Keyed<K, J> as Exact>⟧.view self.new
-            ≡ (keyed_joining J.joining).join (⟦<Keyed<K, J> as Exact>⟧.view self.old) (⟦<Keyed<K, J> as Exact>⟧.view other.now)) }
-        ensures err { OnErr result (⟦<Keyed<K, J> as Exact>⟧.view self.new ≡ ⟦<Keyed<K, J> as Exact>⟧.view self.old) }
-    {
-        take_entries(alloc, &mut self.entries, &other.entries)
     }
 }

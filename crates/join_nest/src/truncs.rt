@@ -4,6 +4,8 @@ ghost use Rattle.std.specs.FinMap.{is_sorted, empty, get, entries, insert, from_
 ghost use Rattle.std.specs.FinMap.Entries.{where_key};
 ghost use Rattle.std.specs.Option.{option_map, option_copied};
 ghost use Rattle.join_nest.specs.Trunc.{TruncView, trunc_equal, trunc_joining, drop_below};
+ghost use Rattle.join_nest.specs.Between.{trunc_between};
+ghost use Rattle.join_nest.specs.NestLaws.{trunc_between_laws};
 ghost use Rattle.join_nest.specs.Cut.{is_from};
 ghost use Rattle.join_nest.specs.TruncLaws.{trunc_equality, trunc_laws};
 ghost use Rattle.join_nest.specs.Keyed.{replaced};
@@ -12,7 +14,7 @@ ghost use Rattle.join_nest.specs.Seen.{seen};
 ghost use Rattle.join_nest.specs.Place.{IsFront};
 
 use crate::entries::{
-    Wanted, all_below, lacking, lookup, merged, place, push_copies, put_entry, replace_entry,
+    all_below, join_entries, lacking, lookup, merged, place, push_copies, put_entry, replace_entry,
     same_entries,
 };
 use join_core::{Exact, Join, OutOfMemory};
@@ -60,6 +62,8 @@ impl<J: Exact> Exact for Trunc<J> {
 
     ghost joining = { trunc_joining J.joining };
 
+    ghost between = { trunc_between J.between };
+
     fn same(&self, other: &Trunc<J>) -> bool {
         self.dropped == other.dropped && same_entries(&self.calls, &other.calls)
     }
@@ -96,11 +100,18 @@ impl<J: Join> Join for Trunc<J> {
             self.dropped
         };
         let mine = kept(&self.calls, known.dropped);
-        let calls = lacking(alloc, mine, &known.calls, Wanted::Delta)?;
+        let calls = lacking(alloc, mine, &known.calls)?;
         Ok(Trunc { dropped, calls })
     }
 
+    fn join_in(&mut self, alloc: Global, other: &Trunc<J>) -> Result<(), OutOfMemory> {
+        self.drop_below(other.dropped);
+        join_entries(alloc, &mut self.calls, kept(&other.calls, self.dropped))
+    }
+
     ghost laws = { trunc_laws J.laws };
+
+    ghost between_laws = { trunc_between_laws J.laws J.between_laws };
 }
 
 impl<J: Exact> Trunc<J> {

@@ -20,13 +20,26 @@ fn is_copied<J: Join>(alloc: Global, joined: &J) -> Result<bool, OutOfMemory> {
     Ok(joined.same(&copy))
 }
 
+// Whether the other, joined in place to a copy of the value, leaves the wanted one.
+pub fn joins_in<J: Join>(
+    alloc: Global,
+    value: &J,
+    other: &J,
+    wanted: &J,
+) -> Result<bool, OutOfMemory> {
+    let mut copy = value.copy(alloc)?;
+    copy.join_in(alloc, other)?;
+    Ok(copy.same(wanted))
+}
+
 // Whether the join is above both, and the same whichever way it is made.
 fn is_joined<J: Join>(alloc: Global, a: &J, b: &J) -> Result<bool, OutOfMemory> {
     let joined = a.joined(alloc, b)?;
     let turned = is_turned(alloc, &joined, a, b)?;
     let served = is_served(alloc, &joined, a, b)?;
     let copied = is_copied(alloc, &joined)?;
-    Ok(turned & served & copied & a.leq(&joined) & b.leq(&joined))
+    let in_place = joins_in(alloc, a, b, &joined)?;
+    Ok(turned & served & copied & in_place & a.leq(&joined) & b.leq(&joined))
 }
 
 // Whether the delta of the value, of what is known, is below the other.

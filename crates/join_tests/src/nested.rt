@@ -112,36 +112,36 @@ fn maps_join_key_by_key(rt: HostRuntime) -> Result<(), Fail> {
 }
 
 // Joins the part of these entries to the map in place.
-fn take(
+fn join_part(
     alloc: Global,
     map: &mut Keyed<u32, Max>,
     entries: &[(u32, u32)],
 ) -> Result<(), OutOfMemory> {
     let part = map_of(alloc, entries)?;
-    map.take(alloc, &part)
+    map.join_in(alloc, &part)
 }
 
-fn is_taken_whole(alloc: Global, map: &Keyed<u32, Max>) -> Result<bool, OutOfMemory> {
+fn is_joined_to_none(alloc: Global, map: &Keyed<u32, Max>) -> Result<bool, OutOfMemory> {
     let mut empty = Keyed::new(alloc);
-    empty.take(alloc, map)?;
+    empty.join_in(alloc, map)?;
     Ok(empty.same(map))
 }
 
-// Whether the map is that of the wanted entries once the part of these is taken.
-fn takes(
+// Whether the map is that of the wanted entries once the part of these is joined in.
+fn joins_part(
     alloc: Global,
     map: &mut Keyed<u32, Max>,
     entries: &[(u32, u32)],
     wanted: &[(u32, u32)],
 ) -> Result<bool, OutOfMemory> {
-    take(alloc, map, entries)?;
+    join_part(alloc, map, entries)?;
     is_map(alloc, map, wanted)
 }
 
 // A part below the map leaves it as it is; other parts leave the join of both, also where keys are new before, between and
-// behind those of the map.
+// behind those of the map, or behind all.
 #[test]
-fn a_part_is_taken_in_place(rt: HostRuntime) -> Result<(), Fail> {
+fn a_part_is_joined_in_place(rt: HostRuntime) -> Result<(), Fail> {
     let mut map = map_of(rt.alloc(), &[(2, 3), (5, 9), (8, 1)])?;
     for (part, wanted) in [
         (
@@ -151,13 +151,61 @@ fn a_part_is_taken_in_place(rt: HostRuntime) -> Result<(), Fail> {
         (&[], &[(2, 3), (5, 9), (8, 1)]),
         (&[(2, 4), (5, 7), (8, 6)], &[(2, 4), (5, 9), (8, 6)]),
         (
-            &[(1, 7), (3, 0), (8, 2), (9, 5)],
-            &[(1, 7), (2, 4), (3, 0), (5, 9), (8, 6), (9, 5)],
+            &[(1, 7), (3, 0), (4, 2), (8, 2), (9, 5)],
+            &[(1, 7), (2, 4), (3, 0), (4, 2), (5, 9), (8, 6), (9, 5)],
+        ),
+        (
+            &[(9, 4), (10, 1), (12, 2)],
+            &[
+                (1, 7),
+                (2, 4),
+                (3, 0),
+                (4, 2),
+                (5, 9),
+                (8, 6),
+                (9, 5),
+                (10, 1),
+                (12, 2),
+            ],
         ),
     ] {
-        assert!(rt; takes(rt.alloc(), &mut map, part, wanted)?);
+        assert!(rt; joins_part(rt.alloc(), &mut map, part, wanted)?);
     }
-    assert!(rt; is_taken_whole(rt.alloc(), &map)?);
+    assert!(rt; is_joined_to_none(rt.alloc(), &map)?);
+    Ok(())
+}
+
+// Joins the board of these entries to the board in place.
+fn join_board(
+    alloc: Global,
+    board: &mut Trunc<Max>,
+    front: u32,
+    entries: &[(u32, u32)],
+) -> Result<(), OutOfMemory> {
+    let part = board_of(alloc, front, entries)?;
+    board.join_in(alloc, &part)
+}
+
+// A lower front and calls that are there leave the board as it is; calls below either front stay dropped; a later front drops
+// what is below, whether or not a call is new.
+#[test]
+fn a_board_is_joined_in_place(rt: HostRuntime) -> Result<(), Fail> {
+    let alloc = rt.alloc();
+    let mut board = board_of(alloc, 2, &[(3, 6), (5, 8)])?;
+    for (front, entries, left, wanted) in [
+        (
+            1,
+            [(1, 9), (5, 7)].as_slice(),
+            2,
+            [(3, 6), (5, 8)].as_slice(),
+        ),
+        (0, &[(1, 9), (4, 2)], 2, &[(3, 6), (4, 2), (5, 8)]),
+        (4, &[(4, 1), (6, 3)], 4, &[(4, 2), (5, 8), (6, 3)]),
+        (6, &[], 6, &[(6, 3)]),
+    ] {
+        join_board(alloc, &mut board, front, entries)?;
+        assert!(rt; is_board(alloc, &board, left, wanted)?);
+    }
     Ok(())
 }
 

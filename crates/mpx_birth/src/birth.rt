@@ -1,4 +1,4 @@
-ghost use Rattle.std.specs.Prelude.{◌≡◌, ◌<◌, ◌≤◌, All, IfOk, MatchOption, Some, false, length, true};
+ghost use Rattle.std.specs.Prelude.{◌≡◌, ◌<◌, ◌≤◌, All, IfOk, MatchOption, OnErr, Some, false, length, true};
 ghost use Rattle.std.specs.Option.{option_copied};
 ghost use Rattle.mpx_group.specs.Group.{IsGroup, has_twice};
 ghost use Rattle.mpx_birth.specs.Births.{fits_topology, is_birth, of_members, rank_in, same_topologies, upto};
@@ -31,7 +31,7 @@ impl Model for Birth {
 }
 
 impl Exact for Birth {
-    ghost use Rattle.join_core.specs.Laws.{never_joined};
+    ghost use Rattle.join_core.specs.Laws.{never_between, never_joined};
     ghost use Rattle.mpx_birth.specs.Births.{BirthView, same_birth, birth_equality};
 
     ghost View = { BirthView };
@@ -41,6 +41,8 @@ impl Exact for Birth {
     ghost equal = { same_birth };
 
     ghost joining = { never_joined };
+
+    ghost between = { never_between };
 
     fn same(&self, other: &Birth) -> bool {
         (self.members() == other.members()) & are_same(&self.topology, &other.topology)
@@ -72,14 +74,15 @@ impl Birth {
     }
 
     /// The communicator of these members in this order, with this topology: `None` where there are none of them, where one
-    /// stands there twice, and where the topology has another number of ranks.
+    /// stands there twice, and where the topology has another number of ranks. Memory is wanting only where there is a birth.
     #[tactic(auto, unfolding(crate::specs::Births::is_birth))]
     pub fn new(
         alloc: Global,
         members: Vec<Proc>,
         topology: Option<Topology>,
     ) -> Result<Option<Birth>, OutOfMemory>
-        ensures { IfOk result (λ made. MatchOption made (is_birth (record { members = members.items; topology = topology }) ≡ false) (λ birth. (is_birth (record { members = members.items; topology = topology }) ≡ true) × (birth ≡ record { members = members.items; topology = topology }))) }
+        ensures made { IfOk result (λ made. MatchOption made (is_birth (record { members = members.items; topology = topology }) ≡ false) (λ birth. (is_birth (record { members = members.items; topology = topology }) ≡ true) × (birth ≡ record { members = members.items; topology = topology }))) }
+        ensures memory { OnErr result (is_birth (record { members = members.items; topology = topology }) ≡ true) }
     {
         let as_many = match &topology {
             None => true,
@@ -101,7 +104,8 @@ impl Birth {
         Birth::from_parts(alloc, members, None)
     }
 
-    fn from_parts(
+    /// The communicator of these members in this order, with this topology of as many ranks. It asks nothing of them.
+    pub fn from_parts(
         alloc: Global,
         members: Vec<Proc>,
         topology: Option<Topology>,

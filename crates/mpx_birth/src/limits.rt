@@ -1,12 +1,10 @@
-ghost use Rattle.std.specs.Prelude.{◌≡◌, ◌≤◌, ◌^◌, IfOk, length, nat_le};
+ghost use Rattle.std.specs.Prelude.{◌≡◌, ◌≤◌, ◌^◌, length, nat_le};
 ghost use Rattle.std.specs.List.{list_all};
 ghost use Rattle.mpx_birth.specs.Topologies.{destinations_in_all, is_near, is_neighbour, is_topology, is_weight, most_neighbours, sources_in_all};
 
 use crate::edges::Neighbour;
 use crate::pairs::are_paired;
 use crate::topology::Neighbours;
-use join_core::OutOfMemory;
-use std::alloc::Global;
 
 // So many sources all ranks have together at most, and as many destinations.
 const MOST_NEIGHBOURS: usize = 32_768;
@@ -16,20 +14,13 @@ const WEIGHTS_END: u32 = 2_147_483_648;
 
 // Whether these are the neighbours of each rank of a topology.
 #[tactic(auto, unfolding(crate::specs::Topologies::is_topology))]
-pub(crate) fn is_topology(
-    alloc: Global,
-    weighted: bool,
-    ranks: &[Neighbours],
-) -> Result<bool, OutOfMemory>
-    ensures { IfOk result (λ is. is ≡ is_topology (record { weighted = weighted; ranks = ranks.now })) }
+pub(crate) fn is_topology(weighted: bool, ranks: &[Neighbours]) -> bool
+    ensures { result ≡ is_topology (record { weighted = weighted; ranks = ranks.now }) }
 {
     if 64 < ranks.len() || !are_near(weighted, ranks) {
-        return Ok(false);
+        return false;
     }
-    if !are_few_sources(ranks) || !are_few_destinations(ranks) {
-        return Ok(false);
-    }
-    are_paired(alloc, ranks)
+    are_few_sources(ranks) && are_few_destinations(ranks) && are_paired(ranks)
 }
 
 // Whether the ranks have neighbours among them.

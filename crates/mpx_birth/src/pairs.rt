@@ -1,4 +1,4 @@
-ghost use Rattle.std.specs.Prelude.{◌≡◌, ◌<◌, ◌≤◌, IfOk, length};
+ghost use Rattle.std.specs.Prelude.{◌≡◌, ◌<◌, ◌≤◌, length};
 ghost use Rattle.std.specs.List.{list_all};
 ghost use Rattle.mpx_birth.specs.Orders.{upto};
 ghost use Rattle.mpx_birth.specs.Tallies.{tallies_of, tally_of};
@@ -6,8 +6,6 @@ ghost use Rattle.mpx_birth.specs.Topologies.{are_paired, tell_alike};
 
 use crate::edges::Neighbour;
 use crate::topology::Neighbours;
-use join_core::OutOfMemory;
-use std::alloc::Global;
 
 // How often each rank stands among some neighbours.
 #[derive(Clone, Copy)]
@@ -29,21 +27,22 @@ fn tallied(neighbours: &[Neighbour]) -> Tally
     Tally { counts }
 }
 
-// Whether of each two ranks both tell the same number of edges between them.
-pub(crate) fn are_paired(alloc: Global, ranks: &[Neighbours]) -> Result<bool, OutOfMemory>
+// Whether of each two ranks both tell the same number of edges between them. It takes no memory: the tallies lie on the stack.
+pub(crate) fn are_paired(ranks: &[Neighbours]) -> bool
     requires { length ranks.now ≤ 64 }
-    ensures { IfOk result (λ are. are ≡ are_paired ranks.now) }
+    ensures { result ≡ are_paired ranks.now }
 {
-    let mut told = Vec::new(alloc);
-    for near in ranks {
-        told.push(tallied(near.destinations()))?;
+    let mut told = [Tally { counts: [0; 64] }; 64];
+    for i in 0..ranks.len() {
+        told[i] = tallied(ranks[i].destinations());
     }
+    let told = &told[..ranks.len()];
     for rank in 0..ranks.len() {
-        if !are_awaited(ranks, &told, rank) {
-            return Ok(false);
+        if !are_awaited(ranks, told, rank) {
+            return false;
         }
     }
-    Ok(true)
+    true
 }
 
 // Whether the rank tells of as many edges from each rank as that one does.

@@ -116,15 +116,17 @@ impl Model for Topology {
 
 impl Topology {
     /// The topology of these neighbours, one entry for each rank, where they are those of one: else `None`, as where one end
-    /// alone tells an edge. It takes a step for each neighbour, and one for each two ranks.
+    /// alone tells an edge. It takes a step for each neighbour, and one for each two ranks. Memory is wanting only where there is a
+    /// topology.
     pub fn new(
         alloc: Global,
         weighted: bool,
         ranks: Vec<Neighbours>,
     ) -> Result<Option<Topology>, OutOfMemory>
-        ensures { IfOk result (λ made. MatchOption made (is_topology (record { weighted = weighted; ranks = ranks.items }) ≡ false) (λ topology. (is_topology (record { weighted = weighted; ranks = ranks.items }) ≡ true) × (topology ≡ record { weighted = weighted; ranks = ranks.items }))) }
+        ensures made { IfOk result (λ made. MatchOption made (is_topology (record { weighted = weighted; ranks = ranks.items }) ≡ false) (λ topology. (is_topology (record { weighted = weighted; ranks = ranks.items }) ≡ true) × (topology ≡ record { weighted = weighted; ranks = ranks.items }))) }
+        ensures memory { OnErr result (is_topology (record { weighted = weighted; ranks = ranks.items }) ≡ true) }
     {
-        if !is_topology(alloc, weighted, &ranks)? {
+        if !is_topology(weighted, &ranks) {
             return Ok(None);
         }
         Ok(Some(Topology::from_neighbours(alloc, weighted, ranks)?))

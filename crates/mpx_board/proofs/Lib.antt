@@ -5,4 +5,5 @@ pub mod Looking
 pub mod Telling
 pub mod Facts
 pub mod Order
+pub mod Left
 pub mod Tests

@@ -27,25 +27,25 @@ use Rattle.mpx_board.specs.Tidy.{is_unknown, is_bare, all_entries, has_no_zero, 
 use Rattle.mpx_board.proofs.Entries.{entries_get, get_entries, bare_gets, gets_bare, all_empty}
 
 -- the test holds of joins, and of deltas that tell something
-record Keeps {V : Type 0} (j : Joining V) (p : V → Bool) : Type 0 where
-  joined : (a b : V) → p a ≡ true → p b ≡ true → p (j.join a b) ≡ true
-  delta : (a b : V) → p a ≡ true → j.leq a b ≡ false → p (j.delta a b) ≡ true
+pub record Keeps {V : Type 0} (j : Joining V) (p : V → Bool) : Type 0 where
+  pub joined : (a b : V) → p a ≡ true → p b ≡ true → p (j.join a b) ≡ true
+  pub delta : (a b : V) → p a ≡ true → j.leq a b ≡ false → p (j.delta a b) ≡ true
 
 -- the test holds of joins, and of all deltas
 record Stays {V : Type 0} (j : Joining V) (p : V → Bool) : Type 0 where
-  joined : (a b : V) → p a ≡ true → p b ≡ true → p (j.join a b) ≡ true
-  delta : (a b : V) → p a ≡ true → p (j.delta a b) ≡ true
+  pub joined : (a b : V) → p a ≡ true → p b ≡ true → p (j.join a b) ≡ true
+  pub delta : (a b : V) → p a ≡ true → p (j.delta a b) ≡ true
 
 -- the test holds exactly of a value below all others
-record IsLeastTest {V : Type 0} (j : Joining V) (nothing : V → Bool) : Type 0 where
-  below : (x : V) → nothing x ≡ true → (y : V) → j.leq x y ≡ true
-  least : (x : V) → ((y : V) → j.leq x y ≡ true) → nothing x ≡ true
+pub record IsLeastTest {V : Type 0} (j : Joining V) (nothing : V → Bool) : Type 0 where
+  pub below : (x : V) → nothing x ≡ true → (y : V) → j.leq x y ≡ true
+  pub least : (x : V) → ((y : V) → j.leq x y ≡ true) → nothing x ≡ true
 
-refuted : (b : Bool) → (b ≡ true → ⊥) → not b ≡ true
+pub refuted : (b : Bool) → (b ≡ true → ⊥) → not b ≡ true
 refuted true h = absurd (h refl)
 refuted false h = refl
 
-denied : (b : Bool) → not b ≡ true → b ≡ true → ⊥
+pub denied : (b : Bool) → not b ≡ true → b ≡ true → ⊥
 denied true h t = cc
 denied false h t = cc
 
@@ -92,7 +92,7 @@ pair_least k l = record {
   least = λ x h. both_true _ _ (k.least x.0 (λ y. first_true _ _ (h (y, x.1)))) (l.least x.1 (λ y. second_true _ _ (h (x.0, y))));
 }
 
-numbers_keep : Keeps max_joining (nat_lt 0)
+pub numbers_keep : Keeps max_joining (nat_lt 0)
 numbers_keep = record { joined = λ a b s t. grind (arith, nat_tests); delta = λ a b s n. grind (arith, nat_tests) }
 
 module _ {V : Type 0} (equal : V → V → Bool) where
@@ -103,7 +103,7 @@ module _ {V : Type 0} (equal : V → V → Bool) where
   told_stays (known a) clash s = refl
   told_stays clash b s = refl
 
-  told_keep : Keeps (flat_joining equal) (λ v. not (is_unknown v))
+  pub told_keep : Keeps (flat_joining equal) (λ v. not (is_unknown v))
   told_keep = record { joined = λ a b s t. told_stays a b s; delta = λ a b s n. rw n s }
 
   unknown_least : IsLeastTest (flat_joining equal) is_unknown
@@ -118,7 +118,7 @@ module _ {V : Type 0} (equal : V → V → Bool) where
     least (known x) h = h
     least clash h = h
 
-chosen : {V : Type 0} (b : Bool) (x : Option V) (v : V) → cond b x None ≡ Some v → x ≡ Some v
+pub chosen : {V : Type 0} (b : Bool) (x : Option V) (v : V) → cond b x None ≡ Some v → x ≡ Some v
 chosen true x v is = is
 chosen false x v is = cc
 
@@ -147,7 +147,7 @@ module _ {V : Type 0} (j : Joining V) where
     ]
 
 module _ {K V : Type 0} {R : K → K → Ordering} (o : IsTotalOrder R) (exact : IsAntisymmetric R) (j : Joining V) where
-  bare_least : IsLeastTest (keyed_joining {R = R} j) is_bare
+  pub bare_least : IsLeastTest (keyed_joining {R = R} j) is_bare
   bare_least = record {
     below = λ m bare n. gets_leq o j m n (λ q. ap (λ x. option_leq j x (get n q)) (bare_gets o exact m bare q));
     least = λ m h. gets_bare o exact m (λ q. nothing_at j (get m q) (ap (option_leq j (get m q)) (sym (get-empty R q)) ∙ leq_gets o j m empty (h empty) q));
@@ -229,7 +229,7 @@ tidy_posts_keep = some_keep nat_cmp_total nat_cmp-IsAntisymmetric (flat_joining 
 tidy_call_keep : (k : ℕ) → Keeps call_joining (is_tidy_call k)
 tidy_call_keep k = keeps_both (keeps_always (nat_lt k most_calls)) tidy_posts_keep
 
-says_nothing_least : IsLeastTest entry_joining says_nothing
+pub says_nothing_least : IsLeastTest entry_joining says_nothing
 says_nothing_least = pair_least (unknown_least same_birth) (pair_least (bare_least nat_cmp_total nat_cmp-IsAntisymmetric max_joining) (blank_least call_joining))
 
 neat_entry_stays : Stays entry_joining is_neat_entry

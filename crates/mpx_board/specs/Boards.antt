@@ -81,6 +81,13 @@ pub record IsLeastAbove (a b c : Look) : Type 0 where
   pub right : IsBelow b c
   pub least : (d : Look) → IsBelow a d → IsBelow b d → IsBelow c d
 
+-- what a refused take of the part may leave of a: a board between a and the join, each fact of which is one of a, of the part or of their join
+pub record IsBetween (a part left : Look) : Type 0 where
+  pub joined : join a left ≡ left
+  pub above : IsBelow a left
+  pub below : IsBelow left (join a part)
+  pub known : (f : Fact) → Has left f → Has a f ⊎ (Has part f ⊎ Has (join a part) f)
+
 -- the least board above all of these
 pub record IsLeastAboveAll (bs : List Look) (c : Look) : Type 0 where
   pub above : (i : ℕ) (b : Look) → slice_get bs i ≡ Some b → IsBelow b c

@@ -2,14 +2,17 @@
 use Rattle.std.specs.Prelude.{ℕ, nat_eq, Bool}
 use Rattle.std.specs.Ordering.{nat_cmp}
 use Rattle.std.specs.FinMap.{FinMap}
-use Rattle.join_core.specs.Laws.{IsEquality, Joining, JoinLaws}
+use Rattle.join_core.specs.Laws.{IsEquality, Joining, JoinLaws, BetweenLaws, old_or_joined}
 use Rattle.join_core.specs.Max.{nat_equality, max_joining, max_laws}
 use Rattle.std.specs.Cmp.{nat_cmp_total}
 use Rattle.std.specs.FinMap.{nat_cmp-IsAntisymmetric}
 use Rattle.join_core.specs.Flat.{FlatView, flat_equal, flat_joining}
 use Rattle.join_core.specs.FlatLaws.{flat_equality, flat_laws}
-use Rattle.join_core.specs.Pair.{pair_equal, pair_joining}
+use Rattle.join_core.specs.BetweenLaws.{old_or_joined-laws, pair_between_laws}
+use Rattle.join_core.specs.Pair.{pair_between, pair_equal, pair_joining}
 use Rattle.join_core.specs.PairLaws.{pair_equality, pair_laws}
+use Rattle.join_nest.specs.Between.{keyed_between, trunc_between}
+use Rattle.join_nest.specs.NestLaws.{keyed_between_laws, trunc_between_laws}
 use Rattle.join_nest.specs.Keyed.{keyed_equal, keyed_joining}
 use Rattle.join_nest.specs.KeyedLaws.{keyed_equality, keyed_laws}
 use Rattle.join_nest.specs.Trunc.{TruncView, trunc_equal, trunc_joining}
@@ -84,6 +87,24 @@ acks_joining = keyed_joining numbers_joining
 abbrev pub parts_joining : Joining PartsView
 parts_joining = pair_joining (keyed_joining entry_joining) (keyed_joining acks_joining)
 
+-- WHAT A JOIN IN PLACE MAY LEAVE WHERE MEMORY IS REFUSED, by the old value and the other
+
+abbrev pub numbers_between : OfProcesses ℕ → OfProcesses ℕ → OfProcesses ℕ → Type 0
+numbers_between = keyed_between (old_or_joined max_joining)
+
+abbrev pub call_between : CallView → CallView → CallView → Type 0
+call_between = keyed_between (old_or_joined (flat_joining same_given))
+
+abbrev pub entry_between : EntryView → EntryView → EntryView → Type 0
+entry_between = pair_between (old_or_joined (flat_joining same_birth)) (pair_between numbers_between (trunc_between call_between))
+
+abbrev pub acks_between : AcksView → AcksView → AcksView → Type 0
+acks_between = keyed_between numbers_between
+
+-- each part by itself
+abbrev pub parts_between : PartsView → PartsView → PartsView → Type 0
+parts_between = pair_between (keyed_between entry_between) (keyed_between acks_between)
+
 pub numbers_equality : IsEquality same_numbers
 numbers_equality = keyed_equality nat_cmp_total nat_cmp-IsAntisymmetric nat_equality
 
@@ -110,3 +131,18 @@ acks_laws = keyed_laws name_total name_exact numbers_laws
 
 pub parts_laws : JoinLaws parts_joining
 parts_laws = pair_laws (keyed_laws name_total name_exact entry_laws) (keyed_laws nat_cmp_total nat_cmp-IsAntisymmetric acks_laws)
+
+pub numbers_between_laws : BetweenLaws numbers_joining numbers_between
+numbers_between_laws = keyed_between_laws nat_cmp_total nat_cmp-IsAntisymmetric max_laws (old_or_joined-laws max_laws)
+
+pub call_between_laws : BetweenLaws call_joining call_between
+call_between_laws = keyed_between_laws nat_cmp_total nat_cmp-IsAntisymmetric (flat_laws given_equality) (old_or_joined-laws (flat_laws given_equality))
+
+pub entry_between_laws : BetweenLaws entry_joining entry_between
+entry_between_laws = pair_between_laws (old_or_joined-laws (flat_laws birth_equality)) (pair_between_laws numbers_between_laws (trunc_between_laws call_laws call_between_laws))
+
+pub acks_between_laws : BetweenLaws acks_joining acks_between
+acks_between_laws = keyed_between_laws name_total name_exact numbers_laws numbers_between_laws
+
+pub parts_between_laws : BetweenLaws parts_joining parts_between
+parts_between_laws = pair_between_laws (keyed_between_laws name_total name_exact entry_laws entry_between_laws) (keyed_between_laws nat_cmp_total nat_cmp-IsAntisymmetric acks_laws acks_between_laws)

@@ -3,7 +3,7 @@ ghost use Rattle.std.specs.FinMap.{get, insert};
 ghost use Rattle.std.specs.Option.{option_copied, option_map};
 ghost use Rattle.join_core.specs.Flat.{known as knows};
 ghost use Rattle.mpx_board.specs.declared.errors.AddPostError.TheVariants as A;
-ghost use Rattle.mpx_board.specs.Boards.{empty, join, join_all, minimum, only, told, row_on, floor_on, Born, Front, Held, Dropped};
+ghost use Rattle.mpx_board.specs.Boards.{IsBelow, IsBetween, empty, join, join_all, minimum, only, told, row_on, floor_on, Born, Front, Held, Dropped};
 ghost use Rattle.mpx_board.specs.Changes.{is_posted, pruned, cut_to};
 ghost use Rattle.mpx_board.specs.Contexts.{context_of, post_in};
 ghost use Rattle.mpx_post.specs.Drafts.{most_calls};
@@ -13,8 +13,8 @@ ghost use Rattle.mpx_board.specs.Views.{view_of_call, view_of_entries, view_of_e
 use crate::errors::{AddPostError, PruneError};
 use crate::fact::{Fact, drop_posts, tell};
 use crate::joins::{
-    copied_acks, copied_entries, delta_of_acks, delta_of_entries, joined_acks, joined_entries,
-    leq_acks, leq_entries, same_acks, same_entries,
+    copied_acks, copied_entries, delta_of_acks, delta_of_entries, join_parts_in, joined_acks,
+    joined_entries, leq_acks, leq_entries, same_acks, same_entries,
 };
 use crate::nested::{Call, Entry, Parts, is_tidy_board, known, number_of};
 use join_core::{Exact, Flat, Join, OutOfMemory, Pair};
@@ -36,7 +36,7 @@ pub struct Board {
 }
 
 impl Exact for Board {
-    ghost use Rattle.mpx_board.specs.Parts.{PartsView, same_parts, parts_joining, parts_equality};
+    ghost use Rattle.mpx_board.specs.Parts.{PartsView, same_parts, parts_between, parts_joining, parts_equality};
     ghost use Rattle.mpx_board.specs.Looks.{parts_of};
 
     ghost View = { PartsView };
@@ -46,6 +46,8 @@ impl Exact for Board {
     ghost equal = { same_parts };
 
     ghost joining = { parts_joining };
+
+    ghost between = { parts_between };
 
     fn same(&self, other: &Board) -> bool {
         same_entries(&self.inside.first, &other.inside.first)
@@ -63,7 +65,7 @@ impl Exact for Board {
 }
 
 impl Join for Board {
-    ghost use Rattle.mpx_board.specs.Parts.{parts_laws};
+    ghost use Rattle.mpx_board.specs.Parts.{parts_between_laws, parts_laws};
 
     fn leq(&self, other: &Board) -> bool {
         leq_entries(&self.inside.first, &other.inside.first)
@@ -84,7 +86,13 @@ impl Join for Board {
         Ok(Board { inside })
     }
 
+    fn join_in(&mut self, alloc: Global, other: &Board) -> Result<(), OutOfMemory> {
+        join_parts_in(alloc, &mut self.inside, &other.inside)
+    }
+
     ghost laws = { parts_laws };
+
+    ghost between_laws = { parts_between_laws };
 }
 
 impl Board {
@@ -114,6 +122,15 @@ impl Board {
         } else {
             None
         }
+    }
+
+    /// The board with these parts, none of which says nothing, and without a call 4,294,967,295. It takes no memory and asks
+    /// nothing of the parts.
+    pub fn from_tidy(parts: Parts) -> Board
+        requires { IsTrue (is_tidy (view_of_parts parts)) }
+        ensures { parts_of result ≡ view_of_parts parts }
+    {
+        Board { inside: parts }
     }
 
     /// What stands inside: the entries of contexts by name, and the acknowledgements by process.
@@ -197,15 +214,15 @@ impl Board {
         }
     }
 
-    /// Joins a part to the board, in place. An `Err` changes nothing.
+    /// Joins a part to the board, in place: only what is new takes memory, and a part that is below the board takes none. An
+    /// `Err` leaves a board between the old one and the join, each fact of which is one of the board, of the part or of their
+    /// join.
     pub fn take(&mut self, alloc: Global, part: &Board) -> Result<(), OutOfMemory>
         ensures ok { OnOk result (look self.new ≡ join (look self.old) (look part.now)) }
-        ensures err { OnErr result (look self.new ≡ look self.old) }
+        ensures err { OnErr result (IsBetween (look self.old) (look part.now) (look self.new)) }
+        ensures more { OnErr result (¬ (IsBelow (look part.now) (look self.old))) }
     {
-        let second = joined_acks(alloc, &self.inside.second, &part.inside.second)?;
-        self.inside.first.take(alloc, &part.inside.first)?;
-        self.inside.second = second;
-        Ok(())
+        self.join_in(alloc, part)
     }
 
     /// Joins to the board that the process made this post as this call. An `Err` changes nothing.

@@ -1,13 +1,14 @@
 // The two maps of a board, compared, copied and joined one at a time: the proof of a call at a type as nested as that of
 // both takes longer.
-ghost use Rattle.std.specs.Prelude.{◌≡◌, IfOk};
+ghost use Rattle.std.specs.Prelude.{◌≡◌, false, IfOk, OnErr, OnOk};
 ghost use Rattle.join_nest.specs.Keyed.{keyed_equal, keyed_joining};
-ghost use Rattle.mpx_board.specs.Parts.{acks_joining, entry_joining, same_acks, same_entry};
-ghost use Rattle.mpx_board.specs.Views.{view_of_acks, view_of_entries};
+ghost use Rattle.join_nest.specs.Between.{keyed_between};
+ghost use Rattle.mpx_board.specs.Parts.{acks_between, acks_joining, entry_between, entry_joining, parts_between, parts_joining, same_acks, same_entry};
+ghost use Rattle.mpx_board.specs.Views.{view_of_acks, view_of_entries, view_of_parts};
 ghost use Rattle.std.specs.Ordering.{nat_cmp};
 ghost use Rattle.join_nest.specs.Seen.{keyed_view};
 
-use crate::nested::{Acks, Entry};
+use crate::nested::{Acks, Entry, Parts};
 use join_core::{Exact, Join, OutOfMemory};
 use join_nest::Keyed;
 use mpx_group::Proc;
@@ -74,6 +75,39 @@ pub fn joined_acks(
     ensures { IfOk result (λ made. keyed_view nat_cmp view_of_acks made.entries.items ≡ (keyed_joining acks_joining).join (keyed_view nat_cmp view_of_acks left.now.entries.items) (keyed_view nat_cmp view_of_acks right.now.entries.items)) }
 {
     left.joined(alloc, right)
+}
+
+pub fn join_parts_in(alloc: Global, parts: &mut Parts, other: &Parts) -> Result<(), OutOfMemory>
+    ensures ok { OnOk result (view_of_parts parts.new ≡ parts_joining.join (view_of_parts parts.old) (view_of_parts other.now)) }
+    ensures err { OnErr result (parts_between (view_of_parts parts.old) (view_of_parts other.now) (view_of_parts parts.new)) }
+    ensures more { OnErr result (parts_joining.leq (view_of_parts other.now) (view_of_parts parts.old) ≡ false) }
+{
+    join_entries_in(alloc, &mut parts.first, &other.first)?;
+    join_acks_in(alloc, &mut parts.second, &other.second)
+}
+
+fn join_entries_in(
+    alloc: Global,
+    entries: &mut Keyed<Name, Entry>,
+    other: &Keyed<Name, Entry>,
+) -> Result<(), OutOfMemory>
+    ensures ok { OnOk result (view_of_entries entries.new ≡ (keyed_joining entry_joining).join (view_of_entries entries.old) (view_of_entries other.now)) }
+    ensures err { OnErr result (keyed_between entry_between (view_of_entries entries.old) (view_of_entries other.now) (view_of_entries entries.new)) }
+    ensures more { OnErr result ((keyed_joining entry_joining).leq (view_of_entries other.now) (view_of_entries entries.old) ≡ false) }
+{
+    entries.join_in(alloc, other)
+}
+
+fn join_acks_in(
+    alloc: Global,
+    acks: &mut Keyed<Proc, Acks>,
+    other: &Keyed<Proc, Acks>,
+) -> Result<(), OutOfMemory>
+    ensures ok { OnOk result (keyed_view nat_cmp view_of_acks acks.new.entries.items ≡ (keyed_joining acks_joining).join (keyed_view nat_cmp view_of_acks acks.old.entries.items) (keyed_view nat_cmp view_of_acks other.now.entries.items)) }
+    ensures err { OnErr result (keyed_between acks_between (keyed_view nat_cmp view_of_acks acks.old.entries.items) (keyed_view nat_cmp view_of_acks other.now.entries.items) (keyed_view nat_cmp view_of_acks acks.new.entries.items)) }
+    ensures more { OnErr result ((keyed_joining acks_joining).leq (keyed_view nat_cmp view_of_acks other.now.entries.items) (keyed_view nat_cmp view_of_acks acks.old.entries.items) ≡ false) }
+{
+    acks.join_in(alloc, other)
 }
 
 pub fn delta_of_entries(

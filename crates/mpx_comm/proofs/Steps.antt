@@ -24,7 +24,7 @@ use Rattle.mpx_node.specs.declared.finished.Finished.{Finished}
 use Rattle.mpx_node.specs.declared.node.Harvest.{Harvest}
 use Rattle.mpx_node.specs.declared.node.Harvest.TheVariants.{Done, NotYet, NotOpened}
 use Rattle.mpx_node.specs.Harvests.{Harvests}
-use Rattle.mpx_node.specs.Nodes.{NodeView, OpenedView, posted_by, results_on, results_by, front_on, next_result, next_of, result_of, outcome_on, learn, add_result, children_on, or_new, opens, stores_on, is_new_to, harvest_part, Opens, gathering_fact, gathering_name, open_gathering_node}
+use Rattle.mpx_node.specs.Nodes.{NodeView, OpenedView, posted_by, results_on, results_by, front_on, next_result, next_of, result_of, outcome_on, learn, StopsTaking, add_result, children_on, or_new, opens, stores_on, is_new_to, harvest_part, Opens, gathering_fact, gathering_name, open_gathering_node}
 use Rattle.mpx_comm.specs.Later.{result_at, IsHeld, IsOwn, Later, IsPending, WasPending}
 
 -- a fact that holds whatever the refusal is
@@ -96,6 +96,10 @@ later_learns part a = record {
   stored = λ n k f e. e;
   own = λ n k g o. record { held = held_joined (a.board.contexts n) (part.contexts n) k a.me g o.held; mine = o.mine };
 }
+
+-- what a refused take leaves is as if just that had come
+pub later_stops : (part : Look) (old new : NodeView) → StopsTaking part old new → Later old new
+later_stops part old new s = subst (Later old) (sym (s.0 ∙ ap (λ b. let n : NodeView = record old { board = b } in n) (sym s.1.joined))) (later_learns new.board old)
 
 -- CONTEXTS ARE OPENED
 
@@ -283,7 +287,12 @@ held_added c d k p given e = record {
   by_test true t l = subst (λ v. flat_leq same_given v (flat_join same_given (c.posts k p) (d.posts k p)) ≡ true) e (posts_bound.above_second (c.posts k p) (d.posts k p))
   by_test false t l = absurd (grind (arith, nat_tests))
 
--- a part that is taken or not
-pub later_takes : {E : Type 0} (r : Result (Unit {0}) E) (part : Look) (old new : NodeView) → OnOk r (new ≡ learn part old) → OnErr r (new ≡ old) → Later old new
+-- a part is taken, or its take stops on the way
+pub later_takes : {E : Type 0} (r : Result (Unit {0}) E) (part : Look) (old new : NodeView) → OnOk r (new ≡ learn part old) → OnErr r (StopsTaking part old new) → Later old new
 later_takes (Ok u) part old new ok err = subst (Later old) (sym ok) (later_learns part old)
-later_takes (Err e) part old new ok err = later_same old new err
+later_takes (Err e) part old new ok err = later_stops part old new err
+
+-- it drops what all members have harvested, or that is refused
+pub later_prunes : {E : Type 0} (r : Result (Unit {0}) E) (part : Look) (old new : NodeView) → OnOk r (new ≡ learn part old) → OnErr r (new ≡ old) → Later old new
+later_prunes (Ok u) part old new ok err = subst (Later old) (sym ok) (later_learns part old)
+later_prunes (Err e) part old new ok err = later_same old new err

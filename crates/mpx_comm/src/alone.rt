@@ -1,10 +1,10 @@
 ghost use Rattle.std.specs.Prelude.{◌≡◌, OnOk, OnErr, is_some};
-ghost use Rattle.mpx_board.specs.Boards.{only, floor_on, Dropped};
+ghost use Rattle.mpx_board.specs.Boards.{IsBelow, only, floor_on, Dropped};
 ghost use Rattle.mpx_board.specs.Changes.{pruned};
 ghost use Rattle.mpx_board.specs.Looks.{look};
 ghost use Rattle.mpx_node.specs.Bounded.{node_bounded};
 ghost use Rattle.mpx_node.specs.Harvests.{Harvests};
-ghost use Rattle.mpx_node.specs.Nodes.{learn, next_result};
+ghost use Rattle.mpx_node.specs.Nodes.{StopsTaking, learn, next_result};
 
 use crate::desk::Desk;
 use crate::host::Host;
@@ -64,10 +64,11 @@ impl Host for Node {
 impl Desk<Node> {
     ghost use Rattle.mpx_node.specs.Shown.{node_of};
 
-    /// Joins a part to the node's board. An `Err` changes nothing.
+    /// Joins a part to the node's board, as [`Node::take`] does: an `Err` leaves a board between the old one and the join.
     pub fn take(&mut self, alloc: Global, part: &Board) -> Result<(), OutOfMemory>
         ensures ok { OnOk result (node_of self.new.host ≡ learn (look part.now) (node_of self.old.host)) }
-        ensures err { OnErr result (node_of self.new.host ≡ node_of self.old.host) }
+        ensures err { OnErr result (StopsTaking (look part.now) (node_of self.old.host) (node_of self.new.host)) }
+        ensures more { OnErr result (¬ (IsBelow (look part.now) (node_of self.old.host).board)) }
         ensures requests { self.new.requests.keys ≡ self.old.requests.keys }
     {
         self.host.take(alloc, part)

@@ -86,9 +86,6 @@ impl WireValue for Birth {
     fn read(alloc: Global, bytes: &[u8]) -> Result<(Birth, &[u8]), ReadError> {
         let (members, rest) = read_members(alloc, bytes)?;
         let (topology, rest) = read_topology(members.len(), alloc, rest)?;
-        match Birth::new(alloc, members, topology)? {
-            Some(birth) => Ok((birth, rest)),
-            None => unreachable!(),
-        }
+        Ok((Birth::from_parts(alloc, members, topology)?, rest))
     }
 }

@@ -74,8 +74,5 @@ pub fn decode(alloc: Global, bytes: &[u8]) -> Result<Board, WireError>
     ensures exact { Decodes result (decoded bytes.now) }
 {
     let parts = parts_of(alloc, bytes)?;
-    match Board::of(parts) {
-        Some(board) => Ok(board),
-        None => unreachable!(),
-    }
+    Ok(Board::from_tidy(parts))
 }

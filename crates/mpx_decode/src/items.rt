@@ -1,10 +1,9 @@
 // Numbers of the types, and items.
-ghost use Rattle.std.specs.Prelude.{◌≡◌, ◌*◌, ◌≤◌, [], Ok, Err, IfOk, IfSome, MatchOption, length};
+ghost use Rattle.std.specs.Prelude.{◌≡◌, ◌+◌, ◌*◌, ◌<◌, ◌≤◌, [], Ok, IfOk, length};
 ghost use Rattle.std.specs.List.{All};
-ghost use Rattle.mpx_num.specs.Types.{IsInRange, item_len};
+ghost use Rattle.mpx_num.specs.Types.{IsInRange, item_len, width};
 ghost use Rattle.mpx_num.specs.declared.types.Ty.{Ty};
 ghost use Rattle.mpx_num.specs.declared.types.Ty.TheVariants.{I8, I16, I32, I64, U8, U16, U32, U64, TwoInt};
-ghost use Rattle.mpx_format.specs.declared.faults.Fault.TheVariants.{ShortFrame};
 ghost use Rattle.mpx_format.specs.Format.{Gives, many_read};
 ghost use Rattle.mpx_format.specs.Posts.{integer, item_count, items};
 
@@ -17,20 +16,22 @@ use std::alloc::Global;
 trait Number {
     ghost ty: { Ty };
 
-    /// The number at the front, and the bytes after it; none where there are too few bytes.
-    fn front(bytes: &[u8]) -> Option<(i128, &[u8])>
-        ensures read { MatchOption result ((integer ty).read bytes.now ≡ Err ShortFrame) (λ x. (integer ty).read bytes.now ≡ Ok (x.0, x.1.now)) }
-        ensures in_range { IfSome result (λ x. IsInRange ty x.0) };
+    /// The number at the front, where all its bytes are there, and the bytes after it.
+    fn front(bytes: &[u8]) -> (i128, &[u8])
+        requires { width ty ≤ 8 * length bytes.now }
+        ensures read { (integer ty).read bytes.now ≡ Ok (result.0, result.1.now) }
+        ensures in_range { IsInRange ty result.0 }
+        ensures len { 8 * length result.1.now + width ty ≡ 8 * length bytes.now };
 }
 
 impl Number for i8 {
     ghost ty = { I8 };
 
     #[tactic(auto, using(crate::proofs::Signed::signed8), unfolding(mpx_format::specs::Posts::integer))]
-    fn front(bytes: &[u8]) -> Option<(i128, &[u8])> {
+    fn front(bytes: &[u8]) -> (i128, &[u8]) {
         match bytes {
-            [] => None,
-            [b, rest @ ..] => Some((i128::from(b.cast_signed()), rest)),
+            [] => unreachable!(),
+            [b, rest @ ..] => (i128::from(b.cast_signed()), rest),
         }
     }
 }
@@ -39,9 +40,11 @@ impl Number for i16 {
     ghost ty = { I16 };
 
     #[tactic(auto, using(crate::proofs::Signed::signed16), unfolding(mpx_format::specs::Posts::integer))]
-    fn front(bytes: &[u8]) -> Option<(i128, &[u8])> {
-        let (number, rest) = bytes.split_first_chunk::<2>()?;
-        Some((i128::from(i16::from_be_bytes(*number)), rest))
+    fn front(bytes: &[u8]) -> (i128, &[u8]) {
+        match bytes.split_first_chunk::<2>() {
+            None => unreachable!(),
+            Some((number, rest)) => (i128::from(i16::from_be_bytes(*number)), rest),
+        }
     }
 }
 
@@ -49,9 +52,11 @@ impl Number for i32 {
     ghost ty = { I32 };
 
     #[tactic(auto, using(crate::proofs::Signed::signed32), unfolding(mpx_format::specs::Posts::integer))]
-    fn front(bytes: &[u8]) -> Option<(i128, &[u8])> {
-        let (number, rest) = bytes.split_first_chunk::<4>()?;
-        Some((i128::from(i32::from_be_bytes(*number)), rest))
+    fn front(bytes: &[u8]) -> (i128, &[u8]) {
+        match bytes.split_first_chunk::<4>() {
+            None => unreachable!(),
+            Some((number, rest)) => (i128::from(i32::from_be_bytes(*number)), rest),
+        }
     }
 }
 
@@ -59,9 +64,11 @@ impl Number for i64 {
     ghost ty = { I64 };
 
     #[tactic(auto, using(crate::proofs::Signed::signed64), unfolding(mpx_format::specs::Posts::integer))]
-    fn front(bytes: &[u8]) -> Option<(i128, &[u8])> {
-        let (number, rest) = bytes.split_first_chunk::<8>()?;
-        Some((i128::from(i64::from_be_bytes(*number)), rest))
+    fn front(bytes: &[u8]) -> (i128, &[u8]) {
+        match bytes.split_first_chunk::<8>() {
+            None => unreachable!(),
+            Some((number, rest)) => (i128::from(i64::from_be_bytes(*number)), rest),
+        }
     }
 }
 
@@ -69,10 +76,10 @@ impl Number for u8 {
     ghost ty = { U8 };
 
     #[tactic(auto, unfolding(mpx_format::specs::Posts::integer))]
-    fn front(bytes: &[u8]) -> Option<(i128, &[u8])> {
+    fn front(bytes: &[u8]) -> (i128, &[u8]) {
         match bytes {
-            [] => None,
-            [b, rest @ ..] => Some((i128::from(*b), rest)),
+            [] => unreachable!(),
+            [b, rest @ ..] => (i128::from(*b), rest),
         }
     }
 }
@@ -81,9 +88,11 @@ impl Number for u16 {
     ghost ty = { U16 };
 
     #[tactic(auto, unfolding(mpx_format::specs::Posts::integer))]
-    fn front(bytes: &[u8]) -> Option<(i128, &[u8])> {
-        let (number, rest) = bytes.split_first_chunk::<2>()?;
-        Some((i128::from(u16::from_be_bytes(*number)), rest))
+    fn front(bytes: &[u8]) -> (i128, &[u8]) {
+        match bytes.split_first_chunk::<2>() {
+            None => unreachable!(),
+            Some((number, rest)) => (i128::from(u16::from_be_bytes(*number)), rest),
+        }
     }
 }
 
@@ -91,9 +100,11 @@ impl Number for u32 {
     ghost ty = { U32 };
 
     #[tactic(auto, unfolding(mpx_format::specs::Posts::integer))]
-    fn front(bytes: &[u8]) -> Option<(i128, &[u8])> {
-        let (number, rest) = bytes.split_first_chunk::<4>()?;
-        Some((i128::from(u32::from_be_bytes(*number)), rest))
+    fn front(bytes: &[u8]) -> (i128, &[u8]) {
+        match bytes.split_first_chunk::<4>() {
+            None => unreachable!(),
+            Some((number, rest)) => (i128::from(u32::from_be_bytes(*number)), rest),
+        }
     }
 }
 
@@ -101,9 +112,11 @@ impl Number for u64 {
     ghost ty = { U64 };
 
     #[tactic(auto, unfolding(mpx_format::specs::Posts::integer))]
-    fn front(bytes: &[u8]) -> Option<(i128, &[u8])> {
-        let (number, rest) = bytes.split_first_chunk::<8>()?;
-        Some((i128::from(u64::from_be_bytes(*number)), rest))
+    fn front(bytes: &[u8]) -> (i128, &[u8]) {
+        match bytes.split_first_chunk::<8>() {
+            None => unreachable!(),
+            Some((number, rest)) => (i128::from(u64::from_be_bytes(*number)), rest),
+        }
     }
 }
 
@@ -114,32 +127,36 @@ impl Number for OfPair {
     ghost ty = { TwoInt };
 
     #[tactic(auto, using(crate::proofs::Signed::signed32), unfolding(mpx_format::specs::Posts::integer))]
-    fn front(bytes: &[u8]) -> Option<(i128, &[u8])> {
-        let (number, rest) = bytes.split_first_chunk::<4>()?;
-        Some((i128::from(i32::from_be_bytes(*number)), rest))
+    fn front(bytes: &[u8]) -> (i128, &[u8]) {
+        match bytes.split_first_chunk::<4>() {
+            None => unreachable!(),
+            Some((number, rest)) => (i128::from(i32::from_be_bytes(*number)), rest),
+        }
     }
 }
 
-// So many numbers.
+// So many numbers, each of so many bytes.
 fn read_all<N: Number>(
+    len: usize,
     alloc: Global,
     count: usize,
     bytes: &[u8],
 ) -> Result<(Vec<i128>, &[u8]), ReadError>
+    requires some { 0 < len }
+    requires width { 8 * len ≡ width N.ty }
     ensures read { Gives (λ x. (x.0.items, x.1.now)) result (many_read (λ before. integer N.ty) count [] bytes.now) }
     ensures in_range { IfOk result (λ x. All (IsInRange N.ty) x.0.items) }
     ensures len { IfOk result (λ x. length x.0.items ≡ count) }
 {
+    if bytes.len() / len < count {
+        return Err(SHORT);
+    }
     let mut numbers = Vec::with_capacity(alloc, count)?;
     let mut rest = bytes;
     for _ in 0..count {
-        match N::front(rest) {
-            None => return Err(SHORT),
-            Some((number, after)) => {
-                numbers.push_reserved(number);
-                rest = after;
-            }
-        }
+        let (number, after) = N::front(rest);
+        numbers.push_reserved(number);
+        rest = after;
     }
     Ok((numbers, rest))
 }
@@ -156,15 +173,15 @@ fn read_numbers(
     ensures len { IfOk result (λ x. length x.0.items ≡ count) }
 {
     match ty {
-        Ty::I8 => read_all::<i8>(alloc, count, bytes),
-        Ty::I16 => read_all::<i16>(alloc, count, bytes),
-        Ty::I32 => read_all::<i32>(alloc, count, bytes),
-        Ty::I64 => read_all::<i64>(alloc, count, bytes),
-        Ty::U8 => read_all::<u8>(alloc, count, bytes),
-        Ty::U16 => read_all::<u16>(alloc, count, bytes),
-        Ty::U32 => read_all::<u32>(alloc, count, bytes),
-        Ty::U64 => read_all::<u64>(alloc, count, bytes),
-        Ty::TwoInt => read_all::<OfPair>(alloc, count, bytes),
+        Ty::I8 => read_all::<i8>(1, alloc, count, bytes),
+        Ty::I16 => read_all::<i16>(2, alloc, count, bytes),
+        Ty::I32 => read_all::<i32>(4, alloc, count, bytes),
+        Ty::I64 => read_all::<i64>(8, alloc, count, bytes),
+        Ty::U8 => read_all::<u8>(1, alloc, count, bytes),
+        Ty::U16 => read_all::<u16>(2, alloc, count, bytes),
+        Ty::U32 => read_all::<u32>(4, alloc, count, bytes),
+        Ty::U64 => read_all::<u64>(8, alloc, count, bytes),
+        Ty::TwoInt => read_all::<OfPair>(4, alloc, count, bytes),
     }
 }
 
@@ -190,8 +207,5 @@ pub fn read_items(ty: Ty, alloc: Global, bytes: &[u8]) -> Result<(Items, &[u8]),
 {
     let (count, rest) = read_item_count(bytes)?;
     let (list, rest) = read_numbers(ty, alloc, count as usize * ty.item_len(), rest)?;
-    match Items::new(ty, Numbers::new(alloc, list)?) {
-        Ok(items) => Ok((items, rest)),
-        Err(_) => unreachable!(),
-    }
+    Ok((Items::of(ty, Numbers::new(alloc, list)?), rest))
 }

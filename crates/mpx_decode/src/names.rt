@@ -1,9 +1,9 @@
 // Names of contexts.
-ghost use Rattle.std.specs.Prelude.{◌≡◌, ◌<◌, ◌≤◌, false, length, IfOk};
+ghost use Rattle.std.specs.Prelude.{◌≡◌, ◌<◌, ◌≤◌, [], false, length, IfOk};
 ghost use Rattle.std.specs.List.{All};
-ghost use Rattle.mpx_group.specs.Group.{has, has_twice};
+ghost use Rattle.mpx_group.specs.Group.{has_twice};
 ghost use Rattle.mpx_name.specs.Name.{IsStep};
-ghost use Rattle.mpx_format.specs.Format.{Gives};
+ghost use Rattle.mpx_format.specs.Format.{Gives, many_read};
 ghost use Rattle.mpx_format.specs.Fields.{member, member_count, members, step, step_count, name, child, gathering};
 
 use crate::fields::{read_call, read_colour, read_process, read_tag};
@@ -16,27 +16,6 @@ use std::alloc::Global;
 
 // MEMBERS
 
-// Processes, none twice.
-struct Members;
-
-impl Repeated for Members {
-    type Value = Proc;
-
-    ghost format = { λ s before. member before };
-
-    ghost Within = { λ s p. p < 64 };
-
-    fn read<'a>(
-        &self,
-        _alloc: Global,
-        before: &[Proc],
-        bytes: &'a [u8],
-    ) -> Result<(Proc, &'a [u8]), ReadError> {
-        let (number, rest) = read_member(before, bytes)?;
-        Ok((Proc::new(number), rest))
-    }
-}
-
 // 1 to 64 processes, none twice.
 #[tactic(auto, unfolding(mpx_format::specs::Fields::members))]
 pub fn read_members(alloc: Global, bytes: &[u8]) -> Result<(Vec<Proc>, &[u8]), ReadError>
@@ -47,7 +26,7 @@ pub fn read_members(alloc: Global, bytes: &[u8]) -> Result<(Vec<Proc>, &[u8]), R
     ensures below { IfOk result (λ x. All (λ p. p < 64) x.0.items) }
 {
     let (count, rest) = read_member_count(bytes)?;
-    let (members, rest) = read_list(&Members, alloc, count as usize, rest)?;
+    let (members, rest) = read_distinct(alloc, count, rest)?;
     Ok((members, rest))
 }
 
@@ -65,24 +44,27 @@ fn read_member_count(bytes: &[u8]) -> Result<(u8, &[u8]), ReadError>
     }
 }
 
-// A process that isn't among these.
+// So many processes, none twice. Which were read is marked by their numbers.
 #[tactic(auto, unfolding(mpx_format::specs::Fields::member))]
-fn read_member<'a>(before: &[Proc], bytes: &'a [u8]) -> Result<(u8, &'a [u8]), ReadError>
-    ensures small { IfOk result (λ x. x.0 < 64) }
-    ensures read { Gives (λ x. (x.0, x.1.now)) result ((member before.now).read bytes.now) }
+fn read_distinct(alloc: Global, count: u8, bytes: &[u8]) -> Result<(Vec<Proc>, &[u8]), ReadError>
+    ensures read { Gives (λ x. (x.0.items, x.1.now)) result (many_read member count [] bytes.now) }
+    ensures distinct { IfOk result (λ x. has_twice x.0.items ≡ false) }
+    ensures below { IfOk result (λ x. All (λ p. p < 64) x.0.items) }
+    ensures len { IfOk result (λ x. length x.0.items ≡ count) }
 {
-    let (process, rest) = read_process(bytes)?;
-    if is_among(before, process) {
-        Err(out_of_limits(bytes))
-    } else {
-        Ok((process, rest))
+    let mut read = [false; 64];
+    let mut members = Vec::with_capacity(alloc, (count as usize).min(bytes.len()))?;
+    let mut rest = bytes;
+    for _ in 0..count {
+        let (number, after) = read_process(rest)?;
+        if read[number as usize] {
+            return Err(out_of_limits(rest));
+        }
+        read[number as usize] = true;
+        members.push(Proc::new(number))?;
+        rest = after;
     }
-}
-
-fn is_among(members: &[Proc], number: u8) -> bool
-    ensures { result ≡ has members.now number }
-{
-    members.iter().any(|member| member.number() == number)
+    Ok((members, rest))
 }
 
 // NAMES
@@ -155,12 +137,6 @@ fn read_gathering(alloc: Global, bytes: &[u8]) -> Result<(Step, &[u8]), ReadErro
 {
     let (tag, rest) = read_tag(bytes)?;
     let (members, rest) = read_members(alloc, rest)?;
-    match Group::new(members) {
-        Ok(members) => {
-            // so that the proof knows it to be a group
-            let _size = members.size();
-            Ok((Step::Gathering { tag, members }, rest))
-        }
-        Err(_) => unreachable!(),
-    }
+    let members = Group::of(members);
+    Ok((Step::Gathering { tag, members }, rest))
 }

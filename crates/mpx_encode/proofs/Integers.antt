@@ -39,6 +39,9 @@ length-bytes : (k n : ℕ) → length (bytes_high_first k n) ≡ k
 length-bytes zero n = refl
 length-bytes (suc k) n = ap suc (length-bytes k n)
 
+pub length-spelled : (k : ℕ) (ty : Ty) (z : ℤ) (n : ℕ) → width ty ≡ 8 * k → of_signed (2 ^ width ty) (depth ty) z ≡ Some n → n < 2 ^ width ty → length ((integer ty).spelling z) ≡ k
+length-spelled k ty z n wide e lt = ap length (integer_in_bytes k ty z n wide e lt) ∙ length-bytes k n
+
 small_depth : (ty : Ty) → depth ty < 2 ^ width ty
 small_depth I8 = omega arith
 small_depth I16 = omega arith

@@ -4,7 +4,8 @@ ghost use Rattle.std.specs.List.{All, flat_map};
 ghost use Rattle.mpx_num.specs.Types.{IsInRange, depth, width};
 ghost use Rattle.mpx_format.specs.Posts.{integer, items as items_format, of_signed};
 
-use crate::write_numbers::{write_u8, write_u16, write_u32, write_u64};
+use crate::write_numbers::{write_u8, write_u16, write_u32};
+use byteorder::{BigEndian, ByteOrder};
 use join_core::OutOfMemory;
 use mpx_num::{Items, Ty};
 
@@ -56,15 +57,34 @@ fn write_words(ty: Ty, nums: &[i128], out: &mut Vec<u8>) -> Result<(), OutOfMemo
     Ok(())
 }
 
+// Writes a few numbers of 64 bits at the end, at once.
+fn write_few_longs(ty: Ty, nums: &[i128], out: &mut Vec<u8>) -> Result<(), OutOfMemory>
+    requires width { width ty ≡ 64 }
+    requires range { All (IsInRange ty) nums.now }
+    requires few { length nums.now ≤ 32 }
+    ensures { OnOk result (out.new.items ≡ out.old.items ++ flat_map (integer ty).spelling nums.now) }
+{
+    let mut bytes = [0u8; 256];
+    for i in 0..nums.len() {
+        BigEndian::write_u64(&mut bytes[8 * i..], bits(ty, 1 << 64, nums[i]));
+    }
+    out.extend_from_slice(&bytes[..8 * nums.len()])?;
+    Ok(())
+}
+
+// Writes numbers of 64 bits at the end, 32 at once.
 fn write_longs(ty: Ty, nums: &[i128], out: &mut Vec<u8>) -> Result<(), OutOfMemory>
     requires width { width ty ≡ 64 }
     requires range { All (IsInRange ty) nums.now }
     ensures { OnOk result (out.new.items ≡ out.old.items ++ flat_map (integer ty).spelling nums.now) }
 {
-    for &number in nums {
-        write_u64(bits(ty, 1 << 64, number), out)?;
+    let mut rest = nums;
+    for _ in 0..nums.len() / 32 {
+        let (front, after) = rest.split_at(32);
+        write_few_longs(ty, front, out)?;
+        rest = after;
     }
-    Ok(())
+    write_few_longs(ty, rest, out)
 }
 
 // Writes numbers of the type at the end.

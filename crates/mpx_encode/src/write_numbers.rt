@@ -1,6 +1,6 @@
 // Writing numbers, the highest byte first.
 ghost use Rattle.std.specs.Prelude.{◌≡◌, ◌++◌, ◌∷◌, [], OnOk};
-ghost use Rattle.std.specs.Int.{w16, w32, w64, to_be_bytes};
+ghost use Rattle.std.specs.Int.{w16, w32, to_be_bytes};
 
 use byteorder::{BigEndian, ByteOrder};
 use join_core::OutOfMemory;
@@ -26,15 +26,6 @@ pub fn write_u32(number: u32, out: &mut Vec<u8>) -> Result<(), OutOfMemory>
 {
     let mut bytes = [0u8; 4];
     BigEndian::write_u32(&mut bytes, number);
-    out.extend_from_slice(&bytes)?;
-    Ok(())
-}
-
-pub fn write_u64(number: u64, out: &mut Vec<u8>) -> Result<(), OutOfMemory>
-    ensures { OnOk result (out.new.items ≡ out.old.items ++ to_be_bytes w64 number) }
-{
-    let mut bytes = [0u8; 8];
-    BigEndian::write_u64(&mut bytes, number);
     out.extend_from_slice(&bytes)?;
     Ok(())
 }

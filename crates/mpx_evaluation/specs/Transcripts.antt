@@ -1,8 +1,7 @@
 -- The text of a transcript.
 use Rattle.std.specs.Prelude.{ℕ, zero, suc, ℤ, pos, Bool, true, false, List, [], ◌∷◌, ◌++◌, codes}
 use Rattle.mpx_num.specs.Text.{number_text}
-use Rattle.mpx_post.specs.declared.draft.PostError.{PostError}
-use Rattle.mpx_post.specs.declared.draft.PostError.TheVariants as R
+use Rattle.mpx_post.specs.RefusalNames.{refusal_name}
 use Rattle.mpx_match.specs.declared.faults.FaultKind.{FaultKind}
 use Rattle.mpx_match.specs.declared.faults.FaultKind.TheVariants as F
 use Rattle.mpx_value.specs.declared.outcomes.Outcome.{Outcome}
@@ -34,23 +33,6 @@ fault_name F.Amount = codes "Amount"
 fault_name F.Weights = codes "Weights"
 fault_name F.Edges = codes "Edges"
 fault_name F.Groups = codes "Groups"
-
-abbrev pub refusal_name : PostError → List ℕ
-refusal_name R.NotMember = codes "NotMember"
-refusal_name R.RootOutOfRange = codes "RootOutOfRange"
-refusal_name R.OpNotForType = codes "OpNotForType"
-refusal_name R.CountsLength = codes "CountsLength"
-refusal_name R.ItemsLength = codes "ItemsLength"
-refusal_name R.ItemOutOfRange = codes "ItemOutOfRange"
-refusal_name R.TooManyItems = codes "TooManyItems"
-refusal_name R.NoTopology = codes "NoTopology"
-refusal_name R.CallsUsedUp = codes "CallsUsedUp"
-refusal_name R.DepthUsedUp = codes "DepthUsedUp"
-refusal_name R.BadGroup = codes "BadGroup"
-refusal_name R.BadEdge = codes "BadEdge"
-refusal_name R.TooManyEdges = codes "TooManyEdges"
-refusal_name R.BadTag = codes "BadTag"
-refusal_name R.OutOfMemory = codes "OutOfMemory"
 
 abbrev pub outcome_text : Outcome → List ℕ
 outcome_text O.Nothing = codes "ok"

@@ -2,7 +2,7 @@
 ghost use Rattle.std.specs.Prelude.{◌≡◌, ◌++◌, ◌∷◌, IfOk, OnOk, pos, codes, string_bytes};
 ghost use Rattle.mpx_num.specs.Text.{number_text};
 ghost use Rattle.mpx_evaluation.specs.Ranks.{Compared, Idle, Near, Refused, StrayRank, Translated};
-ghost use Rattle.mpx_evaluation.specs.Transcripts.{fault_name, line_text, neighbour_text, numbers_text, outcome_text, refusal_name, relation_text, translated_text};
+ghost use Rattle.mpx_evaluation.specs.Transcripts.{fault_name, line_text, neighbour_text, numbers_text, outcome_text, relation_text, translated_text};
 
 use crate::asking::Relation;
 use join_core::OutOfMemory;
@@ -33,7 +33,7 @@ pub fn refused_line(alloc: Global, refusal: PostError) -> Result<String, OutOfMe
     ensures { IfOk result (λ text. string_bytes text ≡ line_text (Refused refusal)) }
 {
     let mut text = String::from_str(alloc, "refused ")?;
-    text.push_str(name_of_refusal(refusal))?;
+    text.push_str(refusal.name())?;
     Ok(text)
 }
 
@@ -209,27 +209,5 @@ fn name_of_relation(relation: Relation) -> &'static str
         Relation::Congruent => "congruent",
         Relation::Similar => "similar",
         Relation::Unequal => "unequal",
-    }
-}
-
-fn name_of_refusal(refusal: PostError) -> &'static str
-    ensures { result.now ≡ refusal_name refusal }
-{
-    match refusal {
-        PostError::NotMember => "NotMember",
-        PostError::RootOutOfRange => "RootOutOfRange",
-        PostError::OpNotForType => "OpNotForType",
-        PostError::CountsLength => "CountsLength",
-        PostError::ItemsLength => "ItemsLength",
-        PostError::ItemOutOfRange => "ItemOutOfRange",
-        PostError::TooManyItems => "TooManyItems",
-        PostError::NoTopology => "NoTopology",
-        PostError::CallsUsedUp => "CallsUsedUp",
-        PostError::DepthUsedUp => "DepthUsedUp",
-        PostError::BadGroup => "BadGroup",
-        PostError::BadEdge => "BadEdge",
-        PostError::TooManyEdges => "TooManyEdges",
-        PostError::BadTag => "BadTag",
-        PostError::OutOfMemory => "OutOfMemory",
     }
 }

@@ -5,7 +5,7 @@ ghost use Rattle.mpx_post.specs.Agreement.{IsFine, first_of, post_at};
 ghost use Rattle.mpx_post.specs.Blocks.{IsBlock, part, repeated};
 ghost use Rattle.mpx_post.specs.Kinds.{family_of};
 ghost use Rattle.mpx_post.specs.Posts.{numbers_of, type_of};
-ghost use Rattle.mpx_post.specs.Values.{as_items};
+ghost use Rattle.mpx_post.specs.Values.{GivesValue, as_items};
 ghost use Rattle.mpx_fold.specs.Folds.{all_folded, fold_of, fold_value, folded, reduces};
 
 use join_core::OutOfMemory;
@@ -13,11 +13,12 @@ use mpx_num::{Items, apply};
 use mpx_post::{Block, Family, Reduction, Row, Value};
 use std::alloc::Global;
 
-/// What a fine row of a reduction or a scan gives the member with this rank. A row of another kind gives nothing.
+/// What a fine row of a reduction or a scan gives the member with this rank. A row of another kind gives nothing. Memory
+/// is wanting only in the place of items.
 pub fn fold_value(alloc: Global, row: &Row<'_>, rank: u8) -> Result<Value, OutOfMemory>
     requires fine { IsFine row.now }
     requires rank { rank < length row.now }
-    ensures { IfOk result (λ value. value ≡ fold_value row.now rank) }
+    ensures { GivesValue (fold_value row.now rank) result }
 {
     match row.post(0).kind().family() {
         Family::Reduction(reduction) => value_of(alloc, row, reduction, rank),
@@ -38,7 +39,7 @@ fn value_of(
     requires family { family_of (first_of row.now).kind ≡ Family.Reduction reduction }
     requires reduces { reduces row.now ≡ true }
     requires rank { rank < length row.now }
-    ensures { IfOk result (λ value. value ≡ fold_of reduction row.now rank) }
+    ensures { GivesValue (fold_of reduction row.now rank) result }
 {
     let place = usize::from(rank);
     let first = row.post(0);

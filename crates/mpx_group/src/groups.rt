@@ -2,7 +2,7 @@ ghost use Rattle.std.specs.Prelude.{◌≡◌, ◌<◌, ◌↔◌, ℕ, nat_eq, 
 ghost use Rattle.std.specs.Bool.{OnTrue, OnFalse};
 ghost use Rattle.std.specs.List.{list_all};
 ghost use Rattle.std.specs.Cmp.Lexicographic.{pointwise};
-ghost use Rattle.join_core.specs.Laws.{never_joined};
+ghost use Rattle.join_core.specs.Laws.{never_between, never_joined};
 ghost use Rattle.mpx_group.specs.Group.{numbers_equality, IsGroup, has, has_twice, union_of, intersection_of, difference_of, rank_in, comparison_of};
 ghost use Rattle.mpx_group.specs.Choice.{ranks_refusal, triplets_refusal, incl_of, excl_of, ranks_of};
 ghost use Rattle.mpx_group.specs.Translation.{translated};
@@ -41,6 +41,14 @@ impl Group {
             let _number = member.number();
         }
         Ok(Group { members })
+    }
+
+    /// The group of these processes in this order, which are those of a group. It takes no memory, and asks nothing of them.
+    pub fn of(members: Vec<Proc>) -> Group
+        requires { IsGroup members.items }
+        ensures { result ≡ members.items }
+    {
+        Group { members }
     }
 
     /// How many members it has.
@@ -223,6 +231,8 @@ impl Exact for Group {
     ghost equal = { pointwise nat_eq };
 
     ghost joining = { never_joined };
+
+    ghost between = { never_between };
 
     fn same(&self, other: &Group) -> bool {
         self.members() == other.members()

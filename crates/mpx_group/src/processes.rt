@@ -1,6 +1,6 @@
 ghost use Rattle.std.specs.Prelude.{◌≡◌, ◌<◌, ℕ, nat_eq};
 ghost use Rattle.std.specs.FinMap.{nat_cmp-IsAntisymmetric};
-ghost use Rattle.join_core.specs.Laws.{never_joined};
+ghost use Rattle.join_core.specs.Laws.{never_between, never_joined};
 ghost use Rattle.join_core.specs.Max.{nat_equality};
 
 use join_core::{Exact, Key, OutOfMemory};
@@ -50,6 +50,8 @@ impl Exact for Proc {
     ghost equal = { nat_eq };
 
     ghost joining = { never_joined };
+
+    ghost between = { never_between };
 
     fn same(&self, other: &Proc) -> bool {
         self.number == other.number

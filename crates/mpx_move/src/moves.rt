@@ -3,7 +3,7 @@ ghost use Rattle.mpx_post.specs.Agreement.{IsFine, count_at, first_of, post_at};
 ghost use Rattle.mpx_post.specs.Kinds.{exchange_kind, fields_of};
 ghost use Rattle.mpx_post.specs.Posts.{most_items, numbers_of, type_of};
 ghost use Rattle.mpx_post.specs.Blocks.{IsBlock};
-ghost use Rattle.mpx_post.specs.Values.{as_items};
+ghost use Rattle.mpx_post.specs.Values.{GivesValue, as_items};
 ghost use Rattle.mpx_move.specs.Moves.{block_for, blocks_for, counts_sent, joined, move_of, move_value};
 ghost use Rattle.mpx_move.specs.Senders.{IsSender};
 
@@ -12,11 +12,12 @@ use mpx_num::Items;
 use mpx_post::{Block, Exchange, Family, Post, Row, Value};
 use std::alloc::Global;
 
-/// What a fine row of an exchange gives the member with this rank. A row of another kind gives nothing.
+/// What a fine row of an exchange gives the member with this rank. A row of another kind gives nothing. Memory
+/// is wanting only in the place of items.
 pub fn move_value(alloc: Global, row: &Row<'_>, rank: u8) -> Result<Value, OutOfMemory>
     requires fine { IsFine row.now }
     requires rank { rank < length row.now }
-    ensures { IfOk result (λ value. value ≡ move_value row.now rank) }
+    ensures { GivesValue (move_value row.now rank) result }
 {
     match row.post(0).kind().family() {
         Family::Exchange(exchange) => value_of(alloc, row, exchange, rank),
@@ -36,7 +37,7 @@ fn value_of(
     requires fine { IsFine row.now }
     requires kind { (first_of row.now).kind ≡ exchange_kind exchange }
     requires rank { rank < length row.now }
-    ensures { IfOk result (λ value. value ≡ move_of exchange row.now rank) }
+    ensures { GivesValue (move_of exchange row.now rank) result }
 {
     match exchange {
         Exchange::Barrier => Ok(Value::Nothing),

@@ -1,9 +1,9 @@
-ghost use Rattle.std.specs.Prelude.{◌≡◌, ◌≢◌, ◌<◌, ◌-◌, ◌^◌, ◌↔◌, List, [], ◌∷◌, reverse, length, slice_get, option_copied, IfOk, IfSome, OnOk, IsErrOf, IsOkUnless, refl};
+ghost use Rattle.std.specs.Prelude.{◌≡◌, ◌≢◌, ◌<◌, ◌-◌, ◌^◌, ◌↔◌, List, [], ◌∷◌, reverse, length, slice_get, option_copied, IfOk, IfSome, OnErr, OnOk, IsErrOf, IsOkUnless, refl};
 ghost use Rattle.std.specs.declared.cmp.Ordering.TheVariants.{Less};
 ghost use Rattle.std.specs.Cmp.{IsTotalOrder, partial_equiv_from_equiv, partial_order_from_total, eq_by_cmp_equiv};
 ghost use Rattle.std.specs.FinMap.{IsAntisymmetric};
 ghost use Rattle.std.specs.Ordering.{eq_by_cmp, as_partial_cmp};
-ghost use Rattle.join_core.specs.Laws.{never_joined};
+ghost use Rattle.join_core.specs.Laws.{never_between, never_joined};
 ghost use Rattle.mpx_name.specs.declared.steps.Step.{Step};
 ghost use Rattle.mpx_name.specs.declared.steps.Step.TheVariants.{Child, Gathering};
 ghost use Rattle.mpx_name.specs.Order.{name_cmp, name_total, name_exact, name_equality};
@@ -76,9 +76,10 @@ impl Name {
         Ok(self.extended(alloc, Step::Gathering { tag, members })?)
     }
 
-    /// The name without its newest step; the world has no parent.
+    /// The name without its newest step; the world has no parent, which is told without memory.
     pub fn parent(&self, alloc: Global) -> Result<Option<Name>, OutOfMemory>
-        ensures { IfOk result (λ parent. parent ≡ parent_of self.now) }
+        ensures parent { IfOk result (λ parent. parent ≡ parent_of self.now) }
+        ensures memory { OnErr result (self.now ≢ []) }
     {
         match self.steps.split_last() {
             None => Ok(None),
@@ -197,6 +198,8 @@ impl Exact for Name {
     ghost equal = { eq_by_cmp name_cmp };
 
     ghost joining = { never_joined };
+
+    ghost between = { never_between };
 
     fn same(&self, other: &Name) -> bool {
         *self == *other

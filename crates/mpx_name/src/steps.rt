@@ -1,7 +1,7 @@
 ghost use Rattle.std.specs.Prelude.{refl};
 ghost use Rattle.std.specs.Cmp.{partial_equiv_from_equiv, partial_order_from_total, eq_by_cmp_equiv};
 ghost use Rattle.std.specs.Ordering.{eq_by_cmp, as_partial_cmp};
-ghost use Rattle.join_core.specs.Laws.{never_joined};
+ghost use Rattle.join_core.specs.Laws.{never_between, never_joined};
 
 use join_core::{Exact, OutOfMemory};
 use mpx_group::Group;
@@ -83,6 +83,8 @@ impl Exact for Step {
     ghost equal = { eq_by_cmp step_cmp };
 
     ghost joining = { never_joined };
+
+    ghost between = { never_between };
 
     fn same(&self, other: &Step) -> bool {
         *self == *other

@@ -3,7 +3,7 @@ ghost use Rattle.mpx_birth.specs.Topologies.{sources_at};
 ghost use Rattle.mpx_post.specs.Agreement.{IsFine, IsFineWith, first_of, post_at};
 ghost use Rattle.mpx_post.specs.Kinds.{fields_of, neighbourhood_kind};
 ghost use Rattle.mpx_post.specs.Posts.{numbers_of, type_of};
-ghost use Rattle.mpx_post.specs.Values.{as_items};
+ghost use Rattle.mpx_post.specs.Values.{GivesValue, as_items};
 ghost use Rattle.mpx_neigh.specs.Cursors.{sends_blocks};
 ghost use Rattle.mpx_neigh.specs.Neighbourhoods.{blocks_met, joined, neigh_of, neigh_value, source_at};
 
@@ -14,7 +14,7 @@ use mpx_post::{Birth, Family, Neighbourhood, Row, Topology, Value};
 use std::alloc::Global;
 
 /// What a fine row of a neighbourhood exchange gives the member with this rank (MPI 4.1 section 8.6). A row of another kind,
-/// and a communicator without a topology, give nothing.
+/// and a communicator without a topology, give nothing. Memory is wanting only in the place of items.
 pub fn neigh_value(
     alloc: Global,
     birth: &Birth,
@@ -24,7 +24,7 @@ pub fn neigh_value(
     requires fine { IsFineWith birth.now.topology row.now }
     requires members { length row.now ≡ length birth.now.members }
     requires rank { rank < length row.now }
-    ensures { IfOk result (λ value. value ≡ neigh_value birth.now.topology row.now rank) }
+    ensures { GivesValue (neigh_value birth.now.topology row.now rank) result }
 {
     match (birth.topology(), row.post(0).kind().family()) {
         (None, _) => Ok(Value::Nothing),

@@ -13,7 +13,7 @@ use Rattle.mpx_post.specs.declared.draft.PostError.TheVariants.{NotMember, OutOf
 use Rattle.mpx_post.specs.Births.{BirthView, of_members, upto}
 use Rattle.mpx_post.specs.Drafts.{at, checked}
 use Rattle.mpx_post.specs.Gatherings.{GatheringView, gathering}
-use Rattle.mpx_board.specs.Boards.{Look, join, join_all, only, told, row_on, Born, Held, Front}
+use Rattle.mpx_board.specs.Boards.{Look, IsBetween, join, join_all, only, told, row_on, Born, Held, Front}
 use Rattle.mpx_node.specs.declared.finished.Finished.{Finished}
 use Rattle.mpx_value.specs.declared.outcomes.Outcome.{Outcome}
 use Rattle.mpx_value.specs.Children.{children, named_children}
@@ -65,6 +65,10 @@ start_node me ranks = record { me = me; board = only (Born [] (known (of_members
 -- a board comes to it
 abbrev pub learn : Look → NodeView → NodeView
 learn part node = record node { board = join node.board part }
+
+-- what a refused take of a part leaves: a board between the old one and the join, with no fact of its own; nothing else is changed
+abbrev pub StopsTaking : Look → NodeView → NodeView → Type 0
+StopsTaking part old new = (new ≡ record old { board = new.board }) × IsBetween old.board part new.board
 
 -- it does something on a context that it has opened
 abbrev pub does_on : Name → (OpenedView → OpenedView) → NodeView → NodeView

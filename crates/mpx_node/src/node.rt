@@ -4,7 +4,7 @@ ghost use Rattle.mpx_post.specs.Drafts.{Checks, at, checked, most_calls, refusal
 ghost use Rattle.mpx_name.specs.Name.{Name as NameView};
 ghost use Rattle.join_core.specs.Flat.{known};
 ghost use Rattle.mpx_post.specs.Births.{of_members, upto};
-ghost use Rattle.mpx_board.specs.Boards.{join, join_all, only, floor_on, Born, Dropped};
+ghost use Rattle.mpx_board.specs.Boards.{IsBelow, join, join_all, only, floor_on, Born, Dropped};
 ghost use Rattle.mpx_board.specs.Changes.{pruned};
 ghost use Rattle.mpx_board.specs.Looks.{look, parts_of};
 ghost use Rattle.mpx_format.specs.Encoding.{length_told};
@@ -46,7 +46,7 @@ pub enum Harvest {
 }
 
 impl Node {
-    ghost use Rattle.mpx_node.specs.Nodes.{Opens, Posts, add_result, start_node, learn, checked_on, children_on, gathering_name, gathers_on, next_result, open_gathering_node, posted_on, results_on, front_on};
+    ghost use Rattle.mpx_node.specs.Nodes.{Opens, Posts, StopsTaking, add_result, start_node, learn, checked_on, children_on, gathering_name, gathers_on, next_result, open_gathering_node, posted_on, results_on, front_on};
     ghost use Rattle.mpx_node.specs.Shown.{node_of};
     ghost use Rattle.mpx_node.specs.Opened.{HasUnfinished};
     ghost use Rattle.mpx_node.specs.Harvests.{Harvests};
@@ -172,10 +172,12 @@ impl Node {
         self.board.prune(name, number)
     }
 
-    /// Joins a part to the board. An `Err` changes nothing.
+    /// Joins a part to the board, in place: only what is new takes memory. An `Err` leaves a board between the old one and
+    /// the join, each fact of which is one of the board, of the part or of their join, and changes nothing else.
     pub fn take(&mut self, alloc: Global, part: &Board) -> Result<(), OutOfMemory>
         ensures ok { OnOk result (node_of self.new ≡ learn (look part.now) (node_of self.old)) }
-        ensures err { OnErr result (node_of self.new ≡ node_of self.old) }
+        ensures err { OnErr result (StopsTaking (look part.now) (node_of self.old) (node_of self.new)) }
+        ensures more { OnErr result (¬ (IsBelow (look part.now) (node_of self.old).board)) }
     {
         self.board.take(alloc, part)
     }

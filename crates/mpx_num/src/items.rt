@@ -1,5 +1,5 @@
 ghost use Rattle.std.specs.Prelude.{◌≡◌, ◌+◌, ◌*◌, ◌<◌, ◌≤◌, ◌↔◌, ◌++◌, ℕ, IsTrue, IsOk, IfOk, OnOk, OnErr, [], length, take, drop, true, false};
-ghost use Rattle.std.specs.Bool.{OnTrue, OnFalse};
+ghost use Rattle.std.specs.Bool.{Decides, OnTrue, OnFalse};
 ghost use Rattle.std.specs.Result.{IsErrOf};
 ghost use Rattle.std.specs.List.{All, Any};
 ghost use Rattle.std.specs.Arc.{arc_value};
@@ -71,6 +71,16 @@ impl Items {
         Ok(Items { ty, nums })
     }
 
+    /// Numbers that are items of the type, as few as fit, as items. It takes no memory, and asks nothing of the numbers.
+    pub fn of(ty: Ty, nums: Numbers) -> Self
+        requires items { AreItems ty nums }
+        requires few { length nums ≤ MOST_ITEMS * item_len ty }
+        ensures { result ≡ record { ty = ty; nums = nums } }
+    {
+        let nums = nums.into_shared();
+        Items { ty, nums }
+    }
+
     /// No items of the type.
     pub fn empty(alloc: Global, ty: Ty) -> Result<Self, AllocError>
         ensures { IfOk result (λ items. items ≡ record { ty = ty; nums = [] }) }
@@ -106,7 +116,7 @@ impl Items {
     pub fn same(&self, other: &Self) -> bool
         ensures { IsTrue result ↔ (self.now ≡ other.now) }
     {
-        self.ty == other.ty && self.nums.as_slice() == other.nums.as_slice()
+        self.ty == other.ty && are_equal(self.nums.as_slice(), other.nums.as_slice())
     }
 
     /// The same items once more, shared.
@@ -138,6 +148,20 @@ impl Items {
         let start = first * item_len;
         &nums[start..start + count * item_len]
     }
+}
+
+// Whether two lists have the same numbers. It looks at all of them, which is faster than a test after each: most are equal.
+fn are_equal(left: &[i128], right: &[i128]) -> bool
+    ensures { Decides result (left.now ≡ right.now) }
+{
+    if left.len() != right.len() {
+        return false;
+    }
+    let mut equal = true;
+    for i in 0..left.len() {
+        equal = equal & (left[i] == right[i]);
+    }
+    equal
 }
 
 fn are_whole(ty: Ty, nums: &[i128]) -> bool

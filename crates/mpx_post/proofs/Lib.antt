@@ -13,3 +13,4 @@ pub mod Makings
 pub mod Spelling
 pub mod Gatherings
 pub mod Examples
+pub mod Values

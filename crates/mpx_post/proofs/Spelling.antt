@@ -50,6 +50,13 @@ answered : (refusal : Option PostError) (given post : Given) → Checks (unless 
 answered None given post h = (refl, h)
 answered (Some e) given post h = cc
 
+-- none of the three is want of memory, which comes only where none of them holds
+wanted : (w r t : Bool) (given : Given) → Checks (unless (option_or (three w r t) None) given) (Err OutOfMemory) → three w r t ≡ None
+wanted true r t given h = cc
+wanted false true t given h = cc
+wanted false false true given h = cc
+wanted false false false given h = refl
+
 module _ (draft : Draft) where
   spelled_parts : has_spelling draft ≡ true → Spelled draft
   unfolding has_spelling
@@ -116,3 +123,6 @@ module _ (draft : Draft) where
 
   pub spelled : is_stray ≡ false → (post : Given) → Checks (unless (option_or (numbers_refusal draft) None) (given_by draft)) (Ok post) → (has_spelling draft ≡ true) × (post ≡ given_by draft)
   spelled fine post h = let parts = answered (numbers_refusal draft) (given_by draft) post h in (spelled_from fine parts.0, parts.1)
+
+  pub spelled_unmade : is_stray ≡ false → Checks (unless (option_or (numbers_refusal draft) None) (given_by draft)) (Err OutOfMemory) → has_spelling draft ≡ true
+  spelled_unmade fine h = spelled_from fine (wanted _ _ _ (given_by draft) h)

@@ -13,3 +13,4 @@ pub mod Agreement
 pub mod Drafts
 pub mod Gatherings
 pub mod Values
+pub mod RefusalNames

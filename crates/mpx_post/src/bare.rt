@@ -1,5 +1,5 @@
 // Drafts without a communicator.
-ghost use Rattle.std.specs.Prelude.{◌≡◌, ◌&&◌, MatchOption, IfOk, nat_le, length, true, false};
+ghost use Rattle.std.specs.Prelude.{◌≡◌, ◌&&◌, MatchOption, IfOk, OnErr, nat_le, length, true, false};
 ghost use Rattle.mpx_post.specs.Kinds.{fields_of, kind_of};
 ghost use Rattle.mpx_post.specs.Drafts.{given_by, has_making, has_spelling, received_counts, sent_counts};
 ghost use Rattle.mpx_post.specs.Posts.{most_counts};
@@ -15,11 +15,12 @@ impl Draft {
     /// The post of this draft, whatever the communicator: ranks are below 64, and the numbers of counts and of items, which
     /// depend on the communicator, aren't compared. None where a field that the kind has is out of its limit: the root,
     /// the operation on its type, items (at most 4,096), counts (each at most 4,096, at most 65,535 in a list), the ranks
-    /// of a group, edges (at most 512), a colour or a key.
+    /// of a group, edges (at most 512), a colour or a key. Memory is wanting only where no field is.
     pub fn bare(self, alloc: Global) -> Result<Option<Post>, OutOfMemory>
-        ensures { IfOk result (λ made. MatchOption made
+        ensures made { IfOk result (λ made. MatchOption made
             (has_spelling self ≡ false)
             (λ post. (has_spelling self ≡ true) × (post ≡ given_by self))) }
+        ensures memory { OnErr result (has_spelling self ≡ true) }
     {
         let wrong = self.has_wrong_root(64) | self.has_wrong_op();
         if wrong | !self.has_few_counts() | !self.has_making() {

@@ -27,7 +27,6 @@ use mpx_kind::{Call, Makes, Seat, Sent};
 use mpx_name::Name;
 use mpx_num::{Numbers, Op, Ty, op_fits};
 use std::alloc::Global;
-use std::fmt;
 use thiserror::Error;
 
 /// What a process would post, with numbers that nobody has checked yet. The fields that the kind hasn't are not looked at.
@@ -114,13 +113,6 @@ pub enum PostError {
     BadTag,
     /// A growth was refused.
     OutOfMemory,
-}
-
-// The name of the reason.
-impl fmt::Display for PostError {
-    fn fmt<W: fmt::Write>(&self, f: &mut fmt::Formatter<W>) -> fmt::Result {
-        fmt::Debug::fmt(self, f)
-    }
 }
 
 /// So many calls may be made on a communicator.

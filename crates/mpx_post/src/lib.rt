@@ -23,6 +23,7 @@ mod making_fields;
 mod post;
 mod post_fields;
 mod ranks;
+mod refusal_names;
 mod row;
 mod value;
 

@@ -40,7 +40,7 @@ impl Model for Post {
 }
 
 impl Exact for Post {
-    ghost use Rattle.join_core.specs.Laws.{never_joined};
+    ghost use Rattle.join_core.specs.Laws.{never_between, never_joined};
     ghost use Rattle.mpx_post.specs.Posts.{Given};
     ghost use Rattle.mpx_post.specs.Equality.{same_given, given_equality};
 
@@ -51,6 +51,8 @@ impl Exact for Post {
     ghost equal = { same_given };
 
     ghost joining = { never_joined };
+
+    ghost between = { never_between };
 
     fn same(&self, other: &Post) -> bool {
         (self.kind == other.kind)

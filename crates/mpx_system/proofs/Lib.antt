@@ -1,4 +1,5 @@
 pub mod Coupling
 pub mod Waiting
 pub mod Running
+pub mod Happenings
 pub mod Results

@@ -20,6 +20,8 @@ use Rattle.mpx_evaluation.specs.Standing.{WaitView, todo_of, has_statements}
 use Rattle.mpx_system.specs.Running.{RankView, IsUnderWay, is_waiting_at}
 use Rattle.mpx_system.specs.Runs.{IsRun, Begin, AreWhole}
 use Rattle.mpx_evaluation.proofs.Tells.{mapped_some}
+use Rattle.mpx_system.specs.Systems.{System, IsOfHappenings}
+use Rattle.mpx_system.proofs.Happenings.{of_happenings}
 use Rattle.mpx_system.proofs.Coupling.{tells_results}
 use Rattle.mpx_system.proofs.Running.{coupled}
 
@@ -119,6 +121,7 @@ module _ (script : ScriptView) (relays : ℕ) (processes : List RankView) (frame
       record {
         system = run.system;
         led = run.led;
+        world = subst (λ (s : System). IsOfHappenings script.ranks (script.ranks + relays) s.world) run.led.reached (of_happenings script.statements script.ranks (script.ranks + relays) run.led.doings run.led.may);
         sound = sound_of run.system.world c.upheld.holds;
         processes = length-map processes (λ (r : RankView). r.node) ∙ run.shows.count;
         nodes_are = λ p node e. let found = mapped_at (λ (r : RankView). r.node) processes p node e in sym found.2 ∙ run.shows.nodes p found.0 found.1;

@@ -6,14 +6,15 @@ use Rattle.mpx_evaluation.specs.Evaluation.{State, IsPrefixOf, bound_at_start, s
 use Rattle.mpx_evaluation.specs.Told.{CarriesOut}
 use Rattle.mpx_evaluation.specs.Reports.{lines_in, waiting_in}
 use Rattle.mpx_world.specs.Soundness.{Sound}
-use Rattle.mpx_system.specs.Systems.{System, Leads, node_tells, start_system, TellsResults}
+use Rattle.mpx_system.specs.Systems.{System, IsOfHappenings, Leads, node_tells, start_system, TellsResults}
 
--- doings lead from the start to a sound world with these nodes, in which each process has posted what its rank has and a
--- relay nothing; the ranks carry out their statements by what their nodes hold and have these lines, each outcome among
--- them beside the rank's own post; and these ranks have something left
+-- doings lead from the start to a sound world with these nodes; what can happen leads to it, so that each law of such histories is
+-- of it. In it each process has posted what its rank has and a relay nothing; the ranks carry out their statements by what their
+-- nodes hold and have these lines, each outcome among them beside the rank's own post; and these ranks have something left
 pub record IsRun (script : ScriptView) (relays : ℕ) (nodes : List NodeView) (transcripts : List (List (List ℕ))) (waiting : List ℕ) : Type 0 where
   pub system : System
   pub led : Leads script.ranks (start_system script.statements script.ranks (script.ranks + relays)) system
+  pub world : IsOfHappenings script.ranks (script.ranks + relays) system.world
   pub sound : Sound system.world
   pub processes : length nodes ≡ script.ranks + relays
   pub nodes_are : (p : ℕ) (node : NodeView) → slice_get nodes p ≡ Some node → node ≡ (system.world.each p).node

@@ -11,7 +11,7 @@ use Rattle.mpx_value.specs.declared.outcomes.Outcome.{Outcome}
 use Rattle.mpx_value.specs.Histories.{Results, answer_with, posts_on}
 use Rattle.mpx_node.specs.declared.finished.Finished.{Finished}
 use Rattle.mpx_node.specs.Nodes.{NodeView, gathering_name, results_on}
-use Rattle.mpx_world.specs.Worlds.{WorldView, Happening, Posts, Gathers, IsNoPost, happens, MayHappen}
+use Rattle.mpx_world.specs.Worlds.{WorldView, Happening, Posts, Gathers, IsNoPost, happens, MayHappen, MayGoOn, world_by}
 use Rattle.mpx_world.specs.Worlds.{goes_on as goes_on_world, start as start_world}
 use Rattle.mpx_statement.specs.declared.statement.Posting.{Posting}
 use Rattle.mpx_statement.specs.declared.statement.Statement.{Statement}
@@ -89,6 +89,12 @@ pub record Leads (ranks : ℕ) (from to : System) : Type 0 where
   pub doings : List Doing
   pub may : MayDoAll ranks from doings
   pub reached : does_all from doings ≡ to
+
+-- what can happen, from the start on, leads to the world: so what is so after all that can happen is so of it
+pub record IsOfHappenings (ranks size : ℕ) (w : WorldView) : Type 0 where
+  pub happenings : List Happening
+  pub may : MayGoOn (start_world ranks size) happenings
+  pub reached : world_by ranks size happenings ≡ w
 
 -- the node holds a result of the call with this outcome, beside the rank's own post of that call
 pub record IsResultOf (node : NodeView) (s : Local) (name : Name) (call : ℕ) (outcome : Outcome) : Type 0 where

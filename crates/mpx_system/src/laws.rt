@@ -4,11 +4,12 @@ ghost use Rattle.mpx_statement.specs.declared.statement.Statement.{Statement};
 ghost use Rattle.mpx_evaluation.specs.Evaluation.{State, IsEvaluation, IsPrefixOf, bound_at_start, statements_of};
 ghost use Rattle.mpx_evaluation.specs.Told.{CarriesOut};
 ghost use Rattle.mpx_world.specs.Soundness.{Sound};
-ghost use Rattle.mpx_system.specs.Systems.{Doing, MayDoAll, TellsResults, does_all, node_tells, start_system};
+ghost use Rattle.mpx_system.specs.Systems.{Doing, IsOfHappenings, MayDoAll, TellsResults, does_all, node_tells, start_system};
 
 /// Whatever is sent, lost, repeated or reordered, and in whatever order ranks move: each rank's lines begin its lines in
 /// the evaluation, those of a rank that has nothing left are all of them, each line that tells an outcome tells that of
-/// the result which the rank's node holds, and what a process posted is what the rank posted: a relay posts nothing.
+/// the result which the rank's node holds, and what a process posted is what the rank posted: a relay posts nothing. The
+/// world is one of what can happen: so what is so after every such history is so of it.
 pub fn every_run_begins_the_evaluation()
     ensures lines { (script : List (List Statement)) (ranks size : ℕ) (doings : List Doing) (end : State) → MayDoAll ranks (start_system script ranks size) doings → IsEvaluation script ranks end
         → (p : ℕ) → IsPrefixOf ((does_all (start_system script ranks size) doings).ranks p).lines (end p).lines }
@@ -24,4 +25,6 @@ pub fn every_run_begins_the_evaluation()
         → (p : ℕ) → ranks ≤ p → ((does_all (start_system script ranks size) doings).world.each p).made ≡ [] }
     ensures sound { (script : List (List Statement)) (ranks size : ℕ) (doings : List Doing) → MayDoAll ranks (start_system script ranks size) doings
         → Sound (does_all (start_system script ranks size) doings).world }
+    ensures happenings { (script : List (List Statement)) (ranks size : ℕ) (doings : List Doing) → MayDoAll ranks (start_system script ranks size) doings
+        → IsOfHappenings ranks size (does_all (start_system script ranks size) doings).world }
 {}

@@ -1,5 +1,5 @@
 -- The communicators that a call makes (MPI 4.1, sections 7.4.2 and 8.5.4).
-use Rattle.std.specs.Prelude.{◌≡◌, ℕ, ◌==◌, nat_eq, nat_lt, Bool, false, cond, List, [], ◌∷◌, map, length, filter, slice_get, slice_index_or, Option, Some, None}
+use Rattle.std.specs.Prelude.{◌≡◌, ℕ, ◌==◌, nat_eq, nat_lt, Bool, true, false, cond, List, [], ◌∷◌, map, length, filter, slice_get, slice_index_or, Option, Some, None}
 use Rattle.std.specs.List.{filter_map}
 use Rattle.std.specs.Option.{option_eq}
 use Rattle.std.specs.Ordering.{int_cmp, is_lt}
@@ -9,7 +9,7 @@ use Rattle.mpx_kind.specs.declared.kinds.Family.{Family}
 use Rattle.mpx_kind.specs.declared.kinds.Family.TheVariants as F
 use Rattle.mpx_kind.specs.declared.kinds.NewCommunicator.{NewCommunicator}
 use Rattle.mpx_kind.specs.declared.kinds.NewCommunicator.TheVariants as N
-use Rattle.mpx_post.specs.Kinds.{family_of}
+use Rattle.mpx_post.specs.Kinds.{family_of, makes_communicators}
 use Rattle.mpx_post.specs.Births.{BirthView, of_members, rank_in, upto}
 use Rattle.mpx_post.specs.Topologies.{TopologyView}
 use Rattle.mpx_graph.specs.Graphs.{adjacent, general}
@@ -114,6 +114,12 @@ has_room name = nat_lt (length name) most_steps
 -- what the call with this row makes, in rising order of colours
 unfoldable pub children : BirthView → RowView → Name → (call : ℕ) → List ChildView
 children birth row name call = cond (has_room name) (unless_fault (verdict birth.topology row) (children_in (family_of (first_of row).kind) birth row)) []
+
+-- the kind makes communicators, the posts fit together, and the name can have one step more
+pub record MakesSome (birth : BirthView) (row : RowView) (name : Name) : Type 0 where
+  pub kind : makes_communicators (family_of (first_of row).kind) ≡ true
+  pub fine : verdict birth.topology row ≡ V.Fine
+  pub room : has_room name ≡ true
 
 -- the one of this colour
 abbrev pub of_colour : ℕ → List ChildView → Option BirthView

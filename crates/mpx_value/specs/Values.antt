@@ -1,6 +1,7 @@
 -- What a call gives its members (MPI 4.1, sections 6.3 to 6.11, 7.4.2, 8.5.4 and 8.6).
-use Rattle.std.specs.Prelude.{ℕ, cond, List, [], ◌∷◌, length, slice_index_or}
+use Rattle.std.specs.Prelude.{◌≡◌, ℕ, cond, List, [], ◌∷◌, length, slice_index_or, Result, Ok, Err}
 use Rattle.std.specs.Option.{option_map_or}
+use Rattle.join_core.specs.declared.memory.OutOfMemory.{OutOfMemory}
 use Rattle.mpx_match.specs.declared.faults.FaultKind.TheVariants.{Amount}
 use Rattle.mpx_match.specs.declared.faults.Verdict.{Verdict}
 use Rattle.mpx_match.specs.declared.faults.Verdict.TheVariants as V
@@ -53,3 +54,17 @@ or_fault (V.Fault fault) given = Fault fault
 -- what the call gives the member with this rank
 unfoldable pub value : BirthView → RowView → Name → (call rank : ℕ) → Outcome
 value birth row name call rank = or_fault (verdict birth.topology row) (given_to birth row name call rank)
+
+-- whether an outcome has items, or tells which of the new communicators the process is in: the others are told without memory
+abbrev pub IsMade : Outcome → Type 0
+IsMade Nothing = ⊥
+IsMade Absent = ⊥
+IsMade (Items items) = Unit {0}
+IsMade (NewComm name size rank) = Unit {0}
+IsMade Null = Unit {0}
+IsMade (Fault fault) = ⊥
+
+-- an answer is the outcome, or want of memory in the place of one that is made
+abbrev pub GivesOutcome : Outcome → Result Outcome OutOfMemory → Type 0
+GivesOutcome outcome (Ok given) = given ≡ outcome
+GivesOutcome outcome (Err e) = IsMade outcome

@@ -1,4 +1,4 @@
-ghost use Rattle.std.specs.Prelude.{◌≡◌, ◌<◌, ◌≤◌, ◌^◌, ◌∷◌, IfOk, false, length};
+ghost use Rattle.std.specs.Prelude.{◌≡◌, ◌<◌, ◌≤◌, ◌^◌, ◌∷◌, IfOk, OnErr, false, length};
 ghost use Rattle.std.specs.List.{All};
 ghost use Rattle.mpx_group.specs.Group.{has_twice};
 ghost use Rattle.mpx_name.specs.declared.steps.Step.TheVariants.{Child};
@@ -7,7 +7,7 @@ ghost use Rattle.mpx_post.specs.Agreement.{IsFine};
 ghost use Rattle.mpx_post.specs.Births.{of_members};
 ghost use Rattle.mpx_post.specs.Drafts.{most_calls, most_steps};
 ghost use Rattle.mpx_graph.specs.Graphs.{adjacent, general};
-ghost use Rattle.mpx_value.specs.Children.{children, has_room as has_room_for, named_children, only_child, processes, with_topology};
+ghost use Rattle.mpx_value.specs.Children.{MakesSome, children, has_room as has_room_for, named_children, only_child, processes, with_topology};
 
 use crate::groups::created;
 use crate::splits::split;
@@ -24,7 +24,7 @@ const MOST_STEPS: usize = 8;
 
 /// The communicators that the call with this number makes on a context with this name and birth, of which this is the row
 /// of posts: their names in rising order, with their births. There are none where the posts don't fit together, where the
-/// name has eight steps, and where the kind makes none.
+/// name has eight steps, and where the kind makes none: then none are told without memory.
 #[tactic(auto, unfolding(crate::specs::Children::children))]
 pub fn children(
     alloc: Global,
@@ -35,7 +35,8 @@ pub fn children(
 ) -> Result<Vec<(Name, Birth)>, OutOfMemory>
     requires members { length row.now ≡ length birth.now.members }
     requires call { call < most_calls }
-    ensures { IfOk result (λ made. made.items ≡ named_children name.now call (children birth.now row.now name.now call)) }
+    ensures made { IfOk result (λ made. made.items ≡ named_children name.now call (children birth.now row.now name.now call)) }
+    ensures memory { OnErr result (MakesSome birth.now row.now name.now) }
 {
     prove!(0 < row.len());
     if !row.post(0).kind().makes_communicators() {

@@ -1,8 +1,8 @@
-ghost use Rattle.std.specs.Prelude.{◌≡◌, ◌<◌, IfOk, length};
+ghost use Rattle.std.specs.Prelude.{◌≡◌, ◌<◌, length};
 ghost use Rattle.mpx_match.specs.Verdicts.{verdict};
 ghost use Rattle.mpx_post.specs.Agreement.{IsFine, IsFineWith};
 ghost use Rattle.mpx_post.specs.Drafts.{most_calls};
-ghost use Rattle.mpx_value.specs.Values.{given_to, new_communicator, outcome_of, told, value};
+ghost use Rattle.mpx_value.specs.Values.{GivesOutcome, given_to, new_communicator, outcome_of, told, value};
 
 use crate::births::{has_room, made};
 use crate::outcomes::Outcome;
@@ -17,7 +17,7 @@ use mpx_post::{Birth, Family, Row, Value};
 use std::alloc::Global;
 
 /// What the call with this number on a context with this name and birth, of which this is the row of posts, gives the
-/// member with this rank.
+/// member with this rank. Memory is wanting only where that has items, or tells of new communicators.
 #[tactic(auto, unfolding(crate::specs::Values::value))]
 pub fn outcome(
     alloc: Global,
@@ -30,7 +30,7 @@ pub fn outcome(
     requires members { length row.now ≡ length birth.now.members }
     requires rank { rank < length row.now }
     requires call { call < most_calls }
-    ensures { IfOk result (λ outcome. outcome ≡ value birth.now row.now name.now call rank) }
+    ensures { GivesOutcome (value birth.now row.now name.now call rank) result }
 {
     match verdict(birth, row) {
         Verdict::Fault(fault) => Ok(Outcome::Fault(fault)),
@@ -52,7 +52,7 @@ fn given_to(
     requires members { length row.now ≡ length birth.now.members }
     requires rank { rank < length row.now }
     requires call { call < most_calls }
-    ensures { IfOk result (λ outcome. outcome ≡ given_to birth.now row.now name.now call rank) }
+    ensures { GivesOutcome (given_to birth.now row.now name.now call rank) result }
 {
     match row.post(0).kind().family() {
         Family::Exchange(_) => Ok(outcome_of(move_value(alloc, row, rank)?)),
@@ -88,7 +88,7 @@ fn new_communicator(
     requires verdict { verdict birth.now.topology row.now ≡ Verdict.Fine }
     requires members { length row.now ≡ length birth.now.members }
     requires call { call < most_calls }
-    ensures { IfOk result (λ outcome. outcome ≡ new_communicator birth.now row.now name.now call process) }
+    ensures { GivesOutcome (new_communicator birth.now row.now name.now call process) result }
 {
     if has_room(name) {
         Ok(told(made(alloc, birth, row, name, call)?, process))

@@ -49,3 +49,37 @@ job_in (name ∷ command ∷ rest) =
     if bytes_eq command (codes "eval") then alone Eval rest else
     if bytes_eq command (codes "check") then alone Check rest else
     None
+
+-- WHAT IS SAID OF WORDS THAT ASK FOR NO JOB
+
+abbrev pub no_pair : Text
+no_pair = codes "each option is followed by its number, as a word of its own"
+
+abbrev pub stands_alone : Text
+stands_alone = codes "this command stands alone"
+
+-- what an option is followed by
+abbrev pub limits_of : Text → Text
+limits_of option =
+    if bytes_eq option (codes "--seed") then codes "--seed is followed by a number from 0 to 18446744073709551615" else
+    if bytes_eq option (codes "--loss") then codes "--loss is followed by a number from 0 to 100" else
+    if bytes_eq option (codes "--relays") then codes "--relays is followed by a number from 0 to 63" else
+    if bytes_eq option (codes "--turns") then codes "--turns is followed by a number from 1 to 10000000" else
+    no_pair
+
+-- that of an option which gives none, else what is said of the rest
+abbrev pub or_more : Option Options → (option more : Text) → Text
+or_more None option more = limits_of option
+or_more (Some options) option more = more
+
+-- what is wrong with the first of these options that gives none
+abbrev pub complaint : List Text → Text
+complaint [] = no_pair
+complaint (option ∷ []) = no_pair
+complaint (option ∷ value ∷ rest) = or_more (with_option usual option value) option (complaint rest)
+
+-- what is said of the words
+abbrev pub complaint_of : List Text → Text
+complaint_of [] = stands_alone
+complaint_of (name ∷ []) = stands_alone
+complaint_of (name ∷ command ∷ options) = if bytes_eq command (codes "run") then complaint options else stands_alone

@@ -1,7 +1,7 @@
 //! The words of a call, and the job that they ask for.
 ghost use Rattle.std.specs.Prelude.{◌≡◌, ◌≤◌, ◌⊎◌, IfErr, IfOk, IfSome, None, Some, length, map, string_bytes};
 ghost use Rattle.clap.specs.Words.{kind_of};
-ghost use Rattle.mpx_words.specs.Words.{alone, job_in, number_within, options_in, usual, with_option};
+ghost use Rattle.mpx_words.specs.Words.{alone, complaint, complaint_of, job_in, limits_of, number_within, options_in, usual, with_option};
 
 use clap::error::ErrorKind;
 use clap::{Arg, Error};
@@ -212,25 +212,36 @@ fn no_job(alloc: Global, words: &[String]) -> Error {
     }
 }
 
-// What is wrong with words that clap takes.
-fn complaint_of(words: &[String]) -> &'static str {
+/// What is said of words that `clap` takes though they ask for no job: what the first option that gives none is followed by,
+/// or that the command has no options.
+pub fn complaint_of(words: &[String]) -> &'static str
+    ensures { result.now ≡ complaint_of (map string_bytes words.now) }
+{
     match words {
-        [_, command, options @ ..] if command.as_bytes() == b"run".as_slice() => complaint(options),
-        _ => "this command stands alone",
+        [] => STANDS_ALONE,
+        [_] => STANDS_ALONE,
+        [_, command, options @ ..] => {
+            if command.as_bytes() == b"run".as_slice() {
+                complaint(options)
+            } else {
+                STANDS_ALONE
+            }
+        }
     }
 }
 
+const STANDS_ALONE: &str = "this command stands alone";
+
 // What is wrong with the first of these options that gives none.
-fn complaint(words: &[String]) -> &'static str {
-    for pair in words.chunks(2) {
-        match pair {
-            [option, value] => {
-                if with_option(usual(), option.as_bytes(), value.as_bytes()).is_none() {
-                    return limits_of(option.as_bytes());
-                }
-            }
-            _ => return NO_PAIR,
-        }
+fn complaint(words: &[String]) -> &'static str
+    ensures { result.now ≡ complaint (map string_bytes words.now) }
+{
+    let mut rest = words;
+    while let [option, value, more @ ..] = rest {
+        let Some(_) = with_option(usual(), option.as_bytes(), value.as_bytes()) else {
+            return limits_of(option.as_bytes());
+        };
+        rest = more;
     }
     NO_PAIR
 }
@@ -238,7 +249,9 @@ fn complaint(words: &[String]) -> &'static str {
 const NO_PAIR: &str = "each option is followed by its number, as a word of its own";
 
 // What an option is followed by.
-fn limits_of(option: &[u8]) -> &'static str {
+fn limits_of(option: &[u8]) -> &'static str
+    ensures { result.now ≡ limits_of option.now }
+{
     if option == b"--seed".as_slice() {
         return "--seed is followed by a number from 0 to 18446744073709551615";
     }

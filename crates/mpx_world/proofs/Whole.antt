@@ -1,5 +1,5 @@
 -- All that is kept along lists of events and of what happens.
-use Rattle.std.proofs.Common.{◌≡◌, ℕ, List, [], ◌∷◌, ◌++◌, refl, sym, subst}
+use Rattle.std.proofs.Common.{◌≡◌, ℕ, List, [], ◌∷◌, ◌++◌, refl, sym, ap, ◌∙◌, subst}
 use Rattle.std.specs.Prelude.{nat_lt}
 use Rattle.mpx_world.specs.declared.events.Event.{Event}
 use Rattle.mpx_world.specs.Worlds.{WorldView, Happening, happens, MayHappen, goes_on, MayGoOn, start, world_by}
@@ -50,6 +50,37 @@ does_all-append (e ∷ early) late w = does_all-append early late (does w e)
 pub may_early : (early late : List Happening) (w : WorldView) → MayGoOn w (early ++ late) → MayGoOn w early
 may_early [] late w m = tt
 may_early (h ∷ early) late w m = (m.0, may_early early late (happens w h) m.1)
+
+pub may_append : (early late : List Happening) (w : WorldView) → MayGoOn w early → MayGoOn (goes_on w early) late → MayGoOn w (early ++ late)
+may_append [] late w m n = n
+may_append (h ∷ early) late w m n = (m.0, may_append early late (happens w h) m.1 n)
+
+-- what can happen leads from one world to the other
+pub record LeadsTo (from to : WorldView) : Type 0 where
+  pub happenings : List Happening
+  pub may : MayGoOn from happenings
+  pub is : goes_on from happenings ≡ to
+
+pub leads_nowhere : (w : WorldView) → LeadsTo w w
+leads_nowhere w = record { happenings = []; may = tt; is = refl }
+
+pub leads_on : (from w to : WorldView) → LeadsTo from w → LeadsTo w to → LeadsTo from to
+leads_on from w to l m = record {
+  happenings = l.happenings ++ m.happenings;
+  may = may_append l.happenings m.happenings from l.may (subst (λ v. MayGoOn v m.happenings) (sym l.is) m.may);
+  is = goes_on-append l.happenings m.happenings from ∙ ap (λ v. goes_on v m.happenings) l.is ∙ m.is;
+}
+
+pub leads_by : (w : WorldView) (h : Happening) → MayHappen w h → LeadsTo w (happens w h)
+leads_by w h m = record { happenings = h ∷ []; may = (m, tt); is = refl }
+
+leads_does : (w : WorldView) (e : Event) → Holds w → LeadsTo w (does w e)
+leads_does w e s = cond_same (LeadsTo w) (nat_lt (process_of e) w.size) (happens w (happening_of w e)) w (leads_by w (happening_of w e) (may_happen w e s)) (leads_nowhere w)
+
+-- so events do
+pub leads_all : (es : List Event) (w : WorldView) → IsWell w → LeadsTo w (does_all w es)
+leads_all [] w s = leads_nowhere w
+leads_all (e ∷ es) w s = leads_on w (does w e) (does_all (does w e) es) (leads_does w e s.holds) (leads_all es (does w e) (well_does w e s))
 
 -- FROM THE START
 

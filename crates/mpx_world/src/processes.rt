@@ -25,7 +25,7 @@ pub struct Processes {
 
 impl Processes {
     ghost use Rattle.mpx_node.specs.Shown.{node_of};
-    ghost use Rattle.mpx_world.specs.Shown.{Does, IsNodeOf, RunsAll, Shows, StopsAt};
+    ghost use Rattle.mpx_world.specs.Shown.{Does, IsNodeOf, RunsAll, Shows, Stops, StopsAt};
 
     // So many processes, of which the first are ranks, before any event.
     pub fn new(alloc: Global, ranks: u8, processes: u8) -> Result<Processes, OutOfMemory>
@@ -68,7 +68,7 @@ impl Processes {
         self.nodes.get(usize::from(proc.number()))
     }
 
-    // One event, with its reply at the end of the others. An `Err` changes nothing.
+    // One event, with its reply at the end of the others. An `Err` changes nothing, or leaves what a take may leave.
     fn tell(
         &mut self,
         alloc: Global,
@@ -78,7 +78,7 @@ impl Processes {
         ensures ok { OnOk result ((w : WorldView) → Shows self.old w → Shows self.new (does w event.now)) }
         ensures answered { OnOk result ((w : WorldView) → Shows self.old w
             → replies.new.items ≡ replies.old.items ++ reply_to w event.now ∷ []) }
-        ensures err { OnErr result ((w : WorldView) → Shows self.old w → Shows self.new w) }
+        ensures err { OnErr result ((w : WorldView) → Shows self.old w → Stops event.now self.new w) }
     {
         replies.reserve(1)?;
         let reply = self.step(alloc, event)?;
@@ -86,7 +86,7 @@ impl Processes {
         Ok(())
     }
 
-    // One event. An `Err` changes nothing.
+    // One event. An `Err` changes nothing, or leaves what a take may leave.
     fn step(&mut self, alloc: Global, event: &Event) -> Result<Reply, OutOfMemory>
         ensures { Does event.now result self.old self.new }
     {

@@ -84,7 +84,7 @@ fn boards_of_many_names(rt: HostRuntime) -> Result<(), Fail> {
 
 // The world's name, no birth, no fronts, nothing dropped, one call 0, in which process 0 posts a blocking allreduce of the
 // sum of one item 9 of type i32; no acknowledgements.
-const FRAME: [u8; 36] = [
+pub const FRAME: [u8; 36] = [
     0x4d, 0x50, 0x58, 0x47, 1, 0, 1, 0, 0, 0, 0, 0, 0, 0, 0, 0, 0, 1, 0, 0, 0, 0, 1, 0, 1, 11, 0,
     3, 3, 0, 1, 0, 0, 0, 9, 0,
 ];

@@ -1,14 +1,17 @@
 //! Nodes that take each other's boards, harvest what these tell, and give their own in parts.
 use crate::acts::{Act, Told};
+use crate::frames::FRAME;
 use crate::looks::Look;
 use crate::making::{WORLD, name_of, post_of, proc, sum_of};
 use crate::rows::{Row, run};
+use join_core::{Exact, Join};
 use mpx_board::{Board, PruneError};
 use mpx_group::Proc;
 use mpx_name::Name;
 use mpx_node::{Harvest, Node};
 use mpx_post::PostError;
 use mpx_value::FaultKind;
+use mpx_wire::decode;
 use std::alloc::Global;
 use std::process::Abort;
 use std::test::Fail;
@@ -129,4 +132,27 @@ fn different_posts_of_one_call_clash(rt: HostRuntime) -> Result<(), Fail> {
     let answer = clashes(&rt, alloc, &mut node);
     drop(node);
     answer
+}
+
+// The node takes the part, once more where memory was refused: then the board stood between the old one and the join.
+fn takes(rt: &impl Abort, alloc: Global, node: &mut Node, part: &Board) -> Result<(), Fail> {
+    let old = node.board().copy(alloc)?;
+    let joined = old.joined(alloc, part)?;
+    if node.take(alloc, part).is_err() {
+        assert!(rt; old.leq(node.board()) && node.board().leq(&joined));
+        node.take(alloc, part)?;
+    }
+    assert!(rt; node.board().same(&joined));
+    Ok(())
+}
+
+// With each allocation refused in turn (`rt try --test --fail-alloc 1..`) a take stands between, and the same part taken again
+// with memory gives the join. The second part here brings nothing new.
+#[test]
+fn a_refused_take_stands_between(rt: HostRuntime) -> Result<(), Fail> {
+    let alloc = rt.alloc();
+    let mut node = Node::new(alloc, Proc::new(1), 2, 2)?;
+    let part = decode(alloc, &FRAME)?;
+    takes(&rt, alloc, &mut node, &part)?;
+    takes(&rt, alloc, &mut node, &part)
 }

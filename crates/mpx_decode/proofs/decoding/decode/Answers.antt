@@ -1,5 +1,4 @@
 use Rattle.std.proofs.Common.{Ok, ap, sym, subst, ◌∙◌, arith}
-use Rattle.std.proofs.lemmas.Bool.{both_ways}
 use Rattle.std.proofs.lemmas.Result.{err_from_is_err_and}
 use Rattle.mpx_board.specs.Looks.{parts_of}
 use Rattle.mpx_format.specs.Decoding.{Refuses}
@@ -11,11 +10,11 @@ returns-in_err-parts-clause-only c = λ v s.
     let p = err_from_is_err_and c.from_residual.result c.from_residual.ensures.1 in
     rw (p.1, p.2) (subst (λ r. Refuses c.in_err-parts.field-0.0 r) (decoded_again c.args.bytes.now v s) c.in_err-parts.ensures.err)
 
+pub from_tidy-requires : goal.from_tidy-requires
+from_tidy-requires c = frame_tidy _ (decoded_found c.args.bytes.now _ (λ i. omega (arith, c.type_inv.bytes i)) c.in_ok-parts.ensures.ok).fits
+
 pub returns-clause-found : goal.returns-clause-found
-returns-clause-found c = decoded_found c.args.bytes.now (parts_of c.in-Some.board) (λ i. omega (arith, c.type_inv.bytes i)) (c.in_ok-parts.ensures.ok ∙ ap Ok (sym c.in-Some.ensures.1))
+returns-clause-found c = decoded_found c.args.bytes.now (parts_of c.from_tidy.result) (λ i. omega (arith, c.type_inv.bytes i)) (c.in_ok-parts.ensures.ok ∙ ap Ok (sym c.from_tidy.ensures))
 
 pub returns-clause-only : goal.returns-clause-only
-returns-clause-only c = λ v s. sym (decoded_again c.args.bytes.now v s) ∙ c.in_ok-parts.ensures.ok ∙ ap Ok (sym c.in-Some.ensures.1)
-
-pub unreachable-requires : goal.unreachable-requires
-unreachable-requires c = both_ways _ c.in-None.ensures (frame_tidy _ (decoded_found c.args.bytes.now _ (λ i. omega (arith, c.type_inv.bytes i)) c.in_ok-parts.ensures.ok).fits)
+returns-clause-only c = λ v s. sym (decoded_again c.args.bytes.now v s) ∙ c.in_ok-parts.ensures.ok ∙ ap Ok (sym c.from_tidy.ensures)

@@ -1,7 +1,7 @@
-use Rattle.std.proofs.Common.{◌≡◌, length}
+use Rattle.std.proofs.Common.{◌≡◌, ◌≤◌, ◌*◌, ◌-◌, length}
 use Rattle.std.specs.List.{All}
 use Rattle.std.specs.Prelude.{vec_capacity}
-use Rattle.mpx_num.specs.Types.{IsInRange}
+use Rattle.mpx_num.specs.Types.{IsInRange, width}
 use Rattle.mpx_format.specs.Posts.{integer}
 use Rattle.mpx_decode.proofs.Loop.{ReadSoFar}
 use Rattle.mpx_decode.proofs.items.read_all.Given as goal
@@ -12,4 +12,5 @@ invariant-loop g l = record {
   in_range : All (IsInRange g.N.Number.ty) l.numbers.items;
   len : length l.numbers.items ≡ l.counter;
   capacity : vec_capacity l.numbers ≡ l.count;
+  enough : width g.N.Number.ty * (l.count - l.counter) ≤ 8 * length l.rest;
 }

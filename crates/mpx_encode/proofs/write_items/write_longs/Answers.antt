@@ -1,17 +1,17 @@
-use Rattle.std.proofs.Common.{◌≡◌, ◌++◌, pos, get_or, to_z, of_z, refl, rules}
-use Rattle.std.specs.Int.{w128}
-use Rattle.std.proofs.lemmas.Int.{to_z-of_z}
+use Rattle.std.proofs.Common.{◌≡◌, ◌++◌, sym, subst, arith, rules}
+use Rattle.std.specs.List.{All, flat_map}
+use Rattle.std.proofs.lemmas.List.Elements.{All-drop}
+use Rattle.mpx_num.specs.Types.{IsInRange}
 use Rattle.mpx_format.specs.Posts.{integer}
-use Rattle.mpx_encode.proofs.Integers.{integer_in_bytes}
-use Rattle.mpx_encode.proofs.Loops.{written_at}
+use Rattle.mpx_encode.proofs.Loops.{written_block}
 use Rattle.mpx_encode.proofs.write_items.write_longs.Goals as goal
 
-pub loop-number-preserved : goal.loop-number-preserved
-loop-number-preserved c =
-    let nums = c.args.nums.now in
-    let i = c.loop-number.number-index in
-    let z = get_or nums i (pos 0) in
-    let same : to_z w128 (of_z w128 z) ≡ z = to_z-of_z w128 z (search rules) in
-    let bytes = integer_in_bytes 8 c.args.ty z c.bits.result c.requires.width (rw same at c.bits.ensures.value) c.bits.ensures.below in
-    let added : c.write_u64.new.out.items ≡ c.loop-number.out.items ++ (integer c.args.ty).spelling z = rw bytes (search rules) in
-    written_at (integer c.args.ty).spelling nums i z (pos 0) c.args.out.now.items c.loop-number.out.items c.write_u64.new.out.items c.loop-number-test.true refl c.loop-number.invariant added
+pub loop-preserved : goal.loop-preserved
+loop-preserved c =
+    let rest = c.loop.rest.now in
+    let front : c.write_few_longs.new.out.items ≡ c.loop.out.items ++ flat_map (integer c.args.ty).spelling c.split_at.result.0.now = search rules in
+    record {
+      written = rw c.split_at.ensures.back (written_block (integer c.args.ty).spelling 32 rest c.loop.out.items _ _ (rw c.split_at.ensures.front at front) c.loop.invariant.written);
+      range = subst (All (IsInRange c.args.ty)) (sym c.split_at.ensures.back) (All-drop (IsInRange c.args.ty) 32 rest c.loop.invariant.range);
+      left = omega (arith, c.split_at.ensures.back_len, c.loop.invariant.left);
+    }

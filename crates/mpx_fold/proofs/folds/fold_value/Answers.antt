@@ -1,5 +1,4 @@
 use Rattle.std.proofs.Common.{◌≡◌, ℕ, ◌∙◌, ap, sym, subst}
-use Rattle.std.specs.Result.{IfOk}
 use Rattle.mpx_kind.specs.declared.kinds.Kind.{Kind}
 use Rattle.mpx_kind.specs.declared.kinds.Family.{Family}
 use Rattle.mpx_post.specs.declared.value.Value.{Value}
@@ -7,6 +6,7 @@ use Rattle.mpx_post.specs.Kinds.{family_of, fields_of}
 use Rattle.mpx_post.specs.Posts.{Given}
 use Rattle.mpx_post.specs.Rows.{RowView}
 use Rattle.mpx_post.specs.Agreement.{first_of}
+use Rattle.mpx_post.specs.Values.{GivesValue}
 use Rattle.mpx_kind.proofs.Families.{kind_is}
 use Rattle.mpx_fold.specs.Folds.{fold_in, fold_value}
 use Rattle.mpx_fold.proofs.Contributions.{reduction_has_op}
@@ -31,7 +31,7 @@ value_of-requires-clause-reduces c =
 pub returns-in-Reduction : goal.returns-in-Reduction
 returns-in-Reduction c =
     let family = first_family c.args.row.now _ _ _ _ c.post.ensures.value c.kind.ensures c.family.ensures c.in-Reduction.is in
-    subst (λ (value : Value). IfOk c.value_of.result (λ v. v ≡ value)) (by_family c.args.row.now c.args.rank _ family) c.value_of.ensures
+    subst (λ (value : Value). GivesValue value c.value_of.result) (by_family c.args.row.now c.args.rank _ family) c.value_of.ensures
 
 pub returns-in-Exchange : goal.returns-in-Exchange
 returns-in-Exchange c =

@@ -1,12 +1,9 @@
-use Rattle.std.proofs.Common.{◌≡◌, ℕ, ◌==◌, ◌∙◌, Bool, true, false, Option, Some, Result, unwrap_or, inl, inr, ap, sym, subst, arith}
-use Rattle.std.specs.Result.{IfOk}
+use Rattle.std.proofs.Common.{◌≡◌, ℕ, ◌==◌, ◌∙◌, Bool, true, false, Option, Some, unwrap_or, inl, inr, ap, sym, arith}
 use Rattle.std.proofs.lemmas.Bool.{cond-true, cond-false, false≢true}
 use Rattle.std.proofs.lemmas.Bool.Decides.{nat_tests}
-use Rattle.join_core.specs.declared.memory.OutOfMemory.{OutOfMemory}
 use Rattle.mpx_kind.specs.declared.kinds.Exchange.{Exchange}
 use Rattle.mpx_kind.specs.declared.kinds.Exchange.TheVariants.{Gather}
 use Rattle.mpx_kind.specs.declared.kinds.Kind.{Kind}
-use Rattle.mpx_post.specs.declared.value.Value.{Value}
 use Rattle.mpx_post.specs.declared.value.Value.TheVariants.{Nothing, Items}
 use Rattle.mpx_post.specs.Kinds.{exchange_kind, fields_of}
 use Rattle.mpx_post.specs.Posts.{numbers_of, root_of}
@@ -16,11 +13,8 @@ use Rattle.mpx_post.specs.Values.{as_items}
 use Rattle.mpx_move.specs.Moves.{block_for, joined, move_of}
 use Rattle.mpx_move.specs.Senders.{sends_blocks}
 use Rattle.mpx_move.proofs.Senders.{is_sender}
+use Rattle.mpx_post.proofs.Values.{gives_items}
 use Rattle.mpx_move.proofs.moves.value_of.Goals as goal
-
--- what an answer gives, in other words
-gives : (answer : Result Value OutOfMemory) (told value : Value) → told ≡ value → IfOk answer (λ v. v ≡ told) → IfOk answer (λ v. v ≡ value)
-gives answer told value e h = subst (λ (given : Value). IfOk answer (λ v. v ≡ given)) e h
 
 -- the value by the exchange
 by : (row : RowView) (rank : ℕ) (read exchange : Exchange) → read ≡ exchange → move_of exchange row rank ≡ move_of read row rank
@@ -62,7 +56,7 @@ returns-then-root-from c =
     let row = c.args.row.now in
     let here : (c.args.rank == root_of (first_of row)) ≡ true = at_root row c.root-in-Gather.result c.args.rank c.root-in-Gather.ensures.value (c.if-root-from.true ∙ c.from.ensures) in
     let all : as_items row (joined row) ≡ move_of Gather row c.args.rank = sym (cond-true _ (as_items row (joined row)) Nothing here) in
-    gives _ _ _ (all ∙ elim c.in-Gather.is [ inl is ↦ by row c.args.rank c.args.exchange _ is | inr is ↦ by row c.args.rank c.args.exchange _ is ]) c.joined_value.ensures
+    gives_items _ _ _ (all ∙ elim c.in-Gather.is [ inl is ↦ by row c.args.rank c.args.exchange _ is | inr is ↦ by row c.args.rank c.args.exchange _ is ]) c.joined_value.ensures tt
 
 pub returns-else-root-from : goal.returns-else-root-from
 returns-else-root-from c =
@@ -75,12 +69,12 @@ pub returns-in-Scatter : goal.returns-in-Scatter
 returns-in-Scatter c =
     let row = c.args.row.now in
     let block = ap (λ (root : ℕ). as_items row (block_for row c.args.rank root)) (sym (root_is row c.root-in-Scatter.result c.root-in-Scatter.ensures.value)) in
-    gives _ _ _ (block ∙ elim c.in-Scatter.is [ inl is ↦ by row c.args.rank c.args.exchange _ is | inr is ↦ by row c.args.rank c.args.exchange _ is ]) c.block_value.ensures
+    gives_items _ _ _ (block ∙ elim c.in-Scatter.is [ inl is ↦ by row c.args.rank c.args.exchange _ is | inr is ↦ by row c.args.rank c.args.exchange _ is ]) c.block_value.ensures tt
 
 pub returns-in-Allgather : goal.returns-in-Allgather
 returns-in-Allgather c =
-    gives _ _ _ (elim c.in-Allgather.is [ inl is ↦ by c.args.row.now c.args.rank c.args.exchange _ is | inr is ↦ by c.args.row.now c.args.rank c.args.exchange _ is ]) c.joined_value-in-Allgather.ensures
+    gives_items _ _ _ (elim c.in-Allgather.is [ inl is ↦ by c.args.row.now c.args.rank c.args.exchange _ is | inr is ↦ by c.args.row.now c.args.rank c.args.exchange _ is ]) c.joined_value-in-Allgather.ensures tt
 
 pub returns-in-Alltoall : goal.returns-in-Alltoall
 returns-in-Alltoall c =
-    gives _ _ _ (elim c.in-Alltoall.is [ inl is ↦ by c.args.row.now c.args.rank c.args.exchange _ is | inr is ↦ by c.args.row.now c.args.rank c.args.exchange _ is ]) c.blocks_value.ensures
+    gives_items _ _ _ (elim c.in-Alltoall.is [ inl is ↦ by c.args.row.now c.args.rank c.args.exchange _ is | inr is ↦ by c.args.row.now c.args.rank c.args.exchange _ is ]) c.blocks_value.ensures tt

@@ -1,6 +1,5 @@
-use Rattle.std.proofs.Common.{◌≡◌, ℕ, ◌∙◌, Option, None, Some, ap, sym, subst}
+use Rattle.std.proofs.Common.{◌≡◌, ℕ, ◌∙◌, Option, None, Some, ap, sym}
 use Rattle.std.specs.Option.{option_copied}
-use Rattle.std.specs.Result.{IfOk}
 use Rattle.mpx_birth.specs.Topologies.{TopologyView}
 use Rattle.mpx_kind.specs.declared.kinds.Kind.{Kind}
 use Rattle.mpx_kind.specs.declared.kinds.Family.{Family}
@@ -11,6 +10,7 @@ use Rattle.mpx_post.specs.Posts.{Given}
 use Rattle.mpx_post.specs.Rows.{RowView}
 use Rattle.mpx_post.specs.Agreement.{first_of}
 use Rattle.mpx_neigh.specs.Neighbourhoods.{neigh_in, neigh_value}
+use Rattle.mpx_post.proofs.Values.{gives_items}
 use Rattle.mpx_neigh.proofs.neighbourhoods.neigh_value.Goals as goal
 
 -- the family that is read is that of rank 0's kind
@@ -32,7 +32,7 @@ pub returns-in-Some-Neighbourhood : goal.returns-in-Some-Neighbourhood
 returns-in-Some-Neighbourhood c =
     let family = first_family c.args.row.now _ _ _ _ c.post.ensures.value c.kind.ensures c.family.ensures c.in-Some-Neighbourhood.is-1 in
     let along = by_family c.args.birth.now.topology c.args.row.now c.args.rank _ _ (sym (ap option_copied c.in-Some-Neighbourhood.is-0) ∙ c.topology.ensures.value) family in
-    subst (λ (value : Value). IfOk c.value_of.result (λ v. v ≡ value)) along c.value_of.ensures
+    gives_items _ _ _ along c.value_of.ensures tt
 
 pub returns-in-Some-Exchange : goal.returns-in-Some-Exchange
 returns-in-Some-Exchange c =

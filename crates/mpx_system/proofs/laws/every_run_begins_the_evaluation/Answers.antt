@@ -6,6 +6,7 @@ use Rattle.mpx_evaluation.proofs.Ways.{way-adds}
 use Rattle.mpx_evaluation.proofs.Ahead.{on_way-reached, finished}
 use Rattle.mpx_system.specs.Systems.{Doing, MayDoAll, does_all, start_system}
 use Rattle.mpx_system.proofs.Coupling.{Couples, couples_all, couples_start, tells_results}
+use Rattle.mpx_system.proofs.Happenings.{of_happenings}
 use Rattle.mpx_system.proofs.laws.every_run_begins_the_evaluation.Goals as goal
 
 coupled : (script : List (List Statement)) (ranks size : ℕ) (doings : List Doing) → MayDoAll ranks (start_system script ranks size) doings → Couples script ranks (does_all (start_system script ranks size) doings)
@@ -31,3 +32,6 @@ returns-clause-carries_out c script ranks size doings m p = (coupled script rank
 
 pub returns-clause-sound : goal.returns-clause-sound
 returns-clause-sound c script ranks size doings m = sound_of (does_all (start_system script ranks size) doings).world (coupled script ranks size doings m).upheld.holds
+
+pub returns-clause-happenings : goal.returns-clause-happenings
+returns-clause-happenings c script ranks size doings m = of_happenings script ranks size doings m

@@ -1,8 +1,6 @@
 use Rattle.std.proofs.Common.{◌≡◌, ◌↔◌, IsTrue, Bool, List, ℤ, sym, ap, rules}
 use denote.Enum.Bare.{same_true}
 use Rattle.std.specs.Bool.{Decides}
-use Rattle.std.proofs.lemmas.Bool.Decides.{Decides-int_eq}
-use Rattle.std.proofs.lemmas.Slice.Eq.{slice_eq-Decides}
 use Rattle.mpx_num.specs.contracts.types.Ty.{the_type}
 use Rattle.mpx_num.specs.declared.types.Ty.{Ty}
 use Rattle.mpx_num.specs.ItemList.{ItemList}
@@ -21,6 +19,5 @@ same_items t u xs ys r e d =
 
 pub returns-then-eq : goal.returns-then-eq
 returns-then-eq c =
-    let lists : Decides c.eq-then-eq.result (c.as_slice.result.now ≡ c.as_slice-then-eq.result.now) = slice_eq-Decides Decides-int_eq _ _ _ c.eq-then-eq.ensures in
-    let fields : Decides c.eq-then-eq.result (c.self.inside.nums.value.items ≡ c.other.inside.nums.value.items) = rw (c.as_slice.ensures.value, c.as_slice-then-eq.ensures.value, c.deref.ensures, c.deref-then-eq.ensures) at lists in
+    let fields : Decides c.are_equal.result (c.self.inside.nums.value.items ≡ c.other.inside.nums.value.items) = rw (c.as_slice.ensures.value, c.as_slice-then-eq.ensures.value, c.deref.ensures, c.deref-then-eq.ensures) at c.are_equal.ensures in
     rw (← c.self.view_is, ← c.other.view_is) (same_items c.self.inside.ty c.other.inside.ty _ _ _ (same_true the_type (search rules) _ _ (sym c.if-eq.ensures)) fields)

@@ -1,0 +1,83 @@
+-- So many numbers of one type: too few bytes for all of them.
+use Rattle.std.proofs.Common.{◌≡◌, ℕ, zero, suc, ◌+◌, ◌-◌, ◌*◌, ◌/◌, ◌^◌, ◌<◌, ◌≤◌, ℤ, List, [], ◌∷◌, ◌++◌, length, drop, take, Ok, Err, refl, sym, ap, ◌∙◌, arith, inl, inr}
+use Rattle.std.specs.Int.{Width, w16, w32, w64, byte_len, from_be_bytes}
+use Rattle.std.proofs.lemmas.Bool.{cases_lt, lt-ltb, le-ltb}
+use Rattle.std.proofs.lemmas.List.{length-drop}
+use Rattle.std.proofs.Math.Nat.{mul-le-mul_left, mul-div-le, mul_assoc, mul-suc, div-lt_iff_lt-mul}
+use Rattle.mpx_num.specs.Types.{width, depth}
+use Rattle.mpx_num.specs.declared.types.Ty.{Ty}
+use Rattle.mpx_num.specs.declared.types.Ty.TheVariants.{I8, I16, I32, I64, U8, U16, U32, U64, TwoInt}
+use Rattle.mpx_format.specs.declared.faults.Fault.TheVariants.{ShortFrame}
+use Rattle.mpx_format.specs.Format.{Format, byte, number, many_read}
+use Rattle.mpx_format.specs.Posts.{integer, bits_of, signed}
+
+-- a number of so many bytes stands at the front, or there are too few
+record Stands (len : ℕ) (f : Format ℕ) : Type 0 where
+  short : (bytes : List ℕ) → length bytes < len → f.read bytes ≡ Err ShortFrame
+  long : (bytes : List ℕ) → len ≤ length bytes → (n : ℕ) × (f.read bytes ≡ Ok (n, drop len bytes))
+
+byte_stands : Stands 1 byte
+byte_stands = record { short = byte_short; long = byte_long }
+  where
+    byte_short : (bytes : List ℕ) → length bytes < 1 → byte.read bytes ≡ Err ShortFrame
+    byte_short [] lt = refl
+    byte_short (b ∷ bytes) lt = absurd (omega arith)
+
+    byte_long : (bytes : List ℕ) → 1 ≤ length bytes → (n : ℕ) × (byte.read bytes ≡ Ok (n, drop 1 bytes))
+    byte_long [] le = absurd (omega arith)
+    byte_long (b ∷ bytes) le = (b, refl)
+
+number_stands : (w : Width) → Stands (byte_len w) (number w)
+number_stands w = record {
+  short = λ bytes lt. rw (lt-ltb (length bytes) (byte_len w) lt) refl;
+  long = λ bytes le. (from_be_bytes w (take (byte_len w) bytes), rw (le-ltb (length bytes) (byte_len w) le) refl);
+}
+
+bits_stand : (ty : Ty) → Stands (width ty / 8) (bits_of ty)
+bits_stand I8 = byte_stands
+bits_stand I16 = number_stands w16
+bits_stand I32 = number_stands w32
+bits_stand I64 = number_stands w64
+bits_stand U8 = byte_stands
+bits_stand U16 = number_stands w16
+bits_stand U32 = number_stands w32
+bits_stand U64 = number_stands w64
+bits_stand TwoInt = number_stands w32
+
+integer_short : (ty : Ty) (bytes : List ℕ) → length bytes < width ty / 8 → (integer ty).read bytes ≡ Err ShortFrame
+unfolding integer
+integer_short ty bytes lt = rw ((bits_stand ty).short bytes lt) refl
+
+integer_long : (ty : Ty) (bytes : List ℕ) → width ty / 8 ≤ length bytes → (z : ℤ) × ((integer ty).read bytes ≡ Ok (z, drop (width ty / 8) bytes))
+unfolding integer
+integer_long ty bytes le = let n = (bits_stand ty).long bytes le in (signed (2 ^ width ty) (depth ty) n.0, rw n.1 refl)
+
+-- too few bytes for so many numbers are a short frame
+pub too_short : (ty : Ty) (count : ℕ) (before : List ℤ) (bytes : List ℕ) → length bytes < count * (width ty / 8) → many_read (λ before. integer ty) count before bytes ≡ Err ShortFrame
+unfolding many_read
+too_short ty zero before bytes lt = absurd (omega arith)
+too_short ty (suc n) before bytes lt = elim (cases_lt (length bytes) (width ty / 8)) [
+  | inl few ↦ rw (integer_short ty bytes few) refl
+  | inr enough ↦
+      let z = integer_long ty bytes enough in
+      let less : length (drop (width ty / 8) bytes) < n * (width ty / 8) = omega (arith, length-drop (width ty / 8) bytes) in
+      rw (z.1, too_short ty n (before ++ z.0 ∷ []) (drop (width ty / 8) bytes) less) refl
+]
+
+-- WHAT A LOOP OVER THEM HAS LEFT
+
+module _ (wide len : ℕ) (is : 8 * len ≡ wide) where
+  pub enough : (count l : ℕ) → count ≤ l / len → wide * count ≤ 8 * l
+  enough count l le =
+      let a : len * count ≤ len * (l / len) = mul-le-mul_left len le in
+      let b : len * (l / len) ≤ l = mul-div-le l len in
+      let c : wide * count ≡ 8 * (len * count) = ap (λ n. n * count) (sym is) ∙ mul_assoc 8 len count in
+      omega (arith, a, b, c)
+
+  pub too_few : (count l : ℕ) → 0 < len → l / len < count → l < count * (wide / 8)
+  too_few count l some lt =
+      let k : wide / 8 ≡ len = omega (arith, is) in
+      rw k ((div-lt_iff_lt-mul {k = len} {x = l} {y = count} some).0 lt)
+
+pub one_fewer : (wide count i : ℕ) → i < count → wide * (count - i) ≡ wide * (count - (i + 1)) + wide
+one_fewer wide count i lt = let k : count - i ≡ suc (count - (i + 1)) = omega arith in ap (λ n. wide * n) k ∙ mul-suc wide (count - (i + 1))

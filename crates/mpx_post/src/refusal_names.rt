@@ -1,0 +1,41 @@
+// The names of refusals.
+ghost use Rattle.std.specs.Prelude.{◌≡◌, Some};
+ghost use Rattle.mpx_post.specs.RefusalNames.{refusal_name};
+
+use crate::draft::PostError;
+use std::fmt;
+
+impl PostError {
+    /// The name of the reason, as `NotMember`.
+    pub fn name(self) -> &'static str
+        ensures { result.now ≡ refusal_name self }
+    {
+        match self {
+            PostError::NotMember => "NotMember",
+            PostError::RootOutOfRange => "RootOutOfRange",
+            PostError::OpNotForType => "OpNotForType",
+            PostError::CountsLength => "CountsLength",
+            PostError::ItemsLength => "ItemsLength",
+            PostError::ItemOutOfRange => "ItemOutOfRange",
+            PostError::TooManyItems => "TooManyItems",
+            PostError::NoTopology => "NoTopology",
+            PostError::CallsUsedUp => "CallsUsedUp",
+            PostError::DepthUsedUp => "DepthUsedUp",
+            PostError::BadGroup => "BadGroup",
+            PostError::BadEdge => "BadEdge",
+            PostError::TooManyEdges => "TooManyEdges",
+            PostError::BadTag => "BadTag",
+            PostError::OutOfMemory => "OutOfMemory",
+        }
+    }
+}
+
+// It prints as its name.
+impl fmt::Display for PostError {
+    ghost output = { λ refusal. Some (refusal_name refusal) };
+
+    fn fmt<W: fmt::Write>(&self, f: &mut fmt::Formatter<W>) -> fmt::Result {
+        let name = self.name();
+        write!(f, "{name}")
+    }
+}
