@@ -18,7 +18,7 @@ use Rattle.mpx_system.specs.Systems.{System, Doing, Nets, Drives, IsOfHappenings
 -- POSTS, which may always happen
 
 may_gathered : (w : WorldView) (p : ℕ) (draft : Draft) (parent : Name) (asked : Asked) (answer : Result GatheringView PostError) → MayGoOn w (posts_gathered p draft parent asked answer)
-may_gathered w p draft parent asked (Ok g) = (tt, tt, tt)
+may_gathered w p draft parent asked (Ok g) = (tt, (tt, tt))
 may_gathered w p draft parent asked (Err refusal) = tt
 
 may_in : (w : WorldView) (p : ℕ) (draft : Draft) (asked : Option Asked) (name : Name) (birth : BirthView) → MayGoOn w (posts_in p draft asked name birth)
