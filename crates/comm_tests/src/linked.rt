@@ -25,6 +25,8 @@ impl Host for Linked {
 
     ghost turned = { λ a n b. b.turns ≡ a.turns + n };
 
+    ghost turn_refused = { λ a b. b.turns ≡ a.turns };
+
     fn post(&mut self, alloc: Global, name: &Name, draft: Draft) -> Result<u32, PostError> {
         self.mine.post(alloc, name, draft)
     }

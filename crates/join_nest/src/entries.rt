@@ -242,19 +242,6 @@ fn push_delta<K: Key, J: Join>(
     Ok(())
 }
 
-// Adds a copy at the end, with room for so many.
-fn push_with_room<K: Key, J: Exact>(
-    alloc: Global,
-    made: &mut Vec<(K, J)>,
-    entry: &(K, J),
-    room: usize,
-) -> Result<(), OutOfMemory>
-    ensures { OnOk result (seen J.view made.new.items ≡ seen J.view made.old.items ++ (entry.now.0, J.view entry.now.1) ∷ []) }
-{
-    made.reserve(room)?;
-    push_copy(alloc, made, entry)
-}
-
 // Joins the others in, in one pass over both: values of keys that are there in place, and then the new keys. An `Err`
 // leaves joined what was passed, and no new key; where all others are below, no memory is asked for.
 pub fn join_entries<K: Key, J: Join>(
@@ -280,7 +267,7 @@ pub fn join_entries<K: Key, J: Join>(
         match entries[i].0.cmp(&theirs.0) {
             Ordering::Less => i += 1,
             Ordering::Greater => {
-                push_with_room(alloc, &mut fresh, theirs, others.len() - j)?;
+                push_copy(alloc, &mut fresh, theirs)?;
                 j += 1;
             }
             Ordering::Equal => {
@@ -294,9 +281,32 @@ pub fn join_entries<K: Key, J: Join>(
     put_changes(alloc, entries, fresh)
 }
 
-// Sets these values. From the greatest key on both lists go to a tail in turn, down to where the first change belongs, and
-// then back: no entry below that is moved, and none more than twice. An `Err` changes nothing.
+// Sets these values. An `Err` changes nothing.
 fn put_changes<K: Key, J: Drop>(
+    alloc: Global,
+    entries: &mut Vec<(K, J)>,
+    mut changes: Vec<(K, J)>,
+) -> Result<(), OutOfMemory>
+    requires entries { IsTrue (is_sorted K.cmp entries.old.items) }
+    requires changes { IsTrue (is_sorted K.cmp changes.items) }
+    ensures ok { OnOk result (entries.new.items ≡ put_all K.cmp changes.items entries.old.items) }
+    ensures err { OnErr result (entries.new.items ≡ entries.old.items) }
+    ensures some { OnErr result (0 < length changes.items) }
+{
+    if entries.is_empty() {
+        *entries = changes;
+        return Ok(());
+    }
+    if changes.len() == 1 {
+        let (key, value) = changes.take_last();
+        return put_entry(entries, key, value);
+    }
+    merge_changes(alloc, entries, changes)
+}
+
+// The same of any lists. From the greatest key on both go to a tail in turn, down to where the first change belongs, and
+// then back: no entry below that is moved, and none more than twice.
+fn merge_changes<K: Key, J: Drop>(
     alloc: Global,
     entries: &mut Vec<(K, J)>,
     mut changes: Vec<(K, J)>,

@@ -7,3 +7,4 @@ pub mod Facts
 pub mod Order
 pub mod Left
 pub mod Tests
+pub mod Acknowledging

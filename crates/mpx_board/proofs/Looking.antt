@@ -39,7 +39,7 @@ number_join p None y = omega arith
 number_join p (Some a) None = omega arith
 number_join p (Some a) (Some b) = numbers_join a b p
 
-ack_join : (name : Name) (p : ℕ) (x y : Option AcksView) → ack_in name p (option_join acks_joining x y) ≡ max (ack_in name p x) (ack_in name p y)
+pub ack_join : (name : Name) (p : ℕ) (x y : Option AcksView) → ack_in name p (option_join acks_joining x y) ≡ max (ack_in name p x) (ack_in name p y)
 ack_join name p None y = omega arith
 ack_join name p (Some a) None = omega arith
 ack_join name p (Some a) (Some b) = ap (number_in p) (get_join name_total numbers_joining a b name) ∙ number_join p (get a name) (get b name)

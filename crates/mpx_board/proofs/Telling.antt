@@ -39,7 +39,7 @@ module _ {K V : Type 0} {R : K → K → Ordering} where
   replaced_absent old k b e = ap (λ o. cond (is_some o) (insert old k b) old) (sym e)
 
 module _ {K V : Type 0} {R : K → K → Ordering} (o : IsTotalOrder R) where
-  set_by_insert : (old new : FinMap R V) (k : K) (v : V) → new ≡ insert old k v → IsSet R old new k v
+  pub set_by_insert : (old new : FinMap R V) (k : K) (v : V) → new ≡ insert old k v → IsSet R old new k v
   set_by_insert old new k v e = record { gets = λ q. ap (λ m. get m q) e ∙ get-insert o old k v q }
 
   -- a value put in where there was none to take out
@@ -167,7 +167,7 @@ first_told_tidy blank new p post e f =
 
 -- POSTS BY CALL
 
-both_tests : {A : Type 0} (s t : Bool) (x y : A) → cond s (cond t x y) y ≡ cond (s && t) x y
+pub both_tests : {A : Type 0} (s t : Bool) (x y : A) → cond s (cond t x y) y ≡ cond (s && t) x y
 both_tests true t x y = refl
 both_tests false t x y = refl
 

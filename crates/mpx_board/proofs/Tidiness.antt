@@ -128,7 +128,7 @@ module _ {V : Type 0} (j : Joining V) where
   nothing_at (Some x) h = cc
 
   module _ {p : V → Bool} (keep : Keeps j p) where
-    joined_at : (x y : Option V) (v : V) → option_join j x y ≡ Some v → ((w : V) → x ≡ Some w → p w ≡ true) → ((w : V) → y ≡ Some w → p w ≡ true) → p v ≡ true
+    pub joined_at : (x y : Option V) (v : V) → option_join j x y ≡ Some v → ((w : V) → x ≡ Some w → p w ≡ true) → ((w : V) → y ≡ Some w → p w ≡ true) → p v ≡ true
     joined_at None y v is s t = t v is
     joined_at (Some x) None v is s t = s v is
     joined_at (Some x) (Some y) v is s t =
@@ -240,7 +240,7 @@ neat_entry_stays = stays_second (flat_joining same_birth) (pair_joining numbers_
 tidy_entry_keep : Keeps entry_joining is_tidy_entry
 tidy_entry_keep = keeps_both (keeps_said entry_laws says_nothing_least) (stays_keeps neat_entry_stays)
 
-tidy_acks_keep : Keeps acks_joining is_tidy_acks
+pub tidy_acks_keep : Keeps acks_joining is_tidy_acks
 tidy_acks_keep = some_keep name_total name_exact numbers_joining (λ name n. is_tidy_numbers n) (λ name. tidy_numbers_keep) numbers_laws
 
 tidy_stays : Stays parts_joining is_tidy

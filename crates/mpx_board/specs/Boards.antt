@@ -105,6 +105,14 @@ only (Front name p n) = about name (record nothing { fronts = λ q. cond (q == p
 only (Dropped name n) = about name (record nothing { dropped = n })
 only (Acknowledged q name p n) = record empty { acks = λ r m s. cond ((r == q) && (same_name m name && (s == p))) n 0 }
 
+-- how many calls of a process on a context
+abbrev pub Numbers : Type 0
+Numbers = Name → (process : ℕ) → ℕ
+
+-- what the process says that it has of the others, and nothing else
+abbrev pub own_acks : (process : ℕ) → Numbers → Look
+own_acks p numbers = record empty { acks = λ q name m. cond (q == p) (numbers name m) 0 }
+
 -- READING A BOARD
 
 -- what is told in one way

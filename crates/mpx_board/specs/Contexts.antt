@@ -4,7 +4,7 @@ use Rattle.std.specs.FinMap.{get}
 use Rattle.join_core.specs.Flat.{FlatView, unknown}
 use Rattle.mpx_post.specs.Posts.{Given}
 use Rattle.mpx_name.specs.Name.{Name}
-use Rattle.mpx_board.specs.Boards.{Context, Look, nothing}
+use Rattle.mpx_board.specs.Boards.{Context, Look, Numbers, nothing}
 use Rattle.mpx_board.specs.Parts.{OfProcesses, CallView, EntryView, AcksView, PartsView}
 
 -- the number at the key: 0 where there is no entry
@@ -32,9 +32,13 @@ abbrev pub number_in : ℕ → Option (OfProcesses ℕ) → ℕ
 number_in p None = 0
 number_in p (Some numbers) = or_zero (get numbers p)
 
+-- what the acknowledgements of one process say
+abbrev pub numbers_of : AcksView → Numbers
+numbers_of acks name p = number_in p (get acks name)
+
 abbrev pub ack_in : Name → ℕ → Option AcksView → ℕ
 ack_in name p None = 0
-ack_in name p (Some acks) = number_in p (get acks name)
+ack_in name p (Some acks) = numbers_of acks name p
 
 -- what the parts of a board say, by look-ups
 unfoldable pub look_of : PartsView → Look

@@ -50,8 +50,12 @@ are_tidy_entries m = all_entries (λ name e. is_tidy_entry e) m
 abbrev pub is_tidy_numbers : OfProcesses ℕ → Bool
 is_tidy_numbers m = not (is_bare m) && has_no_zero m
 
+-- each context that is named has a number, and none is 0
+abbrev pub are_tidy_numbers : AcksView → Bool
+are_tidy_numbers m = all_entries (λ name n. is_tidy_numbers n) m
+
 abbrev pub is_tidy_acks : AcksView → Bool
-is_tidy_acks m = not (is_bare m) && all_entries (λ name n. is_tidy_numbers n) m
+is_tidy_acks m = not (is_bare m) && are_tidy_numbers m
 
 abbrev pub are_tidy_acks : OfProcesses AcksView → Bool
 are_tidy_acks m = all_entries (λ p a. is_tidy_acks a) m

@@ -3,20 +3,21 @@ ghost use Rattle.std.specs.FinMap.{get, insert};
 ghost use Rattle.std.specs.Option.{option_copied, option_map};
 ghost use Rattle.join_core.specs.Flat.{known as knows};
 ghost use Rattle.mpx_board.specs.declared.errors.AddPostError.TheVariants as A;
-ghost use Rattle.mpx_board.specs.Boards.{IsBelow, IsBetween, empty, join, join_all, minimum, only, told, row_on, floor_on, Born, Front, Held, Dropped};
+ghost use Rattle.mpx_board.specs.Boards.{IsBelow, IsBetween, empty, join, join_all, minimum, only, own_acks, told, row_on, floor_on, Born, Front, Held, Dropped, Acknowledged};
 ghost use Rattle.mpx_board.specs.Changes.{is_posted, pruned, cut_to};
-ghost use Rattle.mpx_board.specs.Contexts.{context_of, post_in};
+ghost use Rattle.mpx_board.specs.Contexts.{context_of, numbers_of, post_in};
 ghost use Rattle.mpx_post.specs.Drafts.{most_calls};
-ghost use Rattle.mpx_board.specs.Tidy.{is_tidy, is_unknown};
-ghost use Rattle.mpx_board.specs.Views.{view_of_call, view_of_entries, view_of_entry, view_of_parts};
+ghost use Rattle.mpx_board.specs.Tidy.{are_tidy_numbers, is_tidy, is_unknown};
+ghost use Rattle.mpx_board.specs.Views.{view_of_acks, view_of_call, view_of_entries, view_of_entry, view_of_parts};
 
+use crate::acks::{one_ack, put_joined};
 use crate::errors::{AddPostError, PruneError};
 use crate::fact::{Fact, drop_posts, tell};
 use crate::joins::{
     copied_acks, copied_entries, delta_of_acks, delta_of_entries, join_parts_in, joined_acks,
     joined_entries, leq_acks, leq_entries, same_acks, same_entries,
 };
-use crate::nested::{Call, Entry, Parts, is_tidy_board, known, number_of};
+use crate::nested::{Acks, Call, Entry, Parts, is_tidy_board, known, number_of};
 use join_core::{Exact, Flat, Join, OutOfMemory, Pair};
 use join_nest::Keyed;
 use mpx_group::Proc;
@@ -299,6 +300,63 @@ impl Board {
             name,
             Fact::Front { process, number },
         )
+    }
+
+    /// Joins to the board that the process has or has dropped so many calls of the member. An `Err` changes nothing.
+    pub fn raise_ack(
+        &mut self,
+        alloc: Global,
+        process: Proc,
+        name: &Name,
+        member: Proc,
+        number: u32,
+    ) -> Result<(), OutOfMemory>
+        ensures ok { OnOk result (look self.new ≡ join (look self.old) (only (Acknowledged process name.now member number))) }
+        ensures err { OnErr result (look self.new ≡ look self.old) }
+    {
+        if number == 0 {
+            return Ok(());
+        }
+        let said = one_ack(alloc, name, member, number)?;
+        self.raise_acks(alloc, process, &said)
+    }
+
+    /// Joins to the board that the process has or has dropped all these calls, of which no number is 0. An `Err` changes
+    /// nothing.
+    pub fn raise_acks(
+        &mut self,
+        alloc: Global,
+        process: Proc,
+        said: &Acks,
+    ) -> Result<(), OutOfMemory>
+        requires { IsTrue (are_tidy_numbers (view_of_acks said.now)) }
+        ensures ok { OnOk result (look self.new ≡ join (look self.old) (own_acks process (numbers_of (view_of_acks said.now)))) }
+        ensures err { OnErr result (look self.new ≡ look self.old) }
+    {
+        if said.is_empty() {
+            return Ok(());
+        }
+        put_joined(alloc, &mut self.inside.second, process, said)
+    }
+
+    /// The acknowledgements alone.
+    pub fn only_acks(&self, alloc: Global) -> Result<Board, OutOfMemory>
+        ensures { IfOk result (λ made. look made ≡ record empty { acks = (look self.now).acks }) }
+    {
+        let second = copied_acks(alloc, &self.inside.second)?;
+        Ok(Board {
+            inside: Pair {
+                first: Keyed::new(alloc),
+                second,
+            },
+        })
+    }
+
+    /// Puts the acknowledgements of the other board in place of its own. It takes no memory.
+    pub fn replace_acks(&mut self, other: Board)
+        ensures { look self.new ≡ record (look self.old) { acks = (look other).acks } }
+    {
+        self.inside.second = other.inside.second;
     }
 
     /// Drops the posts of calls below the number, which is at most the floor: what every member has harvested nobody

@@ -6,6 +6,7 @@
 //! a board by look-ups (`specs/Boards.antt`, `specs/Looks.antt`).
 #![tactic(auto)]
 
+mod acks;
 mod board;
 mod errors;
 mod fact;

@@ -22,9 +22,8 @@ use Rattle.mpx_name.specs.Name.{Name, same_name}
 use Rattle.mpx_board.specs.Boards.{Look, Held, only, nothing, told}
 use Rattle.mpx_node.specs.Nodes.{NodeView, OpenedView, posted_on, posted_by, Posts, post_at, checked_on, checked_by, results_on, results_by, front_on}
 use Rattle.mpx_comm.specs.declared.request.Request.{Request}
-use Rattle.mpx_comm.specs.Requests.{same_request, close, close_all, ArePosted, result_of, AreResults, WerePending, HasPosted, next_call, IsRefusal, Asks, Starts, Waits, Calls}
+use Rattle.mpx_comm.specs.Requests.{same_request, close, close_all, ArePosted, result_of, AreResults, WerePending, HasPosted, next_call, IsRefusal, Asks, AwaitsOne, GivesUpOne, Waits, PostsAnd, Calls}
 use Rattle.mpx_comm.specs.declared.answers.WaitError.TheVariants as W
-use Rattle.mpx_comm.specs.declared.answers.CallError.{CallError}
 use Rattle.mpx_comm.specs.declared.answers.CallError.TheVariants as C
 use Rattle.mpx_comm.specs.Later.{Later, IsPending, WasPending, IsOwn}
 use Rattle.join_core.specs.Cases.{first_true, second_true, Answer, yes, no, answer}
@@ -235,15 +234,6 @@ pub is_wanting : (name : Name) (r : Result Given PostError) (e : PostError) (old
 is_wanting name (Ok given) e old new h p = (inr (p.0, refl), p.1)
 is_wanting name (Err x) e old new h p = cc h
 
--- a call that makes its draft
-loosely : (r : Result Given PostError) (e : PostError) → IsRefusal r e → (r ≡ Err e) ⊎ (e ≡ R.OutOfMemory)
-loosely r e (inl told) = inl told
-loosely r e (inr wants) = inr wants.0
-
-pub starts : (name : Name) (draft : Draft) (result : Result Request PostError) (old new : NodeView) (before after : List Request) → Asks name draft result old new before after → Starts name draft result old new before after
-starts name draft (Ok request) old new before after asks = asks
-starts name draft (Err e) old new before after asks = (loosely (checked_on old name draft) e asks.0, asks.1, asks.2)
-
 -- LOOKING AT MANY
 
 -- a list's head and tail
@@ -293,26 +283,24 @@ were_more a b n rs r w later at pending i q l e = by_place (answer (nat_lt i n))
 
 -- BLOCKING CALLS
 
-module _ (name : Name) (draft : Draft) (old mid new : NodeView) (before between after : List Request) (turns : ℕ) (waited made : ℕ → Type 0) (more : (n : ℕ) → waited n → made n) (q : Request) (asks : Starts name draft (Ok q) old mid before between) (later : Later mid new) where
-  pub called : (f : Finished) → Waits q turns waited (Ok f) new between after → Calls name draft turns made (Ok f) old new before after
+module _ {H : Type 0} (node : H → NodeView) (turned : H → ℕ → H → Type 0) (refused : H → H → Type 0) (name : Name) (draft : Draft) (old mid new : H) (before between after : List Request) (turns : ℕ) (q : Request) (asks : Asks name draft (Ok q) (node old) (node mid) before between) (still : turned old 0 mid) (later : Later (node mid) (node new)) where
+  -- the post, and then a wait
+  posts_and : (waits : H → Type 0) → waits mid → PostsAnd node turned name draft old waits
+  posts_and waits since = (mid, still, asks.3, since)
+
+  pub called : (f : Finished) → Waits node turned refused q turns (Ok f) mid new between after → Calls node turned refused name draft turns (Ok f) old new before after
   called f waits =
-      let posted : HasPosted name draft old new = posted_then name draft old mid new asks.1 later in
-      let stored : result_of new (next_call old name) ≡ Some f = ap (result_of new) (sym asks.0) ∙ waits.0 in
-      (posted, stored, posted.own.mine f stored, (waits.1.0, waits.1.1, more waits.1.0 waits.1.2), waits.2 ∙ ap (λ rs. close rs q) asks.2 ∙ ap (λ r. close (before ++ r ∷ []) r) asks.0)
+      let posted : HasPosted name draft (node old) (node new) = posted_then name draft (node old) (node mid) (node new) asks.1 later in
+      let stored : result_of (node new) (next_call (node old) name) ≡ Some f = ap (result_of (node new)) (sym asks.0) ∙ waits.0 in
+      let awaited : AwaitsOne node turned (next_call (node old) name) mid waits.1.0 new = subst (λ (r : Request). AwaitsOne node turned r mid waits.1.0 new) asks.0 waits.1.2 in
+      (posted, stored, posted.own.mine f stored, (waits.1.0, waits.1.1, posts_and (λ h. AwaitsOne node turned (next_call (node old) name) h waits.1.0 new) awaited), waits.2 ∙ ap (λ rs. close rs q) asks.2 ∙ ap (λ r. close (before ++ r ∷ []) r) asks.0)
 
-  pub called_in_vain : (back : Request) → Waits q turns waited (Err (W.StillWaiting back)) new between after → Calls name draft turns made (Err (C.StillWaiting back)) old new before after
+  pub called_in_vain : (back : Request) → Waits node turned refused q turns (Err (W.StillWaiting back)) mid new between after → Calls node turned refused name draft turns (Err (C.StillWaiting back)) old new before after
   called_in_vain back waits =
-      (waits.0 ∙ asks.0, posted_then name draft old mid new asks.1 later, subst (λ (r : Request). IsPending new r.name r.call) (sym waits.0) waits.1, more turns waits.2, waits.3 ∙ asks.2 ∙ ap (λ r. before ++ r ∷ []) (sym waits.0))
+      let awaited : AwaitsOne node turned back mid turns new = subst (λ (r : Request). AwaitsOne node turned r mid turns new) (sym waits.0) waits.2 in
+      (waits.0 ∙ asks.0, posted_then name draft (node old) (node mid) (node new) asks.1 later, subst (λ (r : Request). IsPending (node new) r.name r.call) (sym waits.0) waits.1, posts_and (λ h. AwaitsOne node turned back h turns new) awaited, waits.3 ∙ asks.2 ∙ ap (λ r. before ++ r ∷ []) (sym waits.0))
 
-  pub called_without_memory : (back : Request) → Waits q turns waited (Err (W.OutOfMemory back)) new between after → Calls name draft turns made (Err (C.OutOfMemory back)) old new before after
+  pub called_without_memory : (back : Request) → Waits node turned refused q turns (Err (W.OutOfMemory back)) mid new between after → Calls node turned refused name draft turns (Err (C.OutOfMemory back)) old new before after
   called_without_memory back waits =
-      (waits.0 ∙ asks.0, posted_then name draft old mid new asks.1 later, waits.1 ∙ asks.2 ∙ ap (λ r. before ++ r ∷ []) (sym waits.0))
-
--- CALLS ON A GATHERING
-
--- a call's turns count from before its gathering was opened
-pub calls_since : (name : Name) (draft : Draft) (turns : ℕ) (waited made : ℕ → Type 0) (result : Result Finished CallError) (old new : NodeView) (before after : List Request) → ((n : ℕ) → waited n → made n) → Calls name draft turns waited result old new before after → Calls name draft turns made result old new before after
-calls_since name draft turns waited made (Ok finished) old new before after more call = (call.0, call.1, call.2, (call.3.0, call.3.1, more call.3.0 call.3.2), call.4)
-calls_since name draft turns waited made (Err (C.Refused e)) old new before after more call = (call.0, more 0 call.1)
-calls_since name draft turns waited made (Err (C.StillWaiting request)) old new before after more call = (call.0, call.1, call.2, more turns call.3, call.4)
-calls_since name draft turns waited made (Err (C.OutOfMemory request)) old new before after more call = call
+      let gave_up : GivesUpOne node turned refused back turns mid new = subst (λ (r : Request). GivesUpOne node turned refused r turns mid new) (sym waits.0) waits.1 in
+      (waits.0 ∙ asks.0, posted_then name draft (node old) (node mid) (node new) asks.1 later, posts_and (λ h. GivesUpOne node turned refused back turns h new) gave_up, waits.2 ∙ asks.2 ∙ ap (λ r. before ++ r ∷ []) (sym waits.0))

@@ -24,7 +24,8 @@ use Rattle.mpx_node.specs.declared.finished.Finished.{Finished}
 use Rattle.mpx_node.specs.declared.node.Harvest.{Harvest}
 use Rattle.mpx_node.specs.declared.node.Harvest.TheVariants.{Done, NotYet, NotOpened}
 use Rattle.mpx_node.specs.Harvests.{Harvests}
-use Rattle.mpx_node.specs.Nodes.{NodeView, OpenedView, posted_by, results_on, results_by, front_on, next_result, next_of, result_of, outcome_on, learn, StopsTaking, add_result, children_on, or_new, opens, stores_on, is_new_to, harvest_part, Opens, gathering_fact, gathering_name, open_gathering_node}
+use Rattle.mpx_node.specs.Deltas.{SaysWhatItHas}
+use Rattle.mpx_node.specs.Nodes.{own_acks, NodeView, OpenedView, posted_by, results_on, results_by, front_on, next_result, next_of, result_of, outcome_on, learn, StopsTaking, add_result, children_on, or_new, opens, stores_on, is_new_to, harvest_part, Opens, gathering_fact, gathering_name, open_gathering_node}
 use Rattle.mpx_comm.specs.Later.{result_at, IsHeld, IsOwn, Later, IsPending, WasPending}
 
 -- a fact that holds whatever the refusal is
@@ -291,6 +292,11 @@ held_added c d k p given e = record {
 pub later_takes : {E : Type 0} (r : Result (Unit {0}) E) (part : Look) (old new : NodeView) → OnOk r (new ≡ learn part old) → OnErr r (StopsTaking part old new) → Later old new
 later_takes (Ok u) part old new ok err = subst (Later old) (sym ok) (later_learns part old)
 later_takes (Err e) part old new ok err = later_stops part old new err
+
+-- it says what it has, or that is refused
+pub later_says : {T E : Type 0} (r : Result T E) (old new : NodeView) → OnOk r (SaysWhatItHas old new) → OnErr r (new ≡ old) → Later old new
+later_says (Ok x) old new ok err = subst (Later old) (sym ok.learnt) (later_learns (own_acks old.me ok.numbers) old)
+later_says (Err e) old new ok err = later_same old new err
 
 -- it drops what all members have harvested, or that is refused
 pub later_prunes : {E : Type 0} (r : Result (Unit {0}) E) (part : Look) (old new : NodeView) → OnOk r (new ≡ learn part old) → OnErr r (new ≡ old) → Later old new

@@ -21,6 +21,7 @@ use Rattle.mpx_comm.specs.declared.answers.WaitError.TheVariants.{StillWaiting, 
 use Rattle.mpx_comm.specs.declared.answers.CallError.{CallError}
 use Rattle.mpx_comm.specs.declared.answers.CallError.TheVariants as C
 use Rattle.mpx_comm.specs.Later.{result_at, IsAtHand, IsOwn, IsPending, WasPending}
+use Rattle.mpx_comm.specs.Turns.{Awaits, GivesUp}
 use Rattle.mpx_comm.specs.Lines.{create_group}
 
 abbrev pub same_request : Request → Request → Bool
@@ -59,15 +60,18 @@ next_call node name = record { name = name; call = posted_on node name }
 abbrev pub IsRefusal : Result Given PostError → PostError → Type 0
 IsRefusal checked e = (checked ≡ Err e) ⊎ ((e ≡ R.OutOfMemory) × IsOk checked)
 
--- a post is that of the draft, and its request is the last open one; or it is refused, and nothing changes
+-- just the draft is posted, and its request is the last open one; or it is refused, and nothing changes
 abbrev pub Asks : Name → Draft → Result Request PostError → (old new : NodeView) → (before after : List Request) → Type 0
-Asks name draft (Ok request) old new before after = (request ≡ next_call old name) × HasPosted name draft old new × (after ≡ before ++ request ∷ [])
+Asks name draft (Ok request) old new before after =
+    (request ≡ next_call old name) × HasPosted name draft old new × (after ≡ before ++ request ∷ []) × (new ≡ post_at name (given_by draft) old)
 Asks name draft (Err e) old new before after = IsRefusal (checked_on old name draft) e × (new ≡ old) × (after ≡ before)
 
--- the same of a call that makes its draft itself: there may be no memory to do so, whatever the draft would come to
-abbrev pub Starts : Name → Draft → Result Request PostError → (old new : NodeView) → (before after : List Request) → Type 0
-Starts name draft (Ok request) old new before after = (request ≡ next_call old name) × HasPosted name draft old new × (after ≡ before ++ request ∷ [])
-Starts name draft (Err e) old new before after = ((checked_on old name draft ≡ Err e) ⊎ (e ≡ R.OutOfMemory)) × (new ≡ old) × (after ≡ before)
+-- a gathering is opened, and stays so, and then its call is asked for; or it isn't opened, and nothing changes
+abbrev pub AsksGathered : {H : Type 0} → (node : H → NodeView) → (turned : H → ℕ → H → Type 0) → (parent : Name) → (tag : ℤ) → (ranks : List ℤ) → Result Request PostError → (old new : H) → (before after : List Request) → Type 0
+AsksGathered {H} node turned parent tag ranks result old new before after =
+    ((e : PostError) × (result ≡ Err e) × Opens parent (gathers_on (node old) parent tag ranks) (Err e) (node old) (node new) × (after ≡ before))
+    ⊎ ((name : Name) × (opened : H) × Opens parent (gathers_on (node old) parent tag ranks) (Ok name) (node old) (node opened) × turned old 0 opened
+    × Asks name create_group result (node opened) (node new) before after)
 
 -- TESTS
 
@@ -113,34 +117,64 @@ TestsAny (Err e) old new before after = OneIsAtHand new before × (after ≡ bef
 
 -- WAITS
 
--- a wait ends with the result after at most so many turns, or without it after just so many
-abbrev pub Waits : Request → (turns : ℕ) → (made : ℕ → Type 0) → Result Finished (WaitError Request) → NodeView → (before after : List Request) → Type 0
-Waits request turns made (Ok finished) node before after = (result_of node request ≡ Some finished) × ((n : ℕ) × (n ≤ turns) × made n) × (after ≡ close before request)
-Waits request turns made (Err (StillWaiting back)) node before after = (back ≡ request) × IsPending node request.name request.call × made turns × (after ≡ before)
-Waits request turns made (Err (NoMemory back)) node before after = (back ≡ request) × (after ≡ before)
+-- turns while the call, or one of the calls, was pending
 
-abbrev pub WaitsAll : List Request → (turns : ℕ) → (made : ℕ → Type 0) → Result (Vec Finished Global) (WaitError (Vec Request Global)) → NodeView → (before after : List Request) → Type 0
-WaitsAll requests turns made (Ok all) node before after = AreResults node requests all.items × ((n : ℕ) × (n ≤ turns) × made n) × (after ≡ close_all before requests)
-WaitsAll requests turns made (Err (StillWaiting back)) node before after = (back.items ≡ requests) × OneIsPending node requests × made turns × (after ≡ before)
-WaitsAll requests turns made (Err (NoMemory back)) node before after = (back.items ≡ requests) × (after ≡ before)
+abbrev pub AwaitsOne : {H : Type 0} → (node : H → NodeView) → (turned : H → ℕ → H → Type 0) → Request → H → ℕ → H → Type 0
+AwaitsOne node turned request = Awaits node turned (λ seen. IsPending seen request.name request.call)
+
+abbrev pub AwaitsAll : {H : Type 0} → (node : H → NodeView) → (turned : H → ℕ → H → Type 0) → List Request → H → ℕ → H → Type 0
+AwaitsAll node turned requests = Awaits node turned (λ seen. OneIsPending seen requests)
+
+-- such a wait is given up for want of memory
+
+abbrev pub GivesUpOne : {H : Type 0} → (node : H → NodeView) → (turned : H → ℕ → H → Type 0) → (refused : H → H → Type 0) → Request → (turns : ℕ) → H → H → Type 0
+GivesUpOne node turned refused request = GivesUp node turned refused (λ seen. IsPending seen request.name request.call) (λ seen. IsAtHand seen request.name request.call)
+
+abbrev pub GivesUpAll : {H : Type 0} → (node : H → NodeView) → (turned : H → ℕ → H → Type 0) → (refused : H → H → Type 0) → List Request → (turns : ℕ) → H → H → Type 0
+GivesUpAll node turned refused requests = GivesUp node turned refused (λ seen. OneIsPending seen requests) (λ seen. OneIsAtHand seen requests)
+
+-- a wait ends with the result after at most so many turns, or without it after just so many, or is given up for want of memory
+abbrev pub Waits : {H : Type 0} → (node : H → NodeView) → (turned : H → ℕ → H → Type 0) → (refused : H → H → Type 0) → Request → (turns : ℕ) → Result Finished (WaitError Request) → (old new : H) → (before after : List Request) → Type 0
+Waits node turned refused request turns (Ok finished) old new before after =
+    (result_of (node new) request ≡ Some finished) × ((n : ℕ) × (n ≤ turns) × AwaitsOne node turned request old n new) × (after ≡ close before request)
+Waits node turned refused request turns (Err (StillWaiting back)) old new before after =
+    (back ≡ request) × IsPending (node new) request.name request.call × AwaitsOne node turned request old turns new × (after ≡ before)
+Waits node turned refused request turns (Err (NoMemory back)) old new before after = (back ≡ request) × GivesUpOne node turned refused request turns old new × (after ≡ before)
+
+abbrev pub WaitsAll : {H : Type 0} → (node : H → NodeView) → (turned : H → ℕ → H → Type 0) → (refused : H → H → Type 0) → List Request → (turns : ℕ) → Result (Vec Finished Global) (WaitError (Vec Request Global)) → (old new : H) → (before after : List Request) → Type 0
+WaitsAll node turned refused requests turns (Ok all) old new before after =
+    AreResults (node new) requests all.items × ((n : ℕ) × (n ≤ turns) × AwaitsAll node turned requests old n new) × (after ≡ close_all before requests)
+WaitsAll node turned refused requests turns (Err (StillWaiting back)) old new before after =
+    (back.items ≡ requests) × OneIsPending (node new) requests × AwaitsAll node turned requests old turns new × (after ≡ before)
+WaitsAll node turned refused requests turns (Err (NoMemory back)) old new before after = (back.items ≡ requests) × GivesUpAll node turned refused requests turns old new × (after ≡ before)
 
 -- BLOCKING CALLS
 
+-- the draft is posted, with no turn, and from there on the host waits
+abbrev pub PostsAnd : {H : Type 0} → (node : H → NodeView) → (turned : H → ℕ → H → Type 0) → Name → Draft → H → (waits : H → Type 0) → Type 0
+PostsAnd {H} node turned name draft old waits = (posted : H) × turned old 0 posted × (node posted ≡ post_at name (given_by draft) (node old)) × waits posted
+
 -- a blocking call is a post and a wait: its result says the draft's post; where it doesn't come, its request is handed out, still open
-abbrev pub Calls : Name → Draft → (turns : ℕ) → (made : ℕ → Type 0) → Result Finished CallError → (old new : NodeView) → (before after : List Request) → Type 0
-Calls name draft turns made (Ok finished) old new before after =
-    HasPosted name draft old new × (result_of new (next_call old name) ≡ Some finished) × (finished.mine ≡ given_by draft) × ((n : ℕ) × (n ≤ turns) × made n) × (after ≡ close (before ++ next_call old name ∷ []) (next_call old name))
-Calls name draft turns made (Err (C.Refused e)) old new before after = Starts name draft (Err e) old new before after × made 0
-Calls name draft turns made (Err (C.StillWaiting request)) old new before after =
-    (request ≡ next_call old name) × HasPosted name draft old new × IsPending new request.name request.call × made turns × (after ≡ before ++ request ∷ [])
-Calls name draft turns made (Err (C.OutOfMemory request)) old new before after = (request ≡ next_call old name) × HasPosted name draft old new × (after ≡ before ++ request ∷ [])
+abbrev pub Calls : {H : Type 0} → (node : H → NodeView) → (turned : H → ℕ → H → Type 0) → (refused : H → H → Type 0) → Name → Draft → (turns : ℕ) → Result Finished CallError → (old new : H) → (before after : List Request) → Type 0
+Calls node turned refused name draft turns (Ok finished) old new before after =
+    HasPosted name draft (node old) (node new) × (result_of (node new) (next_call (node old) name) ≡ Some finished) × (finished.mine ≡ given_by draft)
+    × ((n : ℕ) × (n ≤ turns) × PostsAnd node turned name draft old (λ posted. AwaitsOne node turned (next_call (node old) name) posted n new))
+    × (after ≡ close (before ++ next_call (node old) name ∷ []) (next_call (node old) name))
+Calls node turned refused name draft turns (Err (C.Refused e)) old new before after = Asks name draft (Err e) (node old) (node new) before after × turned old 0 new
+Calls node turned refused name draft turns (Err (C.StillWaiting request)) old new before after =
+    (request ≡ next_call (node old) name) × HasPosted name draft (node old) (node new) × IsPending (node new) request.name request.call
+    × PostsAnd node turned name draft old (λ posted. AwaitsOne node turned request posted turns new) × (after ≡ before ++ request ∷ [])
+Calls node turned refused name draft turns (Err (C.OutOfMemory request)) old new before after =
+    (request ≡ next_call (node old) name) × HasPosted name draft (node old) (node new)
+    × PostsAnd node turned name draft old (λ posted. GivesUpOne node turned refused request turns posted new) × (after ≡ before ++ request ∷ [])
 
 -- the gathering isn't opened, and nothing changes
-abbrev pub IsNotGathered : (parent : Name) → (tag : ℤ) → (ranks : List ℤ) → (made : ℕ → Type 0) → Result Finished CallError → (old new : NodeView) → (before after : List Request) → Type 0
-IsNotGathered parent tag ranks made result old new before after =
-    (e : PostError) × (result ≡ Err (C.Refused e)) × Opens parent (gathers_on old parent tag ranks) (Err e) old new × made 0 × (after ≡ before)
+abbrev pub IsNotGathered : {H : Type 0} → (node : H → NodeView) → (turned : H → ℕ → H → Type 0) → (parent : Name) → (tag : ℤ) → (ranks : List ℤ) → Result Finished CallError → (old new : H) → (before after : List Request) → Type 0
+IsNotGathered node turned parent tag ranks result old new before after =
+    (e : PostError) × (result ≡ Err (C.Refused e)) × Opens parent (gathers_on (node old) parent tag ranks) (Err e) (node old) (node new) × turned old 0 new × (after ≡ before)
 
 -- the gathering is opened, and stays so; then the call is one on it
-abbrev pub CallsGathered : (parent : Name) → (tag : ℤ) → (ranks : List ℤ) → (turns : ℕ) → (made : ℕ → Type 0) → Result Finished CallError → (old new : NodeView) → (before after : List Request) → Type 0
-CallsGathered parent tag ranks turns made result old new before after =
-    (name : Name) × (opened : NodeView) × Opens parent (gathers_on old parent tag ranks) (Ok name) old opened × Calls name create_group turns made result opened new before after
+abbrev pub CallsGathered : {H : Type 0} → (node : H → NodeView) → (turned : H → ℕ → H → Type 0) → (refused : H → H → Type 0) → (parent : Name) → (tag : ℤ) → (ranks : List ℤ) → (turns : ℕ) → Result Finished CallError → (old new : H) → (before after : List Request) → Type 0
+CallsGathered {H} node turned refused parent tag ranks turns result old new before after =
+    (name : Name) × (opened : H) × Opens parent (gathers_on (node old) parent tag ranks) (Ok name) (node old) (node opened) × turned old 0 opened
+    × Calls node turned refused name create_group turns result opened new before after

@@ -1,5 +1,5 @@
 -- Turns, and looks between them.
-use Rattle.std.specs.Prelude.{ℕ, zero, suc}
+use Rattle.std.specs.Prelude.{ℕ, zero, suc, ◌<◌, ◌≤◌, ◌⊎◌}
 use Rattle.mpx_node.specs.Nodes.{NodeView}
 use Rattle.mpx_comm.specs.Later.{Later}
 
@@ -15,3 +15,9 @@ Looks {H} node turned is_pending a (suc n) b = (look : H) × Looks node turned i
 -- so many turns in all, each after such a look
 abbrev pub Awaits : {H : Type 0} → (node : H → NodeView) → (turned : H → ℕ → H → Type 0) → (is_pending : NodeView → Type 0) → H → ℕ → H → Type 0
 Awaits node turned is_pending a n b = turned a n b × Looks node turned is_pending a n b
+
+-- given up for want of memory after at most so many turns: by a look at what is at hand, or by one turn more, which was refused
+abbrev pub GivesUp : {H : Type 0} → (node : H → NodeView) → (turned : H → ℕ → H → Type 0) → (refused : H → H → Type 0) → (is_pending is_at_hand : NodeView → Type 0) → (turns : ℕ) → H → H → Type 0
+GivesUp {H} node turned refused is_pending is_at_hand turns a b =
+    ((n : ℕ) × (n ≤ turns) × Awaits node turned is_pending a n b × is_at_hand (node b))
+    ⊎ ((n : ℕ) × (look : H) × (n < turns) × Awaits node turned is_pending a n look × is_pending (node look) × refused look b)

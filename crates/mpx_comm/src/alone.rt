@@ -1,8 +1,11 @@
-ghost use Rattle.std.specs.Prelude.{◌≡◌, OnOk, OnErr, is_some};
-ghost use Rattle.mpx_board.specs.Boards.{IsBelow, only, floor_on, Dropped};
+ghost use Rattle.std.specs.Prelude.{◌≡◌, ◌≤◌, All, IfOk, OnOk, OnErr, is_some, map};
+ghost use Rattle.mpx_board.specs.Boards.{IsBelow, join_all, only, floor_on, Dropped};
 ghost use Rattle.mpx_board.specs.Changes.{pruned};
-ghost use Rattle.mpx_board.specs.Looks.{look};
+ghost use Rattle.mpx_board.specs.Looks.{look, parts_of};
+ghost use Rattle.mpx_format.specs.Encoding.{length_told};
+ghost use Rattle.mpx_parts.specs.Facts.{OnlyFactsOf};
 ghost use Rattle.mpx_node.specs.Bounded.{node_bounded};
+ghost use Rattle.mpx_node.specs.Deltas.{SaysWhatItHas, lacking_on};
 ghost use Rattle.mpx_node.specs.Harvests.{Harvests};
 ghost use Rattle.mpx_node.specs.Nodes.{StopsTaking, learn, next_result};
 
@@ -22,6 +25,9 @@ impl Host for Node {
     ghost node = { node_of };
 
     ghost turned = { λ a n b. Unit {0} };
+
+    // None is refused.
+    ghost turn_refused = { λ a b. ⊥ };
 
     fn post(&mut self, alloc: Global, name: &Name, draft: Draft) -> Result<u32, PostError> {
         Node::post(self, alloc, name, draft)
@@ -90,5 +96,20 @@ impl Desk<Node> {
         ensures requests { self.new.requests.keys ≡ self.old.requests.keys }
     {
         self.host.prune(name, number)
+    }
+
+    /// Says what the process has, and gives what others may lack of its board in parts, as [`Node::deltas`] does. An `Err`
+    /// changes nothing.
+    pub fn deltas(&mut self, alloc: Global, limit: usize) -> Result<Vec<Board>, OutOfMemory>
+        requires least { 524288 ≤ limit }
+        requires most { limit ≤ 1048576 }
+        ensures own { OnOk result (SaysWhatItHas (node_of self.old.host) (node_of self.new.host)) }
+        ensures facts { IfOk result (λ made. All (λ part. OnlyFactsOf (look part) (node_of self.new.host).board) made.items) }
+        ensures fit { IfOk result (λ made. All (λ part. length_told (parts_of part) ≤ limit) made.items) }
+        ensures join { IfOk result (λ made. join_all (map look made.items) ≡ lacking_on (node_of self.new.host)) }
+        ensures err { OnErr result (node_of self.new.host ≡ node_of self.old.host) }
+        ensures requests { self.new.requests.keys ≡ self.old.requests.keys }
+    {
+        self.host.deltas(alloc, limit)
     }
 }

@@ -1,7 +1,6 @@
-// The calls that make communicators, which all block. Each is a draft that is posted and waited for; where there is no
-// memory for the draft, that is told before a refusal.
+// The calls that make communicators, which all block. Each is a draft that is posted and waited for.
 ghost use Rattle.std.specs.Prelude.{◌≡◌, ◌⊎◌, Some};
-ghost use Rattle.mpx_comm.specs.Requests.{Calls, CallsGathered, IsNotGathered};
+ghost use Rattle.mpx_comm.specs.Requests.{AsksGathered, Calls, CallsGathered, IsNotGathered};
 ghost use Rattle.mpx_comm.specs.Lines as line;
 
 use crate::answers::CallError;
@@ -9,18 +8,19 @@ use crate::comm::Comm;
 use crate::desk::Desk;
 use crate::host::Host;
 use crate::lines::{coloured, grouped, of_graph, plain};
+use crate::request::Request;
 use mpx_node::Finished;
 use mpx_num::Numbers;
-use mpx_post::{Call, DraftedEdge, DraftedNeighbour, NewCommunicator};
+use mpx_post::{Call, DraftedEdge, DraftedNeighbour, NewCommunicator, PostError};
 use std::alloc::Global;
 
 impl<H: Host> Desk<H> {
     /// `MPI_COMM_DUP` (MPI 4.1 section 7.4.2): a new communicator of the same members, with the same topology.
     pub fn dup(&mut self, alloc: Global, comm: &Comm, turns: u64) -> Result<Finished, CallError>
-        ensures { Calls comm.now.name line.dup turns (λ n. H.turned self.old.host n self.new.host) result (H.node self.old.host) (H.node self.new.host) self.old.requests.keys self.new.requests.keys }
+        ensures { Calls H.node H.turned H.turn_refused comm.now.name line.dup turns result self.old.host self.new.host self.old.requests.keys self.new.requests.keys }
     {
-        let drafted = plain(alloc, Call::NewCommunicator(NewCommunicator::Dup));
-        self.call_on(alloc, &comm.name, drafted, turns)
+        let draft = plain(Call::NewCommunicator(NewCommunicator::Dup));
+        self.call_on(alloc, &comm.name, draft, turns)
     }
 
     /// `MPI_COMM_SPLIT` (MPI 4.1 section 7.4.2): a new communicator for each colour, none for `MPI_UNDEFINED`, ordered by key.
@@ -32,10 +32,10 @@ impl<H: Host> Desk<H> {
         key: i128,
         turns: u64,
     ) -> Result<Finished, CallError>
-        ensures { Calls comm.now.name (line.split colour key) turns (λ n. H.turned self.old.host n self.new.host) result (H.node self.old.host) (H.node self.new.host) self.old.requests.keys self.new.requests.keys }
+        ensures { Calls H.node H.turned H.turn_refused comm.now.name (line.split colour key) turns result self.old.host self.new.host self.old.requests.keys self.new.requests.keys }
     {
-        let drafted = coloured(alloc, colour, key);
-        self.call_on(alloc, &comm.name, drafted, turns)
+        let draft = coloured(colour, key);
+        self.call_on(alloc, &comm.name, draft, turns)
     }
 
     /// `MPI_COMM_CREATE` (MPI 4.1 section 7.4.2): a new communicator of the members with these ranks, in this order.
@@ -46,10 +46,10 @@ impl<H: Host> Desk<H> {
         ranks: Numbers,
         turns: u64,
     ) -> Result<Finished, CallError>
-        ensures { Calls comm.now.name (line.create ranks) turns (λ n. H.turned self.old.host n self.new.host) result (H.node self.old.host) (H.node self.new.host) self.old.requests.keys self.new.requests.keys }
+        ensures { Calls H.node H.turned H.turn_refused comm.now.name (line.create ranks) turns result self.old.host self.new.host self.old.requests.keys self.new.requests.keys }
     {
-        let drafted = grouped(alloc, ranks);
-        self.call_on(alloc, &comm.name, drafted, turns)
+        let draft = grouped(ranks);
+        self.call_on(alloc, &comm.name, draft, turns)
     }
 
     /// `MPI_COMM_CREATE_GROUP` (MPI 4.1 section 7.4.2), which the members with these ranks call alone. It opens their
@@ -63,14 +63,34 @@ impl<H: Host> Desk<H> {
         ranks: &[i128],
         turns: u64,
     ) -> Result<Finished, CallError>
-        ensures { IsNotGathered comm.now.name tag ranks.now (λ n. H.turned self.old.host n self.new.host) result (H.node self.old.host) (H.node self.new.host) self.old.requests.keys self.new.requests.keys
-            ⊎ CallsGathered comm.now.name tag ranks.now turns (λ n. H.turned self.old.host n self.new.host) result (H.node self.old.host) (H.node self.new.host) self.old.requests.keys self.new.requests.keys }
+        ensures { IsNotGathered H.node H.turned comm.now.name tag ranks.now result self.old.host self.new.host self.old.requests.keys self.new.requests.keys
+            ⊎ CallsGathered H.node H.turned H.turn_refused comm.now.name tag ranks.now turns result self.old.host self.new.host self.old.requests.keys self.new.requests.keys }
     {
         match self.open_gathering(alloc, comm, tag, ranks) {
             Err(refusal) => Err(CallError::Refused(refusal)),
             Ok(gathering) => {
-                let drafted = plain(alloc, Call::NewCommunicator(NewCommunicator::CreateGroup));
-                self.call_on(alloc, &gathering.name, drafted, turns)
+                let draft = plain(Call::NewCommunicator(NewCommunicator::CreateGroup));
+                self.call_on(alloc, &gathering.name, draft, turns)
+            }
+        }
+    }
+
+    /// The post of [`Desk::create_group`] alone, whose result is to be waited for: it opens the gathering, and posts there.
+    pub fn start_create_group(
+        &mut self,
+        alloc: Global,
+        comm: &Comm,
+        tag: i128,
+        ranks: &[i128],
+    ) -> Result<Request, PostError>
+        ensures asks { AsksGathered H.node H.turned comm.now.name tag ranks.now result self.old.host self.new.host self.old.requests.keys self.new.requests.keys }
+        ensures no_turn { H.turned self.old.host 0 self.new.host }
+    {
+        match self.open_gathering(alloc, comm, tag, ranks) {
+            Err(refusal) => Err(refusal),
+            Ok(gathering) => {
+                let draft = plain(Call::NewCommunicator(NewCommunicator::CreateGroup));
+                self.post_on(alloc, &gathering.name, draft)
             }
         }
     }
@@ -84,12 +104,12 @@ impl<H: Host> Desk<H> {
         edges: Vec<DraftedEdge>,
         turns: u64,
     ) -> Result<Finished, CallError>
-        ensures { Calls comm.now.name (line.dist_graph weighted edges.items) turns (λ n. H.turned self.old.host n self.new.host) result (H.node self.old.host) (H.node self.new.host) self.old.requests.keys self.new.requests.keys }
+        ensures { Calls H.node H.turned H.turn_refused comm.now.name (line.dist_graph weighted edges.items) turns result self.old.host self.new.host self.old.requests.keys self.new.requests.keys }
     {
         let (sources, destinations) = (Vec::new(alloc), Vec::new(alloc));
         let new = NewCommunicator::DistGraph;
-        let drafted = of_graph(alloc, new, weighted, edges, sources, destinations);
-        self.call_on(alloc, &comm.name, drafted, turns)
+        let draft = of_graph(new, weighted, edges, sources, destinations);
+        self.call_on(alloc, &comm.name, draft, turns)
     }
 
     /// `MPI_DIST_GRAPH_CREATE_ADJACENT` (MPI 4.1 section 8.5.4): each member gives its own sources and destinations.
@@ -102,10 +122,10 @@ impl<H: Host> Desk<H> {
         destinations: Vec<DraftedNeighbour>,
         turns: u64,
     ) -> Result<Finished, CallError>
-        ensures { Calls comm.now.name (line.dist_graph_adjacent weighted sources.items destinations.items) turns (λ n. H.turned self.old.host n self.new.host) result (H.node self.old.host) (H.node self.new.host) self.old.requests.keys self.new.requests.keys }
+        ensures { Calls H.node H.turned H.turn_refused comm.now.name (line.dist_graph_adjacent weighted sources.items destinations.items) turns result self.old.host self.new.host self.old.requests.keys self.new.requests.keys }
     {
         let new = NewCommunicator::DistGraphAdjacent;
-        let drafted = of_graph(alloc, new, weighted, Vec::new(alloc), sources, destinations);
-        self.call_on(alloc, &comm.name, drafted, turns)
+        let draft = of_graph(new, weighted, Vec::new(alloc), sources, destinations);
+        self.call_on(alloc, &comm.name, draft, turns)
     }
 }

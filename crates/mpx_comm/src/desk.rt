@@ -2,12 +2,10 @@ ghost use Rattle.std.specs.Prelude.{◌≡◌, ◌≤◌, [], ℕ, OnOk, IfOk, I
 ghost use Rattle.indexmap.specs.IndexSet.{spare};
 ghost use Rattle.mpx_node.specs.Nodes.{Opens, gathers_on, post_at};
 ghost use Rattle.mpx_post.specs.Drafts.{given_by};
-ghost use Rattle.mpx_post.specs.declared.draft.Draft.{Draft as DraftView};
 ghost use Rattle.mpx_comm.specs.Comms.{gathering_in};
 ghost use Rattle.mpx_comm.specs.Harvested.{Harvested};
-ghost use Rattle.mpx_comm.specs.Later.{Later, IsAtHand, IsPending};
-ghost use Rattle.mpx_comm.specs.Turns.{Awaits};
-ghost use Rattle.mpx_comm.specs.Requests.{Asks, Calls, HasStatus, Starts, Tests, TestsAll, TestsAny, Waits, WaitsAll, ArePosted, OneIsPending};
+ghost use Rattle.mpx_comm.specs.Later.{Later, IsAtHand};
+ghost use Rattle.mpx_comm.specs.Requests.{Asks, Calls, HasStatus, Tests, TestsAll, TestsAny, Waits, WaitsAll, ArePosted};
 
 use crate::answers::{CallError, Tested, WaitError};
 use crate::comm::{Comm, Gathering};
@@ -59,7 +57,6 @@ impl<H: Host> Desk<H> {
     /// draft isn't refused.
     pub fn post(&mut self, alloc: Global, comm: &Comm, draft: Draft) -> Result<Request, PostError>
         ensures asks { Asks comm.now.name draft result (H.node self.old.host) (H.node self.new.host) self.old.requests.keys self.new.requests.keys }
-        ensures exact { IfOk result (λ request. H.node self.new.host ≡ post_at comm.now.name (given_by draft) (H.node self.old.host)) }
         ensures no_turn { H.turned self.old.host 0 self.new.host }
     {
         self.post_on(alloc, &comm.name, draft)
@@ -92,7 +89,6 @@ impl<H: Host> Desk<H> {
         draft: Draft,
     ) -> Result<Request, PostError>
         ensures asks { Asks gathering.now.name draft result (H.node self.old.host) (H.node self.new.host) self.old.requests.keys self.new.requests.keys }
-        ensures exact { IfOk result (λ request. H.node self.new.host ≡ post_at gathering.now.name (given_by draft) (H.node self.old.host)) }
         ensures no_turn { H.turned self.old.host 0 self.new.host }
     {
         self.post_on(alloc, &gathering.name, draft)
@@ -177,14 +173,15 @@ impl<H: Host> Desk<H> {
     }
 
     /// Waits for the result for so many turns (`MPI_WAIT`, MPI 4.1 section 3.7.3): it looks once before the first and once
-    /// after each, and makes no turn after the look that finds it.
+    /// after each, and makes no turn after the look that finds it. It is given up for want of memory at a look at what is at
+    /// hand, or by a turn that is refused.
     pub fn wait(
         &mut self,
         alloc: Global,
         request: Request,
         turns: u64,
     ) -> Result<Finished, WaitError<Request>>
-        ensures waits { Waits request turns (λ n. Awaits H.node H.turned (λ node. IsPending node request.name request.call) self.old.host n self.new.host) result (H.node self.new.host) self.old.requests.keys self.new.requests.keys }
+        ensures waits { Waits H.node H.turned H.turn_refused request turns result self.old.host self.new.host self.old.requests.keys self.new.requests.keys }
         ensures later { Later (H.node self.old.host) (H.node self.new.host) }
     {
         match await_one(alloc, &mut self.host, &request, turns) {
@@ -199,14 +196,15 @@ impl<H: Host> Desk<H> {
     }
 
     /// Waits for all their results for so many turns (`MPI_WAITALL`, MPI 4.1 section 3.7.5): it looks once before the first
-    /// and once after each, and makes no turn after the look that finds them all. All are closed, or none is.
+    /// and once after each, and makes no turn after the look that finds them all. All are closed, or none is. It is given up as
+    /// [`Desk::wait`] is.
     pub fn waitall(
         &mut self,
         alloc: Global,
         requests: Vec<Request>,
         turns: u64,
     ) -> Result<Vec<Finished>, WaitError<Vec<Request>>>
-        ensures waits { WaitsAll requests.items turns (λ n. Awaits H.node H.turned (λ node. OneIsPending node requests.items) self.old.host n self.new.host) result (H.node self.new.host) self.old.requests.keys self.new.requests.keys }
+        ensures waits { WaitsAll H.node H.turned H.turn_refused requests.items turns result self.old.host self.new.host self.old.requests.keys self.new.requests.keys }
         ensures later { Later (H.node self.old.host) (H.node self.new.host) }
     {
         match await_all(alloc, &mut self.host, &requests, turns) {
@@ -220,9 +218,13 @@ impl<H: Host> Desk<H> {
     }
 
     // Posts the draft as the next call on the context.
-    fn post_on(&mut self, alloc: Global, name: &Name, draft: Draft) -> Result<Request, PostError>
+    pub(crate) fn post_on(
+        &mut self,
+        alloc: Global,
+        name: &Name,
+        draft: Draft,
+    ) -> Result<Request, PostError>
         ensures asks { Asks name.now draft result (H.node self.old.host) (H.node self.new.host) self.old.requests.keys self.new.requests.keys }
-        ensures exact { IfOk result (λ request. H.node self.new.host ≡ post_at name.now (given_by draft) (H.node self.old.host)) }
         ensures no_turn { H.turned self.old.host 0 self.new.host }
     {
         if let Some(refusal) = self.host.refusal(name, &draft) {
@@ -238,33 +240,17 @@ impl<H: Host> Desk<H> {
         Ok(Request::new(mine, call))
     }
 
-    // Posts what was drafted as the next call on the context.
-    pub(crate) fn start_on(
-        &mut self,
-        alloc: Global,
-        name: &Name,
-        drafted: Result<Draft, OutOfMemory>,
-    ) -> Result<Request, PostError>
-        ensures starts { (draft : DraftView) → IfOk drafted (λ made. made ≡ draft) → Starts name.now draft result (H.node self.old.host) (H.node self.new.host) self.old.requests.keys self.new.requests.keys }
-        ensures no_turn { H.turned self.old.host 0 self.new.host }
-    {
-        match drafted {
-            Ok(draft) => self.post_on(alloc, name, draft),
-            Err(_) => Err(PostError::OutOfMemory),
-        }
-    }
-
-    // Posts what was drafted, and waits for its result for so many turns.
+    // Posts the draft, and waits for its result for so many turns.
     pub(crate) fn call_on(
         &mut self,
         alloc: Global,
         name: &Name,
-        drafted: Result<Draft, OutOfMemory>,
+        draft: Draft,
         turns: u64,
     ) -> Result<Finished, CallError>
-        ensures { (draft : DraftView) → IfOk drafted (λ made. made ≡ draft) → Calls name.now draft turns (λ n. H.turned self.old.host n self.new.host) result (H.node self.old.host) (H.node self.new.host) self.old.requests.keys self.new.requests.keys }
+        ensures { Calls H.node H.turned H.turn_refused name.now draft turns result self.old.host self.new.host self.old.requests.keys self.new.requests.keys }
     {
-        let request = match self.start_on(alloc, name, drafted) {
+        let request = match self.post_on(alloc, name, draft) {
             Ok(request) => request,
             Err(refusal) => return Err(CallError::Refused(refusal)),
         };

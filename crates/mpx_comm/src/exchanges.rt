@@ -1,8 +1,8 @@
 // The calls that move items among all members. Each is a draft that is posted, and
-// waited for where it blocks; where there is no memory for the draft, that is told before a refusal.
+// waited for where it blocks.
 ghost use Rattle.std.specs.Prelude.{◌≡◌};
 ghost use Rattle.mpx_kind.specs.declared.kinds.Mode.TheVariants.{Blocking, Nonblocking};
-ghost use Rattle.mpx_comm.specs.Requests.{Calls, Starts};
+ghost use Rattle.mpx_comm.specs.Requests.{Asks, Calls};
 ghost use Rattle.mpx_comm.specs.Lines as line;
 
 use crate::answers::CallError;
@@ -26,11 +26,11 @@ impl<H: Host> Desk<H> {
         items: Numbers,
         turns: u64,
     ) -> Result<Finished, CallError>
-        ensures { Calls comm.now.name (line.allgather Blocking ty items) turns (λ n. H.turned self.old.host n self.new.host) result (H.node self.old.host) (H.node self.new.host) self.old.requests.keys self.new.requests.keys }
+        ensures { Calls H.node H.turned H.turn_refused comm.now.name (line.allgather Blocking ty items) turns result self.old.host self.new.host self.old.requests.keys self.new.requests.keys }
     {
         let call = Call::Exchange(Exchange::Allgather, Mode::Blocking);
-        let drafted = of_items(alloc, call, ty, Counts::None, Counts::None, items);
-        self.call_on(alloc, &comm.name, drafted, turns)
+        let draft = of_items(call, ty, Counts::None, Counts::None, items);
+        self.call_on(alloc, &comm.name, draft, turns)
     }
 
     /// `MPI_IALLGATHER` (MPI 4.1 section 6.7).
@@ -41,12 +41,12 @@ impl<H: Host> Desk<H> {
         ty: Ty,
         items: Numbers,
     ) -> Result<Request, PostError>
-        ensures starts { Starts comm.now.name (line.allgather Nonblocking ty items) result (H.node self.old.host) (H.node self.new.host) self.old.requests.keys self.new.requests.keys }
+        ensures asks { Asks comm.now.name (line.allgather Nonblocking ty items) result (H.node self.old.host) (H.node self.new.host) self.old.requests.keys self.new.requests.keys }
         ensures no_turn { H.turned self.old.host 0 self.new.host }
     {
         let call = Call::Exchange(Exchange::Allgather, Mode::Nonblocking);
-        let drafted = of_items(alloc, call, ty, Counts::None, Counts::None, items);
-        self.start_on(alloc, &comm.name, drafted)
+        let draft = of_items(call, ty, Counts::None, Counts::None, items);
+        self.post_on(alloc, &comm.name, draft)
     }
 
     /// `MPI_ALLGATHERV` (MPI 4.1 section 6.7): the counts are how
@@ -60,11 +60,11 @@ impl<H: Host> Desk<H> {
         items: Numbers,
         turns: u64,
     ) -> Result<Finished, CallError>
-        ensures { Calls comm.now.name (line.allgatherv Blocking ty rcounts items) turns (λ n. H.turned self.old.host n self.new.host) result (H.node self.old.host) (H.node self.new.host) self.old.requests.keys self.new.requests.keys }
+        ensures { Calls H.node H.turned H.turn_refused comm.now.name (line.allgatherv Blocking ty rcounts items) turns result self.old.host self.new.host self.old.requests.keys self.new.requests.keys }
     {
         let call = Call::Exchange(Exchange::Allgatherv, Mode::Blocking);
-        let drafted = of_items(alloc, call, ty, Counts::None, Counts::Many(rcounts), items);
-        self.call_on(alloc, &comm.name, drafted, turns)
+        let draft = of_items(call, ty, Counts::None, Counts::Many(rcounts), items);
+        self.call_on(alloc, &comm.name, draft, turns)
     }
 
     /// `MPI_IALLGATHERV` (MPI 4.1 section 6.7).
@@ -76,12 +76,12 @@ impl<H: Host> Desk<H> {
         rcounts: Numbers,
         items: Numbers,
     ) -> Result<Request, PostError>
-        ensures starts { Starts comm.now.name (line.allgatherv Nonblocking ty rcounts items) result (H.node self.old.host) (H.node self.new.host) self.old.requests.keys self.new.requests.keys }
+        ensures asks { Asks comm.now.name (line.allgatherv Nonblocking ty rcounts items) result (H.node self.old.host) (H.node self.new.host) self.old.requests.keys self.new.requests.keys }
         ensures no_turn { H.turned self.old.host 0 self.new.host }
     {
         let call = Call::Exchange(Exchange::Allgatherv, Mode::Nonblocking);
-        let drafted = of_items(alloc, call, ty, Counts::None, Counts::Many(rcounts), items);
-        self.start_on(alloc, &comm.name, drafted)
+        let draft = of_items(call, ty, Counts::None, Counts::Many(rcounts), items);
+        self.post_on(alloc, &comm.name, draft)
     }
 
     /// `MPI_ALLTOALL` (MPI 4.1 section 6.8): a block of so many items
@@ -95,11 +95,11 @@ impl<H: Host> Desk<H> {
         items: Numbers,
         turns: u64,
     ) -> Result<Finished, CallError>
-        ensures { Calls comm.now.name (line.alltoall Blocking ty count items) turns (λ n. H.turned self.old.host n self.new.host) result (H.node self.old.host) (H.node self.new.host) self.old.requests.keys self.new.requests.keys }
+        ensures { Calls H.node H.turned H.turn_refused comm.now.name (line.alltoall Blocking ty count items) turns result self.old.host self.new.host self.old.requests.keys self.new.requests.keys }
     {
         let call = Call::Exchange(Exchange::Alltoall, Mode::Blocking);
-        let drafted = of_items(alloc, call, ty, Counts::None, Counts::One(count), items);
-        self.call_on(alloc, &comm.name, drafted, turns)
+        let draft = of_items(call, ty, Counts::None, Counts::One(count), items);
+        self.call_on(alloc, &comm.name, draft, turns)
     }
 
     /// `MPI_IALLTOALL` (MPI 4.1 section 6.8).
@@ -111,12 +111,12 @@ impl<H: Host> Desk<H> {
         count: i128,
         items: Numbers,
     ) -> Result<Request, PostError>
-        ensures starts { Starts comm.now.name (line.alltoall Nonblocking ty count items) result (H.node self.old.host) (H.node self.new.host) self.old.requests.keys self.new.requests.keys }
+        ensures asks { Asks comm.now.name (line.alltoall Nonblocking ty count items) result (H.node self.old.host) (H.node self.new.host) self.old.requests.keys self.new.requests.keys }
         ensures no_turn { H.turned self.old.host 0 self.new.host }
     {
         let call = Call::Exchange(Exchange::Alltoall, Mode::Nonblocking);
-        let drafted = of_items(alloc, call, ty, Counts::None, Counts::One(count), items);
-        self.start_on(alloc, &comm.name, drafted)
+        let draft = of_items(call, ty, Counts::None, Counts::One(count), items);
+        self.post_on(alloc, &comm.name, draft)
     }
 
     /// `MPI_ALLTOALLV` (MPI 4.1 section 6.8): how many items
@@ -131,18 +131,17 @@ impl<H: Host> Desk<H> {
         items: Numbers,
         turns: u64,
     ) -> Result<Finished, CallError>
-        ensures { Calls comm.now.name (line.alltoallv Blocking ty scounts rcounts items) turns (λ n. H.turned self.old.host n self.new.host) result (H.node self.old.host) (H.node self.new.host) self.old.requests.keys self.new.requests.keys }
+        ensures { Calls H.node H.turned H.turn_refused comm.now.name (line.alltoallv Blocking ty scounts rcounts items) turns result self.old.host self.new.host self.old.requests.keys self.new.requests.keys }
     {
         let call = Call::Exchange(Exchange::Alltoallv, Mode::Blocking);
-        let drafted = of_items(
-            alloc,
+        let draft = of_items(
             call,
             ty,
             Counts::Many(scounts),
             Counts::Many(rcounts),
             items,
         );
-        self.call_on(alloc, &comm.name, drafted, turns)
+        self.call_on(alloc, &comm.name, draft, turns)
     }
 
     /// `MPI_IALLTOALLV` (MPI 4.1 section 6.8).
@@ -155,18 +154,17 @@ impl<H: Host> Desk<H> {
         rcounts: Numbers,
         items: Numbers,
     ) -> Result<Request, PostError>
-        ensures starts { Starts comm.now.name (line.alltoallv Nonblocking ty scounts rcounts items) result (H.node self.old.host) (H.node self.new.host) self.old.requests.keys self.new.requests.keys }
+        ensures asks { Asks comm.now.name (line.alltoallv Nonblocking ty scounts rcounts items) result (H.node self.old.host) (H.node self.new.host) self.old.requests.keys self.new.requests.keys }
         ensures no_turn { H.turned self.old.host 0 self.new.host }
     {
         let call = Call::Exchange(Exchange::Alltoallv, Mode::Nonblocking);
-        let drafted = of_items(
-            alloc,
+        let draft = of_items(
             call,
             ty,
             Counts::Many(scounts),
             Counts::Many(rcounts),
             items,
         );
-        self.start_on(alloc, &comm.name, drafted)
+        self.post_on(alloc, &comm.name, draft)
     }
 }

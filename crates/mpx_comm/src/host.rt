@@ -1,4 +1,4 @@
-ghost use Rattle.std.specs.Prelude.{◌≡◌, ◌+◌, ◌≤◌, ℕ, OnOk, is_some, slice_get};
+ghost use Rattle.std.specs.Prelude.{◌≡◌, ◌+◌, ◌≤◌, ℕ, OnOk, OnErr, is_some, slice_get};
 ghost use Rattle.std.specs.Option.{option_copied};
 ghost use Rattle.mpx_post.specs.Drafts.{refusal_of};
 ghost use Rattle.mpx_node.specs.Nodes.{NodeView, Opens, Posts, checked_on, gathers_on, next_result, results_on, posted_on, front_on};
@@ -18,6 +18,9 @@ pub trait Host: Drop {
 
     /// It may go from one state to another by making so many turns.
     ghost turned: { Self → ℕ → Self → Type 0 };
+
+    /// A turn may be refused for want of memory from one state to another.
+    ghost turn_refused: { Self → Self → Type 0 };
 
     /// Posts the draft as the next call on a context. It makes no turn.
     fn post(&mut self, alloc: Global, name: &Name, draft: Draft) -> Result<u32, PostError>
@@ -51,7 +54,8 @@ pub trait Host: Drop {
     /// Lets time pass: others may hear of this process, and it of them.
     fn turn(&mut self, alloc: Global) -> Result<(), OutOfMemory>
         ensures later { Later (node self.old) (node self.new) }
-        ensures counted { OnOk result (turned self.old 1 self.new) };
+        ensures counted { OnOk result (turned self.old 1 self.new) }
+        ensures refused { OnErr result (turn_refused self.old self.new) };
 
     /// There are no more results than posts.
     ghost bounded: { (h : Self) (name : _) → front_on (node h) name ≤ posted_on (node h) name };

@@ -1,8 +1,8 @@
 // The calls along the edges of a graph. Each is a draft that is posted, and
-// waited for where it blocks; where there is no memory for the draft, that is told before a refusal.
+// waited for where it blocks.
 ghost use Rattle.std.specs.Prelude.{◌≡◌};
 ghost use Rattle.mpx_kind.specs.declared.kinds.Mode.TheVariants.{Blocking, Nonblocking};
-ghost use Rattle.mpx_comm.specs.Requests.{Calls, Starts};
+ghost use Rattle.mpx_comm.specs.Requests.{Asks, Calls};
 ghost use Rattle.mpx_comm.specs.Lines as line;
 
 use crate::answers::CallError;
@@ -28,11 +28,11 @@ impl<H: Host> Desk<H> {
         items: Numbers,
         turns: u64,
     ) -> Result<Finished, CallError>
-        ensures { Calls comm.now.name (line.neighbor_allgather Blocking ty count items) turns (λ n. H.turned self.old.host n self.new.host) result (H.node self.old.host) (H.node self.new.host) self.old.requests.keys self.new.requests.keys }
+        ensures { Calls H.node H.turned H.turn_refused comm.now.name (line.neighbor_allgather Blocking ty count items) turns result self.old.host self.new.host self.old.requests.keys self.new.requests.keys }
     {
         let call = Call::Neighbourhood(Neighbourhood::Allgather, Mode::Blocking);
-        let drafted = of_items(alloc, call, ty, Counts::None, Counts::One(count), items);
-        self.call_on(alloc, &comm.name, drafted, turns)
+        let draft = of_items(call, ty, Counts::None, Counts::One(count), items);
+        self.call_on(alloc, &comm.name, draft, turns)
     }
 
     /// `MPI_INEIGHBOR_ALLGATHER` (MPI 4.1 section 8.6.1).
@@ -44,12 +44,12 @@ impl<H: Host> Desk<H> {
         count: i128,
         items: Numbers,
     ) -> Result<Request, PostError>
-        ensures starts { Starts comm.now.name (line.neighbor_allgather Nonblocking ty count items) result (H.node self.old.host) (H.node self.new.host) self.old.requests.keys self.new.requests.keys }
+        ensures asks { Asks comm.now.name (line.neighbor_allgather Nonblocking ty count items) result (H.node self.old.host) (H.node self.new.host) self.old.requests.keys self.new.requests.keys }
         ensures no_turn { H.turned self.old.host 0 self.new.host }
     {
         let call = Call::Neighbourhood(Neighbourhood::Allgather, Mode::Nonblocking);
-        let drafted = of_items(alloc, call, ty, Counts::None, Counts::One(count), items);
-        self.start_on(alloc, &comm.name, drafted)
+        let draft = of_items(call, ty, Counts::None, Counts::One(count), items);
+        self.post_on(alloc, &comm.name, draft)
     }
 
     /// `MPI_NEIGHBOR_ALLGATHERV` (MPI 4.1 section 8.6.1): how
@@ -63,11 +63,11 @@ impl<H: Host> Desk<H> {
         items: Numbers,
         turns: u64,
     ) -> Result<Finished, CallError>
-        ensures { Calls comm.now.name (line.neighbor_allgatherv Blocking ty rcounts items) turns (λ n. H.turned self.old.host n self.new.host) result (H.node self.old.host) (H.node self.new.host) self.old.requests.keys self.new.requests.keys }
+        ensures { Calls H.node H.turned H.turn_refused comm.now.name (line.neighbor_allgatherv Blocking ty rcounts items) turns result self.old.host self.new.host self.old.requests.keys self.new.requests.keys }
     {
         let call = Call::Neighbourhood(Neighbourhood::Allgatherv, Mode::Blocking);
-        let drafted = of_items(alloc, call, ty, Counts::None, Counts::Many(rcounts), items);
-        self.call_on(alloc, &comm.name, drafted, turns)
+        let draft = of_items(call, ty, Counts::None, Counts::Many(rcounts), items);
+        self.call_on(alloc, &comm.name, draft, turns)
     }
 
     /// `MPI_INEIGHBOR_ALLGATHERV` (MPI 4.1 section 8.6.1).
@@ -79,12 +79,12 @@ impl<H: Host> Desk<H> {
         rcounts: Numbers,
         items: Numbers,
     ) -> Result<Request, PostError>
-        ensures starts { Starts comm.now.name (line.neighbor_allgatherv Nonblocking ty rcounts items) result (H.node self.old.host) (H.node self.new.host) self.old.requests.keys self.new.requests.keys }
+        ensures asks { Asks comm.now.name (line.neighbor_allgatherv Nonblocking ty rcounts items) result (H.node self.old.host) (H.node self.new.host) self.old.requests.keys self.new.requests.keys }
         ensures no_turn { H.turned self.old.host 0 self.new.host }
     {
         let call = Call::Neighbourhood(Neighbourhood::Allgatherv, Mode::Nonblocking);
-        let drafted = of_items(alloc, call, ty, Counts::None, Counts::Many(rcounts), items);
-        self.start_on(alloc, &comm.name, drafted)
+        let draft = of_items(call, ty, Counts::None, Counts::Many(rcounts), items);
+        self.post_on(alloc, &comm.name, draft)
     }
 
     /// `MPI_NEIGHBOR_ALLTOALL` (MPI 4.1 section 8.6.2): how
@@ -99,18 +99,11 @@ impl<H: Host> Desk<H> {
         items: Numbers,
         turns: u64,
     ) -> Result<Finished, CallError>
-        ensures { Calls comm.now.name (line.neighbor_alltoall Blocking ty scount rcount items) turns (λ n. H.turned self.old.host n self.new.host) result (H.node self.old.host) (H.node self.new.host) self.old.requests.keys self.new.requests.keys }
+        ensures { Calls H.node H.turned H.turn_refused comm.now.name (line.neighbor_alltoall Blocking ty scount rcount items) turns result self.old.host self.new.host self.old.requests.keys self.new.requests.keys }
     {
         let call = Call::Neighbourhood(Neighbourhood::Alltoall, Mode::Blocking);
-        let drafted = of_items(
-            alloc,
-            call,
-            ty,
-            Counts::One(scount),
-            Counts::One(rcount),
-            items,
-        );
-        self.call_on(alloc, &comm.name, drafted, turns)
+        let draft = of_items(call, ty, Counts::One(scount), Counts::One(rcount), items);
+        self.call_on(alloc, &comm.name, draft, turns)
     }
 
     /// `MPI_INEIGHBOR_ALLTOALL` (MPI 4.1 section 8.6.2).
@@ -123,19 +116,12 @@ impl<H: Host> Desk<H> {
         rcount: i128,
         items: Numbers,
     ) -> Result<Request, PostError>
-        ensures starts { Starts comm.now.name (line.neighbor_alltoall Nonblocking ty scount rcount items) result (H.node self.old.host) (H.node self.new.host) self.old.requests.keys self.new.requests.keys }
+        ensures asks { Asks comm.now.name (line.neighbor_alltoall Nonblocking ty scount rcount items) result (H.node self.old.host) (H.node self.new.host) self.old.requests.keys self.new.requests.keys }
         ensures no_turn { H.turned self.old.host 0 self.new.host }
     {
         let call = Call::Neighbourhood(Neighbourhood::Alltoall, Mode::Nonblocking);
-        let drafted = of_items(
-            alloc,
-            call,
-            ty,
-            Counts::One(scount),
-            Counts::One(rcount),
-            items,
-        );
-        self.start_on(alloc, &comm.name, drafted)
+        let draft = of_items(call, ty, Counts::One(scount), Counts::One(rcount), items);
+        self.post_on(alloc, &comm.name, draft)
     }
 
     /// `MPI_NEIGHBOR_ALLTOALLV` (MPI 4.1 section 8.6.2): how
@@ -150,18 +136,17 @@ impl<H: Host> Desk<H> {
         items: Numbers,
         turns: u64,
     ) -> Result<Finished, CallError>
-        ensures { Calls comm.now.name (line.neighbor_alltoallv Blocking ty scounts rcounts items) turns (λ n. H.turned self.old.host n self.new.host) result (H.node self.old.host) (H.node self.new.host) self.old.requests.keys self.new.requests.keys }
+        ensures { Calls H.node H.turned H.turn_refused comm.now.name (line.neighbor_alltoallv Blocking ty scounts rcounts items) turns result self.old.host self.new.host self.old.requests.keys self.new.requests.keys }
     {
         let call = Call::Neighbourhood(Neighbourhood::Alltoallv, Mode::Blocking);
-        let drafted = of_items(
-            alloc,
+        let draft = of_items(
             call,
             ty,
             Counts::Many(scounts),
             Counts::Many(rcounts),
             items,
         );
-        self.call_on(alloc, &comm.name, drafted, turns)
+        self.call_on(alloc, &comm.name, draft, turns)
     }
 
     /// `MPI_INEIGHBOR_ALLTOALLV` (MPI 4.1 section 8.6.2).
@@ -174,18 +159,17 @@ impl<H: Host> Desk<H> {
         rcounts: Numbers,
         items: Numbers,
     ) -> Result<Request, PostError>
-        ensures starts { Starts comm.now.name (line.neighbor_alltoallv Nonblocking ty scounts rcounts items) result (H.node self.old.host) (H.node self.new.host) self.old.requests.keys self.new.requests.keys }
+        ensures asks { Asks comm.now.name (line.neighbor_alltoallv Nonblocking ty scounts rcounts items) result (H.node self.old.host) (H.node self.new.host) self.old.requests.keys self.new.requests.keys }
         ensures no_turn { H.turned self.old.host 0 self.new.host }
     {
         let call = Call::Neighbourhood(Neighbourhood::Alltoallv, Mode::Nonblocking);
-        let drafted = of_items(
-            alloc,
+        let draft = of_items(
             call,
             ty,
             Counts::Many(scounts),
             Counts::Many(rcounts),
             items,
         );
-        self.start_on(alloc, &comm.name, drafted)
+        self.post_on(alloc, &comm.name, draft)
     }
 }

@@ -1,8 +1,8 @@
 // The calls that combine items. Each is a draft that is posted, and
-// waited for where it blocks; where there is no memory for the draft, that is told before a refusal.
+// waited for where it blocks.
 ghost use Rattle.std.specs.Prelude.{◌≡◌};
 ghost use Rattle.mpx_kind.specs.declared.kinds.Mode.TheVariants.{Blocking, Nonblocking};
-ghost use Rattle.mpx_comm.specs.Requests.{Calls, Starts};
+ghost use Rattle.mpx_comm.specs.Requests.{Asks, Calls};
 ghost use Rattle.mpx_comm.specs.Lines as line;
 
 use crate::answers::CallError;
@@ -28,10 +28,10 @@ impl<H: Host> Desk<H> {
         items: Numbers,
         turns: u64,
     ) -> Result<Finished, CallError>
-        ensures { Calls comm.now.name (line.reduce Blocking root op ty items) turns (λ n. H.turned self.old.host n self.new.host) result (H.node self.old.host) (H.node self.new.host) self.old.requests.keys self.new.requests.keys }
+        ensures { Calls H.node H.turned H.turn_refused comm.now.name (line.reduce Blocking root op ty items) turns result self.old.host self.new.host self.old.requests.keys self.new.requests.keys }
     {
-        let drafted = reduced(alloc, Mode::Blocking, root, op, ty, items);
-        self.call_on(alloc, &comm.name, drafted, turns)
+        let draft = reduced(Mode::Blocking, root, op, ty, items);
+        self.call_on(alloc, &comm.name, draft, turns)
     }
 
     /// `MPI_IREDUCE` (MPI 4.1 section 6.9.1).
@@ -44,11 +44,11 @@ impl<H: Host> Desk<H> {
         ty: Ty,
         items: Numbers,
     ) -> Result<Request, PostError>
-        ensures starts { Starts comm.now.name (line.reduce Nonblocking root op ty items) result (H.node self.old.host) (H.node self.new.host) self.old.requests.keys self.new.requests.keys }
+        ensures asks { Asks comm.now.name (line.reduce Nonblocking root op ty items) result (H.node self.old.host) (H.node self.new.host) self.old.requests.keys self.new.requests.keys }
         ensures no_turn { H.turned self.old.host 0 self.new.host }
     {
-        let drafted = reduced(alloc, Mode::Nonblocking, root, op, ty, items);
-        self.start_on(alloc, &comm.name, drafted)
+        let draft = reduced(Mode::Nonblocking, root, op, ty, items);
+        self.post_on(alloc, &comm.name, draft)
     }
 
     /// `MPI_ALLREDUCE` (MPI 4.1 section 6.9.6).
@@ -61,11 +61,11 @@ impl<H: Host> Desk<H> {
         items: Numbers,
         turns: u64,
     ) -> Result<Finished, CallError>
-        ensures { Calls comm.now.name (line.allreduce Blocking op ty items) turns (λ n. H.turned self.old.host n self.new.host) result (H.node self.old.host) (H.node self.new.host) self.old.requests.keys self.new.requests.keys }
+        ensures { Calls H.node H.turned H.turn_refused comm.now.name (line.allreduce Blocking op ty items) turns result self.old.host self.new.host self.old.requests.keys self.new.requests.keys }
     {
         let call = Call::Reduction(Reduction::Allreduce, Mode::Blocking);
-        let drafted = combined(alloc, call, op, ty, Counts::None, items);
-        self.call_on(alloc, &comm.name, drafted, turns)
+        let draft = combined(call, op, ty, Counts::None, items);
+        self.call_on(alloc, &comm.name, draft, turns)
     }
 
     /// `MPI_IALLREDUCE` (MPI 4.1 section 6.9.6).
@@ -77,12 +77,12 @@ impl<H: Host> Desk<H> {
         ty: Ty,
         items: Numbers,
     ) -> Result<Request, PostError>
-        ensures starts { Starts comm.now.name (line.allreduce Nonblocking op ty items) result (H.node self.old.host) (H.node self.new.host) self.old.requests.keys self.new.requests.keys }
+        ensures asks { Asks comm.now.name (line.allreduce Nonblocking op ty items) result (H.node self.old.host) (H.node self.new.host) self.old.requests.keys self.new.requests.keys }
         ensures no_turn { H.turned self.old.host 0 self.new.host }
     {
         let call = Call::Reduction(Reduction::Allreduce, Mode::Nonblocking);
-        let drafted = combined(alloc, call, op, ty, Counts::None, items);
-        self.start_on(alloc, &comm.name, drafted)
+        let draft = combined(call, op, ty, Counts::None, items);
+        self.post_on(alloc, &comm.name, draft)
     }
 
     /// `MPI_REDUCE_SCATTER_BLOCK` (MPI 4.1 section 6.10.1): a block
@@ -97,11 +97,11 @@ impl<H: Host> Desk<H> {
         items: Numbers,
         turns: u64,
     ) -> Result<Finished, CallError>
-        ensures { Calls comm.now.name (line.reduce_scatter_block Blocking op ty count items) turns (λ n. H.turned self.old.host n self.new.host) result (H.node self.old.host) (H.node self.new.host) self.old.requests.keys self.new.requests.keys }
+        ensures { Calls H.node H.turned H.turn_refused comm.now.name (line.reduce_scatter_block Blocking op ty count items) turns result self.old.host self.new.host self.old.requests.keys self.new.requests.keys }
     {
         let call = Call::Reduction(Reduction::ReduceScatterBlock, Mode::Blocking);
-        let drafted = combined(alloc, call, op, ty, Counts::One(count), items);
-        self.call_on(alloc, &comm.name, drafted, turns)
+        let draft = combined(call, op, ty, Counts::One(count), items);
+        self.call_on(alloc, &comm.name, draft, turns)
     }
 
     /// `MPI_IREDUCE_SCATTER_BLOCK` (MPI 4.1 section 6.10.1).
@@ -114,12 +114,12 @@ impl<H: Host> Desk<H> {
         count: i128,
         items: Numbers,
     ) -> Result<Request, PostError>
-        ensures starts { Starts comm.now.name (line.reduce_scatter_block Nonblocking op ty count items) result (H.node self.old.host) (H.node self.new.host) self.old.requests.keys self.new.requests.keys }
+        ensures asks { Asks comm.now.name (line.reduce_scatter_block Nonblocking op ty count items) result (H.node self.old.host) (H.node self.new.host) self.old.requests.keys self.new.requests.keys }
         ensures no_turn { H.turned self.old.host 0 self.new.host }
     {
         let call = Call::Reduction(Reduction::ReduceScatterBlock, Mode::Nonblocking);
-        let drafted = combined(alloc, call, op, ty, Counts::One(count), items);
-        self.start_on(alloc, &comm.name, drafted)
+        let draft = combined(call, op, ty, Counts::One(count), items);
+        self.post_on(alloc, &comm.name, draft)
     }
 
     /// `MPI_REDUCE_SCATTER` (MPI 4.1 section 6.10.2): how many items
@@ -134,11 +134,11 @@ impl<H: Host> Desk<H> {
         items: Numbers,
         turns: u64,
     ) -> Result<Finished, CallError>
-        ensures { Calls comm.now.name (line.reduce_scatter Blocking op ty rcounts items) turns (λ n. H.turned self.old.host n self.new.host) result (H.node self.old.host) (H.node self.new.host) self.old.requests.keys self.new.requests.keys }
+        ensures { Calls H.node H.turned H.turn_refused comm.now.name (line.reduce_scatter Blocking op ty rcounts items) turns result self.old.host self.new.host self.old.requests.keys self.new.requests.keys }
     {
         let call = Call::Reduction(Reduction::ReduceScatter, Mode::Blocking);
-        let drafted = combined(alloc, call, op, ty, Counts::Many(rcounts), items);
-        self.call_on(alloc, &comm.name, drafted, turns)
+        let draft = combined(call, op, ty, Counts::Many(rcounts), items);
+        self.call_on(alloc, &comm.name, draft, turns)
     }
 
     /// `MPI_IREDUCE_SCATTER` (MPI 4.1 section 6.10.2).
@@ -151,12 +151,12 @@ impl<H: Host> Desk<H> {
         rcounts: Numbers,
         items: Numbers,
     ) -> Result<Request, PostError>
-        ensures starts { Starts comm.now.name (line.reduce_scatter Nonblocking op ty rcounts items) result (H.node self.old.host) (H.node self.new.host) self.old.requests.keys self.new.requests.keys }
+        ensures asks { Asks comm.now.name (line.reduce_scatter Nonblocking op ty rcounts items) result (H.node self.old.host) (H.node self.new.host) self.old.requests.keys self.new.requests.keys }
         ensures no_turn { H.turned self.old.host 0 self.new.host }
     {
         let call = Call::Reduction(Reduction::ReduceScatter, Mode::Nonblocking);
-        let drafted = combined(alloc, call, op, ty, Counts::Many(rcounts), items);
-        self.start_on(alloc, &comm.name, drafted)
+        let draft = combined(call, op, ty, Counts::Many(rcounts), items);
+        self.post_on(alloc, &comm.name, draft)
     }
 
     /// `MPI_SCAN` (MPI 4.1 section 6.11.1).
@@ -169,11 +169,11 @@ impl<H: Host> Desk<H> {
         items: Numbers,
         turns: u64,
     ) -> Result<Finished, CallError>
-        ensures { Calls comm.now.name (line.scan Blocking op ty items) turns (λ n. H.turned self.old.host n self.new.host) result (H.node self.old.host) (H.node self.new.host) self.old.requests.keys self.new.requests.keys }
+        ensures { Calls H.node H.turned H.turn_refused comm.now.name (line.scan Blocking op ty items) turns result self.old.host self.new.host self.old.requests.keys self.new.requests.keys }
     {
         let call = Call::Reduction(Reduction::Scan, Mode::Blocking);
-        let drafted = combined(alloc, call, op, ty, Counts::None, items);
-        self.call_on(alloc, &comm.name, drafted, turns)
+        let draft = combined(call, op, ty, Counts::None, items);
+        self.call_on(alloc, &comm.name, draft, turns)
     }
 
     /// `MPI_ISCAN` (MPI 4.1 section 6.11.1).
@@ -185,12 +185,12 @@ impl<H: Host> Desk<H> {
         ty: Ty,
         items: Numbers,
     ) -> Result<Request, PostError>
-        ensures starts { Starts comm.now.name (line.scan Nonblocking op ty items) result (H.node self.old.host) (H.node self.new.host) self.old.requests.keys self.new.requests.keys }
+        ensures asks { Asks comm.now.name (line.scan Nonblocking op ty items) result (H.node self.old.host) (H.node self.new.host) self.old.requests.keys self.new.requests.keys }
         ensures no_turn { H.turned self.old.host 0 self.new.host }
     {
         let call = Call::Reduction(Reduction::Scan, Mode::Nonblocking);
-        let drafted = combined(alloc, call, op, ty, Counts::None, items);
-        self.start_on(alloc, &comm.name, drafted)
+        let draft = combined(call, op, ty, Counts::None, items);
+        self.post_on(alloc, &comm.name, draft)
     }
 
     /// `MPI_EXSCAN` (MPI 4.1 section 6.11.2).
@@ -203,11 +203,11 @@ impl<H: Host> Desk<H> {
         items: Numbers,
         turns: u64,
     ) -> Result<Finished, CallError>
-        ensures { Calls comm.now.name (line.exscan Blocking op ty items) turns (λ n. H.turned self.old.host n self.new.host) result (H.node self.old.host) (H.node self.new.host) self.old.requests.keys self.new.requests.keys }
+        ensures { Calls H.node H.turned H.turn_refused comm.now.name (line.exscan Blocking op ty items) turns result self.old.host self.new.host self.old.requests.keys self.new.requests.keys }
     {
         let call = Call::Reduction(Reduction::Exscan, Mode::Blocking);
-        let drafted = combined(alloc, call, op, ty, Counts::None, items);
-        self.call_on(alloc, &comm.name, drafted, turns)
+        let draft = combined(call, op, ty, Counts::None, items);
+        self.call_on(alloc, &comm.name, draft, turns)
     }
 
     /// `MPI_IEXSCAN` (MPI 4.1 section 6.11.2).
@@ -219,11 +219,11 @@ impl<H: Host> Desk<H> {
         ty: Ty,
         items: Numbers,
     ) -> Result<Request, PostError>
-        ensures starts { Starts comm.now.name (line.exscan Nonblocking op ty items) result (H.node self.old.host) (H.node self.new.host) self.old.requests.keys self.new.requests.keys }
+        ensures asks { Asks comm.now.name (line.exscan Nonblocking op ty items) result (H.node self.old.host) (H.node self.new.host) self.old.requests.keys self.new.requests.keys }
         ensures no_turn { H.turned self.old.host 0 self.new.host }
     {
         let call = Call::Reduction(Reduction::Exscan, Mode::Nonblocking);
-        let drafted = combined(alloc, call, op, ty, Counts::None, items);
-        self.start_on(alloc, &comm.name, drafted)
+        let draft = combined(call, op, ty, Counts::None, items);
+        self.post_on(alloc, &comm.name, draft)
     }
 }

@@ -1,8 +1,8 @@
 // The calls that move items from or to a root, and the barrier. Each is a draft that is posted, and
-// waited for where it blocks; where there is no memory for the draft, that is told before a refusal.
+// waited for where it blocks.
 ghost use Rattle.std.specs.Prelude.{◌≡◌};
 ghost use Rattle.mpx_kind.specs.declared.kinds.Mode.TheVariants.{Blocking, Nonblocking};
-ghost use Rattle.mpx_comm.specs.Requests.{Calls, Starts};
+ghost use Rattle.mpx_comm.specs.Requests.{Asks, Calls};
 ghost use Rattle.mpx_comm.specs.Lines as line;
 
 use crate::answers::CallError;
@@ -19,21 +19,21 @@ use std::alloc::Global;
 impl<H: Host> Desk<H> {
     /// `MPI_BARRIER` (MPI 4.1 section 6.3).
     pub fn barrier(&mut self, alloc: Global, comm: &Comm, turns: u64) -> Result<Finished, CallError>
-        ensures { Calls comm.now.name (line.barrier Blocking) turns (λ n. H.turned self.old.host n self.new.host) result (H.node self.old.host) (H.node self.new.host) self.old.requests.keys self.new.requests.keys }
+        ensures { Calls H.node H.turned H.turn_refused comm.now.name (line.barrier Blocking) turns result self.old.host self.new.host self.old.requests.keys self.new.requests.keys }
     {
         let call = Call::Exchange(Exchange::Barrier, Mode::Blocking);
-        let drafted = plain(alloc, call);
-        self.call_on(alloc, &comm.name, drafted, turns)
+        let draft = plain(call);
+        self.call_on(alloc, &comm.name, draft, turns)
     }
 
     /// `MPI_IBARRIER` (MPI 4.1 section 6.3).
     pub fn ibarrier(&mut self, alloc: Global, comm: &Comm) -> Result<Request, PostError>
-        ensures starts { Starts comm.now.name (line.barrier Nonblocking) result (H.node self.old.host) (H.node self.new.host) self.old.requests.keys self.new.requests.keys }
+        ensures asks { Asks comm.now.name (line.barrier Nonblocking) result (H.node self.old.host) (H.node self.new.host) self.old.requests.keys self.new.requests.keys }
         ensures no_turn { H.turned self.old.host 0 self.new.host }
     {
         let call = Call::Exchange(Exchange::Barrier, Mode::Nonblocking);
-        let drafted = plain(alloc, call);
-        self.start_on(alloc, &comm.name, drafted)
+        let draft = plain(call);
+        self.post_on(alloc, &comm.name, draft)
     }
 
     /// `MPI_BCAST` (MPI 4.1 section 6.4): the root gives so many items, the others none.
@@ -47,19 +47,11 @@ impl<H: Host> Desk<H> {
         items: Numbers,
         turns: u64,
     ) -> Result<Finished, CallError>
-        ensures { Calls comm.now.name (line.bcast Blocking root ty count items) turns (λ n. H.turned self.old.host n self.new.host) result (H.node self.old.host) (H.node self.new.host) self.old.requests.keys self.new.requests.keys }
+        ensures { Calls H.node H.turned H.turn_refused comm.now.name (line.bcast Blocking root ty count items) turns result self.old.host self.new.host self.old.requests.keys self.new.requests.keys }
     {
         let call = Call::Exchange(Exchange::Bcast, Mode::Blocking);
-        let drafted = rooted(
-            alloc,
-            call,
-            root,
-            ty,
-            Counts::None,
-            Counts::One(count),
-            items,
-        );
-        self.call_on(alloc, &comm.name, drafted, turns)
+        let draft = rooted(call, root, ty, Counts::None, Counts::One(count), items);
+        self.call_on(alloc, &comm.name, draft, turns)
     }
 
     /// `MPI_IBCAST` (MPI 4.1 section 6.4).
@@ -72,20 +64,12 @@ impl<H: Host> Desk<H> {
         count: i128,
         items: Numbers,
     ) -> Result<Request, PostError>
-        ensures starts { Starts comm.now.name (line.bcast Nonblocking root ty count items) result (H.node self.old.host) (H.node self.new.host) self.old.requests.keys self.new.requests.keys }
+        ensures asks { Asks comm.now.name (line.bcast Nonblocking root ty count items) result (H.node self.old.host) (H.node self.new.host) self.old.requests.keys self.new.requests.keys }
         ensures no_turn { H.turned self.old.host 0 self.new.host }
     {
         let call = Call::Exchange(Exchange::Bcast, Mode::Nonblocking);
-        let drafted = rooted(
-            alloc,
-            call,
-            root,
-            ty,
-            Counts::None,
-            Counts::One(count),
-            items,
-        );
-        self.start_on(alloc, &comm.name, drafted)
+        let draft = rooted(call, root, ty, Counts::None, Counts::One(count), items);
+        self.post_on(alloc, &comm.name, draft)
     }
 
     /// `MPI_GATHER` (MPI 4.1 section 6.5): every member gives as many items as the root.
@@ -98,11 +82,11 @@ impl<H: Host> Desk<H> {
         items: Numbers,
         turns: u64,
     ) -> Result<Finished, CallError>
-        ensures { Calls comm.now.name (line.gather Blocking root ty items) turns (λ n. H.turned self.old.host n self.new.host) result (H.node self.old.host) (H.node self.new.host) self.old.requests.keys self.new.requests.keys }
+        ensures { Calls H.node H.turned H.turn_refused comm.now.name (line.gather Blocking root ty items) turns result self.old.host self.new.host self.old.requests.keys self.new.requests.keys }
     {
         let call = Call::Exchange(Exchange::Gather, Mode::Blocking);
-        let drafted = rooted(alloc, call, root, ty, Counts::None, Counts::None, items);
-        self.call_on(alloc, &comm.name, drafted, turns)
+        let draft = rooted(call, root, ty, Counts::None, Counts::None, items);
+        self.call_on(alloc, &comm.name, draft, turns)
     }
 
     /// `MPI_IGATHER` (MPI 4.1 section 6.5).
@@ -114,12 +98,12 @@ impl<H: Host> Desk<H> {
         ty: Ty,
         items: Numbers,
     ) -> Result<Request, PostError>
-        ensures starts { Starts comm.now.name (line.gather Nonblocking root ty items) result (H.node self.old.host) (H.node self.new.host) self.old.requests.keys self.new.requests.keys }
+        ensures asks { Asks comm.now.name (line.gather Nonblocking root ty items) result (H.node self.old.host) (H.node self.new.host) self.old.requests.keys self.new.requests.keys }
         ensures no_turn { H.turned self.old.host 0 self.new.host }
     {
         let call = Call::Exchange(Exchange::Gather, Mode::Nonblocking);
-        let drafted = rooted(alloc, call, root, ty, Counts::None, Counts::None, items);
-        self.start_on(alloc, &comm.name, drafted)
+        let draft = rooted(call, root, ty, Counts::None, Counts::None, items);
+        self.post_on(alloc, &comm.name, draft)
     }
 
     /// `MPI_GATHERV` (MPI 4.1 section 6.5): the root says how many
@@ -134,19 +118,11 @@ impl<H: Host> Desk<H> {
         items: Numbers,
         turns: u64,
     ) -> Result<Finished, CallError>
-        ensures { Calls comm.now.name (line.gatherv Blocking root ty rcounts items) turns (λ n. H.turned self.old.host n self.new.host) result (H.node self.old.host) (H.node self.new.host) self.old.requests.keys self.new.requests.keys }
+        ensures { Calls H.node H.turned H.turn_refused comm.now.name (line.gatherv Blocking root ty rcounts items) turns result self.old.host self.new.host self.old.requests.keys self.new.requests.keys }
     {
         let call = Call::Exchange(Exchange::Gatherv, Mode::Blocking);
-        let drafted = rooted(
-            alloc,
-            call,
-            root,
-            ty,
-            Counts::None,
-            Counts::Many(rcounts),
-            items,
-        );
-        self.call_on(alloc, &comm.name, drafted, turns)
+        let draft = rooted(call, root, ty, Counts::None, Counts::Many(rcounts), items);
+        self.call_on(alloc, &comm.name, draft, turns)
     }
 
     /// `MPI_IGATHERV` (MPI 4.1 section 6.5).
@@ -159,20 +135,12 @@ impl<H: Host> Desk<H> {
         rcounts: Numbers,
         items: Numbers,
     ) -> Result<Request, PostError>
-        ensures starts { Starts comm.now.name (line.gatherv Nonblocking root ty rcounts items) result (H.node self.old.host) (H.node self.new.host) self.old.requests.keys self.new.requests.keys }
+        ensures asks { Asks comm.now.name (line.gatherv Nonblocking root ty rcounts items) result (H.node self.old.host) (H.node self.new.host) self.old.requests.keys self.new.requests.keys }
         ensures no_turn { H.turned self.old.host 0 self.new.host }
     {
         let call = Call::Exchange(Exchange::Gatherv, Mode::Nonblocking);
-        let drafted = rooted(
-            alloc,
-            call,
-            root,
-            ty,
-            Counts::None,
-            Counts::Many(rcounts),
-            items,
-        );
-        self.start_on(alloc, &comm.name, drafted)
+        let draft = rooted(call, root, ty, Counts::None, Counts::Many(rcounts), items);
+        self.post_on(alloc, &comm.name, draft)
     }
 
     /// `MPI_SCATTER` (MPI 4.1 section 6.6): the root gives a block of
@@ -187,19 +155,11 @@ impl<H: Host> Desk<H> {
         items: Numbers,
         turns: u64,
     ) -> Result<Finished, CallError>
-        ensures { Calls comm.now.name (line.scatter Blocking root ty count items) turns (λ n. H.turned self.old.host n self.new.host) result (H.node self.old.host) (H.node self.new.host) self.old.requests.keys self.new.requests.keys }
+        ensures { Calls H.node H.turned H.turn_refused comm.now.name (line.scatter Blocking root ty count items) turns result self.old.host self.new.host self.old.requests.keys self.new.requests.keys }
     {
         let call = Call::Exchange(Exchange::Scatter, Mode::Blocking);
-        let drafted = rooted(
-            alloc,
-            call,
-            root,
-            ty,
-            Counts::None,
-            Counts::One(count),
-            items,
-        );
-        self.call_on(alloc, &comm.name, drafted, turns)
+        let draft = rooted(call, root, ty, Counts::None, Counts::One(count), items);
+        self.call_on(alloc, &comm.name, draft, turns)
     }
 
     /// `MPI_ISCATTER` (MPI 4.1 section 6.6).
@@ -212,20 +172,12 @@ impl<H: Host> Desk<H> {
         count: i128,
         items: Numbers,
     ) -> Result<Request, PostError>
-        ensures starts { Starts comm.now.name (line.scatter Nonblocking root ty count items) result (H.node self.old.host) (H.node self.new.host) self.old.requests.keys self.new.requests.keys }
+        ensures asks { Asks comm.now.name (line.scatter Nonblocking root ty count items) result (H.node self.old.host) (H.node self.new.host) self.old.requests.keys self.new.requests.keys }
         ensures no_turn { H.turned self.old.host 0 self.new.host }
     {
         let call = Call::Exchange(Exchange::Scatter, Mode::Nonblocking);
-        let drafted = rooted(
-            alloc,
-            call,
-            root,
-            ty,
-            Counts::None,
-            Counts::One(count),
-            items,
-        );
-        self.start_on(alloc, &comm.name, drafted)
+        let draft = rooted(call, root, ty, Counts::None, Counts::One(count), items);
+        self.post_on(alloc, &comm.name, draft)
     }
 
     /// `MPI_SCATTERV` (MPI 4.1 section 6.6): the root says how many
@@ -241,11 +193,10 @@ impl<H: Host> Desk<H> {
         items: Numbers,
         turns: u64,
     ) -> Result<Finished, CallError>
-        ensures { Calls comm.now.name (line.scatterv Blocking root ty scounts count items) turns (λ n. H.turned self.old.host n self.new.host) result (H.node self.old.host) (H.node self.new.host) self.old.requests.keys self.new.requests.keys }
+        ensures { Calls H.node H.turned H.turn_refused comm.now.name (line.scatterv Blocking root ty scounts count items) turns result self.old.host self.new.host self.old.requests.keys self.new.requests.keys }
     {
         let call = Call::Exchange(Exchange::Scatterv, Mode::Blocking);
-        let drafted = rooted(
-            alloc,
+        let draft = rooted(
             call,
             root,
             ty,
@@ -253,7 +204,7 @@ impl<H: Host> Desk<H> {
             Counts::One(count),
             items,
         );
-        self.call_on(alloc, &comm.name, drafted, turns)
+        self.call_on(alloc, &comm.name, draft, turns)
     }
 
     /// `MPI_ISCATTERV` (MPI 4.1 section 6.6).
@@ -267,12 +218,11 @@ impl<H: Host> Desk<H> {
         count: i128,
         items: Numbers,
     ) -> Result<Request, PostError>
-        ensures starts { Starts comm.now.name (line.scatterv Nonblocking root ty scounts count items) result (H.node self.old.host) (H.node self.new.host) self.old.requests.keys self.new.requests.keys }
+        ensures asks { Asks comm.now.name (line.scatterv Nonblocking root ty scounts count items) result (H.node self.old.host) (H.node self.new.host) self.old.requests.keys self.new.requests.keys }
         ensures no_turn { H.turned self.old.host 0 self.new.host }
     {
         let call = Call::Exchange(Exchange::Scatterv, Mode::Nonblocking);
-        let drafted = rooted(
-            alloc,
+        let draft = rooted(
             call,
             root,
             ty,
@@ -280,6 +230,6 @@ impl<H: Host> Desk<H> {
             Counts::One(count),
             items,
         );
-        self.start_on(alloc, &comm.name, drafted)
+        self.post_on(alloc, &comm.name, draft)
     }
 }

@@ -102,8 +102,8 @@ fn block_value(alloc: Global, row: &Row<'_>, block: Block) -> Result<Value, OutO
     ensures { IfOk result (λ value. value ≡ as_items row.now (part (type_of (first_of row.now)) block (all_folded row.now))) }
 {
     let all = fold_upto(alloc, row, row.len())?;
-    let mut items = Items::empty(alloc, all.ty())?;
-    items.extend(&all, block.first, block.count)?;
+    let mut items = Items::empty(all.ty());
+    items.extend(alloc, &all, block.first, block.count)?;
     Ok(Value::Items(items))
 }
 

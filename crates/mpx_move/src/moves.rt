@@ -65,10 +65,10 @@ fn joined_value(alloc: Global, row: &Row<'_>) -> Result<Value, OutOfMemory>
     requires some { 0 < length row.now }
     ensures { IfOk result (λ value. value ≡ as_items row.now (joined row.now)) }
 {
-    let mut items = Items::empty(alloc, given(row, 0).ty())?;
+    let mut items = Items::empty(given(row, 0).ty());
     for rank in 0..row.len() {
         let all = given(row, rank);
-        items.extend(all, 0, all.count())?;
+        items.extend(alloc, all, 0, all.count())?;
     }
     Ok(Value::Items(items))
 }
@@ -80,9 +80,9 @@ fn blocks_value(alloc: Global, row: &Row<'_>, receiver: u8) -> Result<Value, Out
     requires receiver { receiver < length row.now }
     ensures { IfOk result (λ value. value ≡ as_items row.now (blocks_for row.now receiver)) }
 {
-    let mut items = Items::empty(alloc, given(row, 0).ty())?;
+    let mut items = Items::empty(given(row, 0).ty());
     for sender in 0..row.len() {
-        append_block(&mut items, row, sender, receiver)?;
+        append_block(alloc, &mut items, row, sender, receiver)?;
     }
     Ok(Value::Items(items))
 }
@@ -100,13 +100,14 @@ fn block_value(
     requires receiver { receiver < length row.now }
     ensures { IfOk result (λ value. value ≡ as_items row.now (block_for row.now receiver sender)) }
 {
-    let mut items = Items::empty(alloc, given(row, 0).ty())?;
-    append_block(&mut items, row, sender, receiver)?;
+    let mut items = Items::empty(given(row, 0).ty());
+    append_block(alloc, &mut items, row, sender, receiver)?;
     Ok(Value::Items(items))
 }
 
 // Appends the block for the receiver of what the sender sends.
 fn append_block(
+    alloc: Global,
     items: &mut Items,
     row: &Row<'_>,
     sender: usize,
@@ -120,7 +121,7 @@ fn append_block(
     ensures { OnOk result (items.new ≡ record { ty = items.old.ty; nums = items.old.nums ++ block_for row.now receiver sender }) }
 {
     let block = block_of(row, sender, receiver);
-    items.extend(given(row, sender), block.first, block.count)?;
+    items.extend(alloc, given(row, sender), block.first, block.count)?;
     Ok(())
 }
 

@@ -75,10 +75,10 @@ fn joined_value(
     requires rank { rank < length row.now }
     ensures { IfOk result (λ value. value ≡ as_items row.now (joined topology.now row.now rank)) }
 {
-    let mut items = Items::empty(alloc, given(row, 0).ty())?;
+    let mut items = Items::empty(given(row, 0).ty());
     for source in topology.sources(rank) {
         let all = given(row, usize::from(source.rank));
-        items.extend(all, 0, all.count())?;
+        items.extend(alloc, all, 0, all.count())?;
     }
     Ok(Value::Items(items))
 }
@@ -99,12 +99,17 @@ fn blocks_value(
     ensures { IfOk result (λ value. value ≡ as_items row.now (blocks_met topology.now row.now rank)) }
 {
     prove!(topology.size() <= 64);
-    let mut items = Items::empty(alloc, given(row, 0).ty())?;
+    let mut items = Items::empty(given(row, 0).ty());
     let mut cursors = Cursors::new();
     for place in 0..topology.sources(rank).len() {
         let sender = source_at(topology, rank, place);
         let block = cursors.take(exchange, topology, row, rank, place, sender);
-        items.extend(given(row, usize::from(sender)), block.first, block.count)?;
+        items.extend(
+            alloc,
+            given(row, usize::from(sender)),
+            block.first,
+            block.count,
+        )?;
     }
     Ok(Value::Items(items))
 }

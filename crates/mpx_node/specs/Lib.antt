@@ -4,3 +4,4 @@ pub mod Shown
 pub mod Harvests
 pub mod Bounded
 pub mod Parts
+pub mod Deltas

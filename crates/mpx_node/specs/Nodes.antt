@@ -1,5 +1,5 @@
 -- One process, and its steps.
-use Rattle.std.specs.Prelude.{◌≡◌, ℕ, ◌+◌, ◌&&◌, Bool, cond, nat_lt, List, [], ◌∷◌, ◌++◌, length, map, Option, Some, None, option_and_then, Result, Ok, Err, ℤ}
+use Rattle.std.specs.Prelude.{◌≡◌, ℕ, ◌+◌, ◌==◌, ◌&&◌, Bool, cond, nat_lt, List, [], ◌∷◌, ◌++◌, length, map, Option, Some, None, option_and_then, Result, Ok, Err, ℤ}
 use Rattle.std.specs.List.{list_any}
 use Rattle.std.specs.Option.{option_map}
 use Rattle.join_core.specs.Flat.{known}
@@ -13,7 +13,9 @@ use Rattle.mpx_post.specs.declared.draft.PostError.TheVariants.{NotMember, OutOf
 use Rattle.mpx_post.specs.Births.{BirthView, of_members, upto}
 use Rattle.mpx_post.specs.Drafts.{at, checked}
 use Rattle.mpx_post.specs.Gatherings.{GatheringView, gathering}
+pub use Rattle.mpx_board.specs.Boards.{own_acks}
 use Rattle.mpx_board.specs.Boards.{Look, IsBetween, join, join_all, only, told, row_on, Born, Held, Front}
+use Rattle.mpx_delta.specs.Digests.{Numbers}
 use Rattle.mpx_node.specs.declared.finished.Finished.{Finished}
 use Rattle.mpx_value.specs.declared.outcomes.Outcome.{Outcome}
 use Rattle.mpx_value.specs.Children.{children, named_children}
@@ -24,9 +26,10 @@ pub record OpenedView : Type 0 where
   pub posted : ℕ
   pub results : List Finished
 
--- who it is, its board, and what it has done on each context that it has opened
+-- who it is, how many processes there are, its board, and what it has done on each context that it has opened
 pub record NodeView : Type 0 where
   pub me : ℕ
+  pub processes : ℕ
   pub board : Look
   pub opened : Name → Option OpenedView
 
@@ -59,8 +62,8 @@ abbrev pub opened_at_start : (me ranks : ℕ) → Name → Option OpenedView
 opened_at_start me ranks name = cond (same_name name [] && nat_lt me ranks) (Some (record { posted = 0; results = [] })) None
 
 -- before any post: the world's birth is on its board
-abbrev pub start_node : (me ranks : ℕ) → NodeView
-start_node me ranks = record { me = me; board = only (Born [] (known (of_members (upto ranks)))); opened = opened_at_start me ranks }
+abbrev pub start_node : (me ranks processes : ℕ) → NodeView
+start_node me ranks processes = record { me = me; processes = processes; board = only (Born [] (known (of_members (upto ranks)))); opened = opened_at_start me ranks }
 
 -- a board comes to it
 abbrev pub learn : Look → NodeView → NodeView
@@ -69,6 +72,10 @@ learn part node = record node { board = join node.board part }
 -- what a refused take of a part leaves: a board between the old one and the join, with no fact of its own; nothing else is changed
 abbrev pub StopsTaking : Look → NodeView → NodeView → Type 0
 StopsTaking part old new = (new ≡ record old { board = new.board }) × IsBetween old.board part new.board
+
+-- it says what it has of others
+abbrev pub acknowledge : Numbers → NodeView → NodeView
+acknowledge numbers node = learn (own_acks node.me numbers) node
 
 -- it does something on a context that it has opened
 abbrev pub does_on : Name → (OpenedView → OpenedView) → NodeView → NodeView

@@ -6,4 +6,4 @@ use Rattle.mpx_node.specs.Nodes.{NodeView}
 
 -- the process that a node is
 abbrev pub node_of : Node → NodeView
-node_of n = record { me = n.me; board = look n.board; opened = opened_by n.opened }
+node_of n = record { me = n.me; processes = n.processes; board = look n.board; opened = opened_by n.opened }

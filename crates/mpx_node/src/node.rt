@@ -19,6 +19,7 @@ use crate::part::{PartError, whole_part};
 use crate::results::{children_on, finished, harvested_board, has_result};
 use join_core::{Exact, Join, OutOfMemory};
 use mpx_board::{Board, PruneError};
+use mpx_delta::deltas;
 use mpx_group::Proc;
 use mpx_name::Name;
 use mpx_parts::parts;
@@ -30,8 +31,11 @@ use std::collections::BTreeMap;
 #[derive(Debug, Drop)]
 pub struct Node {
     me: Proc,
+    processes: u8,
     board: Board,
     opened: BTreeMap<Name, Opened>,
+    ghost some: { 0 < processes },
+    ghost few: { processes ≤ 64 },
 }
 
 /// What a harvest came to.
@@ -47,6 +51,7 @@ pub enum Harvest {
 
 impl Node {
     ghost use Rattle.mpx_node.specs.Nodes.{Opens, Posts, StopsTaking, add_result, start_node, learn, checked_on, children_on, gathering_name, gathers_on, next_result, open_gathering_node, posted_on, results_on, front_on};
+    ghost use Rattle.mpx_node.specs.Deltas.{SaysWhatItHas, lacking_on};
     ghost use Rattle.mpx_node.specs.Shown.{node_of};
     ghost use Rattle.mpx_node.specs.Opened.{HasUnfinished};
     ghost use Rattle.mpx_node.specs.Harvests.{Harvests};
@@ -59,11 +64,16 @@ impl Node {
         requires ranks { ranks ≤ processes }
         requires few { processes ≤ 64 }
         requires me { me < processes }
-        ensures { IfOk result (λ node. node_of node ≡ start_node me ranks) }
+        ensures { IfOk result (λ node. node_of node ≡ start_node me ranks processes) }
     {
         let board = board_at_start(alloc, ranks)?;
         match opened_at_start(alloc, me, ranks) {
-            Ok(opened) => Ok(Node { me, board, opened }),
+            Ok(opened) => Ok(Node {
+                me,
+                processes,
+                board,
+                opened,
+            }),
             Err(e) => {
                 drop(board);
                 Err(e)
@@ -241,6 +251,21 @@ impl Node {
         ensures join { IfOk result (λ made. join_all (map look made.items) ≡ (node_of self.now).board) }
     {
         parts(alloc, &self.board, limit)
+    }
+
+    /// Says that the process has all that its board has, and gives the board without the posts below what all processes
+    /// say, in parts, each of which has only facts of the board and a frame of at most so many bytes. An `Err` changes
+    /// nothing.
+    pub fn deltas(&mut self, alloc: Global, limit: usize) -> Result<Vec<Board>, OutOfMemory>
+        requires least { 524288 ≤ limit }
+        requires most { limit ≤ 1048576 }
+        ensures own { OnOk result (SaysWhatItHas (node_of self.old) (node_of self.new)) }
+        ensures facts { IfOk result (λ made. All (λ part. OnlyFactsOf (look part) (node_of self.new).board) made.items) }
+        ensures fit { IfOk result (λ made. All (λ part. length_told (parts_of part) ≤ limit) made.items) }
+        ensures join { IfOk result (λ made. join_all (map look made.items) ≡ lacking_on (node_of self.new)) }
+        ensures err { OnErr result (node_of self.new ≡ node_of self.old) }
+    {
+        deltas(alloc, &mut self.board, self.me, self.processes, limit)
     }
 
     // Stores the result of the next call on an opened context, tells of it, and opens what the call made. An `Err` changes

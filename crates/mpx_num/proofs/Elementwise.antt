@@ -1,5 +1,5 @@
 -- The operations keep the range of the type, and how items are combined by its kind.
-use Rattle.std.proofs.Common.{◌≡◌, ◌+◌, ◌*◌, ◌/◌, ◌^◌, ◌<◌, Bool, true, false, List, length, ℤ, pos, refl, arith}
+use Rattle.std.proofs.Common.{◌≡◌, ◌+◌, ◌*◌, ◌/◌, ◌^◌, ◌<◌, Bool, true, false, List, [], length, ℤ, pos, refl, arith}
 use Rattle.std.specs.Int.{int_max, int_min}
 use Rattle.std.specs.Prelude.{int_lt}
 use Rattle.std.specs.Ordering.{int_eq}
@@ -68,6 +68,10 @@ elementwise-pairs op ty xs ys e = cond-true (is_paired ty) _ _ e
 pub elementwise-numbers : (op : Op) (ty : Ty) (xs ys : List ℤ) → is_paired ty ≡ false → elementwise op ty xs ys ≡ zip_with (combined op ty) xs ys
 unfolding elementwise
 elementwise-numbers op ty xs ys e = cond-false (is_paired ty) _ _ e
+
+pub elementwise-none : (op : Op) (ty : Ty) (ys : List ℤ) → elementwise op ty [] ys ≡ []
+unfolding elementwise
+elementwise-none op ty ys = cond_both (is_paired ty) _ _ (λ xs. xs ≡ []) (λ _. refl) (λ _. refl)
 
 pub elementwise-in_range : (op : Op) (ty : Ty) (xs ys : List ℤ) → All (IsInRange ty) xs → All (IsInRange ty) ys → All (IsInRange ty) (elementwise op ty xs ys)
 unfolding elementwise

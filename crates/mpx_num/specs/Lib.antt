@@ -4,3 +4,4 @@ pub mod Operations
 pub mod ItemList
 pub mod Text
 pub mod Laws
+pub mod Kept

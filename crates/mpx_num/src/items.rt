@@ -2,18 +2,15 @@ ghost use Rattle.std.specs.Prelude.{◌≡◌, ◌+◌, ◌*◌, ◌<◌, ◌≤
 ghost use Rattle.std.specs.Bool.{Decides, OnTrue, OnFalse};
 ghost use Rattle.std.specs.Result.{IsErrOf};
 ghost use Rattle.std.specs.List.{All, Any};
-ghost use Rattle.std.specs.Arc.{arc_value};
 ghost use Rattle.mpx_num.specs.Types.{IsInRange, IsOutOfRange, item_len};
 ghost use Rattle.mpx_num.specs.ItemList.{AreItems, is_whole, item_count};
 ghost use Rattle.mpx_num.specs.Operations.{elementwise, fits};
 
 use crate::numbers::Numbers;
 use crate::operations::Op;
-use crate::reduction::combine;
 use crate::types::{Ty, is_in_range};
 use std::alloc::{AllocError, Global};
 use std::marker::Model;
-use std::sync::Arc;
 
 /// The greatest number of items of one contribution.
 pub const MOST_ITEMS: usize = 4096;
@@ -22,18 +19,17 @@ pub const MOST_ITEMS: usize = 4096;
 #[derive(Debug, Drop)]
 pub struct Items {
     ty: Ty,
-    nums: Arc<Vec<i128>>,
+    nums: Numbers,
 }
 
 impl Model for Items {
-    ghost use Rattle.std.specs.Arc.{arc_value};
     ghost use Rattle.mpx_num.specs.ItemList.{ItemList, AreItems};
 
     ghost Value = { ItemList };
 
-    ghost view = { λ items. record { ty = items.ty; nums = (arc_value items.nums).items } };
+    ghost view = { λ items. record { ty = items.ty; nums = items.nums } };
 
-    ghost invariant = { λ items. AreItems items.ty (arc_value items.nums).items };
+    ghost invariant = { λ items. AreItems items.ty items.nums };
 }
 
 /// Why numbers are no items of a type.
@@ -58,14 +54,13 @@ impl Items {
         ensures out_of_range { IsErrOf result ItemsError.ItemOutOfRange ↔ ((is_whole ty nums ≡ true) × Any (IsOutOfRange ty) nums) }
         ensures too_many { IsErrOf result ItemsError.TooManyItems ↔ (AreItems ty nums × (MOST_ITEMS * item_len ty < length nums)) }
     {
-        let nums = nums.into_shared();
         if !are_whole(ty, nums.as_slice()) {
             return Err(ItemsError::ItemsLength);
         }
         if !are_in_range(ty, nums.as_slice()) {
             return Err(ItemsError::ItemOutOfRange);
         }
-        if nums.len() > MOST_ITEMS * ty.item_len() {
+        if nums.as_slice().len() > MOST_ITEMS * ty.item_len() {
             return Err(ItemsError::TooManyItems);
         }
         Ok(Items { ty, nums })
@@ -77,16 +72,17 @@ impl Items {
         requires few { length nums ≤ MOST_ITEMS * item_len ty }
         ensures { result ≡ record { ty = ty; nums = nums } }
     {
-        let nums = nums.into_shared();
         Items { ty, nums }
     }
 
-    /// No items of the type.
-    pub fn empty(alloc: Global, ty: Ty) -> Result<Self, AllocError>
-        ensures { IfOk result (λ items. items ≡ record { ty = ty; nums = [] }) }
+    /// No items of the type. It takes no memory.
+    pub fn empty(ty: Ty) -> Self
+        ensures { result ≡ record { ty = ty; nums = [] } }
     {
-        let nums = Numbers::new(alloc, Vec::new(alloc))?.into_shared();
-        Ok(Items { ty, nums })
+        Items {
+            ty,
+            nums: Numbers::none(),
+        }
     }
 
     /// The type of the items.
@@ -109,7 +105,7 @@ impl Items {
         ensures value { result ≡ item_count self.now.ty self.now.nums }
         ensures whole { result * item_len self.now.ty ≡ length self.now.nums }
     {
-        self.nums.len() / self.ty.item_len()
+        self.nums.as_slice().len() / self.ty.item_len()
     }
 
     /// Whether the items are equal in type and numbers.
@@ -123,18 +119,24 @@ impl Items {
     pub fn copy(&self) -> Result<Self, AllocError>
         ensures { IfOk result (λ copied. copied ≡ self.now) }
     {
-        let nums = Arc::try_clone(&self.nums)?;
+        let nums = self.nums.copy()?;
         Ok(Items { ty: self.ty, nums })
     }
 
     /// Appends so many items of another list of the same type, from a place on.
-    pub fn extend(&mut self, from: &Items, first: usize, count: usize) -> Result<(), AllocError>
+    pub fn extend(
+        &mut self,
+        alloc: Global,
+        from: &Items,
+        first: usize,
+        count: usize,
+    ) -> Result<(), AllocError>
         requires ty { self.old.ty ≡ from.now.ty }
         requires within { (first + count) * item_len from.now.ty ≤ length from.now.nums }
         ensures ok { OnOk result (self.new ≡ record { ty = self.old.ty; nums = self.old.nums ++ take (count * item_len self.old.ty) (drop (first * item_len self.old.ty) from.now.nums) }) }
         ensures err { OnErr result (self.new ≡ self.old) }
     {
-        append(&mut self.nums, from.part(first, count))
+        self.nums.append(alloc, from.part(first, count))
     }
 
     // The numbers of so many items, from a place on.
@@ -194,30 +196,5 @@ pub fn apply(op: Op, ty: Ty, left: &mut Items, right: &Items) -> Result<(), Allo
     ensures same_len { length left.new.nums ≡ length left.old.nums }
     ensures err { OnErr result (left.new ≡ left.old) }
 {
-    combine_shared(op, ty, &mut left.nums, right.nums())
-}
-
-// Appends numbers, to a copy where others share the list.
-fn append(nums: &mut Arc<Vec<i128>>, part: &[i128]) -> Result<(), AllocError>
-    ensures ok { OnOk result ((arc_value nums.new).items ≡ (arc_value nums.old).items ++ part.now) }
-    ensures err { OnErr result ((arc_value nums.new).items ≡ (arc_value nums.old).items) }
-{
-    Arc::make_mut(nums)?.extend_from_slice(part)
-}
-
-// The operation item by item, on a copy where others share the list.
-fn combine_shared(
-    op: Op,
-    ty: Ty,
-    left: &mut Arc<Vec<i128>>,
-    right: &[i128],
-) -> Result<(), AllocError>
-    requires whole { IsTrue (is_whole ty (arc_value left.old).items) }
-    requires same_len { length (arc_value left.old).items ≡ length right.now }
-    ensures ok { OnOk result ((arc_value left.new).items ≡ elementwise op ty (arc_value left.old).items right.now) }
-    ensures same_len { length (arc_value left.new).items ≡ length (arc_value left.old).items }
-    ensures err { OnErr result ((arc_value left.new).items ≡ (arc_value left.old).items) }
-{
-    combine(op, ty, Arc::make_mut(left)?, right);
-    Ok(())
+    left.nums.combine(op, ty, right.nums())
 }

@@ -68,16 +68,15 @@ fn index_of(value: i128, left: Located, right: Located) -> i128
 }
 
 // The operation item by item, in place.
-pub(crate) fn combine(op: Op, ty: Ty, left: &mut Vec<i128>, right: &[i128])
-    requires whole { IsTrue (is_whole ty left.old.items) }
-    requires same_len { length left.old.items ≡ length right.now }
-    ensures value { left.new.items ≡ elementwise op ty left.old.items right.now }
-    ensures same_len { length left.new.items ≡ length left.old.items }
+pub(crate) fn combine(op: Op, ty: Ty, left: &mut [i128], right: &[i128])
+    requires whole { IsTrue (is_whole ty left.old) }
+    requires same_len { length left.old ≡ length right.now }
+    ensures { left.new ≡ elementwise op ty left.old right.now }
 {
     if ty.is_paired() {
-        combine_pairs(op, ty, left.as_mut_slice(), right);
+        combine_pairs(op, ty, left, right);
     } else {
-        combine_numbers(op, ty, left.as_mut_slice(), right);
+        combine_numbers(op, ty, left, right);
     }
 }
 

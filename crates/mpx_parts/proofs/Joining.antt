@@ -26,7 +26,7 @@ use Rattle.mpx_board.proofs.Order.{leq_is_below}
 use Rattle.mpx_board.proofs.Tidiness.{tidy_join, tidy_empty}
 use Rattle.mpx_format.specs.Encoding.{length_told}
 use Rattle.mpx_parts.specs.Facts.{OnlyFactsOf, SaysParts}
-use Rattle.mpx_parts.specs.Pieces.{Says, Adds, AreBelow, HaveOnlyFactsOf, AllFit, most_of_piece}
+use Rattle.mpx_parts.specs.Pieces.{NoNeighboursFit, Says, Adds, AreBelow, HaveOnlyFactsOf, AllFit, most_of_piece}
 use Rattle.mpx_parts.proofs.Saying.{all_said, said_all}
 use Rattle.mpx_parts.proofs.Adding.{All-front, All-back, All-last}
 
@@ -128,6 +128,28 @@ module _ (limit : ℕ) where
   -- two halves
   pub says_halves : (all low high made rest new : List Board) → low ++ high ≡ all → Says limit low made → Says limit high rest → Says limit (made ++ rest) new → Says limit all new
   says_halves all low high made rest new is s t u = subst (λ l. Says limit l new) is (says_then (low ++ high) (made ++ rest) new (says_then (low ++ high) (made ++ high) (made ++ rest) (says_before low made high s) (says_behind made high rest t)) u)
+
+-- NEIGHBOURS
+
+module _ (limit : ℕ) where
+  -- those in front
+  pub front_apart : (xs ys : List Board) → NoNeighboursFit limit (xs ++ ys) → NoNeighboursFit limit xs
+  front_apart [] ys h = tt
+  front_apart (a ∷ []) ys h = tt
+  front_apart (a ∷ b ∷ xs) ys h = (h.0, front_apart (b ∷ xs) ys h.1)
+
+  -- one more, which doesn't fit the last
+  pub last_apart : (xs : List Board) (a b : Board) → NoNeighboursFit limit (xs ++ a ∷ []) → limit < length_told (parts_joining.join (parts_of a) (parts_of b)) → NoNeighboursFit limit ((xs ++ a ∷ []) ++ b ∷ [])
+  last_apart [] a b h long = (long, tt)
+  last_apart (x ∷ []) a b h long = (h.0, (long, tt))
+  last_apart (x ∷ y ∷ xs) a b h long = (h.0, last_apart (y ∷ xs) a b h.1 long)
+
+  -- the last one joined with one more, where that fits
+  pub says_fused : (front : List Board) (a b j : Board) (old new : List Board) → old ≡ front ++ a ∷ [] → parts_of j ≡ parts_joining.join (parts_of a) (parts_of b) → length_told (parts_of j) ≤ limit
+      → Says limit (front ++ j ∷ []) new → Says limit (old ++ b ∷ []) new
+  says_fused front a b j old new is same fits s =
+      subst (λ l. Says limit l new) (sym (ap (λ l. l ++ b ∷ []) is ∙ assoc limit front (a ∷ []) (b ∷ [])))
+      (says_then limit (front ++ a ∷ b ∷ []) (front ++ j ∷ []) new (says_joined limit front a b j same fits) s)
 
 -- THE WHOLE
 

@@ -1,7 +1,7 @@
 -- Pieces of a board, and how they are put together.
-use Rattle.std.specs.Prelude.{◌≤◌, ℕ, Bool, not, nat_lt, ◌&&◌, ◌||◌, List, All}
+use Rattle.std.specs.Prelude.{◌≤◌, ◌<◌, ℕ, Bool, not, nat_lt, ◌&&◌, ◌||◌, List, [], ◌∷◌, All}
 use Rattle.mpx_board.specs.Boards.{Look, Fact, Has, Stands, IsBelow}
-use Rattle.mpx_board.specs.Parts.{EntryView}
+use Rattle.mpx_board.specs.Parts.{EntryView, parts_joining}
 use Rattle.mpx_board.specs.Tidy.{is_unknown, is_bare}
 use Rattle.mpx_board.specs.Looks.{look, parts_of}
 use Rattle.mpx_board.specs.declared.board.Board.{Board}
@@ -41,6 +41,12 @@ pub record Says (limit : ℕ) (those these : List Board) : Type 0 where
   pub covers : (d : Look) → AreBelow these d → AreBelow those d
   pub only : (w : Look) → HaveOnlyFactsOf those w → HaveOnlyFactsOf these w
   pub fits : AllFit limit those → AllFit limit these
+
+-- of no two neighbours among the boards does the join have a frame of at most so many bytes
+abbrev pub NoNeighboursFit : ℕ → List Board → Type 0
+NoNeighboursFit limit [] = Unit {0}
+NoNeighboursFit limit (a ∷ []) = Unit {0}
+NoNeighboursFit limit (a ∷ b ∷ bs) = (limit < length_told (parts_joining.join (parts_of a) (parts_of b))) × NoNeighboursFit limit (b ∷ bs)
 
 -- something is said of the context beside the posts
 abbrev pub has_head : EntryView → Bool

@@ -1,10 +1,10 @@
 // Pieces put together again, as far as frames reach.
-ghost use Rattle.std.specs.Prelude.{◌≡◌, ◌≤◌, ◌<◌, ◌++◌, ◌∷◌, ℕ, All, length, map, slice_set, OnOk, IfOk, IfSome};
+ghost use Rattle.std.specs.Prelude.{◌≡◌, ◌≤◌, ◌<◌, ◌++◌, ◌∷◌, [], ℕ, All, length, map, slice_set, OnOk, IfOk, IfSome};
 ghost use Rattle.mpx_board.specs.Boards.{join_all};
 ghost use Rattle.mpx_board.specs.Looks.{look, parts_of};
 ghost use Rattle.mpx_format.specs.Encoding.{length_told};
 ghost use Rattle.mpx_parts.specs.Facts.{OnlyFactsOf};
-ghost use Rattle.mpx_parts.specs.Pieces.{Says};
+ghost use Rattle.mpx_parts.specs.Pieces.{NoNeighboursFit, Says};
 
 use crate::walk::pieces;
 use join_core::{Exact, Join, OutOfMemory};
@@ -14,7 +14,8 @@ use std::alloc::Global;
 
 /// The board in parts, each of which has only facts of the board and a frame of at most so many bytes, and whose join is
 /// the board: the board itself where it fits. Else it is taken apart into single posts, what is said of one context beside
-/// its posts, and what one process acknowledges of one context; and neighbours among these are joined as far as they fit.
+/// its posts, and what one process acknowledges of one context; and neighbours among these are joined until no two of them
+/// fit one frame.
 /// It takes time and memory in the order of the board's size, times its logarithm.
 pub fn parts(alloc: Global, board: &Board, limit: usize) -> Result<Vec<Board>, OutOfMemory>
     requires least { 524288 ≤ limit }
@@ -22,6 +23,8 @@ pub fn parts(alloc: Global, board: &Board, limit: usize) -> Result<Vec<Board>, O
     ensures facts { IfOk result (λ made. All (λ part. OnlyFactsOf (look part) (look board.now)) made.items) }
     ensures fit { IfOk result (λ made. All (λ part. length_told (parts_of part) ≤ limit) made.items) }
     ensures join { IfOk result (λ made. join_all (map look made.items) ≡ look board.now) }
+    ensures whole { IfOk result (λ made. length_told (parts_of board.now) ≤ limit → map look made.items ≡ look board.now ∷ []) }
+    ensures few { IfOk result (λ made. NoNeighboursFit limit made.items) }
 {
     if frame_len(board) <= limit {
         let mut whole = Vec::new(alloc);
@@ -29,7 +32,38 @@ pub fn parts(alloc: Global, board: &Board, limit: usize) -> Result<Vec<Board>, O
         return Ok(whole);
     }
     let pieces = pieces(alloc, board)?;
-    pack(alloc, &pieces, limit)
+    let packed = pack(alloc, &pieces, limit)?;
+    fused(alloc, packed, limit)
+}
+
+// These boards, of which neighbours are joined until no two of them fit one frame.
+fn fused(alloc: Global, boards: Vec<Board>, limit: usize) -> Result<Vec<Board>, OutOfMemory>
+    ensures says { IfOk result (λ made. Says limit boards.items made.items) }
+    ensures few { IfOk result (λ made. NoNeighboursFit limit made.items) }
+{
+    let mut made = Vec::new(alloc);
+    for board in boards {
+        fuse(alloc, &mut made, board, limit)?;
+    }
+    Ok(made)
+}
+
+// Adds the board behind the others, joined with the last of them as far as that fits.
+fn fuse(alloc: Global, made: &mut Vec<Board>, board: Board, limit: usize) -> Result<(), OutOfMemory>
+    ensures says { OnOk result (Says limit (made.old.items ++ board ∷ []) made.new.items) }
+    ensures few { OnOk result (NoNeighboursFit limit made.old.items → NoNeighboursFit limit made.new.items) }
+{
+    let Some(last) = made.pop() else {
+        made.push(board)?;
+        return Ok(());
+    };
+    let both = last.joined(alloc, &board)?;
+    if frame_len(&both) <= limit {
+        return fuse(alloc, made, both, limit);
+    }
+    made.push(last)?;
+    made.push(board)?;
+    Ok(())
 }
 
 // These boards, of which neighbours are joined as far as their frames have so many bytes at most.

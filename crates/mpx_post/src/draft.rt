@@ -151,7 +151,7 @@ impl Draft {
         }
     }
 
-    /// The same draft once more, which shares its numbers.
+    /// The same draft once more, which shares its numbers, but for those of a graph.
     pub fn copy(&self) -> Result<Draft, OutOfMemory>
         ensures { IfOk result (λ copied. copied ≡ self.now) }
     {
@@ -497,7 +497,7 @@ fn copied_pair(first: &Numbers, second: &Numbers) -> Result<(Numbers, Numbers), 
     Ok((first, second))
 }
 
-// The same graph once more, shared, where there is one.
+// The same graph once more, where there is one.
 fn copied(graph: &Option<DraftedGraph>) -> Result<Option<DraftedGraph>, OutOfMemory>
     ensures { IfOk result (λ copied. copied ≡ graph.now) }
 {

@@ -7,3 +7,4 @@ pub mod Names
 pub mod Settling
 pub mod Progress
 mod Examples
+pub mod Counts

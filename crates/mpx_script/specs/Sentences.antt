@@ -1,11 +1,11 @@
 -- What the reader learns from one line.
-use Rattle.std.specs.Prelude.{◌≡◌, ℕ, ◌+◌, ◌-◌, ◌<◌, ◌≤◌, true, false, ◌&&◌, List, [], ◌∷◌, ◌||◌, is_none, nat_le, nat_lt, Option, Some, None, IsSomeAnd}
+use Rattle.std.specs.Prelude.{◌≡◌, ℕ, ◌+◌, ◌-◌, ◌<◌, ◌≤◌, Bool, not, true, false, ◌&&◌, List, [], ◌∷◌, ◌||◌, is_none, nat_le, nat_lt, Option, Some, None, IsSomeAnd}
 use Rattle.mpx_kind.specs.declared.kinds.Fields.{Fields}
 use Rattle.mpx_kind.specs.declared.kinds.Kind.{Kind}
 use Rattle.mpx_kind.specs.declared.kinds.Mode.{Mode}
 use Rattle.mpx_post.specs.Kinds.{fields_of}
 use Rattle.mpx_script.specs.Words.{counts}
-use Rattle.mpx_script.specs.Grammar.{DirectiveSyntax, NewSyntax, CallSyntax, directive_in, ranks_in, statements_in, names_rank, statement_in, is_unknown, is_unknown_as, has_wrong_words, has_wrong_words_as, has_bad_number, has_bad_number_as, has_bad_list, has_bad_list_as, has_unknown_word, has_wrong_new_words, has_wrong_count, has_wrong_end, has_strange_choice, has_strange_new_number, has_strange_count, has_strange_number, has_strange_list, has_strange_new_list, shape_of}
+use Rattle.mpx_script.specs.Grammar.{DirectiveSyntax, NewSyntax, CallSyntax, directive_in, ranks_in, statements_in, names_rank, statement_in, is_unknown, is_unknown_as, has_wrong_words, has_wrong_words_as, has_bad_number, has_bad_number_as, has_bad_list, has_bad_list_as, has_unknown_word, has_wrong_new_words, has_wrong_count, has_wrong_end, has_strange_choice, has_strange_new_number, has_strange_count, has_strange_number, has_strange_list, has_strange_new_list, is_one, shape_of}
 use Rattle.mpx_script.specs.Naming.{BoundNames, at_some_rank, lacks_name, misnames, takes_name}
 use Rattle.mpx_script.specs.Reading.{statements_limit, first_holding}
 use Rattle.mpx_script.specs.declared.faults.ScriptFault.{ScriptFault}
@@ -61,6 +61,13 @@ names_refusal bound ranks statement = first_holding (
     (BadName, misnames statement)
     ∷ (NameUnknown, at_some_rank bound ranks (lacks_name statement))
     ∷ (NameTaken, at_some_rank bound ranks (takes_name statement))
+    ∷ [])
+
+-- what counts of these fields are refused for where they are strange, or are not
+abbrev pub faulty_counts : Fields → (scounts rcounts : Bool) → Option ScriptFault
+faulty_counts fields scounts rcounts = first_holding (
+    (BadNumber, (is_one fields.scounts && scounts) || (is_one fields.rcounts && rcounts))
+    ∷ (BadList, (not (is_one fields.scounts) && scounts) || (not (is_one fields.rcounts) && rcounts))
     ∷ [])
 
 -- what a call's counts are refused for

@@ -6,7 +6,7 @@ ghost use Rattle.mpx_num.specs.Text.{number_of};
 ghost use Rattle.mpx_post.specs.Kinds.{family_of};
 ghost use Rattle.mpx_script.specs.Words.{words};
 ghost use Rattle.mpx_script.specs.Grammar.{is_number, is_one, list_named, counts_named, operation_named, type_named, colour_named, said, call_draft_in, call_with, draft_in};
-ghost use Rattle.mpx_script.specs.Sentences.{IsRefusal, counts_refusal, draft_refusal, fields_refusal, read_at};
+ghost use Rattle.mpx_script.specs.Sentences.{faulty_counts, IsRefusal, counts_refusal, draft_refusal, fields_refusal, read_at};
 
 use crate::faults::{LineError, ScriptFault};
 use crate::grammar::{call_with, colour_named, is_one, list_named, operation_named, type_named};
@@ -76,6 +76,7 @@ fn counts_at(
 }
 
 // The send counts and the receive counts of a call with these fields.
+#[tactic(auto, using(crate::proofs::Counts::same_fault))]
 fn counts_in(
     alloc: Global,
     fields: Fields,
@@ -88,12 +89,24 @@ fn counts_in(
 {
     let scounts = counts_at(alloc, fields.scounts, call.scounts)?;
     let rcounts = counts_at(alloc, fields.rcounts, call.rcounts)?;
-    match (scounts, rcounts) {
-        (Some(scounts), Some(rcounts)) => Ok((scounts, rcounts)),
-        (None, _) if is_one(fields.scounts) => Err(LineError::Fault(ScriptFault::BadNumber)),
-        (_, None) if is_one(fields.rcounts) => Err(LineError::Fault(ScriptFault::BadNumber)),
-        _ => Err(LineError::Fault(ScriptFault::BadList)),
+    if let Some(fault) = counts_fault(fields, scounts.is_none(), rcounts.is_none()) {
+        return Err(LineError::Fault(fault));
     }
+    Ok((scounts.unwrap(), rcounts.unwrap()))
+}
+
+// What the counts are refused for, where these are strange.
+fn counts_fault(fields: Fields, no_scounts: bool, no_rcounts: bool) -> Option<ScriptFault>
+    ensures { result ≡ faulty_counts fields no_scounts no_rcounts }
+{
+    let (one_sent, one_received) = (is_one(fields.scounts), is_one(fields.rcounts));
+    if one_sent && no_scounts || one_received && no_rcounts {
+        return Some(ScriptFault::BadNumber);
+    }
+    if !one_sent && no_scounts || !one_received && no_rcounts {
+        return Some(ScriptFault::BadList);
+    }
+    None
 }
 
 // The operation of a word, the sum where there is none.

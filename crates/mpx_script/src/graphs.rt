@@ -143,7 +143,7 @@ fn edges_graph(alloc: Global, word: &[u8]) -> Result<Option<DraftedGraph>, OutOf
         return Ok(None);
     };
     let none = Vec::new(alloc);
-    let graph = DraftedGraph::new(alloc, weighted, edges, none, Vec::new(alloc))?;
+    let graph = DraftedGraph::new(weighted, edges, none, Vec::new(alloc));
     Ok(Some(graph))
 }
 
@@ -167,7 +167,7 @@ fn neighbours_graph(
         return Ok(None);
     }
     let edges = Vec::new(alloc);
-    let graph = DraftedGraph::new(alloc, weighted, edges, sources, destinations)?;
+    let graph = DraftedGraph::new(weighted, edges, sources, destinations);
     Ok(Some(graph))
 }
 

@@ -1,3 +1,4 @@
 pub mod Tried
 pub mod Harvests
 pub mod Sending
+pub mod Ends

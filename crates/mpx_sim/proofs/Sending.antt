@@ -1,5 +1,5 @@
 -- Frames, and the board whose bytes they are.
-use Rattle.std.proofs.Common.{◌≡◌, ◌≤◌, ◌<◌, ◌+◌, ℕ, suc, true, false, cond, List, [], ◌∷◌, ◌++◌, length, map, take, get_or, Option, Some, Result, Err, refl, sym, ap, ◌∙◌, subst, arith}
+use Rattle.std.proofs.Common.{◌≡◌, ◌≤◌, ◌<◌, ◌+◌, ℕ, zero, suc, true, false, cond, List, [], ◌∷◌, ◌++◌, length, map, take, set, get_or, Option, Some, Result, Err, refl, sym, ap, ◌∙◌, subst, arith}
 use Rattle.std.specs.Prelude.{All, IfSome, IsTrue, is_ok, slice_get}
 use Rattle.std.proofs.lemmas.List.{map-append, take_more}
 use Rattle.std.proofs.lemmas.List.Elements.{All-nil, All-cons, All-head, All-tail, All-map}
@@ -64,6 +64,12 @@ all_same f g P xs ys e h = all_behind f P xs (subst (All P) (sym e) (All-map P g
 
 pub shown_by : (found : Option Frame) (new : Frame) (b : Look) → found ≡ Some new → IfSome found (λ f. part_of f ≡ b) → part_of new ≡ b
 shown_by found new b e h = subst (λ x. IfSome x (λ f. part_of f ≡ b)) e h
+
+-- what was written at a place stands there
+pub set_at : {A : Type 0} (xs : List A) (p : ℕ) (x : A) → p < length xs → slice_get (set xs p x) p ≡ Some x
+set_at [] p x l = absurd (omega (arith, l))
+set_at (y ∷ ys) zero x l = refl
+set_at (y ∷ ys) (suc p) x l = set_at ys p x (omega (arith, l))
 
 -- A FRAME GOES OUT
 

@@ -1,24 +1,30 @@
-ghost use Rattle.std.specs.Prelude.{◌≡◌, ◌<◌, ◌≤◌, ◌↔◌, ◌∷◌, ℕ, List, IfOk, OnOk, IsTrue, Some, None, [], false, map, string_bytes};
+ghost use Rattle.std.specs.Prelude.{◌≡◌, ◌<◌, ◌≤◌, ◌↔◌, ◌∷◌, ℕ, All, List, IfOk, OnOk, IsTrue, Some, None, [], false, map, string_bytes};
 ghost use Rattle.std.specs.Option.{option_copied, option_map};
-ghost use Rattle.mpx_comm.specs.Comms.{gathering_in};
-ghost use Rattle.mpx_node.specs.Nodes.{Opens, checked_on, gathers_on};
+ghost use Rattle.mpx_board.specs.Boards.{join_all};
+ghost use Rattle.mpx_board.specs.Looks.{parts_of};
+ghost use Rattle.mpx_format.specs.Encoding.{length_told};
+ghost use Rattle.mpx_parts.specs.Facts.{OnlyFactsOf};
+ghost use Rattle.mpx_node.specs.Deltas.{lacking_on};
+ghost use Rattle.mpx_node.specs.Nodes.{checked_on, gathers_on};
 ghost use Rattle.mpx_node.specs.Shown.{node_of};
 ghost use Rattle.mpx_statement.specs.declared.statement.Statement.TheVariants.{Ask, Post, Wait as WaitFor};
+ghost use Rattle.mpx_statement.specs.Statements.{create_group_draft, draft_of};
 ghost use Rattle.mpx_evaluation.specs.Evaluation.{bound_at_start};
-ghost use Rattle.mpx_system.specs.Running.{KeepsNode, Tries, communicator_in, names_in, tried_on, tried_post};
+ghost use Rattle.mpx_system.specs.Running.{KeepsNode, Tries, communicator_in, names_in, tried_gathered, tried_on, tried_post};
 ghost use Rattle.mpx_sim.specs.Shown.{bound_of, call_in, name_in, wait_of};
 
+use crate::frames::MOST_BYTES;
 use crate::questions::answer;
 use crate::requests::{are_done, close_all};
 use join_core::{Exact, OutOfMemory};
 use mpx_board::Board;
-use mpx_comm::{Comm, Desk, Gathering, Request, Tested};
+use mpx_comm::{Comm, Desk, Request, Tested};
 use mpx_evaluation::bind;
 use mpx_group::Proc;
 use mpx_name::Name;
 use mpx_node::{Harvest, Node};
 use mpx_num::Numbers;
-use mpx_post::{Draft, PostError};
+use mpx_post::PostError;
 use mpx_script::{Posting, Question, Statement, Word, WordList, line, refused_line};
 use std::alloc::Global;
 use std::collections::BTreeMap;
@@ -64,7 +70,7 @@ impl<'a> Rank<'a> {
         requires few { processes ≤ 64 }
         requires me { me < processes }
         ensures me { IfOk result (λ rank. (rank_of rank).me ≡ me) }
-        ensures node { IfOk result (λ rank. (rank_of rank).node ≡ start_node me ranks) }
+        ensures node { IfOk result (λ rank. (rank_of rank).node ≡ start_node me ranks processes) }
         ensures bound { IfOk result (λ rank. me < ranks → (word : List ℕ) → (rank_of rank).bound word ≡ names_in (bound_at_start ranks) word) }
         ensures requests { IfOk result (λ rank. (word : List ℕ) → (rank_of rank).requests word ≡ None) }
         ensures todo { IfOk result (λ rank. (rank_of rank).todo ≡ todo.now) }
@@ -119,6 +125,16 @@ impl<'a> Rank<'a> {
         ensures { Keeps (rank_of self.old) (rank_of self.new) }
     {
         prune_all(&mut self.desk, &self.contexts)
+    }
+
+    /// Says what the process has, and gives what others may lack of its board, in parts.
+    pub(crate) fn deltas(&mut self, alloc: Global) -> Result<Vec<Board>, OutOfMemory>
+        ensures keeps { OnOk result (Keeps (rank_of self.old) (rank_of self.new)) }
+        ensures facts { IfOk result (λ made. All (λ part. OnlyFactsOf (look part) (rank_of self.new).node.board) made.items) }
+        ensures fit { IfOk result (λ made. All (λ part. length_told (parts_of part) ≤ 1048576) made.items) }
+        ensures join { IfOk result (λ made. join_all (map look made.items) ≡ lacking_on (rank_of self.new).node) }
+    {
+        self.desk.deltas(alloc, MOST_BYTES)
     }
 
     /// Takes a frame.
@@ -344,51 +360,37 @@ fn attempt(
     let Some(on) = on else {
         return Err(PostError::NotMember);
     };
-    let Ok(draft) = posting.draft(alloc) else {
-        return Err(PostError::OutOfMemory);
-    };
     match posting {
-        Posting::CreateGroup { tag, ranks, .. } => {
-            let gathering = open_gathering(alloc, desk, on, tag, ranks)?;
-            post_gathered(alloc, desk, &gathering, draft)
-        }
-        Posting::Call { .. } => post_on(alloc, desk, on, draft),
-        Posting::Start { .. } => post_on(alloc, desk, on, draft),
-        Posting::New { .. } => post_on(alloc, desk, on, draft),
+        Posting::CreateGroup { tag, ranks, .. } => start_create_group(alloc, desk, on, tag, ranks),
+        Posting::Call { .. } => post_on(alloc, desk, on, posting),
+        Posting::Start { .. } => post_on(alloc, desk, on, posting),
+        Posting::New { .. } => post_on(alloc, desk, on, posting),
     }
 }
 
-fn open_gathering(
+fn start_create_group(
     alloc: Global,
     desk: &mut Desk<Node>,
     parent: &Comm,
     tag: &i128,
     ranks: &Numbers,
-) -> Result<Gathering, PostError>
-    ensures { Opens parent.now.name (gathers_on (node_of desk.old.host) parent.now.name tag.now ranks.now) (gathering_in result) (node_of desk.old.host) (node_of desk.new.host) }
-{
-    desk.open_gathering(alloc, parent, *tag, ranks.as_slice())
-}
-
-fn post_gathered(
-    alloc: Global,
-    desk: &mut Desk<Node>,
-    gathering: &Gathering,
-    draft: Draft,
 ) -> Result<Request, PostError>
-    ensures { Tries (tried_post gathering.now.name (checked_on (node_of desk.old.host) gathering.now.name draft) (node_of desk.old.host)) (call_in result) (node_of desk.new.host) }
+    ensures { Tries (tried_gathered parent.now.name create_group_draft (gathers_on (node_of desk.old.host) parent.now.name tag.now ranks.now) (node_of desk.old.host)) (call_in result) (node_of desk.new.host) }
 {
-    desk.post_gathered(alloc, gathering, draft)
+    desk.start_create_group(alloc, parent, *tag, ranks.as_slice())
 }
 
 fn post_on(
     alloc: Global,
     desk: &mut Desk<Node>,
     on: &Comm,
-    draft: Draft,
+    posting: &Posting,
 ) -> Result<Request, PostError>
-    ensures { Tries (tried_post on.now.name (checked_on (node_of desk.old.host) on.now.name draft) (node_of desk.old.host)) (call_in result) (node_of desk.new.host) }
+    ensures { Tries (tried_post on.now.name (checked_on (node_of desk.old.host) on.now.name (draft_of posting.now)) (node_of desk.old.host)) (call_in result) (node_of desk.new.host) }
 {
+    let Ok(draft) = posting.draft(alloc) else {
+        return Err(PostError::OutOfMemory);
+    };
     desk.post(alloc, on, draft)
 }
 

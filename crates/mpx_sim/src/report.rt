@@ -1,10 +1,10 @@
 //! What a run comes to.
-ghost use Rattle.std.specs.Prelude.{◌≡◌, ◌++◌, ◌≤◌, ◌+◌, ◌∷◌, [], cond, IfOk, OnOk, length, map, slice_get, string_bytes};
+ghost use Rattle.std.specs.Prelude.{◌≡◌, ◌++◌, ◌<◌, ◌≤◌, ◌+◌, ◌⊎◌, ◌∷◌, [], cond, IfOk, OnOk, length, map, slice_get, string_bytes};
 ghost use Rattle.mpx_node.specs.Shown.{node_of};
 ghost use Rattle.mpx_evaluation.specs.Evaluation.{State, IsEvaluation};
 ghost use Rattle.mpx_evaluation.specs.Reports.{transcripts_of, which};
 ghost use Rattle.mpx_system.specs.Running.{RankView, is_waiting_at};
-ghost use Rattle.mpx_system.specs.Runs.{AreWhole, Begin, IsRun};
+ghost use Rattle.mpx_system.specs.Runs.{AreWhole, Begin, IsOver, IsRun};
 ghost use Rattle.mpx_sim.specs.Shown.{rank_of};
 
 use crate::rank::Rank;
@@ -22,6 +22,8 @@ pub struct Run {
     pub report: Report,
     /// The node of each process.
     pub nodes: Vec<Node>,
+    /// How many turns were made.
+    pub turns: u32,
 }
 
 /// Runs a script's ranks, and relays, over an interconnect that loses, repeats and reorders frames.
@@ -35,8 +37,9 @@ pub fn run_sim(alloc: Global, script: &Script, options: &Options) -> Result<Run,
     ensures run { IfOk result (λ run. IsRun script.now options.now.relays (map node_of run.nodes.items) (transcripts_of run.report) run.report.waiting.items) }
     ensures begins { IfOk result (λ run. (evaluation : State) → IsEvaluation script.now.statements script.now.ranks evaluation → Begin (transcripts_of run.report) evaluation) }
     ensures whole { IfOk result (λ run. (evaluation : State) → IsEvaluation script.now.statements script.now.ranks evaluation → AreWhole (transcripts_of run.report) run.report.waiting.items evaluation) }
+    ensures ended { IfOk result (λ run. (run.turns ≡ options.now.turns) ⊎ ((run.turns < options.now.turns) × IsOver options.now.loss (map node_of run.nodes.items) run.report.waiting.items)) }
 {
-    let processes = simulate(alloc, script, options)?;
+    let (processes, turns) = simulate(alloc, script, options)?;
     let ranks = script.ranks();
     let waiting = waiting_of(alloc, processes.as_slice(), ranks)?;
     let (mut transcripts, nodes) = parts_of(alloc, processes)?;
@@ -47,6 +50,7 @@ pub fn run_sim(alloc: Global, script: &Script, options: &Options) -> Result<Run,
             waiting,
         },
         nodes,
+        turns,
     })
 }
 

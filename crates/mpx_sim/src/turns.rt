@@ -1,9 +1,11 @@
-ghost use Rattle.std.specs.Prelude.{◌≡◌, ◌<◌, ◌≤◌, ◌+◌, ◌⊎◌, All, IfOk, OnOk, length, map, slice_get, List, Some, ℕ};
+ghost use Rattle.std.specs.Prelude.{◌≡◌, ◌<◌, ◌≤◌, ◌+◌, ◌⊎◌, All, IfOk, OnOk, false, length, map, slice_get, true, List, Some, ℕ};
 ghost use Rattle.mpx_board.specs.Boards.{Look, join_all};
 ghost use Rattle.mpx_parts.specs.Facts.{OnlyFactsOf};
 ghost use Rattle.mpx_statement.specs.declared.statement.Statement.{Statement as Said};
 ghost use Rattle.mpx_sim.specs.Shown.{rank_of, part_of};
-ghost use Rattle.mpx_system.specs.Running.{IsUnderWay, RankView, Starts, StartsAt};
+ghost use Rattle.mpx_sim.specs.Ends.{AreAlike, HaveFinished, IsAtRest, RestsBy};
+ghost use Rattle.mpx_node.specs.Deltas.{lacking_on};
+ghost use Rattle.mpx_system.specs.Running.{IsUnderWay, Keeps, RankView, Starts, StartsAt};
 
 use crate::frame::Frame;
 use crate::frames::{frames_of, opened};
@@ -15,20 +17,23 @@ use mpx_job::Options;
 use mpx_script::Script;
 use std::alloc::Global;
 
-/// The processes of a script's run after its last turn: all turns are used up, all ranks have finished, or no turn to come
-/// changes anything.
+/// The processes of a script's run after its last turn, and how many turns were made: all turns are used up, all ranks have
+/// finished, or no turn to come changes anything.
 pub(crate) fn simulate<'a>(
     alloc: Global,
     script: &'a Script,
     options: &Options,
-) -> Result<Vec<Rank<'a>>, OutOfMemory>
+) -> Result<(Vec<Rank<'a>>, u32), OutOfMemory>
     requires { script.now.ranks + options.now.relays ≤ 64 }
-    ensures { IfOk result (λ processes. (frames : List Look) × IsUnderWay script.now.statements script.now.ranks (script.now.ranks + options.now.relays) (map rank_of processes.items) frames) }
+    ensures run { IfOk result (λ ran. (frames : List Look) × IsUnderWay script.now.statements script.now.ranks (script.now.ranks + options.now.relays) (map rank_of ran.0.items) frames) }
+    ensures ended { IfOk result (λ ran. (ran.1 ≡ options.now.turns) ⊎ ((ran.1 < options.now.turns) × RestsBy options.now.loss script.now.ranks (map rank_of ran.0.items))) }
 {
     let mut processes = start(alloc, script, options.relays)?;
     let mut schedule = Schedule::new(alloc, options.seed, options.loss, processes.len())?;
+    let loses_all = schedule.loses_all();
     let mut senders = senders(alloc, processes.len())?;
     let mut frames = Vec::new(alloc);
+    let mut made = 0;
     for number in 0..options.turns {
         let goes_on = turn(
             alloc,
@@ -37,17 +42,19 @@ pub(crate) fn simulate<'a>(
             &mut senders,
             &mut frames,
             &mut schedule,
+            loses_all,
             u64::from(number),
         )?;
         if !goes_on {
-            return Ok(processes);
+            return Ok((processes, made));
         }
+        made += 1;
     }
-    Ok(processes)
+    Ok((processes, made))
 }
 
-// A turn: every rank goes on until it must wait, every process drops what it may and sends its board where its last one is
-// out, and the turn's frames come. It answers whether there is need of another.
+// A turn: every rank goes on until it must wait, every process drops what it may and sends what others may lack of its board
+// where its last list is out, and the turn's frames come. It answers whether there is need of another.
 //
 // Where nobody moved or dropped anything and all boards are equal, every frame, also those that come later, is below these
 // boards; and where every frame is lost, none comes.
@@ -58,20 +65,19 @@ fn turn(
     senders: &mut [Sender],
     frames: &mut Vec<Frame>,
     schedule: &mut Schedule,
+    loses_all: bool,
     number: u64,
 ) -> Result<bool, OutOfMemory>
     requires few { count ≤ length processes.old }
     requires each { length processes.old ≤ length senders.old }
     requires number { number < 4294967296 }
-    ensures { OnOk result ((script : List (List Said)) (ranks size : ℕ) → count ≤ ranks → IsUnderWay script ranks size (map rank_of processes.old) (map part_of frames.old.items)
+    ensures run { OnOk result ((script : List (List Said)) (ranks size : ℕ) → count ≤ ranks → IsUnderWay script ranks size (map rank_of processes.old) (map part_of frames.old.items)
         → IsUnderWay script ranks size (map rank_of processes.new) (map part_of frames.new.items)) }
+    ensures rest { IfOk result (λ goes_on. goes_on ≡ false → IsAtRest loses_all count (map rank_of processes.new)) }
 {
     let moved = go_round(alloc, processes, count)?;
     let pruned = prune_all(processes);
-    if are_finished(processes, count) {
-        return Ok(false);
-    }
-    if !moved && !pruned && (schedule.loses_all() || are_same(processes)) {
+    if is_at_rest(processes, count, moved | pruned, loses_all) {
         return Ok(false);
     }
     send_all(alloc, processes, senders, frames, schedule, number)?;
@@ -108,9 +114,27 @@ fn prune_all(processes: &mut [Rank<'_>]) -> bool
     changed
 }
 
+// Whether every rank has finished, or nothing can change any more where nobody has just moved or dropped anything.
+fn is_at_rest(processes: &[Rank<'_>], count: usize, changed: bool, loses_all: bool) -> bool
+    requires { count ≤ length processes.now }
+    ensures { result ≡ true → IsAtRest loses_all count (map rank_of processes.now) }
+{
+    if are_finished(processes, count) {
+        return true;
+    }
+    if changed {
+        return false;
+    }
+    if loses_all {
+        return true;
+    }
+    are_same(processes)
+}
+
 // Whether every rank has finished.
 fn are_finished(processes: &[Rank<'_>], count: usize) -> bool
     requires { count ≤ length processes.now }
+    ensures { result ≡ true → HaveFinished count (map rank_of processes.now) }
 {
     for p in 0..count {
         if processes[p].is_waiting() {
@@ -121,43 +145,49 @@ fn are_finished(processes: &[Rank<'_>], count: usize) -> bool
 }
 
 // Whether all boards are equal.
-fn are_same(processes: &[Rank<'_>]) -> bool {
-    let Some((first, rest)) = processes.split_first() else {
-        return true;
-    };
-    for process in rest {
-        if !first.board().same(process.board()) {
+fn are_same(processes: &[Rank<'_>]) -> bool
+    ensures { result ≡ true → AreAlike (map rank_of processes.now) }
+{
+    for p in 1..processes.len() {
+        if !processes[0].board().same(processes[p].board()) {
             return false;
         }
     }
     true
 }
 
-// The frames of a process's board.
-fn sent(alloc: Global, process: &Rank<'_>, to: usize, turn: u64) -> Result<Vec<Frame>, OutOfMemory>
-    ensures facts { IfOk result (λ made. All (λ frame. OnlyFactsOf (part_of frame) (rank_of process.now).node.board) made.items) }
-    ensures join { IfOk result (λ made. join_all (map part_of made.items) ≡ (rank_of process.now).node.board) }
+// The frames of what others may lack of a process's board.
+fn sent(
+    alloc: Global,
+    process: &mut Rank<'_>,
+    to: usize,
+    turn: u64,
+) -> Result<Vec<Frame>, OutOfMemory>
+    ensures keeps { OnOk result (Keeps (rank_of process.old) (rank_of process.new)) }
+    ensures facts { IfOk result (λ made. All (λ frame. OnlyFactsOf (part_of frame) (rank_of process.new).node.board) made.items) }
+    ensures join { IfOk result (λ made. join_all (map part_of made.items) ≡ lacking_on (rank_of process.new).node) }
 {
-    frames_of(alloc, process.node(), to, turn)
+    let parts = process.deltas(alloc)?;
+    frames_of(alloc, &parts, to, turn)
 }
 
-// Every process sends the frames of its board, where those of its last one are out.
+// Every process sends the frames of what others may lack of its board, where those of its last list are out.
 fn send_all(
     alloc: Global,
-    processes: &[Rank<'_>],
+    processes: &mut [Rank<'_>],
     senders: &mut [Sender],
     frames: &mut Vec<Frame>,
     schedule: &mut Schedule,
     turn: u64,
 ) -> Result<(), OutOfMemory>
-    requires { length processes.now ≤ length senders.old }
-    ensures { OnOk result ((script : List (List Said)) (ranks size : ℕ) → IsUnderWay script ranks size (map rank_of processes.now) (map part_of frames.old.items)
-        → IsUnderWay script ranks size (map rank_of processes.now) (map part_of frames.new.items)) }
+    requires { length processes.old ≤ length senders.old }
+    ensures { OnOk result ((script : List (List Said)) (ranks size : ℕ) → IsUnderWay script ranks size (map rank_of processes.old) (map part_of frames.old.items)
+        → IsUnderWay script ranks size (map rank_of processes.new) (map part_of frames.new.items)) }
 {
     for p in 0..processes.len() {
         if senders[p].is_free(turn) {
             let to = schedule.receiver(p, senders[p].lists(), processes.len());
-            let made = sent(alloc, &processes[p], to, turn)?;
+            let made = sent(alloc, &mut processes[p], to, turn)?;
             senders[p].sends(turn, made.len());
             send_each(made, frames, schedule)?;
         }
@@ -273,7 +303,7 @@ fn start_at<'a>(
     requires me { me < size }
     requires ranks { script.now.ranks ≤ size }
     requires few { size ≤ 64 }
-    ensures { IfOk result (λ rank. StartsAt script.now.statements script.now.ranks me (rank_of rank)) }
+    ensures { IfOk result (λ rank. StartsAt script.now.statements script.now.ranks size me (rank_of rank)) }
 {
     let ranks = script.ranks();
     if me >= ranks {
@@ -285,7 +315,7 @@ fn start_at<'a>(
 // The processes before the first turn.
 fn start<'a>(alloc: Global, script: &'a Script, relays: u8) -> Result<Vec<Rank<'a>>, OutOfMemory>
     requires { script.now.ranks + relays ≤ 64 }
-    ensures { IfOk result (λ processes. Starts script.now.statements script.now.ranks (script.now.ranks + relays) (map rank_of processes.items)) }
+    ensures { IfOk result (λ processes. Starts script.now.statements script.now.ranks (script.now.ranks + relays) (script.now.ranks + relays) (map rank_of processes.items)) }
 {
     let mut processes = Vec::new(alloc);
     let ranks = script.ranks();

@@ -19,14 +19,15 @@ use Rattle.mpx_parts.specs.Facts.{OnlyFactsOf}
 use Rattle.mpx_value.specs.declared.outcomes.Outcome.{Outcome}
 use Rattle.mpx_value.specs.declared.outcomes.Outcome.TheVariants.{Nothing, Absent, Items, NewComm, Null, Fault}
 use Rattle.mpx_value.specs.Histories.{Answer, Made, Results}
+use Rattle.mpx_delta.specs.Digests.{Numbers, HasUpTo}
 use Rattle.mpx_node.specs.declared.finished.Finished.{Finished}
 use Rattle.mpx_node.specs.declared.node.Harvest.{Harvest}
 use Rattle.mpx_node.specs.declared.node.Harvest.TheVariants.{Done, NotYet, NotOpened}
 use Rattle.mpx_node.specs.Harvests.{Harvests as HarvestsOn}
-use Rattle.mpx_node.specs.Nodes.{NodeView, learn, next_result}
+use Rattle.mpx_node.specs.Nodes.{NodeView, acknowledge, learn, next_result}
 use Rattle.mpx_world.specs.declared.events.Event.TheVariants as E
 use Rattle.mpx_world.specs.declared.events.Cut.TheVariants as C
-use Rattle.mpx_world.specs.Worlds.{ProcessView, WorldView, stores, drops, takes, harvests, prunes, Happening, Harvests, Prunes, Sends, Takes, at_process}
+use Rattle.mpx_world.specs.Worlds.{ProcessView, WorldView, stores, drops, takes, acknowledges, harvests, prunes, Happening, Harvests, Prunes, Sends, Takes, Acknowledges, at_process}
 use Rattle.mpx_world.specs.Worlds.{goes_on as goes_on_world}
 use Rattle.mpx_world.proofs.Lists.{slice_get-append, slice_get-push, slice_get-push_cases}
 use Rattle.mpx_world.proofs.Steps.{at_here}
@@ -176,6 +177,15 @@ keeps_prune name r n script ranks size processes frames p at run =
     (done_net ranks s p r new (prunes name n) (run.shows.stands p r at)
     (ap (λ (m : NodeView). pruned_by name (pruned (floor_on m.board name) n) n m) same ∙ sym (drops_node name n (pruned (floor_on v.node.board name) n) v)))
 
+-- a process acknowledges what its board has
+pub keeps_acknowledge : (numbers : Numbers) (r : RankView) → ((name : Name) (m : ℕ) → HasUpTo r.node.board name m (numbers name m)) → Keeps r (record r { node = acknowledge numbers r.node })
+keeps_acknowledge numbers r has script ranks size processes frames p at run =
+    let s = run.system in
+    let same : r.node ≡ (s.world.each p).node = run.shows.nodes p r at in
+    run_on script ranks size processes frames run p (record r { node = acknowledge numbers r.node }) (Nets (Acknowledges p numbers))
+    (tt, subst (λ (n : NodeView). (name : Name) (m : ℕ) → HasUpTo n.board name m (numbers name m)) same has)
+    (done_net ranks s p r (acknowledge numbers r.node) (acknowledges numbers) (run.shows.stands p r at) (ap (acknowledge numbers) same))
+
 pub pruned_is : (name : Name) (r : Result (Unit {0}) PruneError) (n : ℕ) (old new : NodeView) → OnOk r (new ≡ learn (only (Dropped name n)) old) → OnErr r (new ≡ old) → new ≡ pruned_by name r n old
 pruned_is name (Ok u) n old new f g = f
 pruned_is name (Err refusal) n old new f g = g
@@ -209,6 +219,11 @@ keeps_node_harvest true name None (Ok (Done call)) old new e x = absurd x
 keeps_node_harvest true name None (Ok NotYet) old new e x = keeps_node_itself old new x
 keeps_node_harvest true name None (Ok NotOpened) old new e x = absurd x
 keeps_node_harvest true name None (Err refused) old new e x = absurd x
+
+pub keeps_node_acknowledge : (numbers : Numbers) (old new : NodeView) → ((name : Name) (m : ℕ) → HasUpTo old.board name m (numbers name m)) → new ≡ acknowledge numbers old → KeepsNode old new
+keeps_node_acknowledge numbers old new has e r is =
+    subst (λ m. Keeps r (record r { node = m })) (ap (acknowledge numbers) is ∙ sym e)
+    (keeps_acknowledge numbers r (subst (λ (n : NodeView). (name : Name) (m : ℕ) → HasUpTo n.board name m (numbers name m)) (sym is) has))
 
 pub keeps_node_prune : (name : Name) (n : ℕ) (answer : Result (Unit {0}) PruneError) (old new : NodeView) → answer ≡ pruned (floor_on old.board name) n → OnOk answer (new ≡ learn (only (Dropped name n)) old) → OnErr answer (new ≡ old) → KeepsNode old new
 keeps_node_prune name n answer old new e f g r is =
@@ -517,13 +532,13 @@ written_back (suc len) (y ∷ ys) (x ∷ xs) e f = ap (λ zs. x ∷ zs) (written
 
 -- THE START
 
-pub one_more : (script : List (List Statement)) (ranks count : ℕ) (processes : List RankView) (r : RankView) → Starts script ranks count processes → StartsAt script ranks count r → Starts script ranks (count + 1) (processes ++ r ∷ [])
-one_more script ranks count processes r s at = record {
+pub one_more : (script : List (List Statement)) (ranks size count : ℕ) (processes : List RankView) (r : RankView) → Starts script ranks size count processes → StartsAt script ranks size count r → Starts script ranks size (count + 1) (processes ++ r ∷ [])
+one_more script ranks size count processes r s at = record {
   count_is = length-append processes (r ∷ []) ∙ omega (arith, s.count_is);
-  each = λ p x e. slice_get-push_cases (λ y j. StartsAt script ranks j y) processes r p x e (s.each p x) (λ same last. subst (StartsAt script ranks p) same (subst (λ j. StartsAt script ranks j r) (sym (last ∙ s.count_is)) at));
+  each = λ p x e. slice_get-push_cases (λ y j. StartsAt script ranks size j y) processes r p x e (s.each p x) (λ same last. subst (StartsAt script ranks size p) same (subst (λ j. StartsAt script ranks size j r) (sym (last ∙ s.count_is)) at));
 }
 
-pub run_starts : (script : List (List Statement)) (ranks size : ℕ) (processes : List RankView) → Starts script ranks size processes → IsUnderWay script ranks size processes []
+pub run_starts : (script : List (List Statement)) (ranks size : ℕ) (processes : List RankView) → Starts script ranks size size processes → IsUnderWay script ranks size processes []
 run_starts script ranks size processes s = record {
   system = start_system script ranks size;
   led = record { doings = []; may = tt; reached = refl };

@@ -202,16 +202,16 @@ Receives b old new = (script : List (List Statement)) (ranks size : ℕ) (proces
     → IsUnderWay script ranks size processes frames → IsUnderWay script ranks size (set processes p new) frames
 
 -- process p at the start
-pub record StartsAt (script : List (List Statement)) (ranks p : ℕ) (r : RankView) : Type 0 where
+pub record StartsAt (script : List (List Statement)) (ranks size p : ℕ) (r : RankView) : Type 0 where
   pub me : r.me ≡ p
-  pub node : r.node ≡ start_node p ranks
+  pub node : r.node ≡ start_node p ranks size
   pub bound : p < ranks → (word : List ℕ) → r.bound word ≡ names_in (bound_at_start ranks) word
   pub requests : (word : List ℕ) → r.requests word ≡ None
   pub todo : p < ranks → slice_get script p ≡ Some r.todo
   pub waits : r.waits ≡ None
   pub lines : r.lines ≡ []
 
--- the first so many processes at the start
-pub record Starts (script : List (List Statement)) (ranks count : ℕ) (processes : List RankView) : Type 0 where
+-- the first so many processes at the start, of so many in all
+pub record Starts (script : List (List Statement)) (ranks size count : ℕ) (processes : List RankView) : Type 0 where
   pub count_is : length processes ≡ count
-  pub each : (p : ℕ) (r : RankView) → slice_get processes p ≡ Some r → StartsAt script ranks p r
+  pub each : (p : ℕ) (r : RankView) → slice_get processes p ≡ Some r → StartsAt script ranks size p r

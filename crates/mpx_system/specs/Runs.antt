@@ -1,5 +1,5 @@
 -- What a run of a script comes to.
-use Rattle.std.specs.Prelude.{◌≡◌, ℕ, ◌≤◌, ◌+◌, List, [], length, slice_get, Some}
+use Rattle.std.specs.Prelude.{◌≡◌, ℕ, ◌≤◌, ◌+◌, ◌⊎◌, List, [], length, slice_get, Some}
 use Rattle.mpx_node.specs.Nodes.{NodeView}
 use Rattle.mpx_script.specs.ScriptView.{ScriptView}
 use Rattle.mpx_evaluation.specs.Evaluation.{State, IsPrefixOf, bound_at_start, statements_of}
@@ -34,3 +34,11 @@ Begin transcripts s = (p : ℕ) (lines : List (List ℕ)) → slice_get transcri
 abbrev pub AreWhole : List (List (List ℕ)) → List ℕ → State → Type 0
 AreWhole transcripts waiting s = (p : ℕ) (lines : List (List ℕ)) → slice_get transcripts p ≡ Some lines
     → ((place : ℕ) → (slice_get waiting place ≡ Some p) → ⊥) → lines ≡ lines_in s p
+
+-- all processes have one board
+abbrev pub HaveOneBoard : List NodeView → Type 0
+HaveOneBoard nodes = (p q : ℕ) (a b : NodeView) → slice_get nodes p ≡ Some a → slice_get nodes q ≡ Some b → a.board ≡ b.board
+
+-- no rank has anything left, or nothing more can come of the boards: all are one, or every frame is lost
+abbrev pub IsOver : (loss : ℕ) → List NodeView → (waiting : List ℕ) → Type 0
+IsOver loss nodes waiting = (waiting ≡ []) ⊎ (HaveOneBoard nodes ⊎ (100 ≤ loss))

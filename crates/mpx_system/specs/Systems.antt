@@ -72,7 +72,7 @@ abbrev pub does_all : System → List Doing → System
 does_all s [] = s
 does_all s (d ∷ ds) = does_all (does s d) ds
 
--- processes send what they have seen, and ranks alone move
+-- processes send what they have seen and acknowledge what they have, and ranks alone move
 abbrev pub MayDo : (ranks : ℕ) → System → Doing → Type 0
 MayDo ranks s (Nets h) = IsNoPost h × MayHappen s.world h
 MayDo ranks s (Drives p) = p < ranks

@@ -6,9 +6,9 @@ ghost use Rattle.mpx_evaluation.specs.Told.{CarriesOut};
 ghost use Rattle.mpx_world.specs.Soundness.{Sound};
 ghost use Rattle.mpx_system.specs.Systems.{Doing, IsOfHappenings, MayDoAll, TellsResults, does_all, node_tells, start_system};
 
-/// Whatever is sent, lost, repeated or reordered, and in whatever order ranks move: each rank's lines begin its lines in
-/// the evaluation, those of a rank that has nothing left are all of them, each line that tells an outcome tells that of
-/// the result which the rank's node holds, and what a process posted is what the rank posted: a relay posts nothing. The
+/// Whatever is sent, acknowledged, lost, repeated or reordered, and in whatever order ranks move: each rank's lines begin its
+/// lines in the evaluation, those of a rank that has nothing left are all of them, each line that tells an outcome tells that
+/// of the result which the rank's node holds, and what a process posted is what the rank posted: a relay posts nothing. The
 /// world is one of what can happen: so what is so after every such history is so of it.
 pub fn every_run_begins_the_evaluation()
     ensures lines { (script : List (List Statement)) (ranks size : ℕ) (doings : List Doing) (end : State) → MayDoAll ranks (start_system script ranks size) doings → IsEvaluation script ranks end

@@ -2,9 +2,9 @@
 //!
 //! In the order of reading: [`Event`] with its [`Cut`] and [`Reply`], [`World`] with [`Stopped`], and the laws
 //! [`every_world_is_sound`], [`completed_results_are_permanent`], [`processes_agree_at_any_time`],
-//! [`nodes_are_of_one_world`] and [`every_history_is_sound`]. Contracts see a world as its processes and the parts that
-//! they sent (`specs/Worlds.antt`); what is sound is said in `specs/Soundness.antt`, and what an event comes to and is
-//! answered in `specs/Events.antt`.
+//! [`what_all_acknowledge_all_have`], [`nodes_are_of_one_world`] and [`every_history_is_sound`]. Contracts see a world as
+//! its processes and the parts that they sent (`specs/Worlds.antt`); what is sound is said in `specs/Soundness.antt`, and
+//! what an event comes to and is answered in `specs/Events.antt`.
 #![tactic(auto)]
 
 mod events;
@@ -15,6 +15,6 @@ mod world;
 pub use events::{Cut, Event, Names, Reply, Stopped};
 pub use laws::{
     completed_results_are_permanent, every_history_is_sound, every_world_is_sound,
-    nodes_are_of_one_world, processes_agree_at_any_time,
+    nodes_are_of_one_world, processes_agree_at_any_time, what_all_acknowledge_all_have,
 };
 pub use world::World;

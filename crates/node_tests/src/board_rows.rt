@@ -14,6 +14,8 @@ pub enum Step {
     Members(u8),
     // It is told that a process has harvested so many calls.
     Front(u8, u32),
+    // It is told that a process has so many calls of another.
+    Acknowledges(u8, u8, u32),
     // A process's post of a call, of these numbers, is added or refused.
     Adds(u16, u8, &'static [i128], Result<(), AddPostError>),
     // It is joined to call 0.
@@ -75,6 +77,18 @@ fn raises(
     Ok(true)
 }
 
+fn acknowledges(
+    alloc: Global,
+    board: &mut Board,
+    world: &Name,
+    by: u8,
+    of: u8,
+    number: u32,
+) -> Result<bool, Fail> {
+    board.raise_ack(alloc, proc(by), world, proc(of), number)?;
+    Ok(true)
+}
+
 fn prunes_in_vain(
     alloc: Global,
     board: &mut Board,
@@ -92,6 +106,7 @@ fn is_so(alloc: Global, board: &mut Board, world: &Name, step: Step) -> Result<b
     match step {
         Step::Members(count) => has_members(alloc, board, world, count),
         Step::Front(process, number) => raises(alloc, board, world, process, number),
+        Step::Acknowledges(by, of, number) => acknowledges(alloc, board, world, by, of, number),
         Step::Adds(call, process, items, told) => {
             Ok(adds(alloc, board, world, call, process, items)? == told)
         }

@@ -12,6 +12,8 @@ mod board_rows;
 #[cfg(test)]
 mod boards;
 #[cfg(test)]
+mod deltas;
+#[cfg(test)]
 mod early;
 #[cfg(test)]
 mod frames;

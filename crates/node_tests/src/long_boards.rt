@@ -4,6 +4,7 @@ ghost use Rattle.std.specs.Prelude.{◌≤◌};
 use crate::making::{post_of, proc};
 use join_core::Exact;
 use mpx_board::Board;
+use mpx_delta::digest_of;
 use mpx_name::Name;
 use mpx_parts::parts;
 use mpx_post::{Birth, Post};
@@ -19,7 +20,7 @@ fn long_post(alloc: Global) -> Result<Post, Fail> {
 }
 
 // A board of so many such posts, and a front.
-fn long_board(alloc: Global, processes: u8) -> Result<Board, Fail>
+pub fn long_board(alloc: Global, processes: u8) -> Result<Board, Fail>
     requires { processes ≤ 64 }
 {
     let mut board = Board::new(alloc);
@@ -102,4 +103,28 @@ fn a_board_at_the_limits(rt: HostRuntime) -> Result<(), Fail> {
     let mut board = Board::new(alloc);
     tells_of_a_deep_context(alloc, &mut board)?;
     comes_back(&rt, alloc, &board)
+}
+
+// What 64 processes acknowledge of 64 members on each of 30 contexts.
+fn tells_of_many_calls(alloc: Global) -> Result<Board, Fail> {
+    let mut board = Board::new(alloc);
+    for colour in 0..30 {
+        let name = Name::world(alloc).child(alloc, 0, colour)?;
+        board.add_birth(alloc, &name, Birth::world(alloc, 64)?)?;
+        for process in 0..64 {
+            board.join_post(alloc, &name, 0, proc(process), post_of(alloc, &[])?)?;
+        }
+    }
+    let digest = digest_of(alloc, &board)?;
+    for process in 0..64 {
+        board.raise_acks(alloc, proc(process), &digest)?;
+    }
+    Ok(board.only_acks(alloc)?)
+}
+
+#[test]
+fn the_most_acknowledgements_come_back(rt: HostRuntime) -> Result<(), Fail> {
+    let board = tells_of_many_calls(rt.alloc())?;
+    assert!(rt; frame_len(&board) > 600_000);
+    comes_back(&rt, rt.alloc(), &board)
 }

@@ -89,7 +89,7 @@ fn graph_of(alloc: Global, part: Option<Edges<'_>>) -> Result<Option<DraftedGrap
     let edges = edge_list(alloc, part.edges)?;
     let sources = neighbour_list(alloc, part.sources)?;
     let destinations = neighbour_list(alloc, part.destinations)?;
-    let graph = DraftedGraph::new(alloc, part.weighted, edges, sources, destinations)?;
+    let graph = DraftedGraph::new(part.weighted, edges, sources, destinations);
     Ok(Some(graph))
 }
 

@@ -27,6 +27,9 @@ impl Host for Inbox {
     // So many turns take so many boards out of the inbox.
     ghost turned = { λ a n b. b.boards.items ≡ drop n a.boards.items };
 
+    // One that is refused takes none.
+    ghost turn_refused = { λ a b. b.boards.items ≡ a.boards.items };
+
     fn post(&mut self, alloc: Global, name: &Name, draft: Draft) -> Result<u32, PostError> {
         self.node.post(alloc, name, draft)
     }

@@ -27,7 +27,7 @@ loop-i-preserved-in-Greater g c = record {
   left = c.loop-i.invariant.left;
   right = omega arith;
   passed = pass_new g.J.Exact.view g.met.K.Ord.total g.met.J.Join.laws g.met.J.Join.between_laws c.args.entries.now.items c.args.others.now c.requires.entries c.requires.others c.loop-i.entries.items c.loop-i.fresh.items c.loop-i.i c.loop-i.j
-      c.index.result.now c.index-others-j.result (omega arith) (omega arith) c.index.ensures c.index-others-j.is c.loop-i.invariant.passed c.cmp.result c.cmp.ensures c.in-Greater.is c.push_with_room.new.made.items c.in_ok-push_with_room-in-Greater.ensures;
+      c.index.result.now c.index-others-j.result (omega arith) (omega arith) c.index.ensures c.index-others-j.is c.loop-i.invariant.passed c.cmp.result c.cmp.ensures c.in-Greater.is c.push_copy.new.made.items c.in_ok-push_copy-in-Greater.ensures;
 }
 
 pub loop-i-preserved : goal.loop-i-preserved
@@ -39,12 +39,12 @@ loop-i-preserved g c =
     let len : length (set c.loop-i.entries.items c.loop-i.i (c.index_mut.result.now.0, c.join_in.new.self)) ≡ length c.loop-i.entries.items = length-set c.loop-i.entries.items c.loop-i.i (c.index_mut.result.now.0, c.join_in.new.self) in
     record { left = omega (arith, len); right = omega arith; passed = done len }
 
-pub returns-in_err-push_with_room-in-Greater-clause-sorted : goal.returns-in_err-push_with_room-in-Greater-clause-sorted
-returns-in_err-push_with_room-in-Greater-clause-sorted g c =
+pub returns-in_err-push_copy-in-Greater-clause-sorted : goal.returns-in_err-push_copy-in-Greater-clause-sorted
+returns-in_err-push_copy-in-Greater-clause-sorted g c =
     left_sorted g.J.Exact.view g.K.Ord.cmp g.J.Exact.between c.args.others.now c.args.entries.now.items c.loop-i.entries.items c.loop-i.invariant.passed.left ∙ c.requires.entries
 
-pub returns-in_err-push_with_room-in-Greater-clause-between : goal.returns-in_err-push_with_room-in-Greater-clause-between
-returns-in_err-push_with_room-in-Greater-clause-between g c =
+pub returns-in_err-push_copy-in-Greater-clause-between : goal.returns-in_err-push_copy-in-Greater-clause-between
+returns-in_err-push_copy-in-Greater-clause-between g c =
     left_between g.J.Exact.view g.met.K.Ord.total g.met.J.Join.laws g.met.J.Join.between_laws c.args.entries.now.items c.args.others.now g.met.K.Key.exact_order c.requires.entries c.requires.others c.loop-i.entries.items c.loop-i.invariant.passed.left
 
 pub returns-in_err-join_in-in-Equal-clause-sorted : goal.returns-in_err-join_in-in-Equal-clause-sorted
@@ -71,8 +71,8 @@ pub returns-in_err-push_copies-clause-between : goal.returns-in_err-push_copies-
 returns-in_err-push_copies-clause-between g c =
     left_between g.J.Exact.view g.met.K.Ord.total g.met.J.Join.laws g.met.J.Join.between_laws c.args.entries.now.items c.args.others.now g.met.K.Key.exact_order c.requires.entries c.requires.others c.loop-i.entries.items c.loop-i.invariant.passed.left
 
-pub returns-in_err-push_with_room-in-Greater-clause-more : goal.returns-in_err-push_with_room-in-Greater-clause-more
-returns-in_err-push_with_room-in-Greater-clause-more g c =
+pub returns-in_err-push_copy-in-Greater-clause-more : goal.returns-in_err-push_copy-in-Greater-clause-more
+returns-in_err-push_copy-in-Greater-clause-more g c =
     on_err c.from_residual.result (new_wanted g.J.Exact.view g.met.K.Ord.total g.met.J.Join.laws g.met.J.Join.between_laws c.args.entries.now.items c.args.others.now c.requires.entries c.requires.others c.loop-i.entries.items c.loop-i.fresh.items c.loop-i.i c.loop-i.j
     c.index.result.now c.index-others-j.result (omega arith) (omega arith) c.index.ensures c.index-others-j.is c.loop-i.invariant.passed c.cmp.result c.cmp.ensures c.in-Greater.is)
 

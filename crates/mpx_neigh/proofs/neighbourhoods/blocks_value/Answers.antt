@@ -10,8 +10,8 @@ use Rattle.mpx_neigh.proofs.neighbourhoods.blocks_value.Goals as goal
 
 pub loop-place-init : goal.loop-place-init
 loop-place-init c = record {
-  ty = ap (λ (items : ItemList). items.ty) c.in_ok-items.ensures ∙ c.ty.ensures ∙ ap (λ (items : ItemList). items.ty) c.given.ensures;
-  nums = ap (λ (items : ItemList). items.nums) c.in_ok-items.ensures;
+  ty = ap (λ (items : ItemList). items.ty) c.empty-items.ensures ∙ c.ty.ensures ∙ ap (λ (items : ItemList). items.ty) c.given.ensures;
+  nums = ap (λ (items : ItemList). items.nums) c.empty-items.ensures;
   taken = subst (AreTaken c.args.topology.now c.args.row.now c.args.rank 0) (sym c.new-cursors.ensures) (none_taken c.args.topology.now c.args.row.now c.args.rank c.size.ensures.kept);
 }
 

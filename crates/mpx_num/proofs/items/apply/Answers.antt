@@ -13,6 +13,6 @@ either ty (Err e) new made old ok err done before = subst (AreItems ty) (sym err
 pub invariant_of-left : goal.invariant_of-left
 invariant_of-left c =
     let left_ty : c.left.inside.ty ≡ c.args.ty = ap (λ (items : ItemList). items.ty) c.left.view_is ∙ c.requires.left_ty in
-    let left : AreItems c.args.ty c.left.inside.nums.value.items = rw left_ty at c.left.invariant in
+    let left : AreItems c.args.ty c.left.inside.nums = rw left_ty at c.left.invariant in
     let right : AreItems c.args.ty c.nums.result.now = rw (c.nums.ensures.value, ← c.requires.right_ty) c.nums.ensures.in_range in
-    rw left_ty (either c.args.ty c.combine_shared.result _ _ _ c.combine_shared.ensures.ok c.combine_shared.ensures.err (AreItems-elementwise c.args.op c.args.ty _ _ c.requires.fit left right (search rules)) left)
+    rw left_ty (either c.args.ty c.combine.result _ _ _ c.combine.ensures.ok c.combine.ensures.err (AreItems-elementwise c.args.op c.args.ty _ _ c.requires.fit left right (search rules)) left)

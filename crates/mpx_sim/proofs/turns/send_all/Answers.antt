@@ -1,21 +1,30 @@
-use Rattle.std.proofs.Common.{map, subst, sym, get_or, arith}
-use Rattle.std.specs.Prelude.{All}
-use Rattle.mpx_parts.specs.Facts.{OnlyFactsOf}
-use Rattle.mpx_system.specs.Running.{IsUnderWay}
+use Rattle.std.proofs.Common.{◌≡◌, ◌<◌, List, Some, map, length, set, subst, sym, ap, ◌∙◌, arith}
+use Rattle.std.specs.Prelude.{slice_get}
+use Rattle.std.proofs.lemmas.List.{length-map}
+use Rattle.mpx_system.specs.Running.{IsUnderWay, RankView}
 use Rattle.mpx_sim.specs.Shown.{rank_of, part_of}
-use Rattle.mpx_system.proofs.Running.{element}
+use Rattle.mpx_system.proofs.Running.{element, written}
+use Rattle.mpx_sim.proofs.Sending.{set_at}
 use Rattle.mpx_sim.proofs.turns.send_all.Goals as goal
 use Rattle.mpx_sim.proofs.turns.send_all.Goals.{then-is_free+in_ok-made+in_ok-send_each, else-is_free}
 
 pub loop-p-preserved : goal.loop-p-preserved
 loop-p-preserved c script ranks size run =
-    let xs = map rank_of c.args.processes.now in
+    let xs = c.loop-p.processes in
+    let p = c.loop-p.p in
     let before = c.loop-p.invariant script ranks size run in
     elim c.if-is_free.branch [
       | then-is_free+in_ok-made+in_ok-send_each w ↦
-          let r = rank_of (get_or c.args.processes.now c.loop-p.p w.index-processes-p.result) in
-          let facts : All (λ frame. OnlyFactsOf (part_of frame) r.node.board) w.in_ok-made.made.items = subst (λ x. All (λ frame. OnlyFactsOf (part_of frame) (rank_of x).node.board) w.in_ok-made.made.items) w.index-processes-p.is w.in_ok-made.ensures.facts in
-          subst (λ v. IsUnderWay script ranks size xs (map part_of v.items)) (sym w.frames-is)
-          (w.in_ok-send_each.ensures script ranks size xs c.loop-p.p r (element rank_of c.args.processes.now c.loop-p.p w.index-processes-p.result (omega arith)) facts before)
-      | else-is_free w ↦ subst (λ v. IsUnderWay script ranks size xs (map part_of v.items)) (sym w.frames-is) before
+          let new = rank_of w.sent.new.process in
+          let rs : List RankView = set (map rank_of xs) p new in
+          let kept : IsUnderWay script ranks size rs (map part_of c.loop-p.frames.items) = w.in_ok-made.ensures.keeps script ranks size (map rank_of xs) (map part_of c.loop-p.frames.items) p (element rank_of xs p w.index-processes-p.result (omega arith)) before in
+          let many : length (map rank_of xs) ≡ length xs = length-map xs rank_of in
+          let there : slice_get rs p ≡ Some new = set_at (map rank_of xs) p new (omega (arith, many)) in
+          let out = w.in_ok-send_each.ensures script ranks size rs p new there w.in_ok-made.ensures.facts kept in
+          let same : rs ≡ map rank_of c.if-is_free.processes = written rank_of xs p w.sent.new.process ∙ ap (map rank_of) (sym w.processes-is) in
+          subst (λ v. IsUnderWay script ranks size (map rank_of c.if-is_free.processes) (map part_of v.items)) (sym w.frames-is)
+          (subst (λ qs. IsUnderWay script ranks size qs (map part_of w.send_each.new.frames.items)) same out)
+      | else-is_free w ↦
+          subst (λ v. IsUnderWay script ranks size (map rank_of c.if-is_free.processes) (map part_of v.items)) (sym w.frames-is)
+          (subst (λ qs. IsUnderWay script ranks size (map rank_of qs) (map part_of c.loop-p.frames.items)) (sym w.processes-is) before)
     ]

@@ -5,4 +5,4 @@ use Rattle.mpx_system.specs.Running.{IsUnderWay}
 use Rattle.mpx_sim.proofs.turns.send_all.Given as goal
 
 abbrev pub invariant-loop-p : goal.invariant-loop-p
-invariant-loop-p l = (script : List (List Statement)) (ranks size : ℕ) → IsUnderWay script ranks size (map rank_of l.processes) (map part_of l.fn.frames.items) → IsUnderWay script ranks size (map rank_of l.processes) (map part_of l.frames.items)
+invariant-loop-p l = (script : List (List Statement)) (ranks size : ℕ) → IsUnderWay script ranks size (map rank_of l.fn.processes) (map part_of l.fn.frames.items) → IsUnderWay script ranks size (map rank_of l.processes) (map part_of l.frames.items)

@@ -3,13 +3,11 @@ use Rattle.std.proofs.Common.{inr, subst}
 use Rattle.std.proofs.lemmas.Int.{to_z-of_z}
 use Rattle.mpx_comm.specs.Lines.{create_group}
 use Rattle.mpx_comm.specs.Requests.{Calls}
-use Rattle.mpx_comm.proofs.Posting.{calls_since}
-use Rattle.mpx_comm.proofs.Turns.{none_and}
 use Rattle.mpx_comm.proofs.desk.Desk.create_group.Goals as goal
 
 pub returns-in-Ok : goal.returns-in-Ok
 returns-in-Ok g c =
-    let call = c.call_on.ensures create_group c.plain-drafted.ensures in
-    let since = subst (λ before. Calls c.in-Ok.gathering.name create_group c.args.turns (λ n. g.H.Host.turned c.open_gathering.new.self.host n c.call_on.new.self.host) c.call_on.result (g.H.Host.node c.open_gathering.new.self.host) (g.H.Host.node c.call_on.new.self.host) before c.call_on.new.self.requests.keys) c.open_gathering.ensures.requests call in
+    let call = subst (λ draft. Calls g.H.Host.node g.H.Host.turned g.H.Host.turn_refused c.in-Ok.gathering.name draft c.args.turns c.call_on.result c.open_gathering.new.self.host c.call_on.new.self.host c.open_gathering.new.self.requests.keys c.call_on.new.self.requests.keys) c.plain-draft.ensures c.call_on.ensures in
+    let since = subst (λ before. Calls g.H.Host.node g.H.Host.turned g.H.Host.turn_refused c.in-Ok.gathering.name create_group c.args.turns c.call_on.result c.open_gathering.new.self.host c.call_on.new.self.host before c.call_on.new.self.requests.keys) c.open_gathering.ensures.requests call in
     let opens = rw (to_z-of_z w128 c.args.tag c.ranges.tag) at c.in-Ok.ensures.opens in
-    inr (c.in-Ok.gathering.name, g.H.Host.node c.open_gathering.new.self.host, opens, calls_since c.in-Ok.gathering.name create_group c.args.turns (λ n. g.H.Host.turned c.open_gathering.new.self.host n c.call_on.new.self.host) (λ n. g.H.Host.turned c.args.self.now.host n c.call_on.new.self.host) c.call_on.result (g.H.Host.node c.open_gathering.new.self.host) (g.H.Host.node c.call_on.new.self.host) c.args.self.now.requests.keys c.call_on.new.self.requests.keys (λ n m. none_and g.H.Host.turned g.met.H.Host.turns_more c.args.self.now.host c.open_gathering.new.self.host c.call_on.new.self.host n c.open_gathering.ensures.no_turn m) since)
+    inr (c.in-Ok.gathering.name, c.open_gathering.new.self.host, opens, c.open_gathering.ensures.no_turn, since)

@@ -17,11 +17,12 @@ returns-clause-asks g c =
     let is : c.new.result ≡ record { name = c.args.name.now; call = c.in_ok-call.call } = c.new.ensures ∙ (λ i. record { name = c.in-Ok.ensures.names.1 i; call = c.in_ok-call.call }) in
     let same : c.new-2.result ≡ c.new.result = c.new-2.ensures ∙ (λ i. record { name = c.in-Ok.ensures.names.0 i; call = c.in_ok-call.call }) ∙ sym is in
     let keys : c.insert.new.self.keys ≡ insert_key same_request c.args.self.now.requests.keys c.new.result = ok_holds c.insert.result (c.insert.ensures.succeeds c.in-Ok.ensures.room) c.insert.ensures.keys ∙ ap (λ (rs : List Request). insert_key same_request rs c.new.result) c.room_and_names.ensures.keys in
-    let done = post_done (g.H.Host.node c.args.self.now.host) (g.H.Host.node c.post.new.self) c.args.name.now c.in_ok-call.call c.args.draft c.args.self.now.requests.keys c.insert.new.self.keys c.new.result (g.met.H.Host.bounded c.args.self.now.host c.args.name.now) c.args.self.now.posted c.in_ok-call.ensures.posts is keys in
-    (same ∙ done.0.0, done.0.1, done.0.2 ∙ ap (λ (r : Request). c.args.self.now.requests.keys ++ r ∷ []) (sym same))
-
-pub returns-clause-exact : goal.returns-clause-exact
-returns-clause-exact g c = posted_exactly (g.H.Host.node c.args.self.now.host) (g.H.Host.node c.post.new.self) c.args.name.now c.in_ok-call.call c.args.draft c.in_ok-call.ensures.posts
+    let done = post_done (g.H.Host.node c.args.self.now.host) (g.H.Host.node c.post.new.self) c.args.name.now c.in_ok-call.call c.args.draft c.args.self.now.requests.keys c.insert.new.self.keys c.new.result (g.met.H.Host.bounded c.args.self.now.host c.args.name.now) c.args.self.now.posted c.in_ok-call.ensures.posts is keys in (
+      same ∙ done.0.0,
+      done.0.1,
+      done.0.2 ∙ ap (λ (r : Request). c.args.self.now.requests.keys ++ r ∷ []) (sym same),
+      posted_exactly (g.H.Host.node c.args.self.now.host) (g.H.Host.node c.post.new.self) c.args.name.now c.in_ok-call.call c.args.draft c.in_ok-call.ensures.posts,
+    )
 
 pub returns-in-Some-clause-asks : goal.returns-in-Some-clause-asks
 returns-in-Some-clause-asks g c = (is_refused (checked_on (g.H.Host.node c.args.self.now.host) c.args.name.now c.args.draft) c.in-Some.refusal c.in-Some.ensures, refl, refl)

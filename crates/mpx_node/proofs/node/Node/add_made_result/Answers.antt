@@ -11,4 +11,4 @@ returns-in-Ok-store_and_open-clause-ok c =
     let name = c.args.name.now in
     let made = c.args.made.now in
     let board : look c.in-Ok.board ≡ join old.board (harvest_part name made old) = c.in-Ok.ensures ∙ (λ i. join old.board (join_all (only (Front name old.me (c.requires.front i + 1)) ∷ births_of made))) in
-    λ i. record { me = old.me; board = board i; opened = λ q. c.in-Ok-store_and_open.ensures.ok q i }
+    λ i. record { me = old.me; processes = old.processes; board = board i; opened = λ q. c.in-Ok-store_and_open.ensures.ok q i }

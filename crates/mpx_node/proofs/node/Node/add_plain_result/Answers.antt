@@ -25,7 +25,7 @@ returns-in-Err-clause-err c =
     let w : Opened = record { posted = o.posted; results = c.reserve.new.self; counted = search rules } in
     let n = c.get_mut.follows.lender w in
     let same : seen n ≡ seen c.args.self.now.opened = stays c.args.self.now.opened n c.args.name.now o w c.in-Some.ensures.value (c.get_mut.follows.holds w) (λ i. record { posted = o.posted; results = c.reserve.ensures.items i }) in
-    λ i. record { me = old.me; board = c.in-Err.ensures.err i; opened = same i }
+    λ i. record { me = old.me; processes = old.processes; board = c.in-Err.ensures.err i; opened = same i }
 
 pub returns-in-Ok-clause-ok : goal.returns-in-Ok-clause-ok
 returns-in-Ok-clause-ok c =
@@ -42,4 +42,4 @@ returns-in-Ok-clause-ok c =
     c.in-Ok.ensures.ok
     ∙ ap (λ k. join old.board (only (Front name old.me (k + 1)))) c.requires.front
     ∙ ap (join old.board) (sym (first_front name old.me (front_on old name + 1))) in
-    λ i. record { me = old.me; board = board i; opened = added i }
+    λ i. record { me = old.me; processes = old.processes; board = board i; opened = added i }

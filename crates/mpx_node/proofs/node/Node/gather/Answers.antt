@@ -15,4 +15,4 @@ returns-in-Ok-open-clause-ok c =
     let g = c.args.gathering.now in
     let name : c.in-Ok.name ≡ gathering_name c.args.parent.now g = c.in-Ok.ensures.gathering ∙ (λ i. Gathering (c.tag.ensures.value i) (c.members.ensures.value i) ∷ c.args.parent.now) in
     let board : look c.in-Ok-gathered_board.board ≡ join old.board (gathering_fact c.args.parent.now g) = c.in-Ok-gathered_board.ensures ∙ ap (λ n. join old.board (only (Born n (known (of_members g.members))))) name in
-    (name, λ i. record { me = old.me; board = board i; opened = λ q. (c.in-Ok-open.ensures.ok q ∙ ap (λ n. (opens (λ m. same_name m n) old).opened q) name) i })
+    (name, λ i. record { me = old.me; processes = old.processes; board = board i; opened = λ q. (c.in-Ok-open.ensures.ok q ∙ ap (λ n. (opens (λ m. same_name m n) old).opened q) name) i })

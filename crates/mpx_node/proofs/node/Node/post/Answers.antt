@@ -48,7 +48,7 @@ returns-in-Ok c =
     let call : posted_by (old.opened c.args.name.now) ≡ o.posted = ap posted_by here in
     let asked : checked_on old c.args.name.now c.args.draft ≡ Ok c.in_ok-post.post = checks_post (checked_on old c.args.name.now c.args.draft) c.in_ok-post.post (subst (λ r. Checks r (Ok c.in_ok-post.post)) (λ i. checked_by (sym here i) (c.in-Some-birth.ensures i) old.me c.args.name.now c.args.draft) c.in_ok-post.ensures.value) in
     let board : look c.join_post.new.self ≡ join old.board (only (Held c.args.name.now (posted_by (old.opened c.args.name.now)) old.me (known c.in_ok-post.post))) = c.in-Ok.ensures.ok ∙ ap (λ k. join old.board (only (Held c.args.name.now k old.me (known c.in_ok-post.post)))) (sym call) in
-    posts_made c.args.name.now old _ (checked_on old c.args.name.now c.args.draft) c.in_ok-post.post o.posted asked (sym call) (λ i. record { me = old.me; board = board i; opened = added i })
+    posts_made c.args.name.now old _ (checked_on old c.args.name.now c.args.draft) c.in_ok-post.post o.posted asked (sym call) (λ i. record { me = old.me; processes = old.processes; board = board i; opened = added i })
 
 pub returns-in-Err : goal.returns-in-Err
 returns-in-Err c =
@@ -58,4 +58,4 @@ returns-in-Err c =
     let here : old.opened c.args.name.now ≡ Some (opened_of o) = has c.args.self.now.opened n c.args.name.now o o c.in-Some.ensures.value (c.get_mut.follows.holds o) in
     let same : seen n ≡ seen c.args.self.now.opened = stays c.args.self.now.opened n c.args.name.now o o c.in-Some.ensures.value (c.get_mut.follows.holds o) refl in
     let asked : checked_on old c.args.name.now c.args.draft ≡ Ok c.in_ok-post.post = checks_post (checked_on old c.args.name.now c.args.draft) c.in_ok-post.post (subst (λ r. Checks r (Ok c.in_ok-post.post)) (λ i. checked_by (sym here i) (c.in-Some-birth.ensures i) old.me c.args.name.now c.args.draft) c.in_ok-post.ensures.value) in
-    posts_wants c.args.name.now old _ (checked_on old c.args.name.now c.args.draft) c.in_ok-post.post asked (λ i. record { me = old.me; board = c.in-Err.ensures.err i; opened = same i })
+    posts_wants c.args.name.now old _ (checked_on old c.args.name.now c.args.draft) c.in_ok-post.post asked (λ i. record { me = old.me; processes = old.processes; board = c.in-Err.ensures.err i; opened = same i })

@@ -19,5 +19,5 @@ same_items t u xs ys r e d =
 
 pub returns-then-eq : goal.returns-then-eq
 returns-then-eq c =
-    let fields : Decides c.are_equal.result (c.self.inside.nums.value.items ≡ c.other.inside.nums.value.items) = rw (c.as_slice.ensures.value, c.as_slice-then-eq.ensures.value, c.deref.ensures, c.deref-then-eq.ensures) at c.are_equal.ensures in
+    let fields : Decides c.are_equal.result (c.self.inside.nums ≡ c.other.inside.nums) = rw (c.as_slice.ensures, c.as_slice-then-eq.ensures) at c.are_equal.ensures in
     rw (← c.self.view_is, ← c.other.view_is) (same_items c.self.inside.ty c.other.inside.ty _ _ _ (same_true the_type (search rules) _ _ (sym c.if-eq.ensures)) fields)

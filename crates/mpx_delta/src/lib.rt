@@ -1,0 +1,14 @@
+//! What of a board others lack: parts without the posts that all of them acknowledge.
+//!
+//! A digest says, for each context and process, how many of that process's calls are known in order ([`Digest`],
+//! [`digest_of`]); the least that all processes acknowledge is [`common`]; and [`delta_for`] gives the rest of a board in
+//! parts, which serve each board that has what the digest says. [`deltas`] is all of that for one process.
+#![tactic(auto)]
+
+mod delta;
+mod digest;
+mod lacking;
+
+pub use delta::delta_for;
+pub use digest::{Digest, common, digest_of};
+pub use lacking::deltas;
