@@ -1,5 +1,5 @@
 -- The lesser numbers of two digests, and the least that a board's processes acknowledge.
-use Rattle.std.proofs.Common.{arith, ◌≡◌, ℕ, zero, suc, ◌<◌, ◌≤◌, ◌+◌, min, false, true, cond, List, [], ◌∷◌, ◌++◌, map, not, nat_lt, subst, Option, Some, None, refl, sym, ap, ◌∙◌}
+use Rattle.std.proofs.Common.{arith, ◌≡◌, ℕ, zero, suc, ◌<◌, ◌≤◌, ◌+◌, min, false, true, cond, List, [], ◌∷◌, ◌++◌, map, not, nat_lt, nat_le, subst, Option, Some, None, refl, sym, ap, ◌∙◌}
 use Rattle.std.specs.Prelude.{option_and_then}
 use Rattle.std.proofs.lemmas.Bool.Decides.{nat_tests}
 use Rattle.std.proofs.lemmas.Option.{same_Some}
@@ -14,7 +14,10 @@ use Rattle.mpx_name.specs.Order.{name_cmp, name_total, name_exact}
 use Rattle.mpx_birth.specs.Orders.{upto}
 use Rattle.mpx_board.specs.Boards.{Look, minimum}
 use Rattle.mpx_board.specs.Contexts.{or_zero, number_in, ack_in, look_of}
-use Rattle.mpx_board.specs.Parts.{OfProcesses, AcksView, PartsView}
+use Rattle.join_core.specs.Max.{max_joining}
+use Rattle.join_nest.specs.Optional.{option_leq}
+use Rattle.join_nest.specs.KeyedLaws.{leq_gets}
+use Rattle.mpx_board.specs.Parts.{OfProcesses, AcksView, PartsView, acks_joining, numbers_joining}
 use Rattle.mpx_board.specs.Tidy.{is_bare, has_no_zero, is_tidy_numbers, are_tidy_numbers, is_tidy_acks, are_tidy_acks, are_tidy_entries, is_tidy}
 use Rattle.mpx_board.proofs.Entries.{all_empty, bare_gets, entries_get, get_entries}
 use Rattle.mpx_delta.specs.Keep.{keep, unless_bare}
@@ -49,6 +52,24 @@ lesser_context others name p (Some m) = bare_number (least_numbers m (get others
 
 pub least_at : (d others : AcksView) (name : Name) (p : ℕ) → numbers_of (least d others) name p ≡ min (numbers_of d name p) (numbers_of others name p)
 least_at d others name p = ap (number_in p) (get_keep name_cmp (least_context others) name_total name_exact d name) ∙ lesser_context others name p (get d name)
+
+-- NUMBERS BELOW OTHERS
+
+number_below : (x y : Option ℕ) → option_leq max_joining x y ≡ true → or_zero x ≤ or_zero y
+number_below None y h = omega arith
+number_below (Some n) None h = cc
+number_below (Some n) (Some m) h = le n m h where
+  le : (n m : ℕ) → nat_le n m ≡ true → n ≤ m
+  le n m h = grind (arith, nat_tests)
+
+numbers_below : (p : ℕ) (x y : Option (OfProcesses ℕ)) → option_leq numbers_joining x y ≡ true → number_in p x ≤ number_in p y
+numbers_below p None y h = omega arith
+numbers_below p (Some m) None h = cc
+numbers_below p (Some m) (Some n) h = number_below (get m p) (get n p) (leq_gets nat_cmp_total max_joining m n h p)
+
+-- these are the least where they are below the others
+pub least_below : (d others : AcksView) → acks_joining.leq d others ≡ true → (name : Name) (p : ℕ) → numbers_of d name p ≡ min (numbers_of d name p) (numbers_of others name p)
+least_below d others h name p = omega (arith, numbers_below p (get d name) (get others name) (leq_gets name_total numbers_joining d others h name))
 
 -- ACKNOWLEDGEMENTS
 

@@ -1,15 +1,29 @@
 -- The numbers of one process after another.
-use Rattle.std.proofs.Common.{arith, ◌≡◌, ℕ, zero, suc, ◌<◌, ◌+◌, ◌&&◌, Bool, true, cond, List, [], ◌∷◌, ◌++◌, Option, Some, None, refl, sym, ap, ◌∙◌, nat_lt}
+use Rattle.std.proofs.Common.{arith, ◌≡◌, ℕ, zero, suc, ◌<◌, ◌+◌, ◌==◌, ◌&&◌, ◌||◌, Bool, true, false, T, not, cond, List, [], ◌∷◌, ◌++◌, length, get_or, set, replicate, take, Option, Some, None, refl, sym, ap, ◌∙◌, nat_lt, eqb-true}
+use Rattle.std.proofs.lemmas.Bool.{or_right, eqb-false}
+use Rattle.std.proofs.Math.Bool.{or-false}
 use Rattle.std.proofs.lemmas.Bool.Decides.{nat_tests}
-use Rattle.std.proofs.lemmas.List.{append-nil}
+use Rattle.std.proofs.lemmas.List.{append-nil, map-append, take_more, get_or-replicate, get_or-set_same, get_or-set_other}
+use Rattle.std.proofs.lemmas.List.Folds.{list_any-append}
 use Rattle.join_nest.specs.Entries.{with_key}
 use Rattle.mpx_birth.specs.Orders.{upto}
 use Rattle.join_core.specs.declared.numbers.Max.{Max}
 use Rattle.join_nest.specs.Seen.{seen}
 use Rattle.mpx_delta.specs.Keep.{kept}
-use Rattle.mpx_delta.specs.Reach.{numbered, numbers_with, unless_zero}
+use Rattle.mpx_board.specs.Parts.{CallView}
+use Rattle.mpx_delta.specs.Reach.{AreMarks, has_posted, is_told_of, numbered, numbers_with, unless_zero}
 use Rattle.mpx_post.specs.Drafts.{most_calls}
-use Rattle.join_core.specs.Cases.{first_true}
+use Rattle.std.specs.List.{list_any}
+use Rattle.std.specs.Ordering.{eq_by_cmp, is_lt, nat_cmp}
+use Rattle.std.specs.Cmp.{nat_cmp_total, unsigned_tied}
+use Rattle.std.specs.FinMap.{find, is_sorted}
+use Rattle.std.specs.FinMap.Entries.{below_all}
+use Rattle.join_core.specs.Flat.{FlatView}
+use Rattle.join_nest.specs.EntriesLaws.{below_tied, less}
+use Rattle.mpx_post.specs.Posts.{Given}
+use Rattle.mpx_board.specs.Contexts.{or_unknown}
+use Rattle.mpx_board.specs.Tidy.{is_unknown}
+use Rattle.join_core.specs.Cases.{yes, no, answer, first, second, first_true, is_tied}
 
 -- the numbers of one process more
 pub one_more : (n : ℕ) (ns : List ℕ) → numbers_with (ns ++ n ∷ []) ≡ numbers_with ns ++ (n, tt) ∷ []
@@ -56,3 +70,50 @@ module _ (f : ℕ → Unit {0} → Option ℕ) (n : ℕ) (made more : List (ℕ 
   -- none
   pub same_kept : more ≡ made → f n tt ≡ None → seen (λ m. m.0) more ≡ kept f (numbered (n + 1))
   same_kept is none = ap (seen (λ m. m.0)) is ∙ so_far ∙ sym (append-nil (kept f (numbered n))) ∙ ap (λ o. kept f (numbered n) ++ with_key n o []) (sym none) ∙ sym (kept_numbered f n)
+
+-- MARKS
+
+pub no_marks : AreMarks (λ p. false) (replicate 64 false)
+no_marks p lt = get_or-replicate 64 p false false lt
+
+-- one process more is marked
+pub mark_one : (before : ℕ → Bool) (marks : List Bool) (x : ℕ) → length marks ≡ 64 → x < 64 → AreMarks before marks → AreMarks (λ p. before p || x == p) (set marks x true)
+mark_one before marks x size small all p lt =
+    elim (answer (x == p)) [
+      | yes e ↦
+          let same : x ≡ p = eqb-true x p e in
+          rw (e, same) (get_or-set_same marks p true false (omega (arith, size)) ∙ sym (or_right (before p) true refl))
+      | no e ↦ rw e (get_or-set_other marks x p true false (λ q. eqb-false x p e (sym q)) ∙ all p lt ∙ sym (or-false (before p)))
+    ]
+
+-- POSTS THAT ARE TOLD
+
+abbrev pub told_at_key : ℕ → ℕ × FlatView Given → Bool
+told_at_key p e = e.0 == p && not (is_unknown e.1)
+
+told_none : (p : ℕ) (es : List (ℕ × FlatView Given)) → T (below_all nat_cmp p es) → list_any (told_at_key p) es ≡ false
+told_none p [] h = refl
+told_none p (e ∷ es) h = rw (other p e.0 (first _ _ h)) (told_none p es (second _ _ h)) where
+  other : (p k : ℕ) → T (is_lt (nat_cmp p k)) → (k == p) ≡ false
+  other p k h = grind (arith, nat_tests, less _ h)
+
+-- a post is told where one with its key is
+pub told_found : (p : ℕ) (es : List (ℕ × FlatView Given)) → T (is_sorted nat_cmp es) → list_any (told_at_key p) es ≡ not (is_unknown (or_unknown (find nat_cmp p es)))
+told_found p [] h = refl
+told_found p (e ∷ es) h = elim (answer (eq_by_cmp nat_cmp p e.0)) [
+  | yes t ↦ rw (t, here p e.0 t) (ap (λ b. not (is_unknown e.1) || b) (told_none p es (below_tied nat_cmp_total p e.0 es (is_tied _ t) (first _ _ h))) ∙ or-false (not (is_unknown e.1)))
+  | no f ↦ rw (f, there p e.0 f) (told_found p es (second _ _ h))
+] where
+  here : (p k : ℕ) → eq_by_cmp nat_cmp p k ≡ true → (k == p) ≡ true
+  here p k t = let u : (p == k) ≡ true = sym (unsigned_tied p k) ∙ t in grind (arith, nat_tests, u)
+
+  there : (p k : ℕ) → eq_by_cmp nat_cmp p k ≡ false → (k == p) ≡ false
+  there p k f = let u : (p == k) ≡ false = sym (unsigned_tied p k) ∙ f in grind (arith, nat_tests, u)
+
+-- one call more
+pub posted_more : {J : Type 0} (view : J → CallView) (es : List (ℕ × J)) (i : ℕ) (e : ℕ × J) (p : ℕ) → i < length es → e ≡ get_or es i e → has_posted p (seen view (take (i + 1) es)) ≡ (has_posted p (seen view (take i es)) || is_told_of p (view e.1))
+posted_more view es i e p lt is =
+    ap (λ l. has_posted p (seen view l)) (take_more es i e lt ∙ ap (λ x. take i es ++ x ∷ []) (sym is))
+    ∙ ap (has_posted p) (map-append (λ x. (x.0, view x.1)) (take i es) (e ∷ []))
+    ∙ list_any-append (λ x. is_told_of p x.1) (seen view (take i es)) ((e.0, view e.1) ∷ [])
+    ∙ ap (λ b. has_posted p (seen view (take i es)) || b) (or-false (is_told_of p (view e.1)))

@@ -18,15 +18,17 @@ own_there me numbers before name p = subst (λ b. numbers name p ≤ max (before
   itself : (n : ℕ) → (n == n) ≡ true
   itself n = grind (arith, nat_tests)
 
-pub acknowledged : (v : PartsView) (me : ℕ) (numbers : Numbers) (alone said : Look) → IsDigest numbers (look_of v) → alone ≡ record empty { acks = (look_of v).acks } → said ≡ join alone (own_acks me numbers) → Acknowledges me (look_of v) (record (look_of v) { acks = said.acks })
-acknowledged v me numbers alone said digest is e =
-    let acks : said.acks ≡ (join (look_of v) (own_acks me numbers)).acks = ap (λ (l : Look). l.acks) (e ∙ ap (λ l. join l (own_acks me numbers)) is) in
-    record {
-      numbers = numbers;
-      digest = digest;
-      learnt = look_learnt v me numbers said.acks acks;
-      own = λ name p. subst (λ (a : ℕ → Name → ℕ → ℕ). numbers name p ≤ a me name p) (sym acks) (own_there me numbers (look_of v).acks name p);
-    }
+-- the acknowledgements alone, with the digest joined in, are those of the board with it
+pub raised_alone : (v : PartsView) (me : ℕ) (numbers : Numbers) (alone said : Look) → alone ≡ record empty { acks = (look_of v).acks } → said ≡ join alone (own_acks me numbers) → record (look_of v) { acks = said.acks } ≡ join (look_of v) (own_acks me numbers)
+raised_alone v me numbers alone said is e = look_learnt v me numbers said.acks (ap (λ (l : Look). l.acks) (e ∙ ap (λ l. join l (own_acks me numbers)) is))
+
+pub acknowledged : (me : ℕ) (numbers : Numbers) (old new : Look) → IsDigest numbers old → new ≡ join old (own_acks me numbers) → Acknowledges me old new
+acknowledged me numbers old new digest learnt = record {
+  numbers = numbers;
+  digest = digest;
+  learnt = learnt;
+  own = λ name p. subst (λ (l : Look). numbers name p ≤ l.acks me name p) (sym learnt) (own_there me numbers old.acks name p);
+}
 
 pub common_without : (processes : ℕ) (d : Numbers) (said b : Look) → ((name : Name) (p : ℕ) → d name p ≡ common_on processes said name p) → without d b ≡ without (common_on processes said) b
 common_without processes d said b e = ap (λ n. without n b) (λ i name p. e name p i)

@@ -1,5 +1,5 @@
 -- How many calls of a process an entry has in order, by the maps that it is made of.
-use Rattle.std.specs.Prelude.{ℕ, ◌+◌, ◌&&◌, ◌||◌, Bool, false, not, nat_eq, nat_lt, cond, List, [], ◌∷◌, Option, Some, None}
+use Rattle.std.specs.Prelude.{◌≡◌, ℕ, ◌+◌, ◌<◌, ◌&&◌, ◌||◌, Bool, false, not, nat_eq, nat_lt, cond, List, [], ◌∷◌, get_or, Option, Some, None}
 use Rattle.std.specs.List.{list_any}
 use Rattle.std.specs.FinMap.{entries, from_sorted}
 use Rattle.mpx_group.specs.Group.{has}
@@ -50,3 +50,7 @@ digest_numbers e = from_sorted (kept (λ p u. unless_zero (digest_number e p)) (
 
 abbrev pub digest_parts : PartsView → AcksView
 digest_parts v = keep (λ name e. unless_bare (digest_numbers e)) v.0
+
+-- of each process below 64 the answer
+abbrev pub AreMarks : (ℕ → Bool) → List Bool → Type 0
+AreMarks answer marks = (p : ℕ) → p < 64 → get_or marks p false ≡ answer p

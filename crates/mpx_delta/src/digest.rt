@@ -1,20 +1,18 @@
 // How many calls of each process are known.
-ghost use Rattle.std.specs.Prelude.{◌≡◌, ◌<◌, ◌≤◌, ℕ, IfOk, IsTrue, true, min};
-ghost use Rattle.std.specs.FinMap.{entries, get};
+ghost use Rattle.std.specs.Prelude.{◌≡◌, ◌||◌, ℕ, Bool, IfOk, IsTrue, true};
+ghost use Rattle.std.specs.FinMap.{entries};
 ghost use Rattle.join_core.specs.FlatSeen.{flat_view};
 ghost use Rattle.mpx_board.specs.Boards.{told};
-ghost use Rattle.mpx_name.specs.Name.{Name as NameView};
 ghost use Rattle.mpx_board.specs.Looks.{look, parts_of};
 ghost use Rattle.mpx_board.specs.Tidy.{all_entries, are_tidy_numbers, is_tidy_call};
 ghost use Rattle.mpx_board.specs.Views.{view_of_acks, view_of_call, view_of_calls, view_of_entry, view_of_numbers};
-ghost use Rattle.mpx_delta.specs.Digests.{IsDigest, common_on, numbers_of};
-ghost use Rattle.mpx_delta.specs.Keep.{keep};
-ghost use Rattle.mpx_delta.specs.Least.{least, least_number, least_numbers};
-ghost use Rattle.mpx_delta.specs.Reach.{digest_number, digest_numbers, has_posted, is_listed, is_member_of, is_told_of, reach};
+ghost use Rattle.mpx_group.specs.Group.{has};
+ghost use Rattle.mpx_delta.specs.Digests.{IsDigest, numbers_of};
+ghost use Rattle.mpx_delta.specs.Reach.{AreMarks, digest_number, digest_numbers, has_posted, is_member_of, is_told_of, reach};
 
 use join_core::{Exact, Flat, Max, OutOfMemory};
 use join_nest::{Keyed, Trunc};
-use mpx_board::{Acks, Board, Call, Entry, VersionVector};
+use mpx_board::{Board, Call, Entry, VersionVector};
 use mpx_group::Proc;
 use mpx_name::Name;
 use mpx_post::Birth;
@@ -44,9 +42,13 @@ fn entry_digest(alloc: Global, entry: &Entry) -> Result<VersionVector, OutOfMemo
     requires { all_entries is_tidy_call (view_of_entry entry.now).1.1.calls ≡ true }
     ensures { IfOk result (λ made. view_of_numbers made ≡ digest_numbers (view_of_entry entry.now)) }
 {
+    let are_members = members_of(&entry.first);
+    let have_posted = posters_of(&entry.second.second);
     let mut made = Vec::new(alloc);
     for process in 0..64 {
-        let number = digest_number(entry, Proc::new(process));
+        let is_member = are_members[process as usize];
+        let posted = have_posted[process as usize];
+        let number = digest_number(entry, is_member, posted, Proc::new(process));
         if number != 0 {
             made.push((Proc::new(process), Max(number)))?;
         }
@@ -55,43 +57,60 @@ fn entry_digest(alloc: Global, entry: &Entry) -> Result<VersionVector, OutOfMemo
 }
 
 // How many calls of the process, where it is a member or has a post.
-fn digest_number(entry: &Entry, process: Proc) -> u32
-    requires { all_entries is_tidy_call (view_of_entry entry.now).1.1.calls ≡ true }
+fn digest_number(entry: &Entry, is_member: bool, posted: bool, process: Proc) -> u32
+    requires tidy { all_entries is_tidy_call (view_of_entry entry.now).1.1.calls ≡ true }
+    requires member { is_member ≡ is_member_of process (told (view_of_entry entry.now).0) }
+    requires posted { posted ≡ has_posted process (entries (view_of_entry entry.now).1.1.calls) }
     ensures { result ≡ digest_number (view_of_entry entry.now) process }
 {
-    if is_listed(entry, process) {
+    if is_member || posted {
         reach(&entry.second.second, process)
     } else {
         0
     }
 }
 
-// Whether the process is a member or has a post.
-fn is_listed(entry: &Entry, process: Proc) -> bool
-    ensures { result ≡ is_listed (view_of_entry entry.now) process }
-{
-    is_member(&entry.first, process) || has_posted(&entry.second.second, process)
-}
-
-// Whether the process has a post.
-fn has_posted(calls: &Trunc<Call>, process: Proc) -> bool
-    ensures { result ≡ has_posted process (entries (view_of_calls calls.now).calls) }
-{
-    for call in calls.entries() {
-        if is_told_of(&call.1, process) {
-            return true;
-        }
-    }
-    false
-}
-
-// Whether the process is known as a member.
-fn is_member(birth: &Flat<Birth>, process: Proc) -> bool
-    ensures { result ≡ is_member_of process (told (flat_view (λ v. v) birth.now)) }
+// For each process whether it is known as a member.
+fn members_of(birth: &Flat<Birth>) -> [bool; 64]
+    ensures { AreMarks (λ p. is_member_of p (told (flat_view (λ v. v) birth.now))) result }
 {
     match birth {
-        Flat::Known(birth) => birth.members().contains(&process),
-        _ => false,
+        Flat::Known(birth) => marks_of(birth.members()),
+        Flat::Unknown => [false; 64],
+        Flat::Clash => [false; 64],
+    }
+}
+
+// For each process whether it is one of these.
+fn marks_of(members: &[Proc]) -> [bool; 64]
+    ensures { AreMarks (has members.now) result }
+{
+    let mut marks = [false; 64];
+    for member in members {
+        marks[member.number() as usize] = true;
+    }
+    marks
+}
+
+// For each process whether it has a post.
+fn posters_of(calls: &Trunc<Call>) -> [bool; 64]
+    ensures { AreMarks (λ p. has_posted p (entries (view_of_calls calls.now).calls)) result }
+{
+    let mut marks = [false; 64];
+    for call in calls.entries() {
+        mark_posters(&call.1, &mut marks);
+    }
+    marks
+}
+
+// Marks the processes whose posts are told.
+fn mark_posters(posts: &Call, marks: &mut [bool; 64])
+    ensures { (before : ℕ → Bool) → AreMarks before marks.old → AreMarks (λ p. before p || is_told_of p (view_of_call posts.now)) marks.new }
+{
+    for (process, post) in posts.entries() {
+        if !matches!(post, Flat::Unknown) {
+            marks[process.number() as usize] = true;
+        }
     }
 }
 
@@ -118,95 +137,4 @@ fn reach(calls: &Trunc<Call>, process: Proc) -> u32
         number = call + 1;
     }
     number
-}
-
-/// For each context and process the least number that one of the first so many processes acknowledges.
-pub fn common(alloc: Global, board: &Board, processes: u8) -> Result<Digest, OutOfMemory>
-    requires some { 0 < processes }
-    requires few { processes ≤ 64 }
-    ensures least { IfOk result (λ made. (name : NameView) (p : ℕ) → numbers_of (view_of_acks made) name p ≡ common_on processes (look board.now) name p) }
-    ensures tidy { IfOk result (λ made. IsTrue (are_tidy_numbers (view_of_acks made))) }
-{
-    let mut made = acks_of(alloc, board, Proc::new(0))?;
-    for number in 1..processes {
-        if made.is_empty() {
-            return Ok(made);
-        }
-        made = least_of(alloc, board, Proc::new(number), &made)?;
-    }
-    Ok(made)
-}
-
-// What the process acknowledges.
-fn acks_of(alloc: Global, board: &Board, process: Proc) -> Result<Digest, OutOfMemory>
-    ensures numbers { IfOk result (λ made. (name : NameView) (p : ℕ) → numbers_of (view_of_acks made) name p ≡ (look board.now).acks process name p) }
-    ensures tidy { IfOk result (λ made. IsTrue (are_tidy_numbers (view_of_acks made))) }
-{
-    match board.pair().second.get(&process) {
-        None => Ok(Keyed::new(alloc)),
-        Some(acks) => acks.copy(alloc),
-    }
-}
-
-// The lesser of these numbers and those that the process acknowledges.
-fn least_of(
-    alloc: Global,
-    board: &Board,
-    process: Proc,
-    numbers: &Digest,
-) -> Result<Digest, OutOfMemory>
-    requires { IsTrue (are_tidy_numbers (view_of_acks numbers.now)) }
-    ensures least { IfOk result (λ made. (name : NameView) (p : ℕ) → numbers_of (view_of_acks made) name p
-        ≡ min (numbers_of (view_of_acks numbers.now) name p) ((look board.now).acks process name p)) }
-    ensures tidy { IfOk result (λ made. IsTrue (are_tidy_numbers (view_of_acks made))) }
-{
-    match board.pair().second.get(&process) {
-        None => Ok(Digest::new(alloc)),
-        Some(acks) => least(alloc, numbers, acks),
-    }
-}
-
-// The lesser numbers of both, where both have one.
-fn least(alloc: Global, numbers: &Digest, others: &Acks) -> Result<Digest, OutOfMemory>
-    ensures { IfOk result (λ made. view_of_acks made ≡ least (view_of_acks numbers.now) (view_of_acks others.now)) }
-{
-    let mut made = Vec::new(alloc);
-    for (name, of_name) in numbers.entries() {
-        let least = least_on(alloc, name, of_name, others)?;
-        if !least.is_empty() {
-            made.push((name.copy(alloc)?, least))?;
-        }
-    }
-    Ok(Keyed::from_rising(made))
-}
-
-// The same of one context.
-fn least_on(
-    alloc: Global,
-    name: &Name,
-    numbers: &VersionVector,
-    others: &Acks,
-) -> Result<VersionVector, OutOfMemory>
-    ensures { IfOk result (λ made. view_of_numbers made ≡ least_numbers (view_of_numbers numbers.now) (get (view_of_acks others.now) name.now)) }
-{
-    match others.get(name) {
-        None => Ok(Keyed::new(alloc)),
-        Some(others) => least_numbers(alloc, numbers, others),
-    }
-}
-
-fn least_numbers(
-    alloc: Global,
-    numbers: &VersionVector,
-    others: &VersionVector,
-) -> Result<VersionVector, OutOfMemory>
-    ensures { IfOk result (λ made. view_of_numbers made ≡ keep (least_number (view_of_numbers others.now)) (view_of_numbers numbers.now)) }
-{
-    let mut made = Vec::new(alloc);
-    for (process, number) in numbers.entries() {
-        if let Some(other) = others.get(process) {
-            made.push((*process, Max(number.0.min(other.0))))?;
-        }
-    }
-    Ok(Keyed::from_rising(made))
 }

@@ -8,7 +8,9 @@
 mod delta;
 mod digest;
 mod lacking;
+mod least;
 
 pub use delta::delta_for;
-pub use digest::{Digest, common, digest_of};
+pub use digest::{Digest, digest_of};
 pub use lacking::deltas;
+pub use least::common;

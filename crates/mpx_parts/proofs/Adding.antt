@@ -1,24 +1,25 @@
 -- Pieces added one after another.
-use Rattle.std.proofs.Common.{◌≡◌, ◌≤◌, ◌<◌, ◌+◌, ℕ, zero, suc, Bool, true, false, List, [], ◌∷◌, ◌++◌, length, map, take, get_or, nat_eq, nat_lt, refl, sym, ap, ◌∙◌, subst, arith}
-use Rattle.std.specs.Prelude.{All, not, ◌||◌}
+use Rattle.std.proofs.Common.{◌≡◌, ◌≤◌, ◌<◌, ◌+◌, ℕ, Bool, true, false, List, [], ◌∷◌, ◌++◌, length, map, take, get_or, nat_eq, nat_lt, Option, Some, None, refl, sym, ap, ◌∙◌, subst, arith}
+use Rattle.std.specs.Prelude.{All, not, ◌||◌, IfSome}
 use Rattle.std.specs.List.{list_all}
 use Rattle.std.specs.FinMap.{entries, len, len-entries}
 use Rattle.std.proofs.lemmas.List.{take_more, take_all, nil_from_length}
 use Rattle.std.proofs.lemmas.Bool.Decides.{nat_tests}
+use Rattle.std.proofs.lemmas.Option.{same_Some}
 use Rattle.std.proofs.lemmas.List.Sums.{AllPass-from_list_all}
 use Rattle.std.proofs.lemmas.List.Elements.{All-nil, All-map, All-push, All-head, All-tail, All-cons}
 use Rattle.join_core.specs.Cases.{both_true, first_true, second_true}
 use Rattle.join_core.specs.Flat.{FlatView, unknown, known, clash}
 use Rattle.join_nest.specs.Seen.{seen}
 use Rattle.mpx_name.specs.Name.{Name}
-use Rattle.mpx_board.specs.Boards.{Look, Fact, Front, Has, Stands, IsBelow}
+use Rattle.mpx_board.specs.Boards.{Fact, Front, Has, Stands, IsBelow}
 use Rattle.mpx_board.specs.Parts.{EntryView}
 use Rattle.mpx_board.specs.Tidy.{is_unknown, is_bare}
 use Rattle.mpx_board.specs.Looks.{look, parts_of}
 use Rattle.mpx_board.specs.declared.board.Board.{Board}
 use Rattle.mpx_format.specs.Encoding.{length_told}
 use Rattle.mpx_parts.specs.Facts.{OnlyFactsOf, SaysHead}
-use Rattle.mpx_parts.specs.Pieces.{IsPiece, Adds, AreBelow, HaveOnlyFactsOf, AllFit, most_of_piece, has_head}
+use Rattle.mpx_parts.specs.Pieces.{IsPiece, Adds, most_of_piece, has_head}
 
 module _ {X : Type 0} (Q : X → Type 0) where
   pub All-front : (xs ys : List X) → All Q (xs ++ ys) → All Q xs
@@ -126,3 +127,8 @@ no_head P name e h = record {
 pub told_false : (b : Bool) → not b ≡ true → b ≡ false
 told_false true h = cc
 told_false false h = refl
+
+-- what holds of the value, if any, holds of the one that was found
+pub some_at : {X : Type 0} (o : Option X) (x : X) (Q : X → Type 0) → IfSome o Q → o ≡ Some x → Q x
+some_at None x Q h is = absurd cc
+some_at (Some y) x Q h is = subst Q (same_Some y x is) h

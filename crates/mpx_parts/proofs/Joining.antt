@@ -1,26 +1,22 @@
 -- Boards put together: they still have only facts of the whole, and say all of it.
-use Rattle.std.proofs.Common.{◌≡◌, ◌≢◌, ◌≤◌, ◌<◌, ◌+◌, ℕ, zero, suc, max, Bool, true, false, cond, List, [], ◌∷◌, ◌++◌, length, map, take, drop, get_or, set, fold, refl, sym, ap, ◌∙◌, subst, append_assoc, arith}
+use Rattle.std.proofs.Common.{◌≡◌, ◌≢◌, ◌≤◌, ◌<◌, ℕ, zero, suc, max, Bool, true, false, cond, List, [], ◌∷◌, ◌++◌, length, map, get_or, set, fold, refl, sym, ap, ◌∙◌, subst, arith}
 use Rattle.std.specs.Prelude.{All, nat_le}
-use Rattle.std.proofs.lemmas.List.{take_more}
-use Rattle.std.proofs.lemmas.List.Elements.{All-nil, All-cons, All-head, All-tail, All-push, All-append}
+use Rattle.std.proofs.lemmas.List.Elements.{All-nil, All-cons, All-head, All-tail, All-append}
 use Rattle.join_core.specs.Laws.{JoinLaws}
 use Rattle.join_core.specs.Flat.{FlatView, unknown, known, clash, flat_join, flat_joining}
-use Rattle.join_core.specs.FlatLaws.{flat_laws, join_unknown}
-use Rattle.join_core.specs.Order.{IsOrder}
+use Rattle.join_core.specs.FlatLaws.{flat_laws}
 use Rattle.join_core.proofs.Orders.{order_laws}
-use Rattle.join_core.specs.Cases.{answer, yes, no}
-use Rattle.mpx_name.specs.Name.{Name}
 use Rattle.mpx_post.specs.Posts.{Given}
 use Rattle.mpx_post.specs.Equality.{same_given, given_equality}
-use Rattle.mpx_post.specs.Births.{same_birth, birth_equality}
-use Rattle.mpx_board.specs.Boards.{Look, Fact, Born, Held, Front, Dropped, Acknowledged, Has, Stands, IsBelow, join, join_all, empty}
+use Rattle.mpx_post.specs.Births.{birth_equality}
+use Rattle.mpx_board.specs.Boards.{Look, Born, Held, Front, Dropped, Acknowledged, Has, Stands, IsBelow, join, join_all, empty}
 use Rattle.mpx_board.specs.Contexts.{look_of}
 use Rattle.mpx_board.specs.Looks.{look, parts_of}
 use Rattle.mpx_board.specs.Parts.{PartsView, parts_joining, parts_laws}
 use Rattle.mpx_board.specs.Tidy.{is_tidy}
 use Rattle.mpx_board.specs.declared.board.Board.{Board}
 use Rattle.std.specs.FinMap.{empty as no_entry}
-use Rattle.mpx_board.proofs.Facts.{join_is_least, join_all_is_least, below_through, under_itself, facts_below, fold_above, empty_under}
+use Rattle.mpx_board.proofs.Facts.{join_is_least, below_through, under_itself, facts_below, fold_above, empty_under}
 use Rattle.mpx_board.proofs.Looking.{look-join, join-empty, look-empty}
 use Rattle.mpx_board.proofs.Order.{leq_is_below}
 use Rattle.mpx_board.proofs.Tidiness.{tidy_join, tidy_empty}
@@ -28,7 +24,7 @@ use Rattle.mpx_format.specs.Encoding.{length_told}
 use Rattle.mpx_parts.specs.Facts.{OnlyFactsOf, SaysParts}
 use Rattle.mpx_parts.specs.Pieces.{NoNeighboursFit, Says, Adds, AreBelow, HaveOnlyFactsOf, AllFit, most_of_piece}
 use Rattle.mpx_parts.proofs.Saying.{all_said, said_all}
-use Rattle.mpx_parts.proofs.Adding.{All-front, All-back, All-last}
+use Rattle.mpx_parts.proofs.Adding.{All-front, All-back}
 
 -- FACTS OF A JOIN
 
@@ -83,14 +79,6 @@ module _ (limit : ℕ) where
     fits = λ all. All-append (λ x. length_told (parts_of x) ≤ limit) a c (All-front (λ x. length_told (parts_of x) ≤ limit) a b all) (s.fits (All-back (λ x. length_told (parts_of x) ≤ limit) a b all));
   }
 
-  -- a copy in its place
-  pub says_copy : (bs : List Board) (b c : Board) → parts_of c ≡ parts_of b → Says limit (bs ++ b ∷ []) (bs ++ c ∷ [])
-  says_copy bs b c same = says_behind bs (b ∷ []) (c ∷ []) (record {
-    covers = λ d all. All-cons (λ x. IsBelow (look x) d) b [] (subst (λ v. IsBelow (look_of v) d) same (All-head (λ x. IsBelow (look x) d) c [] all)) (All-nil (λ x. IsBelow (look x) d));
-    only = λ w all. All-cons (λ x. OnlyFactsOf (look x) w) c [] (subst (λ v. OnlyFactsOf (look_of v) w) (sym same) (All-head (λ x. OnlyFactsOf (look x) w) b [] all)) (All-nil (λ x. OnlyFactsOf (look x) w));
-    fits = λ all. All-cons (λ x. length_told (parts_of x) ≤ limit) c [] (subst (λ v. length_told v ≤ limit) (sym same) (All-head (λ x. length_told (parts_of x) ≤ limit) b [] all)) (All-nil (λ x. length_told (parts_of x) ≤ limit));
-  })
-
   -- two boards joined, where that fits
   pub says_joined : (bs : List Board) (a b j : Board) → parts_of j ≡ parts_joining.join (parts_of a) (parts_of b) → length_told (parts_of j) ≤ limit → Says limit (bs ++ a ∷ b ∷ []) (bs ++ j ∷ [])
   says_joined bs a b j is fits =
@@ -118,12 +106,6 @@ module _ (limit : ℕ) where
   -- and what stands before them
   pub says_seam : (all front : List Board) (a : Board) (rest new : List Board) → all ≡ front ++ a ∷ [] → Says limit (a ∷ rest) new → Says limit (all ++ rest) (front ++ new)
   says_seam all front a rest new is s = subst (λ l. Says limit l (front ++ new)) (sym (ap (λ l. l ++ rest) is ∙ assoc front (a ∷ []) rest)) (says_behind front (a ∷ rest) new s)
-
-  -- one copy more
-  pub says_copies : (bs made : List Board) (i : ℕ) (x c : Board) → i < length bs → x ≡ get_or bs i x → parts_of c ≡ parts_of x → Says limit (take i bs) made → Says limit (take (i + 1) bs) (made ++ c ∷ [])
-  says_copies bs made i x c lt at same s =
-      let more : take (i + 1) bs ≡ take i bs ++ x ∷ [] = take_more bs i x lt ∙ ap (λ y. take i bs ++ y ∷ []) (sym at) in
-      subst (λ l. Says limit l (made ++ c ∷ [])) (sym more) (says_then (take i bs ++ x ∷ []) (made ++ x ∷ []) (made ++ c ∷ []) (says_before (take i bs) made (x ∷ []) s) (says_copy made x c same))
 
   -- two halves
   pub says_halves : (all low high made rest new : List Board) → low ++ high ≡ all → Says limit low made → Says limit high rest → Says limit (made ++ rest) new → Says limit all new

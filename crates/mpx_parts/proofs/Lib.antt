@@ -6,3 +6,5 @@ pub mod Made
 pub mod MadeSizes
 pub mod Rising
 pub mod Joining
+pub mod Halves
+pub mod RunsSay

@@ -1,5 +1,5 @@
 -- Each piece says just what it is made of.
-use Rattle.std.proofs.Common.{◌≡◌, ◌≤◌, ◌<◌, ℕ, Bool, true, false, T, List, [], ◌∷◌, length, refl, sym, ap, ◌∙◌, subst, arith, nat_eq, nat_lt, nat_le}
+use Rattle.std.proofs.Common.{◌≡◌, ◌≤◌, ◌<◌, ℕ, Bool, true, false, List, [], ◌∷◌, length, refl, sym, ap, ◌∙◌, subst, arith, nat_eq, nat_lt}
 use Rattle.std.specs.Prelude.{All, not, ◌&&◌, ◌||◌, MatchOption, Option, Some, None}
 use Rattle.std.specs.Option.{IsSome}
 use Rattle.std.specs.List.{list_all}
@@ -7,24 +7,22 @@ use Rattle.std.proofs.lemmas.Bool.Decides.{nat_tests}
 use Rattle.std.proofs.lemmas.List.Elements.{All-nil, All-cons, All-head}
 use Rattle.std.specs.declared.cmp.Ordering.{Ordering}
 use Rattle.std.specs.Ordering.{nat_cmp}
-use Rattle.std.specs.Cmp.{nat_cmp_total}
 use Rattle.std.specs.FinMap.{FinMap, empty, entries, from_sorted, entries-from_sorted, len, len-entries, len-empty}
 use Rattle.std.proofs.lemmas.List.{nil_from_length}
 use Rattle.std.proofs.lemmas.Option.{same_Some}
-use Rattle.join_core.specs.Flat.{FlatView, unknown, known, clash}
-use Rattle.join_core.specs.Cases.{both_true, first_true, second_true}
+use Rattle.join_core.specs.Flat.{FlatView, unknown}
+use Rattle.join_core.specs.Cases.{both_true, first_true}
 use Rattle.mpx_name.specs.Name.{Name}
 use Rattle.mpx_name.specs.Order.{name_cmp}
 use Rattle.mpx_post.specs.Drafts.{most_calls}
 use Rattle.mpx_post.specs.Posts.{Given}
-use Rattle.mpx_board.specs.Boards.{Look, Fact, Born, Held, Front, Dropped, Acknowledged, Has, Stands, IsBelow}
-use Rattle.mpx_board.specs.Contexts.{look_of}
-use Rattle.mpx_board.specs.Looks.{look, parts_of}
+use Rattle.mpx_board.specs.Boards.{Fact, Born, Held, Front, Dropped, Has, Stands}
+use Rattle.mpx_board.specs.Looks.{parts_of}
 use Rattle.mpx_board.specs.declared.board.Board.{Board}
 use Rattle.mpx_board.specs.Parts.{OfProcesses, CallView, EntryView, AcksView, PartsView}
 use Rattle.mpx_board.specs.Tidy.{is_unknown, is_bare, all_entries, has_no_zero, are_tidy_posts, is_tidy_call, says_nothing, is_neat_entry, is_tidy_entry, are_tidy_entries, is_tidy_numbers, is_tidy_acks, are_tidy_acks, is_tidy}
 use Rattle.mpx_format.specs.Encoding.{length_told}
-use Rattle.mpx_parts.specs.Facts.{OnlyFactsOf, SaysPost, SaysCall, SaysHead, SaysEntry, SaysNumbers, SaysAcks, SaysParts}
+use Rattle.mpx_parts.specs.Facts.{SaysPost, SaysCall, SaysHead, SaysEntry, SaysNumbers, SaysAcks, SaysParts}
 use Rattle.mpx_parts.specs.Pieces.{IsPiece, has_head, most_of_piece}
 use Rattle.mpx_parts.proofs.Saying.{all_said, said_all}
 
@@ -46,7 +44,7 @@ module _ {K V : Type 0} (R : K → K → Ordering) where
 All-one : {X : Type 0} (Q : X → Type 0) (x : X) (xs : List X) → xs ≡ x ∷ [] → Q x → All Q xs
 All-one Q x xs is h = subst (All Q) (sym is) (All-cons Q x [] h (All-nil Q))
 
-All-none : {X : Type 0} (Q : X → Type 0) (xs : List X) → xs ≡ [] → All Q xs
+pub All-none : {X : Type 0} (Q : X → Type 0) (xs : List X) → xs ≡ [] → All Q xs
 All-none Q xs is = subst (All Q) (sym is) (All-nil Q)
 
 one-All : {X : Type 0} (Q : X → Type 0) (x : X) (xs : List X) → xs ≡ x ∷ [] → All Q xs → Q x
@@ -55,7 +53,7 @@ one-All Q x xs is all = All-head Q x [] (subst (All Q) is all)
 all_one : {X : Type 0} (p : X → Bool) (x : X) (xs : List X) → xs ≡ x ∷ [] → p x ≡ true → list_all p xs ≡ true
 all_one p x xs is h = ap (list_all p) is ∙ both_true (p x) true h refl
 
-all_none : {X : Type 0} (p : X → Bool) (xs : List X) → xs ≡ [] → list_all p xs ≡ true
+pub all_none : {X : Type 0} (p : X → Bool) (xs : List X) → xs ≡ [] → list_all p xs ≡ true
 all_none p xs is = ap (list_all p) is
 
 -- one context, and no acknowledgement

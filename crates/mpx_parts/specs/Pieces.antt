@@ -1,5 +1,9 @@
 -- Pieces of a board, and how they are put together.
-use Rattle.std.specs.Prelude.{◌≤◌, ◌<◌, ℕ, Bool, not, nat_lt, ◌&&◌, ◌||◌, List, [], ◌∷◌, All}
+use Rattle.std.specs.Prelude.{◌≡◌, ◌≤◌, ◌<◌, ℕ, Bool, true, not, nat_lt, ◌||◌, List, [], ◌∷◌, All}
+use Rattle.std.specs.List.{list_all}
+use Rattle.std.specs.FinMap.{is_sorted}
+use Rattle.std.specs.declared.cmp.Ordering.{Ordering}
+use Rattle.join_nest.specs.Seen.{seen}
 use Rattle.mpx_board.specs.Boards.{Look, Fact, Has, Stands, IsBelow}
 use Rattle.mpx_board.specs.Parts.{EntryView, parts_joining}
 use Rattle.mpx_board.specs.Tidy.{is_unknown, is_bare}
@@ -23,6 +27,11 @@ HaveOnlyFactsOf bs w = All (λ b. OnlyFactsOf (look b) w) bs
 -- each has a frame of so many bytes at most
 abbrev pub AllFit : ℕ → List Board → Type 0
 AllFit limit bs = All (λ b. length_told (parts_of b) ≤ limit) bs
+
+-- entries in the rising order of their keys, each of which passes the test
+pub record IsRun {K J V : Type 0} (R : K → K → Ordering) (view : J → V) (test : K × V → Bool) (es : List (K × J)) : Type 0 where
+  pub rising : is_sorted R es ≡ true
+  pub pass : list_all test (seen view es) ≡ true
 
 -- the piece says just what S says of facts, in a short frame
 pub record IsPiece (S : (Fact → Type 0) → Type 0) (piece : Board) : Type 0 where

@@ -12,11 +12,18 @@ use mpx_board::Board;
 use mpx_encode::frame_len;
 use std::alloc::Global;
 
+// How many bytes neighbours share, at most: their head, and a process or a context with a call that stands in both.
+const MOST_SHARED: usize = 1024;
+
 /// The board in parts, each of which has only facts of the board and a frame of at most so many bytes, and whose join is
-/// the board: the board itself where it fits. Else it is taken apart into single posts, what is said of one context beside
-/// its posts, and what one process acknowledges of one context; and neighbours among these are joined until no two of them
-/// fit one frame.
-/// It takes time and memory in the order of the board's size, times its logarithm.
+/// the board: the board itself where it fits. Else it is taken apart into runs of contexts and runs of what processes
+/// acknowledge, by halves until a run has a frame of at most 524,288 bytes; into single posts, and what is said of a context
+/// beside its posts, only where one context alone is too long. Neighbours among these are joined until no two of them fit one
+/// frame.
+///
+/// It takes memory in the order of the board's size, and time too where no context is too long alone: a run is copied only
+/// where a count of its least bytes doesn't tell that it is too long, and runs are joined a few times. The posts of a context
+/// that is too long alone are joined half by half from the smallest boards, in the logarithm of their number times its size.
 pub fn parts(alloc: Global, board: &Board, limit: usize) -> Result<Vec<Board>, OutOfMemory>
     requires least { 524288 ≤ limit }
     requires most { limit ≤ 1048576 }
@@ -32,7 +39,7 @@ pub fn parts(alloc: Global, board: &Board, limit: usize) -> Result<Vec<Board>, O
         return Ok(whole);
     }
     let pieces = pieces(alloc, board)?;
-    let packed = pack(alloc, &pieces, limit)?;
+    let packed = pack(alloc, pieces, limit)?;
     fused(alloc, packed, limit)
 }
 
@@ -67,27 +74,17 @@ fn fuse(alloc: Global, made: &mut Vec<Board>, board: Board, limit: usize) -> Res
 }
 
 // These boards, of which neighbours are joined as far as their frames have so many bytes at most.
-fn pack(alloc: Global, boards: &[Board], limit: usize) -> Result<Vec<Board>, OutOfMemory>
-    ensures { IfOk result (λ made. Says limit boards.now made.items) }
+fn pack(alloc: Global, mut boards: Vec<Board>, limit: usize) -> Result<Vec<Board>, OutOfMemory>
+    ensures { IfOk result (λ made. Says limit boards.items made.items) }
 {
     if boards.len() <= 1 {
-        return copies(alloc, boards);
+        return Ok(boards);
     }
     let half = boards.len() / 2;
-    let mut made = pack(alloc, &boards[..half], limit)?;
-    let rest = pack(alloc, &boards[half..], limit)?;
+    let others = boards.split_off(half)?;
+    let mut made = pack(alloc, boards, limit)?;
+    let rest = pack(alloc, others, limit)?;
     add_behind(alloc, &mut made, rest, limit)?;
-    Ok(made)
-}
-
-// Copies of the boards.
-fn copies(alloc: Global, boards: &[Board]) -> Result<Vec<Board>, OutOfMemory>
-    ensures { IfOk result (λ made. (limit : ℕ) → Says limit boards.now made.items) }
-{
-    let mut made = Vec::new(alloc);
-    for board in boards {
-        made.push(board.copy(alloc)?)?;
-    }
     Ok(made)
 }
 
@@ -122,9 +119,19 @@ fn seam(
     if rest.len() < 1 {
         return Ok(None);
     }
-    let both = last.joined(alloc, &rest[0])?;
+    let first = &rest[0];
+    if is_surely_over(last, first, limit) {
+        return Ok(None);
+    }
+    let both = last.joined(alloc, first)?;
     if limit < frame_len(&both) {
         return Ok(None);
     }
     Ok(Some(both))
+}
+
+// Whether the two together are over the limit, whatever they share. It only saves a join: whether they fit is told by its frame.
+fn is_surely_over(left: &Board, right: &Board, limit: usize) -> bool {
+    let bytes = frame_len(left).saturating_add(frame_len(right));
+    limit.saturating_add(MOST_SHARED) < bytes
 }

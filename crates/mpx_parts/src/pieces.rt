@@ -21,7 +21,7 @@ use mpx_post::Post;
 use std::alloc::Global;
 
 // The map with this one entry.
-fn one<K: Key, J: Exact>(alloc: Global, key: K, value: J) -> Result<Keyed<K, J>, OutOfMemory>
+pub fn one<K: Key, J: Exact>(alloc: Global, key: K, value: J) -> Result<Keyed<K, J>, OutOfMemory>
     ensures { IfOk result (λ made. ⟦<Keyed<K, J> as Exact>⟧.view made ≡ from_sorted ((key, J.view value) ∷ [])) }
 {
     let mut entries = Vec::new(alloc);

@@ -1,17 +1,21 @@
 // All pieces of a board, part by part.
 ghost use Rattle.std.specs.Prelude.{◌≡◌, ◌<◌, [], true, All, OnOk, IfOk};
+ghost use Rattle.std.specs.Ordering.{nat_cmp};
 ghost use Rattle.std.specs.FinMap.{entries};
+ghost use Rattle.join_nest.specs.Seen.{seen};
+ghost use Rattle.mpx_name.specs.Order.{name_cmp};
 ghost use Rattle.mpx_post.specs.Drafts.{most_calls};
 ghost use Rattle.mpx_board.specs.Looks.{parts_of};
-ghost use Rattle.mpx_board.specs.Tidy.{all_entries, are_tidy_acks, are_tidy_entries, are_tidy_posts, is_tidy, is_tidy_acks, is_tidy_call, is_neat_entry, is_tidy_entry};
-ghost use Rattle.mpx_board.specs.Views.{view_of_acks, view_of_call, view_of_calls, view_of_entries, view_of_entry, view_of_parts};
-ghost use Rattle.mpx_parts.specs.Facts.{SaysAcks, SaysCall, SaysEntry, SaysHead, SaysParts};
-ghost use Rattle.mpx_parts.specs.Pieces.{Adds};
+ghost use Rattle.mpx_board.specs.Tidy.{all_entries, are_tidy_posts, is_tidy_acks, is_tidy_call, is_neat_entry, is_tidy_entry, is_tidy_numbers};
+ghost use Rattle.mpx_board.specs.Views.{view_of_acks, view_of_call, view_of_calls, view_of_entry, view_of_numbers};
+ghost use Rattle.mpx_parts.specs.Facts.{SaysAcks, SaysCall, SaysEntry, SaysHead, SaysNumbers, SaysParts};
+ghost use Rattle.mpx_parts.specs.Pieces.{Adds, IsRun};
 
 use crate::pieces::{has_head, head_piece, number_piece, post_piece};
+use crate::runs::{acks_piece, contexts_piece, names_piece};
 use join_core::OutOfMemory;
-use join_nest::{Keyed, Trunc};
-use mpx_board::{Acks, Board, Call, Entry};
+use join_nest::Trunc;
+use mpx_board::{Acks, Board, Call, Entry, VersionVector};
 use mpx_group::Proc;
 use mpx_name::Name;
 use std::alloc::Global;
@@ -80,53 +84,91 @@ fn add_context(
     add_calls(alloc, made, name, &entry.second.second)
 }
 
-// Adds what is said of all contexts.
+// Adds what is said of these contexts: as one piece where that is short, else by halves.
 fn add_contexts(
     alloc: Global,
     made: &mut Vec<Board>,
-    contexts: &Keyed<Name, Entry>,
+    contexts: &[(Name, Entry)],
 ) -> Result<(), OutOfMemory>
-    requires { are_tidy_entries (view_of_entries contexts.now) ≡ true }
-    ensures { OnOk result (Adds (λ P. All (SaysEntry P) (entries (view_of_entries contexts.now))) made.old.items made.new.items) }
+    requires { IsRun name_cmp view_of_entry (λ e. is_tidy_entry e.1) contexts.now }
+    ensures { OnOk result (Adds (λ P. All (SaysEntry P) (seen view_of_entry contexts.now)) made.old.items made.new.items) }
 {
-    for (name, entry) in contexts.entries() {
-        add_context(alloc, made, name, entry)?;
+    if contexts.is_empty() {
+        return Ok(());
     }
-    Ok(())
+    if let Some(piece) = contexts_piece(alloc, contexts)? {
+        made.push(piece)?;
+        return Ok(());
+    }
+    if contexts.len() == 1 {
+        let (name, entry) = &contexts[0];
+        return add_context(alloc, made, name, entry);
+    }
+    let half = contexts.len() / 2;
+    add_contexts(alloc, made, &contexts[..half])?;
+    add_contexts(alloc, made, &contexts[half..])
 }
 
-// Adds what one process acknowledges.
-fn add_acks(
+// Adds what the process acknowledges of these contexts: as one piece where that is short, else by halves.
+fn add_names(
     alloc: Global,
     made: &mut Vec<Board>,
     process: Proc,
-    acks: &Acks,
+    names: &[(Name, VersionVector)],
 ) -> Result<(), OutOfMemory>
-    requires { is_tidy_acks (view_of_acks acks.now) ≡ true }
-    ensures { OnOk result (Adds (λ P. SaysAcks P (process, view_of_acks acks.now)) made.old.items made.new.items) }
+    requires { IsRun name_cmp view_of_numbers (λ e. is_tidy_numbers e.1) names.now }
+    ensures { OnOk result (Adds (λ P. All (SaysNumbers P process) (seen view_of_numbers names.now)) made.old.items made.new.items) }
 {
-    for (name, numbers) in acks.entries() {
+    if names.is_empty() {
+        return Ok(());
+    }
+    if names.len() == 1 {
+        let (name, numbers) = &names[0];
         made.push(number_piece(alloc, process, name, numbers)?)?;
+        return Ok(());
     }
-    Ok(())
+    if let Some(piece) = names_piece(alloc, process, names)? {
+        made.push(piece)?;
+        return Ok(());
+    }
+    let half = names.len() / 2;
+    add_names(alloc, made, process, &names[..half])?;
+    add_names(alloc, made, process, &names[half..])
 }
 
-// Adds what all processes acknowledge.
-fn add_all_acks(alloc: Global, made: &mut Vec<Board>, board: &Board) -> Result<(), OutOfMemory>
-    ensures { OnOk result (Adds (λ P. All (SaysAcks P) (entries (parts_of board.now).1)) made.old.items made.new.items) }
+// Adds what these processes acknowledge: as one piece where that is short, else by halves.
+fn add_acks(
+    alloc: Global,
+    made: &mut Vec<Board>,
+    processes: &[(Proc, Acks)],
+) -> Result<(), OutOfMemory>
+    requires { IsRun nat_cmp view_of_acks (λ e. is_tidy_acks e.1) processes.now }
+    ensures { OnOk result (Adds (λ P. All (SaysAcks P) (seen view_of_acks processes.now)) made.old.items made.new.items) }
 {
-    for (process, acks) in board.pair().second.entries() {
-        add_acks(alloc, made, *process, acks)?;
+    if processes.is_empty() {
+        return Ok(());
     }
-    Ok(())
+    if processes.len() == 1 {
+        let (process, acks) = &processes[0];
+        return add_names(alloc, made, *process, acks.entries());
+    }
+    if let Some(piece) = acks_piece(alloc, processes)? {
+        made.push(piece)?;
+        return Ok(());
+    }
+    let half = processes.len() / 2;
+    add_acks(alloc, made, &processes[..half])?;
+    add_acks(alloc, made, &processes[half..])
 }
 
-// All pieces of the board.
+// All pieces of the board: runs of contexts, and runs of what processes acknowledge. Where the frame of one context alone is
+// too long, its head and each of its posts; where that of one process's acknowledgements is, runs of the contexts that it names.
 pub fn pieces(alloc: Global, board: &Board) -> Result<Vec<Board>, OutOfMemory>
     ensures { IfOk result (λ made. Adds (λ P. SaysParts P (parts_of board.now)) [] made.items) }
 {
+    let parts = board.pair();
     let mut made = Vec::new(alloc);
-    add_contexts(alloc, &mut made, &board.pair().first)?;
-    add_all_acks(alloc, &mut made, board)?;
+    add_contexts(alloc, &mut made, parts.first.entries())?;
+    add_acks(alloc, &mut made, parts.second.entries())?;
     Ok(made)
 }

@@ -5,7 +5,6 @@ use Rattle.mpx_name.specs.Name.{Name}
 use Rattle.mpx_post.specs.declared.draft.Draft.{Draft}
 use Rattle.mpx_post.specs.declared.draft.PostError.{PostError}
 use Rattle.mpx_post.specs.declared.draft.PostError.TheVariants as R
-use Rattle.mpx_post.specs.Drafts.{given_by}
 use Rattle.mpx_post.specs.Posts.{Given}
 use Rattle.mpx_post.specs.Gatherings.{GatheringView}
 use Rattle.mpx_value.specs.declared.outcomes.Outcome.{Outcome}
@@ -13,7 +12,7 @@ use Rattle.mpx_value.specs.declared.outcomes.Outcome.TheVariants.{Nothing, Absen
 use Rattle.mpx_comm.specs.Comms.{comm_of}
 use Rattle.mpx_comm.specs.Requests.{Asks, AsksGathered, IsRefusal}
 use Rattle.mpx_comm.specs.declared.request.Request.{Request}
-use Rattle.mpx_node.specs.Nodes.{NodeView, Opens, checked_on, gathering_name, gathers_on, post_at}
+use Rattle.mpx_node.specs.Nodes.{NodeView, Opens, checked_on, gathering_name, gathers_on}
 use Rattle.mpx_statement.specs.Statements.{create_group_draft}
 use Rattle.mpx_system.specs.Running.{Tries, given_name, tried_gathered, tried_post}
 use Rattle.mpx_sim.specs.Shown.{call_in, call_of, name_in}

@@ -1,4 +1,4 @@
-ghost use Rattle.std.specs.Prelude.{◌≡◌, ◌<◌, ◌≤◌, ◌+◌, ◌⊎◌, All, IfOk, OnOk, false, length, map, slice_get, true, List, Some, ℕ};
+ghost use Rattle.std.specs.Prelude.{◌≡◌, ◌<◌, ◌≤◌, ◌+◌, ◌++◌, ◌∷◌, [], ◌⊎◌, All, IfOk, OnOk, false, length, map, slice_get, true, List, Some, ℕ};
 ghost use Rattle.mpx_board.specs.Boards.{Look, join_all};
 ghost use Rattle.mpx_parts.specs.Facts.{OnlyFactsOf};
 ghost use Rattle.mpx_statement.specs.declared.statement.Statement.{Statement as Said};
@@ -56,8 +56,8 @@ pub(crate) fn simulate<'a>(
 // A turn: every rank goes on until it must wait, every process drops what it may and sends what others may lack of its board
 // where its last list is out, and the turn's frames come. It answers whether there is need of another.
 //
-// Where nobody moved or dropped anything and all boards are equal, every frame, also those that come later, is below these
-// boards; and where every frame is lost, none comes.
+// Where nobody moved or dropped anything and all boards are equal, a turn more would bring acknowledgements at most, of which no
+// call, front or result comes; and where every frame is lost, it would bring nothing.
 fn turn(
     alloc: Global,
     processes: &mut [Rank<'_>],
@@ -201,7 +201,9 @@ fn send_each(
     frames: &mut Vec<Frame>,
     schedule: &mut Schedule,
 ) -> Result<(), OutOfMemory>
-    ensures { OnOk result ((script : List (List Said)) (ranks size : ℕ) (processes : List RankView) (p : ℕ) (r : RankView) → slice_get processes p ≡ Some r
+    ensures all { OnOk result (schedule.old.loss ≡ 0 → frames.new.items ≡ frames.old.items ++ made.items) }
+    ensures loss { schedule.new.loss ≡ schedule.old.loss }
+    ensures run { OnOk result ((script : List (List Said)) (ranks size : ℕ) (processes : List RankView) (p : ℕ) (r : RankView) → slice_get processes p ≡ Some r
         → All (λ frame. OnlyFactsOf (part_of frame) r.node.board) made.items → IsUnderWay script ranks size processes (map part_of frames.old.items)
         → IsUnderWay script ranks size processes (map part_of frames.new.items)) }
 {
@@ -213,7 +215,9 @@ fn send_each(
 
 // A frame goes out, where it isn't lost.
 fn send(frame: Frame, frames: &mut Vec<Frame>, schedule: &mut Schedule) -> Result<(), OutOfMemory>
-    ensures { OnOk result ((script : List (List Said)) (ranks size : ℕ) (processes : List RankView) (p : ℕ) (r : RankView) → slice_get processes p ≡ Some r
+    ensures all { OnOk result (schedule.old.loss ≡ 0 → frames.new.items ≡ frames.old.items ++ frame ∷ []) }
+    ensures loss { schedule.new.loss ≡ schedule.old.loss }
+    ensures run { OnOk result ((script : List (List Said)) (ranks size : ℕ) (processes : List RankView) (p : ℕ) (r : RankView) → slice_get processes p ≡ Some r
         → OnlyFactsOf (part_of frame) r.node.board → IsUnderWay script ranks size processes (map part_of frames.old.items)
         → IsUnderWay script ranks size processes (map part_of frames.new.items)) }
 {

@@ -1,14 +1,13 @@
 -- The two halves.
-use Rattle.std.proofs.Common.{◌≡◌, ◌++◌, ◌-◌, ◌/◌, ℕ, List, length, take, drop, ap, ◌∙◌, length-drop, arith}
-use Rattle.std.proofs.lemmas.List.{take-append-drop, take_all}
-use Rattle.mpx_board.specs.declared.board.Board.{Board}
-use Rattle.mpx_parts.proofs.Joining.{says_halves}
+use Rattle.std.proofs.Common.{◌++◌, ◌/◌, ◌∙◌}
+use Rattle.std.proofs.lemmas.List.{take-append-drop}
+use Rattle.mpx_parts.proofs.Joining.{says_halves, says_itself}
 use Rattle.mpx_parts.proofs.packing.+pack.Goals as goal
 
-halves : (bs : List Board) (h : ℕ) → take h bs ++ take (length bs - h) (drop h bs) ≡ bs
-halves bs h = ap (λ l. take h bs ++ l) (take_all (length bs - h) (drop h bs) (omega (arith, length-drop h bs))) ∙ take-append-drop h bs
+pub returns-then-len-le1 : goal.returns-then-len-le1
+returns-then-len-le1 t c = says_itself c.args.limit c.args.boards.items
 
 pub returns : goal.returns
 returns t c =
-    says_halves c.args.limit c.args.boards.now (take (length c.args.boards.now / 2) c.args.boards.now) (take (length c.args.boards.now - length c.args.boards.now / 2) (drop (length c.args.boards.now / 2) c.args.boards.now)) c.in_ok-made.made.items c.in_ok-rest.rest.items c.add_behind.new.made.items
-    (halves c.args.boards.now (length c.args.boards.now / 2)) c.in_ok-made.ensures c.in_ok-rest.ensures c.in_ok-add_behind.ensures
+    says_halves c.args.limit c.args.boards.items c.split_off.new.self.items c.in_ok-others.others.items c.in_ok-made.made.items c.in_ok-rest.rest.items c.add_behind.new.made.items
+    ((λ i. c.in_ok-others.ensures.items i ++ c.in_ok-others.ensures.tail i) ∙ take-append-drop (c.len-half.result / 2) c.args.boards.items) c.in_ok-made.ensures c.in_ok-rest.ensures c.in_ok-add_behind.ensures

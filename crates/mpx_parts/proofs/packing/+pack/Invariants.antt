@@ -3,4 +3,4 @@ use Rattle.mpx_parts.proofs.packing.+pack.Given as goal
 
 -- how many boards there are
 abbrev pub decreases-pack : goal.decreases-pack
-decreases-pack l = length l.boards.now
+decreases-pack l = length l.boards.items

@@ -1,17 +1,12 @@
 -- The seam, and the others behind it.
-use Rattle.std.proofs.Common.{◌≡◌, ◌<◌, ◌++◌, ◌∷◌, List, length, set, Option, Some, None, ap, subst}
-use Rattle.std.specs.Prelude.{IfSome}
-use Rattle.std.proofs.lemmas.Option.{same_Some}
+use Rattle.std.proofs.Common.{◌≡◌, ◌<◌, ◌++◌, ◌∷◌, List, length, set, ap, subst}
 use Rattle.std.proofs.lemmas.List.{append-nil}
 use Rattle.mpx_board.specs.declared.board.Board.{Board}
 use Rattle.mpx_parts.specs.Pieces.{Says}
+use Rattle.mpx_parts.proofs.Adding.{some_at}
 use Rattle.mpx_parts.proofs.Joining.{says_itself, says_seam}
 use Rattle.mpx_parts.proofs.packing.add_behind.Goals as goal
 use Rattle.mpx_parts.proofs.packing.add_behind.Goals.{in-Some+in_ok-seam+in-None+in_ok-push-in-None, in-Some+in_ok-seam+in-Some-2, in_default}
-
-some_at : {X : Type 0} (o : Option X) (x : X) (Q : X → Type 0) → IfSome o Q → o ≡ Some x → Q x
-some_at None x Q h is = absurd cc
-some_at (Some y) x Q h is = subst Q (same_Some y x is) h
 
 pub returns : goal.returns
 returns c =

@@ -1,4 +1,4 @@
-use Rattle.std.proofs.Common.{◌≡◌, ◌<◌, false, inl, inr, map, ap, ◌∙◌, sym, Some, arith}
+use Rattle.std.proofs.Common.{◌≡◌, false, inl, inr, map, ap, ◌∙◌, sym, Some, arith}
 use Rattle.std.specs.Prelude.{slice_get}
 use Rattle.std.proofs.lemmas.Bool.{cases_eq}
 use Rattle.mpx_system.specs.Running.{is_waiting_at}

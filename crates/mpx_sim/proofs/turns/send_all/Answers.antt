@@ -1,4 +1,4 @@
-use Rattle.std.proofs.Common.{◌≡◌, ◌<◌, List, Some, map, length, set, subst, sym, ap, ◌∙◌, arith}
+use Rattle.std.proofs.Common.{◌≡◌, List, Some, map, length, set, subst, sym, ap, ◌∙◌, arith}
 use Rattle.std.specs.Prelude.{slice_get}
 use Rattle.std.proofs.lemmas.List.{length-map}
 use Rattle.mpx_system.specs.Running.{IsUnderWay, RankView}
@@ -20,7 +20,7 @@ loop-p-preserved c script ranks size run =
           let kept : IsUnderWay script ranks size rs (map part_of c.loop-p.frames.items) = w.in_ok-made.ensures.keeps script ranks size (map rank_of xs) (map part_of c.loop-p.frames.items) p (element rank_of xs p w.index-processes-p.result (omega arith)) before in
           let many : length (map rank_of xs) ≡ length xs = length-map xs rank_of in
           let there : slice_get rs p ≡ Some new = set_at (map rank_of xs) p new (omega (arith, many)) in
-          let out = w.in_ok-send_each.ensures script ranks size rs p new there w.in_ok-made.ensures.facts kept in
+          let out = w.in_ok-send_each.ensures.run script ranks size rs p new there w.in_ok-made.ensures.facts kept in
           let same : rs ≡ map rank_of c.if-is_free.processes = written rank_of xs p w.sent.new.process ∙ ap (map rank_of) (sym w.processes-is) in
           subst (λ v. IsUnderWay script ranks size (map rank_of c.if-is_free.processes) (map part_of v.items)) (sym w.frames-is)
           (subst (λ qs. IsUnderWay script ranks size qs (map part_of w.send_each.new.frames.items)) same out)
