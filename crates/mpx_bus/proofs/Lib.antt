@@ -1,0 +1,11 @@
+pub mod Spelled
+pub mod Journals
+pub mod Moves
+pub mod Makes
+pub mod Meets
+pub mod Seen
+pub mod Ports
+pub mod Goes
+pub mod Answers
+pub mod Fronts
+pub mod Counts

@@ -1,0 +1,35 @@
+-- Frames with the bytes of boards.
+use Rattle.std.proofs.Common.{◌≡◌, ℕ, zero, suc, List, [], ◌∷◌, ◌++◌, map, take, Some, All, refl, sym, ap, subst}
+use Rattle.std.specs.Prelude.{slice_get}
+use Rattle.std.proofs.lemmas.List.Elements.{All-nil, All-cons, All-head, All-tail}
+use Rattle.std.proofs.lemmas.Option.{same_Some}
+use Rattle.mpx_board.specs.declared.board.Board.{Board}
+use Rattle.mpx_board.specs.Boards.{Look}
+use Rattle.mpx_board.specs.Looks.{look, parts_of}
+use Rattle.mpx_format.specs.Decoding.{Spells}
+use Rattle.mpx_format.proofs.Decoded.{decoded_again}
+use Rattle.mpx_parts.specs.Facts.{OnlyFactsOf}
+use Rattle.mpx_bus.specs.Frames.{shown, part_of, AreSpelled}
+
+pub spelled_push : (frames : List (List ℕ)) (boards : List Board) (i : ℕ) (bytes : List ℕ) (board : Board) → slice_get boards i ≡ Some board → Spells bytes (parts_of board) → AreSpelled frames (take i boards) → AreSpelled (frames ++ bytes ∷ []) (take (suc i) boards)
+spelled_push frames [] i bytes board e s h = cc e
+spelled_push [] (b ∷ bs) zero bytes board e s h = (subst (λ x. Spells bytes (parts_of x)) (sym (same_Some b board e)) s, tt)
+spelled_push (f ∷ fs) (b ∷ bs) zero bytes board e s h = absurd h
+spelled_push [] (b ∷ bs) (suc i) bytes board e s h = absurd h
+spelled_push (f ∷ fs) (b ∷ bs) (suc i) bytes board e s h = (h.0, spelled_push fs bs i bytes board e s h.1)
+
+-- they show these boards
+pub spelled_parts : (frames : List (List ℕ)) (boards : List Board) → AreSpelled frames boards → map part_of frames ≡ map look boards
+spelled_parts [] [] s = refl
+spelled_parts [] (board ∷ boards) s = absurd s
+spelled_parts (bytes ∷ frames) [] s = absurd s
+spelled_parts (bytes ∷ frames) (board ∷ boards) s = λ i. ap shown (decoded_again bytes (parts_of board) s.0) i ∷ spelled_parts frames boards s.1 i
+
+pub spelled_facts : (b : Look) (frames : List (List ℕ)) (boards : List Board) → AreSpelled frames boards → All (λ board. OnlyFactsOf (look board) b) boards → All (λ bytes. OnlyFactsOf (part_of bytes) b) frames
+spelled_facts b [] [] s all = All-nil (λ bytes. OnlyFactsOf (part_of bytes) b)
+spelled_facts b [] (board ∷ boards) s all = absurd s
+spelled_facts b (bytes ∷ frames) [] s all = absurd s
+spelled_facts b (bytes ∷ frames) (board ∷ boards) s all =
+    All-cons (λ xs. OnlyFactsOf (part_of xs) b) bytes frames
+    (subst (λ x. OnlyFactsOf x b) (sym (ap shown (decoded_again bytes (parts_of board) s.0))) (All-head (λ x. OnlyFactsOf (look x) b) board boards all))
+    (spelled_facts b frames boards s.1 (All-tail (λ x. OnlyFactsOf (look x) b) board boards all))

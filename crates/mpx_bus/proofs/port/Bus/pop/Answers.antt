@@ -1,0 +1,8 @@
+use Rattle.mpx_bus.proofs.Answers.{goes_pop, takes_in}
+use Rattle.mpx_bus.proofs.port.Bus.pop.Goals as goal
+
+pub returns-clause-port : goal.returns-clause-port
+returns-clause-port g c = goes_pop _ _ _ c.pop_one.ensures.port c.pop_one.ensures.answer
+
+pub returns-clause-board : goal.returns-clause-board
+returns-clause-board g c = takes_in _ _ _ c.pop_one.ensures.port c.pop_one.ensures.answer

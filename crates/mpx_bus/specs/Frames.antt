@@ -1,0 +1,24 @@
+-- Frames of boards.
+use Rattle.std.specs.Prelude.{ℕ, List, [], ◌∷◌, Result, Ok, Err}
+use Rattle.mpx_board.specs.declared.board.Board.{Board}
+use Rattle.mpx_board.specs.Boards.{Look, empty}
+use Rattle.mpx_board.specs.Contexts.{look_of}
+use Rattle.mpx_board.specs.Looks.{parts_of}
+use Rattle.mpx_board.specs.Parts.{PartsView}
+use Rattle.mpx_format.specs.declared.faults.WireError.{WireError}
+use Rattle.mpx_format.specs.Decoding.{Spells, decoded}
+
+abbrev pub shown : Result PartsView WireError → Look
+shown (Ok v) = look_of v
+shown (Err e) = empty
+
+-- the part that these bytes spell
+abbrev pub part_of : List ℕ → Look
+part_of bytes = shown (decoded bytes)
+
+-- one frame for each board, in the same order, with its bytes
+abbrev pub AreSpelled : List (List ℕ) → List Board → Type 0
+AreSpelled [] [] = Unit {0}
+AreSpelled [] (board ∷ boards) = ⊥
+AreSpelled (bytes ∷ frames) [] = ⊥
+AreSpelled (bytes ∷ frames) (board ∷ boards) = Spells bytes (parts_of board) × AreSpelled frames boards

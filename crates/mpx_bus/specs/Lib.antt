@@ -1,0 +1,8 @@
+pub mod Frames
+pub mod Acts
+pub mod Views
+pub mod Rule
+pub mod Berths
+pub mod Answers
+pub mod Buses
+pub mod Finished

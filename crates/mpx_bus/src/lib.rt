@@ -1,0 +1,15 @@
+//! Processes that share one queue of frames, each with a [`Port`] of its own: a node, whose calls wait for nobody, and its place at
+//! the queue, the [`Bus`]. What all ports do, in whatever threads, is one list of what can happen in a world, and two ports that
+//! [`meet`](Bus::meet) have what they have from one such world.
+#![tactic(auto)]
+
+mod act;
+mod both;
+mod frame;
+mod port;
+mod rule;
+mod trace;
+
+pub use frame::Frame;
+pub use port::{Bus, Met, Pop, Port, Push};
+pub use rule::Named;

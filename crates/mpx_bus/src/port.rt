@@ -1,0 +1,440 @@
+ghost use Rattle.std.specs.Prelude.{◌≡◌, ◌≢◌, ℕ, List, is_some, ◌<◌, ◌≤◌, ◌++◌, ◌∷◌, [], Err, IfOk, IfErr, OnOk, OnErr, IsTrue, is_ok, MatchResult, MatchOption};
+ghost use Rattle.crossbeam_queue.specs.Passes.{view, IsPassOf, IsSamePass, ruled_capacity};
+ghost use Rattle.crossbeam_queue.specs.Fifo.{Pushes, Pops};
+ghost use Rattle.mpx_board.specs.Boards.{floor_on};
+ghost use Rattle.mpx_board.specs.Changes.{pruned};
+ghost use Rattle.mpx_format.specs.Decoding.{decoded};
+ghost use Rattle.mpx_node.specs.Nodes.{Opens, Posts, checked_on, gathers_on, next_result};
+ghost use Rattle.mpx_node.specs.Harvests.{Harvests};
+ghost use Rattle.mpx_node.specs.Shown.{node_of};
+ghost use Rattle.mpx_bus.specs.declared.act.Act.TheVariants as A;
+ghost use Rattle.mpx_bus.specs.Views.{maker as first_view, maker_of, after_push, after_pop, seat_of};
+ghost use Rattle.mpx_bus.specs.Rule.{Sound, Stood};
+ghost use Rattle.mpx_bus.specs.Berths.{CanPush, Goes, GoesOn, HasListed, HaveMet, IsFleet, IsSamePort, KeepsPlan, node_in};
+ghost use Rattle.mpx_bus.specs.Buses.{table_of};
+ghost use Rattle.mpx_bus.specs.Finished.{HaveFinished};
+ghost use Rattle.mpx_bus.specs.Answers.{HarvestsOne, Lists, PopsOne, PushesNext, PushesOne, PushesLast, TakesIn, WantsList};
+
+use crate::both::both_finished;
+use crate::frame::{Frame, frames_of};
+use crate::rule::{Aim, Meets, Named, Names, Place, Queue, Seats, Sends, Takes};
+use crate::trace::{
+    Desk, Line, acknowledged, gathered, harvested, popped, posted, pruned, pushed, stopped, took,
+};
+use join_core::OutOfMemory;
+use mpx_board::PruneError;
+use mpx_group::Proc;
+use mpx_name::Name;
+use mpx_node::{Harvest, Node};
+use mpx_post::{Draft, PostError};
+use std::alloc::{AllocError, Global};
+use std::marker::{Brand, Model};
+use std::sync::Wait;
+
+/// The queue of frames that all ports share.
+#[derive(Drop)]
+pub struct Bus {
+    queue: Queue,
+}
+
+/// A process: its node, its place at the queue, the frames of its list that are not sent yet, and the list of what it did, which
+/// contracts alone see.
+#[derive(Drop)]
+pub struct Port {
+    node: Node,
+    kept: Vec<Frame>,
+    pass: Place,
+    desk: Desk,
+    line: Line,
+}
+
+impl Model for Port {
+    ghost use Rattle.std.specs.Prelude.{◌≡◌, []};
+    ghost use Rattle.crossbeam_queue.specs.Passes.{IsPassOf};
+    ghost use Rattle.mpx_node.specs.Shown.{node_of};
+    ghost use Rattle.mpx_bus.specs.Views.{seat_of};
+    ghost use Rattle.mpx_bus.specs.Berths.{Berth, berth, IsPort, MayPushAll};
+
+    ghost Value = { Berth };
+
+    ghost view = { λ p. berth p.pass.me.0.client p.line.me.0.client p.kept.items p.pass.table_id p.pass.id };
+
+    ghost invariant = { λ p. (p.pass.me.1 ≡ []) × IsPassOf p.desk p.line × IsPort (node_of p.node) p.pass.me.0.client p.line.me.0.client
+        × MayPushAll p.pass.me.0.client.setup (seat_of p.pass.me.0.client).me p.line.me.0.client p.kept.items };
+}
+
+/// What a push came to.
+#[derive(Drop)]
+pub enum Push {
+    /// The frame is in the queue.
+    Pushed,
+    /// The queue was full: the frame comes back, and may be pushed on later.
+    Full(Frame),
+}
+
+/// What a pop came to.
+#[derive(Drop)]
+pub enum Pop {
+    /// The part of this frame is on the port's board.
+    Took(Frame),
+    /// The queue was empty.
+    Empty,
+    /// Memory was wanting to join the part of this frame, which the queue has lost: the port's board is one between the old one
+    /// and the join.
+    OutOfMemory(Frame),
+}
+
+/// What two ports leave when they have met: their nodes, and how many instances both have finished.
+#[derive(Drop)]
+pub struct Met {
+    pub first: Node,
+    pub second: Node,
+    /// How many instances both have finished, or the greatest number where there are more.
+    pub both: u64,
+}
+
+fn push_to<M: Aim, R: Wait>(
+    rt: &R,
+    queue: &Queue,
+    pass: &mut Place,
+    line: &Line,
+    frame: Frame,
+) -> Result<(), Frame>
+    requires queue { IsPassOf queue.now pass.old }
+    requires line { view line.now ≡ M.journal }
+    requires rule { Pushes Sound (ruled_capacity queue.now) pass.old.id (view pass.old) frame
+        (λ w. (w ≡ after_push M.journal frame (view pass.old)) × Stood (view pass.old).setup (seat_of (view pass.old)).me (seat_of w).journal) }
+    ensures queue { IsSamePass pass.old pass.new }
+    ensures rule { MatchResult result
+        (λ _. (view pass.new ≡ after_push (view line.now) frame (view pass.old)) × Stood (view pass.old).setup (seat_of (view pass.old)).me (seat_of (view pass.new)).journal)
+        (λ f. (f ≡ frame) × (view pass.new ≡ view pass.old)) }
+{
+    let _ = line;
+    queue.push_as::<Sends<M>, R>(rt, pass, frame)
+}
+
+fn pop_to<M: Aim, R: Wait>(rt: &R, queue: &Queue, pass: &mut Place, line: &Line) -> Option<Frame>
+    requires queue { IsPassOf queue.now pass.old }
+    requires line { view line.now ≡ M.journal }
+    requires rule { Pops Sound pass.old.id (view pass.old)
+        (λ x w. (w ≡ after_pop M.journal x (view pass.old)) × Stood (view pass.old).setup (seat_of (view pass.old)).me (seat_of w).journal × IsTrue (is_ok (decoded x))) }
+    ensures queue { IsSamePass pass.old pass.new }
+    ensures rule { MatchOption result (view pass.new ≡ view pass.old)
+        (λ x. (view pass.new ≡ after_pop (view line.now) x (view pass.old)) × Stood (view pass.old).setup (seat_of (view pass.old)).me (seat_of (view pass.new)).journal × IsTrue (is_ok (decoded x))) }
+{
+    let _ = line;
+    queue.pop_as::<Takes<M>, R>(rt, pass)
+}
+
+// The maker learns what all agree on.
+fn name_all<N: Named>(queue: &Queue, maker: &mut Place)
+    requires queue { IsPassOf queue.now maker.old }
+    requires first { view maker.old ≡ first_view }
+    ensures queue { IsSamePass maker.old maker.new }
+    ensures named { view maker.new ≡ maker_of N.setup 0 }
+{
+    let _ = queue.another::<Names<N>>(maker);
+}
+
+// A list of nothing done.
+fn opened_line(alloc: Global) -> Result<(Desk, Line), AllocError>
+    ensures { IfOk result (λ l. IsPassOf l.0 l.1 × (view l.1 ≡ [])) }
+{
+    Desk::ruled(alloc, 1)
+}
+
+impl Bus {
+    /// A bus with room for so many frames, and a port for each process, in order; the first processes are ranks. What the ports
+    /// plan to post, where they do, is `N`'s, which contracts alone see.
+    pub fn new<N: Named>(
+        alloc: Global,
+        capacity: usize,
+        ranks: u8,
+        processes: u8,
+    ) -> Result<(Bus, Vec<Port>), OutOfMemory>
+        requires capacity { 0 < capacity }
+        requires most { capacity ≤ 65536 }
+        requires some { 0 < ranks }
+        requires ranks { ranks ≤ processes }
+        requires few { processes ≤ 64 }
+        requires setup { (N.setup.ranks ≡ ranks) × (N.setup.size ≡ processes) }
+        ensures { IfOk result (λ r. IsFleet N.setup (table_of r.0) processes r.1.items) }
+    {
+        let (queue, mut maker) = Queue::ruled(alloc, capacity)?;
+        name_all::<N>(&queue, &mut maker);
+        let mut ports = Vec::new(alloc);
+        for me in 0..processes {
+            let pass = queue.another::<Seats>(&mut maker);
+            let node = Node::new(alloc, Proc::new(me), ranks, processes)?;
+            let (desk, line) = opened_line(alloc)?;
+            let kept = Vec::new(alloc);
+            ports.push(Port {
+                node,
+                kept,
+                pass,
+                desk,
+                line,
+            })?;
+        }
+        Ok((Bus { queue }, ports))
+    }
+
+    /// Pushes the next frame of the port's list of what others may lack of its board, and makes a new list where all of the last
+    /// one were sent: the port then says what it has, and its list is its board without the posts that all processes say that
+    /// they have, in parts whose frames have at most so many bytes. A frame that comes back counts as sent. It may wait.
+    ///
+    /// # Errors
+    /// Memory may be wanting for a new list, and then the port has done nothing, or has said what it has.
+    pub fn push_own<R: Wait>(
+        &self,
+        rt: &R,
+        alloc: Global,
+        port: &mut Port,
+        limit: usize,
+    ) -> Result<Push, OutOfMemory>
+        requires queue { port.old.table ≡ table_of self.now }
+        requires plan { KeepsPlan port.old }
+        requires least { 524288 ≤ limit }
+        requires most { limit ≤ 1048576 }
+        ensures port { GoesOn port.old port.new }
+        ensures next { IfOk result (λ push. PushesNext push port.old port.new) }
+        ensures err { OnErr result (WantsList port.old port.new) }
+    {
+        port.lists(alloc, limit)?;
+        Ok(self.push_kept(rt, port))
+    }
+
+    // Pushes the last of the frames that the port keeps.
+    fn push_kept<R: Wait>(&self, rt: &R, port: &mut Port) -> Push
+        requires queue { port.old.table ≡ table_of self.now }
+        requires plan { KeepsPlan port.old }
+        requires some { port.old.kept ≢ [] }
+        ensures port { GoesOn port.old port.new }
+        ensures next { (bytes : List ℕ) × (port.old.kept ≡ port.new.kept ++ bytes ∷ []) × PushesLast bytes result port.old port.new }
+    {
+        let Some(frame) = port.kept.pop() else {
+            unreachable!()
+        };
+        self.push(rt, port, frame)
+    }
+
+    // Pushes a frame that may be pushed. Where the queue is full, it comes back.
+    fn push<R: Wait>(&self, rt: &R, port: &mut Port, frame: Frame) -> Push
+        requires queue { port.old.table ≡ table_of self.now }
+        requires plan { KeepsPlan port.old }
+        requires frame { CanPush port.old frame }
+        ensures port { IsSamePort port.old port.new }
+        ensures kept { port.new.kept ≡ port.old.kept }
+        ensures answer { PushesOne frame result port.old port.new }
+    {
+        let next = pushed::<Brand>(&port.desk, &mut port.line, &frame);
+        match push_to::<Brand, R>(rt, &self.queue, &mut port.pass, &port.line, frame) {
+            Ok(()) => {
+                port.line = next;
+                Push::Pushed
+            }
+            Err(frame) => Push::Full(frame),
+        }
+    }
+
+    /// Pushes a frame that this port popped or that was refused to it, or a copy of one. It may wait, and takes no memory.
+    pub fn push_on<R: Wait>(&self, rt: &R, port: &mut Port, frame: Frame) -> Push
+        requires queue { port.old.table ≡ table_of self.now }
+        requires plan { KeepsPlan port.old }
+        requires frame { CanPush port.old frame }
+        ensures port { GoesOn port.old port.new }
+        ensures kept { port.new.kept ≡ port.old.kept }
+        ensures answer { PushesOne frame result port.old port.new }
+    {
+        self.push(rt, port, frame)
+    }
+
+    /// Pops a frame, and joins its part to the port's board. It may wait.
+    pub fn pop<R: Wait>(&self, rt: &R, alloc: Global, port: &mut Port) -> Pop
+        requires queue { port.old.table ≡ table_of self.now }
+        requires plan { KeepsPlan port.old }
+        ensures port { GoesOn port.old port.new }
+        ensures kept { port.new.kept ≡ port.old.kept }
+        ensures answer { PopsOne result port.old port.new }
+        ensures board { TakesIn result (node_in port.old) (node_in port.new) }
+    {
+        self.pop_one(rt, alloc, port)
+    }
+
+    fn pop_one<R: Wait>(&self, rt: &R, alloc: Global, port: &mut Port) -> Pop
+        requires queue { port.old.table ≡ table_of self.now }
+        requires plan { KeepsPlan port.old }
+        ensures port { IsSamePort port.old port.new }
+        ensures kept { port.new.kept ≡ port.old.kept }
+        ensures answer { PopsOne result port.old port.new }
+    {
+        let Some(frame) = pop_to::<Brand, R>(rt, &self.queue, &mut port.pass, &port.line) else {
+            return Pop::Empty;
+        };
+        popped::<Brand>(&port.desk, &mut port.line, &frame);
+        let Ok(board) = frame.opened(alloc) else {
+            return Pop::OutOfMemory(frame);
+        };
+        match port.node.take(alloc, &board) {
+            Ok(()) => {
+                took::<Brand>(&port.desk, &mut port.line, &frame);
+                Pop::Took(frame)
+            }
+            Err(_) => {
+                stopped::<Brand>(&port.desk, &mut port.line, &frame, port.node.board());
+                Pop::OutOfMemory(frame)
+            }
+        }
+    }
+
+    /// Takes in two ports for good, and gives their nodes as they are. All that both did is of one sound world. It makes no push
+    /// and no pop.
+    pub fn meet(&self, first: Port, second: Port) -> Met
+        requires first { first.table ≡ table_of self.now }
+        requires second { second.table ≡ table_of self.now }
+        requires setup { second.setup ≡ first.setup }
+        ensures first { node_of result.first ≡ node_in first }
+        ensures second { node_of result.second ≡ node_in second }
+        ensures both { HaveFinished (node_in first) (node_in second) result.both }
+        ensures history { HaveMet first second }
+    {
+        let Port {
+            node: first,
+            kept: _,
+            mut pass,
+            desk: _,
+            line: _,
+        } = first;
+        let Port {
+            node: second,
+            kept: _,
+            pass: other,
+            desk: _,
+            line: _,
+        } = second;
+        self.queue.absorb::<Meets>(&mut pass, other);
+        self.queue.learn_as::<Meets>(&mut pass);
+        let both = both_finished(&first, &second);
+        Met {
+            first,
+            second,
+            both,
+        }
+    }
+}
+
+impl Port {
+    /// The port's node.
+    pub fn node(&self) -> &Node
+        ensures { node_of result.now ≡ node_in self.now }
+    {
+        &self.node
+    }
+
+    /// Posts the draft as the next call on a context, as [`Node::post`] does.
+    pub fn post(&mut self, alloc: Global, name: &Name, draft: Draft) -> Result<u32, PostError>
+        ensures port { Goes self.old self.new }
+        ensures still { (self.new.published ≡ self.old.published) × (self.new.kept ≡ self.old.kept) }
+        ensures ok { OnOk result (self.new.journal ≡ self.old.journal ++ A.Posted name.now draft ∷ []) }
+        ensures err { OnErr result (self.new ≡ self.old) }
+        ensures node { Posts name.now (checked_on (node_in self.old) name.now draft) result (node_in self.old) (node_in self.new) }
+    {
+        let next = posted::<Brand>(&self.desk, &mut self.line, name, &draft);
+        match self.node.post(alloc, name, draft) {
+            Ok(call) => {
+                self.line = next;
+                Ok(call)
+            }
+            Err(refusal) => Err(refusal),
+        }
+    }
+
+    /// Stores the result of the next call on a context, as [`Node::harvest`] does.
+    pub fn harvest(&mut self, alloc: Global, name: &Name) -> Result<Harvest, OutOfMemory>
+        ensures port { GoesOn self.old self.new }
+        ensures still { (self.new.published ≡ self.old.published) × (self.new.kept ≡ self.old.kept) }
+        ensures journal { HarvestsOne name.now result self.old self.new }
+        ensures node { Harvests (is_some ((node_in self.old).opened name.now)) name.now (next_result (node_in self.old) name.now) result (node_in self.old) (node_in self.new) }
+    {
+        match self.node.harvest(alloc, name)? {
+            Harvest::Done(call) => {
+                harvested::<Brand>(&self.desk, &mut self.line, name);
+                Ok(Harvest::Done(call))
+            }
+            Harvest::NotYet => Ok(Harvest::NotYet),
+            Harvest::NotOpened => Ok(Harvest::NotOpened),
+        }
+    }
+
+    /// Opens a gathering, as [`Node::open_gathering`] does.
+    pub fn open_gathering(
+        &mut self,
+        alloc: Global,
+        parent: &Name,
+        tag: i128,
+        ranks: &[i128],
+    ) -> Result<Name, PostError>
+        ensures port { GoesOn self.old self.new }
+        ensures still { (self.new.published ≡ self.old.published) × (self.new.kept ≡ self.old.kept) }
+        ensures ok { OnOk result (self.new.journal ≡ self.old.journal ++ A.Gathered parent.now tag ranks.now ∷ []) }
+        ensures err { OnErr result (self.new ≡ self.old) }
+        ensures node { Opens parent.now (gathers_on (node_in self.old) parent.now tag ranks.now) result (node_in self.old) (node_in self.new) }
+    {
+        match self.node.open_gathering(alloc, parent, tag, ranks) {
+            Ok(name) => {
+                gathered::<Brand>(&self.desk, &mut self.line, parent, tag, ranks);
+                Ok(name)
+            }
+            Err(refusal) => Err(refusal),
+        }
+    }
+
+    /// Drops the posts of calls below the number on a context, as [`Node::prune`] does. It takes no memory.
+    pub fn prune(&mut self, name: &Name, number: u32) -> Result<(), PruneError>
+        ensures port { GoesOn self.old self.new }
+        ensures still { (self.new.published ≡ self.old.published) × (self.new.kept ≡ self.old.kept) }
+        ensures answer { result ≡ pruned (floor_on (node_in self.old).board name.now) number }
+        ensures ok { OnOk result (self.new.journal ≡ self.old.journal ++ A.Pruned name.now number ∷ []) }
+        ensures err { OnErr result (self.new ≡ self.old) }
+    {
+        match self.node.prune(name, number) {
+            Ok(()) => {
+                pruned::<Brand>(&self.desk, &mut self.line, name, number);
+                Ok(())
+            }
+            Err(refusal) => Err(refusal),
+        }
+    }
+
+    // Makes a new list, where all frames of the last one were sent.
+    fn lists(&mut self, alloc: Global, limit: usize) -> Result<(), OutOfMemory>
+        requires least { 524288 ≤ limit }
+        requires most { limit ≤ 1048576 }
+        ensures port { GoesOn self.old self.new }
+        ensures ok { OnOk result (Lists self.old self.new) }
+        ensures some { OnOk result (self.new.kept ≢ []) }
+        ensures err { OnErr result (WantsList self.old self.new) }
+    {
+        if self.kept.as_slice().is_empty() {
+            self.new_list(alloc, limit)
+        } else {
+            Ok(())
+        }
+    }
+
+    // Says what the process has, and keeps the frames of what others may lack of its board.
+    fn new_list(&mut self, alloc: Global, limit: usize) -> Result<(), OutOfMemory>
+        requires none { self.old.kept ≡ [] }
+        requires least { 524288 ≤ limit }
+        requires most { limit ≤ 1048576 }
+        ensures port { GoesOn self.old self.new }
+        ensures ok { OnOk result (HasListed self.old self.new) }
+        ensures some { OnOk result (self.new.kept ≢ []) }
+        ensures err { OnErr result (WantsList self.old self.new) }
+    {
+        let made = self.node.deltas(alloc, limit)?;
+        acknowledged::<Brand>(&self.desk, &mut self.line, self.node.board());
+        self.kept = frames_of(alloc, made.as_slice())?;
+        Ok(())
+    }
+}
