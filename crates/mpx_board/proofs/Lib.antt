@@ -1,3 +1,4 @@
+mod Copying
 pub mod Entries
 pub mod Shown
 pub mod Tidiness

@@ -11,11 +11,12 @@ ghost use Rattle.mpx_board.specs.Tidy.{are_tidy_numbers, is_tidy, is_unknown};
 ghost use Rattle.mpx_board.specs.Views.{view_of_acks, view_of_call, view_of_entries, view_of_entry, view_of_parts};
 
 use crate::acks::{one_ack, put_joined};
+use crate::copies::copied_acks;
 use crate::errors::{AddPostError, PruneError};
 use crate::fact::{Fact, drop_posts, tell};
 use crate::joins::{
-    copied_acks, copied_entries, delta_of_acks, delta_of_entries, join_parts_in, joined_acks,
-    joined_entries, leq_acks, leq_entries, same_acks, same_entries,
+    copied_entries, delta_of_acks, delta_of_entries, join_parts_in, joined_acks, joined_entries,
+    leq_acks, leq_entries, same_acks, same_entries,
 };
 use crate::nested::{Acks, Call, Entry, Parts, is_tidy_board, known, number_of};
 use join_core::{Exact, Flat, Join, OutOfMemory, Pair};

@@ -36,15 +36,6 @@ pub fn copied_entries(
     entries.copy(alloc)
 }
 
-pub fn copied_acks(
-    alloc: Global,
-    acks: &Keyed<Proc, Acks>,
-) -> Result<Keyed<Proc, Acks>, OutOfMemory>
-    ensures { IfOk result (λ made. keyed_view nat_cmp view_of_acks made.entries.items ≡ keyed_view nat_cmp view_of_acks acks.now.entries.items) }
-{
-    acks.copy(alloc)
-}
-
 pub fn leq_entries(left: &Keyed<Name, Entry>, right: &Keyed<Name, Entry>) -> bool
     ensures { result ≡ (keyed_joining entry_joining).leq (view_of_entries left.now) (view_of_entries right.now) }
 {

@@ -8,6 +8,7 @@
 
 mod acks;
 mod board;
+mod copies;
 mod errors;
 mod fact;
 mod joins;

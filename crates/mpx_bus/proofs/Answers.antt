@@ -8,8 +8,9 @@ use Rattle.mpx_bus.specs.declared.port.Pop.{Pop}
 use Rattle.mpx_bus.specs.declared.port.Pop.TheVariants as O
 use Rattle.mpx_node.specs.Nodes.{learn}
 use Rattle.mpx_world.specs.Worlds.{ProcessView}
-use Rattle.mpx_bus.specs.Acts.{part_of, node_at}
+use Rattle.mpx_bus.specs.Acts.{part_of, node_at, DidIn}
 use Rattle.mpx_bus.specs.Berths.{Berth, CanPush, IsSamePort, GoesOn, node_in}
+use Rattle.mpx_bus.proofs.Journals.{did_before, did_last}
 use Rattle.mpx_bus.proofs.Moves.{pop_same}
 use Rattle.mpx_bus.proofs.Ports.{node_more}
 use Rattle.mpx_bus.specs.Answers.{PushesOne, PushesLast, PushesNext, Lists, PopsOne, Stopped, Wants, TakesIn}
@@ -62,3 +63,9 @@ next_of_list push a mid b l p = record { listed = mid; lists = l; bytes = p.0; n
 -- a frame that comes back may be pushed on
 pub full_can_push : (push : Push) (frame : List ℕ) (a b : Berth) → push ≡ P.Full frame → PushesNext push a b → CanPush b frame
 full_can_push push frame a b is n = (subst (λ q. PushesLast n.bytes q n.listed b) is n.pushes).1.1
+
+-- so may one that was popped
+pub took_can_push : (pop : Pop) (frame : List ℕ) (a b : Berth) → pop ≡ O.Took frame → PopsOne pop a b → CanPush b frame
+took_can_push pop frame a b is p =
+    inr (subst (λ j. DidIn j (A.Popped frame)) (sym (subst (λ q. PopsOne q a b) is p))
+    (did_before (a.journal ++ A.Popped frame ∷ []) (A.Took frame ∷ []) (A.Popped frame) (did_last a.journal (A.Popped frame))))

@@ -5,11 +5,14 @@ ghost use Rattle.mpx_board.specs.Parts.{OfProcesses, AcksView};
 ghost use Rattle.mpx_board.specs.Tidy.{has_no_zero, is_tidy_numbers, is_tidy_acks};
 ghost use Rattle.mpx_board.specs.Views.{view_of_numbers, view_of_acks};
 ghost use Rattle.mpx_format.specs.Fields.{process, call, some_calls, numbers, fronts};
+ghost use Rattle.join_nest.specs.Seen.{seen};
+ghost use Rattle.mpx_encode.specs.Entries.{entries_spelled, entry_spelled};
 ghost use Rattle.mpx_encode.specs.Room.{room_left};
 
 use crate::room::room_left;
-use crate::write_entries::{WriteKey, WriteValue, room_after_counted, write_entries};
+use crate::write_entries::{WriteKey, WriteValue, room_after_counted};
 use crate::write_numbers::{write_u8, write_u32};
+use byteorder::{BigEndian, ByteOrder};
 use join_core::{Max, OutOfMemory};
 use mpx_board::VersionVector;
 use mpx_group::Proc;
@@ -86,7 +89,7 @@ impl WriteValue for VersionVector {
     fn write(&self, out: &mut Vec<u8>) -> Result<(), OutOfMemory> {
         let entries = self.entries();
         write_u8(entries.len() as u8, out)?;
-        write_entries(entries, out)
+        write_rows(entries, out)
     }
 }
 
@@ -106,5 +109,27 @@ pub fn write_fronts(numbers: &VersionVector, out: &mut Vec<u8>) -> Result<(), Ou
 {
     let entries = numbers.entries();
     write_u8(entries.len() as u8, out)?;
-    write_entries(entries, out)
+    write_rows(entries, out)
+}
+
+// Writes processes with their numbers at the end.
+fn write_rows(rows: &[(Proc, Max)], out: &mut Vec<u8>) -> Result<(), OutOfMemory>
+    ensures { OnOk result (out.new.items ≡ out.old.items ++ entries_spelled process some_calls (seen (λ n. n.0) rows.now)) }
+{
+    for row in rows {
+        write_row(row, out)?;
+    }
+    Ok(())
+}
+
+// The five bytes of one at once.
+#[tactic(auto, unfolding(mpx_format::specs::Fields::process, mpx_format::specs::Fields::some_calls))]
+fn write_row(row: &(Proc, Max), out: &mut Vec<u8>) -> Result<(), OutOfMemory>
+    ensures { OnOk result (out.new.items ≡ out.old.items ++ entry_spelled process some_calls (row.now.0, row.now.1.0)) }
+{
+    let mut bytes = [0u8; 5];
+    bytes[0] = row.0.number();
+    BigEndian::write_u32(&mut bytes[1..], row.1.0);
+    out.extend_from_slice(&bytes)?;
+    Ok(())
 }

@@ -1,10 +1,12 @@
 //! The words of a call, and the job that they ask for.
 ghost use Rattle.std.specs.Prelude.{◌≡◌, ◌≤◌, ◌⊎◌, IfErr, IfOk, IfSome, None, Some, length, map, string_bytes};
-ghost use Rattle.clap.specs.Words.{kind_of};
+ghost use Rattle.clap.specs.Words.{HasKind, kind_of};
+ghost use Rattle.mpx_words.specs.Usage.{refusal_kinds};
 ghost use Rattle.mpx_words.specs.Words.{alone, complaint, complaint_of, job_in, limits_of, number_within, options_in, usual, with_option};
 
+use crate::program::program;
+use clap::Error;
 use clap::error::ErrorKind;
-use clap::{Arg, Error};
 use mpx_job::{Command, Job, Options};
 use mpx_num::parse_number;
 use std::alloc::{AllocError, Global};
@@ -16,6 +18,7 @@ use std::alloc::{AllocError, Global};
 pub fn job_of(alloc: Global, words: &[String]) -> Result<Job, Error>
     ensures ok { IfOk result (λ job. job_in (map string_bytes words.now) ≡ Some job) }
     ensures err { IfErr result (λ e. job_in (map string_bytes words.now) ≡ None) }
+    ensures kind { IfErr result (HasKind (refusal_kinds (map string_bytes words.now))) }
 {
     match job_in(words) {
         Some(job) => Ok(job),
@@ -123,86 +126,10 @@ fn number_within(least: u64, most: u64, word: &[u8]) -> Option<u64>
     }
 }
 
-// The program's commands, as clap explains them. Each of the functions below has few commands and arguments at once.
-fn program<'a>(alloc: Global) -> Result<clap::Command<'a>, AllocError> {
-    let commands = commands(alloc)?;
-    bare_program(alloc)?.subcommands(commands)
-}
-
-// The program without its commands.
-fn bare_program<'a>(alloc: Global) -> Result<clap::Command<'a>, AllocError> {
-    clap::Command::new(alloc, "gossipmpi")
-        .about("Run, evaluate or check a text script of MPI collectives for up to 64 ranks")
-        .subcommand_required(true)
-        .arg_required_else_help(true)
-        .bin_name("gossipmpi")
-}
-
-fn commands<'a>(alloc: Global) -> Result<Vec<clap::Command<'a>>, AllocError> {
-    let mut commands = Vec::new(alloc);
-    commands.push(run(alloc)?)?;
-    for (name, about) in &BARE_COMMANDS {
-        commands.push(command(alloc, name, about))?;
-    }
-    Ok(commands)
-}
-
-// The commands without options, and what each does.
-const BARE_COMMANDS: [(&str, &str); 2] = [
-    (
-        "eval",
-        "Evaluate the script on the standard input (gossipmpi eval < SCRIPT), and print what each rank gets",
-    ),
-    (
-        "check",
-        "Read the script on the standard input (gossipmpi check < SCRIPT), and print how many ranks and statements it has",
-    ),
-];
-
-fn run<'a>(alloc: Global) -> Result<clap::Command<'a>, AllocError> {
-    let options = options(alloc)?;
-    command(
-        alloc,
-        "run",
-        "Run the script on the standard input (gossipmpi run < SCRIPT) and print what each rank gets",
-    )
-    .args(options)
-}
-
-fn command<'a>(alloc: Global, name: &'a str, about: &'a str) -> clap::Command<'a> {
-    clap::Command::new(alloc, name).about(about)
-}
-
-fn options<'a>(alloc: Global) -> Result<Vec<Arg<'a>>, AllocError> {
-    let mut options = Vec::new(alloc);
-    for (name, help) in &OPTIONS {
-        options.push(Arg::new(alloc, name).long(name).help(help))?;
-    }
-    Ok(options)
-}
-
-// The options of `run`, and what each says.
-const OPTIONS: [(&str, &str); 4] = [
-    (
-        "seed",
-        "What loss, order and receivers are drawn from, 0 to 18446744073709551615 [default: 1]",
-    ),
-    (
-        "loss",
-        "How many frames of a hundred are lost, 0 to 100 [default: 0]",
-    ),
-    (
-        "relays",
-        "How many processes only carry frames, 0 to 63 [default: 0]",
-    ),
-    (
-        "turns",
-        "How many turns are made at most, 1 to 10000000 [default: 100000]",
-    ),
-];
-
 // Why the words ask for no job: clap's refusal, or what the first option that gives none should be followed by.
-fn no_job(alloc: Global, words: &[String]) -> Error {
+fn no_job(alloc: Global, words: &[String]) -> Error
+    ensures { HasKind (refusal_kinds (map string_bytes words.now)) result }
+{
     let Ok(program) = program(alloc) else {
         return Error::from(AllocError);
     };

@@ -4,5 +4,6 @@
 #![tactic(auto)]
 
 mod command;
+mod program;
 
 pub use command::{complaint_of, job_of, not_text};

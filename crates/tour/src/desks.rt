@@ -32,15 +32,15 @@ pub fn numbers(alloc: Global, list: &[i128]) -> Result<Numbers, Stop>
     Ok(Numbers::new(alloc, Vec::from_slice(alloc, list)?)?)
 }
 
-// The first number that a call gave.
-fn number_of(finished: &Finished) -> Result<i128, Stop> {
+/// The first number that a call gave.
+pub fn number_of(finished: &Finished) -> Result<i128, Stop> {
     match &finished.outcome {
         Outcome::Items(items) => items.nums().first().copied().ok_or(Stop::NoAnswer),
         _ => Err(Stop::NoAnswer),
     }
 }
 
-/// The first number that a call gave. The result is dropped here, so that no exit of a caller drops it.
+/// The same. The result is dropped here, so that no exit of a caller drops it.
 pub fn number_in(finished: Finished) -> Result<i128, Stop> {
     let number = number_of(&finished);
     drop(finished);

@@ -6,6 +6,7 @@ mod desks;
 mod inbox;
 mod making;
 mod stop;
+mod threads;
 mod tour;
 
 use std::io;
@@ -14,7 +15,7 @@ use std::process::ExitCode;
 use tour::print_tour;
 
 fn main(rt: HostRuntime) -> ExitCode {
-    match print_tour(rt.alloc(), &mut io::writer(&rt)) {
+    match print_tour(&rt, rt.alloc(), &mut io::writer(&rt)) {
         Ok(()) => ExitCode::SUCCESS,
         Err(stop) => {
             let _told = writeln!(rt.stderr(), "{stop}");

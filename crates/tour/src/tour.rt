@@ -3,10 +3,13 @@ use crate::asking::{any_sum, refusal, sum_from_inbox, two_sums};
 use crate::desks::desk_of;
 use crate::making::{group, neighbours, split_apart, split_by_key};
 use crate::stop::Stop;
+use crate::threads::sum_in_threads;
 use mpx_comm::{Comm, Desk};
 use mpx_node::Node;
 use std::alloc::Global;
 use std::io::Write;
+use std::sync::Wait;
+use std::thread::Threads;
 
 // A line of two numbers.
 fn print_two<W: Write>(out: &mut W, word: &str, numbers: (i128, i128)) -> Result<(), Stop> {
@@ -60,13 +63,28 @@ fn print_all<W: Write>(
     print_communicators(alloc, left, right, (&here, &there), out)
 }
 
+// The line of threads.
+fn print_threads<R: Threads + Wait + Sync, W: Write>(
+    rt: &R,
+    alloc: Global,
+    out: &mut W,
+) -> Result<(), Stop> {
+    let (sum, both) = sum_in_threads(rt, alloc)?;
+    print_two(out, "threads", (sum, i128::from(both)))
+}
+
 /// Prints the tour.
-pub fn print_tour<W: Write>(alloc: Global, out: &mut W) -> Result<(), Stop> {
+pub fn print_tour<R: Threads + Wait + Sync, W: Write>(
+    rt: &R,
+    alloc: Global,
+    out: &mut W,
+) -> Result<(), Stop> {
     let mut left = desk_of(alloc, 0, 2)?;
     let mut right = desk_of(alloc, 1, 2)?;
     let answer = print_all(alloc, &mut left, &mut right, out);
     drop(left);
     drop(right);
     answer?;
+    print_threads(rt, alloc, out)?;
     Ok(out.flush()?)
 }

@@ -1,0 +1,22 @@
+-- Which kinds a refusal may have.
+use Rattle.std.proofs.Common.{◌≡◌, true, List, [], ◌∷◌, inl, inr, refl, ap, ◌∙◌, subst}
+use Rattle.clap.specs.Kinds.{HasKind, Kinds, or_else}
+use Rattle.clap.specs.Faults.{fault_of, is_simple_and_free}
+use Rattle.clap.specs.Simple.{App}
+use Rattle.clap.specs.Walk.{Text}
+use Rattle.clap.specs.declared.error.Error.{Error}
+use Rattle.mpx_words.specs.Usage.{usage}
+
+-- the first kinds are among the first or the second ones
+pub has_first : (first more : Kinds) (e : Error) → HasKind first e → HasKind (or_else first more) e
+has_first [] more e (inl h) = inl h
+has_first [] more e (inr h) = absurd h
+has_first (k ∷ first) more e h = h
+
+-- no option hangs on another one
+usage_is_free : is_simple_and_free usage ≡ true
+usage_is_free = refl
+
+-- what clap says of a command that is the program's
+pub told_of_usage : (a : App) (words : List Text) (e : Error) → a ≡ usage → (is_simple_and_free a ≡ true → HasKind (fault_of a words) e) → HasKind (fault_of usage words) e
+told_of_usage a words e is told = subst (λ b. HasKind (fault_of b words) e) is (told (ap is_simple_and_free is ∙ usage_is_free))

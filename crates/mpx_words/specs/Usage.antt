@@ -1,0 +1,28 @@
+-- The program's commands and options as clap sees them, and which kinds a refusal may have.
+use Rattle.std.specs.Prelude.{false, true, List, [], ◌∷◌, Some, codes}
+use Rattle.clap.specs.Walk.{Text}
+use Rattle.clap.specs.Simple.{App, Shape, new_rule, new_shape}
+use Rattle.clap.specs.declared.error.kind.ErrorKind.TheVariants as kind
+use Rattle.clap.specs.Kinds.{Kinds, or_else}
+use Rattle.clap.specs.Faults.{fault_of}
+
+-- `run` with its options, each of which is followed by a value
+abbrev pub run : Shape
+run = record (new_shape (codes "run")) {
+  rules = record (new_rule (codes "seed")) { long = Some (codes "seed") }
+      ∷ record (new_rule (codes "loss")) { long = Some (codes "loss") }
+      ∷ record (new_rule (codes "relays")) { long = Some (codes "relays") }
+      ∷ record (new_rule (codes "turns")) { long = Some (codes "turns") }
+      ∷ [];
+}
+
+-- one of `run`, `eval` and `check` is wanted
+abbrev pub usage : App
+usage = record {
+  top = record (new_shape (codes "gossipmpi")) { is_leaf = false; arg_required_else_help = true; subcommand_required = true };
+  subs = run ∷ new_shape (codes "eval") ∷ new_shape (codes "check") ∷ [];
+}
+
+-- clap's, where it refuses the words (`--help` counts as refused); else the value of an option is wrong
+abbrev pub refusal_kinds : List Text → Kinds
+refusal_kinds words = or_else (fault_of usage words) (kind.InvalidValue ∷ [])

@@ -1,0 +1,152 @@
+//! Two ranks in a thread each, on one bus.
+ghost use Rattle.std.specs.Prelude.{◌≡◌, false, IfOk};
+ghost use Rattle.mpx_bus.specs.Berths.{HaveMet, IsSamePort, node_in};
+ghost use Rattle.mpx_bus.specs.Buses.{table_of};
+ghost use Rattle.mpx_bus.specs.Finished.{HaveFinished};
+
+use crate::desks::number_of;
+use crate::stop::Stop;
+use mpx_bus::{Bus, Pop, Port, Push};
+use mpx_name::Name;
+use mpx_node::{Harvest, Node};
+use mpx_num::{Numbers, Op, Ty};
+use mpx_post::{Call, Draft, Kind};
+use std::alloc::Global;
+use std::marker::Brand;
+use std::sync::Wait;
+use std::thread::{Threads, join, yield_now};
+
+// The most bytes of a frame.
+const LIMIT: usize = 1_048_576;
+
+// The most turns of a rank.
+const TURNS: u32 = 10_000_000;
+
+// The rank posts its number to the sum of all.
+fn post_number(alloc: Global, port: &mut Port, number: i128) -> Result<(), Stop>
+    ensures { IsSamePort port.old port.new }
+{
+    let draft = Draft {
+        call: Call::blocking(Kind::Allreduce),
+        root: 0,
+        op: Op::Sum,
+        ty: Ty::I32,
+        scounts: Numbers::none(),
+        rcounts: Numbers::none(),
+        items: Numbers::one(number),
+        colour: None,
+        key: 0,
+        group: Numbers::none(),
+        graph: None,
+    };
+    port.post(alloc, &Name::world(alloc), draft)?;
+    Ok(())
+}
+
+// Pushes the next frame of what others may lack, and pops one; a frame that came back goes in then. Whether the sum is done.
+fn turn<R: Wait>(rt: &R, alloc: Global, bus: &Bus, port: &mut Port) -> Result<bool, Stop>
+    requires queue { port.old.table ≡ table_of bus.now }
+    requires plan { port.old.setup.planned ≡ false }
+    ensures { IsSamePort port.old port.new }
+{
+    let pushed = bus.push_own(rt, alloc, port, LIMIT)?;
+    let popped = bus.pop(rt, alloc, port);
+    if let Push::Full(frame) = pushed {
+        let _ = bus.push_on(rt, port, frame);
+    }
+    if let Pop::OutOfMemory(_) = popped {
+        return Err(Stop::OutOfMemory);
+    }
+    Ok(port.harvest(alloc, &Name::world(alloc))? == Harvest::Done(0))
+}
+
+// Turns until the sum is done, and one push more, so that the other gets on.
+fn work<R: Wait>(rt: &R, alloc: Global, bus: &Bus, port: &mut Port) -> Result<(), Stop>
+    requires queue { port.old.table ≡ table_of bus.now }
+    requires plan { port.old.setup.planned ≡ false }
+    ensures { IsSamePort port.old port.new }
+{
+    for _ in 0..TURNS {
+        if turn(rt, alloc, bus, port)? {
+            bus.push_own(rt, alloc, port, LIMIT)?;
+            return Ok(());
+        }
+        yield_now();
+    }
+    Err(Stop::NoAnswer)
+}
+
+// The port once it has worked, and how that ended.
+fn worked<R: Wait>(rt: &R, alloc: Global, bus: &Bus, mut port: Port) -> (Port, Result<(), Stop>)
+    requires queue { port.table ≡ table_of bus.now }
+    requires plan { port.setup.planned ≡ false }
+    ensures { IsSamePort port result.0 }
+{
+    let ended = work(rt, alloc, bus, &mut port);
+    (port, ended)
+}
+
+// What the node has of the sum.
+fn sum_at(alloc: Global, node: &Node) -> Result<i128, Stop> {
+    match node.result(&Name::world(alloc), 0) {
+        Some(finished) => number_of(finished),
+        None => Err(Stop::NoAnswer),
+    }
+}
+
+// The sum at the first of two ports that meet, and how many instances both have finished.
+fn sum_where_met(alloc: Global, bus: &Bus, first: Port, second: Port) -> Result<(i128, u64), Stop>
+    requires first { first.table ≡ table_of bus.now }
+    requires second { second.table ≡ table_of bus.now }
+    requires setup { second.setup ≡ first.setup }
+    ensures history { HaveMet first second }
+    ensures both { IfOk result (λ r. HaveFinished (node_in first) (node_in second) r.1) }
+{
+    let met = bus.meet(first, second);
+    Ok((sum_at(alloc, &met.first)?, met.both))
+}
+
+// Two ports in a thread each, which then meet.
+fn run_both<R: Threads + Wait + Sync>(
+    rt: &R,
+    alloc: Global,
+    bus: &Bus,
+    mut first: Port,
+    mut second: Port,
+) -> Result<(i128, u64), Stop>
+    requires first { (first.table ≡ table_of bus.now) × (first.setup.planned ≡ false) }
+    requires second { (second.table ≡ table_of bus.now) × (second.setup.planned ≡ false) }
+    requires setup { second.setup ≡ first.setup }
+{
+    post_number(alloc, &mut first, 1)?;
+    post_number(alloc, &mut second, 2)?;
+    let ((first, first_ended), (second, second_ended)) = join(
+        rt,
+        move || -> (Port, Result<(), Stop>)
+            requires { (first.table ≡ table_of bus.now) × (first.setup.planned ≡ false) }
+            ensures { IsSamePort first result.0 }
+        { worked(rt, alloc, bus, first) },
+        move || -> (Port, Result<(), Stop>)
+            requires { (second.table ≡ table_of bus.now) × (second.setup.planned ≡ false) }
+            ensures { IsSamePort second result.0 }
+        { worked(rt, alloc, bus, second) },
+    );
+    first_ended?;
+    second_ended?;
+    sum_where_met(alloc, bus, first, second)
+}
+
+/// The sum of two ranks in a thread each, and how many instances both have finished.
+pub fn sum_in_threads<R: Threads + Wait + Sync>(
+    rt: &R,
+    alloc: Global,
+) -> Result<(i128, u64), Stop> {
+    let (bus, mut ports) = Bus::new::<Brand>(alloc, 4, 2, 2)?;
+    let Some(second) = ports.pop() else {
+        return Err(Stop::NoAnswer);
+    };
+    let Some(first) = ports.pop() else {
+        return Err(Stop::NoAnswer);
+    };
+    run_both(rt, alloc, &bus, first, second)
+}
