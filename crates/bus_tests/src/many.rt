@@ -1,31 +1,64 @@
 //! Eight ports on a queue with room for one frame.
 ghost use Rattle.std.specs.Prelude.{◌≡◌, false, All};
-ghost use Rattle.mpx_bus.specs.Berths.{IsSamePort};
+ghost use Rattle.mpx_bus.specs.Berths.{CanPush, GoesOn, IsSamePort};
 ghost use Rattle.mpx_bus.specs.Buses.{table_of};
 ghost use Rattle.bus_tests.specs.Homes.{IsHome};
 
 use crate::making::{LIMIT, harvests, posts, sum_at};
-use mpx_bus::{Bus, Pop, Port, Push};
+use mpx_bus::{Bus, Frame, Pop, Port, Push};
 use std::alloc::Global;
 use std::marker::Brand;
 use std::sync::Wait;
 use std::test::Fail;
 
+// A copy of a frame that the port may push goes in, and the port pops it.
+fn pops_again<R: Wait>(
+    rt: &R,
+    alloc: Global,
+    bus: &Bus,
+    port: &mut Port,
+    frame: &Frame,
+) -> Result<bool, Fail>
+    requires queue { port.old.table ≡ table_of bus.now }
+    requires plan { port.old.setup.planned ≡ false }
+    requires frame { CanPush port.old frame.now }
+    ensures { GoesOn port.old port.new }
+{
+    let pushed = matches!(bus.push_on(rt, port, frame.copy()?), Push::Pushed);
+    let took = matches!(bus.pop(rt, alloc, port), Pop::Took(_));
+    Ok(pushed && took)
+}
+
+// The port pops a frame, where there is one, and then two copies of it, which it pushes on one after the other. How often it took
+// the frame.
+fn pops_thrice<R: Wait>(rt: &R, alloc: Global, bus: &Bus, port: &mut Port) -> Result<u32, Fail>
+    requires queue { port.old.table ≡ table_of bus.now }
+    requires plan { port.old.setup.planned ≡ false }
+    ensures { GoesOn port.old port.new }
+{
+    let Pop::Took(frame) = bus.pop(rt, alloc, port) else {
+        return Ok(0);
+    };
+    let twice = pops_again(rt, alloc, bus, port, &frame)?;
+    let thrice = pops_again(rt, alloc, bus, port, &frame)?;
+    Ok(if twice && thrice { 3 } else { 1 })
+}
+
 // The port pops a frame, where there is one, and pushes two of its own: the second comes back, and goes in once the port has
-// popped the first again.
+// popped the first again. Each frame that it pops goes in three times in all.
 fn turn<R: Wait>(rt: &R, alloc: Global, bus: &Bus, port: &mut Port) -> Result<bool, Fail>
     requires queue { port.old.table ≡ table_of bus.now }
     requires plan { port.old.setup.planned ≡ false }
     ensures { IsSamePort port.old port.new }
 {
-    let _ = bus.pop(rt, alloc, port);
+    let before = pops_thrice(rt, alloc, bus, port)?;
     let pushed = matches!(bus.push_own(rt, alloc, port, LIMIT)?, Push::Pushed);
     let Push::Full(frame) = bus.push_own(rt, alloc, port, LIMIT)? else {
         return Ok(false);
     };
-    let took = matches!(bus.pop(rt, alloc, port), Pop::Took(_));
+    let own = pops_thrice(rt, alloc, bus, port)?;
     let pushed_on = matches!(bus.push_on(rt, port, frame.copy()?), Push::Pushed);
-    Ok(pushed && took && pushed_on)
+    Ok(before != 1 && pushed && own == 3 && pushed_on)
 }
 
 // So many turns of each port in order.

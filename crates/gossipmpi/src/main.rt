@@ -2,7 +2,10 @@
 //! script's evaluation, or how much the script has.
 #![tactic(auto)]
 
-use mpx_program::{refuse, run_job};
+mod progress;
+
+use crate::progress::Progress;
+use mpx_program::{refuse, run_job_observed};
 use mpx_words::not_text;
 use std::alloc::AllocError;
 use std::process::ExitCode;
@@ -21,12 +24,13 @@ fn words_of(rt: &HostRuntime) -> Result<Vec<String>, clap::Error> {
 fn main(rt: HostRuntime) -> ExitCode {
     let err = &mut rt.stderr();
     let exit = match words_of(&rt) {
-        Ok(words) => run_job(
+        Ok(words) => run_job_observed(
             rt.alloc(),
             &words,
             &mut rt.reader(),
             &mut io::writer(&rt),
             err,
+            &mut Progress::new(&rt, rt.stderr()),
         ),
         Err(refusal) => refuse(&refusal, err),
     };

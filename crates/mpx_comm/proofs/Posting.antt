@@ -11,7 +11,6 @@ use Rattle.mpx_post.specs.Posts.{Given}
 use Rattle.mpx_post.specs.Births.{BirthView}
 use Rattle.mpx_post.specs.declared.draft.Draft.{Draft}
 use Rattle.mpx_post.specs.declared.draft.PostError.{PostError}
-use Rattle.mpx_post.specs.declared.draft.PostError.TheVariants as R
 use Rattle.mpx_post.specs.declared.draft.At.{At}
 use Rattle.mpx_post.specs.Kinds.{kind_of}
 use Rattle.mpx_post.specs.Seats.{lacks_topology}
@@ -228,11 +227,6 @@ is_refused (Err x) e h = inl (ap Err (sym (same_Some e x h)))
 pub accepted : (r : Result Given PostError) → None ≡ refusal_of r → IsOk r
 accepted (Ok given) h = refl
 accepted (Err x) h = cc h
-
--- so only memory can want
-pub is_wanting : (name : Name) (r : Result Given PostError) (e : PostError) (old new : NodeView) → None ≡ refusal_of r → Posts name r (Err e) old new → IsRefusal r e × (new ≡ old)
-is_wanting name (Ok given) e old new h p = (inr (p.0, refl), p.1)
-is_wanting name (Err x) e old new h p = cc h
 
 -- LOOKING AT MANY
 

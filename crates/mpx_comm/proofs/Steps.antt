@@ -55,9 +55,6 @@ still_pending a b c name call w l = record { moment = w.moment; after = w.after;
 pub pending_now : (a b : NodeView) (name : Name) (call : ℕ) → Later a b → IsPending b name call → WasPending a b name call
 pending_now a b name call l p = record { moment = b; after = l; before = later_none b; pending = p }
 
-pub pending_later : (a b c : NodeView) (name : Name) (call : ℕ) → Later a b → WasPending b c name call → WasPending a c name call
-pending_later a b c name call l w = record { moment = w.moment; after = later_more a b w.moment l w.after; before = w.before; pending = w.pending }
-
 -- WHAT IS HELD
 
 posts_bound : IsLeastUpperBound (flat_joining same_given)
@@ -250,23 +247,6 @@ module _ (old new : NodeView) (name : Name) where
   -- each that is done is one more result
   pub front_harvest : (call : ℕ) → Harvests (is_some (old.opened name)) name (next_result old name) (Ok (Done call)) old new → front_on new name ≡ front_on old name + 1
   front_harvest call h = front_by (is_some (old.opened name)) (next_result old name) call refl h
-
-  none_by : (o : Option OpenedView) (next : Option Finished) → next_of o old.board name old.me ≡ next → Harvests (is_some o) name next (Ok NotYet) old new → (next ≡ None) × (new ≡ old)
-  none_by None next e h = cc (h.0)
-  none_by (Some o) None e h = (refl, h)
-  none_by (Some o) (Some f) e h = absurd h
-
-  -- where none is done yet, there is none
-  pub none_harvest : Harvests (is_some (old.opened name)) name (next_result old name) (Ok NotYet) old new → (next_result new name ≡ None)
-  none_harvest h = let both = none_by (old.opened name) (next_result old name) refl h in ap (λ x. next_result x name) both.1 ∙ both.0
-
-  closed_by : (o : Option OpenedView) (next : Option Finished) → next_of o old.board name old.me ≡ next → Harvests (is_some o) name next (Ok NotOpened) old new → (next ≡ None) × (new ≡ old)
-  closed_by None next e h = (sym e, h.1)
-  closed_by (Some o) None e h = absurd h
-  closed_by (Some o) (Some f) e h = absurd h
-
-  pub closed_harvest : Harvests (is_some (old.opened name)) name (next_result old name) (Ok NotOpened) old new → (next_result new name ≡ None)
-  closed_harvest h = let both = closed_by (old.opened name) (next_result old name) refl h in ap (λ x. next_result x name) both.1 ∙ both.0
 
 -- no result is past the last
 past_last : {A : Type 0} (xs : List A) (k : ℕ) → None ≡ slice_get xs k → length xs ≤ k

@@ -11,10 +11,6 @@ module _ {H : Type 0} (turned : H → ℕ → H → Type 0) (more : (a b c : H) 
   pub and_none : (a b c : H) (m : ℕ) → turned a m b → turned b 0 c → turned a m c
   and_none a b c m x y = let same : m + 0 ≡ m = omega arith in subst (λ n. turned a n c) same (more a b c m 0 x y)
 
-  -- none, and then some
-  pub none_and : (a b c : H) (n : ℕ) → turned a 0 b → turned b n c → turned a n c
-  none_and a b c n x y = let same : 0 + n ≡ n = omega arith in subst (λ m. turned a m c) same (more a b c 0 n x y)
-
   module _ (node : H → NodeView) (is_pending : NodeView → Type 0) where
     -- no look yet
     pub awaits_none : (h : H) (turns : ℕ) → turned h 0 h → Awaits node turned is_pending h (turns - turns) h

@@ -2,7 +2,6 @@ pub mod Later
 pub mod Turns
 pub mod Requests
 pub mod Lines
-pub mod Counts
 pub mod Keeps
 pub mod Comms
 pub mod Harvested

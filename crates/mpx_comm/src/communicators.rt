@@ -7,11 +7,11 @@ use crate::answers::CallError;
 use crate::comm::Comm;
 use crate::desk::Desk;
 use crate::host::Host;
-use crate::lines::{coloured, grouped, of_graph, plain};
+use crate::lines;
 use crate::request::Request;
 use mpx_node::Finished;
 use mpx_num::Numbers;
-use mpx_post::{Call, DraftedEdge, DraftedNeighbour, NewCommunicator, PostError};
+use mpx_post::{DraftedEdge, DraftedNeighbour, NewCommunicator, PostError};
 use std::alloc::Global;
 
 impl<H: Host> Desk<H> {
@@ -19,7 +19,7 @@ impl<H: Host> Desk<H> {
     pub fn dup(&mut self, alloc: Global, comm: &Comm, turns: u64) -> Result<Finished, CallError>
         ensures { Calls H.node H.turned H.turn_refused comm.now.name line.dup turns result self.old.host self.new.host self.old.requests.keys self.new.requests.keys }
     {
-        let draft = plain(Call::NewCommunicator(NewCommunicator::Dup));
+        let draft = lines::dup();
         self.call_on(alloc, &comm.name, draft, turns)
     }
 
@@ -34,7 +34,7 @@ impl<H: Host> Desk<H> {
     ) -> Result<Finished, CallError>
         ensures { Calls H.node H.turned H.turn_refused comm.now.name (line.split colour key) turns result self.old.host self.new.host self.old.requests.keys self.new.requests.keys }
     {
-        let draft = coloured(colour, key);
+        let draft = lines::split(colour, key);
         self.call_on(alloc, &comm.name, draft, turns)
     }
 
@@ -48,7 +48,7 @@ impl<H: Host> Desk<H> {
     ) -> Result<Finished, CallError>
         ensures { Calls H.node H.turned H.turn_refused comm.now.name (line.create ranks) turns result self.old.host self.new.host self.old.requests.keys self.new.requests.keys }
     {
-        let draft = grouped(ranks);
+        let draft = lines::create(ranks);
         self.call_on(alloc, &comm.name, draft, turns)
     }
 
@@ -69,7 +69,7 @@ impl<H: Host> Desk<H> {
         match self.open_gathering(alloc, comm, tag, ranks) {
             Err(refusal) => Err(CallError::Refused(refusal)),
             Ok(gathering) => {
-                let draft = plain(Call::NewCommunicator(NewCommunicator::CreateGroup));
+                let draft = lines::create_group();
                 self.call_on(alloc, &gathering.name, draft, turns)
             }
         }
@@ -89,7 +89,7 @@ impl<H: Host> Desk<H> {
         match self.open_gathering(alloc, comm, tag, ranks) {
             Err(refusal) => Err(refusal),
             Ok(gathering) => {
-                let draft = plain(Call::NewCommunicator(NewCommunicator::CreateGroup));
+                let draft = lines::create_group();
                 self.post_on(alloc, &gathering.name, draft)
             }
         }
@@ -108,7 +108,7 @@ impl<H: Host> Desk<H> {
     {
         let (sources, destinations) = (Vec::new(alloc), Vec::new(alloc));
         let new = NewCommunicator::DistGraph;
-        let draft = of_graph(new, weighted, edges, sources, destinations);
+        let draft = lines::of_graph(new, weighted, edges, sources, destinations);
         self.call_on(alloc, &comm.name, draft, turns)
     }
 
@@ -125,7 +125,7 @@ impl<H: Host> Desk<H> {
         ensures { Calls H.node H.turned H.turn_refused comm.now.name (line.dist_graph_adjacent weighted sources.items destinations.items) turns result self.old.host self.new.host self.old.requests.keys self.new.requests.keys }
     {
         let new = NewCommunicator::DistGraphAdjacent;
-        let draft = of_graph(new, weighted, Vec::new(alloc), sources, destinations);
+        let draft = lines::of_graph(new, weighted, Vec::new(alloc), sources, destinations);
         self.call_on(alloc, &comm.name, draft, turns)
     }
 }

@@ -9,11 +9,11 @@ use crate::answers::CallError;
 use crate::comm::Comm;
 use crate::desk::Desk;
 use crate::host::Host;
-use crate::lines::{Counts, of_items};
+use crate::lines;
 use crate::request::Request;
 use mpx_node::Finished;
 use mpx_num::{Numbers, Ty};
-use mpx_post::{Call, Exchange, Mode, PostError};
+use mpx_post::{Mode, PostError};
 use std::alloc::Global;
 
 impl<H: Host> Desk<H> {
@@ -28,8 +28,7 @@ impl<H: Host> Desk<H> {
     ) -> Result<Finished, CallError>
         ensures { Calls H.node H.turned H.turn_refused comm.now.name (line.allgather Blocking ty items) turns result self.old.host self.new.host self.old.requests.keys self.new.requests.keys }
     {
-        let call = Call::Exchange(Exchange::Allgather, Mode::Blocking);
-        let draft = of_items(call, ty, Counts::None, Counts::None, items);
+        let draft = lines::allgather(Mode::Blocking, ty, items);
         self.call_on(alloc, &comm.name, draft, turns)
     }
 
@@ -44,8 +43,7 @@ impl<H: Host> Desk<H> {
         ensures asks { Asks comm.now.name (line.allgather Nonblocking ty items) result (H.node self.old.host) (H.node self.new.host) self.old.requests.keys self.new.requests.keys }
         ensures no_turn { H.turned self.old.host 0 self.new.host }
     {
-        let call = Call::Exchange(Exchange::Allgather, Mode::Nonblocking);
-        let draft = of_items(call, ty, Counts::None, Counts::None, items);
+        let draft = lines::allgather(Mode::Nonblocking, ty, items);
         self.post_on(alloc, &comm.name, draft)
     }
 
@@ -62,8 +60,7 @@ impl<H: Host> Desk<H> {
     ) -> Result<Finished, CallError>
         ensures { Calls H.node H.turned H.turn_refused comm.now.name (line.allgatherv Blocking ty rcounts items) turns result self.old.host self.new.host self.old.requests.keys self.new.requests.keys }
     {
-        let call = Call::Exchange(Exchange::Allgatherv, Mode::Blocking);
-        let draft = of_items(call, ty, Counts::None, Counts::Many(rcounts), items);
+        let draft = lines::allgatherv(Mode::Blocking, ty, rcounts, items);
         self.call_on(alloc, &comm.name, draft, turns)
     }
 
@@ -79,8 +76,7 @@ impl<H: Host> Desk<H> {
         ensures asks { Asks comm.now.name (line.allgatherv Nonblocking ty rcounts items) result (H.node self.old.host) (H.node self.new.host) self.old.requests.keys self.new.requests.keys }
         ensures no_turn { H.turned self.old.host 0 self.new.host }
     {
-        let call = Call::Exchange(Exchange::Allgatherv, Mode::Nonblocking);
-        let draft = of_items(call, ty, Counts::None, Counts::Many(rcounts), items);
+        let draft = lines::allgatherv(Mode::Nonblocking, ty, rcounts, items);
         self.post_on(alloc, &comm.name, draft)
     }
 
@@ -97,8 +93,7 @@ impl<H: Host> Desk<H> {
     ) -> Result<Finished, CallError>
         ensures { Calls H.node H.turned H.turn_refused comm.now.name (line.alltoall Blocking ty count items) turns result self.old.host self.new.host self.old.requests.keys self.new.requests.keys }
     {
-        let call = Call::Exchange(Exchange::Alltoall, Mode::Blocking);
-        let draft = of_items(call, ty, Counts::None, Counts::One(count), items);
+        let draft = lines::alltoall(Mode::Blocking, ty, count, items);
         self.call_on(alloc, &comm.name, draft, turns)
     }
 
@@ -114,8 +109,7 @@ impl<H: Host> Desk<H> {
         ensures asks { Asks comm.now.name (line.alltoall Nonblocking ty count items) result (H.node self.old.host) (H.node self.new.host) self.old.requests.keys self.new.requests.keys }
         ensures no_turn { H.turned self.old.host 0 self.new.host }
     {
-        let call = Call::Exchange(Exchange::Alltoall, Mode::Nonblocking);
-        let draft = of_items(call, ty, Counts::None, Counts::One(count), items);
+        let draft = lines::alltoall(Mode::Nonblocking, ty, count, items);
         self.post_on(alloc, &comm.name, draft)
     }
 
@@ -133,14 +127,7 @@ impl<H: Host> Desk<H> {
     ) -> Result<Finished, CallError>
         ensures { Calls H.node H.turned H.turn_refused comm.now.name (line.alltoallv Blocking ty scounts rcounts items) turns result self.old.host self.new.host self.old.requests.keys self.new.requests.keys }
     {
-        let call = Call::Exchange(Exchange::Alltoallv, Mode::Blocking);
-        let draft = of_items(
-            call,
-            ty,
-            Counts::Many(scounts),
-            Counts::Many(rcounts),
-            items,
-        );
+        let draft = lines::alltoallv(Mode::Blocking, ty, scounts, rcounts, items);
         self.call_on(alloc, &comm.name, draft, turns)
     }
 
@@ -157,14 +144,7 @@ impl<H: Host> Desk<H> {
         ensures asks { Asks comm.now.name (line.alltoallv Nonblocking ty scounts rcounts items) result (H.node self.old.host) (H.node self.new.host) self.old.requests.keys self.new.requests.keys }
         ensures no_turn { H.turned self.old.host 0 self.new.host }
     {
-        let call = Call::Exchange(Exchange::Alltoallv, Mode::Nonblocking);
-        let draft = of_items(
-            call,
-            ty,
-            Counts::Many(scounts),
-            Counts::Many(rcounts),
-            items,
-        );
+        let draft = lines::alltoallv(Mode::Nonblocking, ty, scounts, rcounts, items);
         self.post_on(alloc, &comm.name, draft)
     }
 }

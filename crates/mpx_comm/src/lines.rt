@@ -1,41 +1,17 @@
-// The drafts that calls make of their arguments.
+// The drafts of the calls, as the rows of `specs/Lines.antt` say them, with the mode as an argument where a call has both.
 ghost use Rattle.std.specs.Prelude.{◌≡◌, Some};
-ghost use Rattle.mpx_comm.specs.Lines.{plain as plain_draft, create, reduce, split};
-ghost use Rattle.mpx_comm.specs.Counts.{counts_of};
+ghost use Rattle.mpx_comm.specs.Lines as line;
 
 use mpx_num::{Numbers, Op, Ty};
 use mpx_post::{
-    Call, Draft, DraftedEdge, DraftedGraph, DraftedNeighbour, Mode, NewCommunicator, Reduction,
+    Call, Draft, DraftedEdge, DraftedGraph, DraftedNeighbour, Exchange, Mode, Neighbourhood,
+    NewCommunicator, Reduction,
 };
 
-/// The counts of one side of a call.
-#[derive(Debug, Drop)]
-pub enum Counts {
-    /// The kind has none.
-    None,
-    One(i128),
-    Many(Numbers),
-}
-
-impl Counts {
-    // Them as a draft has them.
-    fn numbers(self) -> Numbers
-        ensures { result ≡ counts_of self }
-    {
-        match self {
-            Counts::None => Numbers::none(),
-            Counts::One(count) => Numbers::one(count),
-            Counts::Many(counts) => counts,
-        }
-    }
-}
-
-// A draft of items, which are sent in blocks of so many, and received so.
-pub fn of_items(call: Call, ty: Ty, scounts: Counts, rcounts: Counts, items: Numbers) -> Draft
-    ensures { result ≡ record (plain_draft call) { ty = ty; scounts = counts_of scounts; rcounts = counts_of rcounts; items = items } }
+// Of items, which are sent in blocks of so many, and received so.
+fn of_items(call: Call, ty: Ty, scounts: Numbers, rcounts: Numbers, items: Numbers) -> Draft
+    ensures { result ≡ record (line.plain call) { ty = ty; scounts = scounts; rcounts = rcounts; items = items } }
 {
-    let scounts = scounts.numbers();
-    let rcounts = rcounts.numbers();
     let group = Numbers::none();
     Draft {
         call,
@@ -52,67 +28,209 @@ pub fn of_items(call: Call, ty: Ty, scounts: Counts, rcounts: Counts, items: Num
     }
 }
 
-// A draft that tells nothing but the call.
-pub fn plain(call: Call) -> Draft
-    ensures { result ≡ plain_draft call }
-{
-    of_items(call, Ty::I8, Counts::None, Counts::None, Numbers::none())
-}
-
-// The same of a call with a root.
-pub fn rooted(
+// The same with a root.
+fn rooted(
     call: Call,
     root: i128,
     ty: Ty,
-    scounts: Counts,
-    rcounts: Counts,
+    scounts: Numbers,
+    rcounts: Numbers,
     items: Numbers,
 ) -> Draft
-    ensures { result ≡ record (plain_draft call) { root = root; ty = ty; scounts = counts_of scounts; rcounts = counts_of rcounts; items = items } }
+    ensures { result ≡ record (line.plain call) { root = root; ty = ty; scounts = scounts; rcounts = rcounts; items = items } }
 {
     let mut draft = of_items(call, ty, scounts, rcounts, items);
     draft.root = root;
     draft
 }
 
-// A draft of items that are combined.
-pub fn combined(call: Call, op: Op, ty: Ty, rcounts: Counts, items: Numbers) -> Draft
-    ensures { result ≡ record (plain_draft call) { op = op; ty = ty; rcounts = counts_of rcounts; items = items } }
+// Of items that are combined.
+fn combined(call: Call, op: Op, ty: Ty, rcounts: Numbers, items: Numbers) -> Draft
+    ensures { result ≡ record (line.plain call) { op = op; ty = ty; rcounts = rcounts; items = items } }
 {
-    let mut draft = of_items(call, ty, Counts::None, rcounts, items);
+    let mut draft = of_items(call, ty, Numbers::none(), rcounts, items);
     draft.op = op;
     draft
 }
 
-// A draft of items that are combined at a root.
-pub fn reduced(mode: Mode, root: i128, op: Op, ty: Ty, items: Numbers) -> Draft
-    ensures { result ≡ reduce mode root op ty items }
+// It tells nothing but the call.
+fn plain(call: Call) -> Draft
+    ensures { result ≡ line.plain call }
+{
+    let (scounts, rcounts) = (Numbers::none(), Numbers::none());
+    of_items(call, Ty::I8, scounts, rcounts, Numbers::none())
+}
+
+// Exchanges.
+
+pub fn barrier(mode: Mode) -> Draft
+    ensures { result ≡ line.barrier mode }
+{
+    plain(Call::Exchange(Exchange::Barrier, mode))
+}
+
+pub fn bcast(mode: Mode, root: i128, ty: Ty, count: i128, items: Numbers) -> Draft
+    ensures { result ≡ line.bcast mode root ty count items }
+{
+    let call = Call::Exchange(Exchange::Bcast, mode);
+    rooted(call, root, ty, Numbers::none(), Numbers::one(count), items)
+}
+
+pub fn gather(mode: Mode, root: i128, ty: Ty, items: Numbers) -> Draft
+    ensures { result ≡ line.gather mode root ty items }
+{
+    let call = Call::Exchange(Exchange::Gather, mode);
+    rooted(call, root, ty, Numbers::none(), Numbers::none(), items)
+}
+
+pub fn gatherv(mode: Mode, root: i128, ty: Ty, rcounts: Numbers, items: Numbers) -> Draft
+    ensures { result ≡ line.gatherv mode root ty rcounts items }
+{
+    let call = Call::Exchange(Exchange::Gatherv, mode);
+    rooted(call, root, ty, Numbers::none(), rcounts, items)
+}
+
+pub fn scatter(mode: Mode, root: i128, ty: Ty, count: i128, items: Numbers) -> Draft
+    ensures { result ≡ line.scatter mode root ty count items }
+{
+    let call = Call::Exchange(Exchange::Scatter, mode);
+    rooted(call, root, ty, Numbers::none(), Numbers::one(count), items)
+}
+
+pub fn scatterv(
+    mode: Mode,
+    root: i128,
+    ty: Ty,
+    scounts: Numbers,
+    count: i128,
+    items: Numbers,
+) -> Draft
+    ensures { result ≡ line.scatterv mode root ty scounts count items }
+{
+    let call = Call::Exchange(Exchange::Scatterv, mode);
+    rooted(call, root, ty, scounts, Numbers::one(count), items)
+}
+
+pub fn allgather(mode: Mode, ty: Ty, items: Numbers) -> Draft
+    ensures { result ≡ line.allgather mode ty items }
+{
+    let call = Call::Exchange(Exchange::Allgather, mode);
+    of_items(call, ty, Numbers::none(), Numbers::none(), items)
+}
+
+pub fn allgatherv(mode: Mode, ty: Ty, rcounts: Numbers, items: Numbers) -> Draft
+    ensures { result ≡ line.allgatherv mode ty rcounts items }
+{
+    let call = Call::Exchange(Exchange::Allgatherv, mode);
+    of_items(call, ty, Numbers::none(), rcounts, items)
+}
+
+pub fn alltoall(mode: Mode, ty: Ty, count: i128, items: Numbers) -> Draft
+    ensures { result ≡ line.alltoall mode ty count items }
+{
+    let call = Call::Exchange(Exchange::Alltoall, mode);
+    of_items(call, ty, Numbers::none(), Numbers::one(count), items)
+}
+
+pub fn alltoallv(mode: Mode, ty: Ty, scounts: Numbers, rcounts: Numbers, items: Numbers) -> Draft
+    ensures { result ≡ line.alltoallv mode ty scounts rcounts items }
+{
+    let call = Call::Exchange(Exchange::Alltoallv, mode);
+    of_items(call, ty, scounts, rcounts, items)
+}
+
+// Reductions.
+
+pub fn reduce(mode: Mode, root: i128, op: Op, ty: Ty, items: Numbers) -> Draft
+    ensures { result ≡ line.reduce mode root op ty items }
 {
     let call = Call::Reduction(Reduction::Reduce, mode);
-    let mut draft = combined(call, op, ty, Counts::None, items);
+    let mut draft = combined(call, op, ty, Numbers::none(), items);
     draft.root = root;
     draft
 }
 
-// A draft of a new communicator with a graph.
-pub fn of_graph(
-    new: NewCommunicator,
-    weighted: bool,
-    edges: Vec<DraftedEdge>,
-    sources: Vec<DraftedNeighbour>,
-    destinations: Vec<DraftedNeighbour>,
-) -> Draft
-    ensures { result ≡ record (plain_draft (Call.NewCommunicator new)) { graph = Some (record { weighted = weighted; edges = edges.items; sources = sources.items; destinations = destinations.items }) } }
+pub fn allreduce(mode: Mode, op: Op, ty: Ty, items: Numbers) -> Draft
+    ensures { result ≡ line.allreduce mode op ty items }
 {
-    let graph = DraftedGraph::new(weighted, edges, sources, destinations);
-    let mut draft = plain(Call::NewCommunicator(new));
-    draft.graph = Some(graph);
-    draft
+    let call = Call::Reduction(Reduction::Allreduce, mode);
+    combined(call, op, ty, Numbers::none(), items)
 }
 
-// A draft of new communicators by colours.
-pub fn coloured(colour: Option<i128>, key: i128) -> Draft
-    ensures { result ≡ split colour key }
+pub fn reduce_scatter_block(mode: Mode, op: Op, ty: Ty, count: i128, items: Numbers) -> Draft
+    ensures { result ≡ line.reduce_scatter_block mode op ty count items }
+{
+    let call = Call::Reduction(Reduction::ReduceScatterBlock, mode);
+    combined(call, op, ty, Numbers::one(count), items)
+}
+
+pub fn reduce_scatter(mode: Mode, op: Op, ty: Ty, rcounts: Numbers, items: Numbers) -> Draft
+    ensures { result ≡ line.reduce_scatter mode op ty rcounts items }
+{
+    let call = Call::Reduction(Reduction::ReduceScatter, mode);
+    combined(call, op, ty, rcounts, items)
+}
+
+pub fn scan(mode: Mode, op: Op, ty: Ty, items: Numbers) -> Draft
+    ensures { result ≡ line.scan mode op ty items }
+{
+    let call = Call::Reduction(Reduction::Scan, mode);
+    combined(call, op, ty, Numbers::none(), items)
+}
+
+pub fn exscan(mode: Mode, op: Op, ty: Ty, items: Numbers) -> Draft
+    ensures { result ≡ line.exscan mode op ty items }
+{
+    let call = Call::Reduction(Reduction::Exscan, mode);
+    combined(call, op, ty, Numbers::none(), items)
+}
+
+// Along the edges of a graph.
+
+pub fn neighbor_allgather(mode: Mode, ty: Ty, count: i128, items: Numbers) -> Draft
+    ensures { result ≡ line.neighbor_allgather mode ty count items }
+{
+    let call = Call::Neighbourhood(Neighbourhood::Allgather, mode);
+    of_items(call, ty, Numbers::none(), Numbers::one(count), items)
+}
+
+pub fn neighbor_allgatherv(mode: Mode, ty: Ty, rcounts: Numbers, items: Numbers) -> Draft
+    ensures { result ≡ line.neighbor_allgatherv mode ty rcounts items }
+{
+    let call = Call::Neighbourhood(Neighbourhood::Allgatherv, mode);
+    of_items(call, ty, Numbers::none(), rcounts, items)
+}
+
+pub fn neighbor_alltoall(mode: Mode, ty: Ty, scount: i128, rcount: i128, items: Numbers) -> Draft
+    ensures { result ≡ line.neighbor_alltoall mode ty scount rcount items }
+{
+    let call = Call::Neighbourhood(Neighbourhood::Alltoall, mode);
+    of_items(call, ty, Numbers::one(scount), Numbers::one(rcount), items)
+}
+
+pub fn neighbor_alltoallv(
+    mode: Mode,
+    ty: Ty,
+    scounts: Numbers,
+    rcounts: Numbers,
+    items: Numbers,
+) -> Draft
+    ensures { result ≡ line.neighbor_alltoallv mode ty scounts rcounts items }
+{
+    let call = Call::Neighbourhood(Neighbourhood::Alltoallv, mode);
+    of_items(call, ty, scounts, rcounts, items)
+}
+
+// New communicators.
+
+pub fn dup() -> Draft
+    ensures { result ≡ line.dup }
+{
+    plain(Call::NewCommunicator(NewCommunicator::Dup))
+}
+
+pub fn split(colour: Option<i128>, key: i128) -> Draft
+    ensures { result ≡ line.split colour key }
 {
     let mut draft = plain(Call::NewCommunicator(NewCommunicator::Split));
     draft.colour = colour;
@@ -120,11 +238,32 @@ pub fn coloured(colour: Option<i128>, key: i128) -> Draft
     draft
 }
 
-// A draft of a new communicator of these members.
-pub fn grouped(ranks: Numbers) -> Draft
-    ensures { result ≡ create ranks }
+pub fn create(ranks: Numbers) -> Draft
+    ensures { result ≡ line.create ranks }
 {
     let mut draft = plain(Call::NewCommunicator(NewCommunicator::Create));
     draft.group = ranks;
+    draft
+}
+
+pub fn create_group() -> Draft
+    ensures { result ≡ line.create_group }
+{
+    plain(Call::NewCommunicator(NewCommunicator::CreateGroup))
+}
+
+// Of a new communicator with a graph.
+pub fn of_graph(
+    new: NewCommunicator,
+    weighted: bool,
+    edges: Vec<DraftedEdge>,
+    sources: Vec<DraftedNeighbour>,
+    destinations: Vec<DraftedNeighbour>,
+) -> Draft
+    ensures { result ≡ record (line.plain (Call.NewCommunicator new)) { graph = Some (record { weighted = weighted; edges = edges.items; sources = sources.items; destinations = destinations.items }) } }
+{
+    let graph = DraftedGraph::new(weighted, edges, sources, destinations);
+    let mut draft = plain(Call::NewCommunicator(new));
+    draft.graph = Some(graph);
     draft
 }

@@ -1,8 +1,7 @@
 ghost use Rattle.std.specs.Prelude.{◌≡◌, ◌≤◌, ℕ, IfOk, IfErr, MatchOption, length, slice_get};
 ghost use Rattle.mpx_comm.specs.Harvested.{Harvested};
 ghost use Rattle.mpx_comm.specs.Later.{Later, IsAtHand, IsPending};
-ghost use Rattle.mpx_comm.specs.Turns.{Awaits};
-ghost use Rattle.mpx_comm.specs.Requests.{GivesUpAll, GivesUpOne, result_of, close_all, OneIsAtHand, OneIsPending, AreResults, WerePending};
+ghost use Rattle.mpx_comm.specs.Requests.{AwaitsAll, AwaitsOne, GivesUpAll, GivesUpOne, result_of, close_all, OneIsAtHand, OneIsPending, AreResults, WerePending};
 
 use crate::host::Host;
 use crate::request::Request;
@@ -102,8 +101,8 @@ pub fn await_one<H: Host>(
 ) -> Result<Option<Finished>, OutOfMemory>
     ensures later { Later (H.node host.old) (H.node host.new) }
     ensures found { IfOk result (λ found. MatchOption found
-        (IsPending (H.node host.new) request.now.name request.now.call × Awaits H.node H.turned (λ node. IsPending node request.now.name request.now.call) host.old turns host.new)
-        (λ finished. (result_of (H.node host.new) request.now ≡ Some finished) × ((n : ℕ) × (n ≤ turns) × Awaits H.node H.turned (λ node. IsPending node request.now.name request.now.call) host.old n host.new))) }
+        (IsPending (H.node host.new) request.now.name request.now.call × AwaitsOne H.node H.turned request.now host.old turns host.new)
+        (λ finished. (result_of (H.node host.new) request.now ≡ Some finished) × ((n : ℕ) × (n ≤ turns) × AwaitsOne H.node H.turned request.now host.old n host.new))) }
     ensures gave_up { IfErr result (λ e. GivesUpOne H.node H.turned H.turn_refused request.now turns host.old host.new) }
 {
     let mut left = turns;
@@ -128,8 +127,8 @@ pub fn await_all<H: Host>(
 ) -> Result<Option<Vec<Finished>>, OutOfMemory>
     ensures later { Later (H.node host.old) (H.node host.new) }
     ensures found { IfOk result (λ found. MatchOption found
-        (OneIsPending (H.node host.new) requests.now × Awaits H.node H.turned (λ node. OneIsPending node requests.now) host.old turns host.new)
-        (λ all. AreResults (H.node host.new) requests.now all.items × ((n : ℕ) × (n ≤ turns) × Awaits H.node H.turned (λ node. OneIsPending node requests.now) host.old n host.new))) }
+        (OneIsPending (H.node host.new) requests.now × AwaitsAll H.node H.turned requests.now host.old turns host.new)
+        (λ all. AreResults (H.node host.new) requests.now all.items × ((n : ℕ) × (n ≤ turns) × AwaitsAll H.node H.turned requests.now host.old n host.new))) }
     ensures gave_up { IfErr result (λ e. GivesUpAll H.node H.turned H.turn_refused requests.now turns host.old host.new) }
 {
     let mut left = turns;

@@ -9,11 +9,11 @@ use crate::answers::CallError;
 use crate::comm::Comm;
 use crate::desk::Desk;
 use crate::host::Host;
-use crate::lines::{Counts, of_items};
+use crate::lines;
 use crate::request::Request;
 use mpx_node::Finished;
 use mpx_num::{Numbers, Ty};
-use mpx_post::{Call, Mode, Neighbourhood, PostError};
+use mpx_post::{Mode, PostError};
 use std::alloc::Global;
 
 impl<H: Host> Desk<H> {
@@ -30,8 +30,7 @@ impl<H: Host> Desk<H> {
     ) -> Result<Finished, CallError>
         ensures { Calls H.node H.turned H.turn_refused comm.now.name (line.neighbor_allgather Blocking ty count items) turns result self.old.host self.new.host self.old.requests.keys self.new.requests.keys }
     {
-        let call = Call::Neighbourhood(Neighbourhood::Allgather, Mode::Blocking);
-        let draft = of_items(call, ty, Counts::None, Counts::One(count), items);
+        let draft = lines::neighbor_allgather(Mode::Blocking, ty, count, items);
         self.call_on(alloc, &comm.name, draft, turns)
     }
 
@@ -47,8 +46,7 @@ impl<H: Host> Desk<H> {
         ensures asks { Asks comm.now.name (line.neighbor_allgather Nonblocking ty count items) result (H.node self.old.host) (H.node self.new.host) self.old.requests.keys self.new.requests.keys }
         ensures no_turn { H.turned self.old.host 0 self.new.host }
     {
-        let call = Call::Neighbourhood(Neighbourhood::Allgather, Mode::Nonblocking);
-        let draft = of_items(call, ty, Counts::None, Counts::One(count), items);
+        let draft = lines::neighbor_allgather(Mode::Nonblocking, ty, count, items);
         self.post_on(alloc, &comm.name, draft)
     }
 
@@ -65,8 +63,7 @@ impl<H: Host> Desk<H> {
     ) -> Result<Finished, CallError>
         ensures { Calls H.node H.turned H.turn_refused comm.now.name (line.neighbor_allgatherv Blocking ty rcounts items) turns result self.old.host self.new.host self.old.requests.keys self.new.requests.keys }
     {
-        let call = Call::Neighbourhood(Neighbourhood::Allgatherv, Mode::Blocking);
-        let draft = of_items(call, ty, Counts::None, Counts::Many(rcounts), items);
+        let draft = lines::neighbor_allgatherv(Mode::Blocking, ty, rcounts, items);
         self.call_on(alloc, &comm.name, draft, turns)
     }
 
@@ -82,8 +79,7 @@ impl<H: Host> Desk<H> {
         ensures asks { Asks comm.now.name (line.neighbor_allgatherv Nonblocking ty rcounts items) result (H.node self.old.host) (H.node self.new.host) self.old.requests.keys self.new.requests.keys }
         ensures no_turn { H.turned self.old.host 0 self.new.host }
     {
-        let call = Call::Neighbourhood(Neighbourhood::Allgatherv, Mode::Nonblocking);
-        let draft = of_items(call, ty, Counts::None, Counts::Many(rcounts), items);
+        let draft = lines::neighbor_allgatherv(Mode::Nonblocking, ty, rcounts, items);
         self.post_on(alloc, &comm.name, draft)
     }
 
@@ -101,8 +97,7 @@ impl<H: Host> Desk<H> {
     ) -> Result<Finished, CallError>
         ensures { Calls H.node H.turned H.turn_refused comm.now.name (line.neighbor_alltoall Blocking ty scount rcount items) turns result self.old.host self.new.host self.old.requests.keys self.new.requests.keys }
     {
-        let call = Call::Neighbourhood(Neighbourhood::Alltoall, Mode::Blocking);
-        let draft = of_items(call, ty, Counts::One(scount), Counts::One(rcount), items);
+        let draft = lines::neighbor_alltoall(Mode::Blocking, ty, scount, rcount, items);
         self.call_on(alloc, &comm.name, draft, turns)
     }
 
@@ -119,8 +114,7 @@ impl<H: Host> Desk<H> {
         ensures asks { Asks comm.now.name (line.neighbor_alltoall Nonblocking ty scount rcount items) result (H.node self.old.host) (H.node self.new.host) self.old.requests.keys self.new.requests.keys }
         ensures no_turn { H.turned self.old.host 0 self.new.host }
     {
-        let call = Call::Neighbourhood(Neighbourhood::Alltoall, Mode::Nonblocking);
-        let draft = of_items(call, ty, Counts::One(scount), Counts::One(rcount), items);
+        let draft = lines::neighbor_alltoall(Mode::Nonblocking, ty, scount, rcount, items);
         self.post_on(alloc, &comm.name, draft)
     }
 
@@ -138,14 +132,7 @@ impl<H: Host> Desk<H> {
     ) -> Result<Finished, CallError>
         ensures { Calls H.node H.turned H.turn_refused comm.now.name (line.neighbor_alltoallv Blocking ty scounts rcounts items) turns result self.old.host self.new.host self.old.requests.keys self.new.requests.keys }
     {
-        let call = Call::Neighbourhood(Neighbourhood::Alltoallv, Mode::Blocking);
-        let draft = of_items(
-            call,
-            ty,
-            Counts::Many(scounts),
-            Counts::Many(rcounts),
-            items,
-        );
+        let draft = lines::neighbor_alltoallv(Mode::Blocking, ty, scounts, rcounts, items);
         self.call_on(alloc, &comm.name, draft, turns)
     }
 
@@ -162,14 +149,7 @@ impl<H: Host> Desk<H> {
         ensures asks { Asks comm.now.name (line.neighbor_alltoallv Nonblocking ty scounts rcounts items) result (H.node self.old.host) (H.node self.new.host) self.old.requests.keys self.new.requests.keys }
         ensures no_turn { H.turned self.old.host 0 self.new.host }
     {
-        let call = Call::Neighbourhood(Neighbourhood::Alltoallv, Mode::Nonblocking);
-        let draft = of_items(
-            call,
-            ty,
-            Counts::Many(scounts),
-            Counts::Many(rcounts),
-            items,
-        );
+        let draft = lines::neighbor_alltoallv(Mode::Nonblocking, ty, scounts, rcounts, items);
         self.post_on(alloc, &comm.name, draft)
     }
 }

@@ -9,11 +9,11 @@ use crate::answers::CallError;
 use crate::comm::Comm;
 use crate::desk::Desk;
 use crate::host::Host;
-use crate::lines::{Counts, combined, reduced};
+use crate::lines;
 use crate::request::Request;
 use mpx_node::Finished;
 use mpx_num::{Numbers, Op, Ty};
-use mpx_post::{Call, Mode, PostError, Reduction};
+use mpx_post::{Mode, PostError};
 use std::alloc::Global;
 
 impl<H: Host> Desk<H> {
@@ -30,7 +30,7 @@ impl<H: Host> Desk<H> {
     ) -> Result<Finished, CallError>
         ensures { Calls H.node H.turned H.turn_refused comm.now.name (line.reduce Blocking root op ty items) turns result self.old.host self.new.host self.old.requests.keys self.new.requests.keys }
     {
-        let draft = reduced(Mode::Blocking, root, op, ty, items);
+        let draft = lines::reduce(Mode::Blocking, root, op, ty, items);
         self.call_on(alloc, &comm.name, draft, turns)
     }
 
@@ -47,7 +47,7 @@ impl<H: Host> Desk<H> {
         ensures asks { Asks comm.now.name (line.reduce Nonblocking root op ty items) result (H.node self.old.host) (H.node self.new.host) self.old.requests.keys self.new.requests.keys }
         ensures no_turn { H.turned self.old.host 0 self.new.host }
     {
-        let draft = reduced(Mode::Nonblocking, root, op, ty, items);
+        let draft = lines::reduce(Mode::Nonblocking, root, op, ty, items);
         self.post_on(alloc, &comm.name, draft)
     }
 
@@ -63,8 +63,7 @@ impl<H: Host> Desk<H> {
     ) -> Result<Finished, CallError>
         ensures { Calls H.node H.turned H.turn_refused comm.now.name (line.allreduce Blocking op ty items) turns result self.old.host self.new.host self.old.requests.keys self.new.requests.keys }
     {
-        let call = Call::Reduction(Reduction::Allreduce, Mode::Blocking);
-        let draft = combined(call, op, ty, Counts::None, items);
+        let draft = lines::allreduce(Mode::Blocking, op, ty, items);
         self.call_on(alloc, &comm.name, draft, turns)
     }
 
@@ -80,8 +79,7 @@ impl<H: Host> Desk<H> {
         ensures asks { Asks comm.now.name (line.allreduce Nonblocking op ty items) result (H.node self.old.host) (H.node self.new.host) self.old.requests.keys self.new.requests.keys }
         ensures no_turn { H.turned self.old.host 0 self.new.host }
     {
-        let call = Call::Reduction(Reduction::Allreduce, Mode::Nonblocking);
-        let draft = combined(call, op, ty, Counts::None, items);
+        let draft = lines::allreduce(Mode::Nonblocking, op, ty, items);
         self.post_on(alloc, &comm.name, draft)
     }
 
@@ -99,8 +97,7 @@ impl<H: Host> Desk<H> {
     ) -> Result<Finished, CallError>
         ensures { Calls H.node H.turned H.turn_refused comm.now.name (line.reduce_scatter_block Blocking op ty count items) turns result self.old.host self.new.host self.old.requests.keys self.new.requests.keys }
     {
-        let call = Call::Reduction(Reduction::ReduceScatterBlock, Mode::Blocking);
-        let draft = combined(call, op, ty, Counts::One(count), items);
+        let draft = lines::reduce_scatter_block(Mode::Blocking, op, ty, count, items);
         self.call_on(alloc, &comm.name, draft, turns)
     }
 
@@ -117,8 +114,7 @@ impl<H: Host> Desk<H> {
         ensures asks { Asks comm.now.name (line.reduce_scatter_block Nonblocking op ty count items) result (H.node self.old.host) (H.node self.new.host) self.old.requests.keys self.new.requests.keys }
         ensures no_turn { H.turned self.old.host 0 self.new.host }
     {
-        let call = Call::Reduction(Reduction::ReduceScatterBlock, Mode::Nonblocking);
-        let draft = combined(call, op, ty, Counts::One(count), items);
+        let draft = lines::reduce_scatter_block(Mode::Nonblocking, op, ty, count, items);
         self.post_on(alloc, &comm.name, draft)
     }
 
@@ -136,8 +132,7 @@ impl<H: Host> Desk<H> {
     ) -> Result<Finished, CallError>
         ensures { Calls H.node H.turned H.turn_refused comm.now.name (line.reduce_scatter Blocking op ty rcounts items) turns result self.old.host self.new.host self.old.requests.keys self.new.requests.keys }
     {
-        let call = Call::Reduction(Reduction::ReduceScatter, Mode::Blocking);
-        let draft = combined(call, op, ty, Counts::Many(rcounts), items);
+        let draft = lines::reduce_scatter(Mode::Blocking, op, ty, rcounts, items);
         self.call_on(alloc, &comm.name, draft, turns)
     }
 
@@ -154,8 +149,7 @@ impl<H: Host> Desk<H> {
         ensures asks { Asks comm.now.name (line.reduce_scatter Nonblocking op ty rcounts items) result (H.node self.old.host) (H.node self.new.host) self.old.requests.keys self.new.requests.keys }
         ensures no_turn { H.turned self.old.host 0 self.new.host }
     {
-        let call = Call::Reduction(Reduction::ReduceScatter, Mode::Nonblocking);
-        let draft = combined(call, op, ty, Counts::Many(rcounts), items);
+        let draft = lines::reduce_scatter(Mode::Nonblocking, op, ty, rcounts, items);
         self.post_on(alloc, &comm.name, draft)
     }
 
@@ -171,8 +165,7 @@ impl<H: Host> Desk<H> {
     ) -> Result<Finished, CallError>
         ensures { Calls H.node H.turned H.turn_refused comm.now.name (line.scan Blocking op ty items) turns result self.old.host self.new.host self.old.requests.keys self.new.requests.keys }
     {
-        let call = Call::Reduction(Reduction::Scan, Mode::Blocking);
-        let draft = combined(call, op, ty, Counts::None, items);
+        let draft = lines::scan(Mode::Blocking, op, ty, items);
         self.call_on(alloc, &comm.name, draft, turns)
     }
 
@@ -188,8 +181,7 @@ impl<H: Host> Desk<H> {
         ensures asks { Asks comm.now.name (line.scan Nonblocking op ty items) result (H.node self.old.host) (H.node self.new.host) self.old.requests.keys self.new.requests.keys }
         ensures no_turn { H.turned self.old.host 0 self.new.host }
     {
-        let call = Call::Reduction(Reduction::Scan, Mode::Nonblocking);
-        let draft = combined(call, op, ty, Counts::None, items);
+        let draft = lines::scan(Mode::Nonblocking, op, ty, items);
         self.post_on(alloc, &comm.name, draft)
     }
 
@@ -205,8 +197,7 @@ impl<H: Host> Desk<H> {
     ) -> Result<Finished, CallError>
         ensures { Calls H.node H.turned H.turn_refused comm.now.name (line.exscan Blocking op ty items) turns result self.old.host self.new.host self.old.requests.keys self.new.requests.keys }
     {
-        let call = Call::Reduction(Reduction::Exscan, Mode::Blocking);
-        let draft = combined(call, op, ty, Counts::None, items);
+        let draft = lines::exscan(Mode::Blocking, op, ty, items);
         self.call_on(alloc, &comm.name, draft, turns)
     }
 
@@ -222,8 +213,7 @@ impl<H: Host> Desk<H> {
         ensures asks { Asks comm.now.name (line.exscan Nonblocking op ty items) result (H.node self.old.host) (H.node self.new.host) self.old.requests.keys self.new.requests.keys }
         ensures no_turn { H.turned self.old.host 0 self.new.host }
     {
-        let call = Call::Reduction(Reduction::Exscan, Mode::Nonblocking);
-        let draft = combined(call, op, ty, Counts::None, items);
+        let draft = lines::exscan(Mode::Nonblocking, op, ty, items);
         self.post_on(alloc, &comm.name, draft)
     }
 }

@@ -9,11 +9,11 @@ use crate::answers::CallError;
 use crate::comm::Comm;
 use crate::desk::Desk;
 use crate::host::Host;
-use crate::lines::{Counts, plain, rooted};
+use crate::lines;
 use crate::request::Request;
 use mpx_node::Finished;
 use mpx_num::{Numbers, Ty};
-use mpx_post::{Call, Exchange, Mode, PostError};
+use mpx_post::{Mode, PostError};
 use std::alloc::Global;
 
 impl<H: Host> Desk<H> {
@@ -21,8 +21,7 @@ impl<H: Host> Desk<H> {
     pub fn barrier(&mut self, alloc: Global, comm: &Comm, turns: u64) -> Result<Finished, CallError>
         ensures { Calls H.node H.turned H.turn_refused comm.now.name (line.barrier Blocking) turns result self.old.host self.new.host self.old.requests.keys self.new.requests.keys }
     {
-        let call = Call::Exchange(Exchange::Barrier, Mode::Blocking);
-        let draft = plain(call);
+        let draft = lines::barrier(Mode::Blocking);
         self.call_on(alloc, &comm.name, draft, turns)
     }
 
@@ -31,8 +30,7 @@ impl<H: Host> Desk<H> {
         ensures asks { Asks comm.now.name (line.barrier Nonblocking) result (H.node self.old.host) (H.node self.new.host) self.old.requests.keys self.new.requests.keys }
         ensures no_turn { H.turned self.old.host 0 self.new.host }
     {
-        let call = Call::Exchange(Exchange::Barrier, Mode::Nonblocking);
-        let draft = plain(call);
+        let draft = lines::barrier(Mode::Nonblocking);
         self.post_on(alloc, &comm.name, draft)
     }
 
@@ -49,8 +47,7 @@ impl<H: Host> Desk<H> {
     ) -> Result<Finished, CallError>
         ensures { Calls H.node H.turned H.turn_refused comm.now.name (line.bcast Blocking root ty count items) turns result self.old.host self.new.host self.old.requests.keys self.new.requests.keys }
     {
-        let call = Call::Exchange(Exchange::Bcast, Mode::Blocking);
-        let draft = rooted(call, root, ty, Counts::None, Counts::One(count), items);
+        let draft = lines::bcast(Mode::Blocking, root, ty, count, items);
         self.call_on(alloc, &comm.name, draft, turns)
     }
 
@@ -67,8 +64,7 @@ impl<H: Host> Desk<H> {
         ensures asks { Asks comm.now.name (line.bcast Nonblocking root ty count items) result (H.node self.old.host) (H.node self.new.host) self.old.requests.keys self.new.requests.keys }
         ensures no_turn { H.turned self.old.host 0 self.new.host }
     {
-        let call = Call::Exchange(Exchange::Bcast, Mode::Nonblocking);
-        let draft = rooted(call, root, ty, Counts::None, Counts::One(count), items);
+        let draft = lines::bcast(Mode::Nonblocking, root, ty, count, items);
         self.post_on(alloc, &comm.name, draft)
     }
 
@@ -84,8 +80,7 @@ impl<H: Host> Desk<H> {
     ) -> Result<Finished, CallError>
         ensures { Calls H.node H.turned H.turn_refused comm.now.name (line.gather Blocking root ty items) turns result self.old.host self.new.host self.old.requests.keys self.new.requests.keys }
     {
-        let call = Call::Exchange(Exchange::Gather, Mode::Blocking);
-        let draft = rooted(call, root, ty, Counts::None, Counts::None, items);
+        let draft = lines::gather(Mode::Blocking, root, ty, items);
         self.call_on(alloc, &comm.name, draft, turns)
     }
 
@@ -101,8 +96,7 @@ impl<H: Host> Desk<H> {
         ensures asks { Asks comm.now.name (line.gather Nonblocking root ty items) result (H.node self.old.host) (H.node self.new.host) self.old.requests.keys self.new.requests.keys }
         ensures no_turn { H.turned self.old.host 0 self.new.host }
     {
-        let call = Call::Exchange(Exchange::Gather, Mode::Nonblocking);
-        let draft = rooted(call, root, ty, Counts::None, Counts::None, items);
+        let draft = lines::gather(Mode::Nonblocking, root, ty, items);
         self.post_on(alloc, &comm.name, draft)
     }
 
@@ -120,8 +114,7 @@ impl<H: Host> Desk<H> {
     ) -> Result<Finished, CallError>
         ensures { Calls H.node H.turned H.turn_refused comm.now.name (line.gatherv Blocking root ty rcounts items) turns result self.old.host self.new.host self.old.requests.keys self.new.requests.keys }
     {
-        let call = Call::Exchange(Exchange::Gatherv, Mode::Blocking);
-        let draft = rooted(call, root, ty, Counts::None, Counts::Many(rcounts), items);
+        let draft = lines::gatherv(Mode::Blocking, root, ty, rcounts, items);
         self.call_on(alloc, &comm.name, draft, turns)
     }
 
@@ -138,8 +131,7 @@ impl<H: Host> Desk<H> {
         ensures asks { Asks comm.now.name (line.gatherv Nonblocking root ty rcounts items) result (H.node self.old.host) (H.node self.new.host) self.old.requests.keys self.new.requests.keys }
         ensures no_turn { H.turned self.old.host 0 self.new.host }
     {
-        let call = Call::Exchange(Exchange::Gatherv, Mode::Nonblocking);
-        let draft = rooted(call, root, ty, Counts::None, Counts::Many(rcounts), items);
+        let draft = lines::gatherv(Mode::Nonblocking, root, ty, rcounts, items);
         self.post_on(alloc, &comm.name, draft)
     }
 
@@ -157,8 +149,7 @@ impl<H: Host> Desk<H> {
     ) -> Result<Finished, CallError>
         ensures { Calls H.node H.turned H.turn_refused comm.now.name (line.scatter Blocking root ty count items) turns result self.old.host self.new.host self.old.requests.keys self.new.requests.keys }
     {
-        let call = Call::Exchange(Exchange::Scatter, Mode::Blocking);
-        let draft = rooted(call, root, ty, Counts::None, Counts::One(count), items);
+        let draft = lines::scatter(Mode::Blocking, root, ty, count, items);
         self.call_on(alloc, &comm.name, draft, turns)
     }
 
@@ -175,8 +166,7 @@ impl<H: Host> Desk<H> {
         ensures asks { Asks comm.now.name (line.scatter Nonblocking root ty count items) result (H.node self.old.host) (H.node self.new.host) self.old.requests.keys self.new.requests.keys }
         ensures no_turn { H.turned self.old.host 0 self.new.host }
     {
-        let call = Call::Exchange(Exchange::Scatter, Mode::Nonblocking);
-        let draft = rooted(call, root, ty, Counts::None, Counts::One(count), items);
+        let draft = lines::scatter(Mode::Nonblocking, root, ty, count, items);
         self.post_on(alloc, &comm.name, draft)
     }
 
@@ -195,15 +185,7 @@ impl<H: Host> Desk<H> {
     ) -> Result<Finished, CallError>
         ensures { Calls H.node H.turned H.turn_refused comm.now.name (line.scatterv Blocking root ty scounts count items) turns result self.old.host self.new.host self.old.requests.keys self.new.requests.keys }
     {
-        let call = Call::Exchange(Exchange::Scatterv, Mode::Blocking);
-        let draft = rooted(
-            call,
-            root,
-            ty,
-            Counts::Many(scounts),
-            Counts::One(count),
-            items,
-        );
+        let draft = lines::scatterv(Mode::Blocking, root, ty, scounts, count, items);
         self.call_on(alloc, &comm.name, draft, turns)
     }
 
@@ -221,15 +203,7 @@ impl<H: Host> Desk<H> {
         ensures asks { Asks comm.now.name (line.scatterv Nonblocking root ty scounts count items) result (H.node self.old.host) (H.node self.new.host) self.old.requests.keys self.new.requests.keys }
         ensures no_turn { H.turned self.old.host 0 self.new.host }
     {
-        let call = Call::Exchange(Exchange::Scatterv, Mode::Nonblocking);
-        let draft = rooted(
-            call,
-            root,
-            ty,
-            Counts::Many(scounts),
-            Counts::One(count),
-            items,
-        );
+        let draft = lines::scatterv(Mode::Nonblocking, root, ty, scounts, count, items);
         self.post_on(alloc, &comm.name, draft)
     }
 }

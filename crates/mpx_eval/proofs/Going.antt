@@ -13,8 +13,9 @@ use Rattle.mpx_evaluation.specs.Evaluation.{State, IsQuiet, IsReached, known, mo
 use Rattle.mpx_evaluation.proofs.Ends.{move-quiet}
 use Rattle.mpx_evaluation.proofs.Steps.{step_ends}
 use Rattle.mpx_evaluation.proofs.Tells.{each-bound, each-me}
-use Rattle.mpx_eval.specs.Places.{After, Before, Moves, RankView, Stands, left_of}
-use Rattle.mpx_eval.specs.Rounds.{AreAtEnd, AreIn, GoesOn, IsStuck, Leads, Round, Rounds, all_left}
+use Rattle.mpx_eval.specs.Places.{After, Before, Moves, TableRank, Stands}
+use Rattle.mpx_rank.specs.Moves.{left_of}
+use Rattle.mpx_eval.specs.Rounds.{AreAtEnd, AreIn, LeadsToEnd, IsStuck, Leads, Round, Rounds, all_left}
 use Rattle.mpx_eval.specs.Tables.{Table}
 use Rattle.mpx_eval.proofs.Moving.{move_stays}
 use Rattle.mpx_eval.proofs.Tables.{some_of}
@@ -66,12 +67,12 @@ written_back zero (y ∷ ys) (x ∷ xs) e f = absurd (omega (arith, f))
 written_back (suc len) (y ∷ ys) (x ∷ xs) e f = ap (λ zs. x ∷ zs) (written_back len ys xs (omega (arith, e)) (omega (arith, f)))
 
 -- what is left
-pub left_le : (rs : List RankView) (p : ℕ) (old new : RankView) → slice_get rs p ≡ Some old → left_of new ≤ left_of old → all_left (set rs p new) ≤ all_left rs
+pub left_le : (rs : List TableRank) (p : ℕ) (old new : TableRank) → slice_get rs p ≡ Some old → left_of new ≤ left_of old → all_left (set rs p new) ≤ all_left rs
 left_le [] p old new e l = cc e
 left_le (r ∷ rs) zero old new e l = let same : r ≡ old = cc e in omega (arith, l, ap left_of same)
 left_le (r ∷ rs) (suc p) old new e l = omega (arith, left_le rs p old new e l)
 
-pub left_lt : (rs : List RankView) (p : ℕ) (old new : RankView) → slice_get rs p ≡ Some old → left_of new < left_of old → all_left (set rs p new) < all_left rs
+pub left_lt : (rs : List TableRank) (p : ℕ) (old new : TableRank) → slice_get rs p ≡ Some old → left_of new < left_of old → all_left (set rs p new) < all_left rs
 left_lt [] p old new e l = cc e
 left_lt (r ∷ rs) zero old new e l = let same : r ≡ old = cc e in omega (arith, l, ap left_of same)
 left_lt (r ∷ rs) (suc p) old new e l = omega (arith, left_lt rs p old new e l)
@@ -97,7 +98,7 @@ move_other ranks s p q other = by_test (q == p) refl where
   by_test true e = absurd (other ((Decides-eqb q p).0 e))
   by_test false e = refl
 
-module _ (script : List (List Statement)) (ranks p : ℕ) (u : State) (rs : List RankView) (l : p < ranks) (b : RankView) (t : Table) (at : slice_get rs p ≡ Some b) (reached : IsReached script ranks u) (are : AreIn ranks rs t u) where
+module _ (script : List (List Statement)) (ranks p : ℕ) (u : State) (rs : List TableRank) (l : p < ranks) (b : TableRank) (t : Table) (at : slice_get rs p ≡ Some b) (reached : IsReached script ranks u) (are : AreIn ranks rs t u) where
   -- where it stands before a move
   before : Before ranks p b t u
   before = record {
@@ -108,7 +109,7 @@ module _ (script : List (List Statement)) (ranks p : ℕ) (u : State) (rs : List
     shows = are.shows;
   }
 
-  are_after : (c : RankView) (tc : Table) (moved : Bool) → After ranks p c tc u moved → IsQuiet ranks (move ranks u p) → AreIn ranks (set rs p c) tc (move ranks u p)
+  are_after : (c : TableRank) (tc : Table) (moved : Bool) → After ranks p c tc u moved → IsQuiet ranks (move ranks u p) → AreIn ranks (set rs p c) tc (move ranks u p)
   are_after c tc moved a quiet = record {
     count = length-set rs p c ∙ are.count;
     each = λ q x e. set_cases rs p q c x (λ y. (y.me ≡ q) × Stands y (move ranks u p q)) e
@@ -119,14 +120,14 @@ module _ (script : List (List Statement)) (ranks p : ℕ) (u : State) (rs : List
   }
 
   -- it has moved
-  pub moved_on : (c : RankView) (tc : Table) → Moves b t c tc true → IsReached script ranks (move ranks u p) × AreIn ranks (set rs p c) tc (move ranks u p)
+  pub moved_on : (c : TableRank) (tc : Table) → Moves b t c tc true → IsReached script ranks (move ranks u p) × AreIn ranks (set rs p c) tc (move ranks u p)
   moved_on c tc m =
       let a = m ranks p u before in
       let found = some_of (step (known ranks u p) (u p)) (sym a.moves) in
       (reached_on script ranks u p reached, are_after c tc true a (move-quiet ranks u p l found.0 found.1 are.quiet))
 
   -- it has no move
-  pub stands_still : (c : RankView) (tc : Table) → Moves b t c tc false → IsStuck ranks u p × AreIn ranks (set rs p c) tc u
+  pub stands_still : (c : TableRank) (tc : Table) → Moves b t c tc false → IsStuck ranks u p × AreIn ranks (set rs p c) tc u
   stands_still c tc m =
       let a = m ranks p u before in
       let none = none_there (step (known ranks u p) (u p)) (sym a.moves) in
@@ -134,17 +135,17 @@ module _ (script : List (List Statement)) (ranks p : ℕ) (u : State) (rs : List
       (none, subst (AreIn ranks (set rs p c) tc) same (are_after c tc false a (subst (IsQuiet ranks) (sym same) are.quiet)))
 
 -- a move more
-pub leads_itself : (a : RankView) (ta : Table) → Leads a ta a ta false
+pub leads_itself : (a : TableRank) (ta : Table) → Leads a ta a ta false
 leads_itself a ta script ranks p s rs l at reached are = record { to = s; reached = reached; are = subst (λ xs. AreIn ranks xs ta s) (sym (set_same rs p a at)) are; still = λ e. refl }
 
-pub leads_on : (a : RankView) (ta : Table) (b : RankView) (tb : Table) (c : RankView) (tc : Table) (moved : Bool) → Leads a ta b tb moved → Moves b tb c tc true → Leads a ta c tc true
+pub leads_on : (a : TableRank) (ta : Table) (b : TableRank) (tb : Table) (c : TableRank) (tc : Table) (moved : Bool) → Leads a ta b tb moved → Moves b tb c tc true → Leads a ta c tc true
 leads_on a ta b tb c tc moved h m script ranks p s rs l at reached are =
     let led = h script ranks p s rs l at reached are in
     let new = moved_on script ranks p led.to (set rs p b) l b tb (set_has rs p a b at) led.reached led.are c tc m in
     record { to = move ranks led.to p; reached = new.0; are = subst (λ xs. AreIn ranks xs tc (move ranks led.to p)) (set_twice rs p b c) new.1; still = λ e. cc e }
 
 -- the last one
-pub goes_to_end : (a : RankView) (ta : Table) (b : RankView) (tb : Table) (c : RankView) (tc : Table) (moved : Bool) → Leads a ta b tb moved → Moves b tb c tc false → GoesOn a ta c tc moved
+pub goes_to_end : (a : TableRank) (ta : Table) (b : TableRank) (tb : Table) (c : TableRank) (tc : Table) (moved : Bool) → Leads a ta b tb moved → Moves b tb c tc false → LeadsToEnd a ta c tc moved
 goes_to_end a ta b tb c tc moved h m script ranks p s rs l at reached are =
     let led = h script ranks p s rs l at reached are in
     let end = stands_still script ranks p led.to (set rs p b) l b tb (set_has rs p a b at) led.reached led.are c tc m in
@@ -152,10 +153,10 @@ goes_to_end a ta b tb c tc moved h m script ranks p s rs l at reached are =
 
 -- ROUNDS
 
-pub round_starts : (rs : List RankView) (t : Table) → Round rs t rs t false 0
+pub round_starts : (rs : List TableRank) (t : Table) → Round rs t rs t false 0
 round_starts rs t script ranks s reached are = (record { to = s; reached = reached; are = are; still = λ e. refl }, λ e p l. absurd (omega (arith, l)))
 
-pub round_more : (old : List RankView) (before : Table) (rs : List RankView) (t : Table) (changed moved : Bool) (n : ℕ) (a c : RankView) (tc : Table) → slice_get rs n ≡ Some a → Round old before rs t changed n → GoesOn a t c tc moved → Round old before (set rs n c) tc (changed || moved) (n + 1)
+pub round_more : (old : List TableRank) (before : Table) (rs : List TableRank) (t : Table) (changed moved : Bool) (n : ℕ) (a c : TableRank) (tc : Table) → slice_get rs n ≡ Some a → Round old before rs t changed n → LeadsToEnd a t c tc moved → Round old before (set rs n c) tc (changed || moved) (n + 1)
 round_more old before rs t changed moved n a c tc at h g script ranks s reached are =
     let first = h script ranks s reached are in
     let led = first.0 in
@@ -171,10 +172,10 @@ round_more old before rs t changed moved n a c tc at h g script ranks s reached 
           ],
     )
 
-pub rounds_start : (rs : List RankView) (t : Table) → Rounds rs t rs t
+pub rounds_start : (rs : List TableRank) (t : Table) → Rounds rs t rs t
 rounds_start rs t script ranks s reached are = (s, reached, are)
 
-pub rounds_on : (old : List RankView) (before : Table) (rs : List RankView) (t : Table) (new : List RankView) (u : Table) (moved : Bool) (n : ℕ) → Rounds old before rs t → Round rs t new u moved n → Rounds old before new u
+pub rounds_on : (old : List TableRank) (before : Table) (rs : List TableRank) (t : Table) (new : List TableRank) (u : Table) (moved : Bool) (n : ℕ) → Rounds old before rs t → Round rs t new u moved n → Rounds old before new u
 rounds_on old before rs t new u moved n h r script ranks s reached are =
     let here = h script ranks s reached are in
     let led = (r script ranks here.0 here.1 here.2).0 in
@@ -185,7 +186,7 @@ lt_or_ge a zero = inr (omega arith)
 lt_or_ge a (suc b) = elim (lt_or_ge a b) [ inl l ↦ inl (omega arith) | inr g ↦ elim (eq-or-lt_of_le g) [ inl e ↦ inl (omega arith) | inr l ↦ inr (omega arith) ] ]
 
 -- after a round that moves nobody
-pub rounds_end : (old : List RankView) (before : Table) (rs : List RankView) (t : Table) (new : List RankView) (u : Table) (n : ℕ) → length rs ≤ n → Rounds old before rs t → Round rs t new u false n → (script : List (List Statement)) (ranks : ℕ) (s : State) → IsReached script ranks s → AreIn ranks old before s → AreAtEnd script ranks new u
+pub rounds_end : (old : List TableRank) (before : Table) (rs : List TableRank) (t : Table) (new : List TableRank) (u : Table) (n : ℕ) → length rs ≤ n → Rounds old before rs t → Round rs t new u false n → (script : List (List Statement)) (ranks : ℕ) (s : State) → IsReached script ranks s → AreIn ranks old before s → AreAtEnd script ranks new u
 rounds_end old before rs t new u n many h r script ranks s reached are =
     let here = h script ranks s reached are in
     let last = r script ranks here.0 here.1 here.2 in

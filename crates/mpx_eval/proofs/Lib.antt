@@ -4,5 +4,7 @@ pub mod Outcomes
 pub mod Words
 pub mod Gathered
 pub mod Moving
+pub mod Carried
 pub mod Going
 pub mod Reporting
+pub mod Waits

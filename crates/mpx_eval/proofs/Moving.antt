@@ -1,5 +1,5 @@
 -- The moves of a rank whose table shows all posts.
-use Rattle.std.proofs.Common.{◌≡◌, ℕ, ◌==◌, Bool, true, false, cond, List, [], ◌∷◌, ◌++◌, length, map, Option, Some, None, refl, sym, ap, ◌∙◌, subst, arith}
+use Rattle.std.proofs.Common.{◌≡◌, ℕ, ◌==◌, Bool, true, false, cond, List, [], ◌∷◌, ◌++◌, map, Option, Some, None, refl, sym, ap, ◌∙◌, subst}
 use Rattle.std.specs.Prelude.{is_some, Ok, Err}
 use Rattle.std.specs.Option.{option_map}
 use Rattle.std.proofs.lemmas.Bool.Decides.{Decides-eqb}
@@ -20,8 +20,10 @@ use Rattle.mpx_evaluation.proofs.Ends.{goes_on-at}
 use Rattle.mpx_evaluation.proofs.Fronts.{append-nil}
 use Rattle.mpx_evaluation.proofs.Steps.{heard, posted, started, turned_down, waited, told_at_once, step_asks, step_ends, step_hears, step_passes, step_posts, step_refused, step_starts, step_stays, step_waits}
 use Rattle.mpx_evaluation.specs.Standing.{WaitView, binds, closed_all, todo_of}
-use Rattle.mpx_eval.specs.Places.{After, Before, CommunicatorView, IsBornSo, RankView, Stands, are_done, attempt_by, bound_as, communicator_in, posted_by, wait_lines}
+use Rattle.mpx_eval.specs.Places.{After, Before, CommunicatorView, IsBornSo, TableRank, Stands, attempt_by, bound_as, posted_by}
+use Rattle.mpx_rank.specs.Moves.{are_done, communicator_in, wait_lines}
 use Rattle.mpx_eval.specs.Tables.{Shows, Table, Tries, answer_on, with_made}
+use Rattle.mpx_eval.specs.Carrying.{outcomes_of}
 use Rattle.mpx_eval.proofs.Outcomes.{results_same}
 use Rattle.mpx_eval.proofs.Tables.{some_of}
 use Rattle.mpx_evaluation.proofs.Standing.{named_behind, named_without_all, none_there}
@@ -44,7 +46,7 @@ move_stays ranks s p e q = by_test (q == p) refl where
   by_test true f = subst (λ j. or_stay (s j) (step (known ranks s p) (s j)) ≡ s j) (sym ((Decides-eqb q p).0 f)) (ap (or_stay (s p)) e)
   by_test false f = refl
 
-module _ (ranks p : ℕ) (s : State) (r : RankView) (t : Table) (b : Before ranks p r t s) where
+module _ (ranks p : ℕ) (s : State) (r : TableRank) (t : Table) (b : Before ranks p r t s) where
   known_is : known ranks s p ≡ answer_on t r.me
   known_is = λ i name call. (sym (results_same ranks t (posted_by s) b.shows p name call) ∙ ap (λ me. answer_on t me name call) (sym b.me)) i
 
@@ -75,7 +77,7 @@ module _ (ranks p : ℕ) (s : State) (r : RankView) (t : Table) (b : Before rank
     by_test true f = subst (λ j. (or_stay (s j) (step (known ranks s p) (s j))).made ≡ (s j).made ++ a.made) (sym ((Decides-eqb q p).0 f)) (ap (λ o. (or_stay (s p) o).made) e)
     by_test false f = refl
 
-  moved : (a : Act) (new : RankView) (u : Table) → step (known ranks s p) (s p) ≡ Some (done (s p) a) → new.me ≡ p → Stands new (done (s p) a) → Shows ranks u (λ q. cond (q == p) ((s q).made ++ a.made) ((s q).made)) → After ranks p new u s true
+  moved : (a : Act) (new : TableRank) (u : Table) → step (known ranks s p) (s p) ≡ Some (done (s p) a) → new.me ≡ p → Stands new (done (s p) a) → Shows ranks u (λ q. cond (q == p) ((s q).made ++ a.made) ((s q).made)) → After ranks p new u s true
   moved a new u e me stands shows = record {
     moves = sym (ap is_some e);
     me = me;
@@ -119,18 +121,18 @@ module _ (ranks p : ℕ) (s : State) (r : RankView) (t : Table) (b : Before rank
   requests_are : r.requests ≡ named (s p).requests
   requests_are = λ i word. b.stands.requests word i
 
-  all_done : (words : List (List ℕ)) → is_some (answers (known ranks s p) (awaited_by (s p).requests words)) ≡ are_done (answer_on t r.me) r.requests words
-  all_done words = answers_done (known ranks s p) words (s p).requests ∙ λ i. are_done (known_is i) (sym requests_are i) words
+  all_done : (words : List (List ℕ)) → is_some (answers (known ranks s p) (awaited_by (s p).requests words)) ≡ are_done (outcomes_of (answer_on t r.me)) r.requests words
+  all_done words = answers_done (known ranks s p) words (s p).requests ∙ λ i. are_done (outcomes_of (known_is i)) (sym requests_are i) words
 
-  pub passes_not : (words : List (List ℕ)) (rest : List Statement) → r.waits ≡ None → r.todo ≡ Wait words ∷ rest → are_done (answer_on t r.me) r.requests words ≡ false → After ranks p r t s false
+  pub passes_not : (words : List (List ℕ)) (rest : List Statement) → r.waits ≡ None → r.todo ≡ Wait words ∷ rest → are_done (outcomes_of (answer_on t r.me)) r.requests words ≡ false → After ranks p r t s false
   passes_not words rest w e f = stays (step_stays (known ranks s p) (s p) words (doing rest) (todo_is None (Wait words ∷ rest) w e) (none_there (answers (known ranks s p) (awaited_by (s p).requests words)) (all_done words ∙ f)))
 
-  pub passes : (words : List (List ℕ)) (rest : List Statement) → r.waits ≡ None → r.todo ≡ Wait words ∷ rest → are_done (answer_on t r.me) r.requests words ≡ true
-      → After ranks p (record { me = r.me; bound = r.bound; requests = closed_all words r.requests; todo = rest; waits = None; lines = r.lines ++ map line_text (wait_lines (answer_on t r.me) r.requests words) }) t s true
+  pub passes : (words : List (List ℕ)) (rest : List Statement) → r.waits ≡ None → r.todo ≡ Wait words ∷ rest → are_done (outcomes_of (answer_on t r.me)) r.requests words ≡ true
+      → After ranks p (record { me = r.me; bound = r.bound; requests = closed_all words r.requests; todo = rest; waits = None; lines = r.lines ++ map line_text (wait_lines (outcomes_of (answer_on t r.me)) r.requests words) }) t s true
   passes words rest w e f =
       let told = some_of (answers (known ranks s p) (awaited_by (s p).requests words)) (all_done words ∙ f) in
-      let lines : wait_lines (answer_on t r.me) r.requests words ≡ waited_lines (s p).requests words told.0 = (λ i. wait_lines (sym known_is i) (requests_are i) words) ∙ sym (lines_told (known ranks s p) words (s p).requests told.0 told.1) in
-      moved (waited (s p) words (doing rest) told.0) (record { me = r.me; bound = r.bound; requests = closed_all words r.requests; todo = rest; waits = None; lines = r.lines ++ map line_text (wait_lines (answer_on t r.me) r.requests words) }) t
+      let lines : wait_lines (outcomes_of (answer_on t r.me)) r.requests words ≡ waited_lines (s p).requests words told.0 = (λ i. wait_lines (outcomes_of (sym known_is i)) (requests_are i) words) ∙ sym (lines_told (known ranks s p) words (s p).requests told.0 told.1) in
+      moved (waited (s p) words (doing rest) told.0) (record { me = r.me; bound = r.bound; requests = closed_all words r.requests; todo = rest; waits = None; lines = r.lines ++ map line_text (wait_lines (outcomes_of (answer_on t r.me)) r.requests words) }) t
       (step_passes (known ranks s p) (s p) words (doing rest) told.0 (todo_is None (Wait words ∷ rest) w e) told.1)
       b.me
       (record { bound = b.stands.bound; requests = named_without_all words (s p).requests r.requests b.stands.requests; todo = refl; lines = (λ i. b.stands.lines i ++ map line_text (lines i)) ∙ sym (map-append line_text (s p).lines (waited_lines (s p).requests words told.0)) })
@@ -185,10 +187,3 @@ module _ (ranks p : ℕ) (s : State) (r : RankView) (t : Table) (b : Before rank
           by_test : (v : Bool) (q : ℕ) → (s q).made ≡ cond v ((s q).made ++ []) ((s q).made)
           by_test true q = sym (append-nil (s q).made)
           by_test false q = refl
-
-pub lines_push : {A : Type 0} (text_of : A → List ℕ) (lines new : List A) (line : A) (text : List ℕ) → new ≡ lines ++ line ∷ [] → text_of line ≡ text → map text_of new ≡ map text_of lines ++ text ∷ []
-lines_push text_of lines new line text e f = ap (map text_of) e ∙ map-append text_of lines (line ∷ []) ∙ ap (λ x. map text_of lines ++ x ∷ []) f
-
-pub no_items : {A : Type 0} (xs : List A) → length xs ≡ 0 → xs ≡ []
-no_items [] e = refl
-no_items (x ∷ xs) e = absurd (omega (arith, e))

@@ -13,7 +13,7 @@ use Rattle.mpx_evaluation.specs.Reports.{is_left, lines_in, which}
 use Rattle.mpx_evaluation.proofs.Ends.{start_quiet}
 use Rattle.mpx_eval.specs.Evaluated.{IsEvaluated}
 use Rattle.mpx_evaluation.specs.Standing.{WaitView, has_statements, todo_of}
-use Rattle.mpx_eval.specs.Places.{RankView}
+use Rattle.mpx_eval.specs.Places.{TableRank}
 use Rattle.mpx_eval.specs.Rounds.{AreAtEnd, AreIn, Start, StartsAt, is_waiting_at}
 use Rattle.mpx_eval.specs.Tables.{Table}
 
@@ -26,18 +26,18 @@ push_cases [] y (suc p) x P e old last = cc e
 push_cases (z ∷ xs) y zero x P e old last = old e
 push_cases (z ∷ xs) y (suc p) x P e old last = push_cases xs y p x (λ q v. P (suc q) v) e old (subst (λ n. P n y) (let same : length (z ∷ xs) ≡ suc (length xs) = omega arith in same) last)
 
-pub one_more_starts : (script : List (List Statement)) (ranks count : ℕ) (rs : List RankView) (r : RankView) → Start script ranks count rs → StartsAt script ranks count r → Start script ranks (count + 1) (rs ++ r ∷ [])
+pub one_more_starts : (script : List (List Statement)) (ranks count : ℕ) (rs : List TableRank) (r : TableRank) → Start script ranks count rs → StartsAt script ranks count r → Start script ranks (count + 1) (rs ++ r ∷ [])
 one_more_starts script ranks count rs r s at = record {
   count_is = length-append rs (r ∷ []) ∙ omega (arith, s.count_is);
   each = λ p x e. push_cases rs r p x (λ q v. StartsAt script ranks q v) e (s.each p x) (subst (λ n. StartsAt script ranks n r) (sym s.count_is) at);
 }
 
-at_index : (script : List (List Statement)) (p : ℕ) → slice_index_or script p [] ≡ unwrap_or (slice_get script p) []
+pub at_index : (script : List (List Statement)) (p : ℕ) → slice_index_or script p [] ≡ unwrap_or (slice_get script p) []
 at_index [] p = refl
 at_index (x ∷ xs) zero = refl
 at_index (x ∷ xs) (suc p) = at_index xs p
 
-pub are_in_start : (script : List (List Statement)) (ranks : ℕ) (rs : List RankView) (t : Table) → length script ≡ ranks → Start script ranks ranks rs → ((name : Name) → t name ≡ None) → AreIn ranks rs t (start script ranks)
+pub are_in_start : (script : List (List Statement)) (ranks : ℕ) (rs : List TableRank) (t : Table) → length script ≡ ranks → Start script ranks ranks rs → ((name : Name) → t name ≡ None) → AreIn ranks rs t (start script ranks)
 are_in_start script ranks rs t count s none = record {
   count = s.count_is;
   each = λ p r e.
@@ -68,35 +68,35 @@ left_waits (Some w) rest = refl
 left_waits None [] = refl
 left_waits None (x ∷ rest) = refl
 
-which_same : (f g : ℕ → Bool) (n : ℕ) → ((p : ℕ) → p < n → f p ≡ g p) → which f n ≡ which g n
+pub which_same : (f g : ℕ → Bool) (n : ℕ) → ((p : ℕ) → p < n → f p ≡ g p) → which f n ≡ which g n
 which_same f g zero h = refl
 which_same f g (suc n) h = λ i. which_same f g n (λ p l. h p (omega (arith, l))) i ++ cond (h n (omega arith) i) (n ∷ []) []
 
-module _ (script : ScriptView) (rs : List RankView) (t : Table) (e : AreAtEnd script.statements script.ranks rs t) where
-  there : (p : ℕ) → p < script.ranks → (r : RankView) × (slice_get rs p ≡ Some r)
+module _ (script : ScriptView) (rs : List TableRank) (t : Table) (e : AreAtEnd script.statements script.ranks rs t) where
+  pub there : (p : ℕ) → p < script.ranks → (r : TableRank) × (slice_get rs p ≡ Some r)
   there p l = by_place (slice_get rs p) refl where
-    by_place : (o : Option RankView) → slice_get rs p ≡ o → (r : RankView) × (slice_get rs p ≡ Some r)
+    by_place : (o : Option TableRank) → slice_get rs p ≡ o → (r : TableRank) × (slice_get rs p ≡ Some r)
     by_place (Some r) f = (r, f)
     by_place None f = absurd (past rs p (omega (arith, l, e.are.count)) f) where
-      past : (xs : List RankView) (q : ℕ) → q < length xs → slice_get xs q ≡ None → ⊥
+      past : (xs : List TableRank) (q : ℕ) → q < length xs → slice_get xs q ≡ None → ⊥
       past [] q less g = omega (arith, less)
       past (x ∷ xs) zero less g = cc g
       past (x ∷ xs) (suc q) less g = past xs q (omega (arith, less)) g
 
-  waits_same : (p : ℕ) → p < script.ranks → is_waiting_at (slice_get rs p) ≡ is_left (e.end p).todo
+  pub waits_same : (p : ℕ) → p < script.ranks → is_waiting_at (slice_get rs p) ≡ is_left (e.end p).todo
   waits_same p l =
       let here = there p l in
       ap is_waiting_at here.1 ∙ sym (ap is_left (e.are.each p here.0 here.1).1.todo ∙ left_waits here.0.waits here.0.todo)
 
-  lines_at : (p : ℕ) (ls : List (List ℕ)) (o : Option RankView) → slice_get rs p ≡ o → option_map (λ (r : RankView). r.lines) (slice_get rs p) ≡ Some ls → ls ≡ lines_in e.end p
+  lines_at : (p : ℕ) (ls : List (List ℕ)) (o : Option TableRank) → slice_get rs p ≡ o → option_map (λ (r : TableRank). r.lines) (slice_get rs p) ≡ Some ls → ls ≡ lines_in e.end p
   lines_at p ls None f g = cc (f, g)
-  lines_at p ls (Some r) f g = sym (same_Some r.lines ls (sym (ap (option_map (λ (x : RankView). x.lines)) f) ∙ g)) ∙ (e.are.each p r f).1.lines
+  lines_at p ls (Some r) f g = sym (same_Some r.lines ls (sym (ap (option_map (λ (x : TableRank). x.lines)) f) ∙ g)) ∙ (e.are.each p r f).1.lines
 
-  pub evaluated : (said : List (List (List ℕ))) (waiting : List ℕ) → said ≡ map (λ (r : RankView). r.lines) rs → waiting ≡ which (λ p. is_waiting_at (slice_get rs p)) script.ranks → IsEvaluated script said waiting
+  pub evaluated : (said : List (List (List ℕ))) (waiting : List ℕ) → said ≡ map (λ (r : TableRank). r.lines) rs → waiting ≡ which (λ p. is_waiting_at (slice_get rs p)) script.ranks → IsEvaluated script said waiting
   evaluated said waiting lines waits = record {
     end = e.end;
     evaluation = e.evaluation;
-    ranks_are = ap length lines ∙ length-map rs (λ (r : RankView). r.lines) ∙ e.are.count;
-    lines = λ p ls f. lines_at p ls (slice_get rs p) refl (sym (slice_get-map (λ (r : RankView). r.lines) rs p) ∙ ap (λ xs. slice_get xs p) (sym lines) ∙ f);
+    ranks_are = ap length lines ∙ length-map rs (λ (r : TableRank). r.lines) ∙ e.are.count;
+    lines = λ p ls f. lines_at p ls (slice_get rs p) refl (sym (slice_get-map (λ (r : TableRank). r.lines) rs p) ∙ ap (λ xs. slice_get xs p) (sym lines) ∙ f);
     waiting_are = waits ∙ which_same (λ p. is_waiting_at (slice_get rs p)) (λ p. is_left (e.end p).todo) script.ranks waits_same;
   }

@@ -1,18 +1,18 @@
 -- Words that a map binds, and waits for requests.
-use Rattle.std.proofs.Common.{◌≡◌, ℕ, ◌+◌, ◌<◌, Bool, true, false, cond, List, [], ◌∷◌, ◌++◌, length, map, drop, get_or, append_assoc, Option, Some, None, refl, sym, ap, ◌∙◌}
+use Rattle.std.proofs.Common.{◌≡◌, ℕ, Bool, true, false, cond, List, [], ◌∷◌, Option, Some, None, refl, sym, ap, ◌∙◌}
 use Rattle.std.specs.Prelude.{◌&&◌, is_some, bytes_eq, option_and_then}
 use Rattle.std.specs.List.{list_all}
 use Rattle.std.specs.Option.{option_map}
-use Rattle.std.proofs.lemmas.List.{at_drop_more}
 use Rattle.std.proofs.lemmas.Option.{option_and_then_some, same_Some}
 use Rattle.mpx_name.specs.Name.{Name}
 use Rattle.mpx_value.specs.Histories.{Answer, Results}
 use Rattle.mpx_statement.specs.Lookups.{named}
 use Rattle.mpx_evaluation.specs.Ranks.{Bindings, Requests, Idle, answers, awaited_by, awaited_then, bind, communicator_of, line_then, waited_lines, without}
-use Rattle.mpx_evaluation.specs.Transcripts.{line_text}
-use Rattle.mpx_evaluation.specs.Standing.{binds, closed, closed_all}
+use Rattle.mpx_evaluation.specs.Standing.{binds, closed}
 use Rattle.mpx_evaluation.proofs.Standing.{binds_seen, named_behind, named_without, same_word}
-use Rattle.mpx_eval.specs.Places.{CommunicatorView, are_done, bound_as, communicator_in, is_done, request_line, told_line, wait_lines}
+use Rattle.mpx_eval.specs.Places.{CommunicatorView, bound_as}
+use Rattle.mpx_rank.specs.Moves.{are_done, communicator_in, is_done, request_line, told_line, wait_lines}
+use Rattle.mpx_eval.specs.Carrying.{outcomes_of}
 use Rattle.mpx_eval.proofs.Contexts.{is_some-all_of}
 
 -- WORDS
@@ -29,63 +29,52 @@ communicator_same (Some (Some c)) = refl
 
 -- WAITS
 
+some_mapped : (o : Option Answer) → is_some (option_map (λ (a : Answer). a.outcome) o) ≡ is_some o
+some_mapped None = refl
+some_mapped (Some a) = refl
+
 module _ (r : Results) where
   -- what is closed is done
-  done_closed : (requests : List ℕ → Option (Name × ℕ)) (old : List ℕ) → is_done r (requests old) ≡ true → (word : List ℕ) → is_done r (closed old requests word) ≡ is_done r (requests word)
+  done_closed : (requests : List ℕ → Option (Name × ℕ)) (old : List ℕ) → is_done (outcomes_of r) (requests old) ≡ true → (word : List ℕ) → is_done (outcomes_of r) (closed old requests word) ≡ is_done (outcomes_of r) (requests word)
   done_closed requests old done word = by_test (bytes_eq old word) refl where
-    by_test : (b : Bool) → bytes_eq old word ≡ b → is_done r (cond b None (requests word)) ≡ is_done r (requests word)
-    by_test true e = sym (ap (λ w. is_done r (requests w)) (sym (same_word old word e)) ∙ done)
+    by_test : (b : Bool) → bytes_eq old word ≡ b → is_done (outcomes_of r) (cond b None (requests word)) ≡ is_done (outcomes_of r) (requests word)
+    by_test true e = sym (ap (λ w. is_done (outcomes_of r) (requests w)) (sym (same_word old word e)) ∙ done)
     by_test false e = refl
 
-  done_all : (word : List ℕ) (words : List (List ℕ)) (xs : Requests) (o : Option (Name × ℕ)) → named xs word ≡ o → is_some (answers r (awaited_by (without word xs) words)) ≡ are_done r (named (without word xs)) words
-      → is_some (answers r (awaited_then o (awaited_by (without word xs) words))) ≡ (is_done r o && are_done r (named xs) words)
+  done_all : (word : List ℕ) (words : List (List ℕ)) (xs : Requests) (o : Option (Name × ℕ)) → named xs word ≡ o → is_some (answers r (awaited_by (without word xs) words)) ≡ are_done (outcomes_of r) (named (without word xs)) words
+      → is_some (answers r (awaited_then o (awaited_by (without word xs) words))) ≡ (is_done (outcomes_of r) o && are_done (outcomes_of r) (named xs) words)
   done_all word words xs o e before = by_request o e where
-    rest : is_done r (named xs word) ≡ true → is_some (answers r (awaited_by (without word xs) words)) ≡ are_done r (named xs) words
-    rest done = before ∙ (λ i. list_all (λ w. is_done r (named_without word xs w i)) words) ∙ (λ i. list_all (λ w. done_closed (named xs) word done w i) words)
+    rest : is_done (outcomes_of r) (named xs word) ≡ true → is_some (answers r (awaited_by (without word xs) words)) ≡ are_done (outcomes_of r) (named xs) words
+    rest done = before ∙ (λ i. list_all (λ w. is_done (outcomes_of r) (named_without word xs w i)) words) ∙ (λ i. list_all (λ w. done_closed (named xs) word done w i) words)
 
-    by_done : (place : Name × ℕ) → named xs word ≡ Some place → (b : Bool) → is_some (r place.0 place.1) ≡ b → (b && list_all (λ (call : Name × ℕ). is_some (r call.0 call.1)) (awaited_by (without word xs) words)) ≡ (b && are_done r (named xs) words)
-    by_done place e true f = sym (is_some-all_of (λ (call : Name × ℕ). r call.0 call.1) (awaited_by (without word xs) words)) ∙ rest (ap (is_done r) e ∙ f)
+    by_done : (place : Name × ℕ) → named xs word ≡ Some place → (b : Bool) → is_some (r place.0 place.1) ≡ b → (b && list_all (λ (call : Name × ℕ). is_some (r call.0 call.1)) (awaited_by (without word xs) words)) ≡ (b && are_done (outcomes_of r) (named xs) words)
+    by_done place e true f = sym (is_some-all_of (λ (call : Name × ℕ). r call.0 call.1) (awaited_by (without word xs) words)) ∙ rest (ap (is_done (outcomes_of r)) e ∙ some_mapped (r place.0 place.1) ∙ f)
     by_done place e false f = refl
 
-    by_request : (o : Option (Name × ℕ)) → named xs word ≡ o → is_some (answers r (awaited_then o (awaited_by (without word xs) words))) ≡ (is_done r o && are_done r (named xs) words)
-    by_request None e = rest (ap (is_done r) e)
-    by_request (Some place) e = is_some-all_of (λ (call : Name × ℕ). r call.0 call.1) (place ∷ awaited_by (without word xs) words) ∙ by_done place e (is_some (r place.0 place.1)) refl
+    by_request : (o : Option (Name × ℕ)) → named xs word ≡ o → is_some (answers r (awaited_then o (awaited_by (without word xs) words))) ≡ (is_done (outcomes_of r) o && are_done (outcomes_of r) (named xs) words)
+    by_request None e = rest (ap (is_done (outcomes_of r)) e)
+    by_request (Some place) e = is_some-all_of (λ (call : Name × ℕ). r call.0 call.1) (place ∷ awaited_by (without word xs) words) ∙ by_done place e (is_some (r place.0 place.1)) refl ∙ ap (λ b. b && are_done (outcomes_of r) (named xs) words) (sym (some_mapped (r place.0 place.1)))
 
   -- a wait passes where all of its calls are done
-  pub answers_done : (words : List (List ℕ)) (xs : Requests) → is_some (answers r (awaited_by xs words)) ≡ are_done r (named xs) words
+  pub answers_done : (words : List (List ℕ)) (xs : Requests) → is_some (answers r (awaited_by xs words)) ≡ are_done (outcomes_of r) (named xs) words
   answers_done [] xs = refl
   answers_done (word ∷ words) xs = done_all word words xs (named xs word) refl (answers_done words (without word xs))
 
-  told_all : (word : List ℕ) (words : List (List ℕ)) (xs : Requests) (told : List Answer) → ((told : List Answer) → answers r (awaited_by (without word xs) words) ≡ Some told → waited_lines (without word xs) words told ≡ wait_lines r (named (without word xs)) words)
-      → (o : Option (Name × ℕ)) → answers r (awaited_then o (awaited_by (without word xs) words)) ≡ Some told → line_then o told (waited_lines (without word xs) words) ≡ request_line r o ∷ wait_lines r (closed word (named xs)) words
+  told_all : (word : List ℕ) (words : List (List ℕ)) (xs : Requests) (told : List Answer) → ((told : List Answer) → answers r (awaited_by (without word xs) words) ≡ Some told → waited_lines (without word xs) words told ≡ wait_lines (outcomes_of r) (named (without word xs)) words)
+      → (o : Option (Name × ℕ)) → answers r (awaited_then o (awaited_by (without word xs) words)) ≡ Some told → line_then o told (waited_lines (without word xs) words) ≡ request_line (outcomes_of r) o ∷ wait_lines (outcomes_of r) (closed word (named xs)) words
   told_all word words xs told before o e = by_request o e where
-    rest : (told : List Answer) → answers r (awaited_by (without word xs) words) ≡ Some told → waited_lines (without word xs) words told ≡ wait_lines r (closed word (named xs)) words
-    rest told f = before told f ∙ λ i. wait_lines r (λ w. named_without word xs w i) words
+    rest : (told : List Answer) → answers r (awaited_by (without word xs) words) ≡ Some told → waited_lines (without word xs) words told ≡ wait_lines (outcomes_of r) (closed word (named xs)) words
+    rest told f = before told f ∙ λ i. wait_lines (outcomes_of r) (λ w. named_without word xs w i) words
 
-    by_request : (o : Option (Name × ℕ)) → answers r (awaited_then o (awaited_by (without word xs) words)) ≡ Some told → line_then o told (waited_lines (without word xs) words) ≡ request_line r o ∷ wait_lines r (closed word (named xs)) words
+    by_request : (o : Option (Name × ℕ)) → answers r (awaited_then o (awaited_by (without word xs) words)) ≡ Some told → line_then o told (waited_lines (without word xs) words) ≡ request_line (outcomes_of r) o ∷ wait_lines (outcomes_of r) (closed word (named xs)) words
     by_request None g = ap (λ ls. Idle ∷ ls) (rest told g)
     by_request (Some place) g =
         option_and_then_some (λ x. option_and_then (λ ys. Some (x ∷ ys)) (answers r (awaited_by (without word xs) words))) (r place.0 place.1) told g (λ answer known k.
         option_and_then_some (λ ys. Some (answer ∷ ys)) (answers r (awaited_by (without word xs) words)) told k (λ more others is.
         ap (λ ts. line_then (Some place) ts (waited_lines (without word xs) words)) (sym (same_Some (answer ∷ more) told is))
-        ∙ (λ i. told_line place.0 place.1 (sym known i) ∷ rest more others i)))
+        ∙ (λ i. told_line place.0 place.1 (option_map (λ (a : Answer). a.outcome) (sym known i)) ∷ rest more others i)))
 
   -- and its lines tell their answers
-  pub lines_told : (words : List (List ℕ)) (xs : Requests) (told : List Answer) → answers r (awaited_by xs words) ≡ Some told → waited_lines xs words told ≡ wait_lines r (named xs) words
+  pub lines_told : (words : List (List ℕ)) (xs : Requests) (told : List Answer) → answers r (awaited_by xs words) ≡ Some told → waited_lines xs words told ≡ wait_lines (outcomes_of r) (named xs) words
   lines_told [] xs told e = refl
   lines_told (word ∷ words) xs told e = told_all word words xs told (λ ts f. lines_told words (without word xs) ts f) (named xs word) e
-
--- one request more is closed
-module _ (r : Results) (requests left : List ℕ → Option (Name × ℕ)) (ws : List (List ℕ)) (i : ℕ) (w : List ℕ) (l : i < length ws) (e : w ≡ get_or ws i w) (is : (word : List ℕ) → left word ≡ closed w requests word) where
-  pub close_more : (word : List ℕ) → closed_all (drop (i + 1) ws) left word ≡ closed_all (drop i ws) requests word
-  close_more word =
-      (λ j. closed_all (drop (i + 1) ws) (λ q. is q j) word)
-      ∙ ap (λ v. closed_all (drop (i + 1) ws) (closed v requests) word) e
-      ∙ sym (at_drop_more (λ xs. closed_all xs requests word) ws i w l)
-
-  pub tell_more : (texts : List (List ℕ)) (text : List ℕ) → text ≡ line_text (request_line r (requests w)) → (texts ++ text ∷ []) ++ map line_text (wait_lines r left (drop (i + 1) ws)) ≡ texts ++ map line_text (wait_lines r requests (drop i ws))
-  tell_more texts text said =
-      append_assoc texts (text ∷ []) (map line_text (wait_lines r left (drop (i + 1) ws)))
-      ∙ (λ j. texts ++ said j ∷ map line_text (wait_lines r (λ q. is q j) (drop (i + 1) ws)))
-      ∙ ap (λ v. texts ++ map line_text (wait_lines r requests (v ∷ drop (i + 1) ws))) e
-      ∙ sym (at_drop_more (λ xs. texts ++ map line_text (wait_lines r requests xs)) ws i w l)

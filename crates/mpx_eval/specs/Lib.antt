@@ -2,6 +2,9 @@ pub mod Contexts
 pub mod Answered
 pub mod Tables
 pub mod Places
-pub mod Shown
+pub mod Carrying
 pub mod Rounds
 pub mod Evaluated
+pub mod Lacking
+pub mod Waiting
+pub mod Found

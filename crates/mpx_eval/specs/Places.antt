@@ -1,6 +1,5 @@
--- Where a rank stands in its statements, and what its moves do.
-use Rattle.std.specs.Prelude.{◌≡◌, ℕ, ◌+◌, ◌*◌, Bool, true, ◌||◌, is_some, List, [], ◌∷◌, length, map, Option, Some, None, Result, Err}
-use Rattle.std.specs.List.{list_all}
+-- Where a rank stands in its statements by the table of all posts, and what its moves do.
+use Rattle.std.specs.Prelude.{◌≡◌, ℕ, Bool, is_some, List, ◌∷◌, map, Option, Some, None, Result, Err}
 use Rattle.std.specs.Option.{option_map}
 use Rattle.mpx_name.specs.Name.{Name}
 use Rattle.mpx_name.specs.declared.steps.Step.TheVariants.{Gathering}
@@ -8,41 +7,30 @@ use Rattle.mpx_post.specs.declared.draft.PostError.{PostError}
 use Rattle.mpx_post.specs.declared.draft.PostError.TheVariants.{NotMember}
 use Rattle.mpx_post.specs.Births.{BirthView}
 use Rattle.mpx_post.specs.Gatherings.{GatheringView}
-use Rattle.mpx_value.specs.Histories.{Answer, Made, Results, birth_of, history_of}
+use Rattle.mpx_value.specs.Histories.{Made, birth_of, history_of}
 use Rattle.mpx_statement.specs.declared.statement.Posting.{Posting}
-use Rattle.mpx_statement.specs.declared.statement.Statement.{Statement}
 use Rattle.mpx_statement.specs.Statements.{draft_of, gathers_of}
 use Rattle.mpx_statement.specs.Lookups.{named}
-use Rattle.mpx_evaluation.specs.Ranks.{Bound, Communicator, NullCommunicator, Line, Told, Idle, Local, attempt_in, step}
-use Rattle.mpx_evaluation.specs.Standing.{WaitView, awaited, closed, has_statements, todo_of}
+use Rattle.mpx_evaluation.specs.Ranks.{Bound, Communicator, NullCommunicator, Local, attempt_in, step}
+use Rattle.mpx_evaluation.specs.Standing.{todo_of}
 use Rattle.mpx_evaluation.specs.Transcripts.{line_text}
 use Rattle.mpx_evaluation.specs.Evaluation.{State, history, known, move}
+use Rattle.mpx_rank.specs.Moves.{RankView}
 use Rattle.mpx_eval.specs.Tables.{Posted, Shows, Table}
 
 -- a communicator: its name, and how it came to be
 abbrev pub CommunicatorView : Type 0
 CommunicatorView = Name × BirthView
 
--- who it is, what its words are bound to (None is the null communicator) and which calls its open requests stand for, the
--- statements that are left, what it waits for, and the lines so far
-pub record RankView : Type 0 where
-  pub me : ℕ
-  pub bound : List ℕ → Option (Option CommunicatorView)
-  pub requests : List ℕ → Option (Name × ℕ)
-  pub todo : List Statement
-  pub waits : Option WaitView
-  pub lines : List (List ℕ)
+-- a rank whose posts the table carries
+abbrev pub TableRank : Type 0
+TableRank = RankView CommunicatorView
 
 -- WORDS
 
 abbrev pub bound_as : Option CommunicatorView → Bound
 bound_as None = NullCommunicator
 bound_as (Some c) = Communicator c.0 c.1
-
--- the communicator that a word is bound to, where it is one
-abbrev pub communicator_in : Option (Option CommunicatorView) → Option CommunicatorView
-communicator_in None = None
-communicator_in (Some to) = to
 
 -- POSTS
 
@@ -59,43 +47,10 @@ gathering_name parent g = Gathering g.tag g.members ∷ parent
 abbrev pub IsBornSo : (ranks : ℕ) → Posted → Option CommunicatorView → Type 0
 IsBornSo ranks made o = (c : CommunicatorView) → o ≡ Some c → birth_of (history_of made) ranks c.0 ≡ Some c.1
 
--- WAITS
-
--- whether a request isn't open, or the answer of its call is known
-abbrev pub is_done : Results → Option (Name × ℕ) → Bool
-is_done r None = true
-is_done r (Some place) = is_some (r place.0 place.1)
-
-abbrev pub are_done : Results → (List ℕ → Option (Name × ℕ)) → List (List ℕ) → Bool
-are_done r requests words = list_all (λ word. is_done r (requests word)) words
-
--- the line of a call, where its answer is known
-abbrev pub told_line : Name → (call : ℕ) → Option Answer → Line
-told_line name call None = Idle
-told_line name call (Some answer) = Told name call answer.outcome
-
--- the line of a request that may be open
-abbrev pub request_line : Results → Option (Name × ℕ) → Line
-request_line r None = Idle
-request_line r (Some place) = told_line place.0 place.1 (r place.0 place.1)
-
--- the lines of a wait for these words
-abbrev pub wait_lines : Results → (List ℕ → Option (Name × ℕ)) → List (List ℕ) → List Line
-wait_lines r requests [] = []
-wait_lines r requests (word ∷ words) = request_line r (requests word) ∷ wait_lines r (closed word requests) words
-
 -- WHERE A RANK STANDS
 
--- so much is left at most
-abbrev pub left_of : RankView → ℕ
-left_of r = 2 * length r.todo + awaited r.waits
-
--- whether it waits for an outcome, or has statements left
-abbrev pub is_waiting : RankView → Bool
-is_waiting r = is_some r.waits || has_statements r.todo
-
 -- the rank stands there in its script
-pub record Stands (r : RankView) (s : Local) : Type 0 where
+pub record Stands (r : TableRank) (s : Local) : Type 0 where
   pub bound : (word : List ℕ) → option_map bound_as (r.bound word) ≡ named s.bound word
   pub requests : (word : List ℕ) → r.requests word ≡ named s.requests word
   pub todo : s.todo ≡ todo_of r.waits r.todo
@@ -106,7 +61,7 @@ abbrev pub posted_by : State → Posted
 posted_by s q = (s q).made
 
 -- this is rank p, it stands there, each communicator that its words are bound to came to be so, and the table shows all posts
-pub record Before (ranks p : ℕ) (r : RankView) (t : Table) (s : State) : Type 0 where
+pub record Before (ranks p : ℕ) (r : TableRank) (t : Table) (s : State) : Type 0 where
   pub me : r.me ≡ p
   pub local_me : (s p).me ≡ p
   pub stands : Stands r (s p)
@@ -114,12 +69,12 @@ pub record Before (ranks p : ℕ) (r : RankView) (t : Table) (s : State) : Type 
   pub shows : Shows ranks t (posted_by s)
 
 -- the same after its move, where it has one
-pub record After (ranks p : ℕ) (r : RankView) (t : Table) (s : State) (moved : Bool) : Type 0 where
+pub record After (ranks p : ℕ) (r : TableRank) (t : Table) (s : State) (moved : Bool) : Type 0 where
   pub moves : moved ≡ is_some (step (known ranks s p) (s p))
   pub me : r.me ≡ p
   pub stands : Stands r (move ranks s p p)
   pub shows : Shows ranks t (posted_by (move ranks s p))
 
 -- one is the other moved on, or there was no move
-abbrev pub Moves : (old : RankView) (before : Table) (new : RankView) (after : Table) (moved : Bool) → Type 0
+abbrev pub Moves : (old : TableRank) (before : Table) (new : TableRank) (after : Table) (moved : Bool) → Type 0
 Moves old before new after moved = (ranks p : ℕ) (s : State) → Before ranks p old before s → After ranks p new after s moved

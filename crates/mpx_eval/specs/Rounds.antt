@@ -6,18 +6,19 @@ use Rattle.mpx_statement.specs.Lookups.{named}
 use Rattle.mpx_statement.specs.declared.statement.Statement.{Statement}
 use Rattle.mpx_evaluation.specs.Ranks.{step}
 use Rattle.mpx_evaluation.specs.Evaluation.{State, IsEvaluation, IsQuiet, IsReached, bound_at_start, known}
-use Rattle.mpx_eval.specs.Places.{RankView, Stands, bound_as, is_waiting, left_of, posted_by}
+use Rattle.mpx_eval.specs.Places.{TableRank, Stands, bound_as, posted_by}
+use Rattle.mpx_rank.specs.Moves.{is_waiting, left_of}
 use Rattle.mpx_eval.specs.Tables.{Shows, Table}
 
 -- all ranks stand there in the script, and the table shows their posts
-pub record AreIn (ranks : ℕ) (rs : List RankView) (t : Table) (s : State) : Type 0 where
+pub record AreIn (ranks : ℕ) (rs : List TableRank) (t : Table) (s : State) : Type 0 where
   pub count : length rs ≡ ranks
-  pub each : (p : ℕ) (r : RankView) → slice_get rs p ≡ Some r → (r.me ≡ p) × Stands r (s p)
+  pub each : (p : ℕ) (r : TableRank) → slice_get rs p ≡ Some r → (r.me ≡ p) × Stands r (s p)
   pub shows : Shows ranks t (posted_by s)
   pub quiet : IsQuiet ranks s
 
 -- moves lead from where the ranks stood to where they stand; without a move that is the same
-pub record Led (script : List (List Statement)) (ranks : ℕ) (from : State) (rs : List RankView) (t : Table) (moved : Bool) : Type 0 where
+pub record Led (script : List (List Statement)) (ranks : ℕ) (from : State) (rs : List TableRank) (t : Table) (moved : Bool) : Type 0 where
   pub to : State
   pub reached : IsReached script ranks to
   pub are : AreIn ranks rs t to
@@ -28,38 +29,38 @@ abbrev pub IsStuck : (ranks : ℕ) → State → (p : ℕ) → Type 0
 IsStuck ranks s p = step (known ranks s p) (s p) ≡ None
 
 -- in the place of one among all ranks stands the other, which has moved on
-abbrev pub Leads : (old : RankView) (before : Table) (new : RankView) (after : Table) (moved : Bool) → Type 0
-Leads old before new after moved = (script : List (List Statement)) (ranks p : ℕ) (s : State) (rs : List RankView) → p < ranks → slice_get rs p ≡ Some old
+abbrev pub Leads : (old : TableRank) (before : Table) (new : TableRank) (after : Table) (moved : Bool) → Type 0
+Leads old before new after moved = (script : List (List Statement)) (ranks p : ℕ) (s : State) (rs : List TableRank) → p < ranks → slice_get rs p ≡ Some old
     → IsReached script ranks s → AreIn ranks rs before s → Led script ranks s (set rs p new) after moved
 
 -- the same until it has no move
-abbrev pub GoesOn : (old : RankView) (before : Table) (new : RankView) (after : Table) (moved : Bool) → Type 0
-GoesOn old before new after moved = (script : List (List Statement)) (ranks p : ℕ) (s : State) (rs : List RankView) → p < ranks → slice_get rs p ≡ Some old
+abbrev pub LeadsToEnd : (old : TableRank) (before : Table) (new : TableRank) (after : Table) (moved : Bool) → Type 0
+LeadsToEnd old before new after moved = (script : List (List Statement)) (ranks p : ℕ) (s : State) (rs : List TableRank) → p < ranks → slice_get rs p ≡ Some old
     → IsReached script ranks s → AreIn ranks rs before s → (led : Led script ranks s (set rs p new) after moved) × IsStuck ranks led.to p
 
 -- the first ranks, up to this number, have gone on so
-abbrev pub Round : (old : List RankView) (before : Table) (new : List RankView) (after : Table) (moved : Bool) (number : ℕ) → Type 0
+abbrev pub Round : (old : List TableRank) (before : Table) (new : List TableRank) (after : Table) (moved : Bool) (number : ℕ) → Type 0
 Round old before new after moved number = (script : List (List Statement)) (ranks : ℕ) (s : State) → IsReached script ranks s → AreIn ranks old before s
     → Led script ranks s new after moved × (moved ≡ false → (p : ℕ) → p < number → IsStuck ranks s p)
 
 -- rounds have led there
-abbrev pub Rounds : (old : List RankView) (before : Table) (new : List RankView) (after : Table) → Type 0
+abbrev pub Rounds : (old : List TableRank) (before : Table) (new : List TableRank) (after : Table) → Type 0
 Rounds old before new after = (script : List (List Statement)) (ranks : ℕ) (s : State) → IsReached script ranks s → AreIn ranks old before s
     → (u : State) × IsReached script ranks u × AreIn ranks new after u
 
 -- this is where the evaluation ends
-pub record AreAtEnd (script : List (List Statement)) (ranks : ℕ) (rs : List RankView) (t : Table) : Type 0 where
+pub record AreAtEnd (script : List (List Statement)) (ranks : ℕ) (rs : List TableRank) (t : Table) : Type 0 where
   pub end : State
   pub evaluation : IsEvaluation script ranks end
   pub are : AreIn ranks rs t end
 
 -- so much is left at most
-abbrev pub all_left : List RankView → ℕ
+abbrev pub all_left : List TableRank → ℕ
 all_left [] = 0
 all_left (r ∷ rs) = left_of r + all_left rs
 
 -- rank p before its statements
-pub record StartsAt (script : List (List Statement)) (ranks p : ℕ) (r : RankView) : Type 0 where
+pub record StartsAt (script : List (List Statement)) (ranks p : ℕ) (r : TableRank) : Type 0 where
   pub me : r.me ≡ p
   pub bound : (word : List ℕ) → option_map bound_as (r.bound word) ≡ named (bound_at_start ranks) word
   pub requests : (word : List ℕ) → r.requests word ≡ None
@@ -68,10 +69,10 @@ pub record StartsAt (script : List (List Statement)) (ranks p : ℕ) (r : RankVi
   pub lines : r.lines ≡ []
 
 -- the first so many ranks before their statements
-pub record Start (script : List (List Statement)) (ranks count : ℕ) (rs : List RankView) : Type 0 where
+pub record Start (script : List (List Statement)) (ranks count : ℕ) (rs : List TableRank) : Type 0 where
   pub count_is : length rs ≡ count
-  pub each : (p : ℕ) (r : RankView) → slice_get rs p ≡ Some r → StartsAt script ranks p r
+  pub each : (p : ℕ) (r : TableRank) → slice_get rs p ≡ Some r → StartsAt script ranks p r
 
-abbrev pub is_waiting_at : Option RankView → Bool
+abbrev pub is_waiting_at : Option TableRank → Bool
 is_waiting_at None = false
 is_waiting_at (Some r) = is_waiting r

@@ -10,6 +10,7 @@ ghost use Rattle.mpx_value.specs.Histories.{born_by};
 ghost use Rattle.mpx_eval.specs.Contexts.{births_by, found};
 ghost use Rattle.mpx_eval.specs.Answered.{answer_of};
 
+use crate::evaluation::push_where;
 use join_core::{Exact, OutOfMemory};
 use mpx_group::Proc;
 use mpx_name::Name;
@@ -96,6 +97,7 @@ impl Model for Context {
 
 impl Context {
     ghost use Rattle.mpx_eval.specs.Contexts.{Posts, answer_in, fresh, row_in};
+    ghost use Rattle.mpx_eval.specs.Lacking.{lacking};
 
     /// Before any post.
     pub(crate) fn new(alloc: Global, birth: Birth) -> Result<Context, OutOfMemory>
@@ -147,6 +149,19 @@ impl Context {
         ensures { (name : NameView) → result ≡ is_some (answer_in self.now me name call) }
     {
         self.birth.rank_of(me).is_some() && self.has_row(call)
+    }
+
+    /// The members that have not posted to a call.
+    pub(crate) fn missing(&self, alloc: Global, call: u32) -> Result<Vec<u8>, OutOfMemory>
+        ensures { IfOk result (λ missing. missing.items ≡ lacking self.now.birth.members self.now.posts call) }
+    {
+        let members = self.birth.members();
+        let mut missing = Vec::new(alloc);
+        for i in 0..members.len() {
+            let lacks = self.columns[i].count() <= call;
+            push_where(&mut missing, members[i].number(), lacks)?;
+        }
+        Ok(missing)
     }
 
     // Whether all members have posted to a call.

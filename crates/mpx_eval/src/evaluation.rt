@@ -3,15 +3,19 @@ ghost use Rattle.std.specs.Prelude.{◌≡◌, ◌<◌, ◌≤◌, ◌++◌, ◌
 ghost use Rattle.mpx_name.specs.Name.{Name as NameView};
 ghost use Rattle.mpx_evaluation.specs.Reports.{transcripts_of, which};
 ghost use Rattle.mpx_eval.specs.Evaluated.{IsEvaluated};
-ghost use Rattle.mpx_eval.specs.Places.{RankView};
+ghost use Rattle.mpx_eval.specs.Places.{TableRank};
 ghost use Rattle.mpx_eval.specs.Rounds.{Start, StartsAt, is_waiting_at};
-ghost use Rattle.mpx_eval.specs.Shown.{rank_of};
+ghost use Rattle.mpx_eval.specs.Carrying.{shown};
 
-use crate::rank::Rank;
 use crate::rounds::rounds;
 use crate::table::Table;
 use join_core::OutOfMemory;
-use mpx_script::{Report, Script};
+use mpx_evaluation::Report;
+use mpx_group::Proc;
+use mpx_name::Name;
+use mpx_post::Birth;
+use mpx_rank::Rank;
+use mpx_script::Script;
 use std::alloc::Global;
 
 /// What the ranks of a script print: in rounds, every rank in order goes on until it must wait for posts that are missing; it
@@ -31,9 +35,12 @@ pub fn eval(alloc: Global, script: &Script) -> Result<Report, OutOfMemory>
     })
 }
 
-// The ranks before their statements.
-fn start<'a>(alloc: Global, script: &'a Script) -> Result<Vec<Rank<'a>>, OutOfMemory>
-    ensures { IfOk result (λ ranks. Start script.now.statements script.now.ranks script.now.ranks (map rank_of ranks.items)) }
+/// The ranks before their statements.
+pub(crate) fn start<'a>(
+    alloc: Global,
+    script: &'a Script,
+) -> Result<Vec<Rank<'a, Table>>, OutOfMemory>
+    ensures { IfOk result (λ ranks. Start script.now.statements script.now.ranks script.now.ranks (map shown ranks.items)) }
 {
     let mut places = Vec::new(alloc);
     let ranks = script.ranks();
@@ -49,18 +56,19 @@ fn start_at<'a>(
     script: &'a Script,
     me: u8,
     ranks: u8,
-) -> Result<Rank<'a>, OutOfMemory>
+) -> Result<Rank<'a, Table>, OutOfMemory>
     requires few { ranks ≤ 64 }
     requires me { me < ranks }
-    ensures { IfOk result (λ rank. StartsAt script.now.statements ranks me (rank_of rank)) }
+    ensures { IfOk result (λ rank. StartsAt script.now.statements ranks me (shown rank)) }
 {
-    Rank::new(alloc, me, ranks, script.statements(me))
+    let world = (Name::world(alloc), Birth::world(alloc, ranks)?);
+    Rank::new(alloc, Proc::new(me), Some(world), script.statements(me))
 }
 
 // The ranks that have something left, in rising order.
-fn waiting_of(alloc: Global, places: &[Rank<'_>], ranks: u8) -> Result<Vec<u8>, OutOfMemory>
+fn waiting_of(alloc: Global, places: &[Rank<'_, Table>], ranks: u8) -> Result<Vec<u8>, OutOfMemory>
     requires { ranks ≤ length places.now }
-    ensures { IfOk result (λ waiting. waiting.items ≡ which (λ p. is_waiting_at (slice_get (map rank_of places.now) p)) ranks) }
+    ensures { IfOk result (λ waiting. waiting.items ≡ which (λ p. is_waiting_at (slice_get (map shown places.now) p)) ranks) }
 {
     let mut waiting = Vec::new(alloc);
     for p in 0..ranks {
@@ -69,8 +77,8 @@ fn waiting_of(alloc: Global, places: &[Rank<'_>], ranks: u8) -> Result<Vec<u8>, 
     Ok(waiting)
 }
 
-// Adds the rank where the test holds.
-fn push_where(ranks: &mut Vec<u8>, rank: u8, test: bool) -> Result<(), OutOfMemory>
+/// Adds the rank where the test holds.
+pub(crate) fn push_where(ranks: &mut Vec<u8>, rank: u8, test: bool) -> Result<(), OutOfMemory>
     ensures { OnOk result (ranks.new.items ≡ ranks.old.items ++ cond test (rank ∷ []) []) }
 {
     if !test {
@@ -81,8 +89,8 @@ fn push_where(ranks: &mut Vec<u8>, rank: u8, test: bool) -> Result<(), OutOfMemo
 }
 
 // The lines of each rank.
-fn lines_of(alloc: Global, places: Vec<Rank<'_>>) -> Result<Vec<Vec<String>>, OutOfMemory>
-    ensures { IfOk result (λ transcripts. map (λ lines. map string_bytes lines.items) transcripts.items ≡ map (λ (r : RankView). r.lines) (map rank_of places.entry.items)) }
+fn lines_of(alloc: Global, places: Vec<Rank<'_, Table>>) -> Result<Vec<Vec<String>>, OutOfMemory>
+    ensures { IfOk result (λ transcripts. map (λ lines. map string_bytes lines.items) transcripts.items ≡ map (λ (r : TableRank). r.lines) (map shown places.entry.items)) }
 {
     let mut transcripts = Vec::new(alloc);
     for place in places {

@@ -1,19 +1,24 @@
 //! The evaluation of a script: what its ranks print, whatever carries their posts.
 //!
-//! [`eval`] answers a [`Report`](mpx_script::Report): the transcripts of the one evaluation that the script has, and the ranks
-//! that wait at its end. It keeps one table of what all ranks have posted (`table.rt`, a context each in `context.rt`), by
-//! which each rank goes on (`rank.rt`, with what its words stand for in `bindings.rt`, its posts in `posting.rt` and its waits
-//! in `waiting.rt`), in rounds (`rounds.rt`). What it comes to stands in `specs/Evaluated.antt`, which posts a table shows in
-//! `specs/Tables.antt`, and where a rank stands in its statements in `specs/Places.antt`.
+//! [`eval`] answers a [`Report`](mpx_evaluation::Report): the transcripts of the one evaluation that the script has, and the ranks
+//! that wait at its end. It keeps one table of what all ranks have posted (`table.rt`, a context each in `context.rt`, posts in
+//! `posting.rt`), which carries the posts of each [`Rank`](mpx_rank::Rank) (`carrying.rt`); and these go on in rounds
+//! (`rounds.rt`). What it comes to stands in `specs/Evaluated.antt`, which posts a table shows in `specs/Tables.antt`, and where
+//! a rank stands in its statements in `specs/Places.antt`.
+//!
+//! [`waiting_calls`] tells of the ranks that wait at its end at which statement each does, for which calls, and whose posts to
+//! them are missing (`who_waits.rt`, `missing.rt`); what that is stands in `specs/Waiting.antt`.
 #![tactic(auto)]
 
-mod bindings;
+mod carrying;
 mod context;
 mod evaluation;
+mod missing;
 mod posting;
-mod rank;
 mod rounds;
 mod table;
-mod waiting;
+mod who_waits;
 
 pub use evaluation::eval;
+pub use missing::MissingCall;
+pub use who_waits::{WaitingRank, waiting_calls, waits_are_for_what_the_next_move_asks};

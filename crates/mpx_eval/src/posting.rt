@@ -13,7 +13,7 @@ use join_core::Exact;
 use mpx_group::Proc;
 use mpx_name::Name;
 use mpx_post::{Birth, Draft, Gathering, PostError};
-use mpx_script::Posting;
+use mpx_statement::Posting;
 use std::alloc::Global;
 
 /// What a statement of a process comes to on the communicator that its word is bound to: the context and the number of the

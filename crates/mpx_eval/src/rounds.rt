@@ -3,18 +3,22 @@ ghost use Rattle.std.specs.Prelude.{◌≡◌, ◌<◌, ◌≤◌, ℕ, IfOk, Is
 ghost use Rattle.mpx_statement.specs.declared.statement.Statement.{Statement as Said};
 ghost use Rattle.mpx_evaluation.specs.Evaluation.{State, IsReached};
 ghost use Rattle.mpx_eval.specs.Rounds.{AreAtEnd, AreIn, Round, all_left};
-ghost use Rattle.mpx_eval.specs.Shown.{rank_of};
+ghost use Rattle.mpx_eval.specs.Carrying.{shown};
 ghost use Rattle.mpx_eval.specs.Tables.{table_of};
 
-use crate::rank::Rank;
 use crate::table::Table;
 use join_core::OutOfMemory;
+use mpx_rank::Rank;
 use std::alloc::Global;
 
 // Every rank in order goes on until it must wait. It answers whether one moved.
-fn round(alloc: Global, ranks: &mut [Rank<'_>], table: &mut Table) -> Result<bool, OutOfMemory>
-    ensures goes { IfOk result (λ moved. Round (map rank_of ranks.old) (table_of table.old) (map rank_of ranks.new) (table_of table.new) moved (length ranks.old)) }
-    ensures less { IfOk result (λ moved. IsTrue moved → all_left (map rank_of ranks.new) < all_left (map rank_of ranks.old)) }
+fn round(
+    alloc: Global,
+    ranks: &mut [Rank<'_, Table>],
+    table: &mut Table,
+) -> Result<bool, OutOfMemory>
+    ensures goes { IfOk result (λ moved. Round (map shown ranks.old) (table_of table.old) (map shown ranks.new) (table_of table.new) moved (length ranks.old)) }
+    ensures less { IfOk result (λ moved. IsTrue moved → all_left (map shown ranks.new) < all_left (map shown ranks.old)) }
 {
     let mut changed = false;
     for p in 0..ranks.len() {
@@ -27,11 +31,11 @@ fn round(alloc: Global, ranks: &mut [Rank<'_>], table: &mut Table) -> Result<boo
 /// Rounds, up to one that moves nobody.
 pub(crate) fn rounds(
     alloc: Global,
-    ranks: &mut [Rank<'_>],
+    ranks: &mut [Rank<'_, Table>],
     table: &mut Table,
 ) -> Result<(), OutOfMemory>
-    ensures { OnOk result ((script : List (List Said)) (count : ℕ) (s : State) → IsReached script count s → AreIn count (map rank_of ranks.old) (table_of table.old) s
-        → AreAtEnd script count (map rank_of ranks.new) (table_of table.new)) }
+    ensures { OnOk result ((script : List (List Said)) (count : ℕ) (s : State) → IsReached script count s → AreIn count (map shown ranks.old) (table_of table.old) s
+        → AreAtEnd script count (map shown ranks.new) (table_of table.new)) }
 {
     while round(alloc, ranks, table)? {}
     Ok(())

@@ -6,6 +6,7 @@ ghost use Rattle.mpx_evaluation.specs.Ranks.{post_on};
 ghost use Rattle.mpx_value.specs.Histories.{birth_of, history_of};
 ghost use Rattle.mpx_eval.specs.Answered.{answer_of};
 ghost use Rattle.mpx_eval.specs.Contexts.{ContextView};
+ghost use Rattle.mpx_eval.specs.Lacking.{missing_there};
 ghost use Rattle.mpx_eval.specs.Tables.{Posted, PostsOn, Shows, Tries, answer_on, opened, table_of};
 
 use crate::context::{Answered, Context};
@@ -84,6 +85,21 @@ impl Table {
         match self.contexts.get(name) {
             Some(context) => context.has_answer(me, call),
             None => false,
+        }
+    }
+
+    /// The members of a context that have not posted to a call.
+    pub(crate) fn missing(
+        &self,
+        alloc: Global,
+        name: &Name,
+        call: u32,
+    ) -> Result<Vec<u8>, OutOfMemory>
+        ensures { IfOk result (λ missing. missing.items ≡ missing_there (table_of self.now name.now) call) }
+    {
+        match self.contexts.get(name) {
+            Some(context) => context.missing(alloc, call),
+            None => Ok(Vec::new(alloc)),
         }
     }
 

@@ -5,7 +5,7 @@ ghost use Rattle.clap.specs.Words.{kind_of};
 ghost use Rattle.mpx_program.specs.Jobs.{Does, IsRefused};
 
 use crate::status::{refusal_status, status_of, write_message, write_refusal};
-use mpx_run::run_text;
+use mpx_run::{Observer, Unobserved, run_text_observed};
 use mpx_words::job_of;
 use std::alloc::Global;
 use std::io;
@@ -31,9 +31,24 @@ pub fn run_job<R: Read, W: Write, E: Write>(
     ensures { Does (map string_bytes words.now) (R.remaining reader.old) (R.remaining reader.new) (W.contents out.old) (W.contents out.new)
         result.status (λ said. OnOk result.told (Appends (E.contents err.old) (E.contents err.new) said)) }
 {
+    run_job_observed(alloc, words, reader, out, err, &mut Unobserved)
+}
+
+/// The same, with somebody who looks on at the run, where the words ask for one.
+pub fn run_job_observed<R: Read, W: Write, E: Write>(
+    alloc: Global,
+    words: &[String],
+    reader: &mut R,
+    out: &mut W,
+    err: &mut E,
+    observer: &mut dyn Observer,
+) -> Exit
+    ensures { Does (map string_bytes words.now) (R.remaining reader.old) (R.remaining reader.new) (W.contents out.old) (W.contents out.new)
+        result.status (λ said. OnOk result.told (Appends (E.contents err.old) (E.contents err.new) said)) }
+{
     match job_of(alloc, words) {
         Ok(job) => {
-            let answer = run_text(alloc, &job, reader, out);
+            let answer = run_text_observed(alloc, &job, reader, out, observer);
             Exit {
                 status: status_of(&answer),
                 told: write_message(&answer, err),

@@ -8,5 +8,6 @@
 mod job;
 mod status;
 
-pub use job::{Exit, refuse, run_job};
+pub use job::{Exit, refuse, run_job, run_job_observed};
+pub use mpx_run::Observer;
 pub use status::{status_of, write_message};

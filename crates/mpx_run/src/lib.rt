@@ -13,6 +13,6 @@ mod texts;
 
 pub use end::End;
 pub use mpx_job::{Command, Job, Options};
-pub use mpx_sim::{Run, run_sim};
+pub use mpx_sim::{Observer, Run, Unobserved, run_sim, run_sim_observed};
 pub use mpx_system::every_run_begins_the_evaluation;
-pub use texts::{RunError, run_bytes, run_text};
+pub use texts::{RunError, run_bytes, run_text, run_text_observed};

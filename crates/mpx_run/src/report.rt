@@ -7,10 +7,11 @@ ghost use Rattle.mpx_run.specs.Reports.{EndsSo, IsEvaluatedText, IsReport, lines
 use crate::end::End;
 use join_core::OutOfMemory;
 use mpx_eval::eval;
+use mpx_evaluation::Report;
 use mpx_job::Options;
 use mpx_num::push_number;
-use mpx_script::{Report, Script};
-use mpx_sim::run_sim;
+use mpx_script::Script;
+use mpx_sim::{Observer, run_sim_observed};
 use std::alloc::Global;
 
 /// The text of a run or an evaluation, and how it ended.
@@ -25,11 +26,12 @@ pub(crate) fn print(
     alloc: Global,
     script: &Script,
     options: &Options,
+    observer: &mut dyn Observer,
 ) -> Result<Printed, OutOfMemory>
     requires { script.now.ranks + options.now.relays ≤ 64 }
     ensures { IfOk result (λ printed. IsReport script.now options.now.relays printed.end (string_bytes printed.text)) }
 {
-    let run = run_sim(alloc, script, options)?;
+    let run = run_sim_observed(alloc, script, options, observer)?;
     print_report(alloc, run.report, script.ranks())
 }
 

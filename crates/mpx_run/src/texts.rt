@@ -9,6 +9,7 @@ use crate::report::{Printed, print, print_evaluation};
 use join_core::OutOfMemory;
 use mpx_job::{Command, Job};
 use mpx_script::{ReadScriptError, Script, ScriptError, read_script};
+use mpx_sim::{Observer, Unobserved};
 use std::alloc::Global;
 use std::fmt;
 use std::io::{Read, Write};
@@ -73,8 +74,21 @@ pub fn run_text<R: Read, W: Write>(
 ) -> Result<End, RunError>
     ensures { Runs job.now (R.remaining reader.old) (R.remaining reader.new) (W.contents writer.old) (W.contents writer.new) result }
 {
+    run_text_observed(alloc, job, reader, writer, &mut Unobserved)
+}
+
+/// The same, with somebody who looks on at the run, where one is asked for.
+pub fn run_text_observed<R: Read, W: Write>(
+    alloc: Global,
+    job: &Job,
+    reader: &mut R,
+    writer: &mut W,
+    observer: &mut dyn Observer,
+) -> Result<End, RunError>
+    ensures { Runs job.now (R.remaining reader.old) (R.remaining reader.new) (W.contents writer.old) (W.contents writer.new) result }
+{
     let text = read_bytes(alloc, reader)?;
-    run_bytes(alloc, job, &text, writer)
+    bytes_observed(alloc, job, &text, writer, observer)
 }
 
 /// Does the job with the script that the bytes are, as [`run_text`] does once it has read them. It never answers `Read`.
@@ -86,6 +100,19 @@ pub fn run_bytes<W: Write>(
 ) -> Result<End, RunError>
     ensures { Prints job.now text.now (W.contents writer.old) (W.contents writer.new) result }
 {
+    bytes_observed(alloc, job, text, writer, &mut Unobserved)
+}
+
+// The same, with somebody who looks on.
+fn bytes_observed<W: Write>(
+    alloc: Global,
+    job: &Job,
+    text: &[u8],
+    writer: &mut W,
+    observer: &mut dyn Observer,
+) -> Result<End, RunError>
+    ensures { Prints job.now text.now (W.contents writer.old) (W.contents writer.new) result }
+{
     let script = match read_script(alloc, text) {
         Ok(script) => script,
         Err(ReadScriptError::Refused(refusal)) => return Err(RunError::Script(refusal)),
@@ -94,7 +121,7 @@ pub fn run_bytes<W: Write>(
     if has_too_many(job, script.ranks()) {
         return Err(RunError::TooManyProcesses);
     }
-    let Ok(printed) = printed_of(alloc, &script, job) else {
+    let Ok(printed) = printed_of(alloc, &script, job, observer) else {
         return Err(RunError::Memory);
     };
     match write_bytes(writer, printed.text.as_bytes()) {
@@ -117,12 +144,17 @@ fn has_too_many(job: &Job, ranks: u8) -> bool
 }
 
 // What a script comes to.
-fn printed_of(alloc: Global, script: &Script, job: &Job) -> Result<Printed, OutOfMemory>
+fn printed_of(
+    alloc: Global,
+    script: &Script,
+    job: &Job,
+    observer: &mut dyn Observer,
+) -> Result<Printed, OutOfMemory>
     requires { job.now.command ≡ Command.Run → script.now.ranks + job.now.options.relays ≤ 64 }
     ensures { IfOk result (λ printed. ComesTo job.now.command job.now.options.relays script.now printed.end (string_bytes printed.text)) }
 {
     match job.command {
-        Command::Run => print(alloc, script, &job.options),
+        Command::Run => print(alloc, script, &job.options, observer),
         Command::Eval => print_evaluation(alloc, script),
         Command::Check => Ok(Printed {
             text: check_text(alloc, script)?,

@@ -8,3 +8,4 @@ pub mod Settling
 pub mod Progress
 mod Examples
 pub mod Counts
+pub mod Given

@@ -7,3 +7,4 @@ pub mod Reading
 pub mod Sentences
 pub mod PartialScripts
 pub mod Answer
+pub mod LinesGiven

@@ -65,7 +65,7 @@ fn with_line(
 }
 
 /// The text up to the byte that passes the limit.
-fn seen_part(text: &[u8]) -> &[u8]
+pub(crate) fn seen_part(text: &[u8]) -> &[u8]
     ensures { result.now ≡ take (bytes_limit + 1) text.now }
 {
     if text.len() > BYTES {

@@ -1,4 +1,5 @@
 pub mod Tried
 pub mod Harvests
+pub mod Carried
 pub mod Sending
 pub mod Ends

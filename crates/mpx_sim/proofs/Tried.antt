@@ -1,6 +1,6 @@
 -- What an outcome gives, and what a post comes to, by what the desk answers.
 use Rattle.std.proofs.Common.{◌≡◌, ℕ, ℤ, List, refl, sym, ap, subst, inl, inr}
-use Rattle.std.specs.Prelude.{Result, Ok, Err, OnOk}
+use Rattle.std.specs.Prelude.{Result, Ok, Err, IfOk, OnOk}
 use Rattle.mpx_name.specs.Name.{Name}
 use Rattle.mpx_post.specs.declared.draft.Draft.{Draft}
 use Rattle.mpx_post.specs.declared.draft.PostError.{PostError}
@@ -61,10 +61,10 @@ tries_asked_gathered node turned parent tag ranks result old new before after as
       | inr h ↦ tries_gathered parent create_group_draft x h.0 (node old) (node h.1) (call_in result) (node new) h.2 (tries_asked h.0 create_group_draft result (node h.1) (node new) before after h.4)
     ]
 
-pub on_ok : {T E P : Type 0} (r : Result T E) → P → OnOk r P
-on_ok (Ok x) p = p
-on_ok (Err e) p = tt
-
 pub on_each_ok : {T E P Q : Type 0} (r : Result T E) → (P → Q) → OnOk r P → OnOk r Q
 on_each_ok (Ok x) f p = f p
 on_each_ok (Err e) f p = p
+
+pub on_if_ok : {T E Q : Type 0} {P : T → Type 0} (r : Result T E) → ((x : T) → P x → Q) → IfOk r P → OnOk r Q
+on_if_ok (Ok x) f p = f x p
+on_if_ok (Err e) f p = p

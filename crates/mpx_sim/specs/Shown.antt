@@ -1,7 +1,6 @@
 -- What the program's processes show.
-use Rattle.std.specs.Prelude.{ℕ, List, map, string_bytes, Option, Result, Ok, Err}
-use Rattle.std.specs.BTreeMap.{BTreeMap}
-use Rattle.std.specs.Option.{option_copied, option_map}
+use Rattle.std.specs.Prelude.{◌≡◌, ℕ, List, [], Option, Some, Result, Ok, Err}
+use Rattle.std.specs.Option.{option_map}
 use Rattle.mpx_board.specs.Boards.{Look, empty}
 use Rattle.mpx_board.specs.Contexts.{look_of}
 use Rattle.mpx_board.specs.Parts.{PartsView}
@@ -13,10 +12,12 @@ use Rattle.mpx_comm.specs.declared.comm.Comm.{Comm}
 use Rattle.mpx_comm.specs.declared.request.Request.{Request}
 use Rattle.mpx_node.specs.Shown.{node_of}
 use Rattle.mpx_sim.specs.declared.frame.Frame.{Frame}
-use Rattle.mpx_sim.specs.declared.rank.Rank.{Rank}
-use Rattle.mpx_sim.specs.declared.rank.Wait.{Wait}
-use Rattle.mpx_evaluation.specs.Standing.{WaitView, looked_up}
-use Rattle.mpx_system.specs.Running.{Names, Open, RankView}
+use Rattle.mpx_sim.specs.declared.process.Process.{Process}
+use Rattle.mpx_node.specs.Nodes.{NodeView}
+use Rattle.mpx_rank.specs.Moves.{RankView}
+use Rattle.mpx_rank.specs.Shown.{rank_of}
+use Rattle.mpx_system.specs.Running.{Names}
+use Rattle.mpx_system.specs.Running.{RankView as ProcessView}
 
 abbrev pub name_in : Option Comm → Option Name
 name_in o = option_map (λ (comm : Comm). comm.name) o
@@ -29,17 +30,20 @@ abbrev pub call_in : Result Request PostError → Result (Name × ℕ) PostError
 call_in (Ok request) = Ok (call_of request)
 call_in (Err refusal) = Err refusal
 
-abbrev pub bound_of : BTreeMap (List ℕ) (Option Comm) → Names
-bound_of bound word = option_map name_in (looked_up bound word)
+-- it is the world
+abbrev pub IsWorld : Option Comm → Type 0
+IsWorld o = (world : Comm) × (o ≡ Some world) × (world.name ≡ [])
 
-abbrev pub requests_of : BTreeMap (List ℕ) Request → Open
-requests_of opened word = option_map call_of (looked_up opened word)
+-- what each word is bound to, by the names of communicators
+abbrev pub names_of : (List ℕ → Option (Option Comm)) → Names
+names_of bound word = option_map name_in (bound word)
 
-abbrev pub wait_of : Wait → WaitView
-wait_of w = record { name = w.request.name; call = w.request.call; target = option_copied w.target }
+-- a rank and its node, as a process of a run
+abbrev pub process_with : RankView Comm → NodeView → ProcessView
+process_with r node = record { me = r.me; node = node; bound = names_of r.bound; requests = r.requests; todo = r.todo; waits = r.waits; lines = r.lines }
 
-abbrev pub rank_of : Rank → RankView
-rank_of r = record { me = r.me; node = node_of r.desk.host; bound = bound_of r.bound; requests = requests_of r.requests; todo = r.todo.now; waits = option_map wait_of r.waits; lines = map string_bytes r.lines.items }
+abbrev pub process_of : Process → ProcessView
+process_of p = process_with (rank_of call_of p.rank) (node_of p.desk.desk.host)
 
 -- what decoded bytes show
 abbrev pub shown : Result PartsView WireError → Look

@@ -5,14 +5,16 @@ ghost use Rattle.mpx_evaluation.specs.Evaluation.{State, IsEvaluation};
 ghost use Rattle.mpx_evaluation.specs.Reports.{transcripts_of, which};
 ghost use Rattle.mpx_system.specs.Running.{RankView, is_waiting_at};
 ghost use Rattle.mpx_system.specs.Runs.{AreWhole, Begin, IsOver, IsRun};
-ghost use Rattle.mpx_sim.specs.Shown.{rank_of};
+ghost use Rattle.mpx_sim.specs.Shown.{process_of};
 
-use crate::rank::Rank;
+use crate::observer::{Observer, Unobserved};
+use crate::process::Process;
 use crate::turns::simulate;
 use join_core::OutOfMemory;
+use mpx_evaluation::Report;
 use mpx_job::Options;
 use mpx_node::Node;
-use mpx_script::{Report, Script};
+use mpx_script::Script;
 use std::alloc::Global;
 
 /// What a run comes to, and the node of each process: first those of the ranks, then the relays'.
@@ -39,7 +41,25 @@ pub fn run_sim(alloc: Global, script: &Script, options: &Options) -> Result<Run,
     ensures whole { IfOk result (λ run. (evaluation : State) → IsEvaluation script.now.statements script.now.ranks evaluation → AreWhole (transcripts_of run.report) run.report.waiting.items evaluation) }
     ensures ended { IfOk result (λ run. (run.turns ≡ options.now.turns) ⊎ ((run.turns < options.now.turns) × IsOver options.now.loss (map node_of run.nodes.items) run.report.waiting.items)) }
 {
-    let (processes, turns) = simulate(alloc, script, options)?;
+    run_sim_observed(alloc, script, options, &mut Unobserved)
+}
+
+/// The same run, at which somebody looks on: `observer` is told of each turn but the one that ends the run before its last.
+pub fn run_sim_observed(
+    alloc: Global,
+    script: &Script,
+    options: &Options,
+    observer: &mut dyn Observer,
+) -> Result<Run, OutOfMemory>
+    requires { script.now.ranks + options.now.relays ≤ 64 }
+    ensures run { IfOk result (λ run. IsRun script.now options.now.relays (map node_of run.nodes.items) (transcripts_of run.report) run.report.waiting.items) }
+    ensures begins { IfOk result (λ run. (evaluation : State) → IsEvaluation script.now.statements script.now.ranks evaluation → Begin (transcripts_of run.report) evaluation) }
+    ensures whole { IfOk result (λ run. (evaluation : State) → IsEvaluation script.now.statements script.now.ranks evaluation → AreWhole (transcripts_of run.report) run.report.waiting.items evaluation) }
+    ensures ended { IfOk result (λ run. (run.turns ≡ options.now.turns) ⊎ ((run.turns < options.now.turns) × IsOver options.now.loss (map node_of run.nodes.items) run.report.waiting.items)) }
+{
+    let ran = simulate(alloc, script, options, observer);
+    observer.over();
+    let (processes, turns) = ran?;
     let ranks = script.ranks();
     let waiting = waiting_of(alloc, processes.as_slice(), ranks)?;
     let (mut transcripts, nodes) = parts_of(alloc, processes)?;
@@ -55,9 +75,9 @@ pub fn run_sim(alloc: Global, script: &Script, options: &Options) -> Result<Run,
 }
 
 // The ranks that have something left, in rising order.
-fn waiting_of(alloc: Global, processes: &[Rank<'_>], ranks: u8) -> Result<Vec<u8>, OutOfMemory>
+fn waiting_of(alloc: Global, processes: &[Process<'_>], ranks: u8) -> Result<Vec<u8>, OutOfMemory>
     requires { ranks ≤ length processes.now }
-    ensures { IfOk result (λ waiting. waiting.items ≡ which (λ p. is_waiting_at (slice_get (map rank_of processes.now) p)) ranks) }
+    ensures { IfOk result (λ waiting. waiting.items ≡ which (λ p. is_waiting_at (slice_get (map process_of processes.now) p)) ranks) }
 {
     let mut waiting = Vec::new(alloc);
     for p in 0..ranks {
@@ -80,10 +100,10 @@ fn push_where(ranks: &mut Vec<u8>, rank: u8, test: bool) -> Result<(), OutOfMemo
 // The lines and the node of each process.
 fn parts_of(
     alloc: Global,
-    processes: Vec<Rank<'_>>,
+    processes: Vec<Process<'_>>,
 ) -> Result<(Vec<Vec<String>>, Vec<Node>), OutOfMemory>
-    ensures lines { IfOk result (λ parts. map (λ lines. map string_bytes lines.items) parts.0.items ≡ map (λ (r : RankView). r.lines) (map rank_of processes.entry.items)) }
-    ensures nodes { IfOk result (λ parts. map node_of parts.1.items ≡ map (λ (r : RankView). r.node) (map rank_of processes.entry.items)) }
+    ensures lines { IfOk result (λ parts. map (λ lines. map string_bytes lines.items) parts.0.items ≡ map (λ (r : RankView). r.lines) (map process_of processes.entry.items)) }
+    ensures nodes { IfOk result (λ parts. map node_of parts.1.items ≡ map (λ (r : RankView). r.node) (map process_of processes.entry.items)) }
 {
     let mut transcripts = Vec::new(alloc);
     let mut nodes = Vec::new(alloc);
@@ -95,12 +115,12 @@ fn parts_of(
 
 // Adds the lines and the node of a process.
 fn push_parts(
-    process: Rank<'_>,
+    process: Process<'_>,
     transcripts: &mut Vec<Vec<String>>,
     nodes: &mut Vec<Node>,
 ) -> Result<(), OutOfMemory>
-    ensures lines { OnOk result (map (λ lines. map string_bytes lines.items) transcripts.new.items ≡ map (λ lines. map string_bytes lines.items) transcripts.old.items ++ (rank_of process.entry).lines ∷ []) }
-    ensures nodes { OnOk result (map node_of nodes.new.items ≡ map node_of nodes.old.items ++ (rank_of process.entry).node ∷ []) }
+    ensures lines { OnOk result (map (λ lines. map string_bytes lines.items) transcripts.new.items ≡ map (λ lines. map string_bytes lines.items) transcripts.old.items ++ (process_of process.entry).lines ∷ []) }
+    ensures nodes { OnOk result (map node_of nodes.new.items ≡ map node_of nodes.old.items ++ (process_of process.entry).node ∷ []) }
 {
     let (node, lines) = process.into_parts();
     transcripts.push(lines)?;

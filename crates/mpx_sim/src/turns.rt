@@ -2,14 +2,15 @@ ghost use Rattle.std.specs.Prelude.{◌≡◌, ◌<◌, ◌≤◌, ◌+◌, ◌+
 ghost use Rattle.mpx_board.specs.Boards.{Look, join_all};
 ghost use Rattle.mpx_parts.specs.Facts.{OnlyFactsOf};
 ghost use Rattle.mpx_statement.specs.declared.statement.Statement.{Statement as Said};
-ghost use Rattle.mpx_sim.specs.Shown.{rank_of, part_of};
+ghost use Rattle.mpx_sim.specs.Shown.{process_of, part_of};
 ghost use Rattle.mpx_sim.specs.Ends.{AreAlike, HaveFinished, IsAtRest, RestsBy};
 ghost use Rattle.mpx_node.specs.Deltas.{lacking_on};
 ghost use Rattle.mpx_system.specs.Running.{IsUnderWay, Keeps, RankView, Starts, StartsAt};
 
 use crate::frame::Frame;
 use crate::frames::{frames_of, opened};
-use crate::rank::Rank;
+use crate::observer::Observer;
+use crate::process::Process;
 use crate::schedule::Schedule;
 use crate::sender::{Sender, senders};
 use join_core::{Exact, OutOfMemory};
@@ -23,10 +24,11 @@ pub(crate) fn simulate<'a>(
     alloc: Global,
     script: &'a Script,
     options: &Options,
-) -> Result<(Vec<Rank<'a>>, u32), OutOfMemory>
+    observer: &mut dyn Observer,
+) -> Result<(Vec<Process<'a>>, u32), OutOfMemory>
     requires { script.now.ranks + options.now.relays ≤ 64 }
-    ensures run { IfOk result (λ ran. (frames : List Look) × IsUnderWay script.now.statements script.now.ranks (script.now.ranks + options.now.relays) (map rank_of ran.0.items) frames) }
-    ensures ended { IfOk result (λ ran. (ran.1 ≡ options.now.turns) ⊎ ((ran.1 < options.now.turns) × RestsBy options.now.loss script.now.ranks (map rank_of ran.0.items))) }
+    ensures run { IfOk result (λ ran. (frames : List Look) × IsUnderWay script.now.statements script.now.ranks (script.now.ranks + options.now.relays) (map process_of ran.0.items) frames) }
+    ensures ended { IfOk result (λ ran. (ran.1 ≡ options.now.turns) ⊎ ((ran.1 < options.now.turns) × RestsBy options.now.loss script.now.ranks (map process_of ran.0.items))) }
 {
     let mut processes = start(alloc, script, options.relays)?;
     let mut schedule = Schedule::new(alloc, options.seed, options.loss, processes.len())?;
@@ -49,6 +51,11 @@ pub(crate) fn simulate<'a>(
             return Ok((processes, made));
         }
         made += 1;
+        observer.turn(
+            made,
+            finished(&processes, script.ranks()),
+            usize::from(script.ranks()),
+        );
     }
     Ok((processes, made))
 }
@@ -60,7 +67,7 @@ pub(crate) fn simulate<'a>(
 // call, front or result comes; and where every frame is lost, it would bring nothing.
 fn turn(
     alloc: Global,
-    processes: &mut [Rank<'_>],
+    processes: &mut [Process<'_>],
     count: usize,
     senders: &mut [Sender],
     frames: &mut Vec<Frame>,
@@ -71,9 +78,9 @@ fn turn(
     requires few { count ≤ length processes.old }
     requires each { length processes.old ≤ length senders.old }
     requires number { number < 4294967296 }
-    ensures run { OnOk result ((script : List (List Said)) (ranks size : ℕ) → count ≤ ranks → IsUnderWay script ranks size (map rank_of processes.old) (map part_of frames.old.items)
-        → IsUnderWay script ranks size (map rank_of processes.new) (map part_of frames.new.items)) }
-    ensures rest { IfOk result (λ goes_on. goes_on ≡ false → IsAtRest loses_all count (map rank_of processes.new)) }
+    ensures run { OnOk result ((script : List (List Said)) (ranks size : ℕ) → count ≤ ranks → IsUnderWay script ranks size (map process_of processes.old) (map part_of frames.old.items)
+        → IsUnderWay script ranks size (map process_of processes.new) (map part_of frames.new.items)) }
+    ensures rest { IfOk result (λ goes_on. goes_on ≡ false → IsAtRest loses_all count (map process_of processes.new)) }
 {
     let moved = go_round(alloc, processes, count)?;
     let pruned = prune_all(processes);
@@ -88,10 +95,10 @@ fn turn(
 }
 
 // Every rank in order goes on until it must wait. It answers whether one moved.
-fn go_round(alloc: Global, processes: &mut [Rank<'_>], count: usize) -> Result<bool, OutOfMemory>
+fn go_round(alloc: Global, processes: &mut [Process<'_>], count: usize) -> Result<bool, OutOfMemory>
     requires { count ≤ length processes.old }
-    ensures { OnOk result ((script : List (List Said)) (ranks size : ℕ) (frames : List Look) → count ≤ ranks → IsUnderWay script ranks size (map rank_of processes.old) frames
-        → IsUnderWay script ranks size (map rank_of processes.new) frames) }
+    ensures { OnOk result ((script : List (List Said)) (ranks size : ℕ) (frames : List Look) → count ≤ ranks → IsUnderWay script ranks size (map process_of processes.old) frames
+        → IsUnderWay script ranks size (map process_of processes.new) frames) }
 {
     let mut changed = false;
     for p in 0..count {
@@ -102,9 +109,9 @@ fn go_round(alloc: Global, processes: &mut [Rank<'_>], count: usize) -> Result<b
 }
 
 // Every process drops what it may. It answers whether one did.
-fn prune_all(processes: &mut [Rank<'_>]) -> bool
-    ensures { (script : List (List Said)) (ranks size : ℕ) (frames : List Look) → IsUnderWay script ranks size (map rank_of processes.old) frames
-        → IsUnderWay script ranks size (map rank_of processes.new) frames }
+fn prune_all(processes: &mut [Process<'_>]) -> bool
+    ensures { (script : List (List Said)) (ranks size : ℕ) (frames : List Look) → IsUnderWay script ranks size (map process_of processes.old) frames
+        → IsUnderWay script ranks size (map process_of processes.new) frames }
 {
     let mut changed = false;
     for p in 0..processes.len() {
@@ -115,9 +122,9 @@ fn prune_all(processes: &mut [Rank<'_>]) -> bool
 }
 
 // Whether every rank has finished, or nothing can change any more where nobody has just moved or dropped anything.
-fn is_at_rest(processes: &[Rank<'_>], count: usize, changed: bool, loses_all: bool) -> bool
+fn is_at_rest(processes: &[Process<'_>], count: usize, changed: bool, loses_all: bool) -> bool
     requires { count ≤ length processes.now }
-    ensures { result ≡ true → IsAtRest loses_all count (map rank_of processes.now) }
+    ensures { result ≡ true → IsAtRest loses_all count (map process_of processes.now) }
 {
     if are_finished(processes, count) {
         return true;
@@ -131,10 +138,19 @@ fn is_at_rest(processes: &[Rank<'_>], count: usize, changed: bool, loses_all: bo
     are_same(processes)
 }
 
+// How many of the ranks have finished.
+fn finished(processes: &[Process<'_>], ranks: u8) -> usize {
+    processes
+        .iter()
+        .take(usize::from(ranks))
+        .filter(|process| !process.is_waiting())
+        .count()
+}
+
 // Whether every rank has finished.
-fn are_finished(processes: &[Rank<'_>], count: usize) -> bool
+fn are_finished(processes: &[Process<'_>], count: usize) -> bool
     requires { count ≤ length processes.now }
-    ensures { result ≡ true → HaveFinished count (map rank_of processes.now) }
+    ensures { result ≡ true → HaveFinished count (map process_of processes.now) }
 {
     for p in 0..count {
         if processes[p].is_waiting() {
@@ -145,8 +161,8 @@ fn are_finished(processes: &[Rank<'_>], count: usize) -> bool
 }
 
 // Whether all boards are equal.
-fn are_same(processes: &[Rank<'_>]) -> bool
-    ensures { result ≡ true → AreAlike (map rank_of processes.now) }
+fn are_same(processes: &[Process<'_>]) -> bool
+    ensures { result ≡ true → AreAlike (map process_of processes.now) }
 {
     for p in 1..processes.len() {
         if !processes[0].board().same(processes[p].board()) {
@@ -159,13 +175,13 @@ fn are_same(processes: &[Rank<'_>]) -> bool
 // The frames of what others may lack of a process's board.
 fn sent(
     alloc: Global,
-    process: &mut Rank<'_>,
+    process: &mut Process<'_>,
     to: usize,
     turn: u64,
 ) -> Result<Vec<Frame>, OutOfMemory>
-    ensures keeps { OnOk result (Keeps (rank_of process.old) (rank_of process.new)) }
-    ensures facts { IfOk result (λ made. All (λ frame. OnlyFactsOf (part_of frame) (rank_of process.new).node.board) made.items) }
-    ensures join { IfOk result (λ made. join_all (map part_of made.items) ≡ lacking_on (rank_of process.new).node) }
+    ensures keeps { OnOk result (Keeps (process_of process.old) (process_of process.new)) }
+    ensures facts { IfOk result (λ made. All (λ frame. OnlyFactsOf (part_of frame) (process_of process.new).node.board) made.items) }
+    ensures join { IfOk result (λ made. join_all (map part_of made.items) ≡ lacking_on (process_of process.new).node) }
 {
     let parts = process.deltas(alloc)?;
     frames_of(alloc, &parts, to, turn)
@@ -174,15 +190,15 @@ fn sent(
 // Every process sends the frames of what others may lack of its board, where those of its last list are out.
 fn send_all(
     alloc: Global,
-    processes: &mut [Rank<'_>],
+    processes: &mut [Process<'_>],
     senders: &mut [Sender],
     frames: &mut Vec<Frame>,
     schedule: &mut Schedule,
     turn: u64,
 ) -> Result<(), OutOfMemory>
     requires { length processes.old ≤ length senders.old }
-    ensures { OnOk result ((script : List (List Said)) (ranks size : ℕ) → IsUnderWay script ranks size (map rank_of processes.old) (map part_of frames.old.items)
-        → IsUnderWay script ranks size (map rank_of processes.new) (map part_of frames.new.items)) }
+    ensures { OnOk result ((script : List (List Said)) (ranks size : ℕ) → IsUnderWay script ranks size (map process_of processes.old) (map part_of frames.old.items)
+        → IsUnderWay script ranks size (map process_of processes.new) (map part_of frames.new.items)) }
 {
     for p in 0..processes.len() {
         if senders[p].is_free(turn) {
@@ -231,12 +247,12 @@ fn send(frame: Frame, frames: &mut Vec<Frame>, schedule: &mut Schedule) -> Resul
 // The turn's frames reach their processes.
 fn deliver(
     alloc: Global,
-    processes: &mut [Rank<'_>],
+    processes: &mut [Process<'_>],
     frames: &[Frame],
     turn: u64,
 ) -> Result<(), OutOfMemory>
-    ensures { OnOk result ((script : List (List Said)) (ranks size : ℕ) → IsUnderWay script ranks size (map rank_of processes.old) (map part_of frames.now)
-        → IsUnderWay script ranks size (map rank_of processes.new) (map part_of frames.now)) }
+    ensures { OnOk result ((script : List (List Said)) (ranks size : ℕ) → IsUnderWay script ranks size (map process_of processes.old) (map part_of frames.now)
+        → IsUnderWay script ranks size (map process_of processes.new) (map part_of frames.now)) }
 {
     for i in 0..frames.len() {
         arrive(alloc, processes, &frames[i], turn)?;
@@ -247,12 +263,12 @@ fn deliver(
 // A frame reaches its process, where this is its turn.
 fn arrive(
     alloc: Global,
-    processes: &mut [Rank<'_>],
+    processes: &mut [Process<'_>],
     frame: &Frame,
     turn: u64,
 ) -> Result<(), OutOfMemory>
-    ensures { OnOk result ((script : List (List Said)) (ranks size : ℕ) (frames : List Look) (i : ℕ) → slice_get frames i ≡ Some (part_of frame.now) → IsUnderWay script ranks size (map rank_of processes.old) frames
-        → IsUnderWay script ranks size (map rank_of processes.new) frames) }
+    ensures { OnOk result ((script : List (List Said)) (ranks size : ℕ) (frames : List Look) (i : ℕ) → slice_get frames i ≡ Some (part_of frame.now) → IsUnderWay script ranks size (map process_of processes.old) frames
+        → IsUnderWay script ranks size (map process_of processes.new) frames) }
 {
     if frame.turn != turn || frame.to >= processes.len() {
         return Ok(());
@@ -303,23 +319,23 @@ fn start_at<'a>(
     script: &'a Script,
     me: u8,
     size: u8,
-) -> Result<Rank<'a>, OutOfMemory>
+) -> Result<Process<'a>, OutOfMemory>
     requires me { me < size }
     requires ranks { script.now.ranks ≤ size }
     requires few { size ≤ 64 }
-    ensures { IfOk result (λ rank. StartsAt script.now.statements script.now.ranks size me (rank_of rank)) }
+    ensures { IfOk result (λ process. StartsAt script.now.statements script.now.ranks size me (process_of process)) }
 {
     let ranks = script.ranks();
     if me >= ranks {
-        return Rank::new(alloc, me, ranks, size, &script.statements(0)[..0]);
+        return Process::new(alloc, me, ranks, size, &script.statements(0)[..0]);
     }
-    Rank::new(alloc, me, ranks, size, script.statements(me))
+    Process::new(alloc, me, ranks, size, script.statements(me))
 }
 
 // The processes before the first turn.
-fn start<'a>(alloc: Global, script: &'a Script, relays: u8) -> Result<Vec<Rank<'a>>, OutOfMemory>
+fn start<'a>(alloc: Global, script: &'a Script, relays: u8) -> Result<Vec<Process<'a>>, OutOfMemory>
     requires { script.now.ranks + relays ≤ 64 }
-    ensures { IfOk result (λ processes. Starts script.now.statements script.now.ranks (script.now.ranks + relays) (script.now.ranks + relays) (map rank_of processes.items)) }
+    ensures { IfOk result (λ processes. Starts script.now.statements script.now.ranks (script.now.ranks + relays) (script.now.ranks + relays) (map process_of processes.items)) }
 {
     let mut processes = Vec::new(alloc);
     let ranks = script.ranks();

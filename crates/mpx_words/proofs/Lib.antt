@@ -1,3 +1,4 @@
 pub mod WordLemmas
+pub mod AdviceLemmas
 pub mod Refusals
 pub mod Rows

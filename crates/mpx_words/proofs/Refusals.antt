@@ -1,6 +1,8 @@
 -- Which kinds a refusal may have.
-use Rattle.std.proofs.Common.{◌≡◌, true, List, [], ◌∷◌, inl, inr, refl, ap, ◌∙◌, subst}
-use Rattle.clap.specs.Kinds.{HasKind, Kinds, or_else}
+use Rattle.std.proofs.Common.{◌≡◌, true, List, [], ◌∷◌, inl, inr, refl, ap, ◌∙◌, subst, sym, ◌⊎◌}
+use Rattle.clap.specs.Kinds.{HasKind, IsAmong, Kinds, or_else}
+use Rattle.clap.specs.Values.{kind_of}
+use Rattle.clap.specs.declared.error.kind.ErrorKind.TheVariants as kind
 use Rattle.clap.specs.Faults.{fault_of, is_simple_and_free}
 use Rattle.clap.specs.Simple.{App}
 use Rattle.clap.specs.Walk.{Text}
@@ -20,3 +22,8 @@ usage_is_free = refl
 -- what clap says of a command that is the program's
 pub told_of_usage : (a : App) (words : List Text) (e : Error) → a ≡ usage → (is_simple_and_free a ≡ true → HasKind (fault_of a words) e) → HasKind (fault_of usage words) e
 told_of_usage a words e is told = subst (λ b. HasKind (fault_of b words) e) is (told (ap is_simple_and_free is ∙ usage_is_free))
+
+-- a refusal of the same kind, or for want of memory
+pub keeps_kind : (kinds : Kinds) (e r : Error) → HasKind kinds e → (kind_of r ≡ kind_of e) ⊎ (kind_of r ≡ kind.OutOfMemory) → HasKind kinds r
+keeps_kind kinds e r h (inl same) = subst (λ k. (k ≡ kind.OutOfMemory) ⊎ IsAmong k kinds) (sym same) h
+keeps_kind kinds e r h (inr memory) = inl memory

@@ -4,7 +4,7 @@ use Rattle.std.specs.Prelude.{option_and_then}
 use Rattle.mpx_job.specs.declared.Options.{Options}
 use Rattle.mpx_words.specs.Words.{complaint, limits_of, no_pair, options_in, or_more, usual, with_option}
 
-take_whole : {A : Type 0} (xs : List A) → take (length xs) xs ≡ xs
+pub take_whole : {A : Type 0} (xs : List A) → take (length xs) xs ≡ xs
 take_whole [] = refl
 take_whole (x ∷ xs) = ap (λ ys. x ∷ ys) (take_whole xs)
 

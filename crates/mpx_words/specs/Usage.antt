@@ -19,7 +19,7 @@ run = record (new_shape (codes "run")) {
 -- one of `run`, `eval` and `check` is wanted
 abbrev pub usage : App
 usage = record {
-  top = record (new_shape (codes "gossipmpi")) { is_leaf = false; arg_required_else_help = true; subcommand_required = true };
+  top = record (new_shape (codes "gossipmpi")) { is_leaf = false; has_version = true; arg_required_else_help = true; subcommand_required = true };
   subs = run ∷ new_shape (codes "eval") ∷ new_shape (codes "check") ∷ [];
 }
 

@@ -4,7 +4,8 @@ ghost use Rattle.clap.specs.Words.{HasKind, kind_of};
 ghost use Rattle.mpx_words.specs.Usage.{refusal_kinds};
 ghost use Rattle.mpx_words.specs.Words.{alone, complaint, complaint_of, job_in, limits_of, number_within, options_in, usual, with_option};
 
-use crate::program::program;
+use crate::advice::told_instead;
+use crate::program::{named, program};
 use clap::Error;
 use clap::error::ErrorKind;
 use mpx_job::{Command, Job, Options};
@@ -134,8 +135,19 @@ fn no_job(alloc: Global, words: &[String]) -> Error
         return Error::from(AllocError);
     };
     match program.try_get_matches_from(words) {
-        Ok(_) => { refusal(alloc, ErrorKind::InvalidValue, complaint_of(words)) }
-        Err(refusal) => refusal,
+        Ok(_) => refusal(alloc, words, ErrorKind::InvalidValue, complaint_of(words)),
+        Err(refusal) => with_advice(alloc, words, refusal),
+    }
+}
+
+// The refusal, which tells how a file is handed in where the words name one.
+fn with_advice(alloc: Global, words: &[String], refused: Error) -> Error
+    ensures { (kind_of result ≡ kind_of refused) ⊎ (kind_of result ≡ ErrorKind.OutOfMemory) }
+{
+    match told_instead(alloc, refused.kind(), words) {
+        Ok(Some(text)) => refusal(alloc, words, refused.kind(), text.as_str()),
+        Ok(None) => refused,
+        Err(error) => Error::from(error),
     }
 }
 
@@ -200,25 +212,35 @@ pub fn not_text(alloc: Global) -> Error
 {
     refusal(
         alloc,
+        &[],
         ErrorKind::InvalidValue,
         "an argument is not valid UTF-8",
     )
 }
 
-fn refusal(alloc: Global, kind: ErrorKind, message: &str) -> Error
+// A refusal with the usage of the command that the words name.
+fn refusal(alloc: Global, words: &[String], kind: ErrorKind, message: &str) -> Error
     ensures { (kind_of result ≡ kind) ⊎ (kind_of result ≡ ErrorKind.OutOfMemory) }
 {
-    match error(alloc, kind, message) {
+    match error(alloc, words, kind, message) {
         Ok(error) => error,
         Err(error) => Error::from(error),
     }
 }
 
-fn error(alloc: Global, kind: ErrorKind, message: &str) -> Result<Error, AllocError>
+fn error(
+    alloc: Global,
+    words: &[String],
+    kind: ErrorKind,
+    message: &str,
+) -> Result<Error, AllocError>
     ensures { IfOk result (λ e. kind_of e ≡ kind) }
 {
-    let mut program = program(alloc)?;
-    let error = program.error(kind, message);
-    drop(program);
+    let mut command = match words {
+        [_, name, ..] => named(alloc, name.as_bytes())?,
+        _ => program(alloc)?,
+    };
+    let error = command.error(kind, message);
+    drop(command);
     error
 }

@@ -8,7 +8,7 @@ ghost use Rattle.mpx_words.specs.Usage.{run, usage};
 use clap::{Arg, Command};
 use std::alloc::{AllocError, Global};
 
-pub fn program<'a>(alloc: Global) -> Result<Command<'a>, AllocError>
+pub(crate) fn program<'a>(alloc: Global) -> Result<Command<'a>, AllocError>
     ensures { IfOk result (λ c. app_of c ≡ usage) }
 {
     let run = run(alloc)?;
@@ -16,6 +16,20 @@ pub fn program<'a>(alloc: Global) -> Result<Command<'a>, AllocError>
         .subcommand(run)?
         .subcommand(bare(alloc, "eval", EVAL))?
         .subcommand(bare(alloc, "check", CHECK))
+}
+
+/// The command of that name by itself, for its usage; the whole program, where there is none.
+pub(crate) fn named<'a>(alloc: Global, name: &[u8]) -> Result<Command<'a>, AllocError> {
+    if name == b"run".as_slice() {
+        return run(alloc)?.bin_name("gossipmpi run");
+    }
+    if name == b"eval".as_slice() {
+        return bare(alloc, "eval", EVAL).bin_name("gossipmpi eval");
+    }
+    if name == b"check".as_slice() {
+        return bare(alloc, "check", CHECK).bin_name("gossipmpi check");
+    }
+    program(alloc)
 }
 
 const EVAL: &str =
@@ -26,10 +40,11 @@ const CHECK: &str =
 
 // The program without its commands.
 fn bare_program<'a>(alloc: Global) -> Result<Command<'a>, AllocError>
-    ensures app { IfOk result (λ c. app_of c ≡ record { top = record (new_shape (codes "gossipmpi")) { arg_required_else_help = true; subcommand_required = true }; subs = [] }) }
+    ensures app { IfOk result (λ c. app_of c ≡ record { top = record (new_shape (codes "gossipmpi")) { has_version = true; arg_required_else_help = true; subcommand_required = true }; subs = [] }) }
 {
     Command::new(alloc, "gossipmpi")
         .about("Run, evaluate or check a text script of MPI collectives for up to 64 ranks")
+        .version("0.1.0")
         .subcommand_required(true)
         .arg_required_else_help(true)
         .bin_name("gossipmpi")
@@ -43,6 +58,9 @@ fn run<'a>(alloc: Global) -> Result<Command<'a>, AllocError>
         alloc,
         "run",
         "Run the script on the standard input (gossipmpi run < SCRIPT) and print what each rank gets",
+    )
+    .after_help(
+        "Each option is followed by its number as a word of its own: --seed 7, not --seed=7",
     )
     .arg(option(alloc, "seed", SEED))?
     .arg(option(alloc, "loss", LOSS))?

@@ -5,4 +5,4 @@ use Rattle.bus_tests.proofs.many.turn.Goals as goal
 
 pub push_on-requires-clause-frame : goal.push_on-requires-clause-frame
 push_on-requires-clause-frame g c =
-    subst (CanPush c.pop-4.new.port) (sym c.in_ok-copy.ensures) (c.pop-4.ensures.port.keeps c.in-Full.frame (full_can_push c.in_ok-frame.field-0 c.in-Full.frame _ c.push_own-2.new.port c.in-Full.is c.in_ok-frame.ensures.next))
+    subst (CanPush c.pops_thrice-2.new.port) (sym c.in_ok-copy.ensures) (c.pops_thrice-2.ensures.keeps c.in-Full.frame (full_can_push c.in_ok-frame.field-0 c.in-Full.frame _ c.push_own-2.new.port c.in-Full.is c.in_ok-frame.ensures.next))

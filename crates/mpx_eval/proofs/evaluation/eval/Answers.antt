@@ -1,11 +1,13 @@
-use Rattle.std.proofs.Common.{◌≡◌, List, map, length, ap, sym, ◌∙◌, subst}
+use Rattle.std.proofs.Common.{◌≡◌, List, ℕ, map, length, ap, sym, ◌∙◌, subst}
 use Rattle.std.specs.Prelude.{slice_get}
 use Rattle.mpx_evaluation.specs.Evaluation.{start}
 use Rattle.mpx_evaluation.specs.Reports.{transcripts_of, which}
-use Rattle.mpx_eval.specs.declared.rank.Rank.{Rank}
-use Rattle.mpx_eval.specs.Places.{RankView}
+use Rattle.mpx_name.specs.Name.{Name}
+use Rattle.mpx_rank.specs.declared.rank.Rank.{Rank}
+use Rattle.mpx_eval.specs.declared.table.Table.{Table}
+use Rattle.mpx_eval.specs.Places.{CommunicatorView, TableRank}
 use Rattle.mpx_eval.specs.Rounds.{AreIn, is_waiting_at}
-use Rattle.mpx_eval.specs.Shown.{rank_of}
+use Rattle.mpx_eval.specs.Carrying.{shown}
 use Rattle.mpx_eval.specs.Tables.{table_of}
 use Rattle.mpx_eval.proofs.Going.{written_back}
 use Rattle.mpx_eval.proofs.Reporting.{are_in_start, evaluated, reached_start}
@@ -18,10 +20,10 @@ returns c =
     let many : length script.statements ≡ script.ranks = c.ranks.ensures.each_rank ∙ c.ranks.ensures.ranks in
     let t = table_of c.new-table.result in
     let begin = start script.statements script.ranks in
-    let are : AreIn script.ranks (map rank_of xs) t begin = are_in_start script.statements script.ranks (map rank_of xs) t many c.in_ok-ranks.ensures c.new-table.ensures in
-    let lent : AreIn script.ranks (map rank_of c.deref_mut.result.now) t begin = subst (λ (ps : List Rank). AreIn script.ranks (map rank_of ps) t begin) (sym c.deref_mut.ensures.value) are in
+    let are : AreIn script.ranks (map shown xs) t begin = are_in_start script.statements script.ranks (map shown xs) t many c.in_ok-ranks.ensures c.new-table.ensures in
+    let lent : AreIn script.ranks (map shown c.deref_mut.result.now) t begin = subst (λ (ps : List (Rank Table CommunicatorView (Name × ℕ))). AreIn script.ranks (map shown ps) t begin) (sym c.deref_mut.ensures.value) are in
     let ran = c.in_ok-rounds.ensures script.statements script.ranks begin (reached_start script.statements script.ranks) lent in
     let same = written_back c.in_ok-ranks.ranks.len xs c.rounds.new.ranks (c.rounds.auto.ranks ∙ ap length c.deref_mut.ensures.value) (sym (ap length c.deref_mut.ensures.value) ∙ c.deref_mut.ensures.len) in
-    evaluated script (map rank_of c.rounds.new.ranks) (table_of c.rounds.new.table) ran (transcripts_of (record { transcripts = c.in_ok-transcripts.transcripts; waiting = c.in_ok-waiting.waiting })) c.in_ok-waiting.waiting.items
-    (c.in_ok-transcripts.ensures ∙ ap (λ (ps : List Rank). map (λ (r : RankView). r.lines) (map rank_of ps)) same)
-    (c.in_ok-waiting.ensures ∙ ap (λ (ps : List Rank). which (λ p. is_waiting_at (slice_get (map rank_of ps) p)) c.ranks.result) (c.as_slice.ensures.value ∙ same) ∙ ap (which (λ p. is_waiting_at (slice_get (map rank_of c.rounds.new.ranks) p))) c.ranks.ensures.ranks)
+    evaluated script (map shown c.rounds.new.ranks) (table_of c.rounds.new.table) ran (transcripts_of (record { transcripts = c.in_ok-transcripts.transcripts; waiting = c.in_ok-waiting.waiting })) c.in_ok-waiting.waiting.items
+    (c.in_ok-transcripts.ensures ∙ ap (λ (ps : List (Rank Table CommunicatorView (Name × ℕ))). map (λ (r : TableRank). r.lines) (map shown ps)) same)
+    (c.in_ok-waiting.ensures ∙ ap (λ (ps : List (Rank Table CommunicatorView (Name × ℕ))). which (λ p. is_waiting_at (slice_get (map shown ps) p)) c.ranks.result) (c.as_slice.ensures.value ∙ same) ∙ ap (which (λ p. is_waiting_at (slice_get (map shown c.rounds.new.ranks) p))) c.ranks.ensures.ranks)

@@ -1,9 +1,10 @@
 use Rattle.std.proofs.Common.{◌<◌, ◌≤◌, ◌+◌, List, map, set, get_or, subst, arith}
 use Rattle.std.specs.Prelude.{◌||◌, IsTrue}
-use Rattle.mpx_eval.specs.Places.{RankView}
+use Rattle.mpx_eval.specs.Places.{TableRank}
 use Rattle.mpx_eval.specs.Rounds.{Round, all_left}
-use Rattle.mpx_eval.specs.Shown.{rank_of}
+use Rattle.mpx_eval.specs.Carrying.{shown}
 use Rattle.mpx_eval.specs.Tables.{table_of}
+use Rattle.mpx_eval.proofs.Carried.{goes_is, goes_left}
 use Rattle.mpx_eval.proofs.Going.{element, left_le, left_lt, less_more, round_more, written}
 use Rattle.mpx_eval.proofs.rounds.round.Goals as goal
 
@@ -11,16 +12,18 @@ pub loop-p-preserved : goal.loop-p-preserved
 loop-p-preserved c =
     let xs = c.loop-p.ranks in
     let p = c.loop-p.p in
-    let old = rank_of (get_or xs p c.index-ranks-p.result) in
-    let new = rank_of c.go_on.new.self in
-    let at = element rank_of xs p c.index-ranks-p.result (omega arith) in
-    let all = map rank_of (set xs p c.go_on.new.self) in
-    let no_more : all_left all ≤ all_left (map rank_of xs) = subst (λ (rs : List RankView). all_left rs ≤ all_left (map rank_of xs)) (written rank_of xs p c.go_on.new.self) (left_le (map rank_of xs) p old new at c.in_ok-moved.ensures.no_more) in
-    let less : IsTrue c.in_ok-moved.moved → all_left all < all_left (map rank_of xs) = λ e. subst (λ (rs : List RankView). all_left rs < all_left (map rank_of xs)) (written rank_of xs p c.go_on.new.self) (left_lt (map rank_of xs) p old new at (c.in_ok-moved.ensures.less e)) in
+    let old = shown (get_or xs p c.index-ranks-p.result) in
+    let new = shown c.go_on.new.self in
+    let goes = c.in_ok-moved.ensures in
+    let left = goes_left old c.loop-p.table new c.go_on.new.carrier c.in_ok-moved.moved goes in
+    let at = element shown xs p c.index-ranks-p.result (omega arith) in
+    let all = map shown (set xs p c.go_on.new.self) in
+    let no_more : all_left all ≤ all_left (map shown xs) = subst (λ (rs : List TableRank). all_left rs ≤ all_left (map shown xs)) (written shown xs p c.go_on.new.self) (left_le (map shown xs) p old new at left.0) in
+    let less : IsTrue c.in_ok-moved.moved → all_left all < all_left (map shown xs) = λ e. subst (λ (rs : List TableRank). all_left rs < all_left (map shown xs)) (written shown xs p c.go_on.new.self) (left_lt (map shown xs) p old new at (left.1 e)) in
     record {
-      goes = subst (λ (rs : List RankView). Round (map rank_of c.args.ranks.now) (table_of c.args.table.now) rs (table_of c.go_on.new.table) (c.loop-p.changed || c.in_ok-moved.moved) (p + 1)) (written rank_of xs p c.go_on.new.self)
-          (round_more (map rank_of c.args.ranks.now) (table_of c.args.table.now) (map rank_of xs) (table_of c.loop-p.table) c.loop-p.changed c.in_ok-moved.moved p old new (table_of c.go_on.new.table) at c.loop-p.invariant.goes c.in_ok-moved.ensures.goes);
-      less = less_more c.loop-p.changed c.in_ok-moved.moved (all_left (map rank_of c.args.ranks.now)) (all_left (map rank_of xs)) (all_left all) c.loop-p.invariant.no_more c.loop-p.invariant.less no_more less;
+      goes = subst (λ (rs : List TableRank). Round (map shown c.args.ranks.now) (table_of c.args.table.now) rs (table_of c.go_on.new.carrier) (c.loop-p.changed || c.in_ok-moved.moved) (p + 1)) (written shown xs p c.go_on.new.self)
+          (round_more (map shown c.args.ranks.now) (table_of c.args.table.now) (map shown xs) (table_of c.loop-p.table) c.loop-p.changed c.in_ok-moved.moved p old new (table_of c.go_on.new.carrier) at c.loop-p.invariant.goes (goes_is old c.loop-p.table new c.go_on.new.carrier c.in_ok-moved.moved goes));
+      less = less_more c.loop-p.changed c.in_ok-moved.moved (all_left (map shown c.args.ranks.now)) (all_left (map shown xs)) (all_left all) c.loop-p.invariant.no_more c.loop-p.invariant.less no_more less;
       no_more = omega (arith, c.loop-p.invariant.no_more, no_more);
     }
 

@@ -7,7 +7,7 @@ use Rattle.mpx_run.proofs.Reporting.{if_both, reported}
 use Rattle.mpx_run.proofs.report.print.Goals as goal
 
 pub returns : goal.returns
-returns c =
+returns g c =
     let run = c.in_ok-run.run' in
     let said = transcripts_of run.report in
     if_both c.print_report.result c.print_report.ensures.text c.print_report.ensures.end (λ printed text ends.

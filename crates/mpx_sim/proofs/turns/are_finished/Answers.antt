@@ -3,15 +3,15 @@ use Rattle.std.specs.Prelude.{slice_get}
 use Rattle.std.proofs.lemmas.Bool.{cases_eq}
 use Rattle.mpx_system.specs.Running.{is_waiting_at}
 use Rattle.mpx_system.proofs.Running.{element}
-use Rattle.mpx_sim.specs.Shown.{rank_of}
+use Rattle.mpx_sim.specs.Shown.{process_of}
 use Rattle.mpx_sim.proofs.turns.are_finished.Goals as goal
 
 pub loop-p-preserved : goal.loop-p-preserved
 loop-p-preserved c q l =
     let xs = c.args.processes.now in
-    let here : is_waiting_at (slice_get (map rank_of xs) c.loop-p.p) ≡ false =
-    ap is_waiting_at (element rank_of xs c.loop-p.p c.index-processes-p.result (omega arith)) ∙ ap (λ x. is_waiting_at (Some (rank_of x))) (sym c.index-processes-p.is) ∙ sym c.is_waiting.ensures ∙ c.if-is_waiting.false in
+    let here : is_waiting_at (slice_get (map process_of xs) c.loop-p.p) ≡ false =
+    ap is_waiting_at (element process_of xs c.loop-p.p c.index-processes-p.result (omega arith)) ∙ ap (λ x. is_waiting_at (Some (process_of x))) (sym c.index-processes-p.is) ∙ sym c.is_waiting.ensures ∙ c.if-is_waiting.false in
     elim (cases_eq q c.loop-p.p) [
-      | inl same ↦ ap (λ n. is_waiting_at (slice_get (map rank_of xs) n)) same ∙ here
+      | inl same ↦ ap (λ n. is_waiting_at (slice_get (map process_of xs) n)) same ∙ here
       | inr other ↦ c.loop-p.invariant q (omega (arith, l, other))
     ]

@@ -1,6 +1,6 @@
 use Rattle.std.proofs.Common.{◌∙◌, List, Some, map, ap, sym, subst, arith}
 use Rattle.mpx_system.specs.Running.{RankView, IsUnderWay}
-use Rattle.mpx_sim.specs.Shown.{rank_of}
+use Rattle.mpx_sim.specs.Shown.{process_of}
 use Rattle.mpx_system.proofs.Running.{written, element}
 use Rattle.mpx_sim.proofs.turns.arrive.Goals as goal
 
@@ -8,5 +8,5 @@ pub returns : goal.returns
 returns c script ranks size frames i got run =
     let xs = c.args.processes.now in
     let p = c.args.frame.now.to in
-    subst (λ (rs : List RankView). IsUnderWay script ranks size rs frames) (written rank_of xs p c.receive.new.self)
-    (c.in_ok-receive.ensures script ranks size (map rank_of xs) frames p i (element rank_of xs p c.index-processes-frame.result (omega arith)) (got ∙ ap Some (sym c.in_ok-part.ensures)) run)
+    subst (λ (rs : List RankView). IsUnderWay script ranks size rs frames) (written process_of xs p c.receive.new.self)
+    (c.in_ok-receive.ensures script ranks size (map process_of xs) frames p i (element process_of xs p c.index-processes-frame.result (omega arith)) (got ∙ ap Some (sym c.in_ok-part.ensures)) run)

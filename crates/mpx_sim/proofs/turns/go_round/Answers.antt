@@ -1,6 +1,6 @@
 use Rattle.std.proofs.Common.{◌<◌, List, map, subst, arith}
 use Rattle.mpx_system.specs.Running.{RankView, IsUnderWay}
-use Rattle.mpx_sim.specs.Shown.{rank_of}
+use Rattle.mpx_sim.specs.Shown.{process_of}
 use Rattle.mpx_system.proofs.Running.{written, element}
 use Rattle.mpx_sim.proofs.turns.go_round.Goals as goal
 
@@ -9,5 +9,5 @@ loop-p-preserved c script ranks size frames few run =
     let xs = c.loop-p.processes in
     let p = c.loop-p.p in
     let l : p < ranks = omega (arith, few) in
-    subst (λ (rs : List RankView). IsUnderWay script ranks size rs frames) (written rank_of xs p c.go_on.new.self)
-    (c.in_ok-moved.ensures script ranks size (map rank_of xs) frames p l (element rank_of xs p c.index-processes-p.result (omega arith)) (c.loop-p.invariant script ranks size frames few run))
+    subst (λ (rs : List RankView). IsUnderWay script ranks size rs frames) (written process_of xs p c.go_on.new.self)
+    (c.in_ok-moved.ensures script ranks size (map process_of xs) frames p l (element process_of xs p c.index-processes-p.result (omega arith)) (c.loop-p.invariant script ranks size frames few run))

@@ -1,6 +1,6 @@
 use Rattle.std.proofs.Common.{List, map, subst, arith}
 use Rattle.mpx_system.specs.Running.{RankView, IsUnderWay}
-use Rattle.mpx_sim.specs.Shown.{rank_of}
+use Rattle.mpx_sim.specs.Shown.{process_of}
 use Rattle.mpx_system.proofs.Running.{written, element}
 use Rattle.mpx_sim.proofs.turns.prune_all.Goals as goal
 
@@ -8,5 +8,5 @@ pub loop-p-preserved : goal.loop-p-preserved
 loop-p-preserved c script ranks size frames run =
     let xs = c.loop-p.processes in
     let p = c.loop-p.p in
-    subst (λ (rs : List RankView). IsUnderWay script ranks size rs frames) (written rank_of xs p c.prune-pruned.new.self)
-    (c.prune-pruned.ensures script ranks size (map rank_of xs) frames p (element rank_of xs p c.index-processes-p.result (omega arith)) (c.loop-p.invariant script ranks size frames run))
+    subst (λ (rs : List RankView). IsUnderWay script ranks size rs frames) (written process_of xs p c.prune-pruned.new.self)
+    (c.prune-pruned.ensures script ranks size (map process_of xs) frames p (element process_of xs p c.index-processes-p.result (omega arith)) (c.loop-p.invariant script ranks size frames run))

@@ -1,12 +1,12 @@
 use Rattle.std.proofs.Common.{◌≡◌, map, length, ◌≤◌, ◌+◌}
-use Rattle.mpx_sim.specs.Shown.{rank_of, part_of}
+use Rattle.mpx_sim.specs.Shown.{process_of, part_of}
 use Rattle.mpx_system.specs.Running.{IsUnderWay}
 use Rattle.mpx_sim.proofs.turns.simulate.Given as goal
 
 abbrev pub invariant-loop-number : goal.invariant-loop-number
-invariant-loop-number l = record {
+invariant-loop-number g l = record {
   count : l.script.ranks ≤ length l.processes.items;
   made : l.made ≡ l.number;
   senders : length l.processes.items ≤ length l.senders.items;
-  run : IsUnderWay l.script.statements l.script.ranks (l.script.ranks + l.options.relays) (map rank_of l.processes.items) (map part_of l.frames.items);
+  run : IsUnderWay l.script.statements l.script.ranks (l.script.ranks + l.options.relays) (map process_of l.processes.items) (map part_of l.frames.items);
 }

@@ -1,7 +1,7 @@
 use Rattle.std.proofs.Common.{◌+◌, map}
-use Rattle.mpx_sim.specs.Shown.{rank_of}
+use Rattle.mpx_sim.specs.Shown.{process_of}
 use Rattle.mpx_system.specs.Running.{Starts}
 use Rattle.mpx_sim.proofs.turns.start.Given as goal
 
 abbrev pub invariant-loop-me : goal.invariant-loop-me
-invariant-loop-me l = Starts l.script.statements l.script.ranks (l.script.ranks + l.relays) l.me (map rank_of l.processes.items)
+invariant-loop-me l = Starts l.script.statements l.script.ranks (l.script.ranks + l.relays) l.me (map process_of l.processes.items)

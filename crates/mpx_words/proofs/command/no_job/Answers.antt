@@ -1,8 +1,10 @@
 use Rattle.std.proofs.Common.{◌∷◌, []}
 use Rattle.clap.specs.Words.{app_of}
 use Rattle.clap.specs.declared.error.kind.ErrorKind.TheVariants as kind
-use Rattle.mpx_words.proofs.Refusals.{has_first, told_of_usage}
+use Rattle.mpx_words.proofs.Refusals.{has_first, keeps_kind, told_of_usage}
 use Rattle.mpx_words.proofs.command.no_job.Goals as goal
 
 pub returns : goal.returns
-returns c = has_first _ (kind.InvalidValue ∷ []) c.in-Err.refusal (told_of_usage (app_of c.in-Ok.program) _ c.in-Err.refusal c.in-Ok.ensures c.in-Err.ensures.kinds)
+returns c =
+    let told = told_of_usage (app_of c.in-Ok.program) _ c.in-Err.refusal c.in-Ok.ensures c.in-Err.ensures.kinds in
+    keeps_kind _ c.in-Err.refusal c.with_advice.result (has_first _ (kind.InvalidValue ∷ []) c.in-Err.refusal told) c.with_advice.ensures

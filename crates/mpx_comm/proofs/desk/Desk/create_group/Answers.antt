@@ -7,7 +7,7 @@ use Rattle.mpx_comm.proofs.desk.Desk.create_group.Goals as goal
 
 pub returns-in-Ok : goal.returns-in-Ok
 returns-in-Ok g c =
-    let call = subst (λ draft. Calls g.H.Host.node g.H.Host.turned g.H.Host.turn_refused c.in-Ok.gathering.name draft c.args.turns c.call_on.result c.open_gathering.new.self.host c.call_on.new.self.host c.open_gathering.new.self.requests.keys c.call_on.new.self.requests.keys) c.plain-draft.ensures c.call_on.ensures in
+    let call = subst (λ draft. Calls g.H.Host.node g.H.Host.turned g.H.Host.turn_refused c.in-Ok.gathering.name draft c.args.turns c.call_on.result c.open_gathering.new.self.host c.call_on.new.self.host c.open_gathering.new.self.requests.keys c.call_on.new.self.requests.keys) c.create_group-draft.ensures c.call_on.ensures in
     let since = subst (λ before. Calls g.H.Host.node g.H.Host.turned g.H.Host.turn_refused c.in-Ok.gathering.name create_group c.args.turns c.call_on.result c.open_gathering.new.self.host c.call_on.new.self.host before c.call_on.new.self.requests.keys) c.open_gathering.ensures.requests call in
     let opens = rw (to_z-of_z w128 c.args.tag c.ranges.tag) at c.in-Ok.ensures.opens in
     inr (c.in-Ok.gathering.name, c.open_gathering.new.self.host, opens, c.open_gathering.ensures.no_turn, since)

@@ -9,7 +9,7 @@ pub returns-in-Ok-clause-asks : goal.returns-in-Ok-clause-asks
 returns-in-Ok-clause-asks g c =
     let opened = g.H.Host.node c.open_gathering.new.self.host in
     let new = g.H.Host.node c.post_on.new.self.host in
-    let asks = subst (λ draft. Asks c.in-Ok.gathering.name draft c.post_on.result opened new c.open_gathering.new.self.requests.keys c.post_on.new.self.requests.keys) c.plain-draft.ensures c.post_on.ensures.asks in
+    let asks = subst (λ draft. Asks c.in-Ok.gathering.name draft c.post_on.result opened new c.open_gathering.new.self.requests.keys c.post_on.new.self.requests.keys) c.create_group-draft.ensures c.post_on.ensures.asks in
     let since = subst (λ before. Asks c.in-Ok.gathering.name create_group c.post_on.result opened new before c.post_on.new.self.requests.keys) c.open_gathering.ensures.requests asks in
     let opens = rw (to_z-of_z w128 c.args.tag c.ranges.tag) at c.in-Ok.ensures.opens in
     inr (c.in-Ok.gathering.name, c.open_gathering.new.self.host, opens, c.open_gathering.ensures.no_turn, since)

@@ -1,4 +1,4 @@
-use Rattle.std.proofs.Common.{sym, ap, subst, Some, ◌∙◌}
+use Rattle.std.proofs.Common.{sym, subst, Some}
 use Rattle.std.specs.BTreeMap.{Updates}
 use Rattle.mpx_name.specs.Order.{name_cmp}
 use Rattle.mpx_eval.specs.Contexts.{ContextView, fresh}

@@ -1,0 +1,42 @@
+-- What a table says as the carrier of ranks' posts.
+use Rattle.std.specs.Prelude.{◌≡◌, ℕ, Some}
+use Rattle.std.proofs.Common.{sym, ◌∙◌, subst}
+use Rattle.std.specs.Option.{option_map}
+use Rattle.mpx_name.specs.Name.{Name}
+use Rattle.mpx_value.specs.Histories.{Answer, Results}
+use Rattle.mpx_evaluation.specs.Ranks.{bound_by}
+use Rattle.mpx_rank.specs.Carriers.{IsWithin, Outcomes, Terms}
+use Rattle.mpx_rank.specs.declared.rank.Rank.{Rank}
+use Rattle.mpx_rank.specs.Shown.{rank_of}
+use Rattle.mpx_eval.specs.Places.{CommunicatorView, IsBornSo, TableRank, attempt_by, bound_as}
+use Rattle.mpx_eval.specs.Tables.{Posted, Shows, Tries, answer_on, table_of}
+use Rattle.mpx_eval.specs.declared.table.Table.{Table}
+
+-- the context and the number of a call
+abbrev pub at_place : Name × ℕ → Name × ℕ
+at_place place = place
+
+-- what a rank of the code shows
+abbrev pub shown : Rank Table CommunicatorView (Name × ℕ) → TableRank
+shown rank = rank_of at_place rank
+
+-- the outcomes of these answers
+abbrev pub outcomes_of : Results → Outcomes
+outcomes_of r name call = option_map (λ (a : Answer). a.outcome) (r name call)
+
+-- a call's outcome, once all members have posted to it, and the communicator that it gave; of a communicator how it came to be
+-- is known; a post is tried as the posts that the table shows allow; and nothing is heard of others but by the table
+abbrev pub table_terms : Terms Table CommunicatorView
+table_terms = record {
+  tells = λ t me. outcomes_of (answer_on (table_of t) me);
+  gives = λ t me name call to. (answer : Answer) × (answer_on (table_of t) me name call ≡ Some answer) × (bound_as to ≡ bound_by answer.outcome answer.born);
+  knows = λ t communicator. Some communicator;
+  tries = λ t me posting on result u. (ranks : ℕ) (made : Posted) → Shows ranks (table_of t) made → IsBornSo ranks made on → Tries ranks made me (attempt_by me (made me) posting on) result (table_of u);
+  hears = λ t u. u ≡ t;
+}
+
+pub hears_no_more : (a b c : Table) → b ≡ a → c ≡ b → c ≡ a
+hears_no_more a b c e f = f ∙ e
+
+pub stays_told : (a b : Table) → b ≡ a → (me : ℕ) → IsWithin (table_terms.tells a me) (table_terms.tells b me)
+stays_told a b e me name call outcome told = subst (λ t. table_terms.tells t me name call ≡ Some outcome) (sym e) told

@@ -1,0 +1,104 @@
+-- Who waits at the end of an evaluation: at which statement, for which calls, and for whose posts to them.
+use Rattle.std.specs.Prelude.{◌≡◌, ℕ, ◌-◌, Bool, nat_le, is_none, List, [], ◌∷◌, length, map, Option, Some, None}
+use Rattle.std.specs.List.{filter}
+use Rattle.mpx_name.specs.Name.{Name}
+use Rattle.mpx_post.specs.Births.{BirthView}
+use Rattle.mpx_value.specs.Histories.{Results, birth_of, posts_on}
+use Rattle.mpx_statement.specs.declared.statement.Statement.{Statement}
+use Rattle.mpx_statement.specs.declared.statement.Statement.TheVariants.{Post, Wait, Ask}
+use Rattle.mpx_statement.specs.Lookups.{named}
+use Rattle.mpx_script.specs.ScriptView.{ScriptView}
+use Rattle.mpx_evaluation.specs.Ranks.{Todo, Do, Await, Local, Next, End, Asks}
+use Rattle.mpx_evaluation.specs.Standing.{closed}
+use Rattle.mpx_evaluation.specs.Evaluation.{State, IsEvaluation, history, known, statements_of}
+use Rattle.mpx_evaluation.specs.Reports.{waiting_in}
+
+-- a call whose answer is missing: the word of its request, where it is waited for by one, its context, its number there, and
+-- the members of the context that have not posted to it
+pub record MissingCallView : Type 0 where
+  pub request : Option (List ℕ)
+  pub name : Name
+  pub call : ℕ
+  pub missing : List ℕ
+
+-- a rank that waits, the place of the statement at which it does among its statements, and the calls whose answers are missing
+pub record WaitingView : Type 0 where
+  pub rank : ℕ
+  pub statement : ℕ
+  pub calls : List MissingCallView
+
+-- WHICH CALLS ARE ASKED FOR
+
+-- the word of a request, where a wait names it, and the call
+abbrev pub Asked : Type 0
+Asked = Option (List ℕ) × (Name × ℕ)
+
+abbrev pub asked_then : List ℕ → Option (Name × ℕ) → List Asked → List Asked
+asked_then word None rest = rest
+asked_then word (Some place) rest = (Some word, place) ∷ rest
+
+-- by a wait for these words: the calls of the open requests, each once
+abbrev pub asked_by : (List ℕ → Option (Name × ℕ)) → List (List ℕ) → List Asked
+asked_by requests [] = []
+asked_by requests (word ∷ words) = asked_then word (requests word) (asked_by (closed word requests) words)
+
+-- by a statement that is next
+abbrev pub asked_at : (List ℕ → Option (Name × ℕ)) → Statement → List Asked
+asked_at requests (Post posting) = []
+asked_at requests (Wait words) = asked_by requests words
+asked_at requests (Ask question) = []
+
+abbrev pub asked_of : (List ℕ → Option (Name × ℕ)) → List Todo → List Asked
+asked_of requests [] = []
+asked_of requests (Do statement ∷ rest) = asked_at requests statement
+asked_of requests (Await name call target ∷ rest) = (None, (name, call)) ∷ []
+
+-- by the next move of a rank
+abbrev pub asked : Local → List Asked
+asked s = asked_of (named s.requests) s.todo
+
+-- the calls that a rank's next move asks for
+abbrev pub calls_of : Next → List (Name × ℕ)
+calls_of End = []
+calls_of (Asks calls act) = calls
+
+-- WHOSE POSTS ARE MISSING
+
+-- a process has made at most so many posts there, which are no post to the call of this number
+abbrev pub lacks_post : State → Name → (call process : ℕ) → Bool
+lacks_post s name call q = nat_le (length (posts_on name (s q).made)) call
+
+abbrev pub missing_of : State → Name → (call : ℕ) → Option BirthView → List ℕ
+missing_of s name call None = []
+missing_of s name call (Some birth) = filter (lacks_post s name call) birth.members
+
+-- the members of a call's context that have not posted to it
+abbrev pub missing_to : (ranks : ℕ) → State → Name → (call : ℕ) → List ℕ
+missing_to ranks s name call = missing_of s name call (birth_of (history s) ranks name)
+
+abbrev pub missing_call : (ranks : ℕ) → State → Asked → MissingCallView
+missing_call ranks s a = record { request = a.0; name = a.1.0; call = a.1.1; missing = missing_to ranks s a.1.0 a.1.1 }
+
+-- the answer isn't known
+abbrev pub is_unknown : Results → Asked → Bool
+is_unknown r a = is_none (r a.1.0 a.1.1)
+
+-- WHO WAITS
+
+-- where a rank waits, and for what: its statements but for those that are left
+abbrev pub waits_at : List (List Statement) → (ranks : ℕ) → State → (rank : ℕ) → WaitingView
+waits_at script ranks s p = record {
+  rank = p;
+  statement = length (statements_of script p) - length (s p).todo;
+  calls = map (missing_call ranks s) (filter (is_unknown (known ranks s p)) (asked (s p)));
+}
+
+-- all that wait
+abbrev pub waiting_in_full : List (List Statement) → (ranks : ℕ) → State → List WaitingView
+waiting_in_full script ranks s = map (waits_at script ranks s) (waiting_in s ranks)
+
+-- there is an evaluation of the script at whose end these wait so
+pub record IsWaitedFor (script : ScriptView) (found : List WaitingView) : Type 0 where
+  pub end : State
+  pub evaluation : IsEvaluation script.statements script.ranks end
+  pub found_are : found ≡ waiting_in_full script.statements script.ranks end

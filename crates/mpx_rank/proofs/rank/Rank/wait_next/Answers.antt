@@ -1,0 +1,16 @@
+use Rattle.std.proofs.Common.{refl, sym, subst}
+use Rattle.mpx_rank.specs.Moves.{Move, RankView, passes, passes_not}
+use Rattle.mpx_rank.specs.Shown.{rank_of}
+use Rattle.mpx_rank.proofs.rank.Rank.wait_next.Goals as goal
+
+pub returns-then-not-branch : goal.returns-then-not-branch
+returns-then-not-branch g c =
+    let was = c.in_ok-are_done.ensures.not_done c.if-not-branch.true in
+    (refl, passes_not c.args.words.now c.args.rest.now c.requires.waits c.requires.todo was.after was.not_done was.before)
+
+pub returns : goal.returns
+returns g c =
+    let old = rank_of g.C.Carrier.place c.args.self.now in
+    subst (λ (r : RankView g.row.C-Communicator.Denot). Move g.C.Carrier.terms old c.args.carrier.now r c.close_all.new.carrier)
+    (λ i. record { me = old.me; bound = old.bound; requests = λ word. sym (c.in_ok-close_all.ensures.requests word) i; todo = c.args.rest.now; waits = sym c.requires.waits i; lines = sym c.in_ok-close_all.ensures.lines i })
+    (passes c.args.words.now c.args.rest.now c.requires.waits c.requires.todo c.in_ok-are_done.ensures.hears (c.in_ok-are_done.ensures.done c.if-not-branch.false) c.in_ok-close_all.ensures.hears)

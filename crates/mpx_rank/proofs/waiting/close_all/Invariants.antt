@@ -1,0 +1,20 @@
+use Rattle.std.proofs.Common.{◌≡◌, ◌++◌, ℕ, List, map, drop, string_bytes, true}
+use Rattle.mpx_evaluation.specs.Standing.{closed_all}
+use Rattle.mpx_evaluation.specs.Transcripts.{line_text}
+use Rattle.mpx_rank.specs.Moves.{are_done, wait_lines}
+use Rattle.mpx_rank.specs.Shown.{requests_of}
+use Rattle.mpx_rank.proofs.waiting.close_all.Given as goal
+
+abbrev pub invariant-loop-word : goal.invariant-loop-word
+invariant-loop-word g l =
+    let terms = g.C.Carrier.terms in
+    let told = terms.tells l.fn.carrier l.me in
+    let first = requests_of g.C.Carrier.place l.fn.requests in
+    let now = requests_of g.C.Carrier.place l.requests in
+    let left = drop l.word-index l.words in
+    record {
+      hears : terms.hears l.fn.carrier l.carrier;
+      lines : map string_bytes l.lines.items ++ map line_text (wait_lines told now left) ≡ map string_bytes l.fn.lines.items ++ map line_text (wait_lines told first l.words);
+      requests : (word : List ℕ) → closed_all left now word ≡ closed_all l.words first word;
+      done : are_done told now left ≡ true;
+    }

@@ -1,0 +1,43 @@
+-- What those say of themselves who carry a rank's posts.
+use Rattle.std.specs.Prelude.{◌≡◌, ℕ, Bool, is_some, Option, Some, None, Result, Ok, Err, string_bytes}
+use Rattle.mpx_name.specs.Name.{Name}
+use Rattle.mpx_post.specs.Births.{BirthView}
+use Rattle.mpx_post.specs.declared.draft.PostError.{PostError}
+use Rattle.mpx_value.specs.declared.outcomes.Outcome.{Outcome}
+use Rattle.mpx_statement.specs.declared.statement.Posting.{Posting}
+use Rattle.mpx_evaluation.specs.Transcripts.{outcome_text}
+use Rattle.mpx_rank.specs.declared.carrier.Heard.{Heard}
+use Rattle.mpx_rank.specs.declared.carrier.Heard.TheVariants.{NotYet, Told}
+
+-- the outcomes of calls of contexts, where they are told
+abbrev pub Outcomes : Type 0
+Outcomes = Name → (call : ℕ) → Option Outcome
+
+-- what a carrier of this type says, whose communicators are of that one: the outcomes that it tells a rank; which communicator
+-- a rank's call gave; a communicator's name and how it came to be, as far as it knows; what comes of a rank's statement that
+-- posts on a communicator; and that it has heard of others, at most
+pub record Terms (C K : Type 0) : Type 1 where
+  pub tells : C → (me : ℕ) → Outcomes
+  pub gives : C → (me : ℕ) → Name → (call : ℕ) → Option K → Type 0
+  pub knows : C → K → Option (Name × BirthView)
+  pub tries : C → (me : ℕ) → Posting → Option K → Result (Name × ℕ) PostError → C → Type 0
+  pub hears : C → C → Type 0
+
+-- the context and the number of the call that was posted, where one was
+abbrev pub placed : {Call E : Type 0} → (Call → Name × ℕ) → Result Call E → Result (Name × ℕ) E
+placed place (Ok call) = Ok (place call)
+placed place (Err refusal) = Err refusal
+
+-- whether a call's outcome is told
+abbrev pub is_told : Outcomes → Name × ℕ → Bool
+is_told told place = is_some (told place.0 place.1)
+
+-- what is told by the one is told by the other
+abbrev pub IsWithin : Outcomes → Outcomes → Type 0
+IsWithin some more = (name : Name) (call : ℕ) (outcome : Outcome) → some name call ≡ Some outcome → more name call ≡ Some outcome
+
+-- nothing is told of the call, which goes back; or its outcome, and the communicator that it gave
+abbrev pub HearsOf : {C K Call : Type 0} → Terms C K → C → (me : ℕ) → (place : Name × ℕ) → Call → Heard Call K → Type 0
+HearsOf terms c me place call (NotYet back) = (back ≡ call) × (terms.tells c me place.0 place.1 ≡ None)
+HearsOf terms c me place call (Told text given) =
+    (outcome : Outcome) × (terms.tells c me place.0 place.1 ≡ Some outcome) × (string_bytes text ≡ outcome_text outcome) × terms.gives c me place.0 place.1 given

@@ -1,0 +1,4 @@
+pub mod Carriers
+pub mod Moves
+pub mod Shown
+pub mod Waits

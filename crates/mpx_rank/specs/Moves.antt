@@ -1,0 +1,144 @@
+-- Where a rank stands in its statements, and what its moves do.
+use Rattle.std.specs.Prelude.{◌≡◌, ℕ, ◌+◌, ◌*◌, Bool, true, false, ◌||◌, cond, is_some, codes, bytes_eq, List, [], ◌∷◌, ◌++◌, length, map, Option, Some, None, option_and_then, Ok, Err}
+use Rattle.std.specs.List.{list_all}
+use Rattle.mpx_name.specs.Name.{Name}
+use Rattle.mpx_post.specs.declared.draft.PostError.{PostError}
+use Rattle.mpx_post.specs.declared.draft.PostError.TheVariants.{OutOfMemory}
+use Rattle.mpx_value.specs.declared.outcomes.Outcome.{Outcome}
+use Rattle.mpx_statement.specs.declared.statement.Posting.{Posting}
+use Rattle.mpx_statement.specs.declared.statement.Question.{Question}
+use Rattle.mpx_statement.specs.declared.statement.Statement.{Statement}
+use Rattle.mpx_statement.specs.declared.statement.Statement.TheVariants.{Post, Wait, Ask}
+use Rattle.mpx_statement.specs.Statements.{bound_to, posted_on, started_as}
+use Rattle.mpx_evaluation.specs.Ranks.{Line, Told, Refused, Idle, answered_by}
+use Rattle.mpx_evaluation.specs.Standing.{WaitView, awaited, binds, closed, closed_all, has_statements}
+use Rattle.mpx_evaluation.specs.Transcripts.{line_text, outcome_text}
+use Rattle.mpx_rank.specs.Carriers.{Outcomes, Terms, is_told}
+
+-- who it is, what its words are bound to (None is the null communicator) and which calls its open requests stand for, the
+-- statements that are left, what it waits for, and the lines so far
+pub record RankView (K : Type 0) : Type 0 where
+  pub me : ℕ
+  pub bound : List ℕ → Option (Option K)
+  pub requests : List ℕ → Option (Name × ℕ)
+  pub todo : List Statement
+  pub waits : Option WaitView
+  pub lines : List (List ℕ)
+
+-- WORDS
+
+-- the communicator that a word is bound to, where it is one
+abbrev pub communicator_in : {K : Type 0} → Option (Option K) → Option K
+communicator_in None = None
+communicator_in (Some to) = to
+
+-- before any statement `world` alone is bound, if any word is
+abbrev pub bound_first : {K : Type 0} → Option K → List ℕ → Option (Option K)
+bound_first None word = None
+bound_first (Some world) word = cond (bytes_eq word (codes "world")) (Some (Some world)) None
+
+-- WAITS
+
+-- whether a request isn't open, or the outcome of its call is told
+abbrev pub is_done : Outcomes → Option (Name × ℕ) → Bool
+is_done told None = true
+is_done told (Some place) = is_told told place
+
+abbrev pub are_done : Outcomes → (List ℕ → Option (Name × ℕ)) → List (List ℕ) → Bool
+are_done told requests words = list_all (λ word. is_done told (requests word)) words
+
+-- the line of a call, where its outcome is told
+abbrev pub told_line : Name → (call : ℕ) → Option Outcome → Line
+told_line name call None = Idle
+told_line name call (Some outcome) = Told name call outcome
+
+-- the line of a request that may be open
+abbrev pub request_line : Outcomes → Option (Name × ℕ) → Line
+request_line told None = Idle
+request_line told (Some place) = told_line place.0 place.1 (told place.0 place.1)
+
+-- the lines of a wait for these words: a request that was closed before is idle
+abbrev pub wait_lines : Outcomes → (List ℕ → Option (Name × ℕ)) → List (List ℕ) → List Line
+wait_lines told requests [] = []
+wait_lines told requests (word ∷ words) = request_line told (requests word) ∷ wait_lines told (closed word requests) words
+
+-- WHERE A RANK STANDS
+
+-- so much is left at most
+abbrev pub left_of : {K : Type 0} → RankView K → ℕ
+left_of r = 2 * length r.todo + awaited r.waits
+
+-- whether it waits for an outcome, or has statements left
+abbrev pub is_waiting : {K : Type 0} → RankView K → Bool
+is_waiting r = is_some r.waits || has_statements r.todo
+
+-- MOVES
+
+-- the outcome that it waited for is told, and its word stands for the communicator that the call gave
+abbrev pub heard : {K : Type 0} → RankView K → WaitView → (text : List ℕ) → Option K → RankView K
+heard r w text to = record { me = r.me; bound = binds w.target to r.bound; requests = r.requests; todo = r.todo; waits = None; lines = r.lines ++ text ∷ [] }
+
+-- it has posted, and waits for the outcome of that call
+abbrev pub posted : {K : Type 0} → RankView K → Posting → (rest : List Statement) → Name → (call : ℕ) → RankView K
+posted r posting rest name call = record { me = r.me; bound = r.bound; requests = r.requests; todo = rest; waits = Some (record { name = name; call = call; target = bound_to posting }); lines = r.lines }
+
+-- it has posted, and a request is open for that call
+abbrev pub started : {K : Type 0} → RankView K → (word : List ℕ) → (rest : List Statement) → Name → (call : ℕ) → RankView K
+started r word rest name call = record { me = r.me; bound = r.bound; requests = binds (Some word) (name, call) r.requests; todo = rest; waits = None; lines = r.lines }
+
+-- its post was refused
+abbrev pub refused : {K : Type 0} → RankView K → Posting → (rest : List Statement) → (text : List ℕ) → RankView K
+refused r posting rest text = record { me = r.me; bound = binds (bound_to posting) None r.bound; requests = r.requests; todo = rest; waits = None; lines = r.lines ++ text ∷ [] }
+
+-- it has waited for these words
+abbrev pub waited : {K : Type 0} → RankView K → (words : List (List ℕ)) → (rest : List Statement) → Outcomes → RankView K
+waited r words rest told = record { me = r.me; bound = r.bound; requests = closed_all words r.requests; todo = rest; waits = None; lines = r.lines ++ map line_text (wait_lines told r.requests words) }
+
+-- its question is answered
+abbrev pub answered : {K : Type 0} → RankView K → (rest : List Statement) → (text : List ℕ) → RankView K
+answered r rest text = record { me = r.me; bound = r.bound; requests = r.requests; todo = rest; waits = None; lines = r.lines ++ text ∷ [] }
+
+-- one move of a rank, and what its carrier does for it: it hears the outcome that it waits for; or it does its next statement.
+-- One that posts is posted, and then its outcome is awaited or its request is open, or it is refused; a wait is passed once
+-- all calls of its requests are done; and a question is answered by what the carrier knows of communicators
+pub data Move {C K : Type 0} (terms : Terms C K) : RankView K → C → RankView K → C → Type 0 where
+  hears : {r : RankView K} {c d : C} (w : WaitView) (outcome : Outcome) (text : List ℕ) (to : Option K) → r.waits ≡ Some w
+      → terms.hears c d → terms.tells d r.me w.name w.call ≡ Some outcome → text ≡ outcome_text outcome → terms.gives d r.me w.name w.call to
+      → Move terms r c (heard r w text to) d
+  posts : {r : RankView K} {c d : C} (posting : Posting) (rest : List Statement) (name : Name) (call : ℕ) → r.waits ≡ None → r.todo ≡ Post posting ∷ rest
+      → started_as posting ≡ None → terms.tries c r.me posting (communicator_in (r.bound (posted_on posting))) (Ok (name, call)) d
+      → Move terms r c (posted r posting rest name call) d
+  starts : {r : RankView K} {c d : C} (posting : Posting) (rest : List Statement) (word : List ℕ) (name : Name) (call : ℕ) → r.waits ≡ None → r.todo ≡ Post posting ∷ rest
+      → started_as posting ≡ Some word → terms.tries c r.me posting (communicator_in (r.bound (posted_on posting))) (Ok (name, call)) d
+      → Move terms r c (started r word rest name call) d
+  is_refused : {r : RankView K} {c d : C} (posting : Posting) (rest : List Statement) (refusal : PostError) (text : List ℕ) → r.waits ≡ None → r.todo ≡ Post posting ∷ rest
+      → (refusal ≡ OutOfMemory → ⊥) → terms.tries c r.me posting (communicator_in (r.bound (posted_on posting))) (Err refusal) d → text ≡ line_text (Refused refusal)
+      → Move terms r c (refused r posting rest text) d
+  passes : {r : RankView K} {c mid d : C} (words : List (List ℕ)) (rest : List Statement) → r.waits ≡ None → r.todo ≡ Wait words ∷ rest
+      → terms.hears c mid → are_done (terms.tells mid r.me) r.requests words ≡ true → terms.hears mid d
+      → Move terms r c (waited r words rest (terms.tells mid r.me)) d
+  asks : {r : RankView K} {c : C} (question : Question) (rest : List Statement) (text : List ℕ) → r.waits ≡ None → r.todo ≡ Ask question ∷ rest
+      → text ≡ line_text (answered_by r.me (λ word. option_and_then (terms.knows c) (communicator_in (r.bound word))) question)
+      → Move terms r c (answered r rest text) c
+
+-- there is no move: nothing is left; or the outcome that it waits for isn't told, or not that of each request of a wait. The
+-- carrier may have heard of others
+pub data Still {C K : Type 0} (terms : Terms C K) : RankView K → C → C → Type 0 where
+  has_ended : {r : RankView K} {c : C} → r.waits ≡ None → r.todo ≡ [] → Still terms r c c
+  waits_on : {r : RankView K} {c d : C} (w : WaitView) → r.waits ≡ Some w → terms.hears c d → terms.tells d r.me w.name w.call ≡ None → Still terms r c d
+  passes_not : {r : RankView K} {c mid d : C} (words : List (List ℕ)) (rest : List Statement) → r.waits ≡ None → r.todo ≡ Wait words ∷ rest
+      → terms.hears c mid → are_done (terms.tells mid r.me) r.requests words ≡ false → terms.hears mid d → Still terms r c d
+
+-- it has moved, or it stays where it stands
+abbrev pub Moves : {C K : Type 0} → Terms C K → RankView K → C → RankView K → C → (moved : Bool) → Type 0
+Moves terms r c s d true = Move terms r c s d
+Moves terms r c s d false = (s ≡ r) × Still terms r c d
+
+-- moves, one after the other
+pub data Ran {C K : Type 0} (terms : Terms C K) : RankView K → C → RankView K → C → (moved : Bool) → Type 0 where
+  stayed : {r : RankView K} {c : C} → Ran terms r c r c false
+  moved_on : {r s u : RankView K} {c d e : C} {moved : Bool} → Ran terms r c s d moved → Move terms s d u e → Ran terms r c u e true
+
+-- moves, until there is none
+abbrev pub GoesOn : {C K : Type 0} → Terms C K → RankView K → C → RankView K → C → (moved : Bool) → Type 0
+GoesOn {C} terms r c s d moved = (mid : C) × Ran terms r c s mid moved × Still terms s mid d

@@ -1,0 +1,320 @@
+//! A rank that goes on with its statements.
+ghost use Rattle.std.specs.Prelude.{◌≡◌, ◌<◌, ◌+◌, ◌∷◌, length, ℕ, IfOk, IsTrue, List, None, OnOk, Some, [], map, string_bytes, true, ◌↔◌};
+ghost use Rattle.std.specs.Option.{option_copied, option_map};
+ghost use Rattle.mpx_statement.specs.declared.statement.Statement.TheVariants.{Ask, Post, Wait as WaitFor};
+ghost use Rattle.mpx_rank.specs.Moves.{GoesOn, Moves, bound_first, communicator_in, is_waiting, left_of};
+ghost use Rattle.mpx_rank.specs.Shown.{place_of, rank_of, requests_of, wait_of};
+ghost use Rattle.mpx_evaluation.specs.Standing.{awaited, looked_up};
+
+use crate::asking::answer;
+use crate::carrier::{Carrier, Heard};
+use crate::waiting::{are_done, close_all};
+use join_core::OutOfMemory;
+use mpx_evaluation::{bind, refused_line};
+use mpx_group::Proc;
+use mpx_post::PostError;
+use mpx_statement::{Posting, Question, Statement, Word};
+use std::alloc::Global;
+use std::collections::BTreeMap;
+
+// The call whose outcome a rank waits for, and the word that its new communicator gets.
+#[derive(Drop)]
+struct Wait<'a, Call> {
+    call: Call,
+    target: Option<&'a Word>,
+}
+
+/// A rank: who it is, what its words are bound to (None: the null communicator), its open requests, the statements that are
+/// left, the call whose outcome it waits for, and its lines.
+#[derive(Drop)]
+pub struct Rank<'a, C: Carrier> {
+    me: Proc,
+    bound: BTreeMap<Word, Option<C::Communicator>>,
+    requests: BTreeMap<Word, C::Call>,
+    todo: &'a [Statement],
+    waits: Option<Wait<'a, C::Call>>,
+    lines: Vec<String>,
+}
+
+impl<'a, C: Carrier> Rank<'a, C> {
+    /// A rank before its statements: its word `world` is bound to this communicator, where there is one.
+    pub fn new(
+        alloc: Global,
+        me: Proc,
+        world: Option<C::Communicator>,
+        todo: &'a [Statement],
+    ) -> Result<Rank<'a, C>, OutOfMemory>
+        ensures me { IfOk result (λ rank. (rank_of C.place rank).me ≡ me) }
+        ensures bound { IfOk result (λ rank. (word : List ℕ) → (rank_of C.place rank).bound word ≡ bound_first world word) }
+        ensures requests { IfOk result (λ rank. (word : List ℕ) → (rank_of C.place rank).requests word ≡ None) }
+        ensures todo { IfOk result (λ rank. (rank_of C.place rank).todo ≡ todo.now) }
+        ensures waits { IfOk result (λ rank. (rank_of C.place rank).waits ≡ None) }
+        ensures lines { IfOk result (λ rank. (rank_of C.place rank).lines ≡ []) }
+    {
+        let bound = world_alone(alloc, world)?;
+        Ok(Rank {
+            me,
+            bound,
+            requests: BTreeMap::new(alloc),
+            todo,
+            waits: None,
+            lines: Vec::new(alloc),
+        })
+    }
+
+    /// Whether it waits for an outcome, or has statements left.
+    pub fn is_waiting(&self) -> bool
+        ensures { result ≡ is_waiting (rank_of C.place self.now) }
+    {
+        self.waits.is_some() || !self.todo.is_empty()
+    }
+
+    /// Who it is.
+    pub fn me(&self) -> Proc
+        ensures { result ≡ (rank_of C.place self.now).me }
+    {
+        self.me
+    }
+
+    /// The call whose outcome it waits for.
+    pub fn awaited(&self) -> Option<&C::Call>
+        ensures { option_map C.place (option_copied result) ≡ option_map place_of (rank_of C.place self.now).waits }
+    {
+        match &self.waits {
+            Some(wait) => Some(&wait.call),
+            None => None,
+        }
+    }
+
+    /// Its open requests.
+    pub fn requests(&self) -> &BTreeMap<Word, C::Call>
+        ensures { requests_of C.place result.now ≡ (rank_of C.place self.now).requests }
+    {
+        &self.requests
+    }
+
+    /// The statements that are left, without the one whose outcome it waits for.
+    pub fn todo(&self) -> &'a [Statement]
+        ensures { result.now ≡ (rank_of C.place self.now).todo }
+    {
+        self.todo
+    }
+
+    /// How many statements are left, with the one whose outcome it waits for.
+    pub fn left(&self) -> usize
+        ensures { result ≡ awaited (rank_of C.place self.now).waits + length (rank_of C.place self.now).todo }
+    {
+        if self.waits.is_some() {
+            return 1 + self.todo.len();
+        }
+        self.todo.len()
+    }
+
+    /// Its lines.
+    pub fn into_lines(self) -> Vec<String>
+        ensures { map string_bytes result.items ≡ (rank_of C.place self.entry).lines }
+    {
+        self.lines
+    }
+
+    /// Goes on with the statements until an outcome is missing. It answers whether there was a move.
+    pub fn go_on(&mut self, alloc: Global, carrier: &mut C) -> Result<bool, OutOfMemory>
+        ensures { IfOk result (GoesOn C.terms (rank_of C.place self.old) carrier.old (rank_of C.place self.new) carrier.new) }
+    {
+        let mut moved = false;
+        while self.move_on(alloc, carrier)? {
+            moved = true;
+        }
+        Ok(moved)
+    }
+
+    // One move: the line of the outcome that the rank waits for, once that is told, else the next statement. It answers
+    // whether there was one.
+    fn move_on(&mut self, alloc: Global, carrier: &mut C) -> Result<bool, OutOfMemory>
+        ensures { IfOk result (Moves C.terms (rank_of C.place self.old) carrier.old (rank_of C.place self.new) carrier.new) }
+    {
+        match self.waits.take() {
+            Some(wait) => self.hear(alloc, carrier, wait),
+            None => self.do_next(alloc, carrier),
+        }
+    }
+
+    // Looks for the outcome that it waits for.
+    fn hear(
+        &mut self,
+        alloc: Global,
+        carrier: &mut C,
+        wait: Wait<'a, C::Call>,
+    ) -> Result<bool, OutOfMemory>
+        requires { (rank_of C.place self.old).waits ≡ None }
+        ensures { IfOk result (Moves C.terms (record (rank_of C.place self.old) { waits = Some (wait_of C.place wait.entry) }) carrier.old (rank_of C.place self.new) carrier.new) }
+    {
+        let Wait { call, target } = wait;
+        match carrier.hear(alloc, self.me, call)? {
+            Heard::NotYet(call) => {
+                self.waits = Some(Wait { call, target });
+                Ok(false)
+            }
+            Heard::Told { text, given } => {
+                self.lines.push(text)?;
+                bind(alloc, &mut self.bound, target, given)?;
+                Ok(true)
+            }
+        }
+    }
+
+    // The next statement.
+    fn do_next(&mut self, alloc: Global, carrier: &mut C) -> Result<bool, OutOfMemory>
+        requires { (rank_of C.place self.old).waits ≡ None }
+        ensures { IfOk result (Moves C.terms (rank_of C.place self.old) carrier.old (rank_of C.place self.new) carrier.new) }
+    {
+        let Some((statement, rest)) = self.todo.split_first() else {
+            return Ok(false);
+        };
+        match statement {
+            Statement::Post(posting) => {
+                self.post_next(alloc, carrier, posting, rest)?;
+                Ok(true)
+            }
+            Statement::Wait(words) => self.wait_next(alloc, carrier, words.as_slice(), rest),
+            Statement::Ask(question) => {
+                self.ask_next(alloc, carrier, question, rest)?;
+                Ok(true)
+            }
+        }
+    }
+
+    // Posts the next statement. Where it is accepted its outcome is awaited, or its request is open from now on.
+    fn post_next(
+        &mut self,
+        alloc: Global,
+        carrier: &mut C,
+        posting: &'a Posting,
+        rest: &'a [Statement],
+    ) -> Result<(), OutOfMemory>
+        requires waits { (rank_of C.place self.old).waits ≡ None }
+        requires todo { (rank_of C.place self.old).todo ≡ Post posting.now ∷ rest.now }
+        ensures { OnOk result (Moves C.terms (rank_of C.place self.old) carrier.old (rank_of C.place self.new) carrier.new true) }
+    {
+        self.todo = rest;
+        let on = communicator(&self.bound, posting.on());
+        match carrier.post(alloc, self.me, on, posting) {
+            Ok(call) => match posting.request() {
+                Some(word) => {
+                    bind(alloc, &mut self.requests, Some(word), call)?;
+                    Ok(())
+                }
+                None => {
+                    let target = posting.target();
+                    self.waits = Some(Wait { call, target });
+                    Ok(())
+                }
+            },
+            Err(refusal) => {
+                if is_want_of_memory(refusal) {
+                    return Err(OutOfMemory);
+                }
+                let text = refused_line(alloc, refusal)?;
+                self.lines.push(text)?;
+                bind(alloc, &mut self.bound, posting.target(), None)?;
+                Ok(())
+            }
+        }
+    }
+
+    // Waits for the requests of the next statement: once the calls of all that are open are done, it tells their outcomes, and
+    // so closes them. It answers whether it has.
+    fn wait_next(
+        &mut self,
+        alloc: Global,
+        carrier: &mut C,
+        words: &[Word],
+        rest: &'a [Statement],
+    ) -> Result<bool, OutOfMemory>
+        requires waits { (rank_of C.place self.old).waits ≡ None }
+        requires todo { (rank_of C.place self.old).todo ≡ WaitFor words.now ∷ rest.now }
+        ensures { IfOk result (Moves C.terms (rank_of C.place self.old) carrier.old (rank_of C.place self.new) carrier.new) }
+    {
+        if !are_done(alloc, carrier, self.me, &self.requests, words)? {
+            return Ok(false);
+        }
+        close_all(
+            alloc,
+            carrier,
+            self.me,
+            &mut self.requests,
+            &mut self.lines,
+            words,
+        )?;
+        self.todo = rest;
+        Ok(true)
+    }
+
+    // Answers the question of the next statement.
+    fn ask_next(
+        &mut self,
+        alloc: Global,
+        carrier: &C,
+        question: &Question,
+        rest: &'a [Statement],
+    ) -> Result<(), OutOfMemory>
+        requires waits { (rank_of C.place self.old).waits ≡ None }
+        requires todo { (rank_of C.place self.old).todo ≡ Ask question.now ∷ rest.now }
+        ensures { OnOk result (Moves C.terms (rank_of C.place self.old) carrier.now (rank_of C.place self.new) carrier.now true) }
+    {
+        let text = answer(alloc, carrier, self.me, &self.bound, question)?;
+        self.lines.push(text)?;
+        self.todo = rest;
+        Ok(())
+    }
+}
+
+// The word `world` alone, bound to a communicator, where there is one.
+fn world_alone<K: Drop>(
+    alloc: Global,
+    world: Option<K>,
+) -> Result<BTreeMap<Word, Option<K>>, OutOfMemory>
+    ensures { IfOk result (λ bound. (word : List ℕ) → looked_up bound word ≡ bound_first world word) }
+{
+    let mut bound = BTreeMap::new(alloc);
+    if let Some(world) = world {
+        bound.insert(Word::new(alloc, b"world")?, Some(world))?;
+    }
+    Ok(bound)
+}
+
+/// The communicator that a word is bound to, where it is one.
+pub(crate) fn communicator<'m, K>(
+    bound: &'m BTreeMap<Word, Option<K>>,
+    word: &Word,
+) -> Option<&'m K>
+    ensures { option_copied result ≡ communicator_in (looked_up bound.now word.now) }
+{
+    match bound.get(word) {
+        Some(Some(communicator)) => Some(communicator),
+        Some(None) => None,
+        None => None,
+    }
+}
+
+fn is_want_of_memory(refusal: PostError) -> bool
+    ensures { IsTrue result ↔ (refusal ≡ PostError.OutOfMemory) }
+{
+    match refusal {
+        PostError::OutOfMemory => true,
+        PostError::NotMember => false,
+        PostError::RootOutOfRange => false,
+        PostError::OpNotForType => false,
+        PostError::CountsLength => false,
+        PostError::ItemsLength => false,
+        PostError::ItemOutOfRange => false,
+        PostError::TooManyItems => false,
+        PostError::NoTopology => false,
+        PostError::CallsUsedUp => false,
+        PostError::DepthUsedUp => false,
+        PostError::BadGroup => false,
+        PostError::BadEdge => false,
+        PostError::TooManyEdges => false,
+        PostError::BadTag => false,
+    }
+}

@@ -1,0 +1,16 @@
+use Rattle.std.proofs.Common.{refl}
+use Rattle.mpx_node.specs.Shown.{node_of}
+use Rattle.mpx_system.proofs.Running.{keeps_node_itself, keeps_node_then, keeps_node_harvest}
+use Rattle.mpx_sim.proofs.desk.harvest_on.Goals as goal
+
+pub loop-call-init : goal.loop-call-init
+loop-call-init c = keeps_node_itself (node_of c.args.desk.now.host) (node_of c.args.desk.now.host) refl
+
+pub loop-call-preserved : goal.loop-call-preserved
+loop-call-preserved c = keeps_node_then (node_of c.args.desk.now.host) (node_of c.loop-call.desk.host) (node_of c.harvest.new.self.host) c.loop-call.invariant (keeps_node_harvest _ _ _ _ (node_of c.loop-call.desk.host) (node_of c.harvest.new.self.host) refl c.in_ok-harvest.ensures.harvests)
+
+pub returns-in_default : goal.returns-in_default
+returns-in_default c = keeps_node_then (node_of c.args.desk.now.host) (node_of c.loop-call.desk.host) (node_of c.harvest.new.self.host) c.loop-call.invariant (keeps_node_harvest _ _ _ _ (node_of c.loop-call.desk.host) (node_of c.harvest.new.self.host) refl c.in_ok-harvest.ensures.harvests)
+
+pub returns : goal.returns
+returns c = c.loop-call.invariant

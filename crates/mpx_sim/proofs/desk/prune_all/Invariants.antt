@@ -1,0 +1,6 @@
+use Rattle.mpx_node.specs.Shown.{node_of}
+use Rattle.mpx_system.specs.Running.{KeepsNode}
+use Rattle.mpx_sim.proofs.desk.prune_all.Given as goal
+
+abbrev pub invariant-loop-name : goal.invariant-loop-name
+invariant-loop-name l = KeepsNode (node_of l.fn.desk.host) (node_of l.desk.host)

@@ -1,0 +1,59 @@
+-- What the program writes, and its exit status.
+use Rattle.std.specs.Prelude.{◌≡◌, ℕ, Bool, true, false, not, ◌==◌, List, [], ◌++◌, codes, length, IfSome, Option, Result, Ok, Err}
+use Rattle.std.specs.Io.KnownBytes.{Appends}
+use Rattle.mpx_eval.specs.Waiting.{IsWaitedFor, WaitingView}
+use Rattle.mpx_script.specs.Faults.{error_text}
+use Rattle.mpx_script.specs.Reading.{reading}
+use Rattle.mpx_script.specs.ScriptView.{ScriptView}
+use Rattle.waits.specs.declared.program.Fault.{Fault}
+use Rattle.waits.specs.declared.program.Fault.TheVariants.{Script, Memory, Read, Write}
+use Rattle.waits.specs.Told.{all_told}
+
+-- the text is read as a script, and the lines of those who wait at the end of its evaluation are out
+pub record Told (text : List ℕ) (old new : Option (List ℕ)) (waits : Bool) : Type 0 where
+  pub script : ScriptView
+  pub read : reading text ≡ Ok script
+  pub found : List WaitingView
+  pub waited : IsWaitedFor script found
+  pub somebody : waits ≡ not (length found == 0)
+  pub written : Appends old new (all_told text script.statements found)
+
+-- somebody waits, or nobody does, and that is told; or the script is refused, or there is another fault, and then nothing is
+-- written, unless the writer failed
+abbrev pub Answers : (text : List ℕ) (old new : Option (List ℕ)) → Result Bool Fault → Type 0
+Answers text old new (Ok waits) = Told text old new waits
+Answers text old new (Err (Script refusal)) = (reading text ≡ Err refusal) × (new ≡ old)
+Answers text old new (Err Memory) = new ≡ old
+Answers text old new (Err Read) = new ≡ old
+Answers text old new (Err Write) = Unit {0}
+
+-- no fault of the reader, nor want of memory, has kept it from the text
+abbrev pub is_read : Result Bool Fault → Bool
+is_read (Ok waits) = true
+is_read (Err (Script refusal)) = true
+is_read (Err Memory) = false
+is_read (Err Read) = false
+is_read (Err Write) = true
+
+-- that is so of a text, which then is all that the reader gives
+pub record Tells (there old new : Option (List ℕ)) (answer : Result Bool Fault) : Type 0 where
+  pub text : List ℕ
+  pub all : is_read answer ≡ true → IfSome there (λ bytes. text ≡ bytes)
+  pub answers : Answers text old new answer
+
+-- the exit status
+abbrev pub status : Result Bool Fault → ℕ
+status (Ok false) = 0
+status (Ok true) = 3
+status (Err (Script refusal)) = 2
+status (Err Memory) = 4
+status (Err Read) = 5
+status (Err Write) = 5
+
+-- what the standard error is told
+abbrev pub message : Result Bool Fault → List ℕ
+message (Ok waits) = []
+message (Err (Script refusal)) = error_text refusal ++ codes "\n"
+message (Err Memory) = codes "out of memory\n"
+message (Err Read) = codes "read fault\n"
+message (Err Write) = codes "write fault\n"

@@ -1,0 +1,79 @@
+-- The lines that tell who waits.
+use Rattle.std.specs.Prelude.{ℕ, ◌==◌, List, [], ◌∷◌, ◌++◌, bytes_eq, codes, cond, false, map, slice_get, slice_index_or, Bool, Option, Some, None, unwrap_or}
+use Rattle.std.specs.Fmt.{decimal}
+use Rattle.std.specs.List.{flat_map, position_or_len}
+use Rattle.mpx_eval.specs.Waiting.{MissingCallView, WaitingView}
+use Rattle.mpx_script.specs.LinesGiven.{lines_given, words_at}
+use Rattle.mpx_statement.specs.Statements.{request_of}
+use Rattle.mpx_statement.specs.declared.statement.Statement.{Statement}
+
+-- PLACES
+
+-- of a rank's statements with these lines the line of the one with this place, or 0 where there is none
+abbrev pub line_at : (numbers : List ℕ) (statement : ℕ) → ℕ
+line_at numbers statement = slice_index_or numbers statement 0
+
+-- a rank that waits, and the line at which it does
+abbrev pub place_of : (text : List ℕ) → WaitingView → ℕ × ℕ
+place_of text w = (w.rank, line_at (lines_given w.rank text) w.statement)
+
+abbrev pub is_word : List ℕ → Option (List ℕ) → Bool
+is_word word None = false
+is_word word (Some other) = bytes_eq other word
+
+-- the place of the statement that starts this request
+abbrev pub started_at : List Statement → (request : List ℕ) → ℕ
+started_at statements request = position_or_len (λ statement. is_word request (request_of statement)) statements
+
+-- LINES
+
+-- the second word of a line
+abbrev pub second_word : (text : List ℕ) (line : ℕ) → List ℕ
+second_word text line = unwrap_or (slice_get (words_at text line) 1) []
+
+-- the second and the third one: of a call its own word and its communicator's
+abbrev pub call_words : (text : List ℕ) (line : ℕ) → List ℕ
+call_words text line = second_word text line ++ codes " " ++ unwrap_or (slice_get (words_at text line) 2) []
+
+-- a request that is waited for at a line, and the call that stands in the line in which it is started
+abbrev pub request_text : (text : List ℕ) (line : ℕ) (request : List ℕ) (started : ℕ) → List ℕ
+request_text text line request started = second_word text line ++ codes " " ++ request ++ codes ", for " ++ call_words text started ++ codes " of line " ++ decimal started
+
+-- the call that is waited for at a line: its own, or that of a request of the rank with these statements and their lines
+abbrev pub what_text : (text : List ℕ) → List Statement → (numbers : List ℕ) (line : ℕ) → Option (List ℕ) → List ℕ
+what_text text statements numbers line None = call_words text line
+what_text text statements numbers line (Some request) = request_text text line request (line_at numbers (started_at statements request))
+
+-- where a rank stands: at the line at which it waits, or at its end
+abbrev pub standing_text : (places : List (ℕ × ℕ)) → (rank : ℕ) → List ℕ
+standing_text [] rank = codes "finished"
+standing_text (place ∷ places) rank = cond (place.0 == rank) (codes "line " ++ decimal place.1) (standing_text places rank)
+
+abbrev pub member_text : (places : List (ℕ × ℕ)) → (member : ℕ) → List ℕ
+member_text places member = decimal member ++ codes " (" ++ standing_text places member ++ codes ")"
+
+-- members with commas between
+abbrev pub members_text : (places : List (ℕ × ℕ)) → List ℕ → List ℕ
+members_text places [] = []
+members_text places (member ∷ more) = member_text places member ++ flat_map (λ other. codes ", " ++ member_text places other) more
+
+-- how the line of a call begins that a rank waits for at a line
+abbrev pub start_text : (rank line : ℕ) → List ℕ
+start_text rank line = codes "rank " ++ decimal rank ++ codes " line " ++ decimal line ++ codes ": "
+
+-- and how it ends
+abbrev pub end_text : (places : List (ℕ × ℕ)) → (call : ℕ) → (missing : List ℕ) → List ℕ
+end_text places call missing = codes ", call " ++ decimal call ++ codes ": no post of " ++ members_text places missing ++ codes "\n"
+
+-- the whole line, of a rank with these statements and their lines
+abbrev pub call_text : (text : List ℕ) → List Statement → (numbers : List ℕ) → (places : List (ℕ × ℕ)) → (rank line : ℕ) → MissingCallView → List ℕ
+call_text text statements numbers places rank line c = start_text rank line ++ what_text text statements numbers line c.request ++ end_text places c.call c.missing
+
+-- those of a rank
+abbrev pub rank_text : (text : List ℕ) → List (List Statement) → (places : List (ℕ × ℕ)) → WaitingView → List ℕ
+rank_text text statements places w =
+    flat_map (call_text text (slice_index_or statements w.rank []) (lines_given w.rank text) places w.rank (line_at (lines_given w.rank text) w.statement)) w.calls
+
+-- of all that wait
+abbrev pub all_told : (text : List ℕ) → List (List Statement) → List WaitingView → List ℕ
+all_told text statements found = flat_map (rank_text text statements (map (place_of text) found)) found

@@ -1,0 +1,63 @@
+//! Where statements stand in a script's text.
+ghost use Rattle.std.specs.Prelude.{◌≡◌, IfOk, map};
+ghost use Rattle.mpx_statement.specs.Statements.{request_of};
+ghost use Rattle.mpx_eval.specs.Found.{waiting_view};
+ghost use Rattle.waits.specs.Told.{is_word, line_at, place_of, started_at};
+
+use join_core::OutOfMemory;
+use mpx_eval::WaitingRank;
+use mpx_script::{Statement, statement_lines};
+use std::alloc::Global;
+
+/// The ranks that wait, each with the line at which it does.
+pub fn places_of(
+    alloc: Global,
+    text: &[u8],
+    found: &[WaitingRank],
+) -> Result<Vec<(u8, u32)>, OutOfMemory>
+    ensures { IfOk result (λ places. places.items ≡ map (place_of text.now) (map waiting_view found.now)) }
+{
+    let mut places = Vec::new(alloc);
+    for waiting in found {
+        places.push(place_of(alloc, text, waiting)?)?;
+    }
+    Ok(places)
+}
+
+fn place_of(alloc: Global, text: &[u8], waiting: &WaitingRank) -> Result<(u8, u32), OutOfMemory>
+    ensures { IfOk result (λ place. place ≡ place_of text.now (waiting_view waiting.now)) }
+{
+    let numbers = statement_lines(alloc, text, waiting.rank)?;
+    let line = line_at(numbers.as_slice(), waiting.statement);
+    Ok((waiting.rank, line))
+}
+
+/// Of statements with these lines the line of the one with this place, or 0 where there is none.
+pub fn line_at(numbers: &[u32], statement: usize) -> u32
+    ensures { result ≡ line_at numbers.now statement }
+{
+    match numbers.get(statement) {
+        Some(line) => *line,
+        None => 0,
+    }
+}
+
+/// The place of the statement that starts this request.
+pub fn started_at(statements: &[Statement], request: &[u8]) -> usize
+    ensures { result ≡ started_at statements.now request.now }
+{
+    statements
+        .iter()
+        .take_while(|statement| !starts(statement, request))
+        .count()
+}
+
+// Whether a statement starts this request.
+fn starts(statement: &Statement, request: &[u8]) -> bool
+    ensures { result ≡ is_word request.now (request_of statement.now) }
+{
+    match statement.request() {
+        Some(word) => word.as_bytes() == request,
+        None => false,
+    }
+}

@@ -1,0 +1,95 @@
+//! From a reader to a writer, and how that ends.
+ghost use Rattle.std.specs.Prelude.{◌≡◌, OnOk};
+ghost use Rattle.std.specs.Io.KnownBytes.{Appends};
+ghost use Rattle.waits.specs.Program.{Answers, Tells, message, status};
+
+use crate::told::all_told;
+use mpx_eval::waiting_calls;
+use mpx_script::{ReadScriptError, ScriptError, read_script};
+use std::alloc::Global;
+use std::io;
+use std::io::{Read, Write};
+
+/// Why nothing is told, or not all.
+#[derive(Drop)]
+pub enum Fault {
+    /// The script is refused.
+    Script(ScriptError),
+    Memory,
+    /// The reader failed.
+    Read,
+    /// The writer failed. The text's beginning may be out.
+    Write,
+}
+
+/// Reads a script to the reader's end, and then writes who waits at the end of its evaluation. It answers whether somebody does.
+/// Nothing is written before all is known.
+pub fn tell_waits<R: Read, W: Write>(
+    alloc: Global,
+    reader: &mut R,
+    writer: &mut W,
+) -> Result<bool, Fault>
+    ensures { Tells (R.remaining reader.old) (W.contents writer.old) (W.contents writer.new) result }
+{
+    let mut text = Vec::new(alloc);
+    match reader.read_to_end(&mut text) {
+        Ok(_) => tell_text(alloc, &text, writer),
+        Err(error) if error.kind() == io::ErrorKind::OutOfMemory => Err(Fault::Memory),
+        Err(_) => Err(Fault::Read),
+    }
+}
+
+// The same of the script's text.
+fn tell_text<W: Write>(alloc: Global, text: &[u8], writer: &mut W) -> Result<bool, Fault>
+    ensures { Answers text.now (W.contents writer.old) (W.contents writer.new) result }
+{
+    let script = match read_script(alloc, text) {
+        Ok(script) => script,
+        Err(ReadScriptError::Refused(refusal)) => return Err(Fault::Script(refusal)),
+        Err(ReadScriptError::OutOfMemory) => return Err(Fault::Memory),
+    };
+    let Ok(found) = waiting_calls(alloc, &script) else {
+        return Err(Fault::Memory);
+    };
+    let Ok(told) = all_told(alloc, text, &script, &found) else {
+        return Err(Fault::Memory);
+    };
+    match write_whole(writer, &told) {
+        Ok(()) => Ok(!found.is_empty()),
+        Err(_) => Err(Fault::Write),
+    }
+}
+
+fn write_whole<W: Write>(writer: &mut W, bytes: &[u8]) -> io::Result<()>
+    ensures { OnOk result (Appends (W.contents writer.old) (W.contents writer.new) bytes.now) }
+{
+    writer.write_all(bytes)?;
+    writer.flush()
+}
+
+/// The exit status: 0 where nobody waits, 3 where somebody does, 2 where the script is refused, 4 without memory, 5 where the
+/// reader or the writer failed.
+pub fn status_of(answer: &Result<bool, Fault>) -> u8
+    ensures { result ≡ status answer.now }
+{
+    match answer {
+        Ok(false) => 0,
+        Ok(true) => 3,
+        Err(Fault::Script(_)) => 2,
+        Err(Fault::Memory) => 4,
+        Err(Fault::Read | Fault::Write) => 5,
+    }
+}
+
+/// Writes what the standard error is told: the refusal or the fault, as one line.
+pub fn write_message<W: Write>(answer: &Result<bool, Fault>, writer: &mut W) -> io::Result<()>
+    ensures { OnOk result (Appends (W.contents writer.old) (W.contents writer.new) (message answer.now)) }
+{
+    match answer {
+        Ok(_) => Ok(()),
+        Err(Fault::Script(refusal)) => writeln!(writer, "{refusal}"),
+        Err(Fault::Memory) => writer.write_all(b"out of memory\n"),
+        Err(Fault::Read) => writer.write_all(b"read fault\n"),
+        Err(Fault::Write) => writer.write_all(b"write fault\n"),
+    }
+}

@@ -1,0 +1,229 @@
+//! The text of the lines that tell who waits.
+ghost use Rattle.std.specs.Prelude.{◌≡◌, ◌++◌, IfOk, OnOk, map};
+ghost use Rattle.std.specs.Option.{option_copied};
+ghost use Rattle.mpx_eval.specs.Found.{missing_view, waiting_view};
+ghost use Rattle.waits.specs.Told.{all_told, call_text, call_words, end_text, member_text, members_text, rank_text, request_text, second_word, standing_text, start_text, what_text};
+
+use crate::numbers::push_decimal;
+use crate::places::{line_at, places_of, started_at};
+use join_core::OutOfMemory;
+use mpx_eval::{MissingCall, WaitingRank};
+use mpx_script::{Script, Statement, Word, statement_lines, words_of_line};
+use std::alloc::Global;
+
+/// A line for each call that is missing.
+pub fn all_told(
+    alloc: Global,
+    text: &[u8],
+    script: &Script,
+    found: &[WaitingRank],
+) -> Result<Vec<u8>, OutOfMemory>
+    ensures { IfOk result (λ told. told.items ≡ all_told text.now script.now.statements (map waiting_view found.now)) }
+{
+    let places = places_of(alloc, text, found)?;
+    let mut told = Vec::new(alloc);
+    for waiting in found {
+        push_rank(alloc, text, script, places.as_slice(), waiting, &mut told)?;
+    }
+    Ok(told)
+}
+
+// Adds the lines of a rank.
+fn push_rank(
+    alloc: Global,
+    text: &[u8],
+    script: &Script,
+    places: &[(u8, u32)],
+    waiting: &WaitingRank,
+    told: &mut Vec<u8>,
+) -> Result<(), OutOfMemory>
+    ensures { OnOk result (told.new.items ≡ told.old.items ++ rank_text text.now script.now.statements places.now (waiting_view waiting.now)) }
+{
+    let statements = script.statements(waiting.rank);
+    let numbers = statement_lines(alloc, text, waiting.rank)?;
+    let line = line_at(numbers.as_slice(), waiting.statement);
+    for call in &waiting.calls {
+        push_call(
+            alloc,
+            text,
+            statements,
+            numbers.as_slice(),
+            places,
+            waiting.rank,
+            line,
+            call,
+            told,
+        )?;
+    }
+    Ok(())
+}
+
+// Adds the line of a call that a rank with these statements and their lines waits for at a line.
+fn push_call(
+    alloc: Global,
+    text: &[u8],
+    statements: &[Statement],
+    numbers: &[u32],
+    places: &[(u8, u32)],
+    rank: u8,
+    line: u32,
+    call: &MissingCall,
+    told: &mut Vec<u8>,
+) -> Result<(), OutOfMemory>
+    ensures { OnOk result (told.new.items ≡ told.old.items ++ call_text text.now statements.now numbers.now places.now rank line (missing_view call.now)) }
+{
+    push_start(alloc, rank, line, told)?;
+    push_what(
+        alloc,
+        text,
+        statements,
+        numbers,
+        line,
+        call.request.as_ref(),
+        told,
+    )?;
+    push_end(alloc, places, call, told)
+}
+
+// Adds how the line of a call begins.
+fn push_start(alloc: Global, rank: u8, line: u32, told: &mut Vec<u8>) -> Result<(), OutOfMemory>
+    ensures { OnOk result (told.new.items ≡ told.old.items ++ start_text rank line) }
+{
+    told.extend_from_slice(b"rank ")?;
+    push_decimal(alloc, told, u32::from(rank))?;
+    told.extend_from_slice(b" line ")?;
+    push_decimal(alloc, told, line)?;
+    told.extend_from_slice(b": ")?;
+    Ok(())
+}
+
+// Adds how it ends.
+fn push_end(
+    alloc: Global,
+    places: &[(u8, u32)],
+    call: &MissingCall,
+    told: &mut Vec<u8>,
+) -> Result<(), OutOfMemory>
+    ensures { OnOk result (told.new.items ≡ told.old.items ++ end_text places.now (missing_view call.now).call (missing_view call.now).missing) }
+{
+    told.extend_from_slice(b", call ")?;
+    push_decimal(alloc, told, call.call)?;
+    told.extend_from_slice(b": no post of ")?;
+    push_members(alloc, places, call.missing.as_slice(), told)?;
+    told.extend_from_slice(b"\n")?;
+    Ok(())
+}
+
+// Adds the call that is waited for at a line: that of the line itself, or of a request.
+fn push_what(
+    alloc: Global,
+    text: &[u8],
+    statements: &[Statement],
+    numbers: &[u32],
+    line: u32,
+    request: Option<&Word>,
+    told: &mut Vec<u8>,
+) -> Result<(), OutOfMemory>
+    ensures { OnOk result (told.new.items ≡ told.old.items ++ what_text text.now statements.now numbers.now line (option_copied request.entry)) }
+{
+    match request {
+        None => push_words(text, line, told),
+        Some(word) => {
+            let started = line_at(numbers, started_at(statements, word.as_bytes()));
+            push_request(alloc, text, line, word, started, told)
+        }
+    }
+}
+
+// Adds a request that is waited for at a line, and the call that stands in the line in which it is started.
+fn push_request(
+    alloc: Global,
+    text: &[u8],
+    line: u32,
+    request: &Word,
+    started: u32,
+    told: &mut Vec<u8>,
+) -> Result<(), OutOfMemory>
+    ensures { OnOk result (told.new.items ≡ told.old.items ++ request_text text.now line request.now started) }
+{
+    told.extend_from_slice(second_word(text, line))?;
+    told.extend_from_slice(b" ")?;
+    told.extend_from_slice(request.as_bytes())?;
+    told.extend_from_slice(b", for ")?;
+    push_words(text, started, told)?;
+    told.extend_from_slice(b" of line ")?;
+    push_decimal(alloc, told, started)
+}
+
+// The second word of a line.
+fn second_word(text: &[u8], line: u32) -> &[u8]
+    ensures { result.now ≡ second_word text.now line }
+{
+    words_of_line(text, line).0.unwrap_or(&[])
+}
+
+// Adds the words of a line's call and of its communicator.
+fn push_words(text: &[u8], line: u32, told: &mut Vec<u8>) -> Result<(), OutOfMemory>
+    ensures { OnOk result (told.new.items ≡ told.old.items ++ call_words text.now line) }
+{
+    let (second, third) = words_of_line(text, line);
+    told.extend_from_slice(second.unwrap_or(&[]))?;
+    told.extend_from_slice(b" ")?;
+    told.extend_from_slice(third.unwrap_or(&[]))?;
+    Ok(())
+}
+
+// Adds members with commas between.
+fn push_members(
+    alloc: Global,
+    places: &[(u8, u32)],
+    members: &[u8],
+    told: &mut Vec<u8>,
+) -> Result<(), OutOfMemory>
+    ensures { OnOk result (told.new.items ≡ told.old.items ++ members_text places.now members.now) }
+{
+    let Some((first, more)) = members.split_first() else {
+        return Ok(());
+    };
+    push_member(alloc, places, *first, told)?;
+    for member in more {
+        told.extend_from_slice(b", ")?;
+        push_member(alloc, places, *member, told)?;
+    }
+    Ok(())
+}
+
+// Adds a member, and where it stands.
+fn push_member(
+    alloc: Global,
+    places: &[(u8, u32)],
+    member: u8,
+    told: &mut Vec<u8>,
+) -> Result<(), OutOfMemory>
+    ensures { OnOk result (told.new.items ≡ told.old.items ++ member_text places.now member) }
+{
+    push_decimal(alloc, told, u32::from(member))?;
+    told.extend_from_slice(b" (")?;
+    push_standing(alloc, places, member, told)?;
+    told.extend_from_slice(b")")?;
+    Ok(())
+}
+
+// Adds the line at which a rank waits, or that it has finished.
+fn push_standing(
+    alloc: Global,
+    places: &[(u8, u32)],
+    rank: u8,
+    told: &mut Vec<u8>,
+) -> Result<(), OutOfMemory>
+    ensures { OnOk result (told.new.items ≡ told.old.items ++ standing_text places.now rank) }
+{
+    for (waiting, line) in places {
+        if *waiting == rank {
+            told.extend_from_slice(b"line ")?;
+            return push_decimal(alloc, told, *line);
+        }
+    }
+    told.extend_from_slice(b"finished")?;
+    Ok(())
+}
