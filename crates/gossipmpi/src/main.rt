@@ -25,6 +25,7 @@ fn main(rt: HostRuntime) -> ExitCode {
     let err = &mut rt.stderr();
     let exit = match words_of(&rt) {
         Ok(words) => run_job_observed(
+            &rt,
             rt.alloc(),
             &words,
             &mut rt.reader(),

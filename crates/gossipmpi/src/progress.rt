@@ -1,10 +1,10 @@
-//! How far a run is, on a terminal.
+//! How far a simulated run is, on a terminal.
 
 use mpx_program::Observer;
 use std::io::{IsTerminal, Stderr, Write};
 use std::time::{Clock, Duration, Instant};
 
-/// Where the standard error is a terminal, tells there how far a run is, once a second, in a line that it wipes at the end.
+/// Where the standard error is a terminal, tells there how far a simulated run is, once a second, in a line that it wipes at the end.
 #[derive(Drop)]
 pub(crate) struct Progress<'a, C: Clock> {
     clock: &'a C,

@@ -2,15 +2,24 @@
 use crate::lines::{number_of, word_at, words_of};
 use crate::statements::{last_statement, sizes, statements};
 use crate::streams::{Endless, Failing, Holding, Limited};
+use mpx_group::Proc;
 use mpx_program::{refuse, run_job, status_of, write_message};
-use mpx_run::{Command, Job, Options, run_text};
+use mpx_run::{Command, Gate, Job, Options, Pass, Step, Unobserved, run_text, run_text_observed};
 use mpx_script::ReadScriptError;
 use mpx_words::not_text;
 use std::alloc::Global;
 use std::io::{self, Read, Write};
+use std::sync::Wait;
+use std::sync::atomic::{AtomicBool, Ordering};
+use std::thread::{Threads, yield_now};
 
 /// What the row of this line comes to, with its status.
-pub fn told(alloc: Global, line: &[u8], script: &[u8]) -> io::Result<Vec<u8>> {
+pub fn told<T: Threads + Wait + Sync>(
+    rt: &T,
+    alloc: Global,
+    line: &[u8],
+    script: &[u8],
+) -> io::Result<Vec<u8>> {
     let word = word_at(line, 1);
     if word == b"statements".as_slice() {
         statements(alloc, script)
@@ -19,41 +28,54 @@ pub fn told(alloc: Global, line: &[u8], script: &[u8]) -> io::Result<Vec<u8>> {
     } else if word == b"last".as_slice() {
         last_statement(alloc, script)
     } else if word == b"job".as_slice() {
-        strange_job(alloc, word_at(line, 2), script)
+        strange_job(rt, alloc, word_at(line, 2), script)
+    } else if word == b"gate".as_slice() {
+        gated(rt, alloc, script, &Shut)
+    } else if word == b"both".as_slice() {
+        both_asked(rt, alloc, script)
     } else if word == b"no-text".as_slice() {
         no_text(alloc)
     } else if word == b"memory".as_slice() {
         Ok(format!(in alloc; "{}\n= 0\n", ReadScriptError::OutOfMemory)?.into_bytes())
     } else {
-        streamed(alloc, word, line, script)
+        streamed(rt, alloc, word, line, script)
     }
 }
 
 // A call, with the streams that the first word tells.
-fn streamed(alloc: Global, word: &[u8], line: &[u8], script: &[u8]) -> io::Result<Vec<u8>> {
+fn streamed<T: Threads + Wait + Sync>(
+    rt: &T,
+    alloc: Global,
+    word: &[u8],
+    line: &[u8],
+    script: &[u8],
+) -> io::Result<Vec<u8>> {
     let first = number_of(word_at(line, 2));
     if word == b"reader".as_slice() {
-        from_failing(alloc, line, script, first)
+        from_failing(rt, alloc, line, script, first)
     } else if word == b"endless".as_slice() {
-        from_endless(alloc, line)
+        from_endless(rt, alloc, line)
     } else if word == b"writer".as_slice() {
-        into_limited(alloc, line, script, first)
+        into_limited(rt, alloc, line, script, first)
     } else if word == b"holding".as_slice() {
-        into_holding(alloc, line, script, first == 1)
+        into_holding(rt, alloc, line, script, first == 1)
     } else if word == b"length".as_slice() {
-        length(alloc, line, script)
+        length(rt, alloc, line, script)
+    } else if word == b"status".as_slice() {
+        status(rt, alloc, line, script)
     } else if word == b"many".as_slice() {
-        with_many(alloc, line, script, first)
+        with_many(rt, alloc, line, script, first)
     } else {
         let mut out = Vec::new(alloc);
         let mut reader = script;
-        let said = called(alloc, line, 1, &mut reader, &mut out)?;
+        let said = called(rt, alloc, line, 1, &mut reader, &mut out)?;
         ended(out, &said)
     }
 }
 
 // Makes the call that the line's words from this place on ask for. Gives what the standard error is told, and the status.
-fn called<R: Read, W: Write>(
+fn called<T: Threads + Wait + Sync, R: Read, W: Write>(
+    rt: &T,
     alloc: Global,
     line: &[u8],
     from: usize,
@@ -61,24 +83,31 @@ fn called<R: Read, W: Write>(
     out: &mut W,
 ) -> io::Result<Vec<u8>> {
     let words = words_of(alloc, line, from)?;
-    called_by(alloc, &words, reader, out)
+    called_by(rt, alloc, &words, reader, out)
 }
 
 // The same, of these words.
-fn called_by<R: Read, W: Write>(
+fn called_by<T: Threads + Wait + Sync, R: Read, W: Write>(
+    rt: &T,
     alloc: Global,
     words: &[String],
     reader: &mut R,
     out: &mut W,
 ) -> io::Result<Vec<u8>> {
     let mut said = Vec::new(alloc);
-    let exit = run_job(alloc, words, reader, out, &mut said);
+    let exit = run_job(rt, alloc, words, reader, out, &mut said);
     writeln!(said, "= {}", exit.status)?;
     Ok(said)
 }
 
 // `many N WORDS`: behind the words `--seed 1` stands so many times.
-fn with_many(alloc: Global, line: &[u8], script: &[u8], count: usize) -> io::Result<Vec<u8>> {
+fn with_many<T: Threads + Wait + Sync>(
+    rt: &T,
+    alloc: Global,
+    line: &[u8],
+    script: &[u8],
+    count: usize,
+) -> io::Result<Vec<u8>> {
     let mut words = words_of(alloc, line, 3)?;
     for _ in 0..count {
         words.push(String::from_str(alloc, "--seed")?)?;
@@ -86,7 +115,7 @@ fn with_many(alloc: Global, line: &[u8], script: &[u8], count: usize) -> io::Res
     }
     let mut out = Vec::new(alloc);
     let mut reader = script;
-    let said = called_by(alloc, &words, &mut reader, &mut out)?;
+    let said = called_by(rt, alloc, &words, &mut reader, &mut out)?;
     ended(out, &said)
 }
 
@@ -97,58 +126,101 @@ fn ended(mut text: Vec<u8>, end: &[u8]) -> io::Result<Vec<u8>> {
 }
 
 // `reader N WORDS`: the reader's call N fails. How many bytes were not read stands behind what is printed.
-fn from_failing(alloc: Global, line: &[u8], bytes: &[u8], calls: usize) -> io::Result<Vec<u8>> {
+fn from_failing<T: Threads + Wait + Sync>(
+    rt: &T,
+    alloc: Global,
+    line: &[u8],
+    bytes: &[u8],
+    calls: usize,
+) -> io::Result<Vec<u8>> {
     let mut reader = Failing { bytes, calls };
     let mut out = Vec::new(alloc);
-    let said = called(alloc, line, 3, &mut reader, &mut out)?;
+    let said = called(rt, alloc, line, 3, &mut reader, &mut out)?;
     writeln!(out, "{} bytes left", reader.bytes.len())?;
     ended(out, &said)
 }
 
 // `endless WORDS`: the reader gives zeros without end.
-fn from_endless(alloc: Global, line: &[u8]) -> io::Result<Vec<u8>> {
+fn from_endless<T: Threads + Wait + Sync>(
+    rt: &T,
+    alloc: Global,
+    line: &[u8],
+) -> io::Result<Vec<u8>> {
     let mut out = Vec::new(alloc);
-    let said = called(alloc, line, 2, &mut Endless, &mut out)?;
+    let said = called(rt, alloc, line, 2, &mut Endless, &mut out)?;
     ended(out, &said)
 }
 
 // `writer ROOM PIECE WORDS`: the writer takes so many bytes in all, and so many a call.
-fn into_limited(alloc: Global, line: &[u8], script: &[u8], room: usize) -> io::Result<Vec<u8>> {
+fn into_limited<T: Threads + Wait + Sync>(
+    rt: &T,
+    alloc: Global,
+    line: &[u8],
+    script: &[u8],
+    room: usize,
+) -> io::Result<Vec<u8>> {
     let mut writer = Limited {
         held: Vec::new(alloc),
         piece: number_of(word_at(line, 3)),
         room,
     };
     let mut reader = script;
-    let said = called(alloc, line, 4, &mut reader, &mut writer)?;
+    let said = called(rt, alloc, line, 4, &mut reader, &mut writer)?;
     ended(writer.held, &said)
 }
 
 // `holding 0 WORDS`: the writer gives on what is flushed alone; `holding 1 WORDS`: and its flush fails.
-fn into_holding(alloc: Global, line: &[u8], script: &[u8], fails: bool) -> io::Result<Vec<u8>> {
+fn into_holding<T: Threads + Wait + Sync>(
+    rt: &T,
+    alloc: Global,
+    line: &[u8],
+    script: &[u8],
+    fails: bool,
+) -> io::Result<Vec<u8>> {
     let mut writer = Holding {
         held: Vec::new(alloc),
         out: Vec::new(alloc),
         fails,
     };
     let mut reader = script;
-    let said = called(alloc, line, 3, &mut reader, &mut writer)?;
+    let said = called(rt, alloc, line, 3, &mut reader, &mut writer)?;
     ended(writer.out, &said)
 }
 
 // `length WORDS`: in place of what is printed, how long it is.
-fn length(alloc: Global, line: &[u8], script: &[u8]) -> io::Result<Vec<u8>> {
+fn length<T: Threads + Wait + Sync>(
+    rt: &T,
+    alloc: Global,
+    line: &[u8],
+    script: &[u8],
+) -> io::Result<Vec<u8>> {
     let mut out = Vec::new(alloc);
     let mut reader = script;
-    let said = called(alloc, line, 2, &mut reader, &mut out)?;
+    let said = called(rt, alloc, line, 2, &mut reader, &mut out)?;
     ended(
         format!(in alloc; "{} bytes\n", out.len())?.into_bytes(),
         &said,
     )
 }
 
+// `status WORDS`: the status alone, where what is printed beside it hangs on which thread comes first.
+fn status<T: Threads + Wait + Sync>(
+    rt: &T,
+    alloc: Global,
+    line: &[u8],
+    script: &[u8],
+) -> io::Result<Vec<u8>> {
+    let words = words_of(alloc, line, 2)?;
+    let mut out = Vec::new(alloc);
+    let mut said = Vec::new(alloc);
+    let mut reader = script;
+    let exit = run_job(rt, alloc, &words, &mut reader, &mut out, &mut said);
+    Ok(format!(in alloc; "= {}\n", exit.status)?.into_bytes())
+}
+
 // Options of a run that can't be: with one rank there are too many processes, and no frame comes.
 const STRANGE: Options = Options {
+    threads: false,
     seed: 1,
     loss: 100,
     relays: 63,
@@ -156,7 +228,12 @@ const STRANGE: Options = Options {
 };
 
 // `job WORD`: the job of this word with strange options, which do nothing for a check and an evaluation.
-fn strange_job(alloc: Global, word: &[u8], script: &[u8]) -> io::Result<Vec<u8>> {
+fn strange_job<T: Threads + Wait + Sync>(
+    rt: &T,
+    alloc: Global,
+    word: &[u8],
+    script: &[u8],
+) -> io::Result<Vec<u8>> {
     let command = if word == b"check".as_slice() {
         Command::Check
     } else if word == b"eval".as_slice() {
@@ -170,7 +247,94 @@ fn strange_job(alloc: Global, word: &[u8], script: &[u8]) -> io::Result<Vec<u8>>
     };
     let mut reader = script;
     let mut out = Vec::new(alloc);
-    let answer = run_text(alloc, &job, &mut reader, &mut out);
+    let answer = run_text(rt, alloc, &job, &mut reader, &mut out);
+    write_message(&answer, &mut out)?;
+    writeln!(out, "= {}", status_of(&answer))?;
+    Ok(out)
+}
+
+// A gate that gives up at the fifth push of a process.
+#[derive(Drop)]
+struct Shut;
+
+impl Gate for Shut {
+    fn pass(&self, _process: Proc, step: Step, nth: u64) -> Pass {
+        if step == Step::Push && nth == 4 {
+            Pass::GiveUp
+        } else {
+            Pass::Go
+        }
+    }
+}
+
+// A gate that holds the first pops of ranks 0 and 1 until both were asked for: a run with both on one thread would never get on.
+#[derive(Drop)]
+struct Both {
+    first: AtomicBool,
+    second: AtomicBool,
+}
+
+impl Gate for Both {
+    fn pass(&self, process: Proc, step: Step, nth: u64) -> Pass {
+        if step == Step::Push || nth != 0 {
+            return Pass::Go;
+        }
+        match process.number() {
+            0 => meets(&self.first, &self.second),
+            1 => meets(&self.second, &self.first),
+            _ => Pass::Go,
+        }
+    }
+}
+
+// One is asked for, and waits for the other: it gives up after a million looks.
+fn meets(own: &AtomicBool, other: &AtomicBool) -> Pass {
+    own.store(true, Ordering::SeqCst);
+    for _ in 0..1_000_000 {
+        if other.load(Ordering::SeqCst) {
+            return Pass::Go;
+        }
+        yield_now();
+    }
+    Pass::GiveUp
+}
+
+// `both`: a run in threads in which ranks 0 and 1 are held until both have asked for their first frame.
+fn both_asked<T: Threads + Wait + Sync>(
+    rt: &T,
+    alloc: Global,
+    script: &[u8],
+) -> io::Result<Vec<u8>> {
+    let both = Both {
+        first: AtomicBool::new(false),
+        second: AtomicBool::new(false),
+    };
+    let mut out = gated(rt, alloc, script, &both)?;
+    if !both.first.load(Ordering::SeqCst) || !both.second.load(Ordering::SeqCst) {
+        writeln!(out, "not asked")?;
+    }
+    Ok(out)
+}
+
+// `gate`: a run in threads that this gate may end.
+fn gated<T: Threads + Wait + Sync, G: Gate + Sync>(
+    rt: &T,
+    alloc: Global,
+    script: &[u8],
+    gate: &G,
+) -> io::Result<Vec<u8>> {
+    let job = Job {
+        command: Command::Run,
+        options: Options {
+            threads: true,
+            relays: 0,
+            ..STRANGE
+        },
+    };
+    let mut reader = script;
+    let mut out = Vec::new(alloc);
+    let seen = &mut Unobserved;
+    let answer = run_text_observed(rt, alloc, &job, &mut reader, &mut out, seen, gate);
     write_message(&answer, &mut out)?;
     writeln!(out, "= {}", status_of(&answer))?;
     Ok(out)

@@ -16,9 +16,12 @@ use std::alloc::Global;
 use std::io;
 use std::io::{Read, Write};
 use std::process::ExitCode;
+use std::sync::Wait;
+use std::thread::Threads;
 
 /// Adds a row's line, and what its call comes to, where that isn't `last`. Gives what it comes to.
-fn tell(
+fn tell<T: Threads + Wait + Sync>(
+    rt: &T,
     alloc: Global,
     line: &[u8],
     script: &mut Vec<u8>,
@@ -28,7 +31,7 @@ fn tell(
     if line.starts_with(b">* ") {
         *script = of_pieces(alloc, script)?;
     }
-    let came = told(alloc, line, script)?;
+    let came = told(rt, alloc, line, script)?;
     text.extend_from_slice(line)?;
     text.push(b'\n')?;
     if came.as_slice() == last {
@@ -40,7 +43,7 @@ fn tell(
 }
 
 /// What all rows come to, one after the other.
-fn all_told(alloc: Global, rows: &[u8]) -> io::Result<Vec<u8>> {
+fn all_told<T: Threads + Wait + Sync>(rt: &T, alloc: Global, rows: &[u8]) -> io::Result<Vec<u8>> {
     let mut text = Vec::new(alloc);
     let mut call = Vec::new(alloc);
     let mut script = Vec::new(alloc);
@@ -50,7 +53,7 @@ fn all_told(alloc: Global, rows: &[u8]) -> io::Result<Vec<u8>> {
         let is_new = line.starts_with(b"> ") || line.starts_with(b">* ");
         if is_new || line.starts_with(b">> ") {
             if !call.is_empty() {
-                last = tell(alloc, &call, &mut script, &last, &mut text)?;
+                last = tell(rt, alloc, &call, &mut script, &last, &mut text)?;
             }
             if is_new {
                 script.clear();
@@ -67,20 +70,25 @@ fn all_told(alloc: Global, rows: &[u8]) -> io::Result<Vec<u8>> {
             is_first = false;
         }
     }
-    tell(alloc, &call, &mut script, &last, &mut text)?;
+    tell(rt, alloc, &call, &mut script, &last, &mut text)?;
     Ok(text)
 }
 
-fn print_rows<R: Read, W: Write>(alloc: Global, reader: &mut R, writer: &mut W) -> io::Result<()> {
+fn print_rows<T: Threads + Wait + Sync, R: Read, W: Write>(
+    rt: &T,
+    alloc: Global,
+    reader: &mut R,
+    writer: &mut W,
+) -> io::Result<()> {
     let mut rows = Vec::new(alloc);
     reader.read_to_end(&mut rows)?;
-    let text = all_told(alloc, &rows)?;
+    let text = all_told(rt, alloc, &rows)?;
     writer.write_all(&text)?;
     writer.flush()
 }
 
 fn main(rt: HostRuntime) -> ExitCode {
-    match print_rows(rt.alloc(), &mut rt.reader(), &mut io::writer(&rt)) {
+    match print_rows(&rt, rt.alloc(), &mut rt.reader(), &mut io::writer(&rt)) {
         Ok(()) => ExitCode::SUCCESS,
         Err(_) => ExitCode::FAILURE,
     }

@@ -63,7 +63,7 @@ made_after : (acts : List Act) (v : ProcessView) → NoPosts acts → (after act
 made_after [] v none = refl
 made_after (a ∷ acts) v none = made_after acts (act_on a v) none.1 ∙ made_act a v none.0
 
-made_more : (setup : Setup) (p : ℕ) (journal more : List Act) → NoPosts more → (process_at setup p (journal ++ more)).made ≡ (process_at setup p journal).made
+pub made_more : (setup : Setup) (p : ℕ) (journal more : List Act) → NoPosts more → (process_at setup p (journal ++ more)).made ≡ (process_at setup p journal).made
 made_more setup p journal more none = ap (λ (v : ProcessView). v.made) (after-append journal more (at_start setup p)) ∙ made_after more (process_at setup p journal) none
 
 -- what it may push it may still push

@@ -122,7 +122,7 @@ moved items new views pass v journal more h at is o pushed popped plan frames =
             })
             (at_set views pass q w u e);
       },
-      record { happenings = o.all; may = o.may; stands = o.here; planned = planned },
+      record { happenings = o.all; may = o.may; stands = o.here; sent = λ bytes d. later bytes (popped bytes d); planned = planned },
     )
 
 keeps_more : (v : View) (journal : List Act) → v ≡ standing v.setup (seat_of v ∷ []) → ((bytes : List ℕ) → DidIn (seat_of v).journal (A.Pushed bytes) → DidIn journal (A.Pushed bytes)) → Keeps v (standing_as v journal)

@@ -1,7 +1,8 @@
 -- A port stays a port.
-use Rattle.std.proofs.Common.{◌≡◌, ◌⊎◌, ℕ, zero, suc, ◌≤◌, ◌==◌, max, cond, Bool, true, false, List, [], ◌∷◌, ◌++◌, length, map, Some, None, Option, Result, Ok, Err, All, refl, sym, ap, ◌∙◌, subst, ⊎_elim, inl, inr, arith}
+use Rattle.std.proofs.Common.{◌≡◌, ◌≢◌, ◌⊎◌, ℕ, zero, suc, ◌≤◌, ◌==◌, max, cond, Bool, true, false, List, [], ◌∷◌, ◌++◌, length, map, Some, None, Option, Result, Ok, Err, All, refl, sym, ap, ◌∙◌, subst, ⊎_elim, inl, inr, arith}
 use Rattle.std.specs.Prelude.{ℤ, is_some, slice_get}
-use Rattle.std.proofs.lemmas.Bool.{cases_lt}
+use Rattle.std.proofs.lemmas.Bool.{cases_eq, cases_lt}
+use mathlib.Core.List.{IsPrefix}
 use Rattle.std.proofs.lemmas.List.Elements.{All-head, All-tail}
 use Rattle.join_core.specs.Flat.{known, unknown, flat_leq}
 use Rattle.join_core.specs.declared.memory.OutOfMemory.{OutOfMemory}
@@ -35,12 +36,12 @@ use Rattle.mpx_bus.specs.declared.act.Act.{Act}
 use Rattle.mpx_bus.specs.declared.act.Act.TheVariants as A
 use Rattle.mpx_bus.specs.declared.act.Setup.{Setup}
 use Rattle.mpx_bus.specs.declared.act.View.{View}
-use Rattle.mpx_bus.specs.Acts.{part_of, said_on, act_on, after, at_start, process_at, node_at, DidIn, SaysNoMore, IsLocal, MayPush}
+use Rattle.mpx_bus.specs.Acts.{part_of, said_on, act_on, after, at_start, process_at, node_at, DidIn, SaysNoMore, IsAhead, IsLocal, MayPush}
 use Rattle.mpx_bus.specs.Views.{opened, seat_of, after_push, after_pop}
-use Rattle.mpx_bus.specs.Rule.{Stood, planned_posts}
+use Rattle.mpx_bus.specs.Rule.{IsPlanned, IsSent, Stood, planned_posts, world_of}
 use Rattle.mpx_bus.specs.Frames.{AreSpelled}
 use Rattle.mpx_bus.specs.Berths.{AreDeltas, IsPort, MayPushAll}
-use Rattle.mpx_bus.proofs.Journals.{after-append, ahead_itself, ahead_more, did_last, one_of}
+use Rattle.mpx_bus.proofs.Journals.{after-append, ahead_itself, ahead_more, did_last, one_of, onward, popped_before}
 use Rattle.mpx_bus.proofs.Moves.{push_same, pop_same}
 use Rattle.mpx_bus.proofs.Seen.{may_push_later}
 use Rattle.mpx_bus.proofs.Spelled.{spelled_parts, spelled_facts}
@@ -199,6 +200,31 @@ port_stopped node now v w journal j1 new bytes left p is stood grows stops left_
     port_local node now w j1 new (A.StoppedTaking bytes left) q (did_pop v w journal bytes is, between)
     (stopped_learns (part_of bytes) (look left) node now stops left_is ∙ ap (learn (look left)) q.node_is) grows'
 
+-- a process that has done nothing stands at the start
+pub new_stood : (setup : Setup) (me : ℕ) → Stood setup me []
+new_stood setup me = record { happenings = []; may = tt; stands = refl; sent = λ bytes d. absurd (nothing_done bytes d.at d.did); planned = λ planned p. (planned_posts setup p, refl) } where
+  nothing_done : (bytes : List ℕ) (k : ℕ) → slice_get [] k ≡ Some (A.Popped bytes) → ⊥
+  nothing_done bytes k e = cc
+
+-- a process stands as its journal says that goes on by local events from what it published
+pub stood_ahead : (setup : Setup) (p : ℕ) (published journal : List Act) → Stood setup p published → IsAhead setup p published journal → IsPlanned setup p journal → Stood setup p journal
+stood_ahead setup p published journal s ahead plan =
+    let o = onward setup s.happenings p published journal s.may s.stands ahead s.sent in
+    record {
+      happenings = o.all;
+      may = o.may;
+      stands = o.here;
+      sent = λ bytes d. subst (λ ps. IsSent ps bytes) (sym o.parts_are) (s.sent bytes (popped_before published journal bytes ahead d));
+      planned = λ planned q. ⊎_elim
+          (λ (e : q ≡ p). subst (λ r. IsPrefix ((world_of setup o.all).each r).made (planned_posts setup r)) (sym e) (subst (λ (v : ProcessView). IsPrefix (v.made) (planned_posts setup p)) (sym o.here) (plan planned)))
+          (λ (ne : q ≢ p). subst (λ (v : ProcessView). IsPrefix (v.made) (planned_posts setup q)) (sym (o.others q ne)) (s.planned planned q))
+          (cases_eq q p);
+    }
+
+-- so a port does that keeps its plan
+pub port_stood : (node : NodeView) (v : View) (journal : List Act) → IsPort node v journal → IsPlanned v.setup (seat_of v).me journal → Stood v.setup (seat_of v).me journal
+port_stood node v journal p plan = stood_ahead v.setup (seat_of v).me (seat_of v).journal journal p.stood p.ahead plan
+
 -- a new port
 pub new_port : (setup : Setup) (me : ℕ) (node : NodeView) (v : View) (journal : List Act) → node ≡ start_node me setup.ranks setup.size → v ≡ opened setup me → journal ≡ [] → IsPort node v journal
 new_port setup me node v journal is here none =
@@ -206,7 +232,7 @@ new_port setup me node v journal is here none =
       stands = refl;
       ahead = ahead_itself setup me [];
       node_is = is;
-      stood = record { happenings = []; may = tt; stands = refl; planned = λ planned p. (planned_posts setup p, refl) };
+      stood = new_stood setup me;
     })
 
 makes_node : (name : Name) (r : Result Given PostError) (call : ℕ) (v : ProcessView) (now : NodeView) → Posts name r (Ok call) v.node now → now ≡ (makes name r v).node

@@ -57,11 +57,13 @@ IsPlanned setup p journal = setup.planned ≡ true → IsPrefix ((process_at set
 abbrev pub world_of : Setup → List Happening → WorldView
 world_of setup hs = world_by setup.ranks setup.size hs
 
--- all that can happen leads to a world, sound by the laws of worlds, in which the process stands so. Where there is a plan, it begins the plan
+-- all that can happen leads to a world, sound by the laws of worlds, in which the process stands so, and in which each frame that
+-- it popped was sent. Where there is a plan, it begins the plan
 pub record Stood (setup : Setup) (process : ℕ) (journal : List Act) : Type 0 where
   pub happenings : List Happening
   pub may : MayGoOn (start setup.ranks setup.size) happenings
   pub stands : (world_of setup happenings).each process ≡ process_at setup process journal
+  pub sent : (bytes : List ℕ) → DidIn journal (A.Popped bytes) → IsSent (world_of setup happenings).parts bytes
   pub planned : BeginsPlan setup (world_of setup happenings)
 
 -- one process at this place of this pass

@@ -324,9 +324,10 @@ impl Bus {
 }
 
 impl Port {
-    /// The port's node.
+    /// The port's node. A port that keeps its plan stands in a world that can be reached.
     pub fn node(&self) -> &Node
-        ensures { node_of result.now ≡ node_in self.now }
+        ensures node { node_of result.now ≡ node_in self.now }
+        ensures stood { KeepsPlan self.now → Stood self.now.setup self.now.me self.now.journal }
     {
         &self.node
     }

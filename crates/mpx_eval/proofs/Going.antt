@@ -13,7 +13,8 @@ use Rattle.mpx_evaluation.specs.Evaluation.{State, IsQuiet, IsReached, known, mo
 use Rattle.mpx_evaluation.proofs.Ends.{move-quiet}
 use Rattle.mpx_evaluation.proofs.Steps.{step_ends}
 use Rattle.mpx_evaluation.proofs.Tells.{each-bound, each-me}
-use Rattle.mpx_eval.specs.Places.{After, Before, Moves, TableRank, Stands}
+use Rattle.mpx_rank.specs.Places.{Stands}
+use Rattle.mpx_eval.specs.Places.{After, Before, Moves, TableRank}
 use Rattle.mpx_rank.specs.Moves.{left_of}
 use Rattle.mpx_eval.specs.Rounds.{AreAtEnd, AreIn, LeadsToEnd, IsStuck, Leads, Round, Rounds, all_left}
 use Rattle.mpx_eval.specs.Tables.{Table}

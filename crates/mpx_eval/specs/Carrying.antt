@@ -1,14 +1,14 @@
 -- What a table says as the carrier of ranks' posts.
 use Rattle.std.specs.Prelude.{◌≡◌, ℕ, Some}
 use Rattle.std.proofs.Common.{sym, ◌∙◌, subst}
-use Rattle.std.specs.Option.{option_map}
 use Rattle.mpx_name.specs.Name.{Name}
-use Rattle.mpx_value.specs.Histories.{Answer, Results}
+use Rattle.mpx_value.specs.Histories.{Answer}
 use Rattle.mpx_evaluation.specs.Ranks.{bound_by}
-use Rattle.mpx_rank.specs.Carriers.{IsWithin, Outcomes, Terms}
+use Rattle.mpx_rank.specs.Carriers.{AtOnce, IsWithin, Terms, outcomes_of}
 use Rattle.mpx_rank.specs.declared.rank.Rank.{Rank}
 use Rattle.mpx_rank.specs.Shown.{rank_of}
-use Rattle.mpx_eval.specs.Places.{CommunicatorView, IsBornSo, TableRank, attempt_by, bound_as}
+use Rattle.mpx_rank.specs.Places.{CommunicatorView, attempt_by, bound_as}
+use Rattle.mpx_eval.specs.Places.{IsBornSo, TableRank}
 use Rattle.mpx_eval.specs.Tables.{Posted, Shows, Tries, answer_on, table_of}
 use Rattle.mpx_eval.specs.declared.table.Table.{Table}
 
@@ -20,10 +20,6 @@ at_place place = place
 abbrev pub shown : Rank Table CommunicatorView (Name × ℕ) → TableRank
 shown rank = rank_of at_place rank
 
--- the outcomes of these answers
-abbrev pub outcomes_of : Results → Outcomes
-outcomes_of r name call = option_map (λ (a : Answer). a.outcome) (r name call)
-
 -- a call's outcome, once all members have posted to it, and the communicator that it gave; of a communicator how it came to be
 -- is known; a post is tried as the posts that the table shows allow; and nothing is heard of others but by the table
 abbrev pub table_terms : Terms Table CommunicatorView
@@ -31,7 +27,8 @@ table_terms = record {
   tells = λ t me. outcomes_of (answer_on (table_of t) me);
   gives = λ t me name call to. (answer : Answer) × (answer_on (table_of t) me name call ≡ Some answer) × (bound_as to ≡ bound_by answer.outcome answer.born);
   knows = λ t communicator. Some communicator;
-  tries = λ t me posting on result u. (ranks : ℕ) (made : Posted) → Shows ranks (table_of t) made → IsBornSo ranks made on → Tries ranks made me (attempt_by me (made me) posting on) result (table_of u);
+  may = λ t me posting on. Unit {0};
+  tries = λ t me posting on result u. AtOnce (λ answer. (ranks : ℕ) (made : Posted) → Shows ranks (table_of t) made → IsBornSo ranks made on → Tries ranks made me (attempt_by me (made me) posting on) answer (table_of u)) result;
   hears = λ t u. u ≡ t;
 }
 

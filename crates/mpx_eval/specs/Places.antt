@@ -1,43 +1,22 @@
 -- Where a rank stands in its statements by the table of all posts, and what its moves do.
-use Rattle.std.specs.Prelude.{◌≡◌, ℕ, Bool, is_some, List, ◌∷◌, map, Option, Some, None, Result, Err}
-use Rattle.std.specs.Option.{option_map}
+use Rattle.std.specs.Prelude.{◌≡◌, ℕ, Bool, is_some, List, ◌∷◌, Option, Some}
 use Rattle.mpx_name.specs.Name.{Name}
 use Rattle.mpx_name.specs.declared.steps.Step.TheVariants.{Gathering}
-use Rattle.mpx_post.specs.declared.draft.PostError.{PostError}
-use Rattle.mpx_post.specs.declared.draft.PostError.TheVariants.{NotMember}
 use Rattle.mpx_post.specs.Births.{BirthView}
 use Rattle.mpx_post.specs.Gatherings.{GatheringView}
-use Rattle.mpx_value.specs.Histories.{Made, birth_of, history_of}
-use Rattle.mpx_statement.specs.declared.statement.Posting.{Posting}
-use Rattle.mpx_statement.specs.Statements.{draft_of, gathers_of}
+use Rattle.mpx_value.specs.Histories.{birth_of, history_of}
 use Rattle.mpx_statement.specs.Lookups.{named}
-use Rattle.mpx_evaluation.specs.Ranks.{Bound, Communicator, NullCommunicator, Local, attempt_in, step}
-use Rattle.mpx_evaluation.specs.Standing.{todo_of}
-use Rattle.mpx_evaluation.specs.Transcripts.{line_text}
+use Rattle.mpx_evaluation.specs.Ranks.{Communicator, step}
 use Rattle.mpx_evaluation.specs.Evaluation.{State, history, known, move}
 use Rattle.mpx_rank.specs.Moves.{RankView}
+use Rattle.mpx_rank.specs.Places.{CommunicatorView, Stands}
 use Rattle.mpx_eval.specs.Tables.{Posted, Shows, Table}
-
--- a communicator: its name, and how it came to be
-abbrev pub CommunicatorView : Type 0
-CommunicatorView = Name × BirthView
 
 -- a rank whose posts the table carries
 abbrev pub TableRank : Type 0
 TableRank = RankView CommunicatorView
 
--- WORDS
-
-abbrev pub bound_as : Option CommunicatorView → Bound
-bound_as None = NullCommunicator
-bound_as (Some c) = Communicator c.0 c.1
-
 -- POSTS
-
--- what a statement comes to on a communicator, where its word is bound to one
-abbrev pub attempt_by : (me : ℕ) → List Made → Posting → Option CommunicatorView → Result Made PostError
-attempt_by me made posting None = Err NotMember
-attempt_by me made posting (Some c) = attempt_in me made (draft_of posting) (gathers_of posting) c.0 c.1
 
 -- the gathering of these members below a context
 abbrev pub gathering_name : Name → GatheringView → Name
@@ -48,13 +27,6 @@ abbrev pub IsBornSo : (ranks : ℕ) → Posted → Option CommunicatorView → T
 IsBornSo ranks made o = (c : CommunicatorView) → o ≡ Some c → birth_of (history_of made) ranks c.0 ≡ Some c.1
 
 -- WHERE A RANK STANDS
-
--- the rank stands there in its script
-pub record Stands (r : TableRank) (s : Local) : Type 0 where
-  pub bound : (word : List ℕ) → option_map bound_as (r.bound word) ≡ named s.bound word
-  pub requests : (word : List ℕ) → r.requests word ≡ named s.requests word
-  pub todo : s.todo ≡ todo_of r.waits r.todo
-  pub lines : r.lines ≡ map line_text s.lines
 
 -- the posts of each rank
 abbrev pub posted_by : State → Posted

@@ -6,7 +6,8 @@ use Rattle.mpx_statement.specs.Lookups.{named}
 use Rattle.mpx_statement.specs.declared.statement.Statement.{Statement}
 use Rattle.mpx_evaluation.specs.Ranks.{step}
 use Rattle.mpx_evaluation.specs.Evaluation.{State, IsEvaluation, IsQuiet, IsReached, bound_at_start, known}
-use Rattle.mpx_eval.specs.Places.{TableRank, Stands, bound_as, posted_by}
+use Rattle.mpx_rank.specs.Places.{Stands, bound_as}
+use Rattle.mpx_eval.specs.Places.{TableRank, posted_by}
 use Rattle.mpx_rank.specs.Moves.{is_waiting, left_of}
 use Rattle.mpx_eval.specs.Tables.{Shows, Table}
 

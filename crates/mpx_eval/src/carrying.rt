@@ -2,7 +2,7 @@
 ghost use Rattle.std.specs.Prelude.{◌≡◌, refl, Some};
 ghost use Rattle.mpx_evaluation.specs.Ranks.{bound_by};
 ghost use Rattle.mpx_eval.specs.Answered.{answer_of};
-ghost use Rattle.mpx_eval.specs.Places.{bound_as};
+ghost use Rattle.mpx_rank.specs.Places.{bound_as};
 
 use crate::context::Answered;
 use crate::posting::attempt;
@@ -34,8 +34,9 @@ impl Carrier for Table {
         me: Proc,
         on: Option<&(Name, Birth)>,
         posting: &Posting,
-    ) -> Result<(Name, u32), PostError> {
-        attempt(alloc, self, me, on, posting)
+    ) -> Result<Option<(Name, u32)>, PostError> {
+        let call = attempt(alloc, self, me, on, posting)?;
+        Ok(Some(call))
     }
 
     fn is_told(

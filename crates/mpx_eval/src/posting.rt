@@ -5,7 +5,8 @@ ghost use Rattle.mpx_post.specs.Births.{of_members};
 ghost use Rattle.mpx_post.specs.Gatherings.{ChecksGathering, gathering};
 ghost use Rattle.mpx_evaluation.specs.Ranks.{post_gathered, post_on};
 ghost use Rattle.mpx_value.specs.Histories.{birth_of, history_of};
-ghost use Rattle.mpx_eval.specs.Places.{IsBornSo, attempt_by, gathering_name};
+ghost use Rattle.mpx_rank.specs.Places.{attempt_by};
+ghost use Rattle.mpx_eval.specs.Places.{IsBornSo, gathering_name};
 ghost use Rattle.mpx_eval.specs.Tables.{Posted, Shows, Tries, table_of};
 
 use crate::table::Table;

@@ -6,4 +6,5 @@ pub mod Ahead
 pub mod Ends
 mod Spaced
 pub mod Tells
+pub mod Going
 mod EvaluationExamples

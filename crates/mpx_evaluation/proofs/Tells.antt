@@ -92,7 +92,7 @@ module _ (name : Name) (call : ℕ) (outcome : Outcome) where
   translation_no_call ranks (Some from) None e = cc e
   translation_no_call ranks (Some from) (Some to) e = ranks_no_call from.members to.members (all_of (rank_asked (length from.members)) ranks) e
 
-  answer_no_call : (me : ℕ) (communicator : List ℕ → Option (Name × BirthView)) (question : Question) → answered_by me communicator question ≡ Told name call outcome → ⊥
+  pub answer_no_call : (me : ℕ) (communicator : List ℕ → Option (Name × BirthView)) (question : Question) → answered_by me communicator question ≡ Told name call outcome → ⊥
   answer_no_call me communicator (Neighbours on side) = neighbours_no_call me side (birth_in (communicator on))
   answer_no_call me communicator (Compare first second) = comparison_no_call (communicator first) (communicator second)
   answer_no_call me communicator (Translate from to ranks) = translation_no_call ranks (birth_in (communicator from)) (birth_in (communicator to))
@@ -303,14 +303,15 @@ module _ (ranks : ℕ) (s : State) (p : ℕ) where
   bound_there : (bound : Bindings) (target : Option (List ℕ)) (to : Bound) → AreThere ranks s p bound → ((name : Name) (birth : BirthView) → to ≡ Communicator name birth → IsThere ranks s p name birth) → AreThere ranks s p (bind target to bound)
   bound_there bound target to before new word name birth e = elim (named-bound bound target to word (Communicator name birth) e) [ inl old ↦ before word name birth old | inr is ↦ new name birth is ]
 
-  step_there : AreThere ranks s p (s p).bound → (t : Local) → step (known ranks s p) (s p) ≡ Some t → AreThere ranks s p t.bound
-  step_there before t e = step_cases (known ranks s p) (s p) (λ u. AreThere ranks s p u.bound)
+  -- a rank that stands somewhere makes a step by these answers
+  pub step_there : (here : Local) → AreThere ranks s p here.bound → (t : Local) → step (known ranks s p) here ≡ Some t → AreThere ranks s p t.bound
+  step_there here before t e = step_cases (known ranks s p) here (λ u. AreThere ranks s p u.bound)
       (λ x rest m todo b f. before)
       (λ x rest word m todo b f. before)
-      (λ x rest refusal todo f. bound_there (s p).bound (bound_to x) NullCommunicator before (λ name birth is. cc is))
+      (λ x rest refusal todo f. bound_there here.bound (bound_to x) NullCommunicator before (λ name birth is. cc is))
       (λ words rest told todo f. before)
       (λ question rest todo. before)
-      (λ from call target rest answer todo f. bound_there (s p).bound target (bound_by answer.outcome answer.born) before (told_there from call answer f))
+      (λ from call target rest answer todo f. bound_there here.bound target (bound_by answer.outcome answer.born) before (told_there from call answer f))
       t e
 
 -- what is in a list has a place in it
@@ -375,17 +376,18 @@ moved-carry_out script ranks (p ∷ order) s h = moved-carry_out script ranks or
       (goes_on_cases (λ j t. CarriesOut (known ranks s j) (bound_at_start ranks) (statements_of script j) t) s p (known ranks s p) h.each (λ t e. step-carries_out (known ranks s p) (bound_at_start ranks) (statements_of script p) (s p) t (h.each p) e) q);
   me = goes_on_cases (λ j t. t.me ≡ j) s p (known ranks s p) h.me (λ t e. step-keeps (known ranks s p) (s p) t e ∙ h.me p);
   world = goes_on_cases (λ j t. named t.bound (codes "world") ≡ named (bound_at_start ranks) (codes "world")) s p (known ranks s p) h.world (λ t e. step_world (known ranks s p) (s p) _ (h.world p) t e);
-  bound = λ q. moved_there ranks s p q (move ranks s p q).bound (goes_on_cases (λ j t. AreThere ranks s j t.bound) s p (known ranks s p) h.bound (λ t e. step_there ranks s p (h.bound p) t e) q);
+  bound = λ q. moved_there ranks s p q (move ranks s p q).bound (goes_on_cases (λ j t. AreThere ranks s j t.bound) s p (known ranks s p) h.bound (λ t e. step_there ranks s p (s p) (h.bound p) t e) q);
 })
 
-start-there : (script : List (List Statement)) (ranks p : ℕ) → AreThere ranks (start script ranks) p (bound_at_start ranks)
-start-there script ranks p word name birth e = by_test (bytes_eq word (codes "world")) e where
-  by_test : (t : Bool) → (if t then Some (Communicator [] (world_of ranks)) else None) ≡ Some (Communicator name birth) → IsThere ranks (start script ranks) p name birth
+-- in any state
+pub start-there : (ranks : ℕ) (s : State) (p : ℕ) → AreThere ranks s p (bound_at_start ranks)
+start-there ranks s p word name birth e = by_test (bytes_eq word (codes "world")) e where
+  by_test : (t : Bool) → (if t then Some (Communicator [] (world_of ranks)) else None) ≡ Some (Communicator name birth) → IsThere ranks s p name birth
   by_test true f =
       let no_steps : [] ≡ name = cc f in
       let same : world_of ranks ≡ birth = cc f in
       record {
-        born = ap (birth_of (history (start script ranks)) ranks) (sym no_steps) ∙ ap Some same;
+        born = ap (birth_of (history s) ranks) (sym no_steps) ∙ ap Some same;
         member = λ l. let found = upto_there ranks p l in (found.0, ap (λ (v : BirthView). rank_in p v.members) (sym same) ∙ found.1);
       }
   by_test false f = cc f
@@ -395,7 +397,7 @@ start-carry_out script ranks = record {
   each = λ p. inl (record { passed = []; left = statements_of script p; all = refl; todo = refl; passes = none });
   me = λ p. refl;
   world = λ p. refl;
-  bound = start-there script ranks;
+  bound = start-there ranks (start script ranks);
 }
 
 pub reached-carry_out : (script : List (List Statement)) (ranks : ℕ) (s : State) → IsReached script ranks s → AllCarryOut script ranks s

@@ -2,7 +2,8 @@
 //!
 //! Each rank is an automaton over the outcomes that it asks for (`specs/Ranks.antt`), and the evaluation is where any moves
 //! of all ranks end (`specs/Evaluation.antt`). Its laws are [`every_script_has_an_evaluation`], [`evaluations_are_one`],
-//! [`whatever_is_reached_is_a_beginning`], [`ranks_carry_out_their_statements`] and [`lines_tell_the_values_of_all_posts`].
+//! [`whatever_is_reached_is_a_beginning`], [`ranks_carry_out_their_statements`] and [`lines_tell_the_values_of_all_posts`],
+//! and of one rank alone (`specs/Going.antt`) [`a_rank_goes_its_own_way`].
 //! [`line`], [`refused_line`], [`idle_line`] and [`neighbours_line`] write a line of a transcript
 //! (`specs/Transcripts.antt`), and so do [`neighbours_answer`], [`comparison_answer`] and [`translation_answer`] for
 //! a question. A [`Report`] has all lines. Who carries out a rank's statements keeps what its words stand for in a map, into which
@@ -12,6 +13,7 @@
 mod asking;
 mod bindings;
 mod evaluation;
+mod own_way;
 mod report;
 mod told;
 mod transcript;
@@ -21,6 +23,7 @@ pub use bindings::bind;
 pub use evaluation::{
     evaluations_are_one, every_script_has_an_evaluation, whatever_is_reached_is_a_beginning,
 };
+pub use own_way::a_rank_goes_its_own_way;
 pub use report::Report;
 pub use told::{lines_tell_the_values_of_all_posts, ranks_carry_out_their_statements};
 pub use transcript::{idle_line, line, neighbours_line, refused_line};

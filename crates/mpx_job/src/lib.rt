@@ -1,23 +1,25 @@
 //! What a call of the program asks for: a [`Job`] is a [`Command`] and the [`Options`] of a run.
 #![tactic(auto)]
 
-/// How a run is simulated.
+/// How a run is made: simulated, or in threads.
 #[derive(Clone, Copy, Debug, PartialEq, Eq)]
 pub struct Options {
-    /// What all draws follow from.
+    /// Whether each process has threads of its own; the seed and the loss then count for nothing.
+    pub threads: bool,
+    /// What all draws of a simulated run follow from.
     pub seed: u64,
-    /// How many frames of a hundred are lost: 0 to 100.
+    /// How many frames of a hundred a simulated run loses: 0 to 100.
     pub loss: u8,
     /// How many processes only carry frames: 0 to 63.
     pub relays: u8,
-    /// How many turns are made at most: 1 to 10,000,000.
+    /// How many turns are made at most: 1 to 10,000,000. In threads each process counts its own.
     pub turns: u32,
 }
 
 /// What is asked for.
 #[derive(Clone, Copy, Debug, PartialEq, Eq)]
 pub enum Command {
-    /// The script's ranks are run over a simulated interconnect.
+    /// The script's ranks are run, over a simulated interconnect or in threads.
     Run,
     /// The script is evaluated, which no loss and no order change.
     Eval,
@@ -25,7 +27,7 @@ pub enum Command {
     Check,
 }
 
-/// What is asked for, and how a run is simulated.
+/// What is asked for, and how a run is made.
 #[derive(Clone, Copy, Debug, PartialEq, Eq)]
 pub struct Job {
     pub command: Command,

@@ -8,7 +8,7 @@ use Rattle.mpx_run.specs.Texts.{error_text}
 use Rattle.mpx_run.specs.declared.end.End.{End}
 use Rattle.mpx_run.specs.declared.end.End.TheVariants.{Finished, Waiting}
 use Rattle.mpx_run.specs.declared.texts.RunError.{RunError}
-use Rattle.mpx_run.specs.declared.texts.RunError.TheVariants.{Script, TooManyProcesses, Memory, Read, Write}
+use Rattle.mpx_run.specs.declared.texts.RunError.TheVariants.{Script, TooManyProcesses, Memory, Read, Write, GateGaveUp}
 
 -- the status of a job
 abbrev pub status : Result End RunError → ℕ
@@ -19,6 +19,7 @@ status (Err TooManyProcesses) = 1
 status (Err Memory) = 4
 status (Err Read) = 5
 status (Err Write) = 5
+status (Err GateGaveUp) = 4
 
 -- the status of a call whose words give no job
 abbrev pub refusal_status : ErrorKind → ℕ

@@ -5,11 +5,13 @@ ghost use Rattle.clap.specs.Words.{kind_of};
 ghost use Rattle.mpx_program.specs.Jobs.{Does, IsRefused};
 
 use crate::status::{refusal_status, status_of, write_message, write_refusal};
-use mpx_run::{Observer, Unobserved, run_text_observed};
+use mpx_run::{Observer, OpenGate, Unobserved, run_text_observed};
 use mpx_words::job_of;
 use std::alloc::Global;
 use std::io;
 use std::io::{Read, Write};
+use std::sync::Wait;
+use std::thread::Threads;
 
 /// How the program exits.
 #[derive(Drop)]
@@ -21,7 +23,8 @@ pub struct Exit {
 
 /// Does the job that the words ask for: reads the script from `reader`, writes what it comes to to `out`, and tells `err`
 /// what is to be said. Where the words ask for none, `err` is told why, and nothing is read or written besides.
-pub fn run_job<R: Read, W: Write, E: Write>(
+pub fn run_job<T: Threads + Wait + Sync, R: Read, W: Write, E: Write>(
+    rt: &T,
     alloc: Global,
     words: &[String],
     reader: &mut R,
@@ -31,11 +34,12 @@ pub fn run_job<R: Read, W: Write, E: Write>(
     ensures { Does (map string_bytes words.now) (R.remaining reader.old) (R.remaining reader.new) (W.contents out.old) (W.contents out.new)
         result.status (λ said. OnOk result.told (Appends (E.contents err.old) (E.contents err.new) said)) }
 {
-    run_job_observed(alloc, words, reader, out, err, &mut Unobserved)
+    run_job_observed(rt, alloc, words, reader, out, err, &mut Unobserved)
 }
 
-/// The same, with somebody who looks on at the run, where the words ask for one.
-pub fn run_job_observed<R: Read, W: Write, E: Write>(
+/// The same, with somebody who looks on at the run, where the words ask for a simulated one.
+pub fn run_job_observed<T: Threads + Wait + Sync, R: Read, W: Write, E: Write>(
+    rt: &T,
     alloc: Global,
     words: &[String],
     reader: &mut R,
@@ -48,7 +52,7 @@ pub fn run_job_observed<R: Read, W: Write, E: Write>(
 {
     match job_of(alloc, words) {
         Ok(job) => {
-            let answer = run_text_observed(alloc, &job, reader, out, observer);
+            let answer = run_text_observed(rt, alloc, &job, reader, out, observer, &OpenGate);
             Exit {
                 status: status_of(&answer),
                 told: write_message(&answer, err),

@@ -9,7 +9,7 @@ use mpx_run::{End, RunError};
 use std::io;
 use std::io::Write;
 
-/// The exit status of a job.
+/// The exit status of a job. No program's own gate gives up; where one does, nothing is printed, as where memory is wanting.
 pub fn status_of(answer: &Result<End, RunError>) -> u8
     ensures { result ≡ status answer.now }
 {
@@ -18,7 +18,7 @@ pub fn status_of(answer: &Result<End, RunError>) -> u8
         Ok(End::Waiting(_)) => 3,
         Err(RunError::Script(_)) => 2,
         Err(RunError::TooManyProcesses) => 1,
-        Err(RunError::Memory) => 4,
+        Err(RunError::Memory | RunError::GateGaveUp) => 4,
         Err(RunError::Read | RunError::Write) => 5,
     }
 }

@@ -1,2 +1,4 @@
 pub mod Moving
+pub mod Stepping
 pub mod Telling
+pub mod Words

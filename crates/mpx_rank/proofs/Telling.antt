@@ -1,13 +1,15 @@
 -- Waits for requests, by the outcomes that are told of their calls.
 use Rattle.std.proofs.Common.{◌≡◌, ℕ, zero, suc, ◌+◌, ◌<◌, Bool, true, false, cond, List, [], ◌∷◌, ◌++◌, length, drop, get_or, Option, Some, None, refl, sym, ap, ◌∙◌, arith}
-use Rattle.std.specs.Prelude.{◌&&◌, is_some}
+use Rattle.std.specs.Prelude.{◌&&◌, is_some, slice_get}
+use Rattle.std.proofs.lemmas.Option.{same_Some}
 use Rattle.std.specs.Str.{bytes_eq}
 use Rattle.mpx_name.specs.Name.{Name}
 use Rattle.mpx_value.specs.declared.outcomes.Outcome.{Outcome}
+use Rattle.mpx_evaluation.specs.Ranks.{Told}
 use Rattle.mpx_evaluation.specs.Standing.{closed}
 use Rattle.mpx_rank.specs.Carriers.{IsWithin, Outcomes, Terms, is_told}
 use Rattle.mpx_rank.specs.Waits.{WasNotDone}
-use Rattle.mpx_rank.specs.Moves.{are_done, is_done, request_line, told_line}
+use Rattle.mpx_rank.specs.Moves.{are_done, is_done, request_line, told_line, wait_lines}
 
 -- a request, where it is open
 abbrev Open : Type 0
@@ -87,6 +89,27 @@ module _ (a b : Outcomes) (within : IsWithin a b) where
   pub line_later : (o : Option (Name × ℕ)) → is_done a o ≡ true → request_line b o ≡ request_line a o
   line_later None h = refl
   line_later (Some place) h = let x = told_both place h in ap (told_line place.0 place.1) (x.2 ∙ sym x.1)
+
+  pub lines_later : (requests : Open) (words : List (List ℕ)) → are_done a requests words ≡ true → wait_lines b requests words ≡ wait_lines a requests words
+  lines_later requests [] h = refl
+  lines_later requests (word ∷ words) h =
+      let parts = done_first a requests word words h in
+      λ i. line_later (requests word) parts.0 i ∷ lines_later (closed word requests) words parts.1 i
+
+-- the lines of a wait tell what is told
+module _ (told : Outcomes) (name : Name) (call : ℕ) (outcome : Outcome) where
+  call_line : (place : Name × ℕ) (o : Option Outcome) → told place.0 place.1 ≡ o → told_line place.0 place.1 o ≡ Told name call outcome → told name call ≡ Some outcome
+  call_line place None is e = cc e
+  call_line place (Some x) is e = cc (e, is)
+
+  open_line : (o : Option (Name × ℕ)) → request_line told o ≡ Told name call outcome → told name call ≡ Some outcome
+  open_line None e = cc e
+  open_line (Some place) e = call_line place (told place.0 place.1) refl e
+
+  pub wait_tells : (requests : Open) (words : List (List ℕ)) (i : ℕ) → slice_get (wait_lines told requests words) i ≡ Some (Told name call outcome) → told name call ≡ Some outcome
+  wait_tells requests [] i e = cc e
+  wait_tells requests (word ∷ words) zero e = open_line (requests word) (same_Some (request_line told (requests word)) (Told name call outcome) e)
+  wait_tells requests (word ∷ words) (suc i) e = wait_tells (closed word requests) words i e
 
 -- A MOMENT
 

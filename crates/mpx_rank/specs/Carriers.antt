@@ -1,9 +1,11 @@
 -- What those say of themselves who carry a rank's posts.
 use Rattle.std.specs.Prelude.{◌≡◌, ℕ, Bool, is_some, Option, Some, None, Result, Ok, Err, string_bytes}
+use Rattle.std.specs.Option.{option_map}
 use Rattle.mpx_name.specs.Name.{Name}
 use Rattle.mpx_post.specs.Births.{BirthView}
 use Rattle.mpx_post.specs.declared.draft.PostError.{PostError}
 use Rattle.mpx_value.specs.declared.outcomes.Outcome.{Outcome}
+use Rattle.mpx_value.specs.Histories.{Answer, Results}
 use Rattle.mpx_statement.specs.declared.statement.Posting.{Posting}
 use Rattle.mpx_evaluation.specs.Transcripts.{outcome_text}
 use Rattle.mpx_rank.specs.declared.carrier.Heard.{Heard}
@@ -14,19 +16,30 @@ abbrev pub Outcomes : Type 0
 Outcomes = Name → (call : ℕ) → Option Outcome
 
 -- what a carrier of this type says, whose communicators are of that one: the outcomes that it tells a rank; which communicator
--- a rank's call gave; a communicator's name and how it came to be, as far as it knows; what comes of a rank's statement that
--- posts on a communicator; and that it has heard of others, at most
+-- a rank's call gave; a communicator's name and how it came to be, as far as it knows; what it asks of a rank's statement that
+-- posts on a communicator, and what comes of that, where Ok None is: not now; and that it has heard of others, at most
 pub record Terms (C K : Type 0) : Type 1 where
   pub tells : C → (me : ℕ) → Outcomes
   pub gives : C → (me : ℕ) → Name → (call : ℕ) → Option K → Type 0
   pub knows : C → K → Option (Name × BirthView)
-  pub tries : C → (me : ℕ) → Posting → Option K → Result (Name × ℕ) PostError → C → Type 0
+  pub may : C → (me : ℕ) → Posting → Option K → Type 0
+  pub tries : C → (me : ℕ) → Posting → Option K → Result (Option (Name × ℕ)) PostError → C → Type 0
   pub hears : C → C → Type 0
 
+-- the outcomes of these answers
+abbrev pub outcomes_of : Results → Outcomes
+outcomes_of r name call = option_map (λ (a : Answer). a.outcome) (r name call)
+
 -- the context and the number of the call that was posted, where one was
-abbrev pub placed : {Call E : Type 0} → (Call → Name × ℕ) → Result Call E → Result (Name × ℕ) E
-placed place (Ok call) = Ok (place call)
+abbrev pub placed : {Call E : Type 0} → (Call → Name × ℕ) → Result (Option Call) E → Result (Option (Name × ℕ)) E
+placed place (Ok call) = Ok (option_map place call)
 placed place (Err refusal) = Err refusal
+
+-- what comes of a post is so, of one that is never put off
+abbrev pub AtOnce : {A E : Type 0} → (Result A E → Type 0) → Result (Option A) E → Type 0
+AtOnce P (Ok None) = ⊥
+AtOnce P (Ok (Some call)) = P (Ok call)
+AtOnce P (Err refusal) = P (Err refusal)
 
 -- whether a call's outcome is told
 abbrev pub is_told : Outcomes → Name × ℕ → Bool

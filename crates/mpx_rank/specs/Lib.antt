@@ -1,4 +1,5 @@
 pub mod Carriers
 pub mod Moves
+pub mod Places
 pub mod Shown
 pub mod Waits

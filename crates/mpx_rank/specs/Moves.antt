@@ -106,10 +106,10 @@ pub data Move {C K : Type 0} (terms : Terms C K) : RankView K → C → RankView
       → terms.hears c d → terms.tells d r.me w.name w.call ≡ Some outcome → text ≡ outcome_text outcome → terms.gives d r.me w.name w.call to
       → Move terms r c (heard r w text to) d
   posts : {r : RankView K} {c d : C} (posting : Posting) (rest : List Statement) (name : Name) (call : ℕ) → r.waits ≡ None → r.todo ≡ Post posting ∷ rest
-      → started_as posting ≡ None → terms.tries c r.me posting (communicator_in (r.bound (posted_on posting))) (Ok (name, call)) d
+      → started_as posting ≡ None → terms.tries c r.me posting (communicator_in (r.bound (posted_on posting))) (Ok (Some (name, call))) d
       → Move terms r c (posted r posting rest name call) d
   starts : {r : RankView K} {c d : C} (posting : Posting) (rest : List Statement) (word : List ℕ) (name : Name) (call : ℕ) → r.waits ≡ None → r.todo ≡ Post posting ∷ rest
-      → started_as posting ≡ Some word → terms.tries c r.me posting (communicator_in (r.bound (posted_on posting))) (Ok (name, call)) d
+      → started_as posting ≡ Some word → terms.tries c r.me posting (communicator_in (r.bound (posted_on posting))) (Ok (Some (name, call))) d
       → Move terms r c (started r word rest name call) d
   is_refused : {r : RankView K} {c d : C} (posting : Posting) (rest : List Statement) (refusal : PostError) (text : List ℕ) → r.waits ≡ None → r.todo ≡ Post posting ∷ rest
       → (refusal ≡ OutOfMemory → ⊥) → terms.tries c r.me posting (communicator_in (r.bound (posted_on posting))) (Err refusal) d → text ≡ line_text (Refused refusal)
@@ -121,13 +121,15 @@ pub data Move {C K : Type 0} (terms : Terms C K) : RankView K → C → RankView
       → text ≡ line_text (answered_by r.me (λ word. option_and_then (terms.knows c) (communicator_in (r.bound word))) question)
       → Move terms r c (answered r rest text) c
 
--- there is no move: nothing is left; or the outcome that it waits for isn't told, or not that of each request of a wait. The
--- carrier may have heard of others
+-- there is no move: nothing is left; or the outcome that it waits for isn't told, or not that of each request of a wait; or its
+-- next statement can't be posted now. The carrier may have heard of others
 pub data Still {C K : Type 0} (terms : Terms C K) : RankView K → C → C → Type 0 where
   has_ended : {r : RankView K} {c : C} → r.waits ≡ None → r.todo ≡ [] → Still terms r c c
   waits_on : {r : RankView K} {c d : C} (w : WaitView) → r.waits ≡ Some w → terms.hears c d → terms.tells d r.me w.name w.call ≡ None → Still terms r c d
   passes_not : {r : RankView K} {c mid d : C} (words : List (List ℕ)) (rest : List Statement) → r.waits ≡ None → r.todo ≡ Wait words ∷ rest
       → terms.hears c mid → are_done (terms.tells mid r.me) r.requests words ≡ false → terms.hears mid d → Still terms r c d
+  posts_not : {r : RankView K} {c d : C} (posting : Posting) (rest : List Statement) → r.waits ≡ None → r.todo ≡ Post posting ∷ rest
+      → terms.tries c r.me posting (communicator_in (r.bound (posted_on posting))) (Ok None) d → Still terms r c d
 
 -- it has moved, or it stays where it stands
 abbrev pub Moves : {C K : Type 0} → Terms C K → RankView K → C → RankView K → C → (moved : Bool) → Type 0
@@ -142,3 +144,11 @@ pub data Ran {C K : Type 0} (terms : Terms C K) : RankView K → C → RankView 
 -- moves, until there is none
 abbrev pub GoesOn : {C K : Type 0} → Terms C K → RankView K → C → RankView K → C → (moved : Bool) → Type 0
 GoesOn {C} terms r c s d moved = (mid : C) × Ran terms r c s mid moved × Still terms s mid d
+
+-- where a statement that posts is the next one, the carrier may be asked for it
+abbrev pub MayTry : {C K : Type 0} → Terms C K → RankView K → C → Type 0
+MayTry terms r c = (posting : Posting) (rest : List Statement) → r.waits ≡ None → r.todo ≡ Post posting ∷ rest → terms.may c r.me posting (communicator_in (r.bound (posted_on posting)))
+
+-- and that holds wherever moves lead
+abbrev pub MayGo : {C K : Type 0} → Terms C K → RankView K → C → Type 0
+MayGo {C} {K} terms r c = (s : RankView K) (d : C) (moved : Bool) → Ran terms r c s d moved → MayTry terms s d

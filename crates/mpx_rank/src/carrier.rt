@@ -40,13 +40,15 @@ pub trait Carrier: Drop {
     ghost terms: { Terms Self Self.Communicator };
 
     /// Posts for a rank what the statement says, on the communicator that its word is bound to, where it is bound to one.
+    /// None: not now, nothing was posted.
     fn post(
         &mut self,
         alloc: Global,
         me: Proc,
         on: Option<&Self::Communicator>,
         posting: &Posting,
-    ) -> Result<Self::Call, PostError>
+    ) -> Result<Option<Self::Call>, PostError>
+        requires { terms.may self.old me posting.now (option_copied on) }
         ensures { terms.tries self.old me posting.now (option_copied on.entry) (placed place result) self.new };
 
     /// Whether the outcome of a rank's call can be told.

@@ -2,7 +2,9 @@
 ghost use Rattle.std.specs.Prelude.{◌≡◌, ◌<◌, ◌+◌, ◌∷◌, length, ℕ, IfOk, IsTrue, List, None, OnOk, Some, [], map, string_bytes, true, ◌↔◌};
 ghost use Rattle.std.specs.Option.{option_copied, option_map};
 ghost use Rattle.mpx_statement.specs.declared.statement.Statement.TheVariants.{Ask, Post, Wait as WaitFor};
-ghost use Rattle.mpx_rank.specs.Moves.{GoesOn, Moves, bound_first, communicator_in, is_waiting, left_of};
+ghost use Rattle.mpx_evaluation.specs.Ranks.{Refused};
+ghost use Rattle.mpx_evaluation.specs.Transcripts.{line_text};
+ghost use Rattle.mpx_rank.specs.Moves.{GoesOn, MayGo, MayTry, Moves, bound_first, communicator_in, is_waiting, left_of, refused};
 ghost use Rattle.mpx_rank.specs.Shown.{place_of, rank_of, requests_of, wait_of};
 ghost use Rattle.mpx_evaluation.specs.Standing.{awaited, looked_up};
 
@@ -119,6 +121,7 @@ impl<'a, C: Carrier> Rank<'a, C> {
 
     /// Goes on with the statements until an outcome is missing. It answers whether there was a move.
     pub fn go_on(&mut self, alloc: Global, carrier: &mut C) -> Result<bool, OutOfMemory>
+        requires { MayGo C.terms (rank_of C.place self.old) carrier.old }
         ensures { IfOk result (GoesOn C.terms (rank_of C.place self.old) carrier.old (rank_of C.place self.new) carrier.new) }
     {
         let mut moved = false;
@@ -131,6 +134,7 @@ impl<'a, C: Carrier> Rank<'a, C> {
     // One move: the line of the outcome that the rank waits for, once that is told, else the next statement. It answers
     // whether there was one.
     fn move_on(&mut self, alloc: Global, carrier: &mut C) -> Result<bool, OutOfMemory>
+        requires { MayTry C.terms (rank_of C.place self.old) carrier.old }
         ensures { IfOk result (Moves C.terms (rank_of C.place self.old) carrier.old (rank_of C.place self.new) carrier.new) }
     {
         match self.waits.take() {
@@ -165,17 +169,15 @@ impl<'a, C: Carrier> Rank<'a, C> {
 
     // The next statement.
     fn do_next(&mut self, alloc: Global, carrier: &mut C) -> Result<bool, OutOfMemory>
-        requires { (rank_of C.place self.old).waits ≡ None }
+        requires waits { (rank_of C.place self.old).waits ≡ None }
+        requires may { MayTry C.terms (rank_of C.place self.old) carrier.old }
         ensures { IfOk result (Moves C.terms (rank_of C.place self.old) carrier.old (rank_of C.place self.new) carrier.new) }
     {
         let Some((statement, rest)) = self.todo.split_first() else {
             return Ok(false);
         };
         match statement {
-            Statement::Post(posting) => {
-                self.post_next(alloc, carrier, posting, rest)?;
-                Ok(true)
-            }
+            Statement::Post(posting) => self.post_next(alloc, carrier, posting, rest),
             Statement::Wait(words) => self.wait_next(alloc, carrier, words.as_slice(), rest),
             Statement::Ask(question) => {
                 self.ask_next(alloc, carrier, question, rest)?;
@@ -184,42 +186,60 @@ impl<'a, C: Carrier> Rank<'a, C> {
         }
     }
 
-    // Posts the next statement. Where it is accepted its outcome is awaited, or its request is open from now on.
+    // Posts the next statement. Where it is accepted its outcome is awaited, or its request is open from now on. It answers
+    // whether it was accepted or refused; else it can't be posted now.
     fn post_next(
         &mut self,
         alloc: Global,
         carrier: &mut C,
         posting: &'a Posting,
         rest: &'a [Statement],
-    ) -> Result<(), OutOfMemory>
+    ) -> Result<bool, OutOfMemory>
         requires waits { (rank_of C.place self.old).waits ≡ None }
         requires todo { (rank_of C.place self.old).todo ≡ Post posting.now ∷ rest.now }
-        ensures { OnOk result (Moves C.terms (rank_of C.place self.old) carrier.old (rank_of C.place self.new) carrier.new true) }
+        requires may { MayTry C.terms (rank_of C.place self.old) carrier.old }
+        ensures { IfOk result (Moves C.terms (rank_of C.place self.old) carrier.old (rank_of C.place self.new) carrier.new) }
     {
-        self.todo = rest;
         let on = communicator(&self.bound, posting.on());
-        match carrier.post(alloc, self.me, on, posting) {
-            Ok(call) => match posting.request() {
-                Some(word) => {
-                    bind(alloc, &mut self.requests, Some(word), call)?;
-                    Ok(())
-                }
-                None => {
-                    let target = posting.target();
-                    self.waits = Some(Wait { call, target });
-                    Ok(())
-                }
-            },
+        let call = match carrier.post(alloc, self.me, on, posting) {
+            Ok(Some(call)) => call,
+            Ok(None) => return Ok(false),
             Err(refusal) => {
-                if is_want_of_memory(refusal) {
-                    return Err(OutOfMemory);
-                }
-                let text = refused_line(alloc, refusal)?;
-                self.lines.push(text)?;
-                bind(alloc, &mut self.bound, posting.target(), None)?;
-                Ok(())
+                self.be_refused(alloc, posting, rest, refusal)?;
+                return Ok(true);
+            }
+        };
+        self.todo = rest;
+        match posting.request() {
+            Some(word) => bind(alloc, &mut self.requests, Some(word), call)?,
+            None => {
+                let target = posting.target();
+                self.waits = Some(Wait { call, target });
             }
         }
+        Ok(true)
+    }
+
+    // The post of the next statement was refused, or memory was wanting.
+    fn be_refused(
+        &mut self,
+        alloc: Global,
+        posting: &'a Posting,
+        rest: &'a [Statement],
+        refusal: PostError,
+    ) -> Result<(), OutOfMemory>
+        requires { (rank_of C.place self.old).waits ≡ None }
+        ensures other { OnOk result (refusal ≡ PostError.OutOfMemory → ⊥) }
+        ensures line { OnOk result (rank_of C.place self.new ≡ refused (rank_of C.place self.old) posting.now rest.now (line_text (Refused refusal))) }
+    {
+        if is_want_of_memory(refusal) {
+            return Err(OutOfMemory);
+        }
+        self.todo = rest;
+        let text = refused_line(alloc, refusal)?;
+        self.lines.push(text)?;
+        bind(alloc, &mut self.bound, posting.target(), None)?;
+        Ok(())
     }
 
     // Waits for the requests of the next statement: once the calls of all that are open are done, it tells their outcomes, and

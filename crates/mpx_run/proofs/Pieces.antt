@@ -156,3 +156,4 @@ runs_input job there left old new text now (Err E.TooManyProcesses) t e p = reco
 runs_input job there left old new text now (Err E.Memory) t e p = (takes_part there left text t, p)
 runs_input job there left old new text now (Err E.Read) t e p = absurd p
 runs_input job there left old new text now (Err E.Write) t e p = record { text = text; taken = t; prints = subst (λ xs. Prints job xs old new (Err E.Write)) e p }
+runs_input job there left old new text now (Err E.GateGaveUp) t e p = record { text = text; taken = t; prints = subst (λ xs. Prints job xs old new (Err E.GateGaveUp)) e p }

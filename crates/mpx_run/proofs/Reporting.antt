@@ -1,8 +1,10 @@
 -- What is reported of a run.
-use Rattle.std.proofs.Common.{◌≡◌, ℕ, zero, suc, ◌+◌, ◌<◌, List, [], ◌∷◌, ◌++◌, length, map, drop, Option, Some, refl, ap, ◌∙◌, subst, arith, pos, codes}
+use Rattle.std.proofs.Common.{◌≡◌, ℕ, zero, suc, ◌<◌, List, [], ◌∷◌, ◌++◌, length, map, drop, Some, refl, ap, ◌∙◌, subst, arith, pos, codes}
 use Rattle.std.specs.Prelude.{slice_get, unwrap_or, IfOk, Result, Ok, Err}
 use Rattle.mpx_num.specs.Text.{number_text}
+use Rattle.atomic_table.specs.Seated.{TableId}
 use Rattle.mpx_node.specs.Nodes.{NodeView}
+use Rattle.mpx_bus.specs.Berths.{Berth}
 use Rattle.mpx_script.specs.ScriptView.{ScriptView}
 use Rattle.mpx_evaluation.specs.Evaluation.{State, IsEvaluation}
 use Rattle.mpx_evaluation.specs.Transcripts.{rank_text, text_upto}
@@ -10,7 +12,8 @@ use Rattle.mpx_evaluation.specs.Reports.{lines_in}
 use Rattle.mpx_eval.specs.Evaluated.{IsEvaluated}
 use Rattle.mpx_system.specs.Runs.{IsRun, Begin, AreWhole}
 use Rattle.mpx_system.proofs.Results.{some_at}
-use Rattle.mpx_run.specs.Reports.{IsReport, IsEvaluatedText, EndsSo, lines_at}
+use Rattle.mpx_threads.specs.Runs.{IsThreadRun}
+use Rattle.mpx_run.specs.Reports.{IsReport, IsThreadReport, IsEvaluatedText, EndsSo, lines_at}
 use Rattle.mpx_run.specs.declared.end.End.{End}
 use Rattle.mpx_run.specs.declared.end.End.TheVariants.{Finished, Waiting}
 
@@ -41,6 +44,23 @@ pub reported : (script : ScriptView) (relays : ℕ) (nodes : List NodeView) (tra
     → text ≡ text_upto (lines_at transcripts) script.ranks → EndsSo end waiting → IsReport script relays end text
 reported script relays nodes transcripts waiting end text run begins whole lines ends = record {
   nodes = nodes;
+  transcripts = transcripts;
+  waiting = waiting;
+  run = run;
+  lines = lines;
+  ends = ends;
+  begins = begins;
+  whole = λ e is finished.
+      let none = nobody end waiting ends finished in
+      lines ∙ text_of_state transcripts e script.ranks run.ranks_are (λ p said at. whole e is p said at (λ place w. cc (w, none)));
+}
+
+pub threads_reported : (script : ScriptView) (relays : ℕ) (table : TableId) (ports : List Berth) (transcripts : List (List (List ℕ))) (waiting : List ℕ) (end : End) (text : List ℕ) → IsThreadRun script relays table ports transcripts waiting
+    → ((e : State) → IsEvaluation script.statements script.ranks e → Begin transcripts e) → ((e : State) → IsEvaluation script.statements script.ranks e → AreWhole transcripts waiting e)
+    → text ≡ text_upto (lines_at transcripts) script.ranks → EndsSo end waiting → IsThreadReport script relays end text
+threads_reported script relays table ports transcripts waiting end text run begins whole lines ends = record {
+  table = table;
+  ports = ports;
   transcripts = transcripts;
   waiting = waiting;
   run = run;

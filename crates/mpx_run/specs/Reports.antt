@@ -1,11 +1,14 @@
 -- The text of a run and of an evaluation.
 use Rattle.std.specs.Prelude.{◌≡◌, ◌≢◌, ℕ, List, [], slice_get, unwrap_or}
+use Rattle.atomic_table.specs.Seated.{TableId}
 use Rattle.mpx_node.specs.Nodes.{NodeView}
+use Rattle.mpx_bus.specs.Berths.{Berth}
 use Rattle.mpx_script.specs.ScriptView.{ScriptView}
 use Rattle.mpx_evaluation.specs.Evaluation.{State, IsEvaluation}
 use Rattle.mpx_evaluation.specs.Reports.{lines_in, waiting_in}
 use Rattle.mpx_evaluation.specs.Transcripts.{text_upto}
-use Rattle.mpx_system.specs.Runs.{IsRun, Begin, AreWhole}
+use Rattle.mpx_system.specs.Runs.{IsRun, Begin}
+use Rattle.mpx_threads.specs.Runs.{IsThreadRun}
 use Rattle.mpx_run.specs.declared.end.End.{End}
 use Rattle.mpx_run.specs.declared.end.End.TheVariants.{Finished, Waiting}
 
@@ -24,13 +27,25 @@ pub record IsEvaluatedText (script : ScriptView) (end : End) (text : List ℕ) :
   pub lines : text ≡ text_upto (lines_in evaluation) script.ranks
   pub ends : EndsSo end (waiting_in evaluation script.ranks)
 
--- the text and the end of a run: its lines rank by rank, and who waits. It begins, and where nobody waits is, that of the
+-- the text and the end of a simulated run: its lines rank by rank, and who waits. It begins, and where nobody waits is, that of the
 -- evaluation
 pub record IsReport (script : ScriptView) (relays : ℕ) (end : End) (text : List ℕ) : Type 0 where
   pub nodes : List NodeView
   pub transcripts : List (List (List ℕ))
   pub waiting : List ℕ
   pub run : IsRun script relays nodes transcripts waiting
+  pub lines : text ≡ text_upto (lines_at transcripts) script.ranks
+  pub ends : EndsSo end waiting
+  pub begins : (evaluation : State) → IsEvaluation script.statements script.ranks evaluation → Begin transcripts evaluation
+  pub whole : (evaluation : State) → IsEvaluation script.statements script.ranks evaluation → end ≡ Finished → text ≡ text_upto (lines_in evaluation) script.ranks
+
+-- the same of a run in threads
+pub record IsThreadReport (script : ScriptView) (relays : ℕ) (end : End) (text : List ℕ) : Type 0 where
+  pub table : TableId
+  pub ports : List Berth
+  pub transcripts : List (List (List ℕ))
+  pub waiting : List ℕ
+  pub run : IsThreadRun script relays table ports transcripts waiting
   pub lines : text ≡ text_upto (lines_at transcripts) script.ranks
   pub ends : EndsSo end waiting
   pub begins : (evaluation : State) → IsEvaluation script.statements script.ranks evaluation → Begin transcripts evaluation

@@ -1,5 +1,5 @@
 -- What a job reads and writes.
-use Rattle.std.specs.Prelude.{◌≡◌, ◌<◌, ◌≤◌, ℕ, zero, suc, pos, ◌+◌, List, [], ◌++◌, length, slice_index_or, codes, take, Option, Result, Ok, Err, IfSome}
+use Rattle.std.specs.Prelude.{◌≡◌, Bool, true, false, ◌<◌, ◌≤◌, ℕ, zero, suc, pos, ◌+◌, List, [], ◌++◌, length, slice_index_or, codes, take, Option, Result, Ok, Err, IfSome}
 use Rattle.std.specs.Io.KnownBytes.{Appends, Consumes, Keeps}
 use Rattle.mpx_num.specs.Text.{number_text}
 use Rattle.mpx_statement.specs.declared.statement.Statement.{Statement}
@@ -16,7 +16,7 @@ use Rattle.mpx_job.specs.declared.Command.TheVariants.{Run, Eval, Check}
 use Rattle.mpx_job.specs.declared.Job.{Job}
 use Rattle.mpx_run.specs.declared.texts.RunError.{RunError}
 use Rattle.mpx_run.specs.declared.texts.RunError.TheVariants as E
-use Rattle.mpx_run.specs.Reports.{IsEvaluatedText, IsReport}
+use Rattle.mpx_run.specs.Reports.{IsEvaluatedText, IsReport, IsThreadReport}
 
 -- the bytes that are read, where it is known what there is: one more than a script may have, or all
 abbrev pub IsInput : Option (List ℕ) → List ℕ → Type 0
@@ -42,6 +42,7 @@ error_text E.TooManyProcesses = codes "too many processes"
 error_text E.Memory = codes "out of memory"
 error_text E.Read = codes "read fault"
 error_text E.Write = codes "write fault"
+error_text E.GateGaveUp = codes "gate gave up"
 
 -- how many statements the first n ranks have
 abbrev pub statements_upto : List (List Statement) → ℕ → ℕ
@@ -52,17 +53,22 @@ statements_upto statements (suc n) = statements_upto statements n + length (slic
 abbrev pub check_text : ScriptView → List ℕ
 check_text script = codes "ok " ++ number_text (pos script.ranks) ++ codes " ranks " ++ number_text (pos (statements_upto script.statements script.ranks)) ++ codes " statements\n"
 
--- to which end and text a script comes: a run with so many relays, its evaluation, or the script alone
-abbrev pub ComesTo : Command → (relays : ℕ) → ScriptView → End → List ℕ → Type 0
-ComesTo Run relays script end out = (script.ranks + relays ≤ 64) × IsReport script relays end out
-ComesTo Eval relays script end out = IsEvaluatedText script end out
-ComesTo Check relays script end out = (end ≡ Finished) × (out ≡ check_text script)
+-- to which end and text a run with so many relays comes, in threads or simulated
+abbrev pub RunsTo : (threads : Bool) (relays : ℕ) → ScriptView → End → List ℕ → Type 0
+RunsTo true relays script end out = IsThreadReport script relays end out
+RunsTo false relays script end out = IsReport script relays end out
+
+-- to which end and text a script comes: a run, its evaluation, or the script alone
+abbrev pub ComesTo : Command → (threads : Bool) (relays : ℕ) → ScriptView → End → List ℕ → Type 0
+ComesTo Run threads relays script end out = (script.ranks + relays ≤ 64) × RunsTo threads relays script end out
+ComesTo Eval threads relays script end out = IsEvaluatedText script end out
+ComesTo Check threads relays script end out = (end ≡ Finished) × (out ≡ check_text script)
 
 -- a text is read as a script, with which the job comes to that end and text
 pub record DoneTo (job : Job) (text : List ℕ) (end : End) (out : List ℕ) : Type 0 where
   pub script : ScriptView
   pub read : reading text ≡ Ok script
-  pub comes : ComesTo job.command job.options.relays script end out
+  pub comes : ComesTo job.command job.options.threads job.options.relays script end out
 
 -- a text is read as a script that has too many ranks to be run with so many relays
 pub record HasTooMany (job : Job) (text : List ℕ) : Type 0 where
@@ -85,6 +91,10 @@ pub record PrintsPart (job : Job) (text : List ℕ) (old new : Option (List ℕ)
   pub count : ℕ
   pub written : Appends old new (take count out)
 
+-- a run in threads is asked for: a gate may end it
+abbrev pub IsGated : Job → Type 0
+IsGated job = (job.command ≡ Run) × (job.options.threads ≡ true)
+
 -- what is out after a job with a text, by the answer
 abbrev pub Prints : (job : Job) (text : List ℕ) (old new : Option (List ℕ)) → Result End RunError → Type 0
 Prints job text old new (Ok end) = PrintsWhole job text old new end
@@ -93,6 +103,7 @@ Prints job text old new (Err E.TooManyProcesses) = HasTooMany job text × Keeps 
 Prints job text old new (Err E.Memory) = Keeps old new
 Prints job text old new (Err E.Read) = ⊥
 Prints job text old new (Err E.Write) = PrintsPart job text old new
+Prints job text old new (Err E.GateGaveUp) = IsGated job × Keeps old new
 
 -- the reader's text is taken, and the job done with it
 pub record RunsInput (job : Job) (there left old new : Option (List ℕ)) (answer : Result End RunError) : Type 0 where
@@ -108,3 +119,4 @@ Runs job there left old new (Err E.TooManyProcesses) = RunsInput job there left 
 Runs job there left old new (Err E.Memory) = TakesPart there left × Keeps old new
 Runs job there left old new (Err E.Read) = TakesPart there left × Keeps old new
 Runs job there left old new (Err E.Write) = RunsInput job there left old new (Err E.Write)
+Runs job there left old new (Err E.GateGaveUp) = RunsInput job there left old new (Err E.GateGaveUp)

@@ -2,7 +2,7 @@
 ghost use Rattle.std.specs.Prelude.{◌≡◌, ◌++◌, ◌≤◌, ◌+◌, IfOk, OnOk, length, map, string_bytes};
 ghost use Rattle.mpx_evaluation.specs.Reports.{transcripts_of};
 ghost use Rattle.mpx_evaluation.specs.Transcripts.{rank_text, text_upto};
-ghost use Rattle.mpx_run.specs.Reports.{EndsSo, IsEvaluatedText, IsReport, lines_at};
+ghost use Rattle.mpx_run.specs.Reports.{EndsSo, IsEvaluatedText, IsReport, IsThreadReport, lines_at};
 
 use crate::end::End;
 use join_core::OutOfMemory;
@@ -12,7 +12,10 @@ use mpx_job::Options;
 use mpx_num::push_number;
 use mpx_script::Script;
 use mpx_sim::{Observer, run_sim_observed};
+use mpx_threads::{Gate, ThreadsError, run_threads};
 use std::alloc::Global;
+use std::sync::Wait;
+use std::thread::Threads;
 
 /// The text of a run or an evaluation, and how it ended.
 #[derive(Drop)]
@@ -21,7 +24,7 @@ pub(crate) struct Printed {
     pub(crate) end: End,
 }
 
-/// The lines of all ranks of a run, each as `RANK: LINE`, rank by rank, and who waits.
+/// The lines of all ranks of a simulated run, each as `RANK: LINE`, rank by rank, and who waits.
 pub(crate) fn print(
     alloc: Global,
     script: &Script,
@@ -33,6 +36,24 @@ pub(crate) fn print(
 {
     let run = run_sim_observed(alloc, script, options, observer)?;
     print_report(alloc, run.report, script.ranks())
+}
+
+/// The same of a run in threads.
+pub(crate) fn print_threads<T: Threads + Wait + Sync, G: Gate + Sync>(
+    rt: &T,
+    alloc: Global,
+    script: &Script,
+    options: &Options,
+    gate: &G,
+) -> Result<Printed, ThreadsError>
+    requires { script.now.ranks + options.now.relays ≤ 64 }
+    ensures { IfOk result (λ printed. IsThreadReport script.now options.now.relays printed.end (string_bytes printed.text)) }
+{
+    let run = run_threads(rt, alloc, script, options, gate)?;
+    match print_report(alloc, run.report, script.ranks()) {
+        Ok(printed) => Ok(printed),
+        Err(_) => Err(ThreadsError::OutOfMemory),
+    }
 }
 
 /// The same of a script's evaluation.

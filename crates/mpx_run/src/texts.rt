@@ -1,18 +1,21 @@
 //! A job from the bytes of a script to what it prints.
-ghost use Rattle.std.specs.Prelude.{◌≡◌, ◌+◌, ◌<◌, ◌≤◌, IfOk, IsFalse, IsTrue, Some, string_bytes};
-ghost use Rattle.mpx_run.specs.Texts.{ComesTo, Prints, Runs, error_text, told};
+ghost use Rattle.std.specs.Prelude.{◌≡◌, ◌+◌, ◌<◌, ◌≤◌, IfErr, IfOk, IsFalse, IsTrue, Some, false, string_bytes};
+ghost use Rattle.mpx_run.specs.Texts.{ComesTo, IsGated, Prints, Runs, error_text, told};
 
 use crate::bytes::{ReadFault, WriteFault, read_bytes, write_bytes};
 use crate::check::check_text;
 use crate::end::End;
-use crate::report::{Printed, print, print_evaluation};
+use crate::report::{Printed, print, print_evaluation, print_threads};
 use join_core::OutOfMemory;
 use mpx_job::{Command, Job};
 use mpx_script::{ReadScriptError, Script, ScriptError, read_script};
 use mpx_sim::{Observer, Unobserved};
+use mpx_threads::{Gate, OpenGate, ThreadsError};
 use std::alloc::Global;
 use std::fmt;
 use std::io::{Read, Write};
+use std::sync::Wait;
+use std::thread::Threads;
 
 // So many ranks and relays there are at most.
 const MOST_PROCESSES: u8 = 64;
@@ -30,6 +33,8 @@ pub enum RunError {
     Read,
     /// The writer failed. The text's beginning may be out.
     Write,
+    /// The gate of a run in threads gave up.
+    GateGaveUp,
 }
 
 impl fmt::Display for RunError {
@@ -42,6 +47,7 @@ impl fmt::Display for RunError {
             RunError::Memory => f.write_str("out of memory"),
             RunError::Read => f.write_str("read fault"),
             RunError::Write => f.write_str("write fault"),
+            RunError::GateGaveUp => f.write_str("gate gave up"),
         }
     }
 }
@@ -65,8 +71,10 @@ impl From<ReadFault> for RunError {
 /// The reader is read to its end, or up to one byte more than a script may have, in at most 1,048,577 calls; a call that
 /// fails ends it. Nothing is written before all is computed; after `Write` a beginning of the text is out, and after
 /// every other error nothing. No clause says that `Read` and `Write` come only where the reader or the writer fails,
-/// nor that all is flushed: that is shown by tests.
-pub fn run_text<R: Read, W: Write>(
+/// nor that all is flushed: that is shown by tests. A run in threads may wait for them; where the system refuses a thread the run ends
+/// early, with ranks that wait. This call has an open gate.
+pub fn run_text<T: Threads + Wait + Sync, R: Read, W: Write>(
+    rt: &T,
     alloc: Global,
     job: &Job,
     reader: &mut R,
@@ -74,25 +82,28 @@ pub fn run_text<R: Read, W: Write>(
 ) -> Result<End, RunError>
     ensures { Runs job.now (R.remaining reader.old) (R.remaining reader.new) (W.contents writer.old) (W.contents writer.new) result }
 {
-    run_text_observed(alloc, job, reader, writer, &mut Unobserved)
+    run_text_observed(rt, alloc, job, reader, writer, &mut Unobserved, &OpenGate)
 }
 
-/// The same, with somebody who looks on at the run, where one is asked for.
-pub fn run_text_observed<R: Read, W: Write>(
+/// The same, with somebody who looks on at a simulated run, and a gate for a run in threads, which then may answer `GateGaveUp`.
+pub fn run_text_observed<T: Threads + Wait + Sync, R: Read, W: Write, G: Gate + Sync>(
+    rt: &T,
     alloc: Global,
     job: &Job,
     reader: &mut R,
     writer: &mut W,
     observer: &mut dyn Observer,
+    gate: &G,
 ) -> Result<End, RunError>
     ensures { Runs job.now (R.remaining reader.old) (R.remaining reader.new) (W.contents writer.old) (W.contents writer.new) result }
 {
     let text = read_bytes(alloc, reader)?;
-    bytes_observed(alloc, job, &text, writer, observer)
+    bytes_observed(rt, alloc, job, &text, writer, observer, gate)
 }
 
 /// Does the job with the script that the bytes are, as [`run_text`] does once it has read them. It never answers `Read`.
-pub fn run_bytes<W: Write>(
+pub fn run_bytes<T: Threads + Wait + Sync, W: Write>(
+    rt: &T,
     alloc: Global,
     job: &Job,
     text: &[u8],
@@ -100,16 +111,18 @@ pub fn run_bytes<W: Write>(
 ) -> Result<End, RunError>
     ensures { Prints job.now text.now (W.contents writer.old) (W.contents writer.new) result }
 {
-    bytes_observed(alloc, job, text, writer, &mut Unobserved)
+    bytes_observed(rt, alloc, job, text, writer, &mut Unobserved, &OpenGate)
 }
 
-// The same, with somebody who looks on.
-fn bytes_observed<W: Write>(
+// The same, with somebody who looks on, and a gate.
+fn bytes_observed<T: Threads + Wait + Sync, W: Write, G: Gate + Sync>(
+    rt: &T,
     alloc: Global,
     job: &Job,
     text: &[u8],
     writer: &mut W,
     observer: &mut dyn Observer,
+    gate: &G,
 ) -> Result<End, RunError>
     ensures { Prints job.now text.now (W.contents writer.old) (W.contents writer.new) result }
 {
@@ -121,8 +134,10 @@ fn bytes_observed<W: Write>(
     if has_too_many(job, script.ranks()) {
         return Err(RunError::TooManyProcesses);
     }
-    let Ok(printed) = printed_of(alloc, &script, job, observer) else {
-        return Err(RunError::Memory);
+    let printed = match printed_of(rt, alloc, &script, job, observer, gate) {
+        Ok(printed) => printed,
+        Err(ThreadsError::OutOfMemory) => return Err(RunError::Memory),
+        Err(ThreadsError::GateGaveUp) => return Err(RunError::GateGaveUp),
     };
     match write_bytes(writer, printed.text.as_bytes()) {
         Ok(()) => Ok(printed.end),
@@ -144,14 +159,49 @@ fn has_too_many(job: &Job, ranks: u8) -> bool
 }
 
 // What a script comes to.
-fn printed_of(
+fn printed_of<T: Threads + Wait + Sync, G: Gate + Sync>(
+    rt: &T,
+    alloc: Global,
+    script: &Script,
+    job: &Job,
+    observer: &mut dyn Observer,
+    gate: &G,
+) -> Result<Printed, ThreadsError>
+    requires { job.now.command ≡ Command.Run → script.now.ranks + job.now.options.relays ≤ 64 }
+    ensures text { IfOk result (λ printed. ComesTo job.now.command job.now.options.threads job.now.options.relays script.now printed.end (string_bytes printed.text)) }
+    ensures gave_up { IfErr result (λ e. e ≡ ThreadsError.GateGaveUp → IsGated job.now) }
+{
+    if is_in_threads(job) {
+        return print_threads(rt, alloc, script, &job.options, gate);
+    }
+    match printed_alone(alloc, script, job, observer) {
+        Ok(printed) => Ok(printed),
+        Err(_) => Err(ThreadsError::OutOfMemory),
+    }
+}
+
+// Whether ranks are to be run in threads.
+fn is_in_threads(job: &Job) -> bool
+    ensures threads { IsTrue result → IsGated job.now }
+    ensures alone { IsFalse result → job.now.command ≡ Command.Run → job.now.options.threads ≡ false }
+{
+    match job.command {
+        Command::Run => job.options.threads,
+        Command::Eval => false,
+        Command::Check => false,
+    }
+}
+
+// What a script comes to where no thread is started.
+fn printed_alone(
     alloc: Global,
     script: &Script,
     job: &Job,
     observer: &mut dyn Observer,
 ) -> Result<Printed, OutOfMemory>
-    requires { job.now.command ≡ Command.Run → script.now.ranks + job.now.options.relays ≤ 64 }
-    ensures { IfOk result (λ printed. ComesTo job.now.command job.now.options.relays script.now printed.end (string_bytes printed.text)) }
+    requires few { job.now.command ≡ Command.Run → script.now.ranks + job.now.options.relays ≤ 64 }
+    requires alone { job.now.command ≡ Command.Run → job.now.options.threads ≡ false }
+    ensures { IfOk result (λ printed. ComesTo job.now.command job.now.options.threads job.now.options.relays script.now printed.end (string_bytes printed.text)) }
 {
     match job.command {
         Command::Run => print(alloc, script, &job.options, observer),

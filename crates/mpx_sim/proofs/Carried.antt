@@ -15,7 +15,7 @@ use Rattle.mpx_evaluation.specs.Standing.{binds, closed}
 use Rattle.mpx_evaluation.specs.Transcripts.{line_text, outcome_text}
 use Rattle.mpx_evaluation.proofs.Standing.{binds_seen}
 use Rattle.mpx_rank.proofs.Telling.{done_first}
-use Rattle.mpx_rank.specs.Moves.{GoesOn, Move, Ran, RankView, Still, are_done, asks, communicator_in, has_ended, hears, is_done, is_refused, moved_on, passes, passes_not, posts, request_line, starts, stayed, wait_lines, waits_on}
+use Rattle.mpx_rank.specs.Moves.{GoesOn, Move, Ran, RankView, Still, are_done, asks, communicator_in, has_ended, hears, is_done, is_refused, moved_on, passes, passes_not, posts, posts_not, request_line, starts, stayed, wait_lines, waits_on}
 use Rattle.mpx_system.specs.Running as Y
 use Rattle.mpx_system.specs.Systems.{node_births, node_tells}
 use Rattle.mpx_system.proofs.Running.{moves_asks, moves_hears, moves_itself, moves_keeps, moves_passes, moves_posts, moves_refused, moves_starts, moves_then}
@@ -112,6 +112,7 @@ move_is r c s d (asks question rest text waits todo said) =
 pub still_is : (r : RankView Comm) (c d : RunDesk) → Still desk_terms r c d → Y.Moves (process_with r (node_of c.desk.host)) (process_with r (node_of d.desk.host))
 still_is r c d (has_ended waits todo) = moves_itself (process_with r (node_of c.desk.host))
 still_is r c d (waits_on w waits heard none) = let old = process_with r (node_of c.desk.host) in moves_keeps old (process_with r (node_of d.desk.host)) (keeps_harvested old.node (node_of d.desk.host) heard.0 old refl)
+still_is r c d (posts_not posting rest waits todo tried) = absurd tried
 still_is r c d (passes_not {mid = between} words rest waits todo before undone after) =
     let old = process_with r (node_of c.desk.host) in
     let mid = process_with r (node_of between.desk.host) in

@@ -11,7 +11,7 @@ use Rattle.mpx_comm.proofs.Steps.{later_more, later_none}
 use Rattle.mpx_node.specs.declared.finished.Finished.{Finished}
 use Rattle.mpx_node.specs.Nodes.{NodeView}
 use Rattle.mpx_node.specs.Shown.{node_of}
-use Rattle.mpx_rank.specs.Carriers.{IsWithin, Outcomes, Terms}
+use Rattle.mpx_rank.specs.Carriers.{AtOnce, IsWithin, Outcomes, Terms}
 use Rattle.mpx_system.specs.Running.{Tries, given_name, known_to, tried_on}
 use Rattle.mpx_sim.specs.declared.desk.RunDesk.{RunDesk}
 use Rattle.mpx_sim.specs.Shown.{name_in}
@@ -31,7 +31,8 @@ desk_terms = record {
   tells = λ d me. outcomes_on (node_of d.desk.host);
   gives = λ d me name call to. (f : Finished) × (result_at (node_of d.desk.host) name call ≡ Some f) × (name_in to ≡ given_name f.outcome);
   knows = λ d comm. known_to (node_of d.desk.host) (Some comm.name);
-  tries = λ d me posting on result e. Tries (tried_on posting (name_in on) (node_of d.desk.host)) result (node_of e.desk.host);
+  may = λ d me posting on. Unit {0};
+  tries = λ d me posting on result e. AtOnce (λ answer. Tries (tried_on posting (name_in on) (node_of d.desk.host)) answer (node_of e.desk.host)) result;
   hears = λ d e. Harvested (node_of d.desk.host) (node_of e.desk.host) × Later (node_of d.desk.host) (node_of e.desk.host);
 }
 

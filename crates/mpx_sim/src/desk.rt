@@ -96,10 +96,10 @@ impl Carrier for RunDesk {
         _me: Proc,
         on: Option<&Comm>,
         posting: &Posting,
-    ) -> Result<Request, PostError> {
+    ) -> Result<Option<Request>, PostError> {
         let request = attempt(alloc, &mut self.desk, on, posting)?;
         match look_at_gathering(alloc, &mut self.contexts, &request) {
-            Ok(()) => Ok(request),
+            Ok(()) => Ok(Some(request)),
             Err(_) => {
                 drop(request);
                 Err(PostError::OutOfMemory)

@@ -28,13 +28,13 @@ use Rattle.mpx_system.proofs.Running.{coupled}
 -- LISTS
 
 -- what is among the first of a list
-taken_at : {A : Type 0} (n : ℕ) (xs : List A) (p : ℕ) (x : A) → slice_get (take n xs) p ≡ Some x → (p < n) × (slice_get xs p ≡ Some x)
+pub taken_at : {A : Type 0} (n : ℕ) (xs : List A) (p : ℕ) (x : A) → slice_get (take n xs) p ≡ Some x → (p < n) × (slice_get xs p ≡ Some x)
 taken_at zero xs p x e = cc e
 taken_at (suc n) [] p x e = cc e
 taken_at (suc n) (y ∷ ys) zero x e = (omega arith, e)
 taken_at (suc n) (y ∷ ys) (suc p) x e = let rest = taken_at n ys p x e in (omega (arith, rest.0), rest.1)
 
-length_taken : {A : Type 0} (n : ℕ) (xs : List A) → n ≤ length xs → length (take n xs) ≡ n
+pub length_taken : {A : Type 0} (n : ℕ) (xs : List A) → n ≤ length xs → length (take n xs) ≡ n
 length_taken zero xs l = refl
 length_taken (suc n) [] l = absurd (omega (arith, l))
 length_taken (suc n) (x ∷ xs) l = ap suc (length_taken n xs (omega (arith, l)))
@@ -49,17 +49,17 @@ some_at [] p l = absurd (omega (arith, l))
 some_at (x ∷ xs) zero l = (x, refl)
 some_at (x ∷ xs) (suc p) l = some_at xs p (omega (arith, l))
 
-mapped_at : {A B : Type 0} (f : A → B) (xs : List A) (p : ℕ) (y : B) → slice_get (map f xs) p ≡ Some y → (x : A) × (slice_get xs p ≡ Some x) × (f x ≡ y)
+pub mapped_at : {A B : Type 0} (f : A → B) (xs : List A) (p : ℕ) (y : B) → slice_get (map f xs) p ≡ Some y → (x : A) × (slice_get xs p ≡ Some x) × (f x ≡ y)
 mapped_at f xs p y e = mapped_some f (slice_get xs p) y (sym (slice_get-map f xs p) ∙ e)
 
 -- WHO WAITS
 
-which_same : (f g : ℕ → Bool) (n : ℕ) → ((p : ℕ) → p < n → f p ≡ g p) → which f n ≡ which g n
+pub which_same : (f g : ℕ → Bool) (n : ℕ) → ((p : ℕ) → p < n → f p ≡ g p) → which f n ≡ which g n
 which_same f g zero h = refl
 which_same f g (suc n) h = λ i. which_same f g n (λ p l. h p (omega (arith, l))) i ++ cond (h n (omega arith) i) (n ∷ []) []
 
 -- each number that passes the test is there
-which_has : (test : ℕ → Bool) (n p : ℕ) → p < n → test p ≡ true → (place : ℕ) × (slice_get (which test n) place ≡ Some p)
+pub which_has : (test : ℕ → Bool) (n p : ℕ) → p < n → test p ≡ true → (place : ℕ) × (slice_get (which test n) place ≡ Some p)
 which_has test zero p l e = absurd (omega (arith, l))
 which_has test (suc n) p l e = by_last (nat_lt p n) refl (which_has test n p) where
   by_last : (b : Bool) → nat_lt p n ≡ b → (p < n → test p ≡ true → (place : ℕ) × (slice_get (which test n) place ≡ Some p)) → (place : ℕ) × (slice_get (which test (suc n)) place ≡ Some p)
@@ -73,7 +73,7 @@ which_has test (suc n) p l e = by_last (nat_lt p n) refl (which_has test n p) wh
       let here : test n ≡ true = ap test (sym same) ∙ e in
       (length (which test n), ap (λ b. slice_get (which test n ++ cond b (n ∷ []) []) (length (which test n))) here ∙ slice_get-push (which test n) n ∙ ap Some (sym same))
 
-nothing_left : (todo : List Todo) → (is_left todo ≡ true → ⊥) → todo ≡ []
+pub nothing_left : (todo : List Todo) → (is_left todo ≡ true → ⊥) → todo ≡ []
 nothing_left [] none = refl
 nothing_left (x ∷ rest) none = absurd (none refl)
 
@@ -87,7 +87,7 @@ left_todo None todo = left_doing todo
 
 -- A RUN
 
-prefix_map : (xs ys : List Line) → IsPrefixOf xs ys → IsPrefixOf (map line_text xs) (map line_text ys)
+pub prefix_map : (xs ys : List Line) → IsPrefixOf xs ys → IsPrefixOf (map line_text xs) (map line_text ys)
 prefix_map xs ys p = (map line_text p.0, sym (map-append line_text xs p.0) ∙ ap (map line_text) p.1)
 
 module _ (script : ScriptView) (relays : ℕ) (processes : List RankView) (frames : List Look) (run : IsUnderWay script.statements script.ranks (script.ranks + relays) processes frames) where

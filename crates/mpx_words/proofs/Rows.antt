@@ -1,9 +1,12 @@
--- Which refusals some words get, computed.
-use Rattle.std.proofs.Common.{◌≡◌, [], ◌∷◌, codes, refl}
-use Rattle.clap.specs.declared.error.kind.ErrorKind.TheVariants.{DisplayHelp, DisplayVersion, DisplayHelpOnMissingArgumentOrSubcommand, InvalidSubcommand, UnknownArgument, InvalidValue}
+-- Which refusals some words get, and for which jobs some ask, computed.
+use Rattle.std.proofs.Common.{◌≡◌, true, [], ◌∷◌, Some, None, codes, refl}
+use Rattle.clap.specs.declared.error.kind.ErrorKind.TheVariants.{DisplayHelp, DisplayVersion, DisplayHelpOnMissingArgumentOrSubcommand, InvalidSubcommand, UnknownArgument, InvalidValue, TooManyValues}
 use Rattle.clap.specs.Faults.{walk_fault, defaults_fault}
 use Rattle.clap.specs.Walk.{walked}
+use Rattle.mpx_num.specs.Text.{magnitude, number_of}
+use Rattle.mpx_job.specs.declared.Command.TheVariants.{Run}
 use Rattle.mpx_words.specs.Usage.{refusal_kinds}
+use Rattle.mpx_words.specs.Words.{job_in, usual, with_threads}
 
 no_command : refusal_kinds (codes "gossipmpi" ∷ []) ≡ DisplayHelpOnMissingArgumentOrSubcommand ∷ []
 unfolding walk_fault defaults_fault
@@ -32,3 +35,32 @@ version = refl
 file : refusal_kinds (codes "gossipmpi" ∷ codes "run" ∷ codes "my.job" ∷ []) ≡ UnknownArgument ∷ []
 unfolding walk_fault defaults_fault walked
 file = refl
+
+threads_with_a_number : refusal_kinds (codes "gossipmpi" ∷ codes "run" ∷ codes "--threads=7" ∷ []) ≡ TooManyValues ∷ []
+unfolding walk_fault defaults_fault walked
+threads_with_a_number = refl
+
+file_in_threads : refusal_kinds (codes "gossipmpi" ∷ codes "run" ∷ codes "--threads" ∷ codes "my.job" ∷ []) ≡ UnknownArgument ∷ []
+unfolding walk_fault defaults_fault walked
+file_in_threads = refl
+
+great_loss_in_threads : refusal_kinds (codes "gossipmpi" ∷ codes "run" ∷ codes "--threads" ∷ codes "--loss" ∷ codes "101" ∷ []) ≡ InvalidValue ∷ []
+unfolding walk_fault defaults_fault walked
+great_loss_in_threads = refl
+
+-- which jobs some words ask for
+
+threads_alone : job_in (codes "gossipmpi" ∷ codes "run" ∷ codes "--threads" ∷ []) ≡ Some (record { command = Run; options = with_threads usual })
+threads_alone = refl
+
+threads_and_turns : job_in (codes "gossipmpi" ∷ codes "run" ∷ codes "--turns" ∷ codes "9" ∷ codes "--threads" ∷ codes "--relays" ∷ codes "2" ∷ [])
+    ≡ Some (record { command = Run; options = record { threads = true; seed = 1; loss = 0; relays = 2; turns = 9 } })
+unfolding number_of magnitude
+threads_and_turns = refl
+
+threads_is_no_number : job_in (codes "gossipmpi" ∷ codes "run" ∷ codes "--seed" ∷ codes "--threads" ∷ []) ≡ None
+unfolding number_of magnitude
+threads_is_no_number = refl
+
+threads_of_an_evaluation : job_in (codes "gossipmpi" ∷ codes "eval" ∷ codes "--threads" ∷ []) ≡ None
+threads_of_an_evaluation = refl

@@ -4,6 +4,7 @@ use Rattle.std.specs.Option.{option_map_or}
 use Rattle.clap.specs.Walk.{Text}
 use Rattle.clap.specs.declared.error.kind.ErrorKind.{ErrorKind}
 use Rattle.clap.specs.declared.error.kind.ErrorKind.TheVariants as kind
+use Rattle.mpx_words.specs.Words.{is_threads}
 
 abbrev pub begins_with : Text → (start : Text) → Bool
 begins_with word start = bytes_eq start (take (length start) word)
@@ -25,7 +26,7 @@ abbrev pub awaits_behind : (awaits : Bool) → Text → Option Bool
 awaits_behind awaits word =
     if awaits && is_plain word then Some false else
     if is_option word then Some true else
-    if is_joined word then Some false else
+    if is_threads word || is_joined word then Some false else
     None
 
 -- the first word, if it is plain

@@ -1,15 +1,21 @@
 -- The program's commands and options as clap sees them, and which kinds a refusal may have.
 use Rattle.std.specs.Prelude.{false, true, List, [], ◌∷◌, Some, codes}
-use Rattle.clap.specs.Walk.{Text}
+use Rattle.clap.specs.Walk.{Rule, Text}
 use Rattle.clap.specs.Simple.{App, Shape, new_rule, new_shape}
+use Rattle.clap.specs.declared.builder.action.ArgAction.TheVariants.{SetTrue}
 use Rattle.clap.specs.declared.error.kind.ErrorKind.TheVariants as kind
 use Rattle.clap.specs.Kinds.{Kinds, or_else}
 use Rattle.clap.specs.Faults.{fault_of}
 
--- `run` with its options, each of which is followed by a value
+-- the option that stands alone
+abbrev pub threads : Rule
+threads = record (new_rule (codes "threads")) { long = Some (codes "threads"); action = Some SetTrue }
+
+-- `run` with its options: each but the first is followed by a value
 abbrev pub run : Shape
 run = record (new_shape (codes "run")) {
-  rules = record (new_rule (codes "seed")) { long = Some (codes "seed") }
+  rules = threads
+      ∷ record (new_rule (codes "seed")) { long = Some (codes "seed") }
       ∷ record (new_rule (codes "loss")) { long = Some (codes "loss") }
       ∷ record (new_rule (codes "relays")) { long = Some (codes "relays") }
       ∷ record (new_rule (codes "turns")) { long = Some (codes "turns") }

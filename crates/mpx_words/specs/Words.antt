@@ -1,5 +1,5 @@
 -- The words of a call, and the job that they ask for.
-use Rattle.std.specs.Prelude.{ℕ, ℤ, pos, negsuc, ◌&&◌, List, [], ◌∷◌, Option, Some, None, codes, bytes_eq, nat_le, option_and_then, if◌then◌else◌}
+use Rattle.std.specs.Prelude.{Bool, true, false, ℕ, ℤ, pos, negsuc, ◌&&◌, List, [], ◌∷◌, Option, Some, None, codes, bytes_eq, nat_le, option_and_then, if◌then◌else◌}
 use Rattle.std.specs.Option.{option_map}
 use Rattle.mpx_num.specs.Text.{number_of}
 use Rattle.mpx_job.specs.declared.Command.{Command}
@@ -18,9 +18,17 @@ number_within least most word = option_and_then (in_range least most) (number_of
 
 -- without options
 abbrev pub usual : Options
-usual = record { seed = 1; loss = 0; relays = 0; turns = 100000 }
+usual = record { threads = false; seed = 1; loss = 0; relays = 0; turns = 100000 }
 
--- these options with one more
+-- the option that stands alone
+abbrev pub is_threads : Text → Bool
+is_threads word = bytes_eq word (codes "--threads")
+
+-- these options, in threads
+abbrev pub with_threads : Options → Options
+with_threads o = record o { threads = true }
+
+-- these options with one more that has a number
 abbrev pub with_option : Options → (option value : Text) → Option Options
 with_option o option value =
     if bytes_eq option (codes "--seed") then option_map (λ n. record o { seed = n }) (number_within 0 18446744073709551615 value) else
@@ -29,11 +37,13 @@ with_option o option value =
     if bytes_eq option (codes "--turns") then option_map (λ n. record o { turns = n }) (number_within 1 10000000 value) else
     None
 
--- these options with those that the words give, each followed by its number
+-- these options with those that the words give: `--threads` alone, each other one followed by its number
 abbrev pub options_in : Options → List Text → Option Options
 options_in o [] = Some o
-options_in o (option ∷ []) = None
-options_in o (option ∷ value ∷ rest) = option_and_then (λ p. options_in p rest) (with_option o option value)
+options_in o (option ∷ []) = if is_threads option then Some (with_threads o) else None
+options_in o (option ∷ value ∷ rest) =
+    if is_threads option then options_in (with_threads o) (value ∷ rest) else
+    option_and_then (λ p. options_in p rest) (with_option o option value)
 
 -- a command that has no options
 abbrev pub alone : Command → List Text → Option Job
@@ -53,7 +63,7 @@ job_in (name ∷ command ∷ rest) =
 -- WHAT IS SAID OF WORDS THAT ASK FOR NO JOB
 
 abbrev pub no_pair : Text
-no_pair = codes "each option is followed by its number, as a word of its own"
+no_pair = codes "each option but --threads is followed by its number, as a word of its own"
 
 abbrev pub stands_alone : Text
 stands_alone = codes "this command stands alone"
@@ -76,7 +86,9 @@ or_more (Some options) option more = more
 abbrev pub complaint : List Text → Text
 complaint [] = no_pair
 complaint (option ∷ []) = no_pair
-complaint (option ∷ value ∷ rest) = or_more (with_option usual option value) option (complaint rest)
+complaint (option ∷ value ∷ rest) =
+    if is_threads option then complaint (value ∷ rest) else
+    or_more (with_option usual option value) option (complaint rest)
 
 -- what is said of the words
 abbrev pub complaint_of : List Text → Text

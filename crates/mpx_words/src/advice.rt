@@ -2,6 +2,7 @@
 ghost use Rattle.std.specs.Prelude.{◌≡◌, IfOk, false, map, option_map, string_bytes};
 ghost use Rattle.mpx_words.specs.Advice.{advice, advice_of, awaits_behind, file_in, first_plain, is_joined, is_option, is_plain, plain_word, shown, surplus_word, told_instead};
 
+use crate::command::is_threads;
 use clap::error::ErrorKind;
 use std::alloc::{AllocError, Global};
 
@@ -99,7 +100,11 @@ fn awaits_behind(awaits: bool, word: &[u8]) -> Option<bool>
     if is_option(word) {
         return Some(true);
     }
-    if is_joined(word) { Some(false) } else { None }
+    if is_threads(word) || is_joined(word) {
+        Some(false)
+    } else {
+        None
+    }
 }
 
 // The first word, or the one behind `--`, if it is plain.

@@ -2,7 +2,7 @@
 ghost use Rattle.std.specs.Prelude.{◌≡◌, ◌≤◌, ◌⊎◌, IfErr, IfOk, IfSome, None, Some, length, map, string_bytes};
 ghost use Rattle.clap.specs.Words.{HasKind, kind_of};
 ghost use Rattle.mpx_words.specs.Usage.{refusal_kinds};
-ghost use Rattle.mpx_words.specs.Words.{alone, complaint, complaint_of, job_in, limits_of, number_within, options_in, usual, with_option};
+ghost use Rattle.mpx_words.specs.Words.{alone, complaint, complaint_of, job_in, limits_of, is_threads, number_within, options_in, usual, with_option, with_threads};
 
 use crate::advice::told_instead;
 use crate::program::{named, program};
@@ -13,7 +13,7 @@ use mpx_num::parse_number;
 use std::alloc::{AllocError, Global};
 
 /// The job that `words` ask for, of which the first is the program's own name and the second the command's: `run` with
-/// `--seed N` (any u64, else 1), `--loss P` (0 to 100, else 0), `--relays N` (0 to 63, else 0) and `--turns N` (1 to
+/// `--threads`, `--seed N` (any u64, else 1), `--loss P` (0 to 100, else 0), `--relays N` (0 to 63, else 0) and `--turns N` (1 to
 /// 10,000,000, else 100,000), or `eval` or `check` alone. Of an option that is given twice the last counts. A refusal has clap's
 /// text, or is want of memory.
 pub fn job_of(alloc: Global, words: &[String]) -> Result<Job, Error>
@@ -71,6 +71,7 @@ fn usual() -> Options
     ensures { result ≡ usual }
 {
     Options {
+        threads: false,
         seed: 1,
         loss: 0,
         relays: 0,
@@ -78,20 +79,45 @@ fn usual() -> Options
     }
 }
 
-// These options with those that the words give, each followed by its number.
+// These options with those that the words give: `--threads` alone, each other one followed by its number.
 fn options_in(options: Options, words: &[String]) -> Option<Options>
     ensures { result ≡ options_in options (map string_bytes words.now) }
 {
     let mut read = options;
     let mut rest = words;
-    while let [option, value, more @ ..] = rest {
+    while let [option, behind @ ..] = rest {
+        if is_threads(option.as_bytes()) {
+            read = with_threads(read);
+            rest = behind;
+            continue;
+        }
+        let [_, value, more @ ..] = rest else {
+            return None;
+        };
         read = with_option(read, option.as_bytes(), value.as_bytes())?;
         rest = more;
     }
-    if rest.is_empty() { Some(read) } else { None }
+    Some(read)
 }
 
-// These options with one more.
+// Whether the word is the option that stands alone.
+pub(crate) fn is_threads(word: &[u8]) -> bool
+    ensures { result ≡ is_threads word.now }
+{
+    word == b"--threads".as_slice()
+}
+
+// These options, in threads.
+fn with_threads(options: Options) -> Options
+    ensures { result ≡ with_threads options }
+{
+    Options {
+        threads: true,
+        ..options
+    }
+}
+
+// These options with one more that has a number.
 fn with_option(options: Options, option: &[u8], value: &[u8]) -> Option<Options>
     ensures { result ≡ with_option options option.now value.now }
 {
@@ -176,7 +202,14 @@ fn complaint(words: &[String]) -> &'static str
     ensures { result.now ≡ complaint (map string_bytes words.now) }
 {
     let mut rest = words;
-    while let [option, value, more @ ..] = rest {
+    while let [option, behind @ ..] = rest {
+        if is_threads(option.as_bytes()) {
+            rest = behind;
+            continue;
+        }
+        let [_, value, more @ ..] = rest else {
+            return NO_PAIR;
+        };
         let Some(_) = with_option(usual(), option.as_bytes(), value.as_bytes()) else {
             return limits_of(option.as_bytes());
         };
@@ -185,7 +218,7 @@ fn complaint(words: &[String]) -> &'static str
     NO_PAIR
 }
 
-const NO_PAIR: &str = "each option is followed by its number, as a word of its own";
+const NO_PAIR: &str = "each option but --threads is followed by its number, as a word of its own";
 
 // What an option is followed by.
 fn limits_of(option: &[u8]) -> &'static str

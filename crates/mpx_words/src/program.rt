@@ -1,11 +1,11 @@
 // The program's commands and options, as clap explains them.
-ghost use Rattle.std.specs.Prelude.{◌≡◌, [], IfOk, Some, codes, false, true};
+ghost use Rattle.std.specs.Prelude.{◌≡◌, [], ◌∷◌, IfOk, Some, codes, false, true};
 ghost use Rattle.clap.specs.Words.{app_of, new_rule, rule_of, shape_of};
 ghost use Rattle.clap.specs.declared.builder.command.Command.TheViews.{out-Command as fields_of};
 ghost use Rattle.clap.specs.Simple.{new_shape};
-ghost use Rattle.mpx_words.specs.Usage.{run, usage};
+ghost use Rattle.mpx_words.specs.Usage.{run, threads, usage};
 
-use clap::{Arg, Command};
+use clap::{Arg, ArgAction, Command};
 use std::alloc::{AllocError, Global};
 
 pub(crate) fn program<'a>(alloc: Global) -> Result<Command<'a>, AllocError>
@@ -54,19 +54,31 @@ fn run<'a>(alloc: Global) -> Result<Command<'a>, AllocError>
     ensures shape { IfOk result (λ c. shape_of c ≡ run) }
     ensures local { IfOk result (λ c. (fields_of c).has_globals ≡ false) }
 {
+    run_in_threads(alloc)?
+        .arg(option(alloc, "seed", SEED))?
+        .arg(option(alloc, "loss", LOSS))?
+        .arg(option(alloc, "relays", RELAYS))?
+        .arg(option(alloc, "turns", TURNS))
+}
+
+// `run` without the options that are followed by a number.
+fn run_in_threads<'a>(alloc: Global) -> Result<Command<'a>, AllocError>
+    ensures shape { IfOk result (λ c. shape_of c ≡ record (new_shape (codes "run")) { rules = threads ∷ [] }) }
+    ensures local { IfOk result (λ c. (fields_of c).has_globals ≡ false) }
+{
     bare(
         alloc,
         "run",
         "Run the script on the standard input (gossipmpi run < SCRIPT) and print what each rank gets",
     )
     .after_help(
-        "Each option is followed by its number as a word of its own: --seed 7, not --seed=7",
+        "Each option but --threads is followed by its number as a word of its own: --seed 7, not --seed=7",
     )
-    .arg(option(alloc, "seed", SEED))?
-    .arg(option(alloc, "loss", LOSS))?
-    .arg(option(alloc, "relays", RELAYS))?
-    .arg(option(alloc, "turns", TURNS))
+    .arg(flag(alloc, "threads", THREADS))
 }
+
+const THREADS: &str =
+    "Run each rank and relay on threads of its own, over one queue of frames; --seed and --loss are not used then";
 
 const SEED: &str =
     "What loss, order and receivers are drawn from, 0 to 18446744073709551615 [default: 1]";
@@ -83,6 +95,14 @@ fn bare<'a>(alloc: Global, name: &'a str, about: &'a str) -> Command<'a>
     ensures local { (fields_of result).has_globals ≡ false }
 {
     Command::new(alloc, name).about(about)
+}
+
+// An option that stands alone.
+fn flag<'a>(alloc: Global, name: &'a str, help: &'a str) -> Arg<'a>
+    ensures rule { rule_of result ≡ record (new_rule name.entry.now) { long = Some name.entry.now; action = Some ArgAction.SetTrue } }
+    ensures local { result.global ≡ false }
+{
+    option(alloc, name, help).action(ArgAction::SetTrue)
 }
 
 // An option that is followed by a value.

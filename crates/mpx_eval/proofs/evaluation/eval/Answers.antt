@@ -5,7 +5,8 @@ use Rattle.mpx_evaluation.specs.Reports.{transcripts_of, which}
 use Rattle.mpx_name.specs.Name.{Name}
 use Rattle.mpx_rank.specs.declared.rank.Rank.{Rank}
 use Rattle.mpx_eval.specs.declared.table.Table.{Table}
-use Rattle.mpx_eval.specs.Places.{CommunicatorView, TableRank}
+use Rattle.mpx_rank.specs.Places.{CommunicatorView}
+use Rattle.mpx_eval.specs.Places.{TableRank}
 use Rattle.mpx_eval.specs.Rounds.{AreIn, is_waiting_at}
 use Rattle.mpx_eval.specs.Carrying.{shown}
 use Rattle.mpx_eval.specs.Tables.{table_of}

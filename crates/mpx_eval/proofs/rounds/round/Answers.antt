@@ -31,3 +31,6 @@ pub returns-clause-goes : goal.returns-clause-goes
 returns-clause-goes c = λ script ranks s reached are.
     let x = c.loop-p.invariant.goes script ranks s reached are in
     (x.0, λ e p l. x.1 e p (omega (arith, l)))
+
+pub go_on-requires : goal.go_on-requires
+go_on-requires c = λ s d moved ran posting rest waits todo. tt

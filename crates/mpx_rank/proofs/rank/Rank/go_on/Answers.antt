@@ -27,3 +27,6 @@ returns g c =
       subst (λ (r : RankView g.row.C-Communicator.Denot). Ran terms old c.args.carrier.now r c.loop-moved.carrier c.loop-moved.moved) (sym stays.0) c.loop-moved.invariant,
       subst (λ (r : RankView g.row.C-Communicator.Denot). Still terms r c.loop-moved.carrier c.move_on.new.carrier) (sym stays.0) stays.1,
     )
+
+pub move_on-requires : goal.move_on-requires
+move_on-requires g c = c.requires (rank_of g.C.Carrier.place c.loop-moved.self) c.loop-moved.carrier c.loop-moved.moved c.loop-moved.invariant

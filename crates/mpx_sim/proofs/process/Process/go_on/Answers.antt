@@ -15,3 +15,6 @@ returns c =
     let mid = process_with rank (node_of desk.desk.host) in
     let kept = moves_keeps old mid (c.in_ok-harvest.ensures old refl) in
     on_if_ok c.go_on.result (λ moved goes. moves_then old mid _ kept (goes_is rank desk (rank_of call_of c.go_on.new.self) c.go_on.new.carrier moved goes)) c.go_on.ensures
+
+pub go_on-requires : goal.go_on-requires
+go_on-requires c = λ s d moved ran posting rest waits todo. tt

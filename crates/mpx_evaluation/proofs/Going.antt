@@ -1,0 +1,46 @@
+-- What a rank that goes its own way has in common with the evaluation.
+use Rattle.std.proofs.Common.{◌≡◌, ℕ, List, [], refl, ◌∙◌, inl}
+use Rattle.mpx_statement.specs.declared.statement.Statement.{Statement}
+use Rattle.mpx_value.specs.Histories.{Results}
+use Rattle.mpx_evaluation.specs.Ranks.{Local}
+use Rattle.mpx_evaluation.specs.Evaluation.{State, start, bound_at_start, known, statements_of, IsEvaluation, IsPrefixOf}
+use Rattle.mpx_evaluation.specs.Going.{Goes, stays, moves}
+use Rattle.mpx_evaluation.specs.Told.{CarriesOut, none}
+use Rattle.mpx_evaluation.proofs.Steps.{step-keeps}
+use Rattle.mpx_evaluation.proofs.Ways.{Way, way-adds, way-step}
+use Rattle.mpx_evaluation.proofs.Ahead.{finished, on_way-reached}
+use Rattle.mpx_evaluation.proofs.Tells.{AreThere, start-there, step-carries_out, step_there}
+
+-- some moves, and then others
+pub goes_then : (r : Results) (s t u : Local) → Goes r s t → Goes r t u → Goes r s u
+goes_then r s t u g stays = g
+goes_then r s t u g (moves {t = v} h e) = moves (goes_then r s t v g h) e
+
+-- who it is doesn't change
+pub goes-keeps : (r : Results) (s t : Local) → Goes r s t → t.me ≡ s.me
+goes-keeps r s t stays = refl
+goes-keeps r s t (moves {t = u} g e) = step-keeps r u t e ∙ goes-keeps r s u g
+
+module _ (script : List (List Statement)) (ranks : ℕ) (end : State) (e : IsEvaluation script ranks end) (p : ℕ) where
+  -- wherever it has come to, there is a way to where it ends
+  pub goes-way : (s : Local) → Goes (known ranks end p) (start script ranks p) s → Way (known ranks end p) s (end p)
+  goes-way s stays = (on_way-reached script ranks end (start script ranks) e (record { order = []; reached = refl })).each p
+  goes-way s (moves {t = t} g f) = way-step (known ranks end p) t s (end p) (goes-way t g) (e.maximal p) f
+
+  pub goes-adds : (s : Local) → Goes (known ranks end p) (start script ranks p) s → IsPrefixOf s.made (end p).made × IsPrefixOf s.lines (end p).lines
+  goes-adds s g = way-adds (known ranks end p) s (end p) (goes-way s g)
+
+  pub goes-whole : (s : Local) → Goes (known ranks end p) (start script ranks p) s → s.todo ≡ [] → s ≡ end p
+  goes-whole s g = finished (known ranks end p) s (end p) (goes-way s g)
+
+module _ (script : List (List Statement)) (ranks : ℕ) (end : State) (p : ℕ) where
+  pub goes-me : (s : Local) → Goes (known ranks end p) (start script ranks p) s → s.me ≡ p
+  goes-me s g = goes-keeps (known ranks end p) (start script ranks p) s g
+
+  pub goes-carries_out : (s : Local) → Goes (known ranks end p) (start script ranks p) s → CarriesOut (known ranks end p) (bound_at_start ranks) (statements_of script p) s
+  goes-carries_out s stays = inl (record { passed = []; left = statements_of script p; all = refl; todo = refl; passes = none })
+  goes-carries_out s (moves {t = t} g f) = step-carries_out (known ranks end p) (bound_at_start ranks) (statements_of script p) t s (goes-carries_out t g) f
+
+  pub goes-there : (s : Local) → Goes (known ranks end p) (start script ranks p) s → AreThere ranks end p s.bound
+  goes-there s stays = start-there ranks end p
+  goes-there s (moves {t = t} g f) = step_there ranks end p t (goes-there t g) s f

@@ -1,0 +1,36 @@
+-- Where a rank stands in its script, whose communicators are names and births.
+use Rattle.std.specs.Prelude.{◌≡◌, ℕ, List, map, Option, Some, None, Result, Err}
+use Rattle.std.specs.Option.{option_map}
+use Rattle.mpx_name.specs.Name.{Name}
+use Rattle.mpx_post.specs.declared.draft.PostError.{PostError}
+use Rattle.mpx_post.specs.declared.draft.PostError.TheVariants.{NotMember}
+use Rattle.mpx_post.specs.Births.{BirthView}
+use Rattle.mpx_value.specs.Histories.{Made}
+use Rattle.mpx_statement.specs.declared.statement.Posting.{Posting}
+use Rattle.mpx_statement.specs.Statements.{draft_of, gathers_of}
+use Rattle.mpx_statement.specs.Lookups.{named}
+use Rattle.mpx_evaluation.specs.Ranks.{Bound, Communicator, NullCommunicator, Local, attempt_in}
+use Rattle.mpx_evaluation.specs.Standing.{todo_of}
+use Rattle.mpx_evaluation.specs.Transcripts.{line_text}
+use Rattle.mpx_rank.specs.Moves.{RankView}
+
+-- a communicator: its name, and how it came to be
+abbrev pub CommunicatorView : Type 0
+CommunicatorView = Name × BirthView
+
+-- what a word is bound to: a communicator, or the null communicator
+abbrev pub bound_as : Option CommunicatorView → Bound
+bound_as None = NullCommunicator
+bound_as (Some c) = Communicator c.0 c.1
+
+-- what a statement that posts comes to on a communicator, where its word is bound to one
+abbrev pub attempt_by : (me : ℕ) → List Made → Posting → Option CommunicatorView → Result Made PostError
+attempt_by me made posting None = Err NotMember
+attempt_by me made posting (Some c) = attempt_in me made (draft_of posting) (gathers_of posting) c.0 c.1
+
+-- the rank stands there in its script
+pub record Stands (r : RankView CommunicatorView) (s : Local) : Type 0 where
+  pub bound : (word : List ℕ) → option_map bound_as (r.bound word) ≡ named s.bound word
+  pub requests : (word : List ℕ) → r.requests word ≡ named s.requests word
+  pub todo : s.todo ≡ todo_of r.waits r.todo
+  pub lines : r.lines ≡ map line_text s.lines

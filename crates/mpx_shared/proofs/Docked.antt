@@ -1,0 +1,211 @@
+-- Docked and moored ports.
+use Rattle.std.proofs.Common.{◌≡◌, ◌≢◌, ℕ, ◌+◌, List, [], ◌∷◌, ◌++◌, length, take, Some, Result, Ok, Err, true, slice_get, refl, sym, ap, ◌∙◌, subst, arith, length-append, ⊎_elim, append_assoc}
+use Rattle.std.specs.Prelude.{ℤ, IfOk, OnOk, OnErr}
+use Rattle.std.proofs.lemmas.List.{append-nil}
+use Rattle.join_core.specs.declared.memory.OutOfMemory.{OutOfMemory}
+use mathlib.Core.List.{IsPrefix}
+use Rattle.atomic_table.specs.Seated.{TableId}
+use Rattle.mpx_name.specs.Name.{Name}
+use Rattle.mpx_post.specs.Posts.{Given}
+use Rattle.mpx_post.specs.Births.{BirthView}
+use Rattle.mpx_post.specs.declared.draft.Draft.{Draft}
+use Rattle.mpx_post.specs.declared.draft.PostError.{PostError}
+use Rattle.mpx_post.specs.Drafts.{at, checked}
+use Rattle.mpx_board.specs.Boards.{told}
+use Rattle.mpx_board.specs.declared.board.Board.{Board}
+use Rattle.mpx_board.specs.declared.errors.PruneError.{PruneError}
+use Rattle.mpx_value.specs.Histories.{Made, birth_of, posts_on}
+use Rattle.mpx_node.specs.declared.finished.Finished.{Finished}
+use Rattle.mpx_node.specs.declared.node.Harvest.{Harvest}
+use Rattle.mpx_node.specs.declared.node.Harvest.TheVariants as H
+use Rattle.mpx_node.specs.Nodes.{NodeView, Posts, checked_on, posted_on, results_on}
+use Rattle.mpx_world.specs.Worlds.{ProcessView, makes}
+use Rattle.mpx_bus.specs.declared.act.Act.{Act}
+use Rattle.mpx_bus.specs.declared.act.Act.TheVariants as A
+use Rattle.mpx_bus.specs.declared.act.Setup.{Setup}
+use Rattle.mpx_bus.specs.Acts.{at_start, process_at}
+use Rattle.mpx_bus.specs.Rule.{IsPlanned, Stood, planned_posts, world_of}
+use Rattle.mpx_bus.specs.Berths.{Berth, GoesOn, HasListed, IsNew, IsSamePort, KeepsPlan, node_in, process_in}
+use Rattle.mpx_bus.specs.declared.port.Push.{Push}
+use Rattle.mpx_bus.specs.declared.port.Push.TheVariants as P
+use Rattle.mpx_bus.specs.declared.port.Pop.{Pop}
+use Rattle.mpx_bus.specs.declared.port.Pop.TheVariants as O
+use Rattle.mpx_bus.specs.Answers.{HarvestsOne, Lists, PopsOne, PushesLast, PushesNext, Stopped, WantsList}
+use Rattle.mpx_bus.proofs.Journals.{after-append}
+use Rattle.mpx_bus.proofs.Ports.{new_stood}
+use Rattle.mpx_bus.proofs.Goes.{NoPosts, goes_itself, goes_then, made_more, two_acts}
+use Rattle.mpx_shared.specs.Docks.{IsDocked, IsMoored, IsNext, MakesNoPost, made_in, next_call, plan_history}
+use Rattle.mpx_shared.specs.Laws.{IsBirth, IsFinished}
+use Rattle.mpx_shared.proofs.Plans.{plan_births, prefix_next, prefix_take, ranks_of}
+use Rattle.mpx_shared.proofs.Standing.{checked_parts, own_beside, stood_birth, stood_good, stood_value}
+
+-- NO POSTS
+
+pub no_post_itself : (a b : Berth) → b ≡ a → MakesNoPost a b
+no_post_itself a b e = record { goes = goes_itself a b e; made = ap made_in e }
+
+pub no_post_then : (a b c : Berth) → MakesNoPost a b → MakesNoPost b c → MakesNoPost a c
+no_post_then a b c g h = record { goes = goes_then a b c g.goes h.goes; made = h.made ∙ g.made }
+
+-- the same port has done these too
+made_same : (a b : Berth) → IsSamePort a b → (journal : List Act) → b.journal ≡ journal → process_in b ≡ process_at a.setup a.me journal
+made_same a b same journal is = λ i. process_at (same.setup i) (same.me i) (is i)
+
+pub no_post_by : (a b : Berth) (more : List Act) → GoesOn a b → b.journal ≡ a.journal ++ more → NoPosts more → MakesNoPost a b
+no_post_by a b more goes is none = record {
+  goes = goes;
+  made = ap (λ (v : ProcessView). v.made) (made_same a b goes.same (a.journal ++ more) is) ∙ made_more a.setup a.me a.journal more none;
+}
+
+pub no_post_harvest : (name : Name) (r : Result Harvest OutOfMemory) (a b : Berth) → GoesOn a b → HarvestsOne name r a b → MakesNoPost a b
+no_post_harvest name (Ok (H.Done call)) a b goes h = no_post_by a b (A.Harvested name ∷ []) goes h (tt, tt)
+no_post_harvest name (Ok H.NotYet) a b goes h = no_post_itself a b h
+no_post_harvest name (Ok H.NotOpened) a b goes h = no_post_itself a b h
+no_post_harvest name (Err e) a b goes h = no_post_itself a b h
+
+pub no_post_prune : (name : Name) (n : ℕ) (r : Result (Unit {0}) PruneError) (a b : Berth) → GoesOn a b → OnOk r (b.journal ≡ a.journal ++ A.Pruned name n ∷ []) → OnErr r (b ≡ a) → MakesNoPost a b
+no_post_prune name n (Ok u) a b goes ok err = no_post_by a b (A.Pruned name n ∷ []) goes ok (tt, tt)
+no_post_prune name n (Err e) a b goes ok err = no_post_itself a b err
+
+pub no_post_gather : (parent : Name) (tag : ℤ) (ranks : List ℤ) (r : Result Name PostError) (a b : Berth) → GoesOn a b → OnOk r (b.journal ≡ a.journal ++ A.Gathered parent tag ranks ∷ []) → OnErr r (b ≡ a) → MakesNoPost a b
+no_post_gather parent tag ranks (Ok name) a b goes ok err = no_post_by a b (A.Gathered parent tag ranks ∷ []) goes ok (tt, tt)
+no_post_gather parent tag ranks (Err e) a b goes ok err = no_post_itself a b err
+
+pub no_post_pop : (pop : Pop) (a b : Berth) → GoesOn a b → PopsOne pop a b → MakesNoPost a b
+no_post_pop (O.Took frame) a b goes p = no_post_by a b (A.Popped frame ∷ A.Took frame ∷ []) goes (two_acts a.journal b.journal (A.Popped frame) (A.Took frame) p) (tt, (tt, tt))
+no_post_pop O.Empty a b goes p = no_post_itself a b p
+no_post_pop (O.OutOfMemory frame) a b goes p =
+    ⊎_elim
+    (λ (e : b.journal ≡ a.journal ++ A.Popped frame ∷ []). no_post_by a b (A.Popped frame ∷ []) goes e (tt, tt))
+    (λ (e : Stopped frame a b). no_post_by a b (A.Popped frame ∷ A.StoppedTaking frame e.left ∷ []) goes (two_acts a.journal b.journal (A.Popped frame) (A.StoppedTaking frame e.left) e.journal) (tt, (tt, tt)))
+    p
+
+-- a list that is there, or a new one
+listed_by : (a mid : Berth) → Lists a mid → (more : List Act) × (NoPosts more × (mid.journal ≡ a.journal ++ more))
+listed_by a mid l =
+    ⊎_elim
+    (λ (e : (a.kept ≢ []) × (mid ≡ a)). ([], (tt, ap (λ (x : Berth). x.journal) e.1 ∙ sym (append-nil a.journal))))
+    (λ (e : (a.kept ≡ []) × HasListed a mid). (A.Acknowledged e.1.said ∷ [], ((tt, tt), e.1.journal)))
+    l
+
+no_posts_both : (early late : List Act) → NoPosts early → NoPosts late → NoPosts (early ++ late)
+no_posts_both [] late m n = n
+no_posts_both (a ∷ early) late m n = (m.0, no_posts_both early late m.1 n)
+
+no_post_last : (bytes : List ℕ) (push : Push) (a mid b : Berth) (more : List Act) → GoesOn a b → NoPosts more → mid.journal ≡ a.journal ++ more → PushesLast bytes push mid b → MakesNoPost a b
+no_post_last bytes P.Pushed a mid b more goes none is p =
+    no_post_by a b (more ++ A.Pushed bytes ∷ []) goes (p ∙ ap (λ (j : List Act). j ++ A.Pushed bytes ∷ []) is ∙ append_assoc a.journal more (A.Pushed bytes ∷ [])) (no_posts_both more (A.Pushed bytes ∷ []) none (tt, tt))
+no_post_last bytes (P.Full frame) a mid b more goes none is p = no_post_by a b more goes (p.1.0 ∙ is) none
+
+pub no_post_put : (r : Result Push OutOfMemory) (a b : Berth) → GoesOn a b → IfOk r (λ push. PushesNext push a b) → OnErr r (WantsList a b) → MakesNoPost a b
+no_post_put (Ok push) a b goes next err =
+    let l = listed_by a next.listed next.lists in
+    no_post_last next.bytes push a next.listed b l.0 goes l.1.0 l.1.1 next.pushes
+no_post_put (Err e) a b goes next err =
+    ⊎_elim
+    (λ (same : b ≡ a). no_post_itself a b same)
+    (λ (w : (said : Board) × ((b.journal ≡ a.journal ++ A.Acknowledged said ∷ []) × (b.kept ≡ []))). no_post_by a b (A.Acknowledged w.0 ∷ []) goes w.1.0 (tt, tt))
+    err
+
+-- MOORED PORTS
+
+pub moored_later : (table : TableId) (setup : Setup) (me before total : ℕ) (a b : Berth) → IsMoored table setup me before a total → MakesNoPost a b → IsMoored table setup me before b total
+moored_later table setup me before total a b m n = record {
+  table_is = n.goes.same.table ∙ m.table_is;
+  setup_is = n.goes.same.setup ∙ m.setup_is;
+  me_is = n.goes.same.me ∙ m.me_is;
+  planned = n.goes.plan m.planned;
+  counted = ap length n.made ∙ m.counted;
+}
+
+pub docked_of : (table : TableId) (setup : Setup) (me before total : ℕ) (b : Berth) → IsMoored table setup me before b total → (KeepsPlan b → Stood b.setup b.me b.journal) → IsDocked table setup me b
+docked_of table setup me before total b m stood = record { table_is = m.table_is; setup_is = m.setup_is; me_is = m.me_is; planned = m.planned; stood = stood m.planned }
+
+-- the node of a moored port is that of its process
+pub moored_me : (table : TableId) (setup : Setup) (me before total : ℕ) (b : Berth) → IsMoored table setup me before b total → (KeepsPlan b → Stood b.setup b.me b.journal) → (node_in b).me ≡ me
+moored_me table setup me before total b m stood = (stood_good b.setup b.me b.journal (stood m.planned)).me_is ∙ m.me_is
+
+-- a post that is made, by the call of its ticket
+pub posts_as : (name : Name) (r : Result Given PostError) (given : Given) (call call' : ℕ) (old new : NodeView) → r ≡ Ok given → Posts name r (Ok call) old new → call' ≡ posted_on old name → Posts name r (Ok call') old new
+posts_as name (Ok x) given call call' old new e p is = (is, p.1)
+posts_as name (Err x) given call call' old new e p is = absurd (cc e)
+
+pub moored_of : (table : TableId) (setup : Setup) (me before total : ℕ) (b : Berth) → IsDocked table setup me b → length (made_in b) ≡ before → total ≡ 0 → IsMoored table setup me before b total
+moored_of table setup me before total b d counted none = record { table_is = d.table_is; setup_is = d.setup_is; me_is = d.me_is; planned = d.planned; counted = omega (arith, counted, none) }
+
+-- A POST
+
+made_posted : (setup : Setup) (me : ℕ) (journal : List Act) (name : Name) (draft : Draft) (given : Given) → checked_on (process_at setup me journal).node name draft ≡ Ok given
+    → (process_at setup me (journal ++ A.Posted name draft ∷ [])).made ≡ (process_at setup me journal).made ++ record { name = name; given = given } ∷ []
+made_posted setup me journal name draft given is =
+    ap (λ (v : ProcessView). v.made) (after-append journal (A.Posted name draft ∷ []) (at_start setup me))
+    ∙ ap (λ r. (makes name r (process_at setup me journal)).made) is
+
+-- the post that a draft comes to is the next of the plan
+next_made : (setup : Setup) (me : ℕ) (journal : List Act) (count : ℕ) (name : Name) (draft : Draft) (given : Given) → Stood setup me journal → IsPlanned setup me journal → length (process_at setup me journal).made ≡ count
+    → IsNext setup me count name draft → checked_on (process_at setup me journal).node name draft ≡ Ok given → setup.planned ≡ true
+    → slice_get (planned_posts setup me) count ≡ Some (record { name = name; given = given })
+next_made setup me journal count name draft given s plan counted next is planned =
+    let v = process_at setup me journal in
+    let good = stood_good setup me journal s in
+    let parts = checked_parts (v.node.opened name) (told (v.node.board.contexts name).birth) v.node.me name draft given is in
+    let born : birth_of (plan_history setup) setup.ranks name ≡ Some parts.birth = plan_births setup (world_of setup s.happenings) planned s.planned (ranks_of setup s.happenings) name parts.birth (stood_birth setup me journal s name parts.birth parts.born) in
+    let first : v.made ≡ take count (planned_posts setup me) = prefix_take v.made (planned_posts setup me) (plan planned) ∙ ap (λ n. take n (planned_posts setup me)) counted in
+    let call : posted_on v.node name ≡ next_call setup me count name = good.counted name ∙ ap (λ ms. length (posts_on name ms)) first in
+    next planned parts.birth given born (subst (λ (x : ℕ × ℕ). checked parts.birth x.0 (at name x.1) draft ≡ Ok given) (λ i. (good.me_is i, call i)) parts.checks)
+
+planned_more : (setup : Setup) (me : ℕ) (journal : List Act) (name : Name) (draft : Draft) (given : Given) → checked_on (process_at setup me journal).node name draft ≡ Ok given → IsPlanned setup me journal
+    → (setup.planned ≡ true → slice_get (planned_posts setup me) (length (process_at setup me journal).made) ≡ Some (record { name = name; given = given })) → IsPlanned setup me (journal ++ A.Posted name draft ∷ [])
+planned_more setup me journal name draft given is plan next planned =
+    let v = process_at setup me journal in
+    subst (λ (ms : List Made). IsPrefix ms (planned_posts setup me)) (sym (made_posted setup me journal name draft given is)) (prefix_next v.made (planned_posts setup me) (record { name = name; given = given }) (plan planned) (next planned))
+
+-- a moored port that makes its next post
+pub moored_posts : (table : TableId) (setup : Setup) (me before total amount : ℕ) (name : Name) (draft : Draft) (given : Given) (a b : Berth) (total' : ℕ) → IsMoored table setup me before a total → (KeepsPlan a → Stood a.setup a.me a.journal)
+    → amount ≡ total → total' ≡ total + 1 → IsNext setup me (before + amount) name draft → checked_on (node_in a) name draft ≡ Ok given
+    → IsSamePort a b → b.journal ≡ a.journal ++ A.Posted name draft ∷ [] → IsMoored table setup me before b total'
+moored_posts table setup me before total amount name draft given a b total' m stood whole more next is same grows =
+    let count : length (made_in a) ≡ before + amount = omega (arith, m.counted, whole) in
+    let next' : IsNext a.setup a.me (length (made_in a)) name draft = subst (λ (x : Setup × (ℕ × ℕ)). IsNext x.0 x.1.0 x.1.1 name draft) (λ i. (sym m.setup_is i, (sym m.me_is i, sym count i))) next in
+    let plan : IsPlanned a.setup a.me (a.journal ++ A.Posted name draft ∷ []) =
+    planned_more a.setup a.me a.journal name draft given is m.planned (next_made a.setup a.me a.journal (length (made_in a)) name draft given (stood m.planned) m.planned refl next' is) in
+    record {
+      table_is = same.table ∙ m.table_is;
+      setup_is = same.setup ∙ m.setup_is;
+      me_is = same.me ∙ m.me_is;
+      planned = subst (λ (x : Setup × (ℕ × List Act)). IsPlanned x.0 x.1.0 x.1.1) (λ i. (sym same.setup i, (sym same.me i, sym grows i))) plan;
+      counted = ap (λ (v : ProcessView). length v.made) (made_same a b same (a.journal ++ A.Posted name draft ∷ []) grows)
+          ∙ ap length (made_posted a.setup a.me a.journal name draft given is)
+          ∙ (let l = length-append (made_in a) (record { name = name; given = given } ∷ []) in omega (arith, l, m.counted, more));
+    }
+
+-- DOCKED PORTS
+
+pub docked_result : (table : TableId) (setup : Setup) (me : ℕ) (port : Berth) (name : Name) (call : ℕ) (f : Finished) → IsDocked table setup me port → slice_get (results_on (node_in port) name) call ≡ Some f → IsFinished setup me name call f
+docked_result table setup me port name call f d e =
+    subst (λ (x : Setup × ℕ). IsFinished x.0 x.1 name call f) (λ i. (d.setup_is i, d.me_is i))
+    (record { happenings = d.stood.happenings; may = d.stood.may; begins = d.stood.planned; value = stood_value port.setup port.me port.journal d.stood name call f e })
+
+pub docked_mine : (table : TableId) (setup : Setup) (me : ℕ) (port : Berth) (name : Name) (call : ℕ) (f : Finished) → IsDocked table setup me port → slice_get (results_on (node_in port) name) call ≡ Some f → slice_get (posts_on name (made_in port)) call ≡ Some f.mine
+docked_mine table setup me port name call f d e = own_beside port.setup port.me port.journal d.stood name call f e
+
+pub docked_birth : (table : TableId) (setup : Setup) (me : ℕ) (port : Berth) (name : Name) (birth : BirthView) → IsDocked table setup me port → told ((node_in port).board.contexts name).birth ≡ Some birth → IsBirth setup name birth
+docked_birth table setup me port name birth d e =
+    subst (λ (x : Setup). IsBirth x name birth) d.setup_is
+    (record { happenings = d.stood.happenings; may = d.stood.may; begins = d.stood.planned; born = stood_birth port.setup port.me port.journal d.stood name birth e })
+
+pub docked_posts : (table : TableId) (setup : Setup) (me : ℕ) (port : Berth) → setup.planned ≡ true → IsDocked table setup me port → made_in port ≡ take (length (made_in port)) (planned_posts setup me)
+docked_posts table setup me port planned d =
+    prefix_take (made_in port) (planned_posts port.setup port.me) (d.planned (ap (λ (x : Setup). x.planned) d.setup_is ∙ planned))
+    ∙ (λ i. take (length (made_in port)) (planned_posts (d.setup_is i) (d.me_is i)))
+
+new_as : (b : Berth) → b.journal ≡ [] → KeepsPlan b × (Stood b.setup b.me b.journal × (made_in b ≡ []))
+new_as b is =
+    subst (λ (j : List Act). IsPlanned b.setup b.me j × (Stood b.setup b.me j × ((process_at b.setup b.me j).made ≡ []))) (sym is)
+    ((λ planned. (planned_posts b.setup b.me, refl)), (new_stood b.setup b.me, refl))
+
+pub new_docked : (setup : Setup) (table : TableId) (me : ℕ) (port : Berth) → IsNew setup table me port → IsDocked table setup me port
+new_docked setup table me port n = let x = new_as port n.journal_is in record { table_is = n.table_is; setup_is = n.setup_is; me_is = n.me_is; planned = x.0; stood = x.1.0 }
+
+pub new_none : (setup : Setup) (table : TableId) (me : ℕ) (port : Berth) → IsNew setup table me port → length (made_in port) ≡ 0
+new_none setup table me port n = ap length (new_as port n.journal_is).1.1

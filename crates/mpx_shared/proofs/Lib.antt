@@ -1,0 +1,4 @@
+pub mod Plans
+pub mod Standing
+pub mod Docked
+pub mod Answering

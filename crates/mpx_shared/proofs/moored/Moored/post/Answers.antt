@@ -1,0 +1,30 @@
+use Rattle.std.proofs.Common.{◌+◌, ◌∙◌, sym, ap, arith}
+use Rattle.mpx_node.specs.Nodes.{NodeView, checked_on, posted_on}
+use Rattle.mpx_shared.proofs.Docked.{docked_of, moored_me, moored_posts, posts_as}
+use Rattle.mpx_shared.proofs.moored.Moored.post.Goals as goal
+
+pub ticket_for-requires : goal.ticket_for-requires
+ticket_for-requires g c = c.self.invariant.0 ∙ sym (moored_me g.L.Dock.table g.L.Dock.setup g.L.Dock.me g.L.Dock.before c.self.inside.book.total c.self.inside.port c.self.invariant.1 c.node.ensures.stood) ∙ ap (λ (n : NodeView). n.me) (sym c.node.ensures.node)
+
+pub invariant_of-self-2 : goal.invariant_of-self-2
+invariant_of-self-2 g c = (
+  c.self.invariant.0,
+  moored_posts g.L.Dock.table g.L.Dock.setup g.L.Dock.me g.L.Dock.before c.self.inside.book.total c.args.share.now.amount c.args.name.now c.args.draft c.in_ok-ticket.ticket.post c.self.inside.port c.post.new.self c.add.new.self.total c.self.invariant.1 c.node.ensures.stood
+      (c.audit.ensures.whole c.requires.whole.0) (c.add.ensures.total ∙ ap (λ n. n + 1) c.audit.ensures.total) c.requires.next
+      (ap (λ (n : NodeView). checked_on n c.args.name.now c.args.draft) (sym c.node.ensures.node) ∙ c.in_ok-ticket.ensures.ok.1.1) c.in_ok-_call.ensures.port.same c.in_ok-_call.ensures.ok,
+)
+
+pub returns-clause-then : goal.returns-clause-then
+returns-clause-then g c =
+    let checks = ap (λ (n : NodeView). checked_on n c.args.name.now c.args.draft) (sym c.node.ensures.node) ∙ c.in_ok-ticket.ensures.ok.1.1 in
+    let same = c.audit.ensures.whole c.requires.whole.0 in
+    let counted = c.self.invariant.1.counted in
+    record {
+      before = c.self.inside.port;
+      after = c.post.new.self;
+      docked_before = docked_of g.L.Dock.table g.L.Dock.setup g.L.Dock.me g.L.Dock.before c.self.inside.book.total c.self.inside.port c.self.invariant.1 c.node.ensures.stood;
+      docked_after = docked_of g.L.Dock.table g.L.Dock.setup g.L.Dock.me g.L.Dock.before c.add.new.self.total c.post.new.self (invariant_of-self-2 g c).1 c.node-node.ensures.stood;
+      counted = omega (arith, counted, same);
+      posts = posts_as c.args.name.now _ c.in_ok-ticket.ticket.post _ c.in_ok-ticket.ticket.call _ _ checks c.in_ok-_call.ensures.node (c.in_ok-ticket.ensures.ok.1.0 ∙ ap (λ (n : NodeView). posted_on n c.args.name.now) c.node.ensures.node);
+      ticket = (c.in_ok-ticket.ensures.ok.0, checks);
+    }

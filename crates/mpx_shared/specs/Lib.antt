@@ -1,0 +1,4 @@
+pub mod Docks
+pub mod Tickets
+pub mod Gossip
+pub mod Laws

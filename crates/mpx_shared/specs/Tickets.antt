@@ -1,0 +1,67 @@
+-- What the calls of a shared port tell of the port under its lock, at a moment of the call.
+use Rattle.std.specs.Prelude.{◌≡◌, ◌≢◌, ℕ, ℤ, List, length, Option, None, Some, Result, Ok, Err, IfOk, slice_get}
+use Rattle.atomic_table.specs.Seated.{TableId}
+use Rattle.mpx_name.specs.Name.{Name}
+use Rattle.mpx_post.specs.Posts.{Given}
+use Rattle.mpx_post.specs.Births.{BirthView}
+use Rattle.mpx_post.specs.declared.draft.Draft.{Draft}
+use Rattle.mpx_post.specs.declared.draft.PostError.{PostError}
+use Rattle.mpx_board.specs.Boards.{told}
+use Rattle.mpx_value.specs.Histories.{posts_on}
+use Rattle.mpx_node.specs.Nodes.{Opens, Posts, checked_on, gathers_on, results_on}
+use Rattle.mpx_bus.specs.declared.act.Setup.{Setup}
+use Rattle.mpx_bus.specs.Berths.{Berth, node_in}
+use Rattle.mpx_shared.specs.declared.ticket.Ticket.{Ticket}
+use Rattle.mpx_shared.specs.declared.ticket.Tested.{Tested}
+use Rattle.mpx_shared.specs.declared.ticket.Tested.TheVariants as T
+use Rattle.mpx_shared.specs.Docks.{IsDocked, made_in}
+
+-- the number of the ticket's call, or the refusal
+abbrev pub call_of : Result Ticket PostError → Result ℕ PostError
+call_of (Ok ticket) = Ok ticket.call
+call_of (Err refusal) = Err refusal
+
+-- the ticket has this name, and the post that the draft comes to
+abbrev pub IsTicketOf : Name → Result Given PostError → Result Ticket PostError → Type 0
+IsTicketOf name checked result = IfOk result (λ ticket. (ticket.name ≡ name) × (checked ≡ Ok ticket.post))
+
+-- the port had made so many posts, and then made this one, or refused it
+pub record PostsThen (table : TableId) (setup : Setup) (me count : ℕ) (name : Name) (draft : Draft) (result : Result Ticket PostError) : Type 0 where
+  pub before : Berth
+  pub after : Berth
+  pub docked_before : IsDocked table setup me before
+  pub docked_after : IsDocked table setup me after
+  pub counted : length (made_in before) ≡ count
+  pub posts : Posts name (checked_on (node_in before) name draft) (call_of result) (node_in before) (node_in after)
+  pub ticket : IsTicketOf name (checked_on (node_in before) name draft) result
+
+-- the post that the port made as the ticket's call, where it did
+abbrev pub own_post : Berth → Ticket → Option Given
+own_post port ticket = slice_get (posts_on ticket.name (made_in port)) ticket.call
+
+-- the stored result of the ticket's call, beside the ticket's post; or the ticket's post is made and has no result yet; or the
+-- port has made another post there, or none
+abbrev pub IsAnswer : Berth → Ticket → Tested → Type 0
+IsAnswer port ticket (T.Done finished) = (slice_get (results_on (node_in port) ticket.name) ticket.call ≡ Some finished) × (finished.mine ≡ ticket.post)
+IsAnswer port ticket T.NotYet = (own_post port ticket ≡ Some ticket.post) × (slice_get (results_on (node_in port) ticket.name) ticket.call ≡ None)
+IsAnswer port ticket T.Strange = own_post port ticket ≢ Some ticket.post
+
+-- the port answered the ticket so
+pub record Answers (table : TableId) (setup : Setup) (me : ℕ) (ticket : Ticket) (tested : Tested) : Type 0 where
+  pub port : Berth
+  pub docked : IsDocked table setup me port
+  pub answer : IsAnswer port ticket tested
+
+-- the port opened the gathering, or refused it
+pub record OpensThen (table : TableId) (setup : Setup) (me : ℕ) (parent : Name) (tag : ℤ) (ranks : List ℤ) (result : Result Name PostError) : Type 0 where
+  pub before : Berth
+  pub after : Berth
+  pub docked_before : IsDocked table setup me before
+  pub docked_after : IsDocked table setup me after
+  pub opens : Opens parent (gathers_on (node_in before) parent tag ranks) result (node_in before) (node_in after)
+
+-- the port's board told how the communicator came to be, or didn't
+pub record TellsBirth (table : TableId) (setup : Setup) (me : ℕ) (name : Name) (birth : Option BirthView) : Type 0 where
+  pub port : Berth
+  pub docked : IsDocked table setup me port
+  pub told : told ((node_in port).board.contexts name).birth ≡ birth

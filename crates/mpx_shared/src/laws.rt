@@ -1,0 +1,37 @@
+//! What is so of all that docked ports hold, as calls that a contract can name: they do nothing.
+ghost use Rattle.std.specs.Prelude.{◌≡◌, ℕ, length, take, true, Some, slice_get};
+ghost use Rattle.atomic_table.specs.Seated.{TableId};
+ghost use Rattle.mpx_name.specs.Name.{Name};
+ghost use Rattle.mpx_post.specs.Births.{BirthView};
+ghost use Rattle.mpx_board.specs.Boards.{told};
+ghost use Rattle.mpx_value.specs.Histories.{birth_of, posts_on};
+ghost use Rattle.mpx_node.specs.declared.finished.Finished.{Finished};
+ghost use Rattle.mpx_node.specs.Nodes.{results_on};
+ghost use Rattle.mpx_bus.specs.declared.act.Setup.{Setup};
+ghost use Rattle.mpx_bus.specs.Rule.{planned_posts};
+ghost use Rattle.mpx_bus.specs.Berths.{Berth, IsNew, node_in};
+ghost use Rattle.mpx_shared.specs.Docks.{IsDocked, made_in, plan_history};
+ghost use Rattle.mpx_shared.specs.Laws.{IsBirth, IsFinished, IsPlannedResult};
+
+/// Each result that a docked port holds is the value of a row, beside the port's own post, and each birth on its board is one, in a
+/// history that can happen. Where there is a plan, the posts are the first of the plan, and the results and births are the plan's.
+pub fn docked_ports_hold_what_is_so()
+    ensures results { (table : TableId) (setup : Setup) (me : ℕ) (port : Berth) (name : Name) (call : ℕ) (f : Finished) → IsDocked table setup me port
+        → slice_get (results_on (node_in port) name) call ≡ Some f → IsFinished setup me name call f }
+    ensures mine { (table : TableId) (setup : Setup) (me : ℕ) (port : Berth) (name : Name) (call : ℕ) (f : Finished) → IsDocked table setup me port
+        → slice_get (results_on (node_in port) name) call ≡ Some f → slice_get (posts_on name (made_in port)) call ≡ Some f.mine }
+    ensures planned_results { (setup : Setup) (me : ℕ) (name : Name) (call : ℕ) (f : Finished) → setup.planned ≡ true
+        → IsFinished setup me name call f → IsPlannedResult setup me name call f }
+    ensures births { (table : TableId) (setup : Setup) (me : ℕ) (port : Berth) (name : Name) (birth : BirthView) → IsDocked table setup me port
+        → told ((node_in port).board.contexts name).birth ≡ Some birth → IsBirth setup name birth }
+    ensures planned_births { (setup : Setup) (name : Name) (birth : BirthView) → setup.planned ≡ true
+        → IsBirth setup name birth → birth_of (plan_history setup) setup.ranks name ≡ Some birth }
+    ensures planned_posts { (table : TableId) (setup : Setup) (me : ℕ) (port : Berth) → setup.planned ≡ true → IsDocked table setup me port
+        → made_in port ≡ take (length (made_in port)) (planned_posts setup me) }
+{}
+
+/// A new port of a bus is docked, and has made no post.
+pub fn new_ports_are_docked()
+    ensures docked { (setup : Setup) (table : TableId) (me : ℕ) (port : Berth) → IsNew setup table me port → IsDocked table setup me port }
+    ensures none { (setup : Setup) (table : TableId) (me : ℕ) (port : Berth) → IsNew setup table me port → length (made_in port) ≡ 0 }
+{}

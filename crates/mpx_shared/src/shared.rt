@@ -1,0 +1,150 @@
+// A port that threads share.
+ghost use Rattle.std.specs.Prelude.{◌≡◌, ◌+◌, ◌<◌, length, IfOk, OnOk, OnErr};
+ghost use Rattle.mpx_bus.specs.Buses.{table_of};
+ghost use Rattle.mpx_shared.specs.Docks.{IsDocked, IsNext, made_in};
+ghost use Rattle.mpx_shared.specs.Tickets.{Answers, OpensThen, PostsThen, TellsBirth};
+
+use crate::dock::Dock;
+use crate::moored::Moored;
+use crate::ticket::{Pull, Tested, Ticket};
+use join_core::OutOfMemory;
+use mpx_bus::{Bus, Port, Push};
+use mpx_group::Proc;
+use mpx_name::Name;
+use mpx_post::{Birth, Draft, PostError};
+use std::alloc::Global;
+use std::sync::ledger::{Blank, Share};
+use std::sync::{Mutex, Wait};
+
+/// A port under a lock. Each call takes the lock once, so that it speaks of the port at one moment.
+#[derive(Drop)]
+pub struct SharedPort<L: Dock> {
+    moored: Mutex<Moored<L>>,
+}
+
+/// The only share of a shared port's ledger: who has it knows how many posts the port has made since it was put under the lock, and
+/// nobody else posts.
+#[derive(Drop)]
+pub struct Poster<L: Dock> {
+    pub(crate) share: Share<L>,
+    ghost whole: { share.parts ≡ L.all },
+}
+
+impl<L: Dock> SharedPort<L> {
+    /// Puts the port of this process under a lock. It takes no memory.
+    pub fn new(alloc: Global, port: Port, me: Proc, blank: Blank) -> (SharedPort<L>, Poster<L>)
+        requires ledger { (blank.name ≡ L.name) × ((blank.parts ≡ L.parts) × (L.all ≡ L.parts)) }
+        requires port { IsDocked L.table L.setup L.me port }
+        requires me { me ≡ L.me }
+        requires count { length (made_in port) ≡ L.before }
+        ensures { result.1.share.amount ≡ 0 }
+    {
+        let (book, share) = blank.open::<L>();
+        let moored = Mutex::new(Moored::new(alloc, port, me, book));
+        (SharedPort { moored }, Poster { share })
+    }
+
+    /// Makes the next post on a context, as [`Port::post`] does, and gives its ticket. An `Err` leaves all as before.
+    pub fn post<R: Wait>(
+        &self,
+        rt: &R,
+        alloc: Global,
+        poster: &mut Poster<L>,
+        name: &Name,
+        draft: Draft,
+    ) -> Result<Ticket, PostError>
+        requires ledger { (L.all ≡ L.parts) × (0 < L.parts) }
+        requires next { IsNext L.setup L.me (L.before + poster.old.share.amount) name.now draft }
+        ensures ok { OnOk result (poster.new.share.amount ≡ poster.old.share.amount + 1) }
+        ensures err { OnErr result (poster.new.share.amount ≡ poster.old.share.amount) }
+        ensures then { PostsThen L.table L.setup L.me (L.before + poster.old.share.amount) name.now draft result }
+    {
+        self.moored
+            .lock(rt)
+            .post(alloc, &mut poster.share, name, draft)
+    }
+
+    /// What the port answers a ticket.
+    pub fn test<R: Wait>(
+        &self,
+        rt: &R,
+        alloc: Global,
+        ticket: &Ticket,
+    ) -> Result<Tested, OutOfMemory>
+        ensures { IfOk result (λ tested. Answers L.table L.setup L.me ticket.now tested) }
+    {
+        self.moored.lock(rt).test(alloc, ticket)
+    }
+
+    /// Opens a gathering, as [`Port::open_gathering`] does. An `Err` leaves all as before.
+    pub fn open_gathering<R: Wait>(
+        &self,
+        rt: &R,
+        alloc: Global,
+        parent: &Name,
+        tag: i128,
+        ranks: &[i128],
+    ) -> Result<Name, PostError>
+        ensures { OpensThen L.table L.setup L.me parent.now tag ranks.now result }
+    {
+        self.moored
+            .lock(rt)
+            .open_gathering(alloc, parent, tag, ranks)
+    }
+
+    /// How a communicator came to be, where the port's board tells it.
+    pub fn birth<R: Wait>(
+        &self,
+        rt: &R,
+        alloc: Global,
+        name: &Name,
+    ) -> Result<Option<Birth>, OutOfMemory>
+        ensures { IfOk result (λ birth. TellsBirth L.table L.setup L.me name.now birth) }
+    {
+        self.moored.lock(rt).birth(alloc, name)
+    }
+
+    /// Pops a frame and takes in its part; then stores the results that can be had, and drops what every member has harvested.
+    pub fn pull<R: Wait>(&self, rt: &R, alloc: Global, bus: &Bus) -> Pull
+        requires queue { table_of bus.now ≡ L.table }
+    {
+        self.moored.lock(rt).pull(rt, alloc, bus)
+    }
+
+    /// Pushes the next frame of what others may lack.
+    pub fn put<R: Wait>(&self, rt: &R, alloc: Global, bus: &Bus) -> Result<Push, OutOfMemory>
+        requires queue { table_of bus.now ≡ L.table }
+    {
+        self.moored.lock(rt).put(rt, alloc, bus)
+    }
+
+    /// So many times a pull and a put. It ends at the first want of memory.
+    pub fn gossip<R: Wait>(
+        &self,
+        rt: &R,
+        alloc: Global,
+        bus: &Bus,
+        turns: u32,
+    ) -> Result<(), OutOfMemory>
+        requires queue { table_of bus.now ≡ L.table }
+    {
+        for _ in 0..turns {
+            if let Pull::OutOfMemory(_) = self.pull(rt, alloc, bus) {
+                return Err(OutOfMemory);
+            }
+            let _ = self.put(rt, alloc, bus)?;
+        }
+        Ok(())
+    }
+
+    /// The port. It has made as many posts as the poster says.
+    pub fn into_port(self, poster: Poster<L>) -> Port
+        requires ledger { L.all ≡ L.parts }
+        ensures docked { IsDocked L.table L.setup L.me result }
+        ensures posts { length (made_in result) ≡ L.before + poster.share.amount }
+    {
+        let SharedPort { moored } = self;
+        let Poster { mut share } = poster;
+        moored.into_inner().open(&mut share)
+    }
+}

@@ -1,0 +1,44 @@
+-- What a shared port answers a ticket, by the plan.
+use Rattle.std.proofs.Common.{◌≡◌, ℕ, List, true, Option, Some, None, refl, sym, ap, ◌∙◌, subst}
+use Rattle.std.specs.Prelude.{slice_get}
+use Rattle.atomic_table.specs.Seated.{TableId}
+use Rattle.mpx_name.specs.Name.{Name}
+use Rattle.mpx_post.specs.Births.{BirthView}
+use Rattle.mpx_value.specs.declared.outcomes.Outcome.{Outcome}
+use Rattle.mpx_value.specs.declared.outcomes.Outcome.TheVariants.{NewComm}
+use Rattle.mpx_value.specs.Histories.{Answer, answer_with, born_by}
+use Rattle.mpx_node.specs.declared.finished.Finished.{Finished}
+use Rattle.mpx_bus.specs.declared.act.Setup.{Setup}
+use Rattle.mpx_shared.specs.declared.ticket.Ticket.{Ticket}
+use Rattle.mpx_shared.specs.declared.ticket.Tested.{Tested}
+use Rattle.mpx_shared.specs.declared.ticket.Tested.TheVariants.{Done}
+use Rattle.mpx_shared.specs.Laws.{IsPlannedResult}
+use Rattle.mpx_shared.specs.Tickets.{Answers, TellsBirth}
+use Rattle.mpx_shared.proofs.Docked.{docked_birth, docked_result}
+use Rattle.mpx_shared.proofs.Plans as P
+use Rattle.mpx_threads.specs.declared.told.Answered.{Answered}
+use Rattle.mpx_threads.specs.Plans.{planned_results}
+use Rattle.mpx_threads.specs.Told.{answer_of, planned_birth}
+
+module _ (table : TableId) (setup : Setup) (me : ℕ) (planned : setup.planned ≡ true) where
+  -- a result is the plan's
+  pub done_so : (ticket : Ticket) (tested : Tested) (f : Finished) → Answers table setup me ticket tested → tested ≡ Done f → IsPlannedResult setup me ticket.name ticket.call f
+  done_so ticket tested f answers e =
+      let a = subst (Answers table setup me ticket) e answers in
+      P.planned_result setup me ticket.name ticket.call f planned (docked_result table setup me a.port ticket.name ticket.call f a.docked a.answer.0)
+
+  -- and so is a birth
+  pub born_so : (name : Name) (birth : BirthView) → TellsBirth table setup me name (Some birth) → planned_birth setup name ≡ Some birth
+  born_so name birth tells = P.planned_birth setup name birth planned (docked_birth table setup me tells.port name birth tells.docked tells.told)
+
+-- an answer with a result's outcome is the plan's
+pub answer_so : (setup : Setup) (me : ℕ) (name : Name) (call : ℕ) (f : Finished) (answer : Answer) → IsPlannedResult setup me name call f → answer ≡ answer_with (planned_birth setup) f.outcome → planned_results setup me name call ≡ Some answer
+answer_so setup me name call f answer is e = is.result ∙ ap Some (sym e)
+
+-- a communicator that was born so
+pub comm_so : (setup : Setup) (outcome : Outcome) (new : Name) (size rank : ℕ) (birth : BirthView) → outcome ≡ NewComm new size rank → planned_birth setup new ≡ Some birth → answer_of (record { outcome = outcome; born = Some birth }) ≡ answer_with (planned_birth setup) outcome
+comm_so setup outcome new size rank birth e born = subst (λ o. answer_of (record { outcome = o; born = Some birth }) ≡ answer_with (planned_birth setup) o) (sym e) (λ i. record { outcome = NewComm new size rank; born = sym born i })
+
+-- one that names no communicator
+pub none_so : (setup : Setup) (outcome : Outcome) (born : Option BirthView) → born ≡ None → born_by (planned_birth setup) outcome ≡ None → answer_of (record { outcome = outcome; born = born }) ≡ answer_with (planned_birth setup) outcome
+none_so setup outcome born e f = λ i. record { outcome = outcome; born = (e ∙ sym f) i }

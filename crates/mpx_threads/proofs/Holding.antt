@@ -1,0 +1,189 @@
+-- What a rank was told its port holds, at the end.
+use Rattle.std.proofs.Common.{◌≡◌, ℕ, zero, suc, ◌+◌, ◌<◌, ◌==◌, Bool, true, false, cond, List, [], ◌∷◌, length, map, take, get_or, Option, Some, None, refl, sym, ap, ◌∙◌, subst, arith, inl}
+use Rattle.std.specs.Prelude.{slice_get, is_some, IsTrue, not, ◌&&◌, ◌||◌}
+use Rattle.std.specs.Option.{option_map}
+use Rattle.std.proofs.lemmas.Bool.Decides.{Decides-eqb, nat_tests}
+use Rattle.std.proofs.lemmas.Option.{same_Some}
+use Rattle.atomic_table.specs.Seated.{TableId}
+use Rattle.join_core.specs.Flat.{known as known_flat}
+use Rattle.mpx_name.specs.Name.{Name, same_name}
+use Rattle.mpx_post.specs.Births.{BirthView}
+use Rattle.mpx_board.specs.Boards.{told}
+use Rattle.mpx_value.specs.declared.outcomes.Outcome.{Outcome}
+use Rattle.mpx_value.specs.declared.outcomes.Outcome.TheVariants.{Nothing, Absent, Items, NewComm, Null, Fault}
+use Rattle.mpx_value.specs.Histories.{Answer, Made, Results, Within, answer_with, born_by, birth_of, posts_on}
+use Rattle.mpx_node.specs.declared.finished.Finished.{Finished}
+use Rattle.mpx_node.specs.Nodes.{NodeView, results_on}
+use Rattle.mpx_world.specs.Worlds.{ProcessView}
+use Rattle.mpx_world.specs.Soundness.{IsCommunicator}
+use Rattle.mpx_world.proofs.Lists.{names_same}
+use Rattle.mpx_world.proofs.Whole.{IsWell, well_by}
+use Rattle.mpx_world.proofs.Opened.{are_communicators}
+use Rattle.mpx_bus.specs.declared.act.Setup.{Setup}
+use Rattle.mpx_bus.specs.Rule.{planned_posts}
+use Rattle.mpx_bus.specs.Berths.{Berth, node_in, process_in}
+use Rattle.mpx_bus.specs.Rule.{world_of}
+use Rattle.mpx_shared.specs.Docks.{IsDocked, made_in, plan_history}
+use Rattle.mpx_shared.specs.Laws.{IsPlannedResult}
+use Rattle.mpx_shared.proofs.Docked.{docked_birth, docked_mine, docked_posts, docked_result}
+use Rattle.mpx_shared.proofs.Plans as P
+use Rattle.mpx_statement.specs.declared.statement.Statement.{Statement}
+use Rattle.mpx_evaluation.specs.Ranks.{Line, Local, Told, doing}
+use Rattle.mpx_evaluation.specs.Standing.{has_statements}
+use Rattle.mpx_evaluation.specs.Evaluation.{IsPrefixOf, bound_at_start, known, start, statements_of}
+use Rattle.mpx_evaluation.specs.Going.{Goes, stays}
+use Rattle.mpx_evaluation.specs.Told.{CarriesOut, none}
+use Rattle.mpx_evaluation.specs.Transcripts.{line_text}
+use Rattle.mpx_evaluation.specs.Reports.{is_left}
+use Rattle.mpx_evaluation.proofs.Fronts.{prefix_itself}
+use Rattle.mpx_evaluation.proofs.Going.{goes-carries_out}
+use Rattle.mpx_evaluation.proofs.Tells.{mapped_some}
+use Rattle.mpx_system.specs.Systems.{IsResultOf, TellsResults, node_births, node_tells}
+use Rattle.mpx_script.specs.ScriptView.{ScriptView}
+use Rattle.mpx_threads.specs.declared.told.ToldCall.{ToldCall}
+use Rattle.mpx_threads.specs.Plans.{Plans, planned_results}
+use Rattle.mpx_threads.specs.Runs.{IsDone}
+use Rattle.mpx_threads.specs.Told.{AllHeld, first_posts, is_among, is_at, planned_birth, told_of}
+use Rattle.mpx_threads.specs.Work.{HasCome, HasWorked}
+use Rattle.mpx_threads.proofs.Less.{Have, carries_out_less}
+use Rattle.mpx_threads.proofs.Plans.{planned_is, results_are, statements_at}
+
+-- AMONG
+
+both_true : (a b : Bool) → (a && b) ≡ true → (a ≡ true) × (b ≡ true)
+both_true true b e = (refl, e)
+both_true false b e = cc e
+
+-- a call that is among these is one of them
+among_place : (ts : List ToldCall) (name : Name) (call : ℕ) → is_among ts name call ≡ true → (i : ℕ) × ((t : ToldCall) × ((slice_get ts i ≡ Some t) × (is_at name call t ≡ true)))
+among_place [] name call e = cc e
+among_place (t ∷ ts) name call e = by_first (is_at name call t) refl e (among_place ts name call) where
+  by_first : (b : Bool) → is_at name call t ≡ b → (b || is_among ts name call) ≡ true → (is_among ts name call ≡ true → (i : ℕ) × ((u : ToldCall) × ((slice_get ts i ≡ Some u) × (is_at name call u ≡ true))))
+      → (i : ℕ) × ((u : ToldCall) × ((slice_get (t ∷ ts) i ≡ Some u) × (is_at name call u ≡ true)))
+  by_first true f g rest = (0, (t, (refl, f)))
+  by_first false f g rest = let there = rest g in (suc there.0, (there.1.0, (there.1.1.0, there.1.1.1)))
+
+some_there : {A : Type 0} (o : Option A) → IsTrue (is_some o) → (x : A) × (o ≡ Some x)
+some_there None e = cc e
+some_there (Some x) e = (x, refl)
+
+-- of each call that was told the node holds a result
+held_at : (node : NodeView) (ts : List ToldCall) → AllHeld node ts → (name : Name) (call : ℕ) → is_among ts name call ≡ true → (f : Finished) × (slice_get (results_on node name) call ≡ Some f)
+held_at node ts held name call e =
+    let there = among_place ts name call e in
+    let t : ToldCall = there.1.0 in
+    let same = both_true (t.call == call) (same_name t.name name) there.1.1.1 in
+    let call_is : t.call ≡ call = (Decides-eqb t.call call).0 same.0 in
+    let name_is : t.name ≡ name = names_same t.name name same.1 in
+    let found = some_there (slice_get (results_on node t.name) t.call) (held there.0 t there.1.1.0) in
+    (found.0, (λ i. slice_get (results_on node (sym name_is i)) (sym call_is i)) ∙ found.1)
+
+told_among : (known : Results) (ts : List ToldCall) (name : Name) (call : ℕ) (answer : Answer) → told_of known ts name call ≡ Some answer → (is_among ts name call ≡ true) × (known name call ≡ Some answer)
+told_among known ts name call answer e = by_test (is_among ts name call) e where
+  by_test : (b : Bool) → cond b (known name call) None ≡ Some answer → (b ≡ true) × (known name call ≡ Some answer)
+  by_test true f = (refl, f)
+  by_test false f = cc f
+
+-- A PORT
+
+module _ (table : TableId) (setup : Setup) (me : ℕ) (port : Berth) (docked : IsDocked table setup me port) (planned : setup.planned ≡ true) where
+  -- a result is what the plan's posts give
+  result_is : (name : Name) (call : ℕ) (f : Finished) → slice_get (results_on (node_in port) name) call ≡ Some f → planned_results setup me name call ≡ Some (answer_with (planned_birth setup) f.outcome)
+  result_is name call f e = (P.planned_result setup me name call f planned (docked_result table setup me port name call f docked e)).result
+
+  -- the board knows each communicator that a result names
+  names_known : (name : Name) (call : ℕ) (f : Finished) → slice_get (results_on (node_in port) name) call ≡ Some f → (new : Name) (size rank : ℕ) → f.outcome ≡ NewComm new size rank → node_births (node_in port) new ≡ planned_birth setup new
+  names_known name call f e new size rank given =
+      let stood = docked.stood in
+      let well : IsWell (world_of port.setup stood.happenings) = well_by port.setup.ranks port.setup.size stood.happenings stood.may in
+      let there : slice_get (results_on ((world_of port.setup stood.happenings).each port.me).node name) call ≡ Some f = ap (λ (v : ProcessView). slice_get (results_on v.node name) call) stood.stands ∙ e in
+      let c = are_communicators (world_of port.setup stood.happenings) well.holds well.members port.me name call f there new size rank given in
+      let born : told ((node_in port).board.contexts new).birth ≡ Some c.birth = ap (λ (v : ProcessView). told (v.node.board.contexts new).birth) (sym stood.stands) ∙ ap told c.born in
+      born ∙ sym (P.planned_birth setup new c.birth planned (docked_birth table setup me port new c.birth docked born))
+
+  same_answer : (name : Name) (call : ℕ) (f : Finished) → slice_get (results_on (node_in port) name) call ≡ Some f → (outcome : Outcome) → f.outcome ≡ outcome → answer_with (node_births (node_in port)) outcome ≡ answer_with (planned_birth setup) outcome
+  same_answer name call f e Nothing g = refl
+  same_answer name call f e Absent g = refl
+  same_answer name call f e (Items items) g = refl
+  same_answer name call f e (NewComm new size rank) g = let same = names_known name call f e new size rank g in λ i. record { outcome = NewComm new size rank; born = same i }
+  same_answer name call f e Null g = refl
+  same_answer name call f e (Fault fault) g = refl
+
+  -- what the node tells the plan's posts give
+  tells_planned : Within (node_tells (node_in port)) (planned_results setup me)
+  tells_planned name call answer e =
+      let found = mapped_some (λ (f : Finished). answer_with (node_births (node_in port)) f.outcome) (slice_get (results_on (node_in port) name) call) answer e in
+      let f : Finished = found.0 in
+      result_is name call f found.1 ∙ ap Some (sym (same_answer name call f found.1 f.outcome refl) ∙ found.2)
+
+  module _ (script : ScriptView) (relays : ℕ) (plan : Plans script relays setup) (ts : List ToldCall) (count : ℕ) (lines : List (List ℕ)) (waits : Bool) (come : HasCome script setup me ts count lines waits) (counted : length (made_in port) ≡ count) (held : AllHeld (node_in port) ts) where
+    goes_there : Goes (known script.ranks plan.end me) (start script.statements script.ranks me) come.to
+    goes_there = subst (λ r. Goes r (start script.statements script.ranks me) come.to) (results_are script relays setup plan me) come.goes
+
+    -- the result of a line that tells an outcome
+    line_held : (i : ℕ) (name : Name) (call : ℕ) (outcome : Outcome) → slice_get come.to.lines i ≡ Some (Told name call outcome) → (f : Finished) × (slice_get (results_on (node_in port) name) call ≡ Some f) × (f.outcome ≡ outcome)
+    line_held i name call outcome e =
+        let said = mapped_some (λ (a : Answer). a.outcome) (told_of (planned_results setup me) ts name call) outcome (come.tells i name call outcome e) in
+        let among = told_among (planned_results setup me) ts name call said.0 said.1 in
+        let found = held_at (node_in port) ts held name call among.0 in
+        let f : Finished = found.0 in
+        let same : answer_with (planned_birth setup) f.outcome ≡ said.0 = same_Some (answer_with (planned_birth setup) f.outcome) said.0 (sym (result_is name call f found.1) ∙ among.1) in
+        (f, found.1, ap (λ (a : Answer). a.outcome) same ∙ said.2)
+
+    made_same : made_in port ≡ come.to.made
+    made_same = docked_posts table setup me port planned docked ∙ ap (first_posts setup me) counted ∙ sym come.made_is
+
+    have : Have (planned_results setup me) (node_tells (node_in port)) tells_planned come.to.lines
+    have i name call outcome e =
+        let there = line_held i name call outcome e in
+        (answer_with (node_births (node_in port)) there.0.outcome, ap (option_map (λ (f : Finished). answer_with (node_births (node_in port)) f.outcome)) there.1)
+
+    pub is_done : IsDone script plan.end me port come.to
+    is_done = record {
+      goes = goes_there;
+      carries_out = carries_out_less (planned_results setup me) (node_tells (node_in port)) tells_planned (bound_at_start script.ranks) (statements_of script.statements me) come.to
+          (subst (λ r. CarriesOut r (bound_at_start script.ranks) (statements_of script.statements me) come.to) (sym (results_are script relays setup plan me)) (goes-carries_out script.statements script.ranks plan.end me come.to goes_there))
+          have;
+      told = λ i name call outcome e.
+          let there = line_held i name call outcome e in
+          record {
+            finished = there.0;
+            held = there.1;
+            is = there.2;
+            mine = ap (λ ms. slice_get (posts_on name ms) call) (sym made_same) ∙ docked_mine table setup me port name call there.0 docked there.1;
+          };
+      posts = subst (λ ms. IsPrefixOf come.to.made ms) (sym made_same) (prefix_itself come.to.made);
+    }
+
+pub has_worked : (table : TableId) (script : ScriptView) (relays : ℕ) (setup : Setup) (me : ℕ) (port : Berth) (ts : List ToldCall) (count : ℕ) (lines : List (List ℕ)) (waits : Bool) → IsDocked table setup me port → HasCome script setup me ts count lines waits
+    → length (made_in port) ≡ count → AllHeld (node_in port) ts → HasWorked script relays setup me port lines waits
+has_worked table script relays setup me port ts count lines waits docked come counted held = record {
+  to = come.to;
+  done = λ plan. is_done table setup me port docked (planned_is script relays setup plan) script relays plan ts count lines waits come counted held;
+  lines_are = come.lines_are;
+  waits_is = come.waits_is;
+}
+
+-- a rank that has done nothing
+pub has_not_worked : (script : ScriptView) (relays : ℕ) (setup : Setup) (me : ℕ) (port : Berth) (waits : Bool) → waits ≡ has_statements (statements_of script.statements me) → HasWorked script relays setup me port [] waits
+has_not_worked script relays setup me port waits e = record {
+  to = start script.statements script.ranks me;
+  done = λ plan. record {
+    goes = stays;
+    carries_out = inl (record { passed = []; left = statements_of script.statements me; all = refl; todo = refl; passes = none });
+    told = λ i name call outcome f. cc f;
+    posts = (made_in port, refl);
+  };
+  lines_are = refl;
+  waits_is = e ∙ by_list (statements_of script.statements me);
+} where
+  by_list : (xs : List Statement) → has_statements xs ≡ is_left (doing xs)
+  by_list [] = refl
+  by_list (x ∷ xs) = refl
+
+-- whether there are statements left at the start
+pub left_is : (script : List (List Statement)) (p n : ℕ) (b : Bool) (xs : List Statement) → b ≡ (length xs == 0) → xs ≡ get_or script n [] → n ≡ p → not b ≡ has_statements (statements_of script p)
+left_is script p n b xs e f same = ap not e ∙ by_list xs ∙ ap has_statements (f ∙ ap (λ k. get_or script k []) same ∙ statements_at script p) where
+  by_list : (ys : List Statement) → not (length ys == 0) ≡ has_statements ys
+  by_list [] = refl
+  by_list (y ∷ ys) = let none : (length (y ∷ ys) == 0) ≡ false = grind (arith, nat_tests) in ap not none

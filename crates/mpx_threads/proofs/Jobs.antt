@@ -1,0 +1,101 @@
+-- The processes of a run before they work, and when they have.
+use Rattle.std.proofs.Common.{◌≡◌, ℕ, zero, suc, ◌+◌, ◌<◌, List, [], ◌∷◌, ◌++◌, length, map, Option, Some, None, refl, sym, ap, ◌∙◌, subst, arith, length-append}
+use Rattle.std.specs.Prelude.{slice_get, slice_index_or, Result, Ok, Err, IfOk}
+use Rattle.std.proofs.lemmas.List.{length-map}
+use Rattle.std.specs.Option.{option_map}
+use Rattle.std.proofs.lemmas.Option.{same_Some, slice_get-map}
+use Rattle.join_core.specs.declared.memory.OutOfMemory.{OutOfMemory}
+use Rattle.atomic_table.specs.Seated.{TableId}
+use Rattle.mpx_world.proofs.Lists.{slice_get-push_cases}
+use Rattle.mpx_bus.specs.declared.act.Setup.{Setup}
+use Rattle.mpx_bus.specs.Berths.{Berth, IsFleet, IsNew}
+use Rattle.mpx_shared.specs.Docks.{IsDocked, made_in}
+use Rattle.mpx_shared.proofs.Docked.{new_docked, new_none}
+use Rattle.mpx_script.specs.ScriptView.{ScriptView}
+use Rattle.mpx_threads.specs.declared.worker.Job.{Job}
+use Rattle.mpx_threads.specs.declared.worker.Worked.{Worked}
+use Rattle.mpx_threads.specs.Plans.{Plans}
+use Rattle.mpx_threads.specs.Work.{AreJobs, AreReady, AreWorked, IsReady, IsWorked}
+
+within_get : {A : Type 0} (xs : List A) (k : ℕ) (x : A) → slice_get xs k ≡ Some x → k < length xs
+within_get [] k x e = cc e
+within_get (y ∷ xs) zero x e = omega arith
+within_get (y ∷ xs) (suc k) x e = let l = within_get xs k x e in omega (arith, l)
+
+-- what is read there stands there
+pub read_at : {A : Type 0} (xs : List A) (i : ℕ) (x : A) → i < length xs → x ≡ slice_index_or xs i x → slice_get xs i ≡ Some x
+read_at [] i x l e = absurd (omega (arith, l))
+read_at (y ∷ xs) zero x l e = ap Some (sym e)
+read_at (y ∷ xs) (suc i) x l e = read_at xs i x (omega (arith, l)) e
+
+pub one_job_more : (ports : List Berth) (jobs : List Job) (port : Berth) (j : Job) → AreJobs ports jobs → j.me ≡ length jobs → j.port ≡ port → AreJobs (ports ++ port ∷ []) (jobs ++ j ∷ [])
+one_job_more ports jobs port j are me same = record {
+  count = length-append jobs (j ∷ []) ∙ ap (λ n. n + 1) are.count ∙ sym (length-append ports (port ∷ []));
+  each = λ i x e. slice_get-push_cases (λ (y : Job) k. (y.me ≡ k) × (slice_get (ports ++ port ∷ []) k ≡ Some y.port)) jobs j i x e
+      (λ f. let old = are.each i x f in (old.0, there ports port i x.port old.1))
+      (λ f k. (ap (λ (y : Job). y.me) (sym f) ∙ me ∙ sym k, ap (slice_get (ports ++ port ∷ [])) (k ∙ are.count) ∙ last ports port ∙ ap Some (sym same ∙ ap (λ (y : Job). y.port) f)));
+} where
+  there : (xs : List Berth) (y : Berth) (k : ℕ) (x : Berth) → slice_get xs k ≡ Some x → slice_get (xs ++ y ∷ []) k ≡ Some x
+  there [] y k x e = cc e
+  there (z ∷ xs) y zero x e = e
+  there (z ∷ xs) y (suc k) x e = there xs y k x e
+
+  last : (xs : List Berth) (y : Berth) → slice_get (xs ++ y ∷ []) (length xs) ≡ Some y
+  last [] y = refl
+  last (z ∷ xs) y = last xs y
+
+pub are_ready : (script : ScriptView) (relays : ℕ) (setup : Setup) (table : TableId) (processes : ℕ) (ports : List Berth) (jobs : List Job) → Plans script relays setup → processes ≡ script.ranks + relays → IsFleet setup table processes ports → AreJobs ports jobs → AreReady script relays setup table jobs
+are_ready script relays setup table processes ports jobs plan count fleet are = record {
+  plan = plan;
+  count = are.count ∙ fleet.count ∙ count;
+  each = λ i j e.
+      let job = are.each i j e in
+      let new : IsNew setup table j.me j.port = subst (λ k. IsNew setup table k j.port) (sym job.0) (fleet.each i j.port job.1) in
+      let less : i < length jobs = within_get jobs i j e in (
+        job.0,
+        (
+          record {
+            plan = plan;
+            docked = new_docked setup table j.me j.port new;
+            none = new_none setup table j.me j.port new;
+            within = omega (arith, less, job.0, are.count, fleet.count, count);
+          },
+          new.setup_is,
+        ),
+      );
+}
+
+-- a job is ready by its own port's setup
+pub ready_at : (script : ScriptView) (relays : ℕ) (setup : Setup) (table : TableId) (jobs : List Job) → AreReady script relays setup table jobs → (i : ℕ) (j : Job) → slice_get jobs i ≡ Some j → IsReady script relays j.port.setup table j
+ready_at script relays setup table jobs are i j e = let at = are.each i j e in subst (λ u. IsReady script relays u table j) (sym at.1.1) at.1.0
+
+-- all have worked
+pub are_worked : (script : ScriptView) (relays : ℕ) (setup : Setup) (table : TableId) (jobs : List Job) (ws : List Worked) → AreReady script relays setup table jobs → length ws ≡ length jobs
+    → ((i : ℕ) (w : Worked) → slice_get ws i ≡ Some w → (j : Job) × ((slice_get jobs i ≡ Some j) × IsWorked script relays j.port.setup table j.me w)) → AreWorked script relays setup table ws
+are_worked script relays setup table jobs ws are count each = record {
+  plan = are.plan;
+  count = count ∙ are.count;
+  each = λ i w e.
+      let found = each i w e in
+      let at = are.each i found.0 found.1.0 in
+      subst (λ k. IsWorked script relays setup table k w) at.0 (subst (λ u. IsWorked script relays u table found.0.me w) at.1.1 found.1.1);
+}
+
+-- what is there is read
+read_back : {A : Type 0} (xs : List A) (i : ℕ) (x : A) → slice_get xs i ≡ Some x → slice_index_or xs i x ≡ x
+read_back [] i x e = cc e
+read_back (y ∷ xs) zero x e = same_Some y x e
+read_back (y ∷ xs) (suc i) x e = read_back xs i x e
+
+-- the same by what each thread gave
+pub worked_all : (script : ScriptView) (relays : ℕ) (setup : Setup) (table : TableId) (jobs : List Job) (rs : List (Result Worked OutOfMemory)) (ws : List Worked) → AreReady script relays setup table jobs → length rs ≡ length jobs
+    → ((i : ℕ) (d : Result Worked OutOfMemory) → i < length jobs → (j : Job) × ((j ≡ slice_index_or jobs i j) × IfOk (slice_index_or rs i d) (λ w. IsWorked script relays j.port.setup table j.me w)))
+    → map Ok ws ≡ rs → AreWorked script relays setup table ws
+worked_all script relays setup table jobs rs ws are count each all = are_worked script relays setup table jobs ws are same (λ i w e.
+    let at : slice_get rs i ≡ Some (Ok w) = ap (λ xs. slice_get xs i) (sym all) ∙ slice_get-map Ok ws i ∙ ap (option_map Ok) e in
+    let less : i < length jobs = subst (λ n. i < n) same (within_get ws i w e) in
+    let found = each i (Ok w) less in
+    let read : slice_index_or rs i (Ok w) ≡ Ok w = read_back rs i (Ok w) at in
+    (found.0, (read_at jobs i found.0 less found.1.0, subst (λ r. IfOk r (λ v. IsWorked script relays found.0.port.setup table found.0.me v)) read found.1.1))) where
+      same : length ws ≡ length jobs
+      same = sym (length-map ws Ok) ∙ ap length all ∙ count

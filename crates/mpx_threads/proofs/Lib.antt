@@ -1,0 +1,9 @@
+pub mod Plans
+pub mod Less
+pub mod Coming
+pub mod Holding
+pub mod Reporting
+pub mod Telling
+pub mod Posting
+pub mod Jobs
+pub mod Asking

@@ -1,0 +1,188 @@
+-- What a post on a shared port comes to, by the plan.
+use Rattle.std.proofs.Common.{◌≡◌, ℕ, ℤ, ◌+◌, ◌⊎◌, List, [], ◌∷◌, length, take, true, Option, Some, None, refl, sym, ap, ◌∙◌, subst, inl, inr}
+use Rattle.std.specs.Prelude.{slice_get, option_and_then, Result, Ok, Err}
+use Rattle.std.proofs.lemmas.Option.{same_Some}
+use Rattle.atomic_table.specs.Seated.{TableId}
+use Rattle.mpx_name.specs.Name.{Name}
+use Rattle.mpx_post.specs.Posts.{Given}
+use Rattle.mpx_post.specs.Births.{BirthView, of_members}
+use Rattle.mpx_post.specs.Drafts.{at, checked}
+use Rattle.mpx_post.specs.Gatherings.{GatheringView, gathering}
+use Rattle.mpx_post.specs.declared.draft.Draft.{Draft}
+use Rattle.mpx_post.specs.declared.draft.PostError.{PostError}
+use Rattle.mpx_post.specs.declared.draft.PostError.TheVariants.{NotMember, OutOfMemory}
+use Rattle.mpx_board.specs.Boards.{told}
+use Rattle.mpx_value.specs.Histories.{Made, birth_of, gathered, posts_on}
+use Rattle.mpx_node.specs.Nodes.{NodeView, OpenedView, Opens, Posts, checked_by, checked_on, gathering_name, gathers_by, gathers_on, posted_by, posted_on}
+use Rattle.mpx_world.specs.Worlds.{ProcessView}
+use Rattle.mpx_world.proofs.Born.{gathered_there}
+use Rattle.mpx_world.proofs.Steps.{Good}
+use Rattle.mpx_bus.specs.declared.act.Setup.{Setup}
+use Rattle.mpx_bus.specs.Rule.{planned_posts, world_of}
+use Rattle.mpx_bus.specs.Berths.{Berth, node_in, process_in}
+use Rattle.mpx_statement.specs.declared.statement.Posting.{Posting}
+use Rattle.mpx_statement.specs.Statements.{Gathers, draft_of, gathers_of}
+use Rattle.mpx_evaluation.specs.Ranks.{attempt_in, made_on, next_call, post_gathered, post_on}
+use Rattle.mpx_shared.specs.declared.ticket.Ticket.{Ticket}
+use Rattle.mpx_shared.specs.Docks.{IsDocked, IsNext, made_in, plan_history}
+use Rattle.mpx_shared.specs.Tickets.{OpensThen, PostsThen, call_of}
+use Rattle.mpx_shared.proofs.Docked.{docked_birth, docked_posts}
+use Rattle.mpx_shared.proofs.Plans as P
+use Rattle.mpx_shared.proofs.Standing.{stood_good}
+use Rattle.mpx_threads.specs.Told.{ComesTo, IsNextGathered, IsNextIn, Tried, first_posts, planned_birth}
+
+-- where the context is opened and its birth known, a draft comes to what it comes to by the plan; else it is refused for that
+checked_is : (o : Option OpenedView) (b : Option BirthView) (me : ℕ) (name : Name) (draft : Draft) (made : List Made) (birth : BirthView) → posted_by o ≡ length (posts_on name made) → ((x : BirthView) → b ≡ Some x → x ≡ birth)
+    → (checked_by o b me name draft ≡ Err NotMember) ⊎ (checked_by o b me name draft ≡ checked birth me (at name (next_call name made)) draft)
+checked_is None b me name draft made birth count same = inl refl
+checked_is (Some o) None me name draft made birth count same = inl refl
+checked_is (Some o) (Some x) me name draft made birth count same = inr (λ i. checked (same x refl i) me (at name (count i)) draft)
+
+gathers_is : (o : Option OpenedView) (b : Option BirthView) (me : ℕ) (parent : Name) (tag : ℤ) (ranks : List ℤ) (birth : BirthView) → ((x : BirthView) → b ≡ Some x → x ≡ birth)
+    → (gathers_by o b me parent tag ranks ≡ Err NotMember) ⊎ (gathers_by o b me parent tag ranks ≡ gathering birth me (length parent) tag ranks)
+gathers_is None b me parent tag ranks birth same = inl refl
+gathers_is (Some o) None me parent tag ranks birth same = inl refl
+gathers_is (Some o) (Some x) me parent tag ranks birth same = inr (ap (λ c. gathering c me (length parent) tag ranks) (same x refl))
+
+-- where a gathering is opened its parent's birth is known
+gathers_born : (o : Option OpenedView) (b : Option BirthView) (me : ℕ) (parent : Name) (tag : ℤ) (ranks : List ℤ) (g : GatheringView) → gathers_by o b me parent tag ranks ≡ Ok g → (x : BirthView) × (b ≡ Some x)
+gathers_born None b me parent tag ranks g e = cc e
+gathers_born (Some o) None me parent tag ranks g e = cc e
+gathers_born (Some o) (Some x) me parent tag ranks g e = (x, refl)
+
+module _ (table : TableId) (setup : Setup) (me : ℕ) (planned : setup.planned ≡ true) where
+  module _ (port : Berth) (docked : IsDocked table setup me port) where
+    good : Good (world_of port.setup docked.stood.happenings) port.me (process_in port)
+    good = stood_good port.setup port.me port.journal docked.stood
+
+    node_me : (node_in port).me ≡ me
+    node_me = good.me_is ∙ docked.me_is
+
+    birth_told : (name : Name) (x : BirthView) → told ((node_in port).board.contexts name).birth ≡ Some x → planned_birth setup name ≡ Some x
+    birth_told name x e = P.planned_birth setup name x planned (docked_birth table setup me port name x docked e)
+
+    birth_same : (name : Name) (birth : BirthView) → planned_birth setup name ≡ Some birth → (x : BirthView) → told ((node_in port).board.contexts name).birth ≡ Some x → x ≡ birth
+    birth_same name birth born x e = same_Some x birth (sym (birth_told name x e) ∙ born)
+
+    made_first : (count : ℕ) → length (made_in port) ≡ count → made_in port ≡ first_posts setup me count
+    made_first count counted = docked_posts table setup me port planned docked ∙ ap (first_posts setup me) counted
+
+    posted_count : (count : ℕ) → length (made_in port) ≡ count → (name : Name) → posted_on (node_in port) name ≡ next_call name (first_posts setup me count)
+    posted_count count counted name = good.counted name ∙ ap (next_call name) (made_first count counted)
+
+    checked_port : (count : ℕ) → length (made_in port) ≡ count → (name : Name) (draft : Draft) (birth : BirthView) → planned_birth setup name ≡ Some birth
+        → (checked_on (node_in port) name draft ≡ Err NotMember) ⊎ (checked_on (node_in port) name draft ≡ checked birth me (at name (next_call name (first_posts setup me count))) draft)
+    checked_port count counted name draft birth born =
+        subst (λ p. (checked_by ((node_in port).opened name) (told ((node_in port).board.contexts name).birth) p name draft ≡ Err NotMember) ⊎ (checked_by ((node_in port).opened name) (told ((node_in port).board.contexts name).birth) p name draft ≡ checked birth me (at name (next_call name (first_posts setup me count))) draft)) (sym node_me)
+        (checked_is ((node_in port).opened name) (told ((node_in port).board.contexts name).birth) me name draft (first_posts setup me count) birth (posted_count count counted name) (birth_same name birth born))
+
+    gathers_port : (parent : Name) (tag : ℤ) (ranks : List ℤ) (birth : BirthView) → planned_birth setup parent ≡ Some birth
+        → (gathers_on (node_in port) parent tag ranks ≡ Err NotMember) ⊎ (gathers_on (node_in port) parent tag ranks ≡ gathering birth me (length parent) tag ranks)
+    gathers_port parent tag ranks birth born =
+        subst (λ p. (gathers_by ((node_in port).opened parent) (told ((node_in port).board.contexts parent).birth) p parent tag ranks ≡ Err NotMember) ⊎ (gathers_by ((node_in port).opened parent) (told ((node_in port).board.contexts parent).birth) p parent tag ranks ≡ gathering birth me (length parent) tag ranks)) (sym node_me)
+        (gathers_is ((node_in port).opened parent) (told ((node_in port).board.contexts parent).birth) me parent tag ranks birth (birth_same parent birth born))
+
+  -- A POST
+
+  module _ (count : ℕ) (name : Name) (draft : Draft) (birth : BirthView) (born : planned_birth setup name ≡ Some birth) where
+    abbrev outcome : Result Made PostError
+    outcome = post_on me (first_posts setup me count) draft name birth
+
+    pub posted_so : (ticket : Ticket) → PostsThen table setup me count name draft (Ok ticket) → (old new : ℕ) → new ≡ old + 1 → Tried (first_posts setup me count) outcome (Ok (Some (ticket.name, ticket.call))) old new
+    posted_so ticket then old new more = by_check (checked_port then.before then.docked_before count then.counted name draft birth born) where
+      by_check : (checked_on (node_in then.before) name draft ≡ Err NotMember) ⊎ (checked_on (node_in then.before) name draft ≡ checked birth me (at name (next_call name (first_posts setup me count))) draft) → Tried (first_posts setup me count) outcome (Ok (Some (ticket.name, ticket.call))) old new
+      by_check (inl shut) = let is = then.ticket.1 in cc (shut, is)
+      by_check (inr e) =
+          let posts = subst (λ x. Posts name x (Ok ticket.call) (node_in then.before) (node_in then.after)) then.ticket.1 then.posts in
+          (record { name = name; given = ticket.post }, ap (made_on name) (sym e ∙ then.ticket.1), then.ticket.0, posts.0 ∙ posted_count then.before then.docked_before count then.counted name, more)
+
+    pub refused_so : (refusal : PostError) → (refusal ≡ NotMember → ⊥) → PostsThen table setup me count name draft (Err refusal) → (old new : ℕ) → new ≡ old → Tried (first_posts setup me count) outcome (Err refusal) old new
+    refused_so refusal member then old new same other = (by_answer (checked_on (node_in then.before) name draft) refl then.posts, same) where
+      by_check : (checked_on (node_in then.before) name draft ≡ Err NotMember) ⊎ (checked_on (node_in then.before) name draft ≡ checked birth me (at name (next_call name (first_posts setup me count))) draft) → checked_on (node_in then.before) name draft ≡ Err refusal → outcome ≡ Err refusal
+      by_check (inl shut) e = absurd (member (let same : refusal ≡ NotMember = cc (shut, e) in same))
+      by_check (inr is) e = ap (made_on name) (sym is ∙ e)
+
+      by_answer : (x : Result Given PostError) → checked_on (node_in then.before) name draft ≡ x → Posts name x (Err refusal) (node_in then.before) (node_in then.after) → outcome ≡ Err refusal
+      by_answer (Ok given) e posts = absurd (other posts.0)
+      by_answer (Err r) e posts = by_check (checked_port then.before then.docked_before count then.counted name draft birth born) (let same : refusal ≡ r = cc (posts.0) in e ∙ ap Err (sym same))
+
+  -- where what it comes to is the plan's next, so is the post
+  pub next_on : (count : ℕ) (name : Name) (draft : Draft) → ((birth : BirthView) (m : Made) → planned_birth setup name ≡ Some birth → post_on me (first_posts setup me count) draft name birth ≡ Ok m → slice_get (planned_posts setup me) count ≡ Some m) → IsNext setup me count name draft
+  next_on count name draft next plan birth given born checks = next birth (record { name = name; given = given }) born (ap (made_on name) checks)
+
+  pub next_posted : (count : ℕ) (name : Name) (posting : Posting) → gathers_of posting ≡ None → IsNextIn setup me count name posting → IsNext setup me count name (draft_of posting)
+  next_posted count name posting none next = next_on count name (draft_of posting) (λ birth m born e. next birth m born (ap (λ o. attempt_in me (first_posts setup me count) (draft_of posting) o name birth) none ∙ e))
+
+  pub next_gathered : (count : ℕ) (name : Name) (posting : Posting) (g : Gathers) → gathers_of posting ≡ Some g → IsNextIn setup me count name posting → IsNextGathered setup me count name g.tag g.ranks (draft_of posting)
+  next_gathered count name posting g some next birth m born e = next birth m born (ap (λ o. attempt_in me (first_posts setup me count) (draft_of posting) o name birth) some ∙ e)
+
+  -- A GATHERING
+
+  module _ (count : ℕ) (parent : Name) (tag : ℤ) (ranks : List ℤ) (draft : Draft) where
+    -- the gathering that was opened
+    record IsOpened (name : Name) : Type 0 where
+      pub birth : BirthView
+      pub born : planned_birth setup parent ≡ Some birth
+      pub gathering_view : GatheringView
+      pub gathers : gathering birth me (length parent) tag ranks ≡ Ok gathering_view
+      pub name_is : name ≡ gathering_name parent gathering_view
+      pub born_below : planned_birth setup name ≡ Some (of_members gathering_view.members)
+
+    opened_so : (name : Name) → OpensThen table setup me parent tag ranks (Ok name) → IsOpened name
+    opened_so name then = by_answer (gathers_on (node_in then.before) parent tag ranks) refl then.opens where
+      by_gathers : (g : GatheringView) (birth : BirthView) → planned_birth setup parent ≡ Some birth → name ≡ gathering_name parent g → gathers_on (node_in then.before) parent tag ranks ≡ Ok g
+          → (gathers_on (node_in then.before) parent tag ranks ≡ Err NotMember) ⊎ (gathers_on (node_in then.before) parent tag ranks ≡ gathering birth me (length parent) tag ranks) → IsOpened name
+      by_gathers g birth born named e (inl shut) = cc (shut, e)
+      by_gathers g birth born named e (inr is) =
+          let gathers : gathering birth me (length parent) tag ranks ≡ Ok g = sym is ∙ e in
+          record {
+            birth = birth;
+            born = born;
+            gathering_view = g;
+            gathers = gathers;
+            name_is = named;
+            born_below = ap (planned_birth setup) named ∙ ap (option_and_then (gathered g.members)) born ∙ gathered_there birth me (length parent) tag ranks g gathers;
+          }
+
+      by_answer : (x : Result GatheringView PostError) → gathers_on (node_in then.before) parent tag ranks ≡ x → Opens parent x (Ok name) (node_in then.before) (node_in then.after) → IsOpened name
+      by_answer (Err r) e opens = cc (opens.0)
+      by_answer (Ok g) e opens =
+          let known = gathers_born ((node_in then.before).opened parent) (told ((node_in then.before).board.contexts parent).birth) (node_in then.before).me parent tag ranks g e in
+          let born = birth_told then.before then.docked_before parent known.0 known.1 in
+          by_gathers g known.0 born opens.0 e (gathers_port then.before then.docked_before parent tag ranks known.0 born)
+
+    -- the post there is the plan's next
+    pub next_below : (name : Name) → OpensThen table setup me parent tag ranks (Ok name) → IsNextGathered setup me count parent tag ranks draft → IsNext setup me count name draft
+    next_below name then next plan birth given born checks =
+        let o = opened_so name then in
+        let members = of_members o.gathering_view.members in
+        let same : birth ≡ members = same_Some birth members (sym born ∙ o.born_below) in
+        let below : post_on me (first_posts setup me count) draft name members ≡ Ok (record { name = name; given = given }) = ap (made_on name) (ap (λ b. checked b me (at name (next_call name (first_posts setup me count))) draft) (sym same) ∙ checks) in
+        let there : post_on me (first_posts setup me count) draft (gathering_name parent o.gathering_view) members ≡ Ok (record { name = name; given = given }) = subst (λ n. post_on me (first_posts setup me count) draft n members ≡ Ok (record { name = name; given = given })) o.name_is below in
+        next o.birth (record { name = name; given = given }) o.born (ap (post_gathered me (first_posts setup me count) draft parent) o.gathers ∙ there)
+
+    -- and what comes of it
+    pub comes_below : (name : Name) → OpensThen table setup me parent tag ranks (Ok name) → (result : Result (Option (Name × ℕ)) PostError) (old new : ℕ)
+        → ComesTo setup name (λ birth. post_on me (first_posts setup me count) draft name birth) (first_posts setup me count) result old new
+        → ComesTo setup parent (λ birth. post_gathered me (first_posts setup me count) draft parent (gathering birth me (length parent) tag ranks)) (first_posts setup me count) result old new
+    comes_below name then result old new comes birth born =
+        let o = opened_so name then in
+        let members = of_members o.gathering_view.members in
+        let same : o.birth ≡ birth = same_Some o.birth birth (sym o.born ∙ born) in
+        let gathers : gathering birth me (length parent) tag ranks ≡ Ok o.gathering_view = ap (λ b. gathering b me (length parent) tag ranks) (sym same) ∙ o.gathers in
+        let is : post_on me (first_posts setup me count) draft name members ≡ post_gathered me (first_posts setup me count) draft parent (gathering birth me (length parent) tag ranks) =
+        ap (λ n. post_on me (first_posts setup me count) draft n members) o.name_is ∙ ap (post_gathered me (first_posts setup me count) draft parent) (sym gathers) in
+        subst (λ x. Tried (first_posts setup me count) x result old new) is (comes members o.born_below)
+
+    pub gathering_refused : (refusal : PostError) → (refusal ≡ NotMember → ⊥) → OpensThen table setup me parent tag ranks (Err refusal) → (old new : ℕ) → new ≡ old
+        → ComesTo setup parent (λ birth. post_gathered me (first_posts setup me count) draft parent (gathering birth me (length parent) tag ranks)) (first_posts setup me count) (Err refusal) old new
+    gathering_refused refusal member then old new same birth born other = (by_answer (gathers_on (node_in then.before) parent tag ranks) refl then.opens, same) where
+      by_gathers : (gathers_on (node_in then.before) parent tag ranks ≡ Err NotMember) ⊎ (gathers_on (node_in then.before) parent tag ranks ≡ gathering birth me (length parent) tag ranks) → gathers_on (node_in then.before) parent tag ranks ≡ Err refusal
+          → post_gathered me (first_posts setup me count) draft parent (gathering birth me (length parent) tag ranks) ≡ Err refusal
+      by_gathers (inl shut) e = absurd (member (let same : refusal ≡ NotMember = cc (shut, e) in same))
+      by_gathers (inr is) e = ap (post_gathered me (first_posts setup me count) draft parent) (sym is ∙ e)
+
+      by_answer : (x : Result GatheringView PostError) → gathers_on (node_in then.before) parent tag ranks ≡ x → Opens parent x (Err refusal) (node_in then.before) (node_in then.after)
+          → post_gathered me (first_posts setup me count) draft parent (gathering birth me (length parent) tag ranks) ≡ Err refusal
+      by_answer (Ok g) e opens = absurd (other opens.0)
+      by_answer (Err r) e opens = by_gathers (gathers_port then.before then.docked_before parent tag ranks birth born) (let same : refusal ≡ r = cc (opens.0) in e ∙ ap Err (sym same))

@@ -1,0 +1,106 @@
+-- What all processes of a run come to together.
+use Rattle.std.proofs.Common.{◌≡◌, ℕ, ◌+◌, ◌<◌, ◌≤◌, ◌⊎◌, Bool, true, List, [], ◌∷◌, length, map, take, Option, Some, None, refl, sym, ap, ◌∙◌, subst, inl, inr, arith}
+use Rattle.std.specs.Prelude.{slice_get}
+use Rattle.std.proofs.lemmas.List.{length-map}
+use Rattle.std.proofs.lemmas.Option.{same_Some}
+use Rattle.atomic_table.specs.Seated.{TableId}
+use Rattle.mpx_bus.specs.declared.act.Setup.{Setup}
+use Rattle.mpx_bus.specs.Berths.{Berth}
+use Rattle.mpx_shared.specs.Docks.{IsDocked, made_in}
+use Rattle.mpx_script.specs.ScriptView.{ScriptView}
+use Rattle.mpx_evaluation.specs.Ranks.{Local}
+use Rattle.mpx_evaluation.specs.Evaluation.{IsEvaluation, IsPrefixOf, State, known, start}
+use Rattle.mpx_evaluation.specs.Going.{Goes}
+use Rattle.mpx_evaluation.specs.Reports.{is_left, waiting_in, which}
+use Rattle.mpx_evaluation.specs.Reports.{lines_in as lines_of}
+use Rattle.mpx_evaluation.specs.Transcripts.{line_text}
+use Rattle.mpx_evaluation.proofs.Ahead.{confluent}
+use Rattle.mpx_evaluation.proofs.Going.{goes-adds, goes-whole}
+use Rattle.mpx_system.specs.Runs.{AreWhole, Begin}
+use Rattle.mpx_system.proofs.Results.{length_taken, mapped_at, nothing_left, prefix_map, some_at, taken_at, which_has, which_same}
+use Rattle.mpx_threads.specs.declared.worker.Worked.{Worked}
+use Rattle.mpx_threads.specs.Plans.{Plans, setup_by}
+use Rattle.mpx_threads.specs.Runs.{IsDone, IsThreadRun}
+use Rattle.mpx_threads.specs.Work.{AreWorked, HasWorked, lines_in, waits_at}
+use Rattle.mpx_threads.proofs.Plans.{lt_or_ge}
+
+module _ (script : ScriptView) (relays : ℕ) (setup : Setup) (table : TableId) (ws : List Worked) (are : AreWorked script relays setup table ws) where
+  abbrev end : State
+  end = are.plan.end
+
+  -- the rank stands there
+  record IsAt (p : ℕ) (w : Worked) (s : Local) : Type 0 where
+    done : IsDone script end p w.port s
+    lines : lines_in w ≡ map line_text s.lines
+    waits : w.waits ≡ is_left s.todo
+
+  worked_at : (p : ℕ) → p < script.ranks → (w : Worked) × ((slice_get ws p ≡ Some w) × HasWorked script relays setup p w.port (lines_in w) w.waits)
+  worked_at p l = let found = some_at ws p (omega (arith, l, are.count)) in (found.0, (found.1, (are.each p found.0 found.1).rank l))
+
+  abbrev local_by : (p : ℕ) → (p < script.ranks) ⊎ (script.ranks ≤ p) → Local
+  local_by p (inl l) = (worked_at p l).1.1.to
+  local_by p (inr g) = start script.statements script.ranks p
+
+  abbrev local : State
+  local p = local_by p (lt_or_ge p script.ranks)
+
+  at_by : (p : ℕ) (w : Worked) → slice_get ws p ≡ Some w → p < script.ranks → (x : (p < script.ranks) ⊎ (script.ranks ≤ p)) → IsAt p w (local_by p x)
+  at_by p w e less (inr g) = absurd (omega (arith, less, g))
+  at_by p w e less (inl l) =
+      let found = worked_at p l in
+      let same : found.0 ≡ w = same_Some found.0 w (sym found.1.0 ∙ e) in
+      subst (λ v. IsAt p v found.1.1.to) same (record { done = found.1.1.done are.plan; lines = found.1.1.lines_are; waits = found.1.1.waits_is })
+
+  at_local : (p : ℕ) (w : Worked) → slice_get ws p ≡ Some w → p < script.ranks → IsAt p w (local p)
+  at_local p w e l = at_by p w e l (lt_or_ge p script.ranks)
+
+  module _ (ports : List Berth) (said : List (List (List ℕ))) (waiting : List ℕ) (ports_are : ports ≡ map (λ (w : Worked). w.port) ws) (lines_are : said ≡ take script.ranks (map lines_in ws)) (waiting_are : waiting ≡ which (λ p. waits_at (slice_get ws p)) script.ranks) where
+    port_at : (p : ℕ) (port : Berth) → slice_get ports p ≡ Some port → (w : Worked) × (slice_get ws p ≡ Some w) × (w.port ≡ port)
+    port_at p port e = mapped_at (λ (w : Worked). w.port) ws p port (ap (λ xs. slice_get xs p) (sym ports_are) ∙ e)
+
+    lines_at : (p : ℕ) (lines : List (List ℕ)) → slice_get said p ≡ Some lines → (p < script.ranks) × (lines ≡ lines_of local p)
+    lines_at p lines e =
+        let taken = taken_at script.ranks (map lines_in ws) p lines (ap (λ xs. slice_get xs p) (sym lines_are) ∙ e) in
+        let found = mapped_at lines_in ws p lines taken.1 in
+        (taken.0, sym found.2 ∙ (at_local p found.0 found.1 taken.0).lines)
+
+    waiting_so : waiting ≡ waiting_in local script.ranks
+    waiting_so = waiting_are ∙ which_same (λ p. waits_at (slice_get ws p)) (λ p. is_left (local p).todo) script.ranks (λ p l.
+        let found = worked_at p l in ap waits_at found.1.0 ∙ (at_local p found.0 found.1.0 l).waits)
+
+    pub is_thread_run : IsThreadRun script relays table ports said waiting
+    is_thread_run = record {
+      end = end;
+      evaluation = are.plan.evaluation;
+      count = ap length ports_are ∙ length-map ws (λ (w : Worked). w.port) ∙ are.count;
+      docked = λ p port e.
+          let found = port_at p port e in
+          subst (λ b. IsDocked table (setup_by script.ranks relays end) p b) found.2 (subst (λ u. IsDocked table u p found.0.port) are.plan.setup_is (are.each p found.0 found.1).docked);
+      relays_post_nothing = λ p port e past. let found = port_at p port e in ap made_in (sym found.2) ∙ (are.each p found.0 found.1).relay past;
+      ranks = local;
+      done = λ p port e l. let found = port_at p port e in subst (λ b. IsDone script end p b (local p)) found.2 (at_local p found.0 found.1 l).done;
+      ranks_are = ap length lines_are ∙ length_taken script.ranks (map lines_in ws) (omega (arith, length-map ws lines_in, are.count));
+      lines = λ p lines e. (lines_at p lines e).1;
+      waiting_are = waiting_so;
+    }
+
+    module _ (evaluation : State) (is : IsEvaluation script.statements script.ranks evaluation) where
+      one_end : end ≡ evaluation
+      one_end = confluent script.statements script.ranks end evaluation are.plan.evaluation is
+
+      goes_at : (p : ℕ) → p < script.ranks → Goes (known script.ranks end p) (start script.statements script.ranks p) (local p)
+      goes_at p l = let found = worked_at p l in (at_local p found.0 found.1.0 l).done.goes
+
+      pub begins : Begin said evaluation
+      begins p lines e =
+          let here = lines_at p lines e in
+          subst (λ xs. IsPrefixOf xs (lines_of evaluation p)) (sym here.1)
+          (subst (λ (s : State). IsPrefixOf (lines_of local p) (lines_of s p)) one_end (prefix_map (local p).lines (end p).lines (goes-adds script.statements script.ranks end are.plan.evaluation p (local p) (goes_at p here.0)).1))
+
+      pub are_whole : AreWhole said waiting evaluation
+      are_whole p lines e other =
+          let here = lines_at p lines e in
+          let todo : (local p).todo ≡ [] = nothing_left (local p).todo (λ left.
+          let found = which_has (λ q. is_left (local q).todo) script.ranks p here.0 left in
+          other found.0 (ap (λ xs. slice_get xs found.0) waiting_so ∙ found.1)) in
+          here.1 ∙ ap (λ (s : Local). map line_text s.lines) (goes-whole script.statements script.ranks end are.plan.evaluation p (local p) (goes_at p here.0) todo) ∙ ap (λ (s : State). lines_of s p) one_end

@@ -1,0 +1,4 @@
+pub mod Plans
+pub mod Told
+pub mod Work
+pub mod Runs

@@ -1,0 +1,77 @@
+-- How far a rank has come, and what its port holds of that.
+use Rattle.std.specs.Prelude.{◌≡◌, ℕ, ◌<◌, ◌≤◌, ◌+◌, Bool, false, Option, None, List, [], length, map, Some, slice_get, string_bytes}
+use Rattle.std.specs.Prelude.{String, Vec}
+use Rattle.atomic_table.specs.Seated.{TableId}
+use Rattle.mpx_name.specs.Name.{Name}
+use Rattle.mpx_value.specs.declared.outcomes.Outcome.{Outcome}
+use Rattle.mpx_bus.specs.declared.act.Setup.{Setup}
+use Rattle.mpx_bus.specs.Berths.{Berth, IsFleet, IsNew}
+use Rattle.mpx_shared.specs.Docks.{IsDocked, made_in}
+use Rattle.mpx_script.specs.ScriptView.{ScriptView}
+use Rattle.mpx_evaluation.specs.Ranks.{Local, Told}
+use Rattle.mpx_evaluation.specs.Evaluation.{start}
+use Rattle.mpx_evaluation.specs.Going.{Goes}
+use Rattle.mpx_evaluation.specs.Reports.{is_left}
+use Rattle.mpx_evaluation.specs.Transcripts.{line_text}
+use Rattle.mpx_rank.specs.Carriers.{outcomes_of}
+use Rattle.mpx_threads.specs.declared.told.ToldCall.{ToldCall}
+use Rattle.mpx_threads.specs.declared.worker.Worked.{Worked}
+use Rattle.mpx_threads.specs.declared.worker.Job.{Job}
+use Rattle.mpx_threads.specs.Plans.{Plans, planned_results}
+use Rattle.mpx_threads.specs.Runs.{IsDone}
+use Rattle.mpx_threads.specs.Told.{first_posts, told_of}
+
+-- by what the plan's posts give it the rank has come there, with these lines, and something left or nothing; its posts are the first so
+-- many of the plan; and of each line that tells an outcome it was told that
+pub record HasCome (script : ScriptView) (setup : Setup) (me : ℕ) (told : List ToldCall) (count : ℕ) (lines : List (List ℕ)) (waits : Bool) : Type 0 where
+  pub to : Local
+  pub goes : Goes (planned_results setup me) (start script.statements script.ranks me) to
+  pub lines_are : lines ≡ map line_text to.lines
+  pub waits_is : waits ≡ is_left to.todo
+  pub made_is : to.made ≡ first_posts setup me count
+  pub tells : (i : ℕ) (name : Name) (call : ℕ) (outcome : Outcome) → slice_get to.lines i ≡ Some (Told name call outcome) → outcomes_of (told_of (planned_results setup me) told) name call ≡ Some outcome
+
+-- the rank has come so far, and its port holds what it was told
+pub record HasWorked (script : ScriptView) (relays : ℕ) (setup : Setup) (me : ℕ) (port : Berth) (lines : List (List ℕ)) (waits : Bool) : Type 0 where
+  pub to : Local
+  pub done : (plan : Plans script relays setup) → IsDone script plan.end me port to
+  pub lines_are : lines ≡ map line_text to.lines
+  pub waits_is : waits ≡ is_left to.todo
+
+-- the port of a process that has posted nothing yet, by the plan of the script's evaluation
+pub record IsReady (script : ScriptView) (relays : ℕ) (setup : Setup) (table : TableId) (j : Job) : Type 0 where
+  pub plan : Plans script relays setup
+  pub docked : IsDocked table setup j.me j.port
+  pub none : length (made_in j.port) ≡ 0
+  pub within : j.me < script.ranks + relays
+
+-- a job for each port, by its number
+pub record AreJobs (ports : List Berth) (jobs : List Job) : Type 0 where
+  pub count : length jobs ≡ length ports
+  pub each : (i : ℕ) (j : Job) → slice_get jobs i ≡ Some j → (j.me ≡ i) × (slice_get ports i ≡ Some j.port)
+
+-- a process for each number, in order, each of them ready
+pub record AreReady (script : ScriptView) (relays : ℕ) (setup : Setup) (table : TableId) (jobs : List Job) : Type 0 where
+  pub plan : Plans script relays setup
+  pub count : length jobs ≡ script.ranks + relays
+  pub each : (i : ℕ) (j : Job) → slice_get jobs i ≡ Some j → (j.me ≡ i) × (IsReady script relays setup table j × (j.port.setup ≡ setup))
+
+abbrev pub lines_in : Worked → List (List ℕ)
+lines_in w = map string_bytes w.lines.items
+
+-- a rank has worked so; a relay has posted nothing
+pub record IsWorked (script : ScriptView) (relays : ℕ) (setup : Setup) (table : TableId) (me : ℕ) (w : Worked) : Type 0 where
+  pub docked : IsDocked table setup me w.port
+  pub rank : me < script.ranks → HasWorked script relays setup me w.port (lines_in w) w.waits
+  pub relay : script.ranks ≤ me → made_in w.port ≡ []
+
+-- all processes have worked so
+pub record AreWorked (script : ScriptView) (relays : ℕ) (setup : Setup) (table : TableId) (ws : List Worked) : Type 0 where
+  pub plan : Plans script relays setup
+  pub count : length ws ≡ script.ranks + relays
+  pub each : (i : ℕ) (w : Worked) → slice_get ws i ≡ Some w → IsWorked script relays setup table i w
+
+-- whether the process of this number has something left
+abbrev pub waits_at : Option Worked → Bool
+waits_at None = false
+waits_at (Some w) = w.waits

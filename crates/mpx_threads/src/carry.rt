@@ -1,0 +1,58 @@
+//! A rank in a thread: it carries out its statements as far as it can.
+ghost use Rattle.std.specs.Prelude.{◌≡◌, ◌<◌, IfOk, map, string_bytes};
+ghost use Rattle.mpx_threads.specs.Plans.{IsPlanned};
+ghost use Rattle.mpx_threads.specs.Work.{HasCome};
+
+use crate::desk::ThreadDesk;
+use crate::told::Told;
+use crate::watch::Signal;
+use join_core::OutOfMemory;
+use mpx_group::Proc;
+use mpx_name::Name;
+use mpx_post::Birth;
+use mpx_rank::Rank;
+use mpx_script::Script;
+use mpx_shared::{Dock, Poster, SharedPort};
+use std::alloc::Global;
+use std::sync::Wait;
+
+/// What a rank leaves when it goes no further: its lines, whether it has something left, what it was told, and the right to post.
+#[derive(Drop)]
+pub(crate) struct Carried<L: Dock> {
+    pub(crate) lines: Vec<String>,
+    pub(crate) waits: bool,
+    pub(crate) told: Told<L>,
+    pub(crate) poster: Poster<L>,
+}
+
+/// Carries out the statements of a rank, until it has none left, or there is nothing more to come for it.
+pub(crate) fn carry_out<L: Dock, R: Wait>(
+    rt: &R,
+    alloc: Global,
+    script: &Script,
+    me: Proc,
+    port: &SharedPort<L>,
+    signal: &Signal,
+    looks: u64,
+    poster: Poster<L>,
+) -> Result<Carried<L>, OutOfMemory>
+    requires ledger { (L.all ≡ L.parts) × (0 < L.parts) }
+    requires me { (me ≡ L.me) × (me < script.now.ranks) }
+    requires new { (L.before ≡ 0) × (poster.share.amount ≡ 0) }
+    requires plan { IsPlanned script.now L.setup }
+    ensures { IfOk result (λ carried. HasCome script.now L.setup me carried.told carried.poster.share.amount (map string_bytes carried.lines.items) carried.waits) }
+{
+    let world = (Name::world(alloc), Birth::world(alloc, script.ranks())?);
+    let mut rank = Rank::new(alloc, me, Some(world), script.statements(me.number()))?;
+    let mut desk = ThreadDesk::new(alloc, rt, port, signal, looks, poster);
+    rank.go_on(alloc, &mut desk)?;
+    let waits = rank.is_waiting();
+    let lines = rank.into_lines();
+    let (told, poster) = desk.into_parts();
+    Ok(Carried {
+        lines,
+        waits,
+        told,
+        poster,
+    })
+}

@@ -1,0 +1,364 @@
+//! The desk of a rank in a thread: it carries the rank's posts over a port that the rank shares with its gossip.
+ghost use Rattle.std.specs.Prelude.{◌≡◌, ◌+◌, ◌<◌, ◌↔◌, [], IfOk, IfSome, IsTrue, OnOk, Some, true, length};
+ghost use Rattle.std.specs.Option.{option_copied, option_map};
+ghost use Rattle.mpx_post.specs.Gatherings.{gathering};
+ghost use Rattle.mpx_value.specs.Histories.{answer_with, birth_of};
+ghost use Rattle.mpx_statement.specs.Statements.{draft_of, gathers_of};
+ghost use Rattle.mpx_evaluation.specs.Ranks.{attempt_in, post_gathered, post_on};
+ghost use Rattle.mpx_rank.specs.Carriers.{placed};
+ghost use Rattle.mpx_shared.specs.Docks.{IsNext, plan_history};
+ghost use Rattle.mpx_shared.specs.Laws.{IsPlannedResult};
+ghost use Rattle.mpx_threads.specs.Plans.{planned_results};
+ghost use Rattle.mpx_threads.specs.Told.{ComesTo, HearsMore, IsNextGathered, IsNextIn, Tells, answer_of, first_posts, place_of};
+
+use crate::told::{Answered, Told};
+use crate::watch::Signal;
+use join_core::{Exact, OutOfMemory};
+use mpx_evaluation::line;
+use mpx_group::Proc;
+use mpx_name::Name;
+use mpx_node::Finished;
+use mpx_post::{Birth, PostError};
+use mpx_rank::{Carrier, Heard};
+use mpx_shared::{Dock, Poster, SharedPort, Tested, Ticket};
+use mpx_statement::Posting;
+use mpx_value::Outcome;
+use std::alloc::Global;
+use std::marker::Model;
+use std::sync::Wait;
+
+/// What a rank is told of a call: the line of its outcome, and the communicator that it gave, where it gave one.
+#[derive(Drop)]
+struct Said {
+    text: String,
+    given: Option<(Name, Birth)>,
+}
+
+/// What carries a rank's posts: the port that it shares with its gossip, what that tells it, its right to post, and what it was told.
+#[derive(Drop)]
+pub(crate) struct ThreadDesk<'a, L: Dock, R: Wait> {
+    rt: &'a R,
+    port: &'a SharedPort<L>,
+    signal: &'a Signal,
+    looks: u64,
+    poster: Poster<L>,
+    told: Told<L>,
+}
+
+impl<'a, L: Dock, R: Wait> Model for ThreadDesk<'a, L, R> {
+    ghost use Rattle.std.specs.Prelude.{◌≡◌, true};
+    ghost use Rattle.mpx_threads.specs.Told.{DeskView};
+
+    ghost Value = { DeskView };
+
+    ghost view = { λ d. (d.told, d.poster.share.amount) };
+
+    ghost invariant = { λ d. L.setup.planned ≡ true };
+}
+
+impl<'a, L: Dock, R: Wait> ThreadDesk<'a, L, R> {
+    /// A desk that has posted nothing and was told nothing. It looks so many times for a result.
+    pub(crate) fn new(
+        alloc: Global,
+        rt: &'a R,
+        port: &'a SharedPort<L>,
+        signal: &'a Signal,
+        looks: u64,
+        poster: Poster<L>,
+    ) -> ThreadDesk<'a, L, R>
+        requires { L.setup.planned ≡ true }
+        ensures { result ≡ ([], poster.share.amount) }
+    {
+        ThreadDesk {
+            rt,
+            port,
+            signal,
+            looks,
+            poster,
+            told: Told::new(alloc),
+        }
+    }
+
+    /// What it was told, and the right to post.
+    pub(crate) fn into_parts(self) -> (Told<L>, Poster<L>)
+        ensures { (result.0 ≡ self.entry.0) × (result.1.share.amount ≡ self.entry.1) }
+    {
+        let ThreadDesk {
+            rt: _,
+            port: _,
+            signal: _,
+            looks: _,
+            poster,
+            told,
+        } = self;
+        (told, poster)
+    }
+
+    // Looks for the result of a call, until it is there, or there is nothing more to come, or it has looked often enough.
+    fn look(&self, alloc: Global, ticket: &Ticket) -> Result<Option<Finished>, OutOfMemory>
+        ensures { IfOk result (λ found. IfSome found (λ finished. IsPlannedResult L.setup L.me ticket.now.name ticket.now.call finished)) }
+    {
+        for _look in 0..self.looks {
+            let ended = self.signal.has_ended();
+            match self.port.test(self.rt, alloc, ticket)? {
+                Tested::Done(finished) => return Ok(Some(finished)),
+                Tested::Strange => return Ok(None),
+                Tested::NotYet => {}
+            }
+            if ended {
+                return Ok(None);
+            }
+            self.signal.park(self.rt);
+        }
+        Ok(None)
+    }
+
+    // What came of a call, where that can be had. A communicator has to be known with how it came to be.
+    fn answer(&self, alloc: Global, ticket: &Ticket) -> Result<Option<Answered>, OutOfMemory>
+        ensures { IfOk result (λ found. IfSome found (λ answered. planned_results L.setup L.me ticket.now.name ticket.now.call ≡ Some (answer_of answered))) }
+    {
+        let Some(finished) = self.look(alloc, ticket)? else {
+            return Ok(None);
+        };
+        let Finished { mine, outcome } = finished;
+        drop(mine);
+        self.with_birth(alloc, outcome)
+    }
+
+    // The outcome, with the birth of the communicator that it names.
+    fn with_birth(&self, alloc: Global, outcome: Outcome) -> Result<Option<Answered>, OutOfMemory>
+        ensures { IfOk result (λ found. IfSome found (λ answered. answer_of answered ≡ answer_with (birth_of (plan_history L.setup) L.setup.ranks) outcome)) }
+    {
+        let born = match &outcome {
+            Outcome::NewComm { name, .. } => {
+                let Some(birth) = self.port.birth(self.rt, alloc, name)? else {
+                    return Ok(None);
+                };
+                Some(birth)
+            }
+            Outcome::Nothing => None,
+            Outcome::Absent => None,
+            Outcome::Items(_) => None,
+            Outcome::Null => None,
+            Outcome::Fault(_) => None,
+        };
+        Ok(Some(Answered { outcome, born }))
+    }
+
+    // The outcome of a call and the communicator that it gave, once it was told before or can be told now.
+    fn tell(&mut self, alloc: Global, ticket: &Ticket) -> Result<Option<Said>, OutOfMemory>
+        ensures hears { OnOk result (HearsMore self.old self.new) }
+        ensures told { IfOk result (Tells (planned_results L.setup L.me) self.new.0 ticket.now.name ticket.now.call) }
+    {
+        match self.answer(alloc, ticket)? {
+            Some(answered) => {
+                let text = line(alloc, &answered.outcome)?;
+                let given = answered.given(alloc)?;
+                let name = ticket.name.copy(alloc)?;
+                self.told.add(name, ticket.call, answered)?;
+                Ok(Some(Said { text, given }))
+            }
+            None => self.tell_again(alloc, ticket),
+        }
+    }
+
+    // The same of one that was told before.
+    fn tell_again(&self, alloc: Global, ticket: &Ticket) -> Result<Option<Said>, OutOfMemory>
+        ensures { IfOk result (Tells (planned_results L.setup L.me) self.now.0 ticket.now.name ticket.now.call) }
+    {
+        let Some(answered) = self.told.find(&ticket.name, ticket.call) else {
+            return Ok(None);
+        };
+        let text = line(alloc, &answered.outcome)?;
+        let given = answered.given(alloc)?;
+        Ok(Some(Said { text, given }))
+    }
+}
+
+impl<'a, L: Dock, R: Wait> Carrier for ThreadDesk<'a, L, R> {
+    ghost use Rattle.std.specs.Prelude.{◌≡◌, ◌<◌};
+    ghost use Rattle.mpx_threads.specs.Told.{hears_more, hears_nothing, place_of, stays_told, thread_terms};
+
+    type Communicator = (Name, Birth);
+
+    type Call = Ticket;
+
+    ghost place = { place_of };
+
+    ghost terms = { thread_terms L.setup L.me L.before ((L.all ≡ L.parts) × (0 < L.parts)) };
+
+    fn post(
+        &mut self,
+        alloc: Global,
+        _me: Proc,
+        on: Option<&(Name, Birth)>,
+        posting: &Posting,
+    ) -> Result<Option<Ticket>, PostError> {
+        let Some(on) = on else {
+            return Err(PostError::NotMember);
+        };
+        let ThreadDesk {
+            rt,
+            port,
+            poster,
+            ..
+        } = self;
+        attempt(*rt, alloc, *port, poster, &on.0, posting)
+    }
+
+    fn is_told(&mut self, alloc: Global, _me: Proc, call: &Ticket) -> Result<bool, OutOfMemory> {
+        Ok(self.tell(alloc, call)?.is_some())
+    }
+
+    fn hear(
+        &mut self,
+        alloc: Global,
+        _me: Proc,
+        call: Ticket,
+    ) -> Result<Heard<Ticket, (Name, Birth)>, OutOfMemory> {
+        match self.tell(alloc, &call)? {
+            Some(Said { text, given }) => Ok(Heard::Told { text, given }),
+            None => Ok(Heard::NotYet(call)),
+        }
+    }
+
+    fn known<'m>(&'m self, communicator: &'m (Name, Birth)) -> Option<(&'m Name, &'m Birth)> {
+        let (name, birth) = communicator;
+        Some((name, birth))
+    }
+
+    ghost hears_nothing = { hears_nothing };
+
+    ghost hears_more = { hears_more };
+
+    ghost stays_told = { stays_told L.setup L.me };
+}
+
+// What a statement comes to on a context: a post there, or on a gathering of its members.
+fn attempt<L: Dock, R: Wait>(
+    rt: &R,
+    alloc: Global,
+    port: &SharedPort<L>,
+    poster: &mut Poster<L>,
+    name: &Name,
+    posting: &Posting,
+) -> Result<Option<Ticket>, PostError>
+    requires ledger { (L.all ≡ L.parts) × (0 < L.parts) }
+    requires planned { L.setup.planned ≡ true }
+    requires next { IsNextIn L.setup L.me (L.before + poster.old.share.amount) name.now posting.now }
+    ensures { ComesTo L.setup name.now (λ birth. attempt_in L.me (first_posts L.setup L.me (L.before + poster.old.share.amount)) (draft_of posting.now) (gathers_of posting.now) name.now birth) (first_posts L.setup L.me (L.before + poster.old.share.amount)) (placed place_of result) poster.old.share.amount poster.new.share.amount }
+{
+    match posting {
+        Posting::CreateGroup { tag, ranks, .. } => post_gathered(
+            rt,
+            alloc,
+            port,
+            poster,
+            name,
+            tag,
+            ranks.as_slice(),
+            posting,
+        ),
+        Posting::Call { .. } => post_on(rt, alloc, port, poster, name, posting),
+        Posting::Start { .. } => post_on(rt, alloc, port, poster, name, posting),
+        Posting::New { .. } => post_on(rt, alloc, port, poster, name, posting),
+    }
+}
+
+// The next post on a context, by what the statement says. A rank is a member of the context: so a board that doesn't know that yet
+// means not now.
+fn post_on<L: Dock, R: Wait>(
+    rt: &R,
+    alloc: Global,
+    port: &SharedPort<L>,
+    poster: &mut Poster<L>,
+    name: &Name,
+    posting: &Posting,
+) -> Result<Option<Ticket>, PostError>
+    requires ledger { (L.all ≡ L.parts) × (0 < L.parts) }
+    requires planned { L.setup.planned ≡ true }
+    requires next { IsNext L.setup L.me (L.before + poster.old.share.amount) name.now (draft_of posting.now) }
+    ensures { ComesTo L.setup name.now (λ birth. post_on L.me (first_posts L.setup L.me (L.before + poster.old.share.amount)) (draft_of posting.now) name.now birth) (first_posts L.setup L.me (L.before + poster.old.share.amount)) (placed place_of result) poster.old.share.amount poster.new.share.amount }
+{
+    let Ok(draft) = posting.draft(alloc) else {
+        return Err(PostError::OutOfMemory);
+    };
+    match port.post(rt, alloc, poster, name, draft) {
+        Ok(ticket) => Ok(Some(ticket)),
+        Err(refusal) => {
+            if is_no_member(refusal) {
+                return Ok(None);
+            }
+            Err(refusal)
+        }
+    }
+}
+
+// Opens the gathering of these ranks below a context, and posts there.
+fn gather_and_post<L: Dock, R: Wait>(
+    rt: &R,
+    alloc: Global,
+    port: &SharedPort<L>,
+    poster: &mut Poster<L>,
+    parent: &Name,
+    tag: i128,
+    ranks: &[i128],
+    posting: &Posting,
+) -> Result<Option<Ticket>, PostError>
+    requires ledger { (L.all ≡ L.parts) × (0 < L.parts) }
+    requires planned { L.setup.planned ≡ true }
+    requires next { IsNextGathered L.setup L.me (L.before + poster.old.share.amount) parent.now tag ranks.now (draft_of posting.now) }
+    ensures { ComesTo L.setup parent.now (λ birth. post_gathered L.me (first_posts L.setup L.me (L.before + poster.old.share.amount)) (draft_of posting.now) parent.now (gathering birth L.me (length parent.now) tag ranks.now)) (first_posts L.setup L.me (L.before + poster.old.share.amount)) (placed place_of result) poster.old.share.amount poster.new.share.amount }
+{
+    match port.open_gathering(rt, alloc, parent, tag, ranks) {
+        Ok(name) => post_on(rt, alloc, port, poster, &name, posting),
+        Err(refusal) => {
+            if is_no_member(refusal) {
+                return Ok(None);
+            }
+            Err(refusal)
+        }
+    }
+}
+
+// The same of a tag that a statement has.
+fn post_gathered<L: Dock, R: Wait>(
+    rt: &R,
+    alloc: Global,
+    port: &SharedPort<L>,
+    poster: &mut Poster<L>,
+    parent: &Name,
+    tag: &i128,
+    ranks: &[i128],
+    posting: &Posting,
+) -> Result<Option<Ticket>, PostError>
+    requires ledger { (L.all ≡ L.parts) × (0 < L.parts) }
+    requires planned { L.setup.planned ≡ true }
+    requires next { IsNextGathered L.setup L.me (L.before + poster.old.share.amount) parent.now tag.now ranks.now (draft_of posting.now) }
+    ensures { ComesTo L.setup parent.now (λ birth. post_gathered L.me (first_posts L.setup L.me (L.before + poster.old.share.amount)) (draft_of posting.now) parent.now (gathering birth L.me (length parent.now) tag.now ranks.now)) (first_posts L.setup L.me (L.before + poster.old.share.amount)) (placed place_of result) poster.old.share.amount poster.new.share.amount }
+{
+    gather_and_post(rt, alloc, port, poster, parent, *tag, ranks, posting)
+}
+
+// Whether a post is refused since the process isn't a member, as far as its board knows.
+fn is_no_member(refusal: PostError) -> bool
+    ensures { IsTrue result ↔ (refusal ≡ PostError.NotMember) }
+{
+    match refusal {
+        PostError::NotMember => true,
+        PostError::OutOfMemory => false,
+        PostError::RootOutOfRange => false,
+        PostError::OpNotForType => false,
+        PostError::CountsLength => false,
+        PostError::ItemsLength => false,
+        PostError::ItemOutOfRange => false,
+        PostError::TooManyItems => false,
+        PostError::NoTopology => false,
+        PostError::CallsUsedUp => false,
+        PostError::DepthUsedUp => false,
+        PostError::BadGroup => false,
+        PostError::BadEdge => false,
+        PostError::TooManyEdges => false,
+        PostError::BadTag => false,
+    }
+}

@@ -1,0 +1,37 @@
+//! Who may stop a run, and at which step of which process.
+use mpx_group::Proc;
+
+/// A step of a process at the bus.
+#[derive(Clone, Copy, Debug, PartialEq, Eq)]
+pub enum Step {
+    /// It puts a frame in.
+    Push,
+    /// It takes a frame out.
+    Pop,
+}
+
+/// What a gate says to a step.
+#[derive(Clone, Copy, Debug, PartialEq, Eq)]
+pub enum Pass {
+    /// The process takes the step.
+    Go,
+    /// The whole run gives up.
+    GiveUp,
+}
+
+/// It is asked before each step of each process at the bus, by the process's own thread, which holds no lock then. So a gate that waits
+/// holds that process back, and one that gives up ends the run.
+pub trait Gate {
+    /// `nth` counts the process's steps of this kind, from 0.
+    fn pass(&self, process: Proc, step: Step, nth: u64) -> Pass;
+}
+
+/// A gate that lets each step pass.
+#[derive(Clone, Copy, Debug)]
+pub struct OpenGate;
+
+impl Gate for OpenGate {
+    fn pass(&self, _process: Proc, _step: Step, _nth: u64) -> Pass {
+        Pass::Go
+    }
+}

@@ -1,0 +1,231 @@
+//! A run in threads: its bus, its processes, and what they come to.
+ghost use Rattle.std.specs.Prelude.{◌≡◌, ◌+◌, ◌++◌, ◌∷◌, ◌<◌, ◌≤◌, [], cond, IfOk, Ok, OnOk, length, map, slice_get, string_bytes};
+ghost use Rattle.mpx_evaluation.specs.Evaluation.{State, IsEvaluation};
+ghost use Rattle.mpx_evaluation.specs.Reports.{transcripts_of, which};
+ghost use Rattle.mpx_system.specs.Runs.{AreWhole, Begin};
+ghost use Rattle.mpx_bus.specs.Buses.{table_of};
+ghost use Rattle.mpx_bus.specs.declared.act.Setup.{Setup};
+ghost use Rattle.mpx_threads.specs.declared.worker.Worked.{Worked as WorkedView};
+ghost use Rattle.mpx_threads.specs.Plans.{Plans};
+ghost use Rattle.mpx_threads.specs.Runs.{IsThreadRun};
+ghost use Rattle.mpx_threads.specs.Work.{AreJobs, AreReady, AreWorked, IsReady, IsWorked, lines_in, waits_at};
+
+use crate::gate::Gate;
+use crate::gossip::Bench;
+use crate::watch::Watch;
+use crate::worker::{Job, Worked, work};
+use join_core::OutOfMemory;
+use mpx_bus::{Bus, Named, Port};
+use mpx_evaluation::Report;
+use mpx_job::Options;
+use mpx_script::Script;
+use std::alloc::Global;
+use std::marker::Brand;
+use std::sync::Wait;
+use std::thread::{Threads, map_vec};
+
+/// So many frames have room in the queue of a run.
+const ROOM: usize = 256;
+
+/// What a run in threads comes to.
+#[derive(Drop)]
+pub struct ThreadRun {
+    /// The lines of each rank, and who waits.
+    pub report: Report,
+    /// The queue that all ports share.
+    pub bus: Bus,
+    /// The port of each process: first those of the ranks, then the relays'.
+    pub ports: Vec<Port>,
+}
+
+/// Why a run in threads came to nothing.
+#[derive(Clone, Copy, Debug, Drop, PartialEq, Eq)]
+pub enum ThreadsError {
+    /// Memory was wanting.
+    OutOfMemory,
+    /// A gate gave up.
+    GateGaveUp,
+}
+
+impl From<OutOfMemory> for ThreadsError {
+    fn from(_e: OutOfMemory) -> ThreadsError {
+        ThreadsError::OutOfMemory
+    }
+}
+
+/// Runs a script's ranks, and relays, in threads of this program, over one queue of frames: each rank has one that carries out its
+/// statements and one that gossips, each relay one that gossips. A turn of a gossip takes a frame out of the queue and puts one in; each
+/// process makes at most `options.turns` of them, and none once all ranks have ended. The gate is asked before each step. The seed and
+/// the loss aren't used. It may wait. Where the system refuses threads, their work is done one after the other, and the run ends early,
+/// with ranks that wait.
+///
+/// # Errors
+/// `OutOfMemory` where memory was wanting in some thread; `GateGaveUp` where the gate gave up. All threads have ended then.
+pub fn run_threads<G: Gate + Sync, R: Threads + Wait + Sync>(
+    rt: &R,
+    alloc: Global,
+    script: &Script,
+    options: &Options,
+    gate: &G,
+) -> Result<ThreadRun, ThreadsError>
+    requires { script.now.ranks + options.now.relays ≤ 64 }
+    ensures run { IfOk result (λ run. IsThreadRun script.now options.now.relays (table_of run.bus) run.ports.items (transcripts_of run.report) run.report.waiting.items) }
+    ensures begins { IfOk result (λ run. (evaluation : State) → IsEvaluation script.now.statements script.now.ranks evaluation → Begin (transcripts_of run.report) evaluation) }
+    ensures whole { IfOk result (λ run. (evaluation : State) → IsEvaluation script.now.statements script.now.ranks evaluation → AreWhole (transcripts_of run.report) run.report.waiting.items evaluation) }
+{
+    let (bus, jobs) = planned_bus(alloc, script, options.relays)?;
+    let watch = Watch::new();
+    let worked = work_all(rt, alloc, &bus, gate, &watch, script, options, jobs)?;
+    if watch.has_given_up() {
+        return Err(ThreadsError::GateGaveUp);
+    }
+    let waiting = waiting_of(alloc, worked.as_slice(), script.ranks())?;
+    let (mut transcripts, ports) = parts_of(alloc, worked)?;
+    transcripts.truncate(script.ranks() as usize);
+    Ok(ThreadRun {
+        report: Report {
+            transcripts,
+            waiting,
+        },
+        bus,
+        ports,
+    })
+}
+
+// The bus, and a job for each process, whose plan is the script's evaluation.
+fn planned_bus(alloc: Global, script: &Script, relays: u8) -> Result<(Bus, Vec<Job>), OutOfMemory>
+    requires { script.now.ranks + relays ≤ 64 }
+    ensures { IfOk result (λ r. (setup : Setup) × AreReady script.now relays setup (table_of r.0) r.1.items) }
+{
+    let _ = script.ranks();
+    bus_by::<Brand>(alloc, script, relays)
+}
+
+fn bus_by<N: Named>(
+    alloc: Global,
+    script: &Script,
+    relays: u8,
+) -> Result<(Bus, Vec<Job>), OutOfMemory>
+    requires few { script.now.ranks + relays ≤ 64 }
+    requires plan { Plans script.now relays N.setup }
+    ensures { IfOk result (λ r. AreReady script.now relays N.setup (table_of r.0) r.1.items) }
+{
+    let ranks = script.ranks();
+    let (bus, ports) = Bus::new::<N>(alloc, ROOM, ranks, ranks + relays)?;
+    let jobs = jobs_of(alloc, ports)?;
+    Ok((bus, jobs))
+}
+
+// A job for each port.
+fn jobs_of(alloc: Global, ports: Vec<Port>) -> Result<Vec<Job>, OutOfMemory>
+    ensures { IfOk result (λ jobs. AreJobs ports.items jobs.items) }
+{
+    let mut jobs = Vec::new(alloc);
+    for port in ports {
+        let Ok(me) = u8::try_from(jobs.len()) else {
+            return Err(OutOfMemory);
+        };
+        jobs.push(Job { me, port })?;
+    }
+    Ok(jobs)
+}
+
+// All processes work, in threads of their own where these can be had.
+fn work_all<G: Gate + Sync, R: Threads + Wait + Sync>(
+    rt: &R,
+    alloc: Global,
+    bus: &Bus,
+    gate: &G,
+    watch: &Watch,
+    script: &Script,
+    options: &Options,
+    jobs: Vec<Job>,
+) -> Result<Vec<Worked>, OutOfMemory>
+    requires ready { (setup : Setup) × AreReady script.now options.now.relays setup (table_of bus.now) jobs.items }
+    requires few { script.now.ranks + options.now.relays ≤ 64 }
+    ensures { IfOk result (λ worked. (setup : Setup) × AreWorked script.now options.now.relays setup (table_of bus.now) worked.items) }
+{
+    let bench = Bench {
+        bus,
+        gate,
+        watch,
+        ranks: script.ranks(),
+        relays: options.relays,
+        turns: options.turns,
+    };
+    let bench = &bench;
+    let at_work = |job: Job| -> Result<Worked, OutOfMemory>
+        requires { IsReady script.now bench.now.relays job.port.setup (table_of bench.now.bus.now) job × ((bench.now.ranks ≡ script.now.ranks) × (bench.now.ranks + bench.now.relays ≤ 64)) }
+        ensures { IfOk result (λ worked. IsWorked script.entry.now bench.entry.now.relays job.port.setup (table_of bench.entry.now.bus.now) job.me worked) }
+    { work(rt, alloc, bench, script, job) };
+    let worked = map_vec(rt, jobs, &at_work)?;
+    all_worked(alloc, worked)
+}
+
+// All of them, where memory was wanting for none.
+fn all_worked(
+    alloc: Global,
+    worked: Vec<Result<Worked, OutOfMemory>>,
+) -> Result<Vec<Worked>, OutOfMemory>
+    ensures { IfOk result (λ all. map Ok all.items ≡ worked.items) }
+{
+    let mut all = Vec::new(alloc);
+    for one in worked {
+        all.push(one?)?;
+    }
+    Ok(all)
+}
+
+// The ranks that have something left, in rising order.
+fn waiting_of(alloc: Global, worked: &[Worked], ranks: u8) -> Result<Vec<u8>, OutOfMemory>
+    requires { ranks ≤ length worked.now }
+    ensures { IfOk result (λ waiting. waiting.items ≡ which (λ p. waits_at (slice_get worked.now p)) ranks) }
+{
+    let mut waiting = Vec::new(alloc);
+    for p in 0..ranks {
+        push_where(&mut waiting, p, worked[p as usize].waits)?;
+    }
+    Ok(waiting)
+}
+
+// Adds the rank where the test holds.
+fn push_where(ranks: &mut Vec<u8>, rank: u8, test: bool) -> Result<(), OutOfMemory>
+    ensures { OnOk result (ranks.new.items ≡ ranks.old.items ++ cond test (rank ∷ []) []) }
+{
+    if !test {
+        return Ok(());
+    }
+    ranks.push(rank)?;
+    Ok(())
+}
+
+// The lines and the port of each process.
+fn parts_of(
+    alloc: Global,
+    worked: Vec<Worked>,
+) -> Result<(Vec<Vec<String>>, Vec<Port>), OutOfMemory>
+    ensures lines { IfOk result (λ parts. map (λ lines. map string_bytes lines.items) parts.0.items ≡ map lines_in worked.items) }
+    ensures ports { IfOk result (λ parts. parts.1.items ≡ map (λ (w : WorkedView). w.port) worked.items) }
+{
+    let mut transcripts = Vec::new(alloc);
+    let mut ports = Vec::new(alloc);
+    for one in worked {
+        push_parts(one, &mut transcripts, &mut ports)?;
+    }
+    Ok((transcripts, ports))
+}
+
+// Adds the lines and the port of a process.
+fn push_parts(
+    worked: Worked,
+    transcripts: &mut Vec<Vec<String>>,
+    ports: &mut Vec<Port>,
+) -> Result<(), OutOfMemory>
+    ensures lines { OnOk result (map (λ lines. map string_bytes lines.items) transcripts.new.items ≡ map (λ lines. map string_bytes lines.items) transcripts.old.items ++ lines_in worked ∷ []) }
+    ensures ports { OnOk result (ports.new.items ≡ ports.old.items ++ worked.port ∷ []) }
+{
+    let Worked { port, lines, .. } = worked;
+    transcripts.push(lines)?;
+    ports.push(port)?;
+    Ok(())
+}

@@ -1,0 +1,126 @@
+//! What a rank was told of its calls.
+ghost use Rattle.std.specs.Prelude.{◌≡◌, ◌++◌, ◌∷◌, [], IfOk, IfNone, IfSome, OnOk, Some, true, false};
+ghost use Rattle.mpx_node.specs.Shown.{node_of};
+ghost use Rattle.mpx_evaluation.specs.Ranks.{bound_by};
+ghost use Rattle.mpx_rank.specs.Places.{bound_as};
+ghost use Rattle.mpx_threads.specs.Plans.{planned_results};
+ghost use Rattle.mpx_threads.specs.Told.{AllHeld, answer_of, is_among};
+
+use join_core::{Exact, OutOfMemory};
+use mpx_name::Name;
+use mpx_node::Node;
+use mpx_post::Birth;
+use mpx_shared::Dock;
+use mpx_value::Outcome;
+use std::alloc::Global;
+use std::marker::{Model, PhantomData};
+
+/// What came of a call, and how the communicator came to be that it gave.
+#[derive(Drop)]
+pub(crate) struct Answered {
+    pub(crate) outcome: Outcome,
+    pub(crate) born: Option<Birth>,
+}
+
+impl Answered {
+    /// The communicator that the call gave, where it gave one.
+    pub(crate) fn given(&self, alloc: Global) -> Result<Option<(Name, Birth)>, OutOfMemory>
+        ensures { IfOk result (λ given. bound_as given ≡ bound_by self.now.outcome self.now.born) }
+    {
+        match &self.outcome {
+            Outcome::NewComm { name, .. } => match &self.born {
+                Some(birth) => Ok(Some((name.copy(alloc)?, birth.copy(alloc)?))),
+                None => Ok(None),
+            },
+            Outcome::Nothing => Ok(None),
+            Outcome::Absent => Ok(None),
+            Outcome::Items(_) => Ok(None),
+            Outcome::Null => Ok(None),
+            Outcome::Fault(_) => Ok(None),
+        }
+    }
+}
+
+/// A call, and what came of it.
+#[derive(Drop)]
+pub(crate) struct ToldCall {
+    pub(crate) name: Name,
+    pub(crate) call: u32,
+    pub(crate) answered: Answered,
+}
+
+/// All that a rank was told of its calls, each as the plan's posts give it.
+#[derive(Drop)]
+pub(crate) struct Told<L: Dock> {
+    calls: Vec<ToldCall>,
+    of: PhantomData<L>,
+}
+
+impl<L: Dock> Model for Told<L> {
+    ghost use Rattle.std.specs.Prelude.{List};
+    ghost use Rattle.mpx_threads.specs.declared.told.ToldCall.{ToldCall};
+    ghost use Rattle.mpx_threads.specs.Plans.{planned_results};
+    ghost use Rattle.mpx_threads.specs.Told.{AreSo};
+
+    ghost Value = { List ToldCall };
+
+    ghost view = { λ t. t.calls.items };
+
+    ghost invariant = { λ t. AreSo (planned_results L.setup L.me) t.calls.items };
+}
+
+impl<L: Dock> Told<L> {
+    /// Nothing yet.
+    pub(crate) fn new(alloc: Global) -> Told<L>
+        ensures { result ≡ [] }
+    {
+        Told {
+            calls: Vec::new(alloc),
+            of: PhantomData,
+        }
+    }
+
+    /// One more.
+    pub(crate) fn add(
+        &mut self,
+        name: Name,
+        call: u32,
+        answered: Answered,
+    ) -> Result<(), OutOfMemory>
+        requires { planned_results L.setup L.me name call ≡ Some (answer_of answered) }
+        ensures { OnOk result (self.new ≡ self.old ++ record { name = name; call = call; answered = answered } ∷ []) }
+    {
+        self.calls.push(ToldCall {
+            name,
+            call,
+            answered,
+        })?;
+        Ok(())
+    }
+
+    /// What was told of a call.
+    pub(crate) fn find(&self, name: &Name, call: u32) -> Option<&Answered>
+        ensures some { IfSome result (λ answered. planned_results L.setup L.me name.now call ≡ Some (answer_of answered.now)) }
+        ensures is_there { IfSome result (λ answered. is_among self.now name.now call ≡ true) }
+        ensures none { IfNone result (is_among self.now name.now call ≡ false) }
+    {
+        for told in &self.calls {
+            if told.call == call && told.name.same(name) {
+                return Some(&told.answered);
+            }
+        }
+        None
+    }
+
+    /// Whether the node holds a result of each of these calls.
+    pub(crate) fn are_held(&self, node: &Node) -> bool
+        ensures { result ≡ true → AllHeld (node_of node.now) self.now }
+    {
+        for told in &self.calls {
+            if node.result(&told.name, told.call).is_none() {
+                return false;
+            }
+        }
+        true
+    }
+}

@@ -1,0 +1,205 @@
+//! A process of a run: a rank works in two threads over one port, a relay in one.
+ghost use Rattle.std.specs.Prelude.{◌≡◌, ◌+◌, ◌<◌, ◌≤◌, ℕ, IfOk, [], length, map, string_bytes};
+ghost use Rattle.mpx_bus.specs.Buses.{table_of};
+ghost use Rattle.mpx_shared.specs.Docks.{IsDocked, made_in};
+ghost use Rattle.mpx_threads.specs.Plans.{Plans};
+ghost use Rattle.mpx_threads.specs.Work.{HasCome, HasWorked, IsReady, IsWorked, lines_in};
+
+use crate::carry::{Carried, carry_out};
+use crate::gate::Gate;
+use crate::gossip::{Bench, gossip};
+use crate::told::Told;
+use crate::watch::Signal;
+use join_core::OutOfMemory;
+use mpx_bus::Port;
+use mpx_group::Proc;
+use mpx_script::Script;
+use mpx_shared::{Dock, Poster, SharedPort};
+use std::alloc::Global;
+use std::marker::Brand;
+use std::sync::Wait;
+use std::sync::ledger::Blank;
+use std::thread::{Threads, join};
+
+/// A process before it works: its number and its port.
+#[derive(Drop)]
+pub(crate) struct Job {
+    pub(crate) me: u8,
+    pub(crate) port: Port,
+}
+
+/// A process when it has worked: its port, and, of a rank, its lines and whether it has something left.
+#[derive(Drop)]
+pub(crate) struct Worked {
+    pub(crate) port: Port,
+    pub(crate) lines: Vec<String>,
+    pub(crate) waits: bool,
+}
+
+/// Lets a process work.
+pub(crate) fn work<G: Gate + Sync, R: Threads + Wait + Sync>(
+    rt: &R,
+    alloc: Global,
+    bench: &Bench<'_, G>,
+    script: &Script,
+    job: Job,
+) -> Result<Worked, OutOfMemory>
+    requires ready { IsReady script.now bench.now.relays job.port.setup (table_of bench.now.bus.now) job }
+    requires ranks { bench.now.ranks ≡ script.now.ranks }
+    requires few { bench.now.ranks + bench.now.relays ≤ 64 }
+    ensures { IfOk result (λ worked. IsWorked script.now bench.now.relays job.port.setup (table_of bench.now.bus.now) job.me worked) }
+{
+    let Job { me, port } = job;
+    if me < bench.ranks {
+        work_as_rank::<Brand, G, R>(rt, alloc, bench, script, Proc::new(me), port, Blank::new(1))
+    } else {
+        work_as_relay::<Brand, G, R>(rt, alloc, bench, Proc::new(me), port, Blank::new(1))
+    }
+}
+
+// A rank goes on with its statements in one thread, and gossips in the other. Where no second thread can be had it gossips first, so
+// that the rank then waits for nobody.
+fn work_as_rank<L: Dock + Send + Sync, G: Gate + Sync, R: Threads + Wait + Sync>(
+    rt: &R,
+    alloc: Global,
+    bench: &Bench<'_, G>,
+    script: &Script,
+    me: Proc,
+    port: Port,
+    blank: Blank,
+) -> Result<Worked, OutOfMemory>
+    requires ledger { (blank.name ≡ L.name) × ((blank.parts ≡ L.parts) × ((L.all ≡ L.parts) × (0 < L.parts))) }
+    requires me { (me ≡ L.me) × (me < script.now.ranks) }
+    requires port { IsDocked L.table L.setup L.me port }
+    requires new { (L.before ≡ 0) × (length (made_in port) ≡ 0) }
+    requires queue { table_of bench.now.bus.now ≡ L.table }
+    requires plan { Plans script.now bench.now.relays L.setup }
+    ensures docked { IfOk result (λ worked. IsDocked L.table L.setup L.me worked.port) }
+    ensures worked { IfOk result (λ worked. HasWorked script.now bench.now.relays L.setup L.me worked.port (lines_in worked) worked.waits) }
+{
+    let (shared, poster) = SharedPort::<L>::new(alloc, port, me, blank);
+    let signal = Signal::new();
+    let carried = carry_and_gossip(rt, alloc, bench, script, me, &shared, &signal, poster)?;
+    let Carried {
+        lines,
+        waits,
+        told,
+        poster,
+    } = carried;
+    let port = shared.into_port(poster);
+    Ok(with_port(script, me, port, lines, waits, &told))
+}
+
+// Both at once.
+fn carry_and_gossip<L: Dock + Send + Sync, G: Gate + Sync, R: Threads + Wait + Sync>(
+    rt: &R,
+    alloc: Global,
+    bench: &Bench<'_, G>,
+    script: &Script,
+    me: Proc,
+    port: &SharedPort<L>,
+    signal: &Signal,
+    poster: Poster<L>,
+) -> Result<Carried<L>, OutOfMemory>
+    requires ledger { (L.all ≡ L.parts) × (0 < L.parts) }
+    requires me { (me ≡ L.me) × (me < script.now.ranks) }
+    requires new { (L.before ≡ 0) × (poster.share.amount ≡ 0) }
+    requires queue { table_of bench.now.bus.now ≡ L.table }
+    requires plan { Plans script.now bench.now.relays L.setup }
+    ensures { IfOk result (λ carried. HasCome script.now L.setup me carried.told carried.poster.share.amount (map string_bytes carried.lines.items) carried.waits) }
+{
+    let (carried, gossiped) = join(
+        rt,
+        move || -> Result<Carried<L>, OutOfMemory>
+            requires { (L.all ≡ L.parts) × ((0 < L.parts) × ((me ≡ L.me) × ((me < script.now.ranks) × ((L.before ≡ 0) × ((poster.share.amount ≡ 0) × Plans script.now bench.now.relays L.setup))))) }
+            ensures { IfOk result (λ carried. HasCome script.entry.now L.setup me carried.told carried.poster.share.amount (map string_bytes carried.lines.items) carried.waits) }
+        { carry(rt, alloc, bench, script, me, port, signal, poster) },
+        || -> bool
+            requires { table_of bench.now.bus.now ≡ L.table }
+        { gossip(rt, alloc, bench, me, port, signal) },
+    );
+    let carried = carried?;
+    if gossiped {
+        Ok(carried)
+    } else {
+        Err(OutOfMemory)
+    }
+}
+
+// The rank's part: it says so when it ends, and stops the run where memory was wanting.
+fn carry<L: Dock, G: Gate, R: Wait>(
+    rt: &R,
+    alloc: Global,
+    bench: &Bench<'_, G>,
+    script: &Script,
+    me: Proc,
+    port: &SharedPort<L>,
+    signal: &Signal,
+    poster: Poster<L>,
+) -> Result<Carried<L>, OutOfMemory>
+    requires ledger { (L.all ≡ L.parts) × (0 < L.parts) }
+    requires me { (me ≡ L.me) × (me < script.now.ranks) }
+    requires new { (L.before ≡ 0) × (poster.share.amount ≡ 0) }
+    requires plan { Plans script.now bench.now.relays L.setup }
+    ensures { IfOk result (λ carried. HasCome script.now L.setup me carried.told carried.poster.share.amount (map string_bytes carried.lines.items) carried.waits) }
+{
+    let looks = u64::from(bench.turns) + 2;
+    let carried = carry_out(rt, alloc, script, me, port, signal, looks, poster);
+    if carried.is_err() {
+        bench.watch.stop();
+    }
+    bench.watch.rank_ends();
+    carried
+}
+
+// The rank's lines beside its port, which holds what they tell; none, if ever it didn't.
+fn with_port<L: Dock>(
+    script: &Script,
+    me: Proc,
+    port: Port,
+    lines: Vec<String>,
+    waits: bool,
+    told: &Told<L>,
+) -> Worked
+    requires port { IsDocked L.table L.setup L.me port }
+    requires me { me ≡ L.me }
+    requires come { HasCome script.now L.setup L.me told.now (length (made_in port)) (map string_bytes lines.items) waits }
+    ensures port { result.port ≡ port }
+    ensures worked { (relays : ℕ) → HasWorked script.now relays L.setup L.me port (lines_in result) result.waits }
+{
+    if told.are_held(port.node()) {
+        return Worked { port, lines, waits };
+    }
+    let mut lines = lines;
+    lines.clear();
+    let waits = !script.statements(me.number()).is_empty();
+    Worked { port, lines, waits }
+}
+
+// A relay gossips alone.
+fn work_as_relay<L: Dock, G: Gate, R: Wait>(
+    rt: &R,
+    alloc: Global,
+    bench: &Bench<'_, G>,
+    me: Proc,
+    port: Port,
+    blank: Blank,
+) -> Result<Worked, OutOfMemory>
+    requires ledger { (blank.name ≡ L.name) × ((blank.parts ≡ L.parts) × (L.all ≡ L.parts)) }
+    requires me { me ≡ L.me }
+    requires port { IsDocked L.table L.setup L.me port }
+    requires new { (L.before ≡ 0) × (length (made_in port) ≡ 0) }
+    requires queue { table_of bench.now.bus.now ≡ L.table }
+    ensures docked { IfOk result (λ worked. IsDocked L.table L.setup L.me worked.port) }
+    ensures none { IfOk result (λ worked. made_in worked.port ≡ []) }
+{
+    let (shared, poster) = SharedPort::<L>::new(alloc, port, me, blank);
+    if !gossip(rt, alloc, bench, me, &shared, &Signal::new()) {
+        return Err(OutOfMemory);
+    }
+    Ok(Worked {
+        port: shared.into_port(poster),
+        lines: Vec::new(alloc),
+        waits: false,
+    })
+}
