@@ -4,7 +4,8 @@
 Each examples/NAME.job with its NAME.out is to be a row of `run` and one of `eval`. Of `check`, `eval` and `run` the second opinion
 tells what a row prints on both streams, and the status. A run with options that ends early prints a beginning of each rank's
 lines, and has status 3. Texts of usage, and calls with more than 64 processes, are known to the program alone, and so are
-words that are no call (`statements`, `reader 5 run`). Scripts that are made of pieces (`>*`) would take it minutes.
+words that are no call (`statements`, `reader 5 run`). Scripts that are made of pieces (`>*`) would take it minutes. The last line of all
+tells how many runs were made in threads too: the first of each script that ends well.
 
 rows.py     prints what disagrees, and how many rows were held; exit status 1 if any disagrees. No gate runs it.
 """
@@ -48,6 +49,7 @@ def rows_asked(stdin):
 def rows_told(asked, stdout):
     """What each row prints, on both streams, and its status; None where the rows don't follow one another."""
     told, at, last = [], 0, None
+    stdout = stdout[: stdout.rindex(b"\n", 0, -1) + 1]
     for line, *_ in asked:
         if not stdout.startswith(line + b"\n", at):
             return None
@@ -78,6 +80,17 @@ def beginnings(text, whole):
     return all(of(lines, rank) == of(all_lines, rank)[:len(of(lines, rank))] for rank in ranks)
 
 
+def in_threads(asked, told):
+    """How many runs are made in threads too."""
+    count, is_done = 0, False
+    for (line, *_), (_, status) in zip(asked, told):
+        words = line.split()
+        is_done = is_done and line.startswith(b">> ")
+        if not is_done and words[1:2] == [b"run"] and b"--threads" not in words and status == 0:
+            count, is_done = count + 1, True
+    return count
+
+
 def is_held(words, script, told, opinions):
     """Whether the row is as the second opinion says; None where that says nothing."""
     text, status = told
@@ -94,7 +107,11 @@ def is_held(words, script, told, opinions):
 
 def main():
     asked = rows_asked(contents("crates", "job_rows", "stdin"))
-    told = rows_told(asked, contents("crates", "job_rows", "stdout"))
+    stdout = contents("crates", "job_rows", "stdout")
+    told = rows_told(asked, stdout)
+    if told is not None and not stdout.endswith(b"\n%d runs were made in threads too\n" % in_threads(asked, told)):
+        print("%d runs are made in threads too" % in_threads(asked, told))
+        return 1
     if told is None:
         print("the rows of stdout don't follow those of stdin")
         return 1

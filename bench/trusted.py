@@ -6,7 +6,8 @@
     bench/trusted.py -v ..               with the lines of each file
 
 It follows names: from a function's clauses to the definitions that they name, in `specs/` of any crate, to the types of `src/` that
-these name, and so on. What counts are lines with something in them, without comments and without `use`."""
+these name, and so on. What counts are lines with something in them, without comments and without `use`. What only the crates of threads lead
+to is counted apart."""
 import collections
 import pathlib
 import re
@@ -21,6 +22,7 @@ PROMISES = {
     ],
     "what is printed": [("mpx_program", ["run_job"]), ("mpx_system", ["every_run_begins_the_evaluation"])],
 }
+THREADS = {"mpx_bus", "mpx_shared", "mpx_threads"}
 
 
 def without_comments(text, mark):
@@ -105,7 +107,8 @@ def clauses(crate, function):
     sys.exit(f"{crate} has no public function {function}")
 
 
-def count(starts):
+def count(starts, without=()):
+    """The lines by file; no definition or type of the crates `without` is entered."""
     files, seen, total = {}, set(), collections.Counter()
     todo = []
     for crate, functions in starts:
@@ -116,7 +119,7 @@ def count(starts):
                      for word in WORD.findall(said) if word.split(".")[0] in brought]
     while todo:
         module, name = todo.pop()
-        if (module, name) in seen:
+        if (module, name) in seen or module.split(".")[1:2] and module.split(".")[1] in without:
             continue
         seen.add((module, name))
         file = spec(module)
@@ -149,8 +152,10 @@ def main(words):
     words = [word for word in words if word != "-v"]
     asked = {words[0]: [(words[0], words[1:])]} if len(words) > 1 else PROMISES
     for what, starts in asked.items():
-        total = count(starts)
-        print(f"{what}: {sum(total.values())} lines in {len(total)} files")
+        total, apart = count(starts), count(starts, THREADS)
+        threads = sum(total.values()) - sum(apart.values())
+        more = f", and {threads} for threads" * (threads > 0)
+        print(f"{what}: {sum(apart.values())} lines in {len(apart)} files{more}")
         if told:
             for place, lines in total.most_common():
                 print(f"    {lines:4} {place}")

@@ -258,6 +258,11 @@ fn strange_job<T: Threads + Wait + Sync>(
 struct Shut;
 
 impl Gate for Shut {
+    ghost use Rattle.std.specs.Prelude.{◌≡◌};
+    ghost use Rattle.mpx_threads.specs.declared.gate.Step.TheVariants.{Push};
+
+    ghost gives_up = { λ _gate _process step nth. (step ≡ Push) × (nth ≡ 4) };
+
     fn pass(&self, _process: Proc, step: Step, nth: u64) -> Pass {
         if step == Step::Push && nth == 4 {
             Pass::GiveUp
@@ -275,6 +280,11 @@ struct Both {
 }
 
 impl Gate for Both {
+    ghost use Rattle.std.specs.Prelude.{◌≡◌};
+    ghost use Rattle.mpx_threads.specs.declared.gate.Step.TheVariants.{Pop};
+
+    ghost gives_up = { λ _gate _process step nth. (step ≡ Pop) × (nth ≡ 0) };
+
     fn pass(&self, process: Proc, step: Step, nth: u64) -> Pass {
         if step == Step::Push || nth != 0 {
             return Pass::Go;

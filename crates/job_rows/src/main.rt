@@ -2,16 +2,20 @@
 //! a script, which ends before the line feed in front of the next row; a line `>* WORDS` has a script that is made of pieces
 //! ([`lines::of_pieces`]); a line `>> WORDS` asks for the script above once more. Behind each row's own line stand the text
 //! that is printed, what the standard error is told, and `= STATUS`, or `= as above`, where the script's row before came to the
-//! same. Words that are no call of the program, as `statements` or `reader 5 run`, are told in [`calls`].
+//! same. Words that are no call of the program, as `statements` or `reader 5 run`, are told in [`calls`]. Of each script the first run
+//! that ends well is made in threads too ([`threaded`]): where that comes to something else, this stands behind `in threads:`, and the
+//! last line of all tells how many were made so.
 #![tactic(auto)]
 
 mod calls;
 mod lines;
 mod statements;
 mod streams;
+mod threaded;
 
 use crate::calls::told;
 use crate::lines::of_pieces;
+use crate::threaded::Threaded;
 use std::alloc::Global;
 use std::io;
 use std::io::{Read, Write};
@@ -26,6 +30,7 @@ fn tell<T: Threads + Wait + Sync>(
     line: &[u8],
     script: &mut Vec<u8>,
     last: &[u8],
+    threaded: &mut Threaded,
     text: &mut Vec<u8>,
 ) -> io::Result<Vec<u8>> {
     if line.starts_with(b">* ") {
@@ -39,6 +44,10 @@ fn tell<T: Threads + Wait + Sync>(
     } else {
         text.extend_from_slice(&came)?;
     }
+    if let Some(again) = threaded.run_again(rt, alloc, line, script, &came)? {
+        text.extend_from_slice(b"in threads:\n")?;
+        text.extend_from_slice(&again)?;
+    }
     Ok(came)
 }
 
@@ -48,16 +57,26 @@ fn all_told<T: Threads + Wait + Sync>(rt: &T, alloc: Global, rows: &[u8]) -> io:
     let mut call = Vec::new(alloc);
     let mut script = Vec::new(alloc);
     let mut last = Vec::new(alloc);
+    let mut threaded = Threaded::new();
     let mut is_first = true;
     for line in rows.split(|byte| *byte == b'\n') {
         let is_new = line.starts_with(b"> ") || line.starts_with(b">* ");
         if is_new || line.starts_with(b">> ") {
             if !call.is_empty() {
-                last = tell(rt, alloc, &call, &mut script, &last, &mut text)?;
+                last = tell(
+                    rt,
+                    alloc,
+                    &call,
+                    &mut script,
+                    &last,
+                    &mut threaded,
+                    &mut text,
+                )?;
             }
             if is_new {
                 script.clear();
                 last.clear();
+                threaded.begin_script();
             }
             call.clear();
             call.extend_from_slice(line)?;
@@ -70,7 +89,16 @@ fn all_told<T: Threads + Wait + Sync>(rt: &T, alloc: Global, rows: &[u8]) -> io:
             is_first = false;
         }
     }
-    tell(rt, alloc, &call, &mut script, &last, &mut text)?;
+    tell(
+        rt,
+        alloc,
+        &call,
+        &mut script,
+        &last,
+        &mut threaded,
+        &mut text,
+    )?;
+    writeln!(text, "{} runs were made in threads too", threaded.count())?;
     Ok(text)
 }
 

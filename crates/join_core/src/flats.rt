@@ -1,3 +1,4 @@
+// A value that is told once.
 ghost use Rattle.join_core.specs.Laws.{old_or_joined};
 ghost use Rattle.join_core.specs.BetweenLaws.{old_or_joined-laws};
 ghost use Rattle.join_core.specs.Flat.{FlatView, flat_equal, flat_joining};

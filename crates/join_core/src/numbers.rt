@@ -1,3 +1,4 @@
+// Numbers that only go up, and numbers as keys.
 ghost use Rattle.std.specs.Prelude.{ℕ, nat_eq};
 ghost use Rattle.join_core.specs.Max.{nat_equality, max_joining, max_laws};
 ghost use Rattle.join_core.specs.Laws.{never_between, never_joined, old_or_joined};

@@ -1,3 +1,4 @@
+// Two values that are joined side by side.
 ghost use Rattle.join_core.specs.Pair.{pair_between, pair_equal, pair_joining};
 ghost use Rattle.join_core.specs.BetweenLaws.{pair_between_laws};
 ghost use Rattle.join_core.specs.PairLaws.{pair_equality, pair_laws};

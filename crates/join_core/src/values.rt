@@ -1,3 +1,4 @@
+// What a value has to have to be compared, joined, or a key of a map.
 ghost use Rattle.std.specs.Prelude.{◌≡◌, Bool, false, IfOk, OnOk, OnErr};
 ghost use Rattle.join_core.specs.Laws.{IsEquality, Joining, JoinLaws, BetweenLaws, IsInjective};
 ghost use Rattle.std.specs.FinMap.{IsAntisymmetric};

@@ -1,3 +1,4 @@
+// Finite maps, joined key by key.
 ghost use Rattle.std.specs.Prelude.{◌≡◌, nat_eq, IsTrue, IfOk, OnOk, OnErr};
 ghost use Rattle.std.specs.FinMap.{FinMap, is_sorted, empty, get, entries, len, insert, from_sorted};
 ghost use Rattle.std.specs.Option.{option_map, option_copied};

@@ -1,3 +1,4 @@
+// Values by call, above a dropped front.
 ghost use Rattle.std.specs.Prelude.{◌≡◌, ℕ, IsTrue, IfOk, OnOk, OnErr, ◌≤◌, length, drop, nat_le};
 ghost use Rattle.std.specs.Ordering.{nat_cmp};
 ghost use Rattle.std.specs.FinMap.{is_sorted, empty, get, entries, insert, from_sorted};

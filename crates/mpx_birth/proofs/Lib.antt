@@ -3,3 +3,7 @@ pub mod Below
 pub mod Kept
 pub mod Asked
 pub mod Telling
+pub mod Turns
+pub mod Meeting
+pub mod Passes
+pub mod Examples

@@ -1,3 +1,4 @@
+// How a communicator came to be.
 ghost use Rattle.std.specs.Prelude.{◌≡◌, ◌<◌, ◌≤◌, All, IfOk, MatchOption, OnErr, Some, false, length, true};
 ghost use Rattle.std.specs.Option.{option_copied};
 ghost use Rattle.mpx_group.specs.Group.{IsGroup, has_twice};

@@ -1,3 +1,4 @@
+// The neighbours of each rank of a distributed graph.
 ghost use Rattle.std.specs.Prelude.{◌≡◌, ◌≤◌, ◌++◌, ◌∷◌, ◌&&◌, [], IfOk, MatchOption, OnOk, OnErr, false, length, nat_eq, true};
 ghost use Rattle.std.specs.Arc.{arc_value};
 ghost use Rattle.mpx_birth.specs.Topologies.{Agrees, IsTopology, destinations_at, is_topology, most_neighbours, nobody, same_near, same_nears, same_topology, sources_at};

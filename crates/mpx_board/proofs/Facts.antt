@@ -72,7 +72,7 @@ looks_below a b h = record {
 births_bound : IsLeastUpperBound (flat_joining same_birth)
 births_bound = bound_laws (flat_laws birth_equality)
 
-posts_bound : IsLeastUpperBound (flat_joining same_given)
+pub posts_bound : IsLeastUpperBound (flat_joining same_given)
 posts_bound = bound_laws (flat_laws given_equality)
 
 -- a post is below the join with another, or is dropped
@@ -140,10 +140,10 @@ join_is_least a b = record {
 
 -- THE JOIN OF MANY
 
-births_order : IsOrder (flat_joining same_birth)
+pub births_order : IsOrder (flat_joining same_birth)
 births_order = order_laws (flat_laws birth_equality)
 
-posts_order : IsOrder (flat_joining same_given)
+pub posts_order : IsOrder (flat_joining same_given)
 posts_order = order_laws (flat_laws given_equality)
 
 pub under_itself : (a : Look) → IsUnder a a

@@ -57,13 +57,6 @@ remain_either : {V : Type 0} (j : Joining V) (p : V → Bool) → ((a b : V) →
 remain_either j p joined a b m s t (inl e) = ap p e ∙ s
 remain_either j p joined a b m s t (inr e) = ap p e ∙ joined a b s t
 
-module _ {A B : Type 0} (s : A → A → A → Type 0) (t : B → B → B → Type 0) where
-  remain_first : {p : A → Bool} → Remains s p → Remains (pair_between s t) (λ x. p x.0)
-  remain_first k a b m u v h = k a.0 b.0 m.0 u v h.0
-
-  remain_second : {p : B → Bool} → Remains t p → Remains (pair_between s t) (λ x. p x.1)
-  remain_second k a b m u v h = k a.1 b.1 m.1 u v h.1
-
 module _ {V : Type 0} {between : V → V → V → Type 0} {p : V → Bool} (keep : Remains between p) where
   left_at : (x y m : Option V) (v : V) → option_between between x y m → m ≡ Some v → ((w : V) → x ≡ Some w → p w ≡ true) → ((w : V) → y ≡ Some w → p w ≡ true) → p v ≡ true
   left_at None None m v h is s t = cc

@@ -1,3 +1,4 @@
+// What a process knows of all contexts, and how it is changed in place.
 ghost use Rattle.std.specs.Prelude.{◌≡◌, ◌↔◌, ◌<◌, ◌≤◌, true, false, not, map, IfOk, OnOk, OnErr, IsErrOf, MatchOption, IsTrue};
 ghost use Rattle.std.specs.FinMap.{get, insert};
 ghost use Rattle.std.specs.Option.{option_copied, option_map};

@@ -56,10 +56,6 @@ pub last_of_one : (bytes : List ℕ) (push : Push) (a : Berth) (kept : List (Lis
 last_of_one bytes P.Pushed a kept b may p = p
 last_of_one bytes (P.Full frame) a kept b may p = (p.0, (ap (λ (x : Berth). x.journal) p.1, subst (λ (x : Berth). CanPush x frame) (sym p.1) (subst (CanPush a) (sym p.0) may)))
 
--- a list that is there, or a new one, and a push of its next frame
-pub next_of_list : (push : Push) (a mid b : Berth) → Lists a mid → (bytes : List ℕ) × (mid.kept ≡ b.kept ++ bytes ∷ []) × PushesLast bytes push mid b → PushesNext push a b
-next_of_list push a mid b l p = record { listed = mid; lists = l; bytes = p.0; next = p.1; pushes = p.2 }
-
 -- a frame that comes back may be pushed on
 pub full_can_push : (push : Push) (frame : List ℕ) (a b : Berth) → push ≡ P.Full frame → PushesNext push a b → CanPush b frame
 full_can_push push frame a b is n = (subst (λ q. PushesLast n.bytes q n.listed b) is n.pushes).1.1

@@ -83,25 +83,5 @@ have_finished view a b parts es count board is rises tells counted = record {
 
 -- ONE CONTEXT MORE
 
-fold_last : (a : ℕ) (xs : List ℕ) (y : ℕ) → fold (λ s x. s + x) a (xs ++ y ∷ []) ≡ fold (λ s x. s + x) a xs + y
-fold_last a [] y = refl
-fold_last a (x ∷ xs) y = fold_last (a + x) xs y
-
-keys_more : {V : Type 0} (f : Name → ℕ) (es : List (Name × V)) (i : ℕ) (x : Name × V) → slice_get es i ≡ Some x → map f (keys (take (suc i) es)) ≡ map f (keys (take i es)) ++ f x.0 ∷ []
-keys_more f [] i x e = cc e
-keys_more f (y ∷ es) zero x e = ap (λ z. f z ∷ []) (ap (λ z. z.0) (same_Some y x e))
-keys_more f (y ∷ es) (suc i) x e = ap (λ ks. f y.0 ∷ ks) (keys_more f es i x e)
-
-next_count : (m s x before after : ℕ) → before ≡ min m s → after ≡ min (before + x) m → after ≡ min m (s + x)
-next_count m s x before after e e' = omega (arith, e, e')
-
-pub counted_more : {V : Type 0} (f : Name → ℕ) (es : List (Name × V)) (i : ℕ) (x : Name × V) (before after : ℕ) → slice_get es i ≡ Some x → before ≡ min (2 ^ 64 - 1) (sum (map f (keys (take i es)))) → after ≡ min (before + f x.0) (2 ^ 64 - 1)
-    → after ≡ min (2 ^ 64 - 1) (sum (map f (keys (take (i + 1) es))))
-counted_more f es i x before after at e e' =
-    let next : suc i ≡ i + 1 = omega arith in
-    next_count (2 ^ 64 - 1) (sum (map f (keys (take i es)))) (f x.0) before after e e'
-    ∙ ap (min (2 ^ 64 - 1)) (sym (ap sum (keys_more f es i x at) ∙ fold_last 0 (map f (keys (take i es))) (f x.0)))
-    ∙ ap (λ n. min (2 ^ 64 - 1) (sum (map f (keys (take n es))))) next
-
 pub whole_count : {V : Type 0} (f : Name → ℕ) (es : List (Name × V)) (i : ℕ) (count : ℕ) → length es ≤ i → count ≡ min (2 ^ 64 - 1) (sum (map f (keys (take i es)))) → count ≡ min (2 ^ 64 - 1) (sum (map f (keys es)))
 whole_count f es i count le e = e ∙ ap (λ xs. min (2 ^ 64 - 1) (sum (map f (keys xs)))) (take_all i es le)

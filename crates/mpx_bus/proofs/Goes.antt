@@ -2,15 +2,12 @@
 use Rattle.std.proofs.Common.{◌≡◌, ℕ, List, [], ◌∷◌, ◌++◌, Some, None, Option, Result, Ok, Err, OnErr, refl, sym, ap, ◌∙◌, subst, append_assoc}
 use mathlib.Core.List.{IsPrefix}
 use Rattle.mpx_name.specs.Name.{Name}
-use Rattle.mpx_post.specs.Gatherings.{GatheringView}
-use Rattle.mpx_post.specs.declared.draft.PostError.{PostError}
-use Rattle.mpx_board.specs.declared.errors.PruneError.{PruneError}
 use Rattle.mpx_board.specs.Boards.{floor_on}
 use Rattle.mpx_board.specs.Changes.{pruned}
 use Rattle.mpx_value.specs.Histories.{Made}
 use Rattle.mpx_node.specs.declared.finished.Finished.{Finished}
 use Rattle.mpx_node.specs.Nodes.{next_result, gathers_on}
-use Rattle.mpx_world.specs.Worlds.{ProcessView, stores, opens_gathering, drops}
+use Rattle.mpx_world.specs.Worlds.{ProcessView, stores}
 use Rattle.mpx_bus.specs.declared.act.Act.{Act}
 use Rattle.mpx_bus.specs.declared.act.Act.TheVariants as A
 use Rattle.mpx_bus.specs.declared.act.Setup.{Setup}
@@ -19,6 +16,7 @@ use Rattle.mpx_bus.specs.Rule.{IsPlanned, planned_posts}
 use Rattle.mpx_bus.specs.Berths.{Berth, CanPush, KeepsPlan, IsSamePort, GoesOn, Goes}
 use Rattle.mpx_bus.proofs.Journals.{after-append}
 use Rattle.mpx_bus.proofs.Seen.{may_push_later}
+use Rattle.mpx_world.proofs.Later.{made_opens, made_drops}
 
 -- an act that is no post
 abbrev pub IsNoPost : Act → Type 0
@@ -39,14 +37,6 @@ NoPosts (a ∷ more) = IsNoPost a × NoPosts more
 made_stores : (name : Name) (r : Option Finished) (v : ProcessView) → (stores name r v).made ≡ v.made
 made_stores name None v = refl
 made_stores name (Some finished) v = refl
-
-made_opens : (parent : Name) (r : Result GatheringView PostError) (v : ProcessView) → (opens_gathering parent r v).made ≡ v.made
-made_opens parent (Ok g) v = refl
-made_opens parent (Err refusal) v = refl
-
-made_drops : (name : Name) (n : ℕ) (r : Result (Unit {0}) PruneError) (v : ProcessView) → (drops name n r v).made ≡ v.made
-made_drops name n (Ok u) v = refl
-made_drops name n (Err refusal) v = refl
 
 made_act : (a : Act) (v : ProcessView) → IsNoPost a → (act_on a v).made ≡ v.made
 made_act (A.Posted name draft) v none = absurd none

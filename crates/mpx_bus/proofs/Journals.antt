@@ -10,7 +10,7 @@ use Rattle.mpx_board.specs.Contexts.{look_of}
 use Rattle.mpx_format.proofs.Decoded.{decoded_again}
 use Rattle.mpx_delta.specs.Digests.{HasUpTo}
 use Rattle.mpx_world.specs.Worlds.{ProcessView, WorldView, learns, takes, acknowledges, at_process, Happening, Posts, Harvests, Gathers, Prunes, Sends, Takes, TakesPartly, Acknowledges, IsSeen, happens, goes_on, MayLeave, MayHappen, MayGoOn, start}
-use Rattle.mpx_world.proofs.Lists.{itself, same_number, cond_cases, slice_get-append, slice_get-push}
+use Rattle.mpx_world.proofs.Lists.{itself, same_number, cond_cases, slice_get-push}
 use Rattle.mpx_world.proofs.Steps.{Holds, board_so, holds_happens}
 use Rattle.mpx_world.proofs.Whole.{goes_on-append, may_append, well_by}
 use Rattle.mpx_bus.specs.declared.act.Act.{Act}
@@ -18,6 +18,7 @@ use Rattle.mpx_bus.specs.declared.act.Act.TheVariants as A
 use Rattle.mpx_bus.specs.declared.act.Setup.{Setup}
 use Rattle.mpx_bus.specs.Acts.{shown, part_of, said_on, act_on, after, at_start, process_at, DidIn, SaysNoMore, IsLocal, AreLocal, IsAhead}
 use Rattle.mpx_bus.specs.Rule.{IsSent, world_of}
+use Rattle.mpx_post.proofs.Lists.{slice_get-append}
 
 -- LISTS
 

@@ -7,7 +7,7 @@ use Rattle.atomic_table.specs.Seated.{TableId}
 use Rattle.crossbeam_queue.specs.Fifo.{Forks}
 use Rattle.crossbeam_queue.proofs.Lists.{at_set, at_longer}
 use Rattle.mpx_world.specs.Worlds.{WorldView}
-use Rattle.mpx_world.proofs.Lists.{slice_get-append, slice_get-push, slice_get-push_cases}
+use Rattle.mpx_world.proofs.Lists.{slice_get-push, slice_get-push_cases}
 use Rattle.mpx_bus.specs.declared.act.Act.{Act}
 use Rattle.mpx_bus.specs.declared.act.Act.TheVariants as A
 use Rattle.mpx_bus.specs.declared.act.Setup.{Setup}
@@ -18,6 +18,7 @@ use Rattle.mpx_bus.specs.Views.{no_setup, maker, maker_of, nobody, opened, seen_
 use Rattle.mpx_bus.specs.Rule.{Seating, IsPushed, planned_posts, world_of, FitsSeat, FitsView, Sound}
 use Rattle.mpx_bus.specs.Berths.{Berth, IsNew, IsFleet}
 use Rattle.mpx_bus.proofs.Moves.{one_seat, Keeps, pushed_set, none_some}
+use Rattle.mpx_post.proofs.Lists.{slice_get-append}
 
 -- who stands where, with one more
 abbrev pub seated : Seating → ℕ → Option (ℕ × ℕ) → Seating

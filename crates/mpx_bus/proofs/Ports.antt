@@ -28,7 +28,7 @@ use Rattle.mpx_node.specs.Harvests.{Harvests}
 use Rattle.mpx_node.specs.Deltas.{SaysWhatItHas, lacking_on}
 use Rattle.mpx_node.specs.Nodes.{NodeView, Posts, Opens, StopsTaking, checked_on, next_result, gathers_on, start_node, learn}
 use Rattle.mpx_world.specs.Worlds.{ProcessView, makes, stores, opens_gathering, drops, in_board}
-use Rattle.mpx_world.proofs.Lists.{itself, same_number, name_itself, slice_get-append, slice_get-push, take-all, join_all-push}
+use Rattle.mpx_world.proofs.Lists.{itself, same_number, name_itself, slice_get-push, take-all, join_all-push}
 use Rattle.mpx_world.proofs.Kept.{Kept, kept_itself, kept_makes, kept_stores, kept_opens, kept_drops, kept_learns, kept_then}
 use Rattle.mpx_world.proofs.Covering.{digest_had}
 use Rattle.mpx_world.proofs.Whole.{well_by}
@@ -45,6 +45,7 @@ use Rattle.mpx_bus.proofs.Journals.{after-append, ahead_itself, ahead_more, did_
 use Rattle.mpx_bus.proofs.Moves.{push_same, pop_same}
 use Rattle.mpx_bus.proofs.Seen.{may_push_later}
 use Rattle.mpx_bus.proofs.Spelled.{spelled_parts, spelled_facts}
+use Rattle.mpx_post.proofs.Lists.{slice_get-append}
 
 -- A BOARD IS THE JOIN OF WHAT WAS LEARNED
 
@@ -252,22 +253,6 @@ harvests_node true name (Some finished) call v now p = p.1
 pub harvest_does : (name : Name) (call : ℕ) (v : ProcessView) (node now : NodeView) → node ≡ v.node → Harvests (is_some (node.opened name)) name (next_result node name) (Ok (H.Done call)) node now → now ≡ (act_on (A.Harvested name) v).node
 harvest_does name call v node now is p =
     harvests_node (is_some (v.node.opened name)) name (next_result v.node name) call v now (subst (λ (n : NodeView). Harvests (is_some (n.opened name)) name (next_result n name) (Ok (H.Done call)) n now) is p)
-
--- where nothing is done the node stays
-pub not_yet_same : (b : Bool) (name : Name) (o : Option Finished) (node now : NodeView) → Harvests b name o (Ok H.NotYet) node now → now ≡ node
-not_yet_same false name o node now p = absurd (cc)
-not_yet_same true name None node now p = p
-not_yet_same true name (Some finished) node now p = absurd p
-
-pub not_opened_same : (b : Bool) (name : Name) (o : Option Finished) (node now : NodeView) → Harvests b name o (Ok H.NotOpened) node now → now ≡ node
-not_opened_same false name o node now p = p.1
-not_opened_same true name None node now p = absurd p
-not_opened_same true name (Some finished) node now p = absurd p
-
-pub wanting_same : (b : Bool) (name : Name) (o : Option Finished) (e : OutOfMemory) (node now : NodeView) → Harvests b name o (Err e) node now → now ≡ node
-wanting_same false name o e node now p = p.1
-wanting_same true name None e node now p = absurd p
-wanting_same true name (Some finished) e node now p = p
 
 opens_node : (parent : Name) (r : Result GatheringView PostError) (name : Name) (v : ProcessView) (now : NodeView) → Opens parent r (Ok name) v.node now → now ≡ (opens_gathering parent r v).node
 opens_node parent (Ok g) name v now p = p.1

@@ -13,7 +13,7 @@ use Rattle.mpx_board.specs.Changes.{pruned}
 use Rattle.mpx_node.specs.declared.finished.Finished.{Finished}
 use Rattle.mpx_node.specs.Nodes.{harvest_part, gathering_fact, checked_on, next_result, gathers_on}
 use Rattle.mpx_world.specs.Worlds.{ProcessView, makes, made_next, stores, opens_gathering, drops, post_fact, IsSeen, in_board, in_part}
-use Rattle.mpx_world.proofs.Lists.{slice_get-append}
+use Rattle.mpx_post.proofs.Lists.{slice_get-append}
 use Rattle.mpx_bus.specs.declared.act.Act.{Act}
 use Rattle.mpx_bus.specs.declared.act.Act.TheVariants as A
 use Rattle.mpx_bus.specs.declared.act.Setup.{Setup}

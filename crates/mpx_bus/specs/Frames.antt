@@ -1,16 +1,10 @@
 -- Frames of boards.
-use Rattle.std.specs.Prelude.{ℕ, List, [], ◌∷◌, Result, Ok, Err}
+use Rattle.std.specs.Prelude.{ℕ, List, [], ◌∷◌}
 use Rattle.mpx_board.specs.declared.board.Board.{Board}
-use Rattle.mpx_board.specs.Boards.{Look, empty}
-use Rattle.mpx_board.specs.Contexts.{look_of}
+use Rattle.mpx_board.specs.Boards.{Look}
 use Rattle.mpx_board.specs.Looks.{parts_of}
-use Rattle.mpx_board.specs.Parts.{PartsView}
-use Rattle.mpx_format.specs.declared.faults.WireError.{WireError}
 use Rattle.mpx_format.specs.Decoding.{Spells, decoded}
-
-abbrev pub shown : Result PartsView WireError → Look
-shown (Ok v) = look_of v
-shown (Err e) = empty
+pub use Rattle.mpx_format.specs.Decoding.{shown}
 
 -- the part that these bytes spell
 abbrev pub part_of : List ℕ → Look

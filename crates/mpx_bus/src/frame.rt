@@ -1,3 +1,4 @@
+// Frames on the queue.
 ghost use Rattle.std.specs.Prelude.{◌≡◌, ◌≤◌, All, map, is_ok, IfOk, IfNone, IfSome, IsTrue, true};
 ghost use Rattle.mpx_board.specs.Looks.{look, parts_of};
 ghost use Rattle.mpx_format.specs.Decoding.{Spells, decoded};

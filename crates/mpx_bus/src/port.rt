@@ -1,3 +1,4 @@
+// The queue that all ports share, and a port's calls.
 ghost use Rattle.std.specs.Prelude.{◌≡◌, ◌≢◌, ℕ, List, is_some, ◌<◌, ◌≤◌, ◌++◌, ◌∷◌, [], Err, IfOk, IfErr, OnOk, OnErr, IsTrue, is_ok, MatchResult, MatchOption};
 ghost use Rattle.crossbeam_queue.specs.Passes.{view, IsPassOf, IsSamePass, ruled_capacity};
 ghost use Rattle.crossbeam_queue.specs.Fifo.{Pushes, Pops};
@@ -199,6 +200,7 @@ impl Bus {
         ensures port { GoesOn port.old port.new }
         ensures next { IfOk result (λ push. PushesNext push port.old port.new) }
         ensures err { OnErr result (WantsList port.old port.new) }
+        ensures memory { OnErr result (port.old.kept ≡ []) }
     {
         port.lists(alloc, limit)?;
         Ok(self.push_kept(rt, port))
@@ -415,6 +417,7 @@ impl Port {
         ensures ok { OnOk result (Lists self.old self.new) }
         ensures some { OnOk result (self.new.kept ≢ []) }
         ensures err { OnErr result (WantsList self.old self.new) }
+        ensures memory { OnErr result (self.old.kept ≡ []) }
     {
         if self.kept.as_slice().is_empty() {
             self.new_list(alloc, limit)

@@ -8,10 +8,7 @@ use Rattle.std.proofs.lemmas.List.{length-append}
 use Rattle.mpx_name.specs.Order.{name_equality}
 use Rattle.join_core.specs.Cases.{Answer, yes, no, answer}
 use Rattle.join_core.specs.declared.memory.OutOfMemory.{OutOfMemory}
-use Rattle.join_core.specs.Flat.{FlatView, known, unknown, clash, flat_join, flat_leq, flat_joining}
-use Rattle.join_core.specs.FlatLaws.{flat_laws}
-use Rattle.join_core.specs.Order.{IsLeastUpperBound, IsOrder}
-use Rattle.join_core.proofs.Orders.{bound_laws, order_laws}
+use Rattle.join_core.specs.Flat.{FlatView, known, unknown, clash, flat_join, flat_leq}
 use Rattle.mpx_post.specs.Posts.{Given}
 use Rattle.mpx_post.specs.Births.{BirthView}
 use Rattle.mpx_post.specs.Gatherings.{GatheringView}
@@ -27,6 +24,7 @@ use Rattle.mpx_node.specs.Harvests.{Harvests}
 use Rattle.mpx_node.specs.Deltas.{SaysWhatItHas}
 use Rattle.mpx_node.specs.Nodes.{own_acks, NodeView, OpenedView, posted_by, results_on, results_by, front_on, next_result, next_of, result_of, outcome_on, learn, StopsTaking, add_result, children_on, or_new, opens, stores_on, is_new_to, harvest_part, Opens, gathering_fact, gathering_name, open_gathering_node}
 use Rattle.mpx_comm.specs.Later.{result_at, IsHeld, IsOwn, Later, IsPending, WasPending}
+use Rattle.mpx_board.proofs.Facts.{posts_bound, posts_order}
 
 -- a fact that holds whatever the refusal is
 pub if_err : {A E : Type 0} (r : Result A E) (P : Type 0) → P → IfErr r (λ e. P)
@@ -56,12 +54,6 @@ pub pending_now : (a b : NodeView) (name : Name) (call : ℕ) → Later a b → 
 pending_now a b name call l p = record { moment = b; after = l; before = later_none b; pending = p }
 
 -- WHAT IS HELD
-
-posts_bound : IsLeastUpperBound (flat_joining same_given)
-posts_bound = bound_laws (flat_laws given_equality)
-
-posts_order : IsOrder (flat_joining same_given)
-posts_order = order_laws (flat_laws given_equality)
 
 -- a post that is held is held by each join
 pub held_joined : (c d : Context) (k p : ℕ) (given : Given) → IsHeld c k p given → IsHeld (join_contexts c d) k p given

@@ -1,3 +1,4 @@
+// A desk over a node alone, whose user carries the boards.
 ghost use Rattle.std.specs.Prelude.{◌≡◌, ◌≤◌, All, IfOk, OnOk, OnErr, is_some, map};
 ghost use Rattle.mpx_board.specs.Boards.{IsBelow, join_all, only, floor_on, Dropped};
 ghost use Rattle.mpx_board.specs.Changes.{pruned};

@@ -1,3 +1,4 @@
+// Communicators, as one of their members has them.
 ghost use Rattle.std.specs.Prelude.{◌≡◌, ◌<◌, ◌≤◌, [], IfOk};
 ghost use Rattle.mpx_comm.specs.Comms.{comm_of};
 

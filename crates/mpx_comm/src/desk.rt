@@ -1,3 +1,4 @@
+// The user's calls over a host.
 ghost use Rattle.std.specs.Prelude.{◌≡◌, ◌≤◌, [], ℕ, OnOk, IfOk, IfErr};
 ghost use Rattle.indexmap.specs.IndexSet.{spare};
 ghost use Rattle.mpx_node.specs.Nodes.{Opens, gathers_on, post_at};

@@ -1,3 +1,4 @@
+// Who posts for a process and hears of others.
 ghost use Rattle.std.specs.Prelude.{◌≡◌, ◌+◌, ◌≤◌, ℕ, OnOk, OnErr, is_some, slice_get};
 ghost use Rattle.std.specs.Option.{option_copied};
 ghost use Rattle.mpx_post.specs.Drafts.{refusal_of};

@@ -5,7 +5,9 @@ ghost use Rattle.mpx_num.specs.Operations.{fits};
 ghost use Rattle.mpx_kind.specs.Kinds.{family_of, may_be};
 ghost use Rattle.mpx_format.specs.Format.{Gives};
 ghost use Rattle.mpx_format.specs.Fields.{process};
-ghost use Rattle.mpx_format.specs.Codes.{flag, item_type, kind, kind_at, mode, operation, operation_at, type_at, when};
+ghost use Rattle.mpx_format.specs.Codes.{flag, item_type, kind, mode, operation, when};
+ghost use Rattle.mpx_kind.specs.Codes.{kind_at};
+ghost use Rattle.mpx_num.specs.Codes.{operation_at, type_at};
 ghost use Rattle.mpx_format.specs.Posts.{type_for};
 
 use crate::fields::read_process;

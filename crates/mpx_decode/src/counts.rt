@@ -46,7 +46,7 @@ fn read_some_counts(alloc: Global, bytes: &[u8]) -> Result<(Counts, &[u8]), Read
 {
     let (len, rest) = read_u16(bytes)?;
     let (list, rest) = read_list(&EachCount, alloc, len as usize, rest)?;
-    Ok((Counts::of(list), rest))
+    Ok((Counts::of(alloc, list)?, rest))
 }
 
 // The counts, where the kind has them; else none.
@@ -57,7 +57,7 @@ pub fn read_counts(had: bool, alloc: Global, bytes: &[u8]) -> Result<(Counts, &[
     if had {
         read_some_counts(alloc, bytes)
     } else {
-        Ok((Counts::of(Vec::new(alloc)), bytes))
+        Ok((Counts::none(), bytes))
     }
 }
 

@@ -95,7 +95,7 @@ fn read_ranks(alloc: Global, bytes: &[u8]) -> Result<(Ranks, &[u8]), ReadError>
 {
     let (len, rest) = read_u8(bytes)?;
     let (list, rest) = read_list(&EachRank, alloc, len as usize, rest)?;
-    Ok((Ranks::new(list), rest))
+    Ok((Ranks::new(alloc, list)?, rest))
 }
 
 #[tactic(auto, unfolding(mpx_format::specs::Posts::group))]

@@ -118,10 +118,6 @@ module _ (d : AcksView) where
 -- TIDINESS
 
 module _ (numbers : ℕ → ℕ) where
-  told_kept : (b : Bool) (o : Option (FlatView Given)) (k : ℕ) (v : FlatView Given) → cond b None (Some v) ≡ Some v → b ≡ false
-  told_kept true o k v h = cc
-  told_kept false o k v h = refl
-
   post_from : (k p : ℕ) (o : Option (FlatView Given)) (v : FlatView Given) → option_and_then (lean_post numbers k p) o ≡ Some v → o ≡ Some v
   post_from k p None v h = cc
   post_from k p (Some w) v h = either_way (nat_lt k (numbers p)) h where

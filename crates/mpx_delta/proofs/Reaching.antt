@@ -76,16 +76,6 @@ module _ (f : ℕ → Unit {0} → Option ℕ) (n : ℕ) (made more : List (ℕ 
 pub no_marks : AreMarks (λ p. false) (replicate 64 false)
 no_marks p lt = get_or-replicate 64 p false false lt
 
--- one process more is marked
-pub mark_one : (before : ℕ → Bool) (marks : List Bool) (x : ℕ) → length marks ≡ 64 → x < 64 → AreMarks before marks → AreMarks (λ p. before p || x == p) (set marks x true)
-mark_one before marks x size small all p lt =
-    elim (answer (x == p)) [
-      | yes e ↦
-          let same : x ≡ p = eqb-true x p e in
-          rw (e, same) (get_or-set_same marks p true false (omega (arith, size)) ∙ sym (or_right (before p) true refl))
-      | no e ↦ rw e (get_or-set_other marks x p true false (λ q. eqb-false x p e (sym q)) ∙ all p lt ∙ sym (or-false (before p)))
-    ]
-
 -- POSTS THAT ARE TOLD
 
 abbrev pub told_at_key : ℕ → ℕ × FlatView Given → Bool

@@ -27,9 +27,6 @@ all_left (Some n) q = q
 
 -- TOLD ONCE
 
-pub told_known_fits : {A : Type 0} (f : Format A) (a : A) → f.fits a ≡ true → (told f).fits (known a) ≡ true
-told_known_fits f a h = h
-
 pub posted_known_fits : (p : Given) → post.fits p ≡ true → posted.fits (known p) ≡ true
 unfolding posted
 posted_known_fits p h = both_true _ _ h refl
@@ -45,9 +42,6 @@ posted_spelled p = refl
 pub length-posted : (p : Given) → length (posted.spelling (known p)) ≡ 1 + length (post.spelling p)
 unfolding posted
 length-posted p = omega arith
-
-pub length-told : {A : Type 0} (f : Format A) (a : A) → length ((told f).spelling (known a)) ≡ 1 + length (f.spelling a)
-length-told f a = omega arith
 
 -- CALLS
 

@@ -31,9 +31,6 @@ any_turned f most [] = refl
 any_turned f most (x ∷ xs) =
     ap (λ b. b || list_any (λ y. nat_lt most (f y)) xs) (turned (f x) most) ∙ ap (λ b. not (nat_le (f x) most) || b) (any_turned f most xs) ∙ either_turned (nat_le (f x) most) (list_all (λ y. nat_le (f y) most) xs)
 
-pub many_by_names : (v : PartsView) → most_names < len v.0 → has_many_names v ≡ true
-many_by_names v lt = ap (λ b. b || list_any (λ e. nat_lt most_names (len e.1)) (entries v.1)) (lt-ltb most_names (len v.0) lt)
-
 pub many_by_acks : (v : PartsView) → len v.0 ≤ most_names → has_many_names v ≡ not (all_entries (λ p a. nat_le (len a) most_names) v.1)
 many_by_acks v le =
     ap (λ b. b || list_any (λ e. nat_lt most_names (len e.1)) (entries v.1)) (le-ltb most_names (len v.0) le) ∙ any_turned (λ e. len e.1) most_names (entries v.1)
@@ -73,10 +70,6 @@ some_told v left e = short (is_too_long v) (most_bytes - length (frame.spelling 
 pub few_left : (n most : ℕ) (o : Option ℕ) → o ≡ room_left n most → IfSome o (λ left. n + left ≡ most)
 few_left n most None e = tt
 few_left n most (Some left) e = let h = room_some n most left (sym e) in omega (arith, h.0, h.1)
-
--- the length that is told
-pub length_long : (v : PartsView) → is_too_long v ≡ true → length_told v ≡ suc most_bytes
-length_long v h = ap (λ b. cond b (suc most_bytes) (length (frame.spelling v))) h
 
 pub length_short : (v : PartsView) → is_too_long v ≡ false → length_told v ≡ length (frame.spelling v)
 length_short v h = ap (λ b. cond b (suc most_bytes) (length (frame.spelling v))) h

@@ -36,13 +36,6 @@ module _ {K V : Type 0} (R : K → K → Ordering) (count : Format ℕ) (key : F
   pub keyed_length : (n : ℕ) → es ≡ entries m → length (count.spelling (length es)) ≡ n → length ((keyed R count key value says).spelling m) ≡ n + length (entries_spelled key value es)
   keyed_length n is e = ap length (keyed_spelling is) ∙ length-append (count.spelling (length es)) (entries_spelled key value es) ∙ ap (λ k. k + length (entries_spelled key value es)) e
 
-  pub keyed_written : (old out new : List ℕ) → es ≡ entries m → out ≡ old ++ count.spelling (length es) → new ≡ out ++ entries_spelled key value es → new ≡ old ++ (keyed R count key value says).spelling m
-  keyed_written old out new is first then =
-      written_behind old out new (count.spelling (length es)) (entries_spelled key value es) first then ∙ ap (λ l. old ++ l) (sym (keyed_spelling is))
-
-  at_entries : (P : List (K × V) → Bool) → es ≡ entries m → P (entries m) ≡ true → P es ≡ true
-  at_entries P is h = ap P is ∙ h
-
   pub keyed_count : es ≡ entries m → (keyed R count key value says).fits m ≡ true → count.fits (length es) ≡ true
   keyed_count is h = ap (λ (l : List (K × V)). count.fits (length l)) is ∙ first_true (count.fits (length (entries m))) (many_fit (entry R None key value says) (length (entries m)) [] (entries m)) h
 

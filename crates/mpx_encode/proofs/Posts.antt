@@ -23,7 +23,9 @@ use Rattle.mpx_post.specs.Graphs.{EdgesView, NeighboursView, most_edges}
 use Rattle.mpx_post.specs.Posts.{Given, makes_of}
 use Rattle.mpx_format.specs.Format.{Format, many_fit}
 use Rattle.mpx_format.specs.Fields.{process, member, colour}
-use Rattle.mpx_format.specs.Codes.{code_of_kind, code_of_mode, code_of_type, kind, mode, operation, item_type, flag, when}
+use Rattle.mpx_format.specs.Codes.{code_of_mode, kind, mode, operation, item_type, flag, when}
+use Rattle.mpx_kind.specs.Codes.{code_of_kind}
+use Rattle.mpx_num.specs.Codes.{code_of_type}
 use Rattle.mpx_format.specs.Births.{weight, neighbour, neighbours}
 use Rattle.mpx_format.specs.Posts.{type_for, count, counts, counts_if, integer, items_for, choice, split, ranks, group, edge, edge_count, edges, few_neighbours, own, making_for, nums_of, post}
 use Rattle.mpx_encode.proofs.Rising.{many_alike}
@@ -68,10 +70,6 @@ pub split_spelled : (c : Option ℕ) (k : ℤ) → split.spelling (Split c k) �
 unfolding split
 split_spelled c k = ap (λ l. choice.spelling c ++ l) (sym (append-nil ((integer I32).spelling k)))
 
-choice_len : (c : Option ℕ) → ℕ
-choice_len None = 1
-choice_len (Some c) = 5
-
 length-choice-none : length (choice.spelling None) ≡ 1
 unfolding choice
 length-choice-none = refl
@@ -86,9 +84,6 @@ one_key k h (suc i) d lt = absurd (omega (arith, lt))
 
 length-key : (k : ℤ) → IsInRange I32 k → length (flat_map (integer I32).spelling (k ∷ [])) ≡ 4
 length-key k h = length-integers I32 (k ∷ []) (one_key k h)
-
-pub key_pass : (k : ℤ) → IsInRange I32 k → All (IsInRange I32) (k ∷ [])
-key_pass k h = one_key k h
 
 length_split : (c : Option ℕ) (k : ℤ) → IsInRange I32 k → length (split.spelling (Split c k)) ≡ length (choice.spelling c) + 4
 length_split c k h = ap length (split_spelled c k) ∙ length-append (choice.spelling c) (flat_map (integer I32).spelling (k ∷ [])) ∙ ap (λ n. length (choice.spelling c) + n) (length-key k h)

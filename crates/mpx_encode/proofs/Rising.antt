@@ -1,8 +1,7 @@
 -- Entries in the rising order of their keys, and lists of values with one format.
-use Rattle.std.proofs.Common.{◌≡◌, ℕ, zero, suc, ◌+◌, ◌-◌, ◌≤◌, ◌<◌, Bool, true, false, not, ◌&&◌, cond, eqb, ltb, leb, List, [], ◌∷◌, ◌++◌, length, Option, Some, None, refl, sym, ap, subst, ◌∙◌, arith, append_assoc}
-use Rattle.std.specs.Prelude.{nat_lt, slice_get}
+use Rattle.std.proofs.Common.{◌≡◌, ℕ, zero, suc, ◌+◌, ◌-◌, ◌≤◌, ◌<◌, Bool, true, not, ◌&&◌, leb, List, [], ◌∷◌, ◌++◌, length, Option, Some, None, refl, sym, ap, subst, ◌∙◌, arith, append_assoc}
+use Rattle.std.specs.Prelude.{nat_lt}
 use Rattle.std.specs.declared.cmp.Ordering.{Ordering}
-use Rattle.std.specs.declared.cmp.Ordering.TheVariants.{Less, Equal, Greater}
 use Rattle.std.specs.Ordering.{is_lt, nat_cmp}
 use Rattle.std.specs.FinMap.{is_sorted}
 use Rattle.std.specs.FinMap.Entries.{below_all}
@@ -13,6 +12,7 @@ use Rattle.join_nest.specs.Cut.{is_from}
 use Rattle.mpx_format.specs.Format.{Format, many_fit, many_spelled}
 use Rattle.mpx_format.specs.Rising.{may_come, last_of, entry, many_rising}
 use Rattle.mpx_encode.specs.Entries.{entry_spelled, entries_spelled, both_pass}
+use Rattle.mpx_format.proofs.Rows.{last_more, is_below}
 
 -- VALUES ONE AFTER THE OTHER
 
@@ -29,11 +29,6 @@ module _ {V : Type 0} (f : List V → Format V) where
   many_pass p each (suc n) before [] h = refl
   many_pass p each (suc n) before (v ∷ vs) h =
       both_true _ _ (each before v (first_true ((f before).fits v) (many_fit f n (before ++ v ∷ []) vs) h)) (many_pass p each n (before ++ v ∷ []) vs (second_true ((f before).fits v) (many_fit f n (before ++ v ∷ []) vs) h))
-
-  -- values that fit wherever they stand
-  pub many_fits : (p : V → Bool) → ((before : List V) (v : V) → p v ≡ true → (f before).fits v ≡ true) → (before vs : List V) → list_all p vs ≡ true → many_fit f (length vs) before vs ≡ true
-  many_fits p each before [] h = refl
-  many_fits p each before (v ∷ vs) h = both_true _ _ (each before v (first_true (p v) (list_all p vs) h)) (many_fits p each (before ++ v ∷ []) vs (second_true (p v) (list_all p vs) h))
 
 -- ENTRIES
 
@@ -67,12 +62,6 @@ always_says (e ∷ es) = always_says es
 
 -- KEYS THAT RISE
 
-last_more : {A : Type 0} (x y : A) (xs : List A) → last_of (x ∷ y ∷ xs) ≡ last_of (y ∷ xs)
-last_more x y xs =
-    let k : length (x ∷ y ∷ xs) - 1 ≡ suc (length xs) = omega arith in
-    let l : length (y ∷ xs) - 1 ≡ length xs = omega arith in
-    ap (slice_get (x ∷ y ∷ xs)) k ∙ sym (ap (slice_get (y ∷ xs)) l)
-
 module _ {K V : Type 0} (R : K → K → Ordering) (least : Option K) where
   comes_next : (x : K × V) (before : List (K × V)) (e : K × V) (es : List (K × V)) → is_sorted R ((x ∷ before) ++ e ∷ es) ≡ true → may_come R least (last_of (x ∷ before)) e.0 ≡ true
   comes_next x [] e es s = first_true (is_lt (R x.0 e.0)) (below_all R x.0 es) (first_true (below_all R x.0 (e ∷ es)) (is_sorted R (e ∷ es)) s)
@@ -88,12 +77,6 @@ module _ {K V : Type 0} (R : K → K → Ordering) (least : Option K) where
 pub sorted_rising : {K V : Type 0} (R : K → K → Ordering) (es : List (K × V)) → is_sorted R es ≡ true → many_rising R None [] es ≡ true
 sorted_rising R [] s = refl
 sorted_rising R (e ∷ es) s = rising_on R None e [] es s
-
-is_below : (x y : ℕ) → is_lt (nat_cmp x y) ≡ ltb x y
-is_below x y = elim (ltb x y) as (λ b. is_lt (cond b Less (cond (eqb x y) Equal Greater)) ≡ b) [
-  | true ↦ refl
-  | false ↦ elim (eqb x y) as (λ b. is_lt (cond b Equal Greater) ≡ false) [ true ↦ refl | false ↦ refl ]
-]
 
 -- sorted entries from a number on may too
 pub rising_from : {V : Type 0} (d : ℕ) (es : List (ℕ × V)) → is_sorted nat_cmp es ≡ true → is_from d es ≡ true → many_rising nat_cmp (Some d) [] es ≡ true

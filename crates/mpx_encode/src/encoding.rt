@@ -1,3 +1,4 @@
+// The frame of a board, its length, and which boards have none.
 ghost use Rattle.std.specs.Prelude.{◌≡◌, ◌↔◌, ◌+◌, ◌-◌, true, cond, nat_le, None, Some, IfOk, IfSome, length};
 ghost use Rattle.std.specs.Result.{IsErrOf};
 ghost use Rattle.std.specs.FinMap.{len};

@@ -1,12 +1,11 @@
 -- Moves of ranks among all, rounds, and their end.
-use Rattle.std.proofs.Common.{◌≡◌, ℕ, zero, suc, ◌+◌, ◌<◌, ◌≤◌, ◌==◌, Bool, true, false, cond, List, [], ◌∷◌, ◌++◌, length, map, take, drop, set, get_or, Some, refl, sym, ap, ◌∙◌, subst, arith, inl, inr}
+use Rattle.std.proofs.Common.{◌≡◌, ℕ, zero, suc, ◌+◌, ◌<◌, ◌≤◌, ◌==◌, Bool, true, false, cond, List, [], ◌∷◌, ◌++◌, length, take, drop, set, Some, refl, sym, ap, ◌∙◌, subst, arith, inl, inr}
 use Rattle.std.proofs.Math.Nat.{eq-or-lt_of_le}
-use Rattle.std.specs.Prelude.{◌||◌, ◌⊎◌, slice_get, IsTrue}
-use Rattle.std.specs.Option.{option_map}
-use Rattle.std.proofs.lemmas.Bool.{or_parts}
+use Rattle.std.specs.Prelude.{◌||◌, slice_get, IsTrue}
+use Rattle.std.proofs.lemmas.Bool.{or_parts, cases_lt}
 use Rattle.std.proofs.lemmas.Bool.Decides.{Decides-eqb}
 use Rattle.std.proofs.lemmas.List.{length-set}
-use Rattle.std.proofs.lemmas.Option.{slice_get-map, slice_get-get_or, slice_get_within}
+use Rattle.std.proofs.lemmas.Option.{slice_get_within}
 use Rattle.mpx_statement.specs.declared.statement.Statement.{Statement}
 use Rattle.mpx_evaluation.specs.Ranks.{step}
 use Rattle.mpx_evaluation.specs.Evaluation.{State, IsQuiet, IsReached, known, move, moves, or_stay, start}
@@ -21,42 +20,9 @@ use Rattle.mpx_eval.specs.Tables.{Table}
 use Rattle.mpx_eval.proofs.Moving.{move_stays}
 use Rattle.mpx_eval.proofs.Tables.{some_of}
 use Rattle.mpx_evaluation.proofs.Standing.{none_there}
+use Rattle.mpx_post.proofs.Lists.{set_cases, set_twice, set_has, set_same, written}
 
 -- LISTS
-
--- where a list was written, it has the new value; elsewhere what it had
-set_cases : {A : Type 0} (xs : List A) (i p : ℕ) (y x : A) (P : A → Type 0) → slice_get (set xs i y) p ≡ Some x → (p ≡ i → P y) → (slice_get xs p ≡ Some x → (p ≡ i → ⊥) → P x) → P x
-set_cases [] i p y x P e f g = cc e
-set_cases (z ∷ xs) zero zero y x P e f g = subst P (let q : y ≡ x = cc e in q) (f refl)
-set_cases (z ∷ xs) zero (suc p) y x P e f g = g e (λ q. omega (arith, q))
-set_cases (z ∷ xs) (suc i) zero y x P e f g = g e (λ q. omega (arith, q))
-set_cases (z ∷ xs) (suc i) (suc p) y x P e f g = set_cases xs i p y x P e (λ q. f (ap suc q)) (λ s q. g s (λ r. q (omega (arith, r))))
-
-set_twice : {A : Type 0} (xs : List A) (i : ℕ) (x y : A) → set (set xs i x) i y ≡ set xs i y
-set_twice [] i x y = refl
-set_twice (z ∷ xs) zero x y = refl
-set_twice (z ∷ xs) (suc i) x y = ap (λ ys. z ∷ ys) (set_twice xs i x y)
-
-set_has : {A : Type 0} (xs : List A) (i : ℕ) (x y : A) → slice_get xs i ≡ Some x → slice_get (set xs i y) i ≡ Some y
-set_has [] i x y e = cc e
-set_has (z ∷ xs) zero x y e = refl
-set_has (z ∷ xs) (suc i) x y e = set_has xs i x y e
-
-set_same : {A : Type 0} (xs : List A) (i : ℕ) (x : A) → slice_get xs i ≡ Some x → set xs i x ≡ xs
-set_same [] i x e = cc e
-set_same (z ∷ xs) zero x e = ap (λ y. y ∷ xs) (let q : x ≡ z = cc e in q)
-set_same (z ∷ xs) (suc i) x e = ap (λ ys. z ∷ ys) (set_same xs i x e)
-
-map_set : {A B : Type 0} (f : A → B) (xs : List A) (p : ℕ) (x : A) → map f (set xs p x) ≡ set (map f xs) p (f x)
-map_set f [] p x = refl
-map_set f (y ∷ xs) zero x = refl
-map_set f (y ∷ xs) (suc p) x = ap (λ zs. f y ∷ zs) (map_set f xs p x)
-
-pub written : {A B : Type 0} (f : A → B) (xs : List A) (p : ℕ) (x : A) → set (map f xs) p (f x) ≡ map f (set xs p x)
-written f xs p x = sym (map_set f xs p x)
-
-pub element : {A B : Type 0} (f : A → B) (xs : List A) (p : ℕ) (d : A) → p < length xs → slice_get (map f xs) p ≡ Some (f (get_or xs p d))
-element f xs p d l = slice_get-map f xs p ∙ ap (option_map f) (slice_get-get_or xs p d l)
 
 -- a vector whose elements were lent has what was written there
 pub written_back : {A : Type 0} (len : ℕ) (old new : List A) → length new ≡ length old → length old ≡ len → take len (new ++ drop (length new) old) ≡ new
@@ -154,9 +120,6 @@ goes_to_end a ta b tb c tc moved h m script ranks p s rs l at reached are =
 
 -- ROUNDS
 
-pub round_starts : (rs : List TableRank) (t : Table) → Round rs t rs t false 0
-round_starts rs t script ranks s reached are = (record { to = s; reached = reached; are = are; still = λ e. refl }, λ e p l. absurd (omega (arith, l)))
-
 pub round_more : (old : List TableRank) (before : Table) (rs : List TableRank) (t : Table) (changed moved : Bool) (n : ℕ) (a c : TableRank) (tc : Table) → slice_get rs n ≡ Some a → Round old before rs t changed n → LeadsToEnd a t c tc moved → Round old before (set rs n c) tc (changed || moved) (n + 1)
 round_more old before rs t changed moved n a c tc at h g script ranks s reached are =
     let first = h script ranks s reached are in
@@ -173,25 +136,18 @@ round_more old before rs t changed moved n a c tc at h g script ranks s reached 
           ],
     )
 
-pub rounds_start : (rs : List TableRank) (t : Table) → Rounds rs t rs t
-rounds_start rs t script ranks s reached are = (s, reached, are)
-
 pub rounds_on : (old : List TableRank) (before : Table) (rs : List TableRank) (t : Table) (new : List TableRank) (u : Table) (moved : Bool) (n : ℕ) → Rounds old before rs t → Round rs t new u moved n → Rounds old before new u
 rounds_on old before rs t new u moved n h r script ranks s reached are =
     let here = h script ranks s reached are in
     let led = (r script ranks here.0 here.1 here.2).0 in
     (led.to, led.reached, led.are)
 
-lt_or_ge : (a b : ℕ) → (a < b) ⊎ (b ≤ a)
-lt_or_ge a zero = inr (omega arith)
-lt_or_ge a (suc b) = elim (lt_or_ge a b) [ inl l ↦ inl (omega arith) | inr g ↦ elim (eq-or-lt_of_le g) [ inl e ↦ inl (omega arith) | inr l ↦ inr (omega arith) ] ]
-
 -- after a round that moves nobody
 pub rounds_end : (old : List TableRank) (before : Table) (rs : List TableRank) (t : Table) (new : List TableRank) (u : Table) (n : ℕ) → length rs ≤ n → Rounds old before rs t → Round rs t new u false n → (script : List (List Statement)) (ranks : ℕ) (s : State) → IsReached script ranks s → AreIn ranks old before s → AreAtEnd script ranks new u
 rounds_end old before rs t new u n many h r script ranks s reached are =
     let here = h script ranks s reached are in
     let last = r script ranks here.0 here.1 here.2 in
-    let stuck : (p : ℕ) → IsStuck ranks here.0 p = λ p. elim (lt_or_ge p ranks) [
+    let stuck : (p : ℕ) → IsStuck ranks here.0 p = λ p. elim (cases_lt p ranks) [
       | inl l ↦ last.1 refl p (omega (arith, l, here.2.count, many))
       | inr g ↦ step_ends (known ranks here.0 p) (here.0 p) (here.2.quiet.from p g)
     ] in

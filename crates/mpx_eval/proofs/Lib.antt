@@ -7,3 +7,4 @@ pub mod Carried
 pub mod Going
 pub mod Reporting
 pub mod Waits
+mod Complaining

@@ -10,14 +10,14 @@ use Rattle.mpx_post.specs.Births.{BirthView, rank_in}
 use Rattle.mpx_post.specs.Posts.{Given}
 use Rattle.mpx_post.specs.Rows.{RowView, all_of}
 use Rattle.mpx_value.specs.declared.outcomes.Outcome.{Outcome}
-use Rattle.mpx_value.specs.declared.outcomes.Outcome.TheVariants.{Nothing, Absent, Items, NewComm, Null, Fault}
 use Rattle.mpx_value.specs.Children.{ChildView, child, children, named_children, of_colour}
-use Rattle.mpx_value.specs.Histories.{Answer, answer_with, birth_of, child_of, history_of, outcome_of, outcomes_by, posts_on, results_of, row_of, value_for}
+use Rattle.mpx_value.specs.Histories.{answer_with, birth_of, child_of, history_of, outcome_of, outcomes_by, posts_on, results_of, row_of, value_for}
 use Rattle.mpx_value.proofs.NewCommunicators.{new_communicator}
 use Rattle.mpx_value.specs.Values.{value}
 use Rattle.mpx_eval.specs.Contexts.{ContextView, answer_by, answer_in, births_by, found, row_in}
 use Rattle.mpx_eval.specs.Tables.{Posted, Shows, Table, answer_on}
 use Rattle.mpx_eval.proofs.Tables.{name_itself, same_is}
+use Rattle.mpx_value.proofs.Histories.{same_answer}
 
 all_of-map : {A B C : Type 0} (f : B → Option A) (g : C → B) (xs : List C) → all_of f (map g xs) ≡ all_of (λ x. f (g x)) xs
 all_of-map {A} f g [] = refl
@@ -35,15 +35,6 @@ same_child name call a b = by_tests (same_name (Child call a ∷ name) (Child ca
 found_child : (name : Name) (call colour : ℕ) (xs : List ChildView) → found (Child call colour ∷ name) (named_children name call xs) ≡ of_colour colour xs
 found_child name call colour [] = refl
 found_child name call colour (x ∷ xs) = λ i. cond (same_child name call x.colour colour i) (Some x.birth) (found_child name call colour xs i)
-
--- the same answer where births that it names are the same
-same_answer : (f g : Name → Option BirthView) (outcome : Outcome) → ((new : Name) (size rank : ℕ) → outcome ≡ NewComm new size rank → f new ≡ g new) → answer_with f outcome ≡ answer_with g outcome
-same_answer f g Nothing h = refl
-same_answer f g Absent h = refl
-same_answer f g (Items items) h = refl
-same_answer f g (NewComm new size rank) h = ap (λ born. let a : Answer = record { outcome = NewComm new size rank; born = born } in a) (h new size rank refl)
-same_answer f g Null h = refl
-same_answer f g (Fault fault) h = refl
 
 module _ (ranks : ℕ) (t : Table) (made : Posted) (s : Shows ranks t made) (me : ℕ) (name : Name) (call : ℕ) where
   -- what a whole row gives

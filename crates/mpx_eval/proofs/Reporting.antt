@@ -48,6 +48,7 @@ are_in_start script ranks rs t count s none = record {
           requests = h.requests;
           todo = ap doing (sym (at_index script p) ∙ sym h.todo) ∙ ap (λ w. todo_of w r.todo) (sym h.waits);
           lines = h.lines;
+          origins = h.origins;
         },
       );
   shows = record {

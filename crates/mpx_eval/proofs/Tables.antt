@@ -7,7 +7,7 @@ use Rattle.std.specs.declared.cmp.Ordering.{Ordering}
 use Rattle.std.specs.declared.cmp.Ordering.TheVariants.{Less, Equal, Greater}
 use Rattle.std.proofs.lemmas.Bool.{or_parts}
 use Rattle.std.proofs.lemmas.Bool.Decides.{Decides-eqb}
-use Rattle.std.proofs.lemmas.List.{get_or-map}
+use Rattle.std.proofs.lemmas.List.{get_or-map, append-nil}
 use Rattle.std.proofs.lemmas.List.Folds.{list_any_at}
 use Rattle.std.proofs.lemmas.List.Quantifiers.{position-Some}
 use Rattle.std.proofs.lemmas.Option.{same_Some}
@@ -23,10 +23,10 @@ use Rattle.mpx_post.specs.Posts.{Given}
 use Rattle.mpx_value.specs.Histories.{Grows, Made, birth_of, history_of, posts_on}
 use Rattle.mpx_value.proofs.Growth.{birth-grows, posts_on-append}
 use Rattle.mpx_evaluation.specs.Ranks.{made_on, next_call, post_on}
-use Rattle.mpx_evaluation.proofs.Fronts.{append-nil, slice_get-append}
 use Rattle.mpx_eval.specs.Contexts.{ContextView, Posts, added_at, checked_there, count_in, fresh, posts_at, with_post}
 use Rattle.mpx_eval.specs.Tables.{Posted, PostsOn, Shows, Table, Tries, opened, or_fresh, with_made}
 use Rattle.mpx_eval.proofs.Contexts.{checked_stranger}
+use Rattle.mpx_post.proofs.Lists.{slice_get-append}
 
 -- NAMES
 

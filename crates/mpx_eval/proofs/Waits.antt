@@ -30,11 +30,12 @@ use Rattle.mpx_eval.specs.Contexts.{ContextView}
 use Rattle.mpx_eval.specs.Found.{calls_found, found_at, found_call, found_calls}
 use Rattle.mpx_eval.specs.Lacking.{lacking, missing_there}
 use Rattle.mpx_rank.specs.Shown.{requests_of}
+use Rattle.mpx_rank.proofs.Moving.{todo_length}
 use Rattle.mpx_eval.specs.Carrying.{at_place}
 use Rattle.mpx_eval.specs.Places.{TableRank, posted_by}
 use Rattle.mpx_eval.specs.Rounds.{AreAtEnd, is_waiting_at}
 use Rattle.mpx_eval.specs.Tables.{Table, answer_on}
-use Rattle.mpx_eval.specs.Waiting.{Asked, IsWaitedFor, MissingCallView, WaitingView, asked, asked_by, asked_of, asked_then, calls_of, is_unknown, missing_call, missing_of, missing_to, waits_at}
+use Rattle.mpx_eval.specs.Waiting.{Asked, MissingCallView, WaitingView, asked, asked_by, asked_of, asked_then, calls_of, is_unknown, missing_call, missing_of, missing_to, waiting_in_full, waits_at}
 use Rattle.mpx_eval.proofs.Outcomes.{results_same}
 use Rattle.mpx_eval.proofs.Reporting.{there, waits_same, which_same, at_index}
 use Rattle.mpx_eval.proofs.Tables.{name_itself}
@@ -248,14 +249,6 @@ map_filter f g test (x ∷ xs) h = by_test (test x) (h 0 x refl) (map_filter f g
   by_test true e rest = λ i. e i ∷ rest i
   by_test false e rest = rest
 
-doing_length : (xs : List Statement) → length (doing xs) ≡ length xs
-doing_length [] = refl
-doing_length (x ∷ xs) = omega (arith, doing_length xs)
-
-todo_length : (w : Option WaitView) (rest : List Statement) → length (todo_of w rest) ≡ awaited w + length rest
-todo_length (Some w) rest = omega (arith, doing_length rest)
-todo_length None rest = omega (arith, doing_length rest)
-
 module _ (script : ScriptView) (rs : List TableRank) (t : Table) (e : AreAtEnd script.statements script.ranks rs t) where
   -- whom the table lacks
   missing_same : (p : ℕ) (name : Name) (call : ℕ) → call < length (posts_on name (e.end p).made) → missing_there (t name) call ≡ missing_to script.ranks e.end name call
@@ -289,14 +282,11 @@ module _ (script : ScriptView) (rs : List TableRank) (t : Table) (e : AreAtEnd s
       λ i. length (at_index script.statements p i) - todo i in
       ap (found_at script.statements t p) at.1 ∙ λ i. record { rank = p; statement = statement i; calls = calls_same p at.0 at.1 i }
 
-  pub waited_for : (found : List WaitingView) → found ≡ map (λ p. found_at script.statements t p (slice_get rs p)) (which (λ p. is_waiting_at (slice_get rs p)) script.ranks) → IsWaitedFor script found
-  waited_for found is = record {
-    end = e.end;
-    evaluation = e.evaluation;
-    found_are = is
-        ∙ map_which (λ p. found_at script.statements t p (slice_get rs p)) (waits_at script.statements script.ranks e.end) (λ p. is_waiting_at (slice_get rs p)) script.ranks found_same
-        ∙ ap (map (waits_at script.statements script.ranks e.end)) (which_same (λ p. is_waiting_at (slice_get rs p)) (λ p. is_left (e.end p).todo) script.ranks (waits_same script rs t e));
-  }
+  pub waits_found : (found : List WaitingView) → found ≡ map (λ p. found_at script.statements t p (slice_get rs p)) (which (λ p. is_waiting_at (slice_get rs p)) script.ranks) → found ≡ waiting_in_full script.statements script.ranks e.end
+  waits_found found is =
+      is
+      ∙ map_which (λ p. found_at script.statements t p (slice_get rs p)) (waits_at script.statements script.ranks e.end) (λ p. is_waiting_at (slice_get rs p)) script.ranks found_same
+      ∙ ap (map (waits_at script.statements script.ranks e.end)) (which_same (λ p. is_waiting_at (slice_get rs p)) (λ p. is_left (e.end p).todo) script.ranks (waits_same script rs t e))
 
 -- REQUESTS
 

@@ -1,10 +1,12 @@
--- Who waits, as the program finds it by its ranks and their table.
-use Rattle.std.specs.Prelude.{ℕ, ◌+◌, ◌-◌, List, [], length, map, slice_index_or, Option, Some, None}
+-- Who waits and what ranks complain of, as the program finds it by its ranks and their table.
+use Rattle.std.specs.Prelude.{ℕ, ◌+◌, ◌-◌, List, [], length, map, slice_index_or, string_bytes, Option, Some, None}
 use Rattle.std.specs.List.{filter}
 use Rattle.mpx_statement.specs.declared.statement.Statement.{Statement}
 use Rattle.mpx_evaluation.specs.Standing.{awaited, todo_of}
+use Rattle.mpx_eval.specs.declared.complaints.Complaint.{Complaint}
 use Rattle.mpx_eval.specs.declared.missing.MissingCall.{MissingCall}
 use Rattle.mpx_eval.specs.declared.who_waits.WaitingRank.{WaitingRank}
+use Rattle.mpx_eval.specs.Complaints.{ComplaintView, complaints_at}
 use Rattle.mpx_eval.specs.Lacking.{missing_there}
 use Rattle.mpx_eval.specs.Places.{TableRank}
 use Rattle.mpx_eval.specs.Tables.{Table, answer_on}
@@ -17,6 +19,9 @@ missing_view m = record { request = m.request; name = m.name; call = m.call; mis
 
 abbrev pub waiting_view : WaitingRank → WaitingView
 waiting_view w = record { rank = w.rank; statement = w.statement; calls = map missing_view w.calls.items }
+
+abbrev pub complaint_view : Complaint → ComplaintView
+complaint_view c = record { rank = c.rank; statement = c.statement; text = string_bytes c.text }
 
 -- a call, and who has not posted to it by the table
 abbrev pub found_call : Table → Asked → MissingCallView
@@ -38,3 +43,8 @@ found_at script t p (Some r) = record {
   statement = length (slice_index_or script p []) - (awaited r.waits + length r.todo);
   calls = calls_found t r;
 }
+
+-- the complaints of a rank that stands there
+abbrev pub complaints_found : List (List Statement) → (rank : ℕ) → Option TableRank → List ComplaintView
+complaints_found script p None = []
+complaints_found script p (Some r) = complaints_at p (slice_index_or script p []) r.lines r.origins

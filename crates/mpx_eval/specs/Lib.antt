@@ -7,4 +7,6 @@ pub mod Rounds
 pub mod Evaluated
 pub mod Lacking
 pub mod Waiting
+pub mod Complaints
+pub mod Findings
 pub mod Found

@@ -1,10 +1,9 @@
 -- Where a rank stands in its statements by the table of all posts, and what its moves do.
-use Rattle.std.specs.Prelude.{◌≡◌, ℕ, Bool, is_some, List, ◌∷◌, Option, Some}
+use Rattle.std.specs.Prelude.{◌≡◌, ℕ, Bool, is_some, List, Option, Some}
 use Rattle.mpx_name.specs.Name.{Name}
-use Rattle.mpx_name.specs.declared.steps.Step.TheVariants.{Gathering}
 use Rattle.mpx_post.specs.Births.{BirthView}
-use Rattle.mpx_post.specs.Gatherings.{GatheringView}
 use Rattle.mpx_value.specs.Histories.{birth_of, history_of}
+pub use Rattle.mpx_value.specs.Histories.{gathering_name}
 use Rattle.mpx_statement.specs.Lookups.{named}
 use Rattle.mpx_evaluation.specs.Ranks.{Communicator, step}
 use Rattle.mpx_evaluation.specs.Evaluation.{State, history, known, move}
@@ -17,10 +16,6 @@ abbrev pub TableRank : Type 0
 TableRank = RankView CommunicatorView
 
 -- POSTS
-
--- the gathering of these members below a context
-abbrev pub gathering_name : Name → GatheringView → Name
-gathering_name parent g = Gathering g.tag g.members ∷ parent
 
 -- it came to be as these posts say
 abbrev pub IsBornSo : (ranks : ℕ) → Posted → Option CommunicatorView → Type 0

@@ -68,6 +68,7 @@ pub record StartsAt (script : List (List Statement)) (ranks p : ℕ) (r : TableR
   pub todo : r.todo ≡ slice_index_or script p []
   pub waits : r.waits ≡ None
   pub lines : r.lines ≡ []
+  pub origins : r.origins ≡ []
 
 -- the first so many ranks before their statements
 pub record Start (script : List (List Statement)) (ranks count : ℕ) (rs : List TableRank) : Type 0 where

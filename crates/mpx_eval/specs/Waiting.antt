@@ -1,5 +1,5 @@
 -- Who waits at the end of an evaluation: at which statement, for which calls, and for whose posts to them.
-use Rattle.std.specs.Prelude.{◌≡◌, ℕ, ◌-◌, Bool, nat_le, is_none, List, [], ◌∷◌, length, map, Option, Some, None}
+use Rattle.std.specs.Prelude.{ℕ, ◌-◌, Bool, nat_le, is_none, List, [], ◌∷◌, length, map, Option, Some, None}
 use Rattle.std.specs.List.{filter}
 use Rattle.mpx_name.specs.Name.{Name}
 use Rattle.mpx_post.specs.Births.{BirthView}
@@ -7,10 +7,9 @@ use Rattle.mpx_value.specs.Histories.{Results, birth_of, posts_on}
 use Rattle.mpx_statement.specs.declared.statement.Statement.{Statement}
 use Rattle.mpx_statement.specs.declared.statement.Statement.TheVariants.{Post, Wait, Ask}
 use Rattle.mpx_statement.specs.Lookups.{named}
-use Rattle.mpx_script.specs.ScriptView.{ScriptView}
 use Rattle.mpx_evaluation.specs.Ranks.{Todo, Do, Await, Local, Next, End, Asks}
 use Rattle.mpx_evaluation.specs.Standing.{closed}
-use Rattle.mpx_evaluation.specs.Evaluation.{State, IsEvaluation, history, known, statements_of}
+use Rattle.mpx_evaluation.specs.Evaluation.{State, history, known, statements_of}
 use Rattle.mpx_evaluation.specs.Reports.{waiting_in}
 
 -- a call whose answer is missing: the word of its request, where it is waited for by one, its context, its number there, and
@@ -96,9 +95,3 @@ waits_at script ranks s p = record {
 -- all that wait
 abbrev pub waiting_in_full : List (List Statement) → (ranks : ℕ) → State → List WaitingView
 waiting_in_full script ranks s = map (waits_at script ranks s) (waiting_in s ranks)
-
--- there is an evaluation of the script at whose end these wait so
-pub record IsWaitedFor (script : ScriptView) (found : List WaitingView) : Type 0 where
-  pub end : State
-  pub evaluation : IsEvaluation script.statements script.ranks end
-  pub found_are : found ≡ waiting_in_full script.statements script.ranks end

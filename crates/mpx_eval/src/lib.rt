@@ -6,19 +6,25 @@
 //! (`rounds.rt`). What it comes to stands in `specs/Evaluated.antt`, which posts a table shows in `specs/Tables.antt`, and where
 //! a rank stands in its statements in `specs/Places.antt`.
 //!
-//! [`waiting_calls`] tells of the ranks that wait at its end at which statement each does, for which calls, and whose posts to
-//! them are missing (`who_waits.rt`, `missing.rt`); what that is stands in `specs/Waiting.antt`.
+//! [`examine`] tells of the ranks that wait at its end at which statement each does, for which calls, and whose posts to
+//! them are missing (`who_waits.rt`, `missing.rt`); what that is stands in `specs/Waiting.antt`. And it tells which lines say
+//! that a call was refused or is a fault, and at which statement each of these calls is made (`complaints.rt`); what that is
+//! stands in `specs/Complaints.antt`.
 #![tactic(auto)]
 
 mod carrying;
+mod complaints;
 mod context;
 mod evaluation;
+mod findings;
 mod missing;
 mod posting;
 mod rounds;
 mod table;
 mod who_waits;
 
+pub use complaints::{Complaint, started_at};
 pub use evaluation::eval;
+pub use findings::{Findings, examine};
 pub use missing::MissingCall;
-pub use who_waits::{WaitingRank, waiting_calls, waits_are_for_what_the_next_move_asks};
+pub use who_waits::{WaitingRank, waits_are_for_what_the_next_move_asks};

@@ -6,12 +6,10 @@ ghost use Rattle.mpx_rank.specs.Moves.{is_waiting};
 ghost use Rattle.mpx_eval.specs.Rounds.{is_waiting_at};
 ghost use Rattle.mpx_eval.specs.Carrying.{shown};
 ghost use Rattle.mpx_eval.specs.Tables.{table_of};
-ghost use Rattle.mpx_eval.specs.Waiting.{IsWaitedFor, asked, calls_of};
+ghost use Rattle.mpx_eval.specs.Waiting.{asked, calls_of};
 ghost use Rattle.mpx_eval.specs.Found.{found_at, waiting_view};
 
-use crate::evaluation::start;
 use crate::missing::{MissingCall, missing_calls};
-use crate::rounds::rounds;
 use crate::table::Table;
 use join_core::OutOfMemory;
 use mpx_rank::Rank;
@@ -28,26 +26,14 @@ pub struct WaitingRank {
     pub calls: Vec<MissingCall>,
 }
 
-/// The ranks that wait at the end of a script's evaluation, in rising order: where each of them does, for which calls, and which
-/// members of their contexts have not posted to them.
-pub fn waiting_calls(alloc: Global, script: &Script) -> Result<Vec<WaitingRank>, OutOfMemory>
-    ensures { IfOk result (λ found. IsWaitedFor script.now (map waiting_view found.items)) }
-{
-    let count = script.ranks();
-    let mut ranks = start(alloc, script)?;
-    let mut table = Table::new(alloc);
-    rounds(alloc, &mut ranks, &mut table)?;
-    let found = found_in(alloc, script, count, ranks.as_slice(), &table)?;
-    Ok(found)
-}
-
-/// The calls that [`waiting_calls`] looks at are those that the rank's next move asks for.
+/// The calls that [`examine`](crate::examine) looks at where a rank waits are those that the rank's next move asks for.
 pub fn waits_are_for_what_the_next_move_asks()
     ensures { (s : Local) → map (λ a. a.1) (asked s) ≡ calls_of (next s) }
 {}
 
-// The ranks that wait among the first so many of these.
-fn found_in(
+/// The ranks that wait among the first so many of these, in rising order: where each of them does, for which calls, and which
+/// members of their contexts have not posted to them.
+pub(crate) fn waiting_ranks(
     alloc: Global,
     script: &Script,
     count: u8,

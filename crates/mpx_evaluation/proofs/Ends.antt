@@ -10,10 +10,7 @@ use Rattle.mpx_evaluation.specs.Ranks.{Local, doing, next_of, step_by, step, wei
 use Rattle.mpx_evaluation.specs.Evaluation.{State, start, known, or_stay, goes_on, move, moves, IsMaximal, IsEvaluation, left, IsQuiet}
 use Rattle.mpx_evaluation.proofs.Steps.{step-lowers}
 use Rattle.mpx_evaluation.proofs.Ahead.{goes_on_cases}
-
-lt_or_ge : (a b : ℕ) → (a < b) ⊎ (b ≤ a)
-lt_or_ge a zero = inr (omega arith)
-lt_or_ge a (suc b) = elim (lt_or_ge a b) [ inl l ↦ inl (omega arith) | inr g ↦ elim (eq-or-lt_of_le g) [ inl e ↦ inl (omega arith) | inr l ↦ inr (omega arith) ] ]
+use Rattle.std.proofs.lemmas.Bool.{cases_lt}
 
 left-le : (n : ℕ) (s t : State) → ((q : ℕ) → weights (t q).todo ≤ weights (s q).todo) → left n t ≤ left n s
 left-le zero s t h = omega arith
@@ -62,7 +59,7 @@ module _ (n : ℕ) (s : State) (p : ℕ) (within : p < n) (t : Local) (e : step 
   move-quiet q = record { from = goes_on_cases (λ j u. n ≤ j → u.todo ≡ []) s p (known n s p) q.from (λ u f g. absurd (omega (arith, g, within))) }
 
 quiet_still : (ranks n : ℕ) (s : State) → IsQuiet n s → ((p : ℕ) → p < n → step (known ranks s p) (s p) ≡ None) → IsMaximal ranks s
-quiet_still ranks n s q none p = elim (lt_or_ge p n) [ inl l ↦ none p l | inr g ↦ ap (λ todo. step_by (known ranks s p) (s p) (next_of (s p) todo)) (q.from p g) ]
+quiet_still ranks n s q none p = elim (cases_lt p n) [ inl l ↦ none p l | inr g ↦ ap (λ todo. step_by (known ranks s p) (s p) (next_of (s p) todo)) (q.from p g) ]
 
 -- moves that none extends. Only the number that bounds birth_of's world is ranks
 pub order_of : (n fuel : ℕ) (s : State) → IsQuiet n s → left n s < fuel → (order : List ℕ) × IsMaximal n (moves n order s)

@@ -1,25 +1,18 @@
 -- Beginnings of lists, and of the posts of processes.
-use Rattle.std.proofs.Common.{◌≡◌, ℕ, zero, suc, List, [], ◌∷◌, ◌++◌, Some, ◌⊎◌, inl, inr, refl, sym, ap, ◌∙◌, subst, append_assoc}
+use Rattle.std.proofs.Common.{◌≡◌, ℕ, zero, suc, List, [], ◌∷◌, ◌++◌, Some, ◌⊎◌, inl, inr, sym, ap, ◌∙◌, subst, append_assoc}
 use Rattle.std.specs.Prelude.{slice_get}
 use Rattle.mpx_name.specs.Name.{Name}
 use Rattle.mpx_value.specs.Histories.{Made, posts_on, Grows}
 use Rattle.mpx_value.proofs.Growth.{posts_on-append}
 use Rattle.mpx_evaluation.specs.Evaluation.{State, history, IsPrefixOf}
-
-pub append-nil : {A : Type 0} (xs : List A) → xs ++ [] ≡ xs
-append-nil [] = refl
-append-nil (x ∷ xs) = ap (λ ys. x ∷ ys) (append-nil xs)
+use Rattle.mpx_post.proofs.Lists.{slice_get-append}
+use Rattle.std.proofs.lemmas.List.{append-nil}
 
 pub prefix_itself : {A : Type 0} (xs : List A) → IsPrefixOf xs xs
 prefix_itself xs = ([], append-nil xs)
 
 pub prefix_trans : {A : Type 0} (xs ys zs : List A) → IsPrefixOf xs ys → IsPrefixOf ys zs → IsPrefixOf xs zs
 prefix_trans xs ys zs a b = (a.0 ++ b.0, sym (append_assoc xs a.0 b.0) ∙ ap (λ l. l ++ b.0) a.1 ∙ b.1)
-
-pub slice_get-append : {A : Type 0} (xs ys : List A) (k : ℕ) (x : A) → slice_get xs k ≡ Some x → slice_get (xs ++ ys) k ≡ Some x
-slice_get-append [] ys k x e = cc e
-slice_get-append (y ∷ xs) ys zero x e = e
-slice_get-append (y ∷ xs) ys (suc k) x e = slice_get-append xs ys k x e
 
 -- an element of both is one of the first or one of the second
 pub slice_get-parts : {A : Type 0} (xs ys : List A) (k : ℕ) (x : A) → slice_get (xs ++ ys) k ≡ Some x → (slice_get xs k ≡ Some x) ⊎ ((j : ℕ) × (slice_get ys j ≡ Some x))

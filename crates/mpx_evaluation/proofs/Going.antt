@@ -16,11 +16,6 @@ pub goes_then : (r : Results) (s t u : Local) → Goes r s t → Goes r t u → 
 goes_then r s t u g stays = g
 goes_then r s t u g (moves {t = v} h e) = moves (goes_then r s t v g h) e
 
--- who it is doesn't change
-pub goes-keeps : (r : Results) (s t : Local) → Goes r s t → t.me ≡ s.me
-goes-keeps r s t stays = refl
-goes-keeps r s t (moves {t = u} g e) = step-keeps r u t e ∙ goes-keeps r s u g
-
 module _ (script : List (List Statement)) (ranks : ℕ) (end : State) (e : IsEvaluation script ranks end) (p : ℕ) where
   -- wherever it has come to, there is a way to where it ends
   pub goes-way : (s : Local) → Goes (known ranks end p) (start script ranks p) s → Way (known ranks end p) s (end p)
@@ -34,9 +29,6 @@ module _ (script : List (List Statement)) (ranks : ℕ) (end : State) (e : IsEva
   goes-whole s g = finished (known ranks end p) s (end p) (goes-way s g)
 
 module _ (script : List (List Statement)) (ranks : ℕ) (end : State) (p : ℕ) where
-  pub goes-me : (s : Local) → Goes (known ranks end p) (start script ranks p) s → s.me ≡ p
-  goes-me s g = goes-keeps (known ranks end p) (start script ranks p) s g
-
   pub goes-carries_out : (s : Local) → Goes (known ranks end p) (start script ranks p) s → CarriesOut (known ranks end p) (bound_at_start ranks) (statements_of script p) s
   goes-carries_out s stays = inl (record { passed = []; left = statements_of script p; all = refl; todo = refl; passes = none })
   goes-carries_out s (moves {t = t} g f) = step-carries_out (known ranks end p) (bound_at_start ranks) (statements_of script p) t s (goes-carries_out t g) f

@@ -29,10 +29,11 @@ use Rattle.mpx_statement.specs.Lookups.{named}
 use Rattle.mpx_evaluation.specs.Ranks.{Bindings, Bound, Communicator, NullCommunicator, Line, Told, Refused, Requests, Local, answered, answered_by, answers, awaited_by, awaited_then, birth_in, communicator_of, comparison_told, line_then, neighbours_in, rank_asked, told_by, told_to, translated_told, translation_in, attempt, bind, bound_by, done, doing, next, next_call, step, waited_lines, without, without_all}
 use Rattle.mpx_evaluation.specs.Evaluation.{State, start, bound_at_start, world_of, history, known, move, moves, statements_of, IsReached, IsPrefixOf}
 use Rattle.mpx_evaluation.specs.Told.{Passes, none, accepted, started as opened, refused, waited as passed_by, asked, IsWaiting, CarriesOut, IsToldOf, IsMemberOf}
-use Rattle.mpx_evaluation.proofs.Fronts.{append-nil, prefix_itself, slice_get-parts, history-grows}
+use Rattle.mpx_evaluation.proofs.Fronts.{prefix_itself, slice_get-parts, history-grows}
 use Rattle.mpx_evaluation.proofs.Steps.{heard, posted, started, told_at_once, turned_down, waited, step_asks, step_cases, step_ends, step_hears, step_passes, step_stays, step_waits, step_posts, step_starts, step_refused, step-keeps}
 use Rattle.mpx_evaluation.proofs.Ways.{step_by-adds}
 use Rattle.mpx_evaluation.proofs.Ahead.{goes_on_cases}
+use Rattle.std.proofs.lemmas.List.{append-nil}
 
 -- STATEMENTS THAT ARE PASSED
 

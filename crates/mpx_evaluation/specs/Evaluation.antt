@@ -21,7 +21,7 @@ abbrev pub statements_of : List (List Statement) → (rank : ℕ) → List State
 statements_of script p = unwrap_or (slice_get script p) []
 
 abbrev pub start : List (List Statement) → ℕ → State
-start script ranks p = record { me = p; bound = bound_at_start ranks; requests = []; todo = doing (statements_of script p); made = []; lines = [] }
+start script ranks p = record { me = p; bound = bound_at_start ranks; requests = []; todo = doing (statements_of script p); made = []; lines = []; origins = [] }
 
 -- all posts that were made
 abbrev pub history : State → History

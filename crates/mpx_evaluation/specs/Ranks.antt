@@ -1,5 +1,5 @@
 -- One rank of a script, as an automaton over the answers that it asks for.
-use Rattle.std.specs.Prelude.{ℕ, ◌+◌, Bool, true, false, not, List, [], ◌∷◌, ◌++◌, length, map, bytes_eq, Option, Some, None, option_and_then, Result, Ok, Err, ℤ}
+use Rattle.std.specs.Prelude.{ℕ, zero, suc, ◌+◌, Bool, true, false, not, List, [], ◌∷◌, ◌++◌, length, map, bytes_eq, Option, Some, None, option_and_then, Result, Ok, Err, ℤ}
 use Rattle.std.specs.List.{filter}
 use Rattle.std.specs.Option.{option_map}
 use Rattle.mpx_group.specs.Group.{comparison_of}
@@ -31,6 +31,7 @@ use Rattle.mpx_statement.specs.declared.statement.Question.TheVariants.{Neighbou
 use Rattle.mpx_statement.specs.declared.statement.Statement.{Statement}
 use Rattle.mpx_statement.specs.declared.statement.Statement.TheVariants.{Post, Wait, Ask}
 use Rattle.mpx_evaluation.specs.declared.asking.Relation.{Relation}
+use Rattle.mpx_evaluation.specs.declared.origin.Origin.{Origin}
 use Rattle.mpx_evaluation.specs.declared.asking.Relation.TheVariants.{Ident, Congruent, Similar, Unequal}
 use Rattle.mpx_statement.specs.Statements.{Gathers, bound_to, draft_of, gathers_of, posted_on, started_as}
 use Rattle.mpx_statement.specs.Lookups.{below, named}
@@ -64,8 +65,8 @@ pub data Todo : Type 0 where
   Do : Statement → Todo
   Await : Name → (call : ℕ) → (target : Option (List ℕ)) → Todo
 
--- where a rank stands: who it is, what its words are bound to, its open requests, what is left to do, the posts that it made
--- and its lines
+-- where a rank stands: who it is, what its words are bound to, its open requests, what is left to do, the posts that it made,
+-- its lines, and which statement each of these belongs to
 pub record Local : Type 0 where
   pub me : ℕ
   pub bound : Bindings
@@ -73,6 +74,12 @@ pub record Local : Type 0 where
   pub todo : List Todo
   pub made : List Made
   pub lines : List Line
+  pub origins : List Origin
+
+-- of the first so many lines of the statement at which so many are left, with that one, which one's they are
+abbrev pub origins_of : (left lines : ℕ) → List Origin
+origins_of left zero = []
+origins_of left (suc n) = origins_of left n ++ record { left = left; nth = n } ∷ []
 
 -- what one move does: what is bound, open and left to do after it, and the posts and the lines that it adds
 pub record Act : Type 0 where
@@ -83,7 +90,15 @@ pub record Act : Type 0 where
   pub lines : List Line
 
 abbrev pub done : Local → Act → Local
-done s a = record { me = s.me; bound = a.bound; requests = a.requests; todo = a.todo; made = s.made ++ a.made; lines = s.lines ++ a.lines }
+done s a = record {
+  me = s.me;
+  bound = a.bound;
+  requests = a.requests;
+  todo = a.todo;
+  made = s.made ++ a.made;
+  lines = s.lines ++ a.lines;
+  origins = s.origins ++ origins_of (length s.todo) (length a.lines);
+}
 
 -- what a rank does next: nothing, or an act that is a function of the answers of some calls
 pub data Next : Type 0 where

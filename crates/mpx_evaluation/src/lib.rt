@@ -6,13 +6,14 @@
 //! and of one rank alone (`specs/Going.antt`) [`a_rank_goes_its_own_way`].
 //! [`line`], [`refused_line`], [`idle_line`] and [`neighbours_line`] write a line of a transcript
 //! (`specs/Transcripts.antt`), and so do [`neighbours_answer`], [`comparison_answer`] and [`translation_answer`] for
-//! a question. A [`Report`] has all lines. Who carries out a rank's statements keeps what its words stand for in a map, into which
+//! a question. A [`Report`] has all lines, and an [`Origin`] tells which statement a line belongs to. Who carries out a rank's statements keeps what its words stand for in a map, into which
 //! [`bind`] binds one (`specs/Standing.antt`).
 #![tactic(auto)]
 
 mod asking;
 mod bindings;
 mod evaluation;
+mod origin;
 mod own_way;
 mod report;
 mod told;
@@ -23,6 +24,7 @@ pub use bindings::bind;
 pub use evaluation::{
     evaluations_are_one, every_script_has_an_evaluation, whatever_is_reached_is_a_beginning,
 };
+pub use origin::Origin;
 pub use own_way::a_rank_goes_its_own_way;
 pub use report::Report;
 pub use told::{lines_tell_the_values_of_all_posts, ranks_carry_out_their_statements};

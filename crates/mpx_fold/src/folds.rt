@@ -1,3 +1,4 @@
+// What reductions and scans give each member.
 ghost use Rattle.std.specs.Prelude.{◌≡◌, ◌+◌, ◌*◌, ◌<◌, ◌≤◌, IfOk, length, true};
 ghost use Rattle.mpx_num.specs.ItemList.{AreItems};
 ghost use Rattle.mpx_num.specs.Types.{item_len};

@@ -2,46 +2,19 @@
 use Rattle.std.proofs.Common.{◌≡◌, ℕ, zero, suc, Bool, true, false, ◌&&◌, ltb, Option, Some, None, refl, sym, ap, ◌∙◌, arith}
 use Rattle.std.proofs.lemmas.Bool.{ltb-true, and_parts}
 use Rattle.mpx_num.specs.declared.types.Ty.{Ty}
-use Rattle.mpx_num.specs.declared.types.Ty.TheVariants.{I8, I16, I32, I64, U8, U16, U32, U64, TwoInt}
 use Rattle.mpx_num.specs.declared.operations.Op.{Op}
-use Rattle.mpx_num.specs.declared.operations.Op.TheVariants.{Max, Min, Sum, Prod, Land, Lor, Lxor, Band, Bor, Bxor, Maxloc, Minloc}
 use Rattle.mpx_kind.specs.declared.kinds.Kind.{Kind}
-use Rattle.mpx_kind.specs.declared.kinds.Kind.TheVariants.{Barrier, Bcast, Gather, Gatherv, Scatter, Scatterv, Allgather, Allgatherv, Alltoall, Alltoallv, Reduce, Allreduce, ReduceScatterBlock, ReduceScatter, Scan, Exscan, Dup, Split, Create, CreateGroup, DistGraph, DistGraphAdjacent, NeighborAllgather, NeighborAllgatherv, NeighborAlltoall, NeighborAlltoallv}
 use Rattle.mpx_kind.specs.declared.kinds.Mode.{Mode}
 use Rattle.mpx_kind.specs.declared.kinds.Mode.TheVariants.{Blocking, Nonblocking}
 use Rattle.mpx_format.specs.Format.{Format, byte, out_of_limits}
-use Rattle.mpx_format.specs.Codes.{code_of_kind, kind_at, kind, code_of_mode, mode_at, mode, code_of_operation, operation_at, operation, code_of_type, type_at, item_type, code_of_flag, flag_at, flag, of_none, missing, there, when}
+use Rattle.mpx_kind.specs.Codes.{code_of_kind, kind_at}
+use Rattle.mpx_kind.proofs.Codes.{kind_forth}
+use Rattle.mpx_num.specs.Codes.{code_of_operation, operation_at, code_of_type, type_at}
+use Rattle.mpx_num.proofs.Codes.{operation_forth, type_forth}
+use Rattle.mpx_format.specs.Codes.{kind, code_of_mode, mode_at, mode, operation, item_type, code_of_flag, flag_at, flag, of_none, missing, there, when}
 use Rattle.mpx_format.proofs.FormatLaws.{Exactly, byte_laws, nothing_laws, only_laws, through_laws, some_is}
 
 -- KINDS AND MODES
-
-kind_forth : (x : Kind) → kind_at (code_of_kind x) ≡ x
-kind_forth Barrier = refl
-kind_forth Bcast = refl
-kind_forth Gather = refl
-kind_forth Gatherv = refl
-kind_forth Scatter = refl
-kind_forth Scatterv = refl
-kind_forth Allgather = refl
-kind_forth Allgatherv = refl
-kind_forth Alltoall = refl
-kind_forth Alltoallv = refl
-kind_forth Reduce = refl
-kind_forth Allreduce = refl
-kind_forth ReduceScatterBlock = refl
-kind_forth ReduceScatter = refl
-kind_forth Scan = refl
-kind_forth Exscan = refl
-kind_forth Dup = refl
-kind_forth Split = refl
-kind_forth Create = refl
-kind_forth CreateGroup = refl
-kind_forth DistGraph = refl
-kind_forth DistGraphAdjacent = refl
-kind_forth NeighborAllgather = refl
-kind_forth NeighborAllgatherv = refl
-kind_forth NeighborAlltoall = refl
-kind_forth NeighborAlltoallv = refl
 
 kind_back : (n : ℕ) → ltb n 26 ≡ true → code_of_kind (kind_at n) ≡ n
 kind_back zero t = refl
@@ -89,20 +62,6 @@ mode_laws k = only_laws out_of_limits _ (through_laws mode_at (λ x. Some (code_
 
 -- OPERATIONS AND TYPES
 
-operation_forth : (x : Op) → operation_at (code_of_operation x) ≡ x
-operation_forth Max = refl
-operation_forth Min = refl
-operation_forth Sum = refl
-operation_forth Prod = refl
-operation_forth Land = refl
-operation_forth Lor = refl
-operation_forth Lxor = refl
-operation_forth Band = refl
-operation_forth Bor = refl
-operation_forth Bxor = refl
-operation_forth Maxloc = refl
-operation_forth Minloc = refl
-
 operation_back : (n : ℕ) → (ltb 0 n && ltb n 13) ≡ true → code_of_operation (operation_at n) ≡ n
 operation_back zero t = absurd cc
 operation_back (suc zero) t = refl
@@ -121,17 +80,6 @@ operation_back (suc (suc (suc (suc (suc (suc (suc (suc (suc (suc (suc (suc n))))
 pub operation_laws : Exactly operation
 unfolding operation
 operation_laws = through_laws operation_at (λ x. Some (code_of_operation x)) (only_laws out_of_limits _ byte_laws) (λ n fits. ap Some (operation_back n (and_parts (byte.fits n) (ltb 0 n && ltb n 13) fits).1)) (λ x n e. ap operation_at (sym (some_is (code_of_operation x) n e)) ∙ operation_forth x)
-
-type_forth : (x : Ty) → type_at (code_of_type x) ≡ x
-type_forth I8 = refl
-type_forth I16 = refl
-type_forth I32 = refl
-type_forth I64 = refl
-type_forth U8 = refl
-type_forth U16 = refl
-type_forth U32 = refl
-type_forth U64 = refl
-type_forth TwoInt = refl
 
 type_back : (n : ℕ) → (ltb 0 n && ltb n 10) ≡ true → code_of_type (type_at n) ≡ n
 type_back zero t = absurd cc

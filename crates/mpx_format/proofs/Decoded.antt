@@ -97,9 +97,6 @@ frame_tidy v fits =
 abbrev fine : {A : Type 0} → A → Result A WireError
 fine x = Ok x
 
-fine_is : {A : Type 0} (x y : A) → fine x ≡ fine y → x ≡ y
-fine_is x y e = cc
-
 test_ok : {A : Type 0} (b : Bool) (e : WireError) (x : A) (y : A) → cond b (Ok x) (Err e) ≡ Ok y → (b ≡ true) × (x ≡ y)
 test_ok true e x y h = (refl, cc)
 test_ok false e x y h = absurd cc

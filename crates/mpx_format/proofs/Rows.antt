@@ -34,12 +34,12 @@ module _ {K J V : Type 0} (R : K → K → Ordering) (least : Option K) (view : 
   pub may_come_seen : (es : List (K × J)) (k : K) → may_come R least (last_of (seen view es)) k ≡ may_come R least (last_of es) k
   may_come_seen es k = ap (λ o. may_come R least o k) (last_seen es) ∙ by_key k (last_of es)
 
-is_less : (r : Ordering) → is_lt r ≡ true → r ≡ Less
+pub is_less : (r : Ordering) → is_lt r ≡ true → r ≡ Less
 is_less Less e = refl
 is_less Equal e = cc
 is_less Greater e = cc
 
-last_more : {A : Type 0} (x y : A) (xs : List A) → last_of (x ∷ y ∷ xs) ≡ last_of (y ∷ xs)
+pub last_more : {A : Type 0} (x y : A) (xs : List A) → last_of (x ∷ y ∷ xs) ≡ last_of (y ∷ xs)
 last_more x y xs =
     let k : length (x ∷ y ∷ xs) - 1 ≡ suc (length xs) = omega arith in
     let l : length (y ∷ xs) - 1 ≡ length xs = omega arith in
@@ -65,7 +65,7 @@ pub first_push : {K V : Type 0} (R : K → K → Ordering) (least : Option K) (e
 first_push R least [] e first m = m
 first_push R least (x ∷ es) e first m = first
 
-is_below : (x y : ℕ) → is_lt (nat_cmp x y) ≡ ltb x y
+pub is_below : (x y : ℕ) → is_lt (nat_cmp x y) ≡ ltb x y
 is_below x y = elim (ltb x y) as (λ b. is_lt (cond b Less (cond (eqb x y) Equal Greater)) ≡ b) [
   | true ↦ refl
   | false ↦ elim (eqb x y) as (λ b. is_lt (cond b Equal Greater) ≡ false) [ true ↦ refl | false ↦ refl ]

@@ -1,5 +1,7 @@
 -- Which bytes spell a board, and what decoding answers.
 use Rattle.std.specs.Prelude.{◌≡◌, ◌≤◌, ℕ, ◌-◌, true, nat_lt, nat_eq, List, length, Result, Ok, Err, cond}
+use Rattle.mpx_board.specs.Boards.{Look, empty}
+use Rattle.mpx_board.specs.Contexts.{look_of}
 use Rattle.mpx_board.specs.Parts.{PartsView}
 use Rattle.mpx_board.specs.Looks.{parts_of}
 use Rattle.mpx_board.specs.declared.board.Board.{Board}
@@ -37,6 +39,11 @@ ended n (Err f) = Err (placed n f)
 -- the board of the bytes, or the first field that is wrong
 unfoldable pub decoded : List ℕ → Result PartsView WireError
 decoded bytes = cond (nat_lt most_bytes (length bytes)) (Err E.TooLong) (ended (length bytes) (frame.read bytes))
+
+-- what decoded bytes show; refused ones show nothing
+abbrev pub shown : Result PartsView WireError → Look
+shown (Ok v) = look_of v
+shown (Err e) = empty
 
 -- what the call answers is what decoding gives, unless memory ran out
 abbrev pub Refuses : WireError → Result PartsView WireError → Type 0

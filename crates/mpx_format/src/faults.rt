@@ -1,3 +1,4 @@
+// Why bytes are no frame, and where.
 ghost use Rattle.std.specs.Prelude.{◌≡◌};
 ghost use Rattle.mpx_format.specs.Format.{out_of_limits, not_canonical};
 ghost use Rattle.mpx_format.specs.Decoding.{placed};

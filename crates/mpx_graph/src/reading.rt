@@ -1,3 +1,4 @@
+// What a rank asks of a topology.
 ghost use Rattle.std.specs.Prelude.{◌≡◌};
 ghost use Rattle.mpx_birth.specs.Topologies.{destinations_at, sources_at};
 ghost use Rattle.mpx_graph.specs.Graphs.{counts_at};

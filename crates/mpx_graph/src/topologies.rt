@@ -1,3 +1,4 @@
+// Which topology the posts of a graph's call make.
 ghost use Rattle.std.specs.Prelude.{◌≡◌, ◌<◌, ◌++◌, ◌∷◌, [], List, IfOk, OnOk, vec_len};
 ghost use Rattle.std.specs.List.{All};
 ghost use Rattle.mpx_birth.specs.declared.edges.Edge.{Edge};

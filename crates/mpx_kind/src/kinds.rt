@@ -1,3 +1,4 @@
+// The kinds of calls: one table of their families, modes and fields.
 ghost use Rattle.std.specs.Prelude.{◌≡◌, ◌≤◌};
 ghost use Rattle.mpx_kind.specs.Kinds.{blocking, exchange_kind, family_of, fields_of, is_gathered, is_had, kind_of, makes_communicators, making, mode_of, needs_topology, neighbourhood_kind, new_communicator_kind, number_in, reduction_kind};
 

@@ -15,8 +15,8 @@ use Rattle.mpx_kind.specs.declared.kinds.Neighbourhood.{Neighbourhood}
 use Rattle.mpx_kind.specs.declared.kinds.Neighbourhood.TheVariants as H
 use Rattle.mpx_post.specs.Births.{upto}
 use Rattle.mpx_post.specs.Topologies.{IsKept, TopologyView, destinations_at}
-use Rattle.mpx_meet.specs.Places.{rank_at, taken_at}
-use Rattle.mpx_meet.proofs.Meeting.{taken_meets, taken_of}
+use Rattle.mpx_birth.specs.Ends.{rank_at, taken_at}
+use Rattle.mpx_birth.proofs.Meeting.{taken_meets, taken_of}
 use Rattle.mpx_post.specs.Agreement.{AlongEdges, AmountsAgree, awaited_on, first_of, post_at, sent_on}
 use Rattle.mpx_post.specs.Equality.{same_operation, kinds_decided, modes_decided, operations_decided, options_decided, types_decided, numbers_decided}
 use Rattle.mpx_match.specs.declared.verdicts.Question.{Question}

@@ -5,7 +5,7 @@ use Rattle.mpx_kind.specs.declared.kinds.Neighbourhood.{Neighbourhood}
 use Rattle.mpx_post.specs.Rows.{RowView}
 use Rattle.mpx_post.specs.Agreement.{awaited_on, post_at, sent_on}
 use Rattle.mpx_post.specs.Topologies.{TopologyView, destinations_at}
-use Rattle.mpx_meet.specs.Places.{rank_at, taken_at}
+use Rattle.mpx_birth.specs.Ends.{rank_at, taken_at}
 use Rattle.mpx_match.specs.Questions.{edge_differs}
 
 pub edge_is : (exchange : Neighbourhood) (topology : TopologyView) (row : RowView) (rank place : ℕ) (lent : List Neighbour) → lent ≡ destinations_at topology rank

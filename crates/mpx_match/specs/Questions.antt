@@ -13,7 +13,7 @@ use Rattle.mpx_kind.specs.declared.kinds.Neighbourhood.{Neighbourhood}
 use Rattle.mpx_kind.specs.declared.kinds.Neighbourhood.TheVariants as H
 use Rattle.mpx_post.specs.Births.{upto}
 use Rattle.mpx_post.specs.Topologies.{TopologyView, destinations_at}
-use Rattle.mpx_meet.specs.Places.{rank_at, taken_at}
+use Rattle.mpx_birth.specs.Ends.{rank_at, taken_at}
 use Rattle.mpx_post.specs.Agreement.{awaited_on, count_at, first_of, is_fit, post_at, received, root_post, sent_on}
 use Rattle.mpx_match.specs.declared.verdicts.Question.{Question}
 use Rattle.mpx_match.specs.declared.verdicts.Question.TheVariants.{Fit, Kind, Mode, Root, Op, ItemType, Amount, Weights, Edges, Groups}

@@ -1,9 +1,10 @@
+// Whether the amounts of a row fit together.
 ghost use Rattle.std.specs.Prelude.{◌≡◌, ◌<◌, Some, None, length};
 ghost use Rattle.mpx_post.specs.Posts.{count_of, root_of};
 ghost use Rattle.mpx_post.specs.Agreement.{awaited_on, count_at, post_at, sent_on};
 ghost use Rattle.mpx_match.specs.Questions.{along_edges_differ, amounts_differ as differ};
 
-use mpx_meet::Pass;
+use mpx_birth::Pass;
 use mpx_post::{Birth, Counts, Kind, Neighbourhood, Post, Row, Topology};
 
 /// Whether the amounts of the post of this rank differ from what the kind asks of them.

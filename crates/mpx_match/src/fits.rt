@@ -1,3 +1,4 @@
+// Whether a post fits its communicator.
 ghost use Rattle.std.specs.Prelude.{◌≡◌, ◌≤◌, ◌*◌, ◌==◌, ◌&&◌, nat_lt, length};
 ghost use Rattle.std.specs.List.{list_all};
 ghost use Rattle.mpx_num.specs.Types.{item_len};

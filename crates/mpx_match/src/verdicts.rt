@@ -1,3 +1,4 @@
+// The first fault of a row, or that it is fine.
 ghost use Rattle.std.specs.Prelude.{◌≡◌, ◌<◌, true, None, length};
 ghost use Rattle.mpx_post.specs.Agreement.{IsFineWith, post_at};
 ghost use Rattle.mpx_post.specs.Equality.{same_types as have_same_types};

@@ -1,5 +1,5 @@
 -- Who sends each member a block.
-use Rattle.std.proofs.Common.{◌≡◌, ℕ, ◌<◌, Bool, true, false, List, Option, Some, length, cond, refl, sym, ap, ◌∙◌, append-nil, eq-eqb}
+use Rattle.std.proofs.Common.{◌≡◌, ℕ, ◌<◌, Bool, true, false, Option, Some, length, cond, refl, sym, ap, ◌∙◌, append-nil, eq-eqb}
 use Rattle.std.specs.Option.{option_map_or}
 use Rattle.std.specs.Prelude.{◌==◌}
 use Rattle.mpx_kind.specs.declared.kinds.Kind.{Kind}
@@ -9,14 +9,10 @@ use Rattle.mpx_post.specs.Posts.{Given}
 use Rattle.mpx_post.specs.Rows.{RowView}
 use Rattle.mpx_post.specs.Blocks.{repeated}
 use Rattle.mpx_post.specs.Topologies.{TopologyView}
-use Rattle.mpx_post.specs.Agreement.{count_at, first_of, is_fit, is_root, post_at, IsFine}
-use Rattle.mpx_post.proofs.Blocks.{count_alone, length-repeated, rcounts_as, scounts_as}
+use Rattle.mpx_post.specs.Agreement.{first_of, is_fit, is_root, post_at, IsFine}
+use Rattle.mpx_post.proofs.Blocks.{rcounts_as, scounts_as, length-alone}
 use Rattle.mpx_move.specs.Senders.{IsSender, sends_blocks}
 use Rattle.mpx_move.proofs.Places.{sent_as}
-
--- one count for each of so many blocks
-length-alone : (n : ℕ) (counts : List ℕ) → length counts ≡ 1 → length (repeated n counts) ≡ n
-length-alone n counts one = ap (λ (list : List ℕ). length (repeated n list)) (count_alone counts one) ∙ length-repeated n (count_at counts 0)
 
 cond_size : (root : Bool) (size : ℕ) → root ≡ true → cond root size 0 ≡ size
 cond_size root size is = rw is refl

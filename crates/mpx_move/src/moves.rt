@@ -1,3 +1,4 @@
+// What exchanges give each member.
 ghost use Rattle.std.specs.Prelude.{◌≡◌, ◌<◌, ◌≤◌, ◌++◌, IfOk, OnOk, Some, ℕ, length, true};
 ghost use Rattle.mpx_post.specs.Agreement.{IsFine, count_at, first_of, post_at};
 ghost use Rattle.mpx_post.specs.Kinds.{exchange_kind, fields_of};

@@ -9,14 +9,10 @@ use Rattle.mpx_post.specs.Kinds.{fields_of, neighbourhood_kind}
 use Rattle.mpx_post.specs.Posts.{numbers_of, type_of}
 use Rattle.mpx_post.specs.Blocks.{blocks_sent, repeated}
 use Rattle.mpx_post.specs.Rows.{RowView}
-use Rattle.mpx_post.specs.Agreement.{count_at, first_of, post_at, seat_of, IsFineWith}
-use Rattle.mpx_post.proofs.Blocks.{count_alone, filled_as, length-repeated, scounts_as}
+use Rattle.mpx_post.specs.Agreement.{first_of, post_at, seat_of, IsFineWith}
+use Rattle.mpx_post.proofs.Blocks.{filled_as, scounts_as, length-alone}
 use Rattle.mpx_neigh.specs.Cursors.{sends_blocks}
 use Rattle.mpx_neigh.specs.Neighbourhoods.{counts_sent}
-
--- one count for each of so many blocks
-length-alone : (n : ℕ) (counts : List ℕ) → length counts ≡ 1 → length (repeated n counts) ≡ n
-length-alone n counts one = ap (λ (list : List ℕ). length (repeated n list)) (count_alone counts one) ∙ length-repeated n (count_at counts 0)
 
 module _ (topology : TopologyView) (row : RowView) (sender : ℕ) (fine : IsFineWith (Some topology) row) (l : sender < length row) where
   by_kind : (kind : Kind) → (post_at row sender).kind ≡ kind → counts_sent topology row sender ≡ unwrap_or (blocks_sent (fields_of kind).sent (seat_of (Some topology) (length row) sender (post_at row sender)) (post_at row sender).scounts (post_at row sender).rcounts) []

@@ -5,8 +5,8 @@ use Rattle.std.proofs.lemmas.List.Concat.{flat_map-append}
 use Rattle.mpx_birth.specs.declared.edges.Neighbour.{Neighbour}
 use Rattle.mpx_birth.specs.Births.{upto}
 use Rattle.mpx_birth.specs.Topologies.{Agrees, TopologyView, sources_at}
-use Rattle.mpx_meet.specs.Places.{rank_at}
-use Rattle.mpx_meet.proofs.Meeting.{source_is_rank}
+use Rattle.mpx_birth.specs.Ends.{rank_at}
+use Rattle.mpx_birth.proofs.Meeting.{source_is_rank}
 use Rattle.mpx_num.specs.declared.types.Ty.{Ty}
 use Rattle.mpx_num.specs.Types.{item_len}
 use Rattle.mpx_num.specs.ItemList.{ItemList}

@@ -1,5 +1,5 @@
 -- One block more is taken.
-use Rattle.std.proofs.Common.{◌≡◌, ℕ, zero, suc, ◌+◌, ◌*◌, ◌<◌, ◌≤◌, List, [], ◌∷◌, Some, true, length, take, drop, get_or, set, replicate, sum, refl, sym, ap, subst, ◌∙◌, inl, inr, arith}
+use Rattle.std.proofs.Common.{◌≡◌, ℕ, ◌+◌, ◌*◌, ◌<◌, ◌≤◌, List, Some, true, length, take, drop, get_or, set, replicate, sum, refl, sym, ap, subst, ◌∙◌, inl, inr, arith}
 use Rattle.std.proofs.lemmas.Bool.{cases_eq}
 use Rattle.std.proofs.lemmas.List.{get_or-replicate, get_or-set_other, get_or-set_same, length-replicate, length-set, take-replicate}
 use Rattle.std.proofs.lemmas.List.Folds.{sum_by-replicate}
@@ -7,16 +7,16 @@ use Rattle.std.proofs.lemmas.List.Sums.{sum_by_more}
 use Rattle.mpx_birth.specs.declared.edges.Neighbour.{Neighbour}
 use Rattle.mpx_birth.specs.Topologies.{IsTopology, Agrees, TopologyView, destinations_at, sources_at}
 use Rattle.mpx_kind.specs.declared.kinds.Neighbourhood.{Neighbourhood}
-use Rattle.mpx_meet.specs.Places.{place_of, sent_at}
-use Rattle.mpx_meet.proofs.Meeting.{sent_meets, source_is_rank}
-use Rattle.mpx_meet.proofs.Passes.{sources_mutual, meet_one, none_met}
+use Rattle.mpx_birth.specs.Ends.{place_of, sent_at}
+use Rattle.mpx_birth.proofs.Meeting.{sent_meets, source_is_rank}
+use Rattle.mpx_birth.proofs.Passes.{sources_mutual, meet_one, none_met}
 use Rattle.mpx_post.specs.declared.block.Block.{Block}
 use Rattle.mpx_post.specs.Kinds.{neighbourhood_kind}
 use Rattle.mpx_post.specs.Posts.{numbers_of, type_of}
 use Rattle.mpx_post.specs.Rows.{RowView}
 use Rattle.mpx_post.specs.Agreement.{IsFineWith, count_at, first_of, post_at}
 use Rattle.mpx_post.specs.Blocks.{IsBlock, repeated}
-use Rattle.mpx_post.proofs.Blocks.{block_at-part, block_within, count_alone}
+use Rattle.mpx_post.proofs.Blocks.{block_at-part, block_within, count_alone, repeated-replicate}
 use Rattle.mpx_neigh.specs.Cursors.{AreTaken, CursorsView, IsMet, sends_blocks}
 use Rattle.mpx_neigh.specs.Neighbourhoods.{counts_sent, source_at}
 use Rattle.mpx_neigh.proofs.Senders.{fills, sends_each}
@@ -95,10 +95,6 @@ none_taken topology row rank kept = record {
 }
 
 -- ONE COUNT FOR ALL BLOCKS
-
-repeated-replicate : (n count : ℕ) → repeated n (count ∷ []) ≡ replicate n count
-repeated-replicate zero count = refl
-repeated-replicate (suc n) count = ap (λ (counts : List ℕ). count ∷ counts) (repeated-replicate n count)
 
 -- the block begins behind as many of one size as there are before it
 pub equal_placed : (n : ℕ) (counts : List ℕ) (place : ℕ) → length counts ≡ 1 → place < n → record { first = place * count_at counts 0; count = count_at counts 0 } ≡ placed (repeated n counts) place

@@ -4,8 +4,8 @@ use Rattle.std.specs.List.{sum}
 use Rattle.mpx_birth.specs.Topologies.{TopologyView, destinations_at, sources_at}
 use Rattle.mpx_kind.specs.declared.kinds.Neighbourhood.{Neighbourhood}
 use Rattle.mpx_kind.specs.declared.kinds.Neighbourhood.TheVariants.{Allgather, Allgatherv, Alltoall, Alltoallv}
-use Rattle.mpx_meet.specs.Places.{sent_at}
-use Rattle.mpx_meet.proofs.Passes.{AreMet}
+use Rattle.mpx_birth.specs.Ends.{sent_at}
+use Rattle.mpx_birth.proofs.Passes.{AreMet}
 use Rattle.mpx_post.specs.declared.block.Block.{Block}
 use Rattle.mpx_post.specs.Posts.{numbers_of, type_of}
 use Rattle.mpx_post.specs.Rows.{RowView}

@@ -4,7 +4,7 @@ use Rattle.std.specs.List.{flat_map}
 use Rattle.mpx_birth.specs.declared.edges.Neighbour.{Neighbour}
 use Rattle.mpx_birth.specs.Births.{upto}
 use Rattle.mpx_birth.specs.Topologies.{TopologyView, sources_at}
-use Rattle.mpx_meet.specs.Places.{rank_at, sent_at}
+use Rattle.mpx_birth.specs.Ends.{rank_at, sent_at}
 use Rattle.mpx_kind.specs.declared.kinds.Family.{Family}
 use Rattle.mpx_kind.specs.declared.kinds.Family.TheVariants as F
 use Rattle.mpx_kind.specs.declared.kinds.Neighbourhood.{Neighbourhood}

@@ -1,3 +1,4 @@
+// How far the blocks for each neighbour are read.
 ghost use Rattle.std.specs.Prelude.{◌≡◌, ◌<◌, ◌≤◌, ◌+◌, ◌*◌, Some, length, replicate, take, true};
 ghost use Rattle.std.specs.List.{All, sum};
 ghost use Rattle.mpx_birth.specs.Topologies.{most_neighbours, sources_at};
@@ -7,7 +8,7 @@ ghost use Rattle.mpx_post.specs.Posts.{most_counts, most_items};
 ghost use Rattle.mpx_neigh.specs.Cursors.{AreTaken, IsMet, sends_blocks};
 ghost use Rattle.mpx_neigh.specs.Neighbourhoods.{source_at};
 
-use mpx_meet::Pass;
+use mpx_birth::Pass;
 use mpx_post::{Block, Neighbourhood, Row, Topology};
 use std::marker::Model;
 

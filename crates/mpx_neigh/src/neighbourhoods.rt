@@ -1,3 +1,4 @@
+// What neighbourhood exchanges give each member.
 ghost use Rattle.std.specs.Prelude.{◌≡◌, ◌<◌, ◌≤◌, IfOk, Some, length, true};
 ghost use Rattle.mpx_birth.specs.Topologies.{sources_at};
 ghost use Rattle.mpx_post.specs.Agreement.{IsFine, IsFineWith, first_of, post_at};

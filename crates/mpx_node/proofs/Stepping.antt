@@ -87,10 +87,6 @@ module _ (m n : BTreeMap Name Opened) (name : Name) (o w : Opened) (value : Some
 
 -- POSTS
 
-pub checks_post : (r : Result Given PostError) (given : Given) → Checks r (Ok given) → r ≡ Ok given
-checks_post (Err refusal) given answered = cc answered
-checks_post (Ok expected) given answered = ap Ok (sym answered)
-
 module _ (name : Name) (old new : NodeView) where
   pub posts_refused : (r : Result Given PostError) (e : PostError) → r ≡ Err e → new ≡ old → Posts name r (Err e) old new
   posts_refused r e re same = subst (λ x. Posts name x (Err e) old new) (sym re) (refl, same)

@@ -4,7 +4,6 @@ use Rattle.std.specs.List.{list_any}
 use Rattle.std.specs.Option.{option_map}
 use Rattle.join_core.specs.Flat.{known}
 use Rattle.mpx_group.specs.Group.{has}
-use Rattle.mpx_name.specs.declared.steps.Step.TheVariants.{Gathering}
 use Rattle.mpx_name.specs.Name.{Name, same_name}
 use Rattle.mpx_post.specs.Posts.{Given}
 use Rattle.mpx_post.specs.declared.draft.Draft.{Draft}
@@ -20,6 +19,7 @@ use Rattle.mpx_node.specs.declared.finished.Finished.{Finished}
 use Rattle.mpx_value.specs.declared.outcomes.Outcome.{Outcome}
 use Rattle.mpx_value.specs.Children.{children, named_children}
 use Rattle.mpx_value.specs.Histories.{value_for}
+pub use Rattle.mpx_value.specs.Histories.{gathering_name}
 
 -- what a process has done on a context: how many calls it has posted, and the results of those that it has harvested
 pub record OpenedView : Type 0 where
@@ -168,9 +168,6 @@ gathers_by (Some o) (Some birth) me parent tag ranks = gathering birth me (lengt
 
 abbrev pub gathers_on : NodeView → (parent : Name) → (tag : ℤ) → (ranks : List ℤ) → Result GatheringView PostError
 gathers_on node parent tag ranks = gathers_by (node.opened parent) (told (node.board.contexts parent).birth) node.me parent tag ranks
-
-abbrev pub gathering_name : Name → GatheringView → Name
-gathering_name parent g = Gathering g.tag g.members ∷ parent
 
 -- the fact that a gathering is born
 abbrev pub gathering_fact : Name → GatheringView → Look

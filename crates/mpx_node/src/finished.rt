@@ -1,3 +1,4 @@
+// A call that is done, as its process keeps it.
 ghost use Rattle.std.specs.Prelude.{◌≡◌, IfOk};
 
 use join_core::{Exact, OutOfMemory};

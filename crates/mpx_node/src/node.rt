@@ -1,3 +1,4 @@
+// One process, and its steps.
 ghost use Rattle.std.specs.Prelude.{◌≡◌, ◌↔◌, ◌<◌, ◌≤◌, false, [], map, All, Some, None, OnOk, OnErr, IfOk, IsErrOf, IsTrue, slice_get, is_some};
 ghost use Rattle.std.specs.Option.{option_copied};
 ghost use Rattle.mpx_post.specs.Drafts.{Checks, at, checked, most_calls, refusal_of};

@@ -46,12 +46,6 @@ length-fold op ty start (xs ∷ rest) f s h =
     let one : length (elementwise op ty start xs) ≡ length start = length-elementwise op ty start xs f s h.0.1 (sym h.0.0) in
     length-fold op ty (elementwise op ty start xs) rest f (AreItems-elementwise op ty start xs f s h.0.1 (sym h.0.0)) (rw one h.1) ∙ one
 
-pub AreItems-fold : (op : Op) (ty : Ty) (start : List ℤ) (rest : List (List ℤ)) → IsTrue (fits op ty) → AreItems ty start → AreContributions ty (length start) rest → AreItems ty (fold (elementwise op ty) start rest)
-AreItems-fold op ty start [] f s h = s
-AreItems-fold op ty start (xs ∷ rest) f s h =
-    let one : length (elementwise op ty start xs) ≡ length start = length-elementwise op ty start xs f s h.0.1 (sym h.0.0) in
-    AreItems-fold op ty (elementwise op ty start xs) rest f (AreItems-elementwise op ty start xs f s h.0.1 (sym h.0.0)) (rw one h.1)
-
 pub fold_sum : (ty : Ty) (start : List ℤ) (rest : List (List ℤ)) (i : ℕ) → IsTrue (fits Sum ty) → AreItems ty start → AreContributions ty (length start) rest → i < length start →
     get_or (fold (elementwise Sum ty) start rest) i (pos 0) ≡ into_range ty (get_or start i (pos 0) +ℤ total (column i rest))
 fold_sum ty start [] i f s h p =

@@ -6,3 +6,4 @@ pub mod Numerals
 pub mod Elementwise
 pub mod Folds
 pub mod Parts
+pub mod Codes

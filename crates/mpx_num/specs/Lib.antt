@@ -5,3 +5,4 @@ pub mod ItemList
 pub mod Text
 pub mod Laws
 pub mod Kept
+pub mod Codes

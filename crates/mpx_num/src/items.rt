@@ -1,3 +1,4 @@
+// Items of one type, within its range.
 ghost use Rattle.std.specs.Prelude.{◌≡◌, ◌+◌, ◌*◌, ◌<◌, ◌≤◌, ◌↔◌, ◌++◌, ℕ, IsTrue, IsOk, IfOk, OnOk, OnErr, [], length, take, drop, true, false};
 ghost use Rattle.std.specs.Bool.{Decides, OnTrue, OnFalse};
 ghost use Rattle.std.specs.Result.{IsErrOf};

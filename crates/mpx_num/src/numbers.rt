@@ -1,3 +1,4 @@
+// Lists of whole numbers that copies share.
 ghost use Rattle.std.specs.Prelude.{◌≡◌, ◌++◌, ◌∷◌, [], IfOk, IsTrue, OnOk, OnErr, length};
 ghost use Rattle.std.specs.Arc.{arc_value};
 ghost use Rattle.mpx_num.specs.ItemList.{is_whole};

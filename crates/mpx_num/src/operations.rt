@@ -1,3 +1,4 @@
+// The predefined operations, and the types that each is for.
 ghost use Rattle.std.specs.Prelude.{◌≡◌};
 ghost use Rattle.mpx_num.specs.Operations.{fits};
 

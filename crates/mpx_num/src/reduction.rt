@@ -1,3 +1,4 @@
+// What an operation makes of two items.
 ghost use Rattle.std.specs.Prelude.{◌≡◌, ◌+◌, ◌*◌, ◌/◌, ◌<◌, IsTrue, length, pos, slice_index_or};
 ghost use Rattle.mpx_num.specs.ItemList.{is_whole};
 ghost use Rattle.mpx_num.specs.Operations.{combined as combined_numbers, combined_pair as pair_combined, elementwise, index_of as index_of_value, is_true as stands_for_true, truth as truth_number, zip_pairs, zip_with};

@@ -195,11 +195,5 @@ module _ (b : Board) (limit : ℕ) (pieces made : List Board) (apart : Adds (λ 
 
 -- a board in one part
 module _ (b c : Board) (same : parts_of c ≡ parts_of b) where
-  pub one_fact : HaveOnlyFactsOf (c ∷ []) (look b)
-  one_fact = All-cons (λ x. OnlyFactsOf (look x) (look b)) c [] (subst (λ v. OnlyFactsOf (look_of v) (look b)) (sym same) (λ f has. has)) (All-nil (λ x. OnlyFactsOf (look x) (look b)))
-
-  pub one_fits : (limit : ℕ) → length_told (parts_of b) ≤ limit → AllFit limit (c ∷ [])
-  one_fits limit h = All-cons (λ x. length_told (parts_of x) ≤ limit) c [] (subst (λ v. length_told v ≤ limit) (sym same) h) (All-nil (λ x. length_told (parts_of x) ≤ limit))
-
   pub one_join : join_all (map look (c ∷ [])) ≡ look b
   one_join = join-empty (parts_of c) ∙ ap look_of same

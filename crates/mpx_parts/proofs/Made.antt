@@ -38,9 +38,6 @@ module _ {K V : Type 0} (R : K → K → Ordering) where
   len_one : (m : FinMap R V) (e : K × V) → entries m ≡ e ∷ [] → len m ≡ 1
   len_one m e is = len-entries m ∙ ap length is
 
-  len_none : (m : FinMap R V) → entries m ≡ [] → len m ≡ 0
-  len_none m is = len-entries m ∙ ap length is
-
 All-one : {X : Type 0} (Q : X → Type 0) (x : X) (xs : List X) → xs ≡ x ∷ [] → Q x → All Q xs
 All-one Q x xs is h = subst (All Q) (sym is) (All-cons Q x [] h (All-nil Q))
 

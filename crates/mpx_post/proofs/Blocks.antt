@@ -39,7 +39,7 @@ block_within ty counts nums i l e =
 
 -- ONE COUNT FOR ALL BLOCKS
 
-repeated-replicate : (n count : ℕ) → repeated n (count ∷ []) ≡ replicate n count
+pub repeated-replicate : (n count : ℕ) → repeated n (count ∷ []) ≡ replicate n count
 repeated-replicate zero count = refl
 repeated-replicate (suc n) count = ap (λ (counts : List ℕ). count ∷ counts) (repeated-replicate n count)
 
@@ -67,6 +67,10 @@ pub count_alone : (counts : List ℕ) → length counts ≡ 1 → counts ≡ cou
 count_alone [] e = absurd (omega arith)
 count_alone (count ∷ []) e = refl
 count_alone (count ∷ next ∷ counts) e = absurd (omega arith)
+
+-- one count for each of so many blocks
+pub length-alone : (n : ℕ) (counts : List ℕ) → length counts ≡ 1 → length (repeated n counts) ≡ n
+length-alone n counts one = ap (λ (list : List ℕ). length (repeated n list)) (count_alone counts one) ∙ length-repeated n (count_at counts 0)
 
 -- A POST THAT FITS, BY ITS KIND
 

@@ -1,6 +1,6 @@
 -- What each part of a draft's check says of the whole.
-use Rattle.std.proofs.Common.{◌≡◌, ℕ, ◌*◌, ◌<◌, ◌≤◌, ◌||◌, Bool, true, false, not, cond, [], ◌∷◌, inl, inr, length, Option, Some, None, Result, Ok, Err, nat_le, nat_lt, ◌==◌, subst, refl, ap, ◌∙◌, eqb-true, arith}
-use Rattle.std.specs.Prelude.{◌&&◌}
+use Rattle.std.proofs.Common.{◌≡◌, ℕ, ◌*◌, ◌<◌, ◌≤◌, ◌||◌, Bool, true, false, not, cond, [], ◌∷◌, inl, inr, length, Option, Some, None, Result, Ok, Err, nat_le, nat_lt, ◌==◌, subst, refl, sym, ap, ◌∙◌, eqb-true, arith}
+use Rattle.std.specs.Prelude.{◌&&◌, OnOk}
 use Rattle.std.specs.List.{list_all}
 use Rattle.std.specs.Option.{option_map_or, option_or}
 use Rattle.std.proofs.lemmas.Bool.{and_from, and_parts, cases_Bool, or_parts}
@@ -245,3 +245,15 @@ room birth me at draft given h makes = let found = accepted_in (rank_in me birth
 pub call_room : (birth : BirthView) (me : ℕ) (at : At) (draft : Draft) (given : Given) → checked birth me at draft ≡ Ok given → (at.call == most_calls) ≡ false
 unfolding checked
 call_room birth me at draft given h = let found = accepted_in (rank_in me birth.members) birth at draft given h in call_below found.0 at draft given found.1
+
+-- A MADE POST
+
+-- what was answered is the post that the check comes to
+pub checks_post : (r : Result Given PostError) (given : Given) → Checks r (Ok given) → r ≡ Ok given
+checks_post (Err refusal) given answered = cc answered
+checks_post (Ok expected) given answered = ap Ok (sym answered)
+
+-- where a post was made, there is room for one more call
+pub room_of_post : (birth : BirthView) (me : ℕ) (at : At) (draft : Draft) (answer : Result Given PostError) → at.call ≤ most_calls → Checks (checked birth me at draft) answer → OnOk answer (at.call < most_calls)
+room_of_post birth me at draft (Ok given) l answered = let room : (at.call == most_calls) ≡ false = call_room birth me at draft given (checks_post (checked birth me at draft) given answered) in grind (arith, nat_tests)
+room_of_post birth me at draft (Err e) l answered = tt

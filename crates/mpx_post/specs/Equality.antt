@@ -10,12 +10,13 @@ use lib.Pointwise.{pointwise}
 use Rattle.std.specs.Option.{option_map}
 use Rattle.join_core.specs.Laws.{IsEquality}
 use Rattle.mpx_num.specs.declared.types.Ty.{Ty}
-use Rattle.mpx_num.specs.declared.types.Ty.TheVariants.{I8, I16, I32, I64, U8, U16, U32, U64, TwoInt}
 use Rattle.mpx_num.specs.declared.operations.Op.{Op}
-use Rattle.mpx_num.specs.declared.operations.Op.TheVariants.{Max, Min, Sum, Prod, Land, Lor, Lxor, Band, Bor, Bxor, Maxloc, Minloc}
 use Rattle.mpx_num.specs.ItemList.{ItemList}
+use Rattle.mpx_num.specs.Codes.{code_of_operation, operation_at, code_of_type, type_at}
+use Rattle.mpx_num.proofs.Codes.{operation_forth, type_forth}
+use Rattle.mpx_kind.specs.Codes.{code_of_kind, kind_at}
+use Rattle.mpx_kind.proofs.Codes.{kind_forth}
 use Rattle.mpx_kind.specs.declared.kinds.Kind.{Kind}
-use Rattle.mpx_kind.specs.declared.kinds.Kind.TheVariants.{Barrier, Bcast, Gather, Gatherv, Scatter, Scatterv, Allgather, Allgatherv, Alltoall, Alltoallv, Reduce, Allreduce, ReduceScatterBlock, ReduceScatter, Scan, Exscan, Dup, Split, Create, CreateGroup, DistGraph, DistGraphAdjacent, NeighborAllgather, NeighborAllgatherv, NeighborAlltoall, NeighborAlltoallv}
 use Rattle.mpx_kind.specs.declared.kinds.Mode.{Mode}
 use Rattle.mpx_kind.specs.declared.kinds.Mode.TheVariants.{Blocking, Nonblocking}
 use Rattle.mpx_post.specs.declared.making.Making.{Making}
@@ -26,63 +27,8 @@ use Rattle.mpx_birth.specs.declared.edges.Neighbour.{Neighbour}
 use Rattle.mpx_birth.specs.Topologies.{neighbours_decided, same_neighbours}
 use Rattle.mpx_post.specs.Posts.{Given, colour_in, destinations_in, edges_in, group_in, key_in, makes_of, sources_in, weighted_in}
 
--- Each variant by its place in its list
-
-abbrev place_of_kind : Kind → ℕ
-place_of_kind Barrier = 0
-place_of_kind Bcast = 1
-place_of_kind Gather = 2
-place_of_kind Gatherv = 3
-place_of_kind Scatter = 4
-place_of_kind Scatterv = 5
-place_of_kind Allgather = 6
-place_of_kind Allgatherv = 7
-place_of_kind Alltoall = 8
-place_of_kind Alltoallv = 9
-place_of_kind Reduce = 10
-place_of_kind Allreduce = 11
-place_of_kind ReduceScatterBlock = 12
-place_of_kind ReduceScatter = 13
-place_of_kind Scan = 14
-place_of_kind Exscan = 15
-place_of_kind Dup = 16
-place_of_kind Split = 17
-place_of_kind Create = 18
-place_of_kind CreateGroup = 19
-place_of_kind DistGraph = 20
-place_of_kind DistGraphAdjacent = 21
-place_of_kind NeighborAllgather = 22
-place_of_kind NeighborAllgatherv = 23
-place_of_kind NeighborAlltoall = 24
-place_of_kind NeighborAlltoallv = 25
-
-abbrev place_of_type : Ty → ℕ
-place_of_type I8 = 0
-place_of_type I16 = 1
-place_of_type I32 = 2
-place_of_type I64 = 3
-place_of_type U8 = 4
-place_of_type U16 = 5
-place_of_type U32 = 6
-place_of_type U64 = 7
-place_of_type TwoInt = 8
-
-abbrev place_of_operation : Op → ℕ
-place_of_operation Max = 0
-place_of_operation Min = 1
-place_of_operation Sum = 2
-place_of_operation Prod = 3
-place_of_operation Land = 4
-place_of_operation Lor = 5
-place_of_operation Lxor = 6
-place_of_operation Band = 7
-place_of_operation Bor = 8
-place_of_operation Bxor = 9
-place_of_operation Maxloc = 10
-place_of_operation Minloc = 11
-
 abbrev pub same_kind : Kind → Kind → Bool
-same_kind a b = place_of_kind a == place_of_kind b
+same_kind a b = code_of_kind a == code_of_kind b
 
 abbrev pub same_mode : Mode → Mode → Bool
 same_mode Blocking Blocking = true
@@ -91,10 +37,10 @@ same_mode Nonblocking Blocking = false
 same_mode Nonblocking Nonblocking = true
 
 abbrev pub same_type : Ty → Ty → Bool
-same_type a b = place_of_type a == place_of_type b
+same_type a b = code_of_type a == code_of_type b
 
 abbrev pub same_operation : Op → Op → Bool
-same_operation a b = place_of_operation a == place_of_operation b
+same_operation a b = code_of_operation a == code_of_operation b
 
 -- both have none, or both the same
 abbrev pub same_option : {A : Type 0} → (A → A → Bool) → Option A → Option A → Bool
@@ -159,73 +105,8 @@ decided_by_place place at_place back a b =
     let places = Decides-eqb (place a) (place b) in
     (λ t. sym (back a) ∙ ap at_place (places.0 t) ∙ back b, λ e. places.1 (ap place e))
 
-kind_at : ℕ → Kind
-kind_at n = cond (n == 0) Barrier (cond (n == 1) Bcast (cond (n == 2) Gather (cond (n == 3) Gatherv (cond (n == 4) Scatter (cond (n == 5) Scatterv (cond (n == 6) Allgather (cond (n == 7) Allgatherv (cond (n == 8) Alltoall (cond (n == 9) Alltoallv (cond (n == 10) Reduce (cond (n == 11) Allreduce (cond (n == 12) ReduceScatterBlock (cond (n == 13) ReduceScatter (cond (n == 14) Scan (cond (n == 15) Exscan (cond (n == 16) Dup (cond (n == 17) Split (cond (n == 18) Create (cond (n == 19) CreateGroup (cond (n == 20) DistGraph (cond (n == 21) DistGraphAdjacent (cond (n == 22) NeighborAllgather (cond (n == 23) NeighborAllgatherv (cond (n == 24) NeighborAlltoall NeighborAlltoallv))))))))))))))))))))))))
-
-kind_at-place : (kind : Kind) → kind_at (place_of_kind kind) ≡ kind
-unfolding kind_at
-kind_at-place Barrier = refl
-kind_at-place Bcast = refl
-kind_at-place Gather = refl
-kind_at-place Gatherv = refl
-kind_at-place Scatter = refl
-kind_at-place Scatterv = refl
-kind_at-place Allgather = refl
-kind_at-place Allgatherv = refl
-kind_at-place Alltoall = refl
-kind_at-place Alltoallv = refl
-kind_at-place Reduce = refl
-kind_at-place Allreduce = refl
-kind_at-place ReduceScatterBlock = refl
-kind_at-place ReduceScatter = refl
-kind_at-place Scan = refl
-kind_at-place Exscan = refl
-kind_at-place Dup = refl
-kind_at-place Split = refl
-kind_at-place Create = refl
-kind_at-place CreateGroup = refl
-kind_at-place DistGraph = refl
-kind_at-place DistGraphAdjacent = refl
-kind_at-place NeighborAllgather = refl
-kind_at-place NeighborAllgatherv = refl
-kind_at-place NeighborAlltoall = refl
-kind_at-place NeighborAlltoallv = refl
-
-type_at : ℕ → Ty
-type_at n = cond (n == 0) I8 (cond (n == 1) I16 (cond (n == 2) I32 (cond (n == 3) I64 (cond (n == 4) U8 (cond (n == 5) U16 (cond (n == 6) U32 (cond (n == 7) U64 TwoInt)))))))
-
-type_at-place : (ty : Ty) → type_at (place_of_type ty) ≡ ty
-unfolding type_at
-type_at-place I8 = refl
-type_at-place I16 = refl
-type_at-place I32 = refl
-type_at-place I64 = refl
-type_at-place U8 = refl
-type_at-place U16 = refl
-type_at-place U32 = refl
-type_at-place U64 = refl
-type_at-place TwoInt = refl
-
-operation_at : ℕ → Op
-operation_at n = cond (n == 0) Max (cond (n == 1) Min (cond (n == 2) Sum (cond (n == 3) Prod (cond (n == 4) Land (cond (n == 5) Lor (cond (n == 6) Lxor (cond (n == 7) Band (cond (n == 8) Bor (cond (n == 9) Bxor (cond (n == 10) Maxloc Minloc))))))))))
-
-operation_at-place : (op : Op) → operation_at (place_of_operation op) ≡ op
-unfolding operation_at
-operation_at-place Max = refl
-operation_at-place Min = refl
-operation_at-place Sum = refl
-operation_at-place Prod = refl
-operation_at-place Land = refl
-operation_at-place Lor = refl
-operation_at-place Lxor = refl
-operation_at-place Band = refl
-operation_at-place Bor = refl
-operation_at-place Bxor = refl
-operation_at-place Maxloc = refl
-operation_at-place Minloc = refl
-
 pub kinds_decided : (a b : Kind) → Decides (same_kind a b) (a ≡ b)
-kinds_decided = decided_by_place place_of_kind kind_at kind_at-place
+kinds_decided = decided_by_place code_of_kind kind_at kind_forth
 
 pub modes_decided : (a b : Mode) → Decides (same_mode a b) (a ≡ b)
 modes_decided Blocking Blocking = (λ t. refl, λ e. refl)
@@ -234,14 +115,14 @@ modes_decided Nonblocking Blocking = (λ t. cc, λ e. cc)
 modes_decided Nonblocking Nonblocking = (λ t. refl, λ e. refl)
 
 pub operations_decided : (a b : Op) → Decides (same_operation a b) (a ≡ b)
-operations_decided = decided_by_place place_of_operation operation_at operation_at-place
+operations_decided = decided_by_place code_of_operation operation_at operation_forth
 
 pub numbers_decided : (a b : List ℕ) → Decides (pointwise nat_eq a b) (a ≡ b)
 numbers_decided a b = slice_eq-Decides Decides-eqb a b (pointwise nat_eq a b) refl
 
 pub items_decided : (a b : ItemList) → Decides (same_items a b) (a ≡ b)
 items_decided a b =
-    let types = decided_by_place place_of_type type_at type_at-place a.ty b.ty in
+    let types = decided_by_place code_of_type type_at type_forth a.ty b.ty in
     let numbers = slice_eq-Decides Decides-int_eq a.nums b.nums (pointwise int_eq a.nums b.nums) refl in
     Decides-like _
     (λ e. λ i. record { ty = e.0 i; nums = e.1 i })
@@ -258,7 +139,7 @@ pub types_decided : (a b : Option ItemList) → Decides (same_types a b) (option
 types_decided None None = (λ t. refl, λ e. refl)
 types_decided None (Some b) = (λ t. cc, λ e. cc)
 types_decided (Some a) None = (λ t. cc, λ e. cc)
-types_decided (Some a) (Some b) = Decides-like _ (ap Some) (λ e. cc) (decided_by_place place_of_type type_at type_at-place a.ty b.ty)
+types_decided (Some a) (Some b) = Decides-like _ (ap Some) (λ e. cc) (decided_by_place code_of_type type_at type_forth a.ty b.ty)
 
 makes_at : ℕ → Makes
 makes_at n = cond (n == 0) Makes.Nothing (cond (n == 1) Makes.Colour (cond (n == 2) Makes.Group (cond (n == 3) Makes.Edges Makes.Neighbours)))

@@ -7,6 +7,7 @@ pub mod Blocks
 pub mod Ranks
 pub mod Graphs
 pub mod Posts
+pub mod KeptCounts
 pub mod Equality
 pub mod Rows
 pub mod Agreement

@@ -1,4 +1,6 @@
-ghost use Rattle.std.specs.Prelude.{◌≡◌, ◌≤◌, ◌*◌, ℕ, IfOk, length, take, true};
+// Numbers of items.
+ghost use lib.Pointwise.{pointwise};
+ghost use Rattle.std.specs.Prelude.{◌≡◌, ◌≤◌, ◌*◌, ℕ, IfOk, [], length, nat_eq, take, true};
 ghost use Rattle.std.specs.List.{All, list_all, sum};
 ghost use Rattle.mpx_post.specs.Drafts.{is_count, natural as natural_of, naturals};
 ghost use Rattle.mpx_post.specs.Posts.{AreCounts, most_counts, most_items};
@@ -6,31 +8,60 @@ ghost use Rattle.mpx_post.specs.Posts.{AreCounts, most_counts, most_items};
 use join_core::OutOfMemory;
 use std::alloc::Global;
 use std::marker::Model;
+use std::sync::Arc;
 
-/// Numbers of items, each at most 4,096. There are at most 65,535 of them.
+/// Numbers of items, each at most 4,096. There are at most 65,535 of them. None or one take no memory, and copies of more share
+/// them.
 #[derive(Debug, Drop)]
 pub struct Counts {
-    list: Vec<u16>,
+    list: Kept,
+}
+
+// How the counts are kept.
+#[derive(Debug, Drop)]
+enum Kept {
+    None,
+    One([u16; 1]),
+    Shared(Arc<Vec<u16>>),
 }
 
 impl Model for Counts {
     ghost use Rattle.std.specs.Prelude.{List, ℕ};
     ghost use Rattle.mpx_post.specs.Posts.{AreCounts};
+    ghost use Rattle.mpx_post.specs.KeptCounts.{kept_counts};
 
     ghost Value = { List ℕ };
 
-    ghost view = { λ c. c.list.items };
+    ghost view = { λ c. kept_counts c.list };
 
-    ghost invariant = { λ c. AreCounts c.list.items };
+    ghost invariant = { λ c. AreCounts (kept_counts c.list) };
 }
 
 impl Counts {
-    /// These counts. It takes no memory.
-    pub fn of(list: Vec<u16>) -> Counts
-        requires { AreCounts list.items }
-        ensures { result ≡ list.items }
+    /// No counts. It takes no memory.
+    pub fn none() -> Counts
+        ensures { result ≡ [] }
     {
-        Counts { list }
+        Counts { list: Kept::None }
+    }
+
+    /// These counts.
+    pub fn of(alloc: Global, list: Vec<u16>) -> Result<Counts, OutOfMemory>
+        requires { AreCounts list.items }
+        ensures { IfOk result (λ counts. counts ≡ list.items) }
+    {
+        match list.as_slice() {
+            [] => Ok(Counts::none()),
+            [count] => Ok(Counts {
+                list: Kept::One([*count]),
+            }),
+            _ => match Arc::new(alloc, list) {
+                Ok(list) => Ok(Counts {
+                    list: Kept::Shared(list),
+                }),
+                Err(_) => Err(OutOfMemory),
+            },
+        }
     }
 
     /// These numbers, which are counts.
@@ -43,7 +74,7 @@ impl Counts {
         for &number in numbers {
             list.push(natural(number))?;
         }
-        Ok(Counts { list })
+        Counts::of(alloc, list)
     }
 
     /// The counts.
@@ -52,7 +83,11 @@ impl Counts {
         ensures small { All (λ count. count ≤ most_items) result.now }
         ensures few { length result.now ≤ most_counts }
     {
-        self.list.as_slice()
+        match &self.list {
+            Kept::None => &[],
+            Kept::One(one) => one,
+            Kept::Shared(list) => list.as_slice(),
+        }
     }
 
     /// The sum of the first so many of them.
@@ -60,7 +95,8 @@ impl Counts {
         ensures value { result ≡ sum (take place self.now) }
         ensures small { result ≤ most_counts * most_items }
     {
-        sum_of(&self.list[..place.min(self.list.len())])
+        let list = self.as_slice();
+        sum_of(&list[..place.min(list.len())])
     }
 
     /// The sum of all of them.
@@ -68,14 +104,28 @@ impl Counts {
         ensures value { result ≡ sum self.now }
         ensures small { result ≤ most_counts * most_items }
     {
-        self.sum_before(self.list.len())
+        self.sum_before(self.as_slice().len())
     }
 
-    /// The same counts once more.
-    pub fn copy(&self, alloc: Global) -> Result<Counts, OutOfMemory>
+    // Whether they are the same.
+    pub(crate) fn same(&self, other: &Counts) -> bool
+        ensures { result ≡ pointwise nat_eq self.now other.now }
+    {
+        match (&self.list, &other.list) {
+            (Kept::None, Kept::None) => true,
+            _ => self.as_slice() == other.as_slice(),
+        }
+    }
+
+    // The same counts once more, shared.
+    pub(crate) fn copy(&self) -> Result<Counts, OutOfMemory>
         ensures { IfOk result (λ copied. copied ≡ self.now) }
     {
-        let list = Vec::from_slice(alloc, &self.list)?;
+        let list = match &self.list {
+            Kept::None => Kept::None,
+            Kept::One(one) => Kept::One(*one),
+            Kept::Shared(list) => Kept::Shared(Arc::try_clone(list)?),
+        };
         Ok(Counts { list })
     }
 }

@@ -1,3 +1,4 @@
+// Who gathers for calls of `create_group`.
 ghost use Rattle.std.specs.Prelude.{◌≡◌, ◌≢◌, ◌<◌, ◌≤◌, ◌^◌, [], length, true, false, IfOk};
 ghost use Rattle.std.specs.List.{list_all};
 ghost use Rattle.mpx_group.specs.Group.{has_twice};

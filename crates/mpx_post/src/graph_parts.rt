@@ -12,8 +12,13 @@ use std::sync::Arc;
 /// Copies share them.
 #[derive(Debug, Drop)]
 pub struct Edges {
+    shared: Arc<SharedEdges>,
+}
+
+#[derive(Debug, Drop)]
+struct SharedEdges {
     weighted: bool,
-    list: Arc<Vec<Edge>>,
+    list: Vec<Edge>,
 }
 
 impl Model for Edges {
@@ -22,9 +27,9 @@ impl Model for Edges {
 
     ghost Value = { EdgesView };
 
-    ghost view = { λ e. record { weighted = e.weighted; edges = (arc_value e.list).items } };
+    ghost view = { λ e. record { weighted = (arc_value e.shared).weighted; edges = (arc_value e.shared).list.items } };
 
-    ghost invariant = { λ e. AreEdges (record { weighted = e.weighted; edges = (arc_value e.list).items }) };
+    ghost invariant = { λ e. AreEdges (record { weighted = (arc_value e.shared).weighted; edges = (arc_value e.shared).list.items }) };
 }
 
 impl Edges {
@@ -33,8 +38,8 @@ impl Edges {
         requires { AreEdges (record { weighted = weighted; edges = list.items }) }
         ensures { IfOk result (λ edges. edges ≡ record { weighted = weighted; edges = list.items }) }
     {
-        match Arc::new(alloc, list) {
-            Ok(list) => Ok(Edges { weighted, list }),
+        match Arc::new(alloc, SharedEdges { weighted, list }) {
+            Ok(shared) => Ok(Edges { shared }),
             Err(_) => Err(OutOfMemory),
         }
     }
@@ -43,7 +48,7 @@ impl Edges {
     pub fn weighted(&self) -> bool
         ensures { result ≡ self.now.weighted }
     {
-        self.weighted
+        self.shared.weighted
     }
 
     /// The edges, at most 512.
@@ -51,7 +56,7 @@ impl Edges {
         ensures value { result.now ≡ self.now.edges }
         ensures edges { AreEdges self.now }
     {
-        self.list.as_slice()
+        self.shared.list.as_slice()
     }
 
     // The same edges once more, shared.
@@ -59,8 +64,7 @@ impl Edges {
         ensures { IfOk result (λ copied. copied ≡ self.now) }
     {
         Ok(Edges {
-            weighted: self.weighted,
-            list: Arc::try_clone(&self.list)?,
+            shared: Arc::try_clone(&self.shared)?,
         })
     }
 }
@@ -69,8 +73,13 @@ impl Edges {
 /// (MPI 4.1 section 8.5.4). Copies share them.
 #[derive(Debug, Drop)]
 pub struct OwnNeighbours {
+    shared: Arc<SharedNeighbours>,
+}
+
+#[derive(Debug, Drop)]
+struct SharedNeighbours {
     weighted: bool,
-    near: Arc<Neighbours>,
+    near: Neighbours,
 }
 
 impl Model for OwnNeighbours {
@@ -79,9 +88,9 @@ impl Model for OwnNeighbours {
 
     ghost Value = { NeighboursView };
 
-    ghost view = { λ n. record { weighted = n.weighted; sources = (arc_value n.near).sources; destinations = (arc_value n.near).destinations } };
+    ghost view = { λ n. record { weighted = (arc_value n.shared).weighted; sources = (arc_value n.shared).near.sources; destinations = (arc_value n.shared).near.destinations } };
 
-    ghost invariant = { λ n. AreNeighbours (record { weighted = n.weighted; sources = (arc_value n.near).sources; destinations = (arc_value n.near).destinations }) };
+    ghost invariant = { λ n. AreNeighbours (record { weighted = (arc_value n.shared).weighted; sources = (arc_value n.shared).near.sources; destinations = (arc_value n.shared).near.destinations }) };
 }
 
 impl OwnNeighbours {
@@ -94,8 +103,8 @@ impl OwnNeighbours {
         requires { AreNeighbours (record { weighted = weighted; sources = near.sources; destinations = near.destinations }) }
         ensures { IfOk result (λ own. own ≡ record { weighted = weighted; sources = near.sources; destinations = near.destinations }) }
     {
-        match Arc::new(alloc, near) {
-            Ok(near) => Ok(OwnNeighbours { weighted, near }),
+        match Arc::new(alloc, SharedNeighbours { weighted, near }) {
+            Ok(shared) => Ok(OwnNeighbours { shared }),
             Err(_) => Err(OutOfMemory),
         }
     }
@@ -104,7 +113,7 @@ impl OwnNeighbours {
     pub fn weighted(&self) -> bool
         ensures { result ≡ self.now.weighted }
     {
-        self.weighted
+        self.shared.weighted
     }
 
     /// From whom edges come, in the order given.
@@ -112,7 +121,7 @@ impl OwnNeighbours {
         ensures value { result.now ≡ self.now.sources }
         ensures neighbours { AreNeighbours self.now }
     {
-        self.near.sources()
+        self.shared.near.sources()
     }
 
     /// To whom edges go, in the order given.
@@ -120,7 +129,7 @@ impl OwnNeighbours {
         ensures value { result.now ≡ self.now.destinations }
         ensures neighbours { AreNeighbours self.now }
     {
-        self.near.destinations()
+        self.shared.near.destinations()
     }
 
     // The same neighbours once more, shared.
@@ -128,8 +137,7 @@ impl OwnNeighbours {
         ensures { IfOk result (λ copied. copied ≡ self.now) }
     {
         Ok(OwnNeighbours {
-            weighted: self.weighted,
-            near: Arc::try_clone(&self.near)?,
+            shared: Arc::try_clone(&self.shared)?,
         })
     }
 }

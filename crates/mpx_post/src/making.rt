@@ -1,3 +1,4 @@
+// What a post says of the communicator that its call makes.
 ghost use Rattle.std.specs.Prelude.{◌≡◌, IfOk};
 ghost use Rattle.mpx_post.specs.Equality.{same_making};
 ghost use Rattle.mpx_post.specs.Posts.{colour_in, destinations_in, edges_in, group_in, key_in, makes_of, sources_in, weighted_in};
@@ -7,7 +8,6 @@ use crate::ranks::Ranks;
 use join_core::OutOfMemory;
 use mpx_birth::{Edge, Neighbour};
 use mpx_kind::Makes;
-use std::alloc::Global;
 
 /// What a post says of the communicator that its call makes.
 #[derive(Debug, Drop)]
@@ -26,8 +26,8 @@ pub enum Making {
 }
 
 impl Making {
-    /// The same once more.
-    pub(crate) fn copy(&self, alloc: Global) -> Result<Making, OutOfMemory>
+    // The same once more, its lists shared.
+    pub(crate) fn copy(&self) -> Result<Making, OutOfMemory>
         ensures { IfOk result (λ copied. copied ≡ self.now) }
     {
         match self {
@@ -36,7 +36,7 @@ impl Making {
                 colour: *colour,
                 key: *key,
             }),
-            Making::Group(ranks) => Ok(Making::Group(ranks.copy(alloc)?)),
+            Making::Group(ranks) => Ok(Making::Group(ranks.copy()?)),
             Making::Edges(edges) => Ok(Making::Edges(edges.copy()?)),
             Making::Neighbours(own) => Ok(Making::Neighbours(own.copy()?)),
         }
@@ -146,8 +146,18 @@ impl Making {
         }
     }
 
-    // Whether the same is said.
+    // Whether the same is said. Mostly nothing is.
     pub(crate) fn same(&self, other: &Making) -> bool
+        ensures { result ≡ same_making self.now other.now }
+    {
+        match (self, other) {
+            (Making::Nothing, Making::Nothing) => true,
+            _ => self.has_same_parts(other),
+        }
+    }
+
+    // Whether the same is said, part by part.
+    fn has_same_parts(&self, other: &Making) -> bool
         ensures { result ≡ same_making self.now other.now }
     {
         (self.makes() == other.makes())

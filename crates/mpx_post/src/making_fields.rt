@@ -107,5 +107,5 @@ fn given_ranks(alloc: Global, group: &[i128]) -> Result<Ranks, OutOfMemory>
     for &rank in group {
         list.push(given_rank(rank))?;
     }
-    Ok(Ranks::new(list))
+    Ranks::new(alloc, list)
 }

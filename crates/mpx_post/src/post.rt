@@ -1,4 +1,5 @@
-ghost use Rattle.std.specs.Prelude.{◌≡◌, ◌≤◌, ◌*◌, is_some, IfOk, OnOk, length};
+// What one member posts to one call.
+ghost use Rattle.std.specs.Prelude.{◌≡◌, ◌≤◌, ◌*◌, is_some, OnOk, length};
 ghost use Rattle.std.specs.Option.{option_copied};
 ghost use Rattle.mpx_num.specs.ItemList.{ItemList};
 ghost use Rattle.mpx_post.specs.Kinds.{fields_of};
@@ -12,31 +13,34 @@ use crate::making::Making;
 use join_core::{Exact, OutOfMemory};
 use mpx_birth::{Edge, Neighbour};
 use mpx_kind::{Kind, Mode};
-use mpx_num::{Items, Op};
+use mpx_num::{Items, Op, Ty};
 use std::alloc::Global;
 use std::marker::Model;
 
 /// What one member posts to one call: its kind with the fields of that kind, within the limits of a post.
+// The order of the fields, and items without an `Option`, keep it small: boards move posts.
 #[derive(Debug, Drop)]
 pub struct Post {
     kind: Kind,
     mode: Mode,
     root: Option<u8>,
     op: Option<Op>,
+    has_items: bool,
+    making: Making,
     scounts: Counts,
     rcounts: Counts,
-    items: Option<Items>,
-    making: Making,
+    items: Items,
 }
 
 impl Model for Post {
+    ghost use Rattle.std.specs.Prelude.{Some, None, cond};
     ghost use Rattle.mpx_post.specs.Posts.{Given, IsPost};
 
     ghost Value = { Given };
 
-    ghost view = { λ p. record { kind = p.kind; mode = p.mode; root = p.root; op = p.op; scounts = p.scounts; rcounts = p.rcounts; items = p.items; making = p.making } };
+    ghost view = { λ p. record { kind = p.kind; mode = p.mode; root = p.root; op = p.op; scounts = p.scounts; rcounts = p.rcounts; items = cond p.has_items (Some p.items) None; making = p.making } };
 
-    ghost invariant = { λ p. IsPost (record { kind = p.kind; mode = p.mode; root = p.root; op = p.op; scounts = p.scounts; rcounts = p.rcounts; items = p.items; making = p.making }) };
+    ghost invariant = { λ p. IsPost (record { kind = p.kind; mode = p.mode; root = p.root; op = p.op; scounts = p.scounts; rcounts = p.rcounts; items = cond p.has_items (Some p.items) None; making = p.making }) };
 }
 
 impl Exact for Post {
@@ -59,26 +63,27 @@ impl Exact for Post {
             & (self.mode == other.mode)
             & (self.root == other.root)
             & (self.op == other.op)
-            & (self.scounts.as_slice() == other.scounts.as_slice())
-            & (self.rcounts.as_slice() == other.rcounts.as_slice())
-            & are_same(&self.items, &other.items)
+            & self.scounts.same(&other.scounts)
+            & self.rcounts.same(&other.rcounts)
+            & are_same(self.items(), other.items())
             & self.making.same(&other.making)
     }
 
     fn copy(&self, alloc: Global) -> Result<Post, OutOfMemory> {
-        let scounts = self.scounts.copy(alloc)?;
-        let rcounts = self.rcounts.copy(alloc)?;
-        let items = copied(&self.items)?;
-        let making = self.making.copy(alloc)?;
+        let scounts = self.scounts.copy()?;
+        let rcounts = self.rcounts.copy()?;
+        let items = self.items.copy()?;
+        let making = self.making.copy()?;
         Ok(Post {
             kind: self.kind,
             mode: self.mode,
             root: self.root,
             op: self.op,
+            has_items: self.has_items,
+            making,
             scounts,
             rcounts,
             items,
-            making,
         })
     }
 
@@ -100,15 +105,21 @@ impl Post {
         requires { IsPost (record { kind = kind; mode = mode; root = root; op = op; scounts = scounts; rcounts = rcounts; items = items; making = making }) }
         ensures { result ≡ record { kind = kind; mode = mode; root = root; op = op; scounts = scounts; rcounts = rcounts; items = items; making = making } }
     {
+        let has_items = items.is_some();
+        let items = match items {
+            None => Items::empty(Ty::I8),
+            Some(items) => items,
+        };
         Post {
             kind,
             mode,
             root,
             op,
+            has_items,
+            making,
             scounts,
             rcounts,
             items,
-            making,
         }
     }
 
@@ -122,8 +133,8 @@ impl Post {
         // so that the proof knows the limits of its parts
         let _sent = self.scounts.as_slice();
         let _received = self.rcounts.as_slice();
-        if let Some(items) = &self.items {
-            let _nums = items.nums();
+        if self.has_items {
+            let _nums = self.items.nums();
         }
     }
 
@@ -177,7 +188,11 @@ impl Post {
         ensures there { is_some result ≡ (fields_of self.now.kind).items }
         ensures few { few_items (option_copied result) }
     {
-        self.items.as_ref()
+        if self.has_items {
+            Some(&self.items)
+        } else {
+            None
+        }
     }
 
     /// What it says of the communicator that its call makes.
@@ -245,31 +260,22 @@ impl Post {
     pub fn count(&self) -> usize
         ensures { result ≡ count_of self.now }
     {
-        match &self.items {
-            None => 0,
-            Some(items) => items.count(),
+        if self.has_items {
+            self.items.count()
+        } else {
+            0
         }
     }
 }
 
 // Whether both have none, or the same items.
-fn are_same(left: &Option<Items>, right: &Option<Items>) -> bool
-    ensures { result ≡ same_option same_items left.now right.now }
+fn are_same(left: Option<&Items>, right: Option<&Items>) -> bool
+    ensures { result ≡ same_option same_items (option_copied left.entry) (option_copied right.entry) }
 {
     match (left, right) {
         (None, None) => true,
         (None, Some(_)) => false,
         (Some(_), None) => false,
         (Some(left), Some(right)) => left.same(right),
-    }
-}
-
-// The same items once more, shared, where there are some.
-fn copied(items: &Option<Items>) -> Result<Option<Items>, OutOfMemory>
-    ensures { IfOk result (λ copied. copied ≡ items.now) }
-{
-    match items {
-        None => Ok(None),
-        Some(items) => Ok(Some(items.copy()?)),
     }
 }

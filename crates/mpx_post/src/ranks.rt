@@ -1,34 +1,40 @@
+// Lists of ranks, none twice.
 ghost use Rattle.std.specs.Prelude.{◌≡◌, IfOk};
 ghost use Rattle.mpx_post.specs.Ranks.{AreRanks};
 
 use join_core::OutOfMemory;
 use std::alloc::Global;
 use std::marker::Model;
+use std::sync::Arc;
 
-/// Ranks of members, each below 64 and none twice, in an order of their own.
+/// Ranks of members, each below 64 and none twice, in an order of their own. Copies share them.
 #[derive(Debug, Drop)]
 pub struct Ranks {
-    list: Vec<u8>,
+    list: Arc<Vec<u8>>,
 }
 
 impl Model for Ranks {
     ghost use Rattle.std.specs.Prelude.{List, ℕ};
+    ghost use Rattle.std.specs.Arc.{arc_value};
     ghost use Rattle.mpx_post.specs.Ranks.{AreRanks};
 
     ghost Value = { List ℕ };
 
-    ghost view = { λ r. r.list.items };
+    ghost view = { λ r. (arc_value r.list).items };
 
-    ghost invariant = { λ r. AreRanks r.list.items };
+    ghost invariant = { λ r. AreRanks (arc_value r.list).items };
 }
 
 impl Ranks {
-    /// These ranks. It takes no memory.
-    pub fn new(list: Vec<u8>) -> Ranks
+    /// These ranks.
+    pub fn new(alloc: Global, list: Vec<u8>) -> Result<Ranks, OutOfMemory>
         requires { AreRanks list.items }
-        ensures { result ≡ list.items }
+        ensures { IfOk result (λ ranks. ranks ≡ list.items) }
     {
-        Ranks { list }
+        match Arc::new(alloc, list) {
+            Ok(list) => Ok(Ranks { list }),
+            Err(_) => Err(OutOfMemory),
+        }
     }
 
     /// The ranks.
@@ -39,11 +45,12 @@ impl Ranks {
         self.list.as_slice()
     }
 
-    /// The same ranks once more.
-    pub(crate) fn copy(&self, alloc: Global) -> Result<Ranks, OutOfMemory>
+    // The same ranks once more, shared.
+    pub(crate) fn copy(&self) -> Result<Ranks, OutOfMemory>
         ensures { IfOk result (λ copied. copied ≡ self.now) }
     {
-        let list = Vec::from_slice(alloc, &self.list)?;
-        Ok(Ranks { list })
+        Ok(Ranks {
+            list: Arc::try_clone(&self.list)?,
+        })
     }
 }

@@ -1,5 +1,5 @@
-// The names of refusals.
-ghost use Rattle.std.specs.Prelude.{◌≡◌, Some};
+// The names of refusals, and which one tells of memory.
+ghost use Rattle.std.specs.Prelude.{◌≡◌, ◌↔◌, IsTrue, Some};
 ghost use Rattle.mpx_post.specs.RefusalNames.{refusal_name};
 
 use crate::draft::PostError;
@@ -26,6 +26,29 @@ impl PostError {
             PostError::TooManyEdges => "TooManyEdges",
             PostError::BadTag => "BadTag",
             PostError::OutOfMemory => "OutOfMemory",
+        }
+    }
+
+    /// Whether memory was wanting: of the reasons the one that says nothing of the call.
+    pub fn is_want_of_memory(self) -> bool
+        ensures { IsTrue result ↔ (self ≡ PostError.OutOfMemory) }
+    {
+        match self {
+            PostError::OutOfMemory => true,
+            PostError::NotMember => false,
+            PostError::RootOutOfRange => false,
+            PostError::OpNotForType => false,
+            PostError::CountsLength => false,
+            PostError::ItemsLength => false,
+            PostError::ItemOutOfRange => false,
+            PostError::TooManyItems => false,
+            PostError::NoTopology => false,
+            PostError::CallsUsedUp => false,
+            PostError::DepthUsedUp => false,
+            PostError::BadGroup => false,
+            PostError::BadEdge => false,
+            PostError::TooManyEdges => false,
+            PostError::BadTag => false,
         }
     }
 }

@@ -1,3 +1,4 @@
+// The posts of all members to one call.
 ghost use Rattle.std.specs.Prelude.{◌≡◌, ◌<◌, ◌≤◌, Some, map, length, slice_get};
 ghost use Rattle.mpx_post.specs.Agreement.{post_at};
 

@@ -1,18 +1,21 @@
 -- What a call of the program does.
-use Rattle.std.specs.Prelude.{◌≡◌, ◌⊎◌, ℕ, List, Option, Some, None, Result, codes}
+use Rattle.std.specs.Prelude.{◌≡◌, ◌≢◌, ◌⊎◌, ℕ, List, Option, Some, None, Result, Err, codes}
 use Rattle.clap.specs.declared.error.kind.ErrorKind.{ErrorKind}
 use Rattle.clap.specs.declared.error.kind.ErrorKind.TheVariants as kind
+use Rattle.mpx_threads.specs.Gates.{nowhere}
 use Rattle.mpx_run.specs.Texts.{Runs}
 use Rattle.mpx_run.specs.declared.end.End.{End}
 use Rattle.mpx_job.specs.declared.Job.{Job}
 use Rattle.mpx_run.specs.declared.texts.RunError.{RunError}
+use Rattle.mpx_run.specs.declared.texts.RunError.TheVariants.{GateGaveUp}
 use Rattle.mpx_program.specs.Status.{message, refusal_status, status}
 use Rattle.mpx_words.specs.Words.{job_in}
 
--- a job is done with a script, and its answer gives the status and what is said
+-- a job is done with a script, no gate ends it, and its answer gives the status and what is said
 pub record DoesWith (job : Job) (there left old new : Option (List ℕ)) (code : ℕ) (Says : List ℕ → Type 0) : Type 0 where
   pub answer : Result End RunError
-  pub runs : Runs job there left old new answer
+  pub runs : Runs nowhere job there left old new answer
+  pub ungated : answer ≢ Err GateGaveUp
   pub status : code ≡ status answer
   pub says : Says (message answer)
 

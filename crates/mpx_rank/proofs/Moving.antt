@@ -1,9 +1,12 @@
 -- What moves leave of a rank.
-use Rattle.std.proofs.Common.{◌≡◌, ℕ, ◌<◌, List, [], ◌∷◌, ◌++◌, length, map, refl, ap, ◌∙◌, arith}
+use Rattle.std.proofs.Common.{◌≡◌, ℕ, ◌+◌, ◌<◌, List, [], ◌∷◌, ◌++◌, Option, Some, None, length, map, refl, ap, ◌∙◌, arith}
 use Rattle.std.proofs.lemmas.List.{map-append}
-use Rattle.mpx_evaluation.specs.Standing.{awaited}
-use Rattle.mpx_rank.specs.Carriers.{Terms}
-use Rattle.mpx_rank.specs.Moves.{Move, RankView, left_of, asks, hears, is_refused, passes, posts, starts}
+use Rattle.mpx_name.specs.Name.{Name}
+use Rattle.mpx_statement.specs.declared.statement.Statement.{Statement}
+use Rattle.mpx_evaluation.specs.Ranks.{doing}
+use Rattle.mpx_evaluation.specs.Standing.{WaitView, awaited, closed, todo_of}
+use Rattle.mpx_rank.specs.Carriers.{Outcomes, Terms}
+use Rattle.mpx_rank.specs.Moves.{Move, RankView, left_of, asks, hears, is_refused, passes, posts, starts, wait_lines}
 
 pub lines_push : {A : Type 0} (text_of : A → List ℕ) (lines new : List A) (line : A) (text : List ℕ) → new ≡ lines ++ line ∷ [] → text_of line ≡ text → map text_of new ≡ map text_of lines ++ text ∷ []
 lines_push text_of lines new line text e f = ap (map text_of) e ∙ map-append text_of lines (line ∷ []) ∙ ap (λ x. map text_of lines ++ x ∷ []) f
@@ -11,6 +14,20 @@ lines_push text_of lines new line text e f = ap (map text_of) e ∙ map-append t
 pub no_items : {A : Type 0} (xs : List A) → length xs ≡ 0 → xs ≡ []
 no_items [] e = refl
 no_items (x ∷ xs) e = absurd (omega (arith, e))
+
+-- what is left to do has an entry for each statement that is left
+doing_length : (xs : List Statement) → length (doing xs) ≡ length xs
+doing_length [] = refl
+doing_length (x ∷ xs) = omega (arith, doing_length xs)
+
+pub todo_length : (w : Option WaitView) (rest : List Statement) → length (todo_of w rest) ≡ awaited w + length rest
+todo_length (Some w) rest = omega (arith, doing_length rest)
+todo_length None rest = omega (arith, doing_length rest)
+
+-- a wait has a line for each of its requests
+pub wait_lines-length : (told : Outcomes) (requests : List ℕ → Option (Name × ℕ)) (words : List (List ℕ)) → length (wait_lines told requests words) ≡ length words
+wait_lines-length told requests [] = refl
+wait_lines-length told requests (word ∷ words) = omega (arith, wait_lines-length told (closed word requests) words)
 
 -- less is left after a move
 pub move_leaves : {C K : Type 0} (terms : Terms C K) (r : RankView K) (c : C) (s : RankView K) (d : C) → Move terms r c s d → left_of s < left_of r

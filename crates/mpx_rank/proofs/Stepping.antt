@@ -1,8 +1,8 @@
 -- A rank whose communicators are names and births, and whose carrier tells what is known, makes the steps of its script.
-use Rattle.std.proofs.Common.{◌≡◌, ℕ, zero, suc, Bool, true, List, [], ◌∷◌, ◌++◌, map, Option, Some, None, refl, sym, ap, ◌∙◌, subst, inl, inr}
+use Rattle.std.proofs.Common.{◌≡◌, ℕ, zero, suc, ◌+◌, Bool, true, List, [], ◌∷◌, ◌++◌, length, map, Option, Some, None, refl, sym, ap, ◌∙◌, subst, inl, inr}
 use Rattle.std.specs.Prelude.{Ok, Err, is_some, option_and_then, slice_get}
 use Rattle.std.specs.Option.{option_map}
-use Rattle.std.proofs.lemmas.List.{map-append}
+use Rattle.std.proofs.lemmas.List.{map-append, append-nil}
 use Rattle.std.proofs.lemmas.Option.{same_Some}
 use Rattle.mpx_name.specs.Name.{Name}
 use Rattle.mpx_post.specs.declared.draft.PostError.{PostError}
@@ -15,17 +15,18 @@ use Rattle.mpx_statement.specs.declared.statement.Statement.{Statement}
 use Rattle.mpx_statement.specs.declared.statement.Statement.TheVariants.{Post, Wait, Ask}
 use Rattle.mpx_statement.specs.Statements.{bound_to, posted_on, started_as}
 use Rattle.mpx_statement.specs.Lookups.{named}
-use Rattle.mpx_evaluation.specs.Ranks.{Act, Communicator, Do, Line, Local, Refused, Todo, Told, answered as answer_line, answered_by, answers, attempt, awaited_by, bind, bound_by, communicator_of, doing, done, next_call, step, waited_lines}
+use Rattle.mpx_evaluation.specs.Ranks.{Act, Communicator, Do, Line, Local, Refused, Todo, Told, answered as answer_line, answered_by, answers, attempt, awaited_by, bind, bound_by, communicator_of, doing, done, next_call, origins_of, step, waited_lines}
 use Rattle.mpx_evaluation.specs.Going.{Goes, stays as stays_there, moves}
-use Rattle.mpx_evaluation.specs.Standing.{WaitView, binds, todo_of}
+use Rattle.mpx_evaluation.specs.Standing.{WaitView, awaited, binds, todo_of}
 use Rattle.mpx_evaluation.specs.Transcripts.{line_text, outcome_text}
-use Rattle.mpx_evaluation.proofs.Fronts.{append-nil, slice_get-parts}
+use Rattle.mpx_evaluation.proofs.Fronts.{slice_get-parts}
 use Rattle.mpx_evaluation.proofs.Standing.{named_behind, named_without_all}
 use Rattle.mpx_evaluation.proofs.Steps as S
 use Rattle.mpx_evaluation.proofs.Tells.{answer_no_call}
 use Rattle.mpx_rank.specs.Carriers.{IsWithin, Terms, outcomes_of}
 use Rattle.mpx_rank.specs.Moves.{GoesOn, Move, Ran, RankView, Still, answered, are_done, asks, communicator_in, has_ended, heard, hears, is_refused, moved_on, passes, passes_not, posted, posts, posts_not, refused, started, starts, stayed, wait_lines, waited, waits_on}
 use Rattle.mpx_rank.specs.Places.{CommunicatorView, Stands, attempt_by, bound_as}
+use Rattle.mpx_rank.proofs.Moving.{todo_length, wait_lines-length}
 use Rattle.mpx_rank.proofs.Telling.{all_done_later, lines_later, wait_tells}
 use Rattle.mpx_rank.proofs.Words.{answers_done, attempt_same, bound_behind, bound_there, communicator_same, lines_told}
 
@@ -82,6 +83,9 @@ module _ {C : Type 0} (terms : Terms C CommunicatorView) (known : Results) (r : 
   line_so : (text : List ℕ) (line : Line) → text ≡ line_text line → r.lines ++ text ∷ [] ≡ map line_text (s.lines ++ line ∷ [])
   line_so text line e = (λ i. stands.lines i ++ e i ∷ []) ∙ sym (map-append line_text s.lines (line ∷ []))
 
+  origins_so : (n m : ℕ) → n ≡ m → r.origins ++ origins_of (awaited r.waits + length r.todo) n ≡ s.origins ++ origins_of (length s.todo) m
+  origins_so n m e = λ i. stands.origins i ++ origins_of ((sym (todo_length r.waits r.todo) ∙ ap length (sym stands.todo)) i) (e i)
+
   -- what the lines of an act tell is told
   abbrev News : Act → C → Type 0
   News a d = (i : ℕ) (name : Name) (call : ℕ) (outcome : Outcome) → slice_get a.lines i ≡ Some (Told name call outcome) → terms.tells d r.me name call ≡ Some outcome
@@ -129,7 +133,7 @@ module _ {C : Type 0} (terms : Terms C CommunicatorView) (known : Results) (r : 
       let a : Act = S.heard s w.name w.call w.target (doing r.todo) answer in
       let e : step known s ≡ Some (done s a) = S.step_hears known s w.name w.call w.target (doing r.todo) answer (todo_is (Some w) r.todo waits refl) given.1 in
       stepped c d (heard r w text to) a e
-      (record { bound = λ word. bound_behind w.target to r.bound s.bound stands.bound word ∙ ap (λ x. named (bind w.target x s.bound) word) given.2; requests = stands.requests; todo = refl; lines = line_so text (Told w.name w.call answer.outcome) (said ∙ ap outcome_text (sym same)) })
+      (record { bound = λ word. bound_behind w.target to r.bound s.bound stands.bound word ∙ ap (λ x. named (bind w.target x s.bound) word) given.2; requests = stands.requests; todo = refl; lines = line_so text (Told w.name w.call answer.outcome) (said ∙ ap outcome_text (sym same)); origins = origins_so 1 1 refl })
       (by.quiet d fits_now (done s a) e (append-nil s.made))
       (λ stay. stay.heard c d h)
       (λ stay. one_line a d (Told w.name w.call answer.outcome) refl (λ name call o is. let now : terms.tells d r.me w.name w.call ≡ Some answer.outcome = tells ∙ ap Some (sym same) in cc (is, now)))
@@ -143,7 +147,7 @@ module _ {C : Type 0} (terms : Terms C CommunicatorView) (known : Results) (r : 
       let a : Act = S.told_at_once s question (doing rest) in
       let e : step known s ≡ Some (done s a) = S.step_asks known s question (doing rest) (todo_is None (Ask question ∷ rest) waits todo) in
       stepped c c (answered r rest text) a e
-      (record { bound = stands.bound; requests = stands.requests; todo = refl; lines = line_so text (answer_line s.me s.bound question) (said ∙ ap line_text line) })
+      (record { bound = stands.bound; requests = stands.requests; todo = refl; lines = line_so text (answer_line s.me s.bound question) (said ∙ ap line_text line); origins = origins_so 1 1 refl })
       (by.quiet c fits (done s a) e (append-nil s.made))
       (λ stay name call outcome told. told)
       (λ stay. one_line a c (answer_line s.me s.bound question) refl (λ name call outcome is. absurd (answer_no_call name call outcome s.me (λ word. communicator_of (named s.bound word)) question is))) where
@@ -166,7 +170,7 @@ module _ {C : Type 0} (terms : Terms C CommunicatorView) (known : Results) (r : 
       let a : Act = S.waited s words (doing rest) told.0 in
       let e : step known s ≡ Some (done s a) = S.step_passes known s words (doing rest) told.0 (todo_is None (Wait words ∷ rest) waits todo) told.1 in
       stepped c d (waited r words rest (terms.tells mid r.me)) a e
-      (record { bound = stands.bound; requests = named_without_all words s.requests r.requests stands.requests; todo = refl; lines = (λ i. stands.lines i ++ map line_text (lines i)) ∙ sym (map-append line_text s.lines (waited_lines s.requests words told.0)) })
+      (record { bound = stands.bound; requests = named_without_all words s.requests r.requests stands.requests; todo = refl; lines = (λ i. stands.lines i ++ map line_text (lines i)) ∙ sym (map-append line_text s.lines (waited_lines s.requests words told.0)); origins = origins_so (length words) (length (waited_lines s.requests words told.0)) (sym (wait_lines-length (terms.tells mid r.me) r.requests words) ∙ ap length lines) })
       (by.quiet d (by.hears mid d fits_then after) (done s a) e (append-nil s.made))
       (λ stay name call outcome old. stay.heard mid d after name call outcome (stay.heard c mid before name call outcome old))
       (λ stay i name call outcome new. stay.heard mid d after name call outcome (wait_tells (terms.tells mid r.me) name call outcome r.requests words i (ap (λ l. slice_get l i) lines ∙ new)))
@@ -186,7 +190,7 @@ module _ {C : Type 0} (terms : Terms C CommunicatorView) (known : Results) (r : 
         let a : Act = S.posted s (bound_to posting) (doing rest) m in
         let e : step known s ≡ Some (done s a) = S.step_posts known s posting (doing rest) m next_is none (attempt_is posting ∙ came.1) in
         stepped c d (posted r posting rest name call) a e
-        (record { bound = stands.bound; requests = stands.requests; todo = λ i. todo_of (Some (record { name = sym came.2 i; call = sym came.3 i; target = bound_to posting })) rest; lines = stands.lines ∙ ap (map line_text) (sym (append-nil s.lines)) })
+        (record { bound = stands.bound; requests = stands.requests; todo = λ i. todo_of (Some (record { name = sym came.2 i; call = sym came.3 i; target = bound_to posting })) rest; lines = stands.lines ∙ ap (map line_text) (sym (append-nil s.lines)); origins = stands.origins ∙ sym (append-nil s.origins) })
         (came.4 (done s a) e refl)
         (λ stay. stay.tried c d posting on (Ok (Some (name, call))) tried)
         (λ stay. no_news a d refl)
@@ -200,7 +204,7 @@ module _ {C : Type 0} (terms : Terms C CommunicatorView) (known : Results) (r : 
         let a : Act = S.started s word (doing rest) m in
         let e : step known s ≡ Some (done s a) = S.step_starts known s posting (doing rest) word m next_is open_as (attempt_is posting ∙ came.1) in
         stepped c d (started r word rest name call) a e
-        (record { bound = stands.bound; requests = λ other. (λ i. binds (Some word) (place i) (requests_are i) other) ∙ sym (named_behind s.requests word (m.name, next_call m.name s.made) other); todo = refl; lines = stands.lines ∙ ap (map line_text) (sym (append-nil s.lines)) })
+        (record { bound = stands.bound; requests = λ other. (λ i. binds (Some word) (place i) (requests_are i) other) ∙ sym (named_behind s.requests word (m.name, next_call m.name s.made) other); todo = refl; lines = stands.lines ∙ ap (map line_text) (sym (append-nil s.lines)); origins = stands.origins ∙ sym (append-nil s.origins) })
         (came.4 (done s a) e refl)
         (λ stay. stay.tried c d posting on (Ok (Some (name, call))) tried)
         (λ stay. no_news a d refl)
@@ -212,7 +216,7 @@ module _ {C : Type 0} (terms : Terms C CommunicatorView) (known : Results) (r : 
         let a : Act = S.turned_down s (bound_to posting) (doing rest) refusal in
         let e : step known s ≡ Some (done s a) = S.step_refused known s posting (doing rest) refusal next_is (attempt_is posting ∙ came.0) in
         stepped c d (refused r posting rest text) a e
-        (record { bound = bound_behind (bound_to posting) None r.bound s.bound stands.bound; requests = stands.requests; todo = refl; lines = line_so text (Refused refusal) said })
+        (record { bound = bound_behind (bound_to posting) None r.bound s.bound stands.bound; requests = stands.requests; todo = refl; lines = line_so text (Refused refusal) said; origins = origins_so 1 1 refl })
         (came.1 (done s a) e (append-nil s.made))
         (λ stay. stay.tried c d posting on (Err refusal) tried)
         (λ stay. one_line a d (Refused refusal) refl (λ name call outcome is. cc is))

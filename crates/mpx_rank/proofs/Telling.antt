@@ -1,5 +1,5 @@
 -- Waits for requests, by the outcomes that are told of their calls.
-use Rattle.std.proofs.Common.{◌≡◌, ℕ, zero, suc, ◌+◌, ◌<◌, Bool, true, false, cond, List, [], ◌∷◌, ◌++◌, length, drop, get_or, Option, Some, None, refl, sym, ap, ◌∙◌, arith}
+use Rattle.std.proofs.Common.{◌≡◌, ℕ, zero, suc, ◌+◌, ◌<◌, Bool, true, false, cond, List, [], ◌∷◌, ◌++◌, length, get_or, Option, Some, None, refl, sym, ap, ◌∙◌, arith}
 use Rattle.std.specs.Prelude.{◌&&◌, is_some, slice_get}
 use Rattle.std.proofs.lemmas.Option.{same_Some}
 use Rattle.std.specs.Str.{bytes_eq}
@@ -57,14 +57,6 @@ module _ (told : Outcomes) where
   one_not_done requests [] i word l e n = absurd (omega (arith, l))
   one_not_done requests (x ∷ xs) zero word l e n = ap (λ b. b && are_done told requests xs) (ap (λ w. is_done told (requests w)) (sym e) ∙ n)
   one_not_done requests (x ∷ xs) (suc i) word l e n = not_both (is_done told (requests x)) (are_done told requests xs) (one_not_done requests xs i word (omega (arith, l)) e n)
-
--- the next of the words that are left
-pub next_left : {A : Type 0} (xs : List A) (i : ℕ) (x : A) → i < length xs → x ≡ get_or xs i x → drop i xs ≡ x ∷ drop (i + 1) xs
-next_left [] i x l e = absurd (omega (arith, l))
-next_left (y ∷ xs) zero x l e = ap (λ z. z ∷ xs) (sym e)
-next_left (y ∷ xs) (suc i) x l e =
-    let more : suc (i + 1) ≡ suc i + 1 = omega arith in
-    next_left xs i x (omega (arith, l)) e ∙ ap (λ n. x ∷ drop n (y ∷ xs)) more
 
 -- WHAT STAYS TOLD
 

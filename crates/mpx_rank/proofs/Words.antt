@@ -5,7 +5,6 @@ use Rattle.std.specs.List.{list_all}
 use Rattle.std.specs.Option.{option_map}
 use Rattle.std.proofs.lemmas.Option.{option_and_then_some, same_Some}
 use Rattle.mpx_name.specs.Name.{Name}
-use Rattle.mpx_post.specs.Rows.{all_of}
 use Rattle.mpx_value.specs.Histories.{Answer, Made, Results}
 use Rattle.mpx_statement.specs.declared.statement.Posting.{Posting}
 use Rattle.mpx_statement.specs.Lookups.{named}
@@ -15,6 +14,7 @@ use Rattle.mpx_evaluation.proofs.Standing.{binds_seen, named_behind, named_witho
 use Rattle.mpx_rank.specs.Carriers.{outcomes_of}
 use Rattle.mpx_rank.specs.Moves.{are_done, communicator_in, is_done, request_line, told_line, wait_lines}
 use Rattle.mpx_rank.specs.Places.{CommunicatorView, attempt_by, bound_as}
+use Rattle.mpx_post.proofs.Lists.{is_some-all_of}
 
 -- WORDS
 
@@ -41,20 +41,6 @@ attempt_same me made posting (Some NullCommunicator) = refl
 attempt_same me made posting (Some (Communicator name birth)) = refl
 
 -- WAITS
-
-is_some-and_then : {A B : Type 0} (f : A → Option B) (o : Option A) (b : Bool) → ((x : A) → is_some (f x) ≡ b) → is_some (option_and_then f o) ≡ (is_some o && b)
-is_some-and_then f None b h = refl
-is_some-and_then f (Some x) b h = h x
-
--- all are there where each is
-pub is_some-all_of : {A B : Type 0} (f : B → Option A) (ps : List B) → is_some (all_of f ps) ≡ list_all (λ p. is_some (f p)) ps
-is_some-all_of f [] = refl
-is_some-all_of f (p ∷ ps) =
-    is_some-and_then (λ x. option_and_then (λ xs. Some (x ∷ xs)) (all_of f ps)) (f p) (list_all (λ q. is_some (f q)) ps) (λ x.
-    is_some-and_then (λ xs. Some (x ∷ xs)) (all_of f ps) true (λ xs. refl) ∙ and_true (is_some (all_of f ps)) ∙ is_some-all_of f ps) where
-      and_true : (b : Bool) → (b && true) ≡ b
-      and_true true = refl
-      and_true false = refl
 
 some_mapped : (o : Option Answer) → is_some (option_map (λ (a : Answer). a.outcome) o) ≡ is_some o
 some_mapped None = refl

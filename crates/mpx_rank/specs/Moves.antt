@@ -10,13 +10,14 @@ use Rattle.mpx_statement.specs.declared.statement.Question.{Question}
 use Rattle.mpx_statement.specs.declared.statement.Statement.{Statement}
 use Rattle.mpx_statement.specs.declared.statement.Statement.TheVariants.{Post, Wait, Ask}
 use Rattle.mpx_statement.specs.Statements.{bound_to, posted_on, started_as}
-use Rattle.mpx_evaluation.specs.Ranks.{Line, Told, Refused, Idle, answered_by}
+use Rattle.mpx_evaluation.specs.declared.origin.Origin.{Origin}
+use Rattle.mpx_evaluation.specs.Ranks.{Line, Told, Refused, Idle, answered_by, origins_of}
 use Rattle.mpx_evaluation.specs.Standing.{WaitView, awaited, binds, closed, closed_all, has_statements}
 use Rattle.mpx_evaluation.specs.Transcripts.{line_text, outcome_text}
 use Rattle.mpx_rank.specs.Carriers.{Outcomes, Terms, is_told}
 
 -- who it is, what its words are bound to (None is the null communicator) and which calls its open requests stand for, the
--- statements that are left, what it waits for, and the lines so far
+-- statements that are left, what it waits for, the lines so far, and which statement each of these belongs to
 pub record RankView (K : Type 0) : Type 0 where
   pub me : ℕ
   pub bound : List ℕ → Option (Option K)
@@ -24,6 +25,7 @@ pub record RankView (K : Type 0) : Type 0 where
   pub todo : List Statement
   pub waits : Option WaitView
   pub lines : List (List ℕ)
+  pub origins : List Origin
 
 -- WORDS
 
@@ -68,35 +70,51 @@ wait_lines told requests (word ∷ words) = request_line told (requests word) �
 abbrev pub left_of : {K : Type 0} → RankView K → ℕ
 left_of r = 2 * length r.todo + awaited r.waits
 
+-- so many statements are left, with the one whose outcome is awaited
+abbrev pub statements_left : {K : Type 0} → RankView K → ℕ
+statements_left r = awaited r.waits + length r.todo
+
 -- whether it waits for an outcome, or has statements left
 abbrev pub is_waiting : {K : Type 0} → RankView K → Bool
 is_waiting r = is_some r.waits || has_statements r.todo
 
 -- MOVES
 
+-- which statement each line belongs to, with so many lines more of the one that is next or whose outcome is awaited
+abbrev pub origins_with : {K : Type 0} → RankView K → (lines : ℕ) → List Origin
+origins_with r lines = r.origins ++ origins_of (statements_left r) lines
+
 -- the outcome that it waited for is told, and its word stands for the communicator that the call gave
 abbrev pub heard : {K : Type 0} → RankView K → WaitView → (text : List ℕ) → Option K → RankView K
-heard r w text to = record { me = r.me; bound = binds w.target to r.bound; requests = r.requests; todo = r.todo; waits = None; lines = r.lines ++ text ∷ [] }
+heard r w text to = record { me = r.me; bound = binds w.target to r.bound; requests = r.requests; todo = r.todo; waits = None; lines = r.lines ++ text ∷ []; origins = origins_with r 1 }
 
 -- it has posted, and waits for the outcome of that call
 abbrev pub posted : {K : Type 0} → RankView K → Posting → (rest : List Statement) → Name → (call : ℕ) → RankView K
-posted r posting rest name call = record { me = r.me; bound = r.bound; requests = r.requests; todo = rest; waits = Some (record { name = name; call = call; target = bound_to posting }); lines = r.lines }
+posted r posting rest name call = record { me = r.me; bound = r.bound; requests = r.requests; todo = rest; waits = Some (record { name = name; call = call; target = bound_to posting }); lines = r.lines; origins = r.origins }
 
 -- it has posted, and a request is open for that call
 abbrev pub started : {K : Type 0} → RankView K → (word : List ℕ) → (rest : List Statement) → Name → (call : ℕ) → RankView K
-started r word rest name call = record { me = r.me; bound = r.bound; requests = binds (Some word) (name, call) r.requests; todo = rest; waits = None; lines = r.lines }
+started r word rest name call = record { me = r.me; bound = r.bound; requests = binds (Some word) (name, call) r.requests; todo = rest; waits = None; lines = r.lines; origins = r.origins }
 
 -- its post was refused
 abbrev pub refused : {K : Type 0} → RankView K → Posting → (rest : List Statement) → (text : List ℕ) → RankView K
-refused r posting rest text = record { me = r.me; bound = binds (bound_to posting) None r.bound; requests = r.requests; todo = rest; waits = None; lines = r.lines ++ text ∷ [] }
+refused r posting rest text = record { me = r.me; bound = binds (bound_to posting) None r.bound; requests = r.requests; todo = rest; waits = None; lines = r.lines ++ text ∷ []; origins = origins_with r 1 }
 
 -- it has waited for these words
 abbrev pub waited : {K : Type 0} → RankView K → (words : List (List ℕ)) → (rest : List Statement) → Outcomes → RankView K
-waited r words rest told = record { me = r.me; bound = r.bound; requests = closed_all words r.requests; todo = rest; waits = None; lines = r.lines ++ map line_text (wait_lines told r.requests words) }
+waited r words rest told = record {
+  me = r.me;
+  bound = r.bound;
+  requests = closed_all words r.requests;
+  todo = rest;
+  waits = None;
+  lines = r.lines ++ map line_text (wait_lines told r.requests words);
+  origins = origins_with r (length words);
+}
 
 -- its question is answered
 abbrev pub answered : {K : Type 0} → RankView K → (rest : List Statement) → (text : List ℕ) → RankView K
-answered r rest text = record { me = r.me; bound = r.bound; requests = r.requests; todo = rest; waits = None; lines = r.lines ++ text ∷ [] }
+answered r rest text = record { me = r.me; bound = r.bound; requests = r.requests; todo = rest; waits = None; lines = r.lines ++ text ∷ []; origins = origins_with r 1 }
 
 -- one move of a rank, and what its carrier does for it: it hears the outcome that it waits for; or it does its next statement.
 -- One that posts is posted, and then its outcome is awaited or its request is open, or it is refused; a wait is passed once

@@ -34,3 +34,4 @@ pub record Stands (r : RankView CommunicatorView) (s : Local) : Type 0 where
   pub requests : (word : List ℕ) → r.requests word ≡ named s.requests word
   pub todo : s.todo ≡ todo_of r.waits r.todo
   pub lines : r.lines ≡ map line_text s.lines
+  pub origins : r.origins ≡ s.origins

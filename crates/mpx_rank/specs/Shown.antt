@@ -21,4 +21,12 @@ abbrev pub wait_of : {Call : Type 0} → (Call → Name × ℕ) → Wait Call �
 wait_of place w = record { name = (place w.call).0; call = (place w.call).1; target = option_copied w.target }
 
 abbrev pub rank_of : {C K Call : Type 0} → (Call → Name × ℕ) → Rank C K Call → RankView K
-rank_of place r = record { me = r.me; bound = looked_up r.bound; requests = requests_of place r.requests; todo = r.todo.now; waits = option_map (wait_of place) r.waits; lines = map string_bytes r.lines.items }
+rank_of place r = record {
+  me = r.me;
+  bound = looked_up r.bound;
+  requests = requests_of place r.requests;
+  todo = r.todo.now;
+  waits = option_map (wait_of place) r.waits;
+  lines = map string_bytes r.lines.items;
+  origins = r.origins.items;
+}

@@ -8,6 +8,7 @@
 
 mod asking;
 mod carrier;
+mod origins;
 mod rank;
 mod waiting;
 

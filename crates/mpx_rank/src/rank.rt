@@ -1,18 +1,19 @@
 //! A rank that goes on with its statements.
-ghost use Rattle.std.specs.Prelude.{◌≡◌, ◌<◌, ◌+◌, ◌∷◌, length, ℕ, IfOk, IsTrue, List, None, OnOk, Some, [], map, string_bytes, true, ◌↔◌};
+ghost use Rattle.std.specs.Prelude.{◌≡◌, ◌<◌, ◌+◌, ◌∷◌, length, ℕ, IfOk, List, None, OnOk, Some, [], map, string_bytes, true};
 ghost use Rattle.std.specs.Option.{option_copied, option_map};
 ghost use Rattle.mpx_statement.specs.declared.statement.Statement.TheVariants.{Ask, Post, Wait as WaitFor};
 ghost use Rattle.mpx_evaluation.specs.Ranks.{Refused};
 ghost use Rattle.mpx_evaluation.specs.Transcripts.{line_text};
-ghost use Rattle.mpx_rank.specs.Moves.{GoesOn, MayGo, MayTry, Moves, bound_first, communicator_in, is_waiting, left_of, refused};
+ghost use Rattle.mpx_rank.specs.Moves.{GoesOn, MayGo, MayTry, Moves, bound_first, communicator_in, is_waiting, left_of, refused, statements_left};
 ghost use Rattle.mpx_rank.specs.Shown.{place_of, rank_of, requests_of, wait_of};
 ghost use Rattle.mpx_evaluation.specs.Standing.{awaited, looked_up};
 
 use crate::asking::answer;
 use crate::carrier::{Carrier, Heard};
+use crate::origins::push_origins;
 use crate::waiting::{are_done, close_all};
 use join_core::OutOfMemory;
-use mpx_evaluation::{bind, refused_line};
+use mpx_evaluation::{Origin, bind, refused_line};
 use mpx_group::Proc;
 use mpx_post::PostError;
 use mpx_statement::{Posting, Question, Statement, Word};
@@ -27,7 +28,7 @@ struct Wait<'a, Call> {
 }
 
 /// A rank: who it is, what its words are bound to (None: the null communicator), its open requests, the statements that are
-/// left, the call whose outcome it waits for, and its lines.
+/// left, the call whose outcome it waits for, its lines, and which statement each of these belongs to.
 #[derive(Drop)]
 pub struct Rank<'a, C: Carrier> {
     me: Proc,
@@ -36,6 +37,7 @@ pub struct Rank<'a, C: Carrier> {
     todo: &'a [Statement],
     waits: Option<Wait<'a, C::Call>>,
     lines: Vec<String>,
+    origins: Vec<Origin>,
 }
 
 impl<'a, C: Carrier> Rank<'a, C> {
@@ -52,6 +54,7 @@ impl<'a, C: Carrier> Rank<'a, C> {
         ensures todo { IfOk result (λ rank. (rank_of C.place rank).todo ≡ todo.now) }
         ensures waits { IfOk result (λ rank. (rank_of C.place rank).waits ≡ None) }
         ensures lines { IfOk result (λ rank. (rank_of C.place rank).lines ≡ []) }
+        ensures origins { IfOk result (λ rank. (rank_of C.place rank).origins ≡ []) }
     {
         let bound = world_alone(alloc, world)?;
         Ok(Rank {
@@ -61,6 +64,7 @@ impl<'a, C: Carrier> Rank<'a, C> {
             todo,
             waits: None,
             lines: Vec::new(alloc),
+            origins: Vec::new(alloc),
         })
     }
 
@@ -104,12 +108,26 @@ impl<'a, C: Carrier> Rank<'a, C> {
 
     /// How many statements are left, with the one whose outcome it waits for.
     pub fn left(&self) -> usize
-        ensures { result ≡ awaited (rank_of C.place self.now).waits + length (rank_of C.place self.now).todo }
+        ensures { result ≡ statements_left (rank_of C.place self.now) }
     {
         if self.waits.is_some() {
             return 1 + self.todo.len();
         }
         self.todo.len()
+    }
+
+    /// Its lines so far.
+    pub fn lines(&self) -> &[String]
+        ensures { map string_bytes result.now ≡ (rank_of C.place self.now).lines }
+    {
+        self.lines.as_slice()
+    }
+
+    /// Which statement each of them belongs to.
+    pub fn origins(&self) -> &[Origin]
+        ensures { result.now ≡ (rank_of C.place self.now).origins }
+    {
+        self.origins.as_slice()
     }
 
     /// Its lines.
@@ -161,6 +179,7 @@ impl<'a, C: Carrier> Rank<'a, C> {
             }
             Heard::Told { text, given } => {
                 self.lines.push(text)?;
+                push_origins(&mut self.origins, 1, self.todo, 1)?;
                 bind(alloc, &mut self.bound, target, given)?;
                 Ok(true)
             }
@@ -232,12 +251,13 @@ impl<'a, C: Carrier> Rank<'a, C> {
         ensures other { OnOk result (refusal ≡ PostError.OutOfMemory → ⊥) }
         ensures line { OnOk result (rank_of C.place self.new ≡ refused (rank_of C.place self.old) posting.now rest.now (line_text (Refused refusal))) }
     {
-        if is_want_of_memory(refusal) {
+        if refusal.is_want_of_memory() {
             return Err(OutOfMemory);
         }
-        self.todo = rest;
         let text = refused_line(alloc, refusal)?;
         self.lines.push(text)?;
+        push_origins(&mut self.origins, 0, self.todo, 1)?;
+        self.todo = rest;
         bind(alloc, &mut self.bound, posting.target(), None)?;
         Ok(())
     }
@@ -266,6 +286,7 @@ impl<'a, C: Carrier> Rank<'a, C> {
             &mut self.lines,
             words,
         )?;
+        push_origins(&mut self.origins, 0, self.todo, words.len())?;
         self.todo = rest;
         Ok(true)
     }
@@ -284,6 +305,7 @@ impl<'a, C: Carrier> Rank<'a, C> {
     {
         let text = answer(alloc, carrier, self.me, &self.bound, question)?;
         self.lines.push(text)?;
+        push_origins(&mut self.origins, 0, self.todo, 1)?;
         self.todo = rest;
         Ok(())
     }
@@ -314,27 +336,5 @@ pub(crate) fn communicator<'m, K>(
         Some(Some(communicator)) => Some(communicator),
         Some(None) => None,
         None => None,
-    }
-}
-
-fn is_want_of_memory(refusal: PostError) -> bool
-    ensures { IsTrue result ↔ (refusal ≡ PostError.OutOfMemory) }
-{
-    match refusal {
-        PostError::OutOfMemory => true,
-        PostError::NotMember => false,
-        PostError::RootOutOfRange => false,
-        PostError::OpNotForType => false,
-        PostError::CountsLength => false,
-        PostError::ItemsLength => false,
-        PostError::ItemOutOfRange => false,
-        PostError::TooManyItems => false,
-        PostError::NoTopology => false,
-        PostError::CallsUsedUp => false,
-        PostError::DepthUsedUp => false,
-        PostError::BadGroup => false,
-        PostError::BadEdge => false,
-        PostError::TooManyEdges => false,
-        PostError::BadTag => false,
     }
 }

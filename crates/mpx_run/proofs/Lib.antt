@@ -1,2 +1,2 @@
 mod Reporting
-mod Pieces
+pub mod Pieces

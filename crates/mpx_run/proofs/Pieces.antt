@@ -10,15 +10,13 @@ use Rattle.std.proofs.Common.{Ok}
 use Rattle.mpx_run.specs.declared.end.End.{End}
 use Rattle.mpx_job.specs.declared.Job.{Job}
 use Rattle.mpx_script.specs.Words.{bytes_limit}
+use Rattle.mpx_threads.specs.declared.gate.Step.{Step}
+use Rattle.mpx_threads.specs.Gates.{nowhere}
 use Rattle.mpx_run.specs.Texts.{Prints, TakesInput, TakesPart, Runs}
 use Rattle.mpx_run.specs.declared.texts.RunError.{RunError}
 use Rattle.mpx_run.specs.declared.texts.RunError.TheVariants as E
 
 -- READING
-
-pub consumes_none : (a : Option (List ℕ)) → Consumes a a []
-consumes_none None = tt
-consumes_none (Some xs) = refl
 
 pub consumes_more : (a b c : Option (List ℕ)) (xs ys zs : List ℕ) → Consumes a b xs → Consumes b c ys → zs ≡ xs ++ ys → Consumes a c zs
 consumes_more None b c xs ys zs f g e = tt
@@ -84,10 +82,6 @@ read_more items new buf rest count e l = e ∙ ap (λ ts. items ++ ts) (take-app
 
 -- WRITING
 
-pub appends_none : (a : Option (List ℕ)) → Appends a a []
-appends_none None = tt
-appends_none (Some xs) = sym (append-nil xs)
-
 -- the next bytes
 pub appends_more : (a b c : Option (List ℕ)) (bytes : List ℕ) (m n : ℕ) → Appends a b (take m bytes) → Appends b c (take n (drop m bytes)) → Appends a c (take (m + n) bytes)
 appends_more None b c bytes m n f g = tt
@@ -107,22 +101,6 @@ within_rest bytes m n l h =
     let size : length (drop m bytes) ≡ length bytes - m = length-drop m bytes in
     let same : length (take (length bytes - m) (drop m bytes)) ≡ length (drop m bytes) = ap length (rest_is bytes m) in
     omega (arith, l, h, size, same)
-
--- nothing more
-pub appends_keeps : (a b c : Option (List ℕ)) (bytes : List ℕ) → Appends a b bytes → Keeps b c → Appends a c bytes
-appends_keeps None b c bytes f k = tt
-appends_keeps (Some us) None c bytes f k = absurd f
-appends_keeps (Some us) (Some bs) None bytes f k = absurd k
-appends_keeps (Some us) (Some bs) (Some cs) bytes f k = k ∙ f
-
-pub appends_all : (a b : Option (List ℕ)) (bytes : List ℕ) (n : ℕ) → Appends a b (take n bytes) → length bytes ≤ n → Appends a b bytes
-appends_all None b bytes n f l = tt
-appends_all (Some us) None bytes n f l = absurd f
-appends_all (Some us) (Some bs) bytes n f l = f ∙ ap (λ ts. us ++ ts) (take_all n bytes l)
-
-pub keeps_same : (a : Option (List ℕ)) → Keeps a a
-keeps_same None = tt
-keeps_same (Some xs) = refl
 
 -- TAKING
 
@@ -149,11 +127,11 @@ takes_part None left text t = ([], omega arith, tt)
 takes_part (Some all) left text t = (text, subst (λ xs. length xs ≤ bytes_limit + 1) (sym t.0) (within_take (bytes_limit + 1) all), t.1)
 
 -- the answer of a text's run is that of a reader which gives the text
-pub runs_input : (job : Job) (there left old new : Option (List ℕ)) (text now : List ℕ) (answer : Result End RunError) → TakesInput there left text → now ≡ text → Prints job now old new answer → Runs job there left old new answer
-runs_input job there left old new text now (Ok end) t e p = record { text = text; taken = t; prints = subst (λ xs. Prints job xs old new (Ok end)) e p }
-runs_input job there left old new text now (Err (E.Script refusal)) t e p = record { text = text; taken = t; prints = subst (λ xs. Prints job xs old new (Err (E.Script refusal))) e p }
-runs_input job there left old new text now (Err E.TooManyProcesses) t e p = record { text = text; taken = t; prints = subst (λ xs. Prints job xs old new (Err E.TooManyProcesses)) e p }
-runs_input job there left old new text now (Err E.Memory) t e p = (takes_part there left text t, p)
-runs_input job there left old new text now (Err E.Read) t e p = absurd p
-runs_input job there left old new text now (Err E.Write) t e p = record { text = text; taken = t; prints = subst (λ xs. Prints job xs old new (Err E.Write)) e p }
-runs_input job there left old new text now (Err E.GateGaveUp) t e p = record { text = text; taken = t; prints = subst (λ xs. Prints job xs old new (Err E.GateGaveUp)) e p }
+pub runs_input : (gives_up : ℕ → Step → ℕ → Type 0) (job : Job) (there left old new : Option (List ℕ)) (text now : List ℕ) (answer : Result End RunError) → TakesInput there left text → now ≡ text → Prints gives_up job now old new answer → Runs gives_up job there left old new answer
+runs_input gives_up job there left old new text now (Ok end) t e p = record { text = text; taken = t; prints = subst (λ xs. Prints gives_up job xs old new (Ok end)) e p }
+runs_input gives_up job there left old new text now (Err (E.Script refusal)) t e p = record { text = text; taken = t; prints = subst (λ xs. Prints gives_up job xs old new (Err (E.Script refusal))) e p }
+runs_input gives_up job there left old new text now (Err E.TooManyProcesses) t e p = record { text = text; taken = t; prints = subst (λ xs. Prints gives_up job xs old new (Err E.TooManyProcesses)) e p }
+runs_input gives_up job there left old new text now (Err E.Memory) t e p = (takes_part there left text t, p)
+runs_input gives_up job there left old new text now (Err E.Read) t e p = absurd p
+runs_input gives_up job there left old new text now (Err E.Write) t e p = record { text = text; taken = t; prints = subst (λ xs. Prints gives_up job xs old new (Err E.Write)) e p }
+runs_input gives_up job there left old new text now (Err E.GateGaveUp) t e p = record { text = text; taken = t; prints = subst (λ xs. Prints gives_up job xs old new (Err E.GateGaveUp)) e p }

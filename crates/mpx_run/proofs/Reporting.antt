@@ -82,9 +82,3 @@ evaluated script transcripts waiting end text v lines ends = record {
 }
 
 -- LINES
-
--- the next line of a rank
-pub rank_more : {A : Type 0} (f : A → List ℕ) (p : ℕ) (lines : List A) (i : ℕ) (line : A) → slice_get lines i ≡ Some line → rank_text p (map f (drop i lines)) ≡ number_text (pos p) ++ codes ": " ++ f line ++ 10 ∷ rank_text p (map f (drop (suc i) lines))
-rank_more f p [] i line e = cc e
-rank_more f p (x ∷ xs) zero line e = let same : x ≡ line = cc e in ap (λ y. number_text (pos p) ++ codes ": " ++ f y ++ 10 ∷ rank_text p (map f xs)) same
-rank_more f p (x ∷ xs) (suc i) line e = rank_more f p xs i line e

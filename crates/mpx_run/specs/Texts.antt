@@ -16,6 +16,8 @@ use Rattle.mpx_job.specs.declared.Command.TheVariants.{Run, Eval, Check}
 use Rattle.mpx_job.specs.declared.Job.{Job}
 use Rattle.mpx_run.specs.declared.texts.RunError.{RunError}
 use Rattle.mpx_run.specs.declared.texts.RunError.TheVariants as E
+use Rattle.mpx_threads.specs.declared.gate.Step.{Step}
+use Rattle.mpx_threads.specs.Gates.{GivesUpAmong}
 use Rattle.mpx_run.specs.Reports.{IsEvaluatedText, IsReport, IsThreadReport}
 
 -- the bytes that are read, where it is known what there is: one more than a script may have, or all
@@ -95,28 +97,35 @@ pub record PrintsPart (job : Job) (text : List ℕ) (old new : Option (List ℕ)
 abbrev pub IsGated : Job → Type 0
 IsGated job = (job.command ≡ Run) × (job.options.threads ≡ true)
 
--- what is out after a job with a text, by the answer
-abbrev pub Prints : (job : Job) (text : List ℕ) (old new : Option (List ℕ)) → Result End RunError → Type 0
-Prints job text old new (Ok end) = PrintsWhole job text old new end
-Prints job text old new (Err (E.Script refusal)) = (reading text ≡ Err refusal) × Keeps old new
-Prints job text old new (Err E.TooManyProcesses) = HasTooMany job text × Keeps old new
-Prints job text old new (Err E.Memory) = Keeps old new
-Prints job text old new (Err E.Read) = ⊥
-Prints job text old new (Err E.Write) = PrintsPart job text old new
-Prints job text old new (Err E.GateGaveUp) = IsGated job × Keeps old new
+-- a text is read as a script that is run in threads, and the gate gives up at a step of one of its processes
+pub record IsGivenUp (gives_up : ℕ → Step → ℕ → Type 0) (job : Job) (text : List ℕ) : Type 0 where
+  pub script : ScriptView
+  pub read : reading text ≡ Ok script
+  pub gated : IsGated job
+  pub at : GivesUpAmong gives_up (script.ranks + job.options.relays) job.options.turns
+
+-- what is out after a job with a text, by the answer, where the gate gives up there
+abbrev pub Prints : (gives_up : ℕ → Step → ℕ → Type 0) (job : Job) (text : List ℕ) (old new : Option (List ℕ)) → Result End RunError → Type 0
+Prints gives_up job text old new (Ok end) = PrintsWhole job text old new end
+Prints gives_up job text old new (Err (E.Script refusal)) = (reading text ≡ Err refusal) × Keeps old new
+Prints gives_up job text old new (Err E.TooManyProcesses) = HasTooMany job text × Keeps old new
+Prints gives_up job text old new (Err E.Memory) = Keeps old new
+Prints gives_up job text old new (Err E.Read) = ⊥
+Prints gives_up job text old new (Err E.Write) = PrintsPart job text old new
+Prints gives_up job text old new (Err E.GateGaveUp) = IsGivenUp gives_up job text × Keeps old new
 
 -- the reader's text is taken, and the job done with it
-pub record RunsInput (job : Job) (there left old new : Option (List ℕ)) (answer : Result End RunError) : Type 0 where
+pub record RunsInput (gives_up : ℕ → Step → ℕ → Type 0) (job : Job) (there left old new : Option (List ℕ)) (answer : Result End RunError) : Type 0 where
   pub text : List ℕ
   pub taken : TakesInput there left text
-  pub prints : Prints job text old new answer
+  pub prints : Prints gives_up job text old new answer
 
--- what a reader has left and what is out after a job, by the answer
-abbrev pub Runs : (job : Job) (there left old new : Option (List ℕ)) → Result End RunError → Type 0
-Runs job there left old new (Ok end) = RunsInput job there left old new (Ok end)
-Runs job there left old new (Err (E.Script refusal)) = RunsInput job there left old new (Err (E.Script refusal))
-Runs job there left old new (Err E.TooManyProcesses) = RunsInput job there left old new (Err E.TooManyProcesses)
-Runs job there left old new (Err E.Memory) = TakesPart there left × Keeps old new
-Runs job there left old new (Err E.Read) = TakesPart there left × Keeps old new
-Runs job there left old new (Err E.Write) = RunsInput job there left old new (Err E.Write)
-Runs job there left old new (Err E.GateGaveUp) = RunsInput job there left old new (Err E.GateGaveUp)
+-- what a reader has left and what is out after a job, by the answer, where the gate gives up there
+abbrev pub Runs : (gives_up : ℕ → Step → ℕ → Type 0) (job : Job) (there left old new : Option (List ℕ)) → Result End RunError → Type 0
+Runs gives_up job there left old new (Ok end) = RunsInput gives_up job there left old new (Ok end)
+Runs gives_up job there left old new (Err (E.Script refusal)) = RunsInput gives_up job there left old new (Err (E.Script refusal))
+Runs gives_up job there left old new (Err E.TooManyProcesses) = RunsInput gives_up job there left old new (Err E.TooManyProcesses)
+Runs gives_up job there left old new (Err E.Memory) = TakesPart there left × Keeps old new
+Runs gives_up job there left old new (Err E.Read) = TakesPart there left × Keeps old new
+Runs gives_up job there left old new (Err E.Write) = RunsInput gives_up job there left old new (Err E.Write)
+Runs gives_up job there left old new (Err E.GateGaveUp) = RunsInput gives_up job there left old new (Err E.GateGaveUp)

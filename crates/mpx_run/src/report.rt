@@ -1,7 +1,8 @@
 //! The text of a run or an evaluation.
-ghost use Rattle.std.specs.Prelude.{◌≡◌, ◌++◌, ◌≤◌, ◌+◌, IfOk, OnOk, length, map, string_bytes};
+ghost use Rattle.std.specs.Prelude.{◌≡◌, ◌++◌, ◌≤◌, ◌+◌, IfErr, IfOk, OnOk, length, map, string_bytes};
 ghost use Rattle.mpx_evaluation.specs.Reports.{transcripts_of};
 ghost use Rattle.mpx_evaluation.specs.Transcripts.{rank_text, text_upto};
+ghost use Rattle.mpx_threads.specs.Gates.{GivesUpAmong};
 ghost use Rattle.mpx_run.specs.Reports.{EndsSo, IsEvaluatedText, IsReport, IsThreadReport, lines_at};
 
 use crate::end::End;
@@ -47,7 +48,8 @@ pub(crate) fn print_threads<T: Threads + Wait + Sync, G: Gate + Sync>(
     gate: &G,
 ) -> Result<Printed, ThreadsError>
     requires { script.now.ranks + options.now.relays ≤ 64 }
-    ensures { IfOk result (λ printed. IsThreadReport script.now options.now.relays printed.end (string_bytes printed.text)) }
+    ensures printed { IfOk result (λ printed. IsThreadReport script.now options.now.relays printed.end (string_bytes printed.text)) }
+    ensures gave_up { IfErr result (λ e. e ≡ ThreadsError.GateGaveUp → GivesUpAmong (G.gives_up gate.now) (script.now.ranks + options.now.relays) options.now.turns) }
 {
     let run = run_threads(rt, alloc, script, options, gate)?;
     match print_report(alloc, run.report, script.ranks()) {

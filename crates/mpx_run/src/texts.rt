@@ -1,5 +1,6 @@
 //! A job from the bytes of a script to what it prints.
-ghost use Rattle.std.specs.Prelude.{◌≡◌, ◌+◌, ◌<◌, ◌≤◌, IfErr, IfOk, IsFalse, IsTrue, Some, false, string_bytes};
+ghost use Rattle.std.specs.Prelude.{◌≡◌, ◌≢◌, ◌+◌, ◌<◌, ◌≤◌, IfErr, IfOk, IsFalse, IsTrue, Some, false, string_bytes};
+ghost use Rattle.mpx_threads.specs.Gates.{GivesUpAmong, nowhere};
 ghost use Rattle.mpx_run.specs.Texts.{ComesTo, IsGated, Prints, Runs, error_text, told};
 
 use crate::bytes::{ReadFault, WriteFault, read_bytes, write_bytes};
@@ -72,7 +73,7 @@ impl From<ReadFault> for RunError {
 /// fails ends it. Nothing is written before all is computed; after `Write` a beginning of the text is out, and after
 /// every other error nothing. No clause says that `Read` and `Write` come only where the reader or the writer fails,
 /// nor that all is flushed: that is shown by tests. A run in threads may wait for them; where the system refuses a thread the run ends
-/// early, with ranks that wait. This call has an open gate.
+/// early, with ranks that wait. This call has an open gate: it never answers `GateGaveUp`.
 pub fn run_text<T: Threads + Wait + Sync, R: Read, W: Write>(
     rt: &T,
     alloc: Global,
@@ -80,12 +81,14 @@ pub fn run_text<T: Threads + Wait + Sync, R: Read, W: Write>(
     reader: &mut R,
     writer: &mut W,
 ) -> Result<End, RunError>
-    ensures { Runs job.now (R.remaining reader.old) (R.remaining reader.new) (W.contents writer.old) (W.contents writer.new) result }
+    ensures runs { Runs nowhere job.now (R.remaining reader.old) (R.remaining reader.new) (W.contents writer.old) (W.contents writer.new) result }
+    ensures never { IfErr result (λ e. e ≢ RunError.GateGaveUp) }
 {
     run_text_observed(rt, alloc, job, reader, writer, &mut Unobserved, &OpenGate)
 }
 
-/// The same, with somebody who looks on at a simulated run, and a gate for a run in threads, which then may answer `GateGaveUp`.
+/// The same, with somebody who looks on at a simulated run, and a gate for a run in threads, which then may answer `GateGaveUp`, where
+/// the gate may give up at a step of one of its processes.
 pub fn run_text_observed<T: Threads + Wait + Sync, R: Read, W: Write, G: Gate + Sync>(
     rt: &T,
     alloc: Global,
@@ -95,13 +98,13 @@ pub fn run_text_observed<T: Threads + Wait + Sync, R: Read, W: Write, G: Gate + 
     observer: &mut dyn Observer,
     gate: &G,
 ) -> Result<End, RunError>
-    ensures { Runs job.now (R.remaining reader.old) (R.remaining reader.new) (W.contents writer.old) (W.contents writer.new) result }
+    ensures { Runs (G.gives_up gate.now) job.now (R.remaining reader.old) (R.remaining reader.new) (W.contents writer.old) (W.contents writer.new) result }
 {
     let text = read_bytes(alloc, reader)?;
     bytes_observed(rt, alloc, job, &text, writer, observer, gate)
 }
 
-/// Does the job with the script that the bytes are, as [`run_text`] does once it has read them. It never answers `Read`.
+/// Does the job with the script that the bytes are, as [`run_text`] does once it has read them. It never answers `Read` or `GateGaveUp`.
 pub fn run_bytes<T: Threads + Wait + Sync, W: Write>(
     rt: &T,
     alloc: Global,
@@ -109,7 +112,8 @@ pub fn run_bytes<T: Threads + Wait + Sync, W: Write>(
     text: &[u8],
     writer: &mut W,
 ) -> Result<End, RunError>
-    ensures { Prints job.now text.now (W.contents writer.old) (W.contents writer.new) result }
+    ensures prints { Prints nowhere job.now text.now (W.contents writer.old) (W.contents writer.new) result }
+    ensures never { IfErr result (λ e. e ≢ RunError.GateGaveUp) }
 {
     bytes_observed(rt, alloc, job, text, writer, &mut Unobserved, &OpenGate)
 }
@@ -124,7 +128,7 @@ fn bytes_observed<T: Threads + Wait + Sync, W: Write, G: Gate + Sync>(
     observer: &mut dyn Observer,
     gate: &G,
 ) -> Result<End, RunError>
-    ensures { Prints job.now text.now (W.contents writer.old) (W.contents writer.new) result }
+    ensures { Prints (G.gives_up gate.now) job.now text.now (W.contents writer.old) (W.contents writer.new) result }
 {
     let script = match read_script(alloc, text) {
         Ok(script) => script,
@@ -169,7 +173,7 @@ fn printed_of<T: Threads + Wait + Sync, G: Gate + Sync>(
 ) -> Result<Printed, ThreadsError>
     requires { job.now.command ≡ Command.Run → script.now.ranks + job.now.options.relays ≤ 64 }
     ensures text { IfOk result (λ printed. ComesTo job.now.command job.now.options.threads job.now.options.relays script.now printed.end (string_bytes printed.text)) }
-    ensures gave_up { IfErr result (λ e. e ≡ ThreadsError.GateGaveUp → IsGated job.now) }
+    ensures gave_up { IfErr result (λ e. e ≡ ThreadsError.GateGaveUp → IsGated job.now × GivesUpAmong (G.gives_up gate.now) (script.now.ranks + job.now.options.relays) job.now.options.turns) }
 {
     if is_in_threads(job) {
         return print_threads(rt, alloc, script, &job.options, gate);

@@ -216,12 +216,3 @@ in_first (l ∷ ls) k = refl
 
 pub at_start : (text : List ℕ) (number : ℕ) → words_at text number ≡ words (get_or (lines (take (bytes_limit + 1) text)) (number - 1) [])
 at_start text number = ap words (in_first (lines (take (bytes_limit + 1) text)) (number - 1))
-
--- the first one
-pub at_first : (rest line after : List ℕ) → lines rest ≡ line ∷ lines after → get_or (lines rest) 0 [] ≡ line
-at_first rest line after e = ap (λ ls. get_or ls 0 []) e
-
--- one behind it
-pub at_next : (rest line after : List ℕ) (left : ℕ) → lines rest ≡ line ∷ lines after → (left ≡ 0 → ⊥) → get_or (lines rest) left [] ≡ get_or (lines after) (left - 1) []
-at_next rest line after zero e some = absurd (some refl)
-at_next rest line after (suc left) e some = ap (λ ls. get_or ls (suc left) []) e ∙ ap (λ k. get_or (lines after) k []) (let same : left ≡ suc left - 1 = omega arith in same)

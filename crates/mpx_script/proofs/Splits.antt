@@ -122,9 +122,6 @@ line_last xs line rest front back done h = last_from_part xs line rest (first_pa
 
 -- Blanks within a line
 
-onto_first_append : (x : ℕ) (first : List ℕ) (more rest : List (List ℕ)) → onto_first x ((first ∷ more) ++ rest) ≡ onto_first x (first ∷ more) ++ rest
-onto_first_append x first more rest = refl
-
 split_append : (p : ℕ → Bool) (xs : List ℕ) (b : ℕ) (ys : List ℕ) → p b ≡ true → slice_split p (xs ++ b ∷ ys) ≡ slice_split p xs ++ slice_split p ys
 split_append p [] b ys h = rw h
 split_append p (x ∷ xs) b ys h =

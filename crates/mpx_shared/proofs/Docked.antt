@@ -13,11 +13,8 @@ use Rattle.mpx_post.specs.declared.draft.PostError.{PostError}
 use Rattle.mpx_post.specs.Drafts.{at, checked}
 use Rattle.mpx_board.specs.Boards.{told}
 use Rattle.mpx_board.specs.declared.board.Board.{Board}
-use Rattle.mpx_board.specs.declared.errors.PruneError.{PruneError}
 use Rattle.mpx_value.specs.Histories.{Made, birth_of, posts_on}
 use Rattle.mpx_node.specs.declared.finished.Finished.{Finished}
-use Rattle.mpx_node.specs.declared.node.Harvest.{Harvest}
-use Rattle.mpx_node.specs.declared.node.Harvest.TheVariants as H
 use Rattle.mpx_node.specs.Nodes.{NodeView, Posts, checked_on, posted_on, results_on}
 use Rattle.mpx_world.specs.Worlds.{ProcessView, makes}
 use Rattle.mpx_bus.specs.declared.act.Act.{Act}
@@ -25,17 +22,19 @@ use Rattle.mpx_bus.specs.declared.act.Act.TheVariants as A
 use Rattle.mpx_bus.specs.declared.act.Setup.{Setup}
 use Rattle.mpx_bus.specs.Acts.{at_start, process_at}
 use Rattle.mpx_bus.specs.Rule.{IsPlanned, Stood, planned_posts, world_of}
-use Rattle.mpx_bus.specs.Berths.{Berth, GoesOn, HasListed, IsNew, IsSamePort, KeepsPlan, node_in, process_in}
+use Rattle.mpx_bus.specs.Berths.{Berth, Goes, GoesOn, HasListed, IsNew, IsSamePort, KeepsPlan, node_in, process_in}
 use Rattle.mpx_bus.specs.declared.port.Push.{Push}
 use Rattle.mpx_bus.specs.declared.port.Push.TheVariants as P
 use Rattle.mpx_bus.specs.declared.port.Pop.{Pop}
 use Rattle.mpx_bus.specs.declared.port.Pop.TheVariants as O
-use Rattle.mpx_bus.specs.Answers.{HarvestsOne, Lists, PopsOne, PushesLast, PushesNext, Stopped, WantsList}
+use Rattle.mpx_bus.specs.Answers.{Lists, PopsOne, PushesLast, PushesNext, Stopped, WantsList}
 use Rattle.mpx_bus.proofs.Journals.{after-append}
 use Rattle.mpx_bus.proofs.Ports.{new_stood}
 use Rattle.mpx_bus.proofs.Goes.{NoPosts, goes_itself, goes_then, made_more, two_acts}
 use Rattle.mpx_shared.specs.Docks.{IsDocked, IsMoored, IsNext, MakesNoPost, made_in, next_call, plan_history}
 use Rattle.mpx_shared.specs.Laws.{IsBirth, IsFinished}
+use Rattle.mpx_shared.specs.Tickets.{GathersOne, PostsThen}
+use Rattle.mpx_shared.specs.declared.ticket.Ticket.{Ticket}
 use Rattle.mpx_shared.proofs.Plans.{plan_births, prefix_next, prefix_take, ranks_of}
 use Rattle.mpx_shared.proofs.Standing.{checked_parts, own_beside, stood_birth, stood_good, stood_value}
 
@@ -57,19 +56,13 @@ no_post_by a b more goes is none = record {
   made = ap (λ (v : ProcessView). v.made) (made_same a b goes.same (a.journal ++ more) is) ∙ made_more a.setup a.me a.journal more none;
 }
 
-pub no_post_harvest : (name : Name) (r : Result Harvest OutOfMemory) (a b : Berth) → GoesOn a b → HarvestsOne name r a b → MakesNoPost a b
-no_post_harvest name (Ok (H.Done call)) a b goes h = no_post_by a b (A.Harvested name ∷ []) goes h (tt, tt)
-no_post_harvest name (Ok H.NotYet) a b goes h = no_post_itself a b h
-no_post_harvest name (Ok H.NotOpened) a b goes h = no_post_itself a b h
-no_post_harvest name (Err e) a b goes h = no_post_itself a b h
-
-pub no_post_prune : (name : Name) (n : ℕ) (r : Result (Unit {0}) PruneError) (a b : Berth) → GoesOn a b → OnOk r (b.journal ≡ a.journal ++ A.Pruned name n ∷ []) → OnErr r (b ≡ a) → MakesNoPost a b
-no_post_prune name n (Ok u) a b goes ok err = no_post_by a b (A.Pruned name n ∷ []) goes ok (tt, tt)
-no_post_prune name n (Err e) a b goes ok err = no_post_itself a b err
-
 pub no_post_gather : (parent : Name) (tag : ℤ) (ranks : List ℤ) (r : Result Name PostError) (a b : Berth) → GoesOn a b → OnOk r (b.journal ≡ a.journal ++ A.Gathered parent tag ranks ∷ []) → OnErr r (b ≡ a) → MakesNoPost a b
 no_post_gather parent tag ranks (Ok name) a b goes ok err = no_post_by a b (A.Gathered parent tag ranks ∷ []) goes ok (tt, tt)
 no_post_gather parent tag ranks (Err e) a b goes ok err = no_post_itself a b err
+
+pub gathers_one : (parent : Name) (tag : ℤ) (ranks : List ℤ) (r : Result Name PostError) (a b : Berth) → OnOk r (b.journal ≡ a.journal ++ A.Gathered parent tag ranks ∷ []) → OnErr r (b ≡ a) → GathersOne parent tag ranks r a b
+gathers_one parent tag ranks (Ok name) a b ok err = ok
+gathers_one parent tag ranks (Err e) a b ok err = err
 
 pub no_post_pop : (pop : Pop) (a b : Berth) → GoesOn a b → PopsOne pop a b → MakesNoPost a b
 no_post_pop (O.Took frame) a b goes p = no_post_by a b (A.Popped frame ∷ A.Took frame ∷ []) goes (two_acts a.journal b.journal (A.Popped frame) (A.Took frame) p) (tt, (tt, tt))
@@ -130,8 +123,27 @@ pub posts_as : (name : Name) (r : Result Given PostError) (given : Given) (call 
 posts_as name (Ok x) given call call' old new e p is = (is, p.1)
 posts_as name (Err x) given call call' old new e p is = absurd (cc e)
 
-pub moored_of : (table : TableId) (setup : Setup) (me before total : ℕ) (b : Berth) → IsDocked table setup me b → length (made_in b) ≡ before → total ≡ 0 → IsMoored table setup me before b total
-moored_of table setup me before total b d counted none = record { table_is = d.table_is; setup_is = d.setup_is; me_is = d.me_is; planned = d.planned; counted = omega (arith, counted, none) }
+-- a port that stays as it is
+pub stays : (a b : Berth) → b ≡ a → Goes b a
+stays a b is = subst (λ (x : Berth). Goes x a) (sym is) (record { same = record { table = refl; pass = refl; setup = refl; me = refl }; keeps = λ bytes may. may })
+
+-- a draft that was refused
+pub refused_then : (table : TableId) (setup : Setup) (me before total amount : ℕ) (a : Berth) (node : NodeView) (name : Name) (draft : Draft) (refusal : PostError) (r : Result Ticket PostError) → IsMoored table setup me before a total
+    → (KeepsPlan a → Stood a.setup a.me a.journal) → amount ≡ total → node ≡ node_in a → Posts name (checked_on node name draft) (Err refusal) node node → r ≡ Err refusal → PostsThen table setup me (before + amount) name draft r
+refused_then table setup me before total amount a node name draft refusal r m stood whole here refused is =
+    subst (PostsThen table setup me (before + amount) name draft) (sym is)
+    (record {
+      before = a;
+      after = a;
+      docked_before = docked_of table setup me before total a m stood;
+      docked_after = docked_of table setup me before total a m stood;
+      counted = omega (arith, m.counted, whole);
+      posts = subst (λ (n : NodeView). Posts name (checked_on n name draft) (Err refusal) n n) here refused;
+      ticket = tt;
+      goes = record { same = record { table = refl; pass = refl; setup = refl; me = refl }; keeps = λ bytes may. may };
+      acts = refl;
+      kept = refl;
+    })
 
 -- A POST
 

@@ -1,4 +1,5 @@
 pub mod Plans
 pub mod Standing
 pub mod Docked
+pub mod Gossiping
 pub mod Answering

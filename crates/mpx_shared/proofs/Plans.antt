@@ -9,7 +9,7 @@ use Rattle.mpx_value.proofs.Growth.{birth-grows, posts_on-append, row-grows, the
 use Rattle.mpx_node.specs.declared.finished.Finished.{Finished}
 use Rattle.mpx_world.specs.Worlds.{WorldView, Happening, births, history, start}
 use Rattle.mpx_world.specs.Soundness.{IsValue}
-use Rattle.mpx_world.proofs.Lists.{slice_get-append}
+use Rattle.mpx_post.proofs.Lists.{slice_get-append}
 use Rattle.mpx_world.proofs.Later.{later_goes_on}
 use Rattle.mpx_bus.specs.declared.act.Setup.{Setup}
 use Rattle.mpx_bus.specs.Rule.{BeginsPlan, world_of}

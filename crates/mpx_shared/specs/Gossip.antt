@@ -1,12 +1,65 @@
--- What a turn of gossip does to a port.
-use Rattle.std.specs.Prelude.{◌≡◌, None, Some}
+-- What a pull and a put do to a port.
+use Rattle.std.specs.Prelude.{◌≡◌, ◌+◌, All, Bool, true, false, List, [], ◌++◌, None, Some, Result, Ok, Err, is_some}
+use Rattle.join_core.specs.declared.memory.OutOfMemory.{OutOfMemory}
+use Rattle.mpx_name.specs.Name.{Name}
+use Rattle.mpx_node.specs.Nodes.{front_on, next_result, posted_on}
+use Rattle.mpx_bus.specs.declared.act.Act.{Act}
+use Rattle.mpx_bus.specs.declared.act.Act.TheVariants as A
 use Rattle.mpx_bus.specs.declared.port.Pop.{Pop}
 use Rattle.mpx_bus.specs.declared.port.Pop.TheVariants as O
-use Rattle.mpx_bus.specs.Answers.{PopsOne, TakesIn}
+use Rattle.mpx_bus.specs.declared.port.Push.{Push}
+use Rattle.mpx_bus.specs.Answers.{PopsOne, PushesNext, TakesIn, WantsList}
 use Rattle.mpx_bus.specs.Berths.{Berth, node_in}
 use Rattle.mpx_shared.specs.declared.ticket.Pull.{Pull}
 use Rattle.mpx_shared.specs.declared.ticket.Pull.TheVariants as L
 use Rattle.mpx_shared.specs.Docks.{MakesNoPost}
+
+-- HARVESTS AND PRUNINGS
+
+-- whether a next result can be had on the context
+abbrev pub has_next : Berth → Name → Bool
+has_next port name = is_some (next_result (node_in port) name)
+
+-- an act that stores a result, or drops posts
+abbrev pub IsHarvestOrPruning : Act → Type 0
+IsHarvestOrPruning (A.Posted name draft) = ⊥
+IsHarvestOrPruning (A.Harvested name) = Unit {0}
+IsHarvestOrPruning (A.Gathered parent tag ranks) = ⊥
+IsHarvestOrPruning (A.Pruned name n) = Unit {0}
+IsHarvestOrPruning (A.Took bytes) = ⊥
+IsHarvestOrPruning (A.StoppedTaking bytes left) = ⊥
+IsHarvestOrPruning (A.Acknowledged board) = ⊥
+IsHarvestOrPruning (A.Pushed bytes) = ⊥
+IsHarvestOrPruning (A.Popped bytes) = ⊥
+
+-- the port harvested and pruned, and did nothing else
+pub record HarvestsAndPrunes (old new : Berth) : Type 0 where
+  pub no_post : MakesNoPost old new
+  pub acts : List Act
+  pub each : All IsHarvestOrPruning acts
+  pub journal : new.journal ≡ old.journal ++ acts
+  pub kept : new.kept ≡ old.kept
+
+-- the port stored the next result of the context, where there was one; it has posted as many calls there as before
+pub record HarvestsNext (had : Bool) (name : Name) (old new : Berth) : Type 0 where
+  pub posted : posted_on (node_in new) name ≡ posted_on (node_in old) name
+  pub stored : had ≡ true → front_on (node_in new) name ≡ front_on (node_in old) name + 1
+  pub none : had ≡ false → has_next new name ≡ false
+
+-- the port harvested on the world until no further result could be had there; then it pruned, and harvested and pruned elsewhere
+pub record Settles (old new : Berth) : Type 0 where
+  pub harvested : Berth
+  pub harvests : HarvestsAndPrunes old harvested
+  pub none_left : has_next harvested [] ≡ false
+  pub then : HarvestsAndPrunes harvested new
+
+-- the port harvested and pruned, until memory was wanting to store a result that could be had
+pub record WantsResult (old new : Berth) : Type 0 where
+  pub harvests : HarvestsAndPrunes old new
+  pub name : Name
+  pub next : has_next new name ≡ true
+
+-- PULLS
 
 -- what came of a pop, and of harvests for which memory may be wanting
 abbrev pub IsPullOf : Pop → Pull → Type 0
@@ -20,11 +73,28 @@ IsPullOf (O.OutOfMemory frame) L.Took = ⊥
 IsPullOf (O.OutOfMemory frame) L.Empty = ⊥
 IsPullOf (O.OutOfMemory frame) (L.OutOfMemory lost) = lost ≡ Some frame
 
+-- what follows the pop: all is settled; or nothing follows, where memory was wanting for a frame's part; or memory is wanting for
+-- a result
+abbrev pub SettlesAs : Pull → Berth → Berth → Type 0
+SettlesAs L.Took popped new = Settles popped new
+SettlesAs L.Empty popped new = Settles popped new
+SettlesAs (L.OutOfMemory (Some frame)) popped new = new ≡ popped
+SettlesAs (L.OutOfMemory None) popped new = WantsResult popped new
+
 -- the port popped a frame, where there was one, took in its part, and then harvested and pruned
 pub record Pulls (pull : Pull) (old new : Berth) : Type 0 where
   pub pop : Pop
   pub popped : Berth
   pub pops : PopsOne pop old popped
   pub takes_in : TakesIn pop (node_in old) (node_in popped)
-  pub then : MakesNoPost popped new
+  pub kept : popped.kept ≡ old.kept
+  pub then : SettlesAs pull popped new
   pub pull_is : IsPullOf pop pull
+
+-- PUTS
+
+-- the port pushed the next frame of its list, or had it back from a full queue; or memory was wanting for a new list, since all
+-- frames of the last one were sent
+abbrev pub Puts : Result Push OutOfMemory → Berth → Berth → Type 0
+Puts (Ok push) old new = PushesNext push old new
+Puts (Err e) old new = (old.kept ≡ []) × WantsList old new

@@ -1,4 +1,5 @@
 pub mod Docks
 pub mod Tickets
 pub mod Gossip
+pub mod Turns
 pub mod Laws

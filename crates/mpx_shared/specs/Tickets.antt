@@ -1,5 +1,5 @@
 -- What the calls of a shared port tell of the port under its lock, at a moment of the call.
-use Rattle.std.specs.Prelude.{◌≡◌, ◌≢◌, ℕ, ℤ, List, length, Option, None, Some, Result, Ok, Err, IfOk, slice_get}
+use Rattle.std.specs.Prelude.{◌≡◌, ◌≢◌, ℕ, ℤ, List, [], ◌∷◌, ◌++◌, length, Option, None, Some, Result, Ok, Err, IfOk, slice_get}
 use Rattle.atomic_table.specs.Seated.{TableId}
 use Rattle.mpx_name.specs.Name.{Name}
 use Rattle.mpx_post.specs.Posts.{Given}
@@ -10,11 +10,12 @@ use Rattle.mpx_board.specs.Boards.{told}
 use Rattle.mpx_value.specs.Histories.{posts_on}
 use Rattle.mpx_node.specs.Nodes.{Opens, Posts, checked_on, gathers_on, results_on}
 use Rattle.mpx_bus.specs.declared.act.Setup.{Setup}
-use Rattle.mpx_bus.specs.Berths.{Berth, node_in}
+use Rattle.mpx_bus.specs.declared.act.Act.TheVariants as A
+use Rattle.mpx_bus.specs.Berths.{Berth, Goes, node_in}
 use Rattle.mpx_shared.specs.declared.ticket.Ticket.{Ticket}
 use Rattle.mpx_shared.specs.declared.ticket.Tested.{Tested}
 use Rattle.mpx_shared.specs.declared.ticket.Tested.TheVariants as T
-use Rattle.mpx_shared.specs.Docks.{IsDocked, made_in}
+use Rattle.mpx_shared.specs.Docks.{IsDocked, MakesNoPost, made_in}
 
 -- the number of the ticket's call, or the refusal
 abbrev pub call_of : Result Ticket PostError → Result ℕ PostError
@@ -25,7 +26,12 @@ call_of (Err refusal) = Err refusal
 abbrev pub IsTicketOf : Name → Result Given PostError → Result Ticket PostError → Type 0
 IsTicketOf name checked result = IfOk result (λ ticket. (ticket.name ≡ name) × (checked ≡ Ok ticket.post))
 
--- the port had made so many posts, and then made this one, or refused it
+-- the post stands in the journal as the one act of the call; a refusal leaves the port as it was
+abbrev pub PostsOne : Name → Draft → Result Ticket PostError → Berth → Berth → Type 0
+PostsOne name draft (Ok ticket) old new = new.journal ≡ old.journal ++ A.Posted name draft ∷ []
+PostsOne name draft (Err refusal) old new = new ≡ old
+
+-- the port had made so many posts, and then made this one and did nothing else, or refused it
 pub record PostsThen (table : TableId) (setup : Setup) (me count : ℕ) (name : Name) (draft : Draft) (result : Result Ticket PostError) : Type 0 where
   pub before : Berth
   pub after : Berth
@@ -34,6 +40,9 @@ pub record PostsThen (table : TableId) (setup : Setup) (me count : ℕ) (name : 
   pub counted : length (made_in before) ≡ count
   pub posts : Posts name (checked_on (node_in before) name draft) (call_of result) (node_in before) (node_in after)
   pub ticket : IsTicketOf name (checked_on (node_in before) name draft) result
+  pub goes : Goes before after
+  pub acts : PostsOne name draft result before after
+  pub kept : after.kept ≡ before.kept
 
 -- the post that the port made as the ticket's call, where it did
 abbrev pub own_post : Berth → Ticket → Option Given
@@ -52,13 +61,21 @@ pub record Answers (table : TableId) (setup : Setup) (me : ℕ) (ticket : Ticket
   pub docked : IsDocked table setup me port
   pub answer : IsAnswer port ticket tested
 
--- the port opened the gathering, or refused it
+-- the gathering stands in the journal as the one act of the call; a refusal leaves the port as it was
+abbrev pub GathersOne : Name → ℤ → List ℤ → Result Name PostError → Berth → Berth → Type 0
+GathersOne parent tag ranks (Ok name) old new = new.journal ≡ old.journal ++ A.Gathered parent tag ranks ∷ []
+GathersOne parent tag ranks (Err refusal) old new = new ≡ old
+
+-- the port opened the gathering and did nothing else, or refused it
 pub record OpensThen (table : TableId) (setup : Setup) (me : ℕ) (parent : Name) (tag : ℤ) (ranks : List ℤ) (result : Result Name PostError) : Type 0 where
   pub before : Berth
   pub after : Berth
   pub docked_before : IsDocked table setup me before
   pub docked_after : IsDocked table setup me after
   pub opens : Opens parent (gathers_on (node_in before) parent tag ranks) result (node_in before) (node_in after)
+  pub no_post : MakesNoPost before after
+  pub acts : GathersOne parent tag ranks result before after
+  pub kept : after.kept ≡ before.kept
 
 -- the port's board told how the communicator came to be, or didn't
 pub record TellsBirth (table : TableId) (setup : Setup) (me : ℕ) (name : Name) (birth : Option BirthView) : Type 0 where

@@ -1,24 +1,60 @@
-// What follows a pop: harvests, and prunings.
-ghost use Rattle.std.specs.Prelude.{◌≡◌};
+// What a pull does to a port: a pop with its take, then harvests, and prunings.
+ghost use Rattle.std.specs.Prelude.{◌≡◌, [], true, false, IfOk, OnOk, OnErr};
+ghost use Rattle.mpx_bus.specs.Berths.{KeepsPlan};
+ghost use Rattle.mpx_bus.specs.Buses.{table_of};
 ghost use Rattle.mpx_shared.specs.Docks.{MakesNoPost};
+ghost use Rattle.mpx_shared.specs.Gossip.{HarvestsAndPrunes, HarvestsNext, Pulls, Settles, WantsResult, has_next};
 
+use crate::ticket::Pull;
 use join_core::OutOfMemory;
-use mpx_bus::Port;
+use mpx_bus::{Bus, Pop, Port};
 use mpx_name::Name;
 use mpx_node::{Harvest, Node};
 use std::alloc::Global;
 use std::collections::BTreeSet;
+use std::sync::Wait;
+
+// Pops a frame and takes in its part; then harvests and prunes.
+pub(crate) fn pull_on<R: Wait>(
+    rt: &R,
+    alloc: Global,
+    bus: &Bus,
+    port: &mut Port,
+    contexts: &BTreeSet<Name>,
+) -> Pull
+    requires queue { port.old.table ≡ table_of bus.now }
+    requires plan { KeepsPlan port.old }
+    ensures port { MakesNoPost port.old port.new }
+    ensures pulls { Pulls result port.old port.new }
+{
+    let took = match bus.pop(rt, alloc, port) {
+        Pop::OutOfMemory(frame) => return Pull::OutOfMemory(Some(frame)),
+        Pop::Took(_) => true,
+        Pop::Empty => false,
+    };
+    if settle(alloc, port, contexts).is_err() {
+        return Pull::OutOfMemory(None);
+    }
+    if took { Pull::Took } else { Pull::Empty }
+}
 
 // Stores the results of the world and of these contexts, until no further one can be had, and drops the posts that every member has
 // harvested, as far as the board knows.
-pub(crate) fn settle(
-    alloc: Global,
-    port: &mut Port,
-    contexts: &BTreeSet<Name>,
-) -> Result<(), OutOfMemory>
-    ensures { MakesNoPost port.old port.new }
+fn settle(alloc: Global, port: &mut Port, contexts: &BTreeSet<Name>) -> Result<(), OutOfMemory>
+    ensures port { MakesNoPost port.old port.new }
+    ensures ok { OnOk result (Settles port.old port.new) }
+    ensures err { OnErr result (WantsResult port.old port.new) }
 {
-    settle_on(alloc, port, &Name::world(alloc))?;
+    let world = Name::world(alloc);
+    harvest_on(alloc, port, &world)?;
+    prune_on(port, &world);
+    settle_all(alloc, port, contexts)
+}
+
+fn settle_all(alloc: Global, port: &mut Port, contexts: &BTreeSet<Name>) -> Result<(), OutOfMemory>
+    ensures port { HarvestsAndPrunes port.old port.new }
+    ensures err { OnErr result (WantsResult port.old port.new) }
+{
     for name in contexts {
         settle_on(alloc, port, name)?;
     }
@@ -26,24 +62,39 @@ pub(crate) fn settle(
 }
 
 fn settle_on(alloc: Global, port: &mut Port, name: &Name) -> Result<(), OutOfMemory>
-    ensures { MakesNoPost port.old port.new }
+    ensures port { HarvestsAndPrunes port.old port.new }
+    ensures err { OnErr result (has_next port.new name.now ≡ true) }
 {
     harvest_on(alloc, port, name)?;
     prune_on(port, name);
     Ok(())
 }
 
-// Stores the results of one context: each of its posted calls is harvested at most once.
+// Stores the results of one context, until no further one can be had.
 fn harvest_on(alloc: Global, port: &mut Port, name: &Name) -> Result<(), OutOfMemory>
-    ensures { MakesNoPost port.old port.new }
+    ensures port { HarvestsAndPrunes port.old port.new }
+    ensures ok { OnOk result (has_next port.new name.now ≡ false) }
+    ensures err { OnErr result (has_next port.new name.now ≡ true) }
 {
     for _call in port.node().front(name)..port.node().posted(name) {
-        match port.harvest(alloc, name)? {
-            Harvest::Done(_) => {}
-            _ => return Ok(()),
+        if !harvest_next(alloc, port, name)? {
+            return Ok(());
         }
     }
     Ok(())
+}
+
+// Stores the next result of a context, and answers whether there was one.
+fn harvest_next(alloc: Global, port: &mut Port, name: &Name) -> Result<bool, OutOfMemory>
+    ensures port { HarvestsAndPrunes port.old port.new }
+    ensures next { IfOk result (λ had. HarvestsNext had name.now port.old port.new) }
+    ensures err { OnErr result (has_next port.new name.now ≡ true) }
+{
+    match port.harvest(alloc, name)? {
+        Harvest::Done(_) => Ok(true),
+        Harvest::NotYet => Ok(false),
+        Harvest::NotOpened => Ok(false),
+    }
 }
 
 // Whether the process is a member whose own front the dropped front has reached, which no floor passes.
@@ -52,7 +103,7 @@ fn has_none_to_drop(node: &Node, name: &Name, dropped: u32) -> bool {
 }
 
 fn prune_on(port: &mut Port, name: &Name)
-    ensures { MakesNoPost port.old port.new }
+    ensures { HarvestsAndPrunes port.old port.new }
 {
     let dropped = port.node().board().dropped(name);
     if has_none_to_drop(port.node(), name, dropped) {

@@ -7,13 +7,14 @@ ghost use Rattle.mpx_bus.specs.Buses.{table_of};
 ghost use Rattle.mpx_shared.specs.Docks.{IsDocked, IsNext, MakesNoPost, made_in};
 ghost use Rattle.mpx_shared.specs.Gossip.{Pulls};
 ghost use Rattle.mpx_shared.specs.Tickets.{Answers, OpensThen, PostsThen, TellsBirth, call_of};
+ghost use Rattle.mpx_shared.specs.Turns.{PullsThen, PutsThen};
 
 use crate::contexts::keep;
 use crate::dock::Dock;
-use crate::gossip::settle;
+use crate::gossip::pull_on;
 use crate::ticket::{Pull, Tested, Ticket, ticket_for};
 use join_core::{Exact, OutOfMemory};
-use mpx_bus::{Bus, Pop, Port, Push};
+use mpx_bus::{Bus, Port, Push};
 use mpx_group::Proc;
 use mpx_name::Name;
 use mpx_post::{Birth, Draft, PostError};
@@ -147,16 +148,13 @@ impl<L: Dock> Moored<L> {
         requires queue { table_of bus.now ≡ L.table }
         ensures port { MakesNoPost self.old.0 self.new.0 }
         ensures pulls { Pulls result self.old.0 self.new.0 }
+        ensures then { PullsThen L.table L.setup L.me result }
     {
-        let took = match bus.pop(rt, alloc, &mut self.port) {
-            Pop::OutOfMemory(frame) => return Pull::OutOfMemory(Some(frame)),
-            Pop::Took(_) => true,
-            Pop::Empty => false,
-        };
-        if settle(alloc, &mut self.port, &self.contexts).is_err() {
-            return Pull::OutOfMemory(None);
-        }
-        if took { Pull::Took } else { Pull::Empty }
+        // so that the proof knows that the port stands where its journal says, before and after
+        let _before = self.port.node();
+        let pull = pull_on(rt, alloc, bus, &mut self.port, &self.contexts);
+        let _after = self.port.node();
+        pull
     }
 
     /// Pushes the next frame of what others may lack.
@@ -165,8 +163,13 @@ impl<L: Dock> Moored<L> {
         ensures port { MakesNoPost self.old.0 self.new.0 }
         ensures next { IfOk result (λ push. PushesNext push self.old.0 self.new.0) }
         ensures err { OnErr result (WantsList self.old.0 self.new.0) }
+        ensures then { PutsThen L.table L.setup L.me result }
     {
-        bus.push_own(rt, alloc, &mut self.port, LIMIT)
+        // so that the proof knows that the port stands where its journal says, before and after
+        let _before = self.port.node();
+        let put = bus.push_own(rt, alloc, &mut self.port, LIMIT);
+        let _after = self.port.node();
+        put
     }
 
     /// The port, which has made as many posts as the share says.

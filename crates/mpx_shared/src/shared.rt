@@ -3,6 +3,7 @@ ghost use Rattle.std.specs.Prelude.{◌≡◌, ◌+◌, ◌<◌, length, IfOk, O
 ghost use Rattle.mpx_bus.specs.Buses.{table_of};
 ghost use Rattle.mpx_shared.specs.Docks.{IsDocked, IsNext, made_in};
 ghost use Rattle.mpx_shared.specs.Tickets.{Answers, OpensThen, PostsThen, TellsBirth};
+ghost use Rattle.mpx_shared.specs.Turns.{PullsThen, PutsThen, TurnsThen};
 
 use crate::dock::Dock;
 use crate::moored::Moored;
@@ -15,6 +16,7 @@ use mpx_post::{Birth, Draft, PostError};
 use std::alloc::Global;
 use std::sync::ledger::{Blank, Share};
 use std::sync::{Mutex, Wait};
+use std::thread::yield_now;
 
 /// A port under a lock. Each call takes the lock once, so that it speaks of the port at one moment.
 #[derive(Drop)]
@@ -107,6 +109,7 @@ impl<L: Dock> SharedPort<L> {
     /// Pops a frame and takes in its part; then stores the results that can be had, and drops what every member has harvested.
     pub fn pull<R: Wait>(&self, rt: &R, alloc: Global, bus: &Bus) -> Pull
         requires queue { table_of bus.now ≡ L.table }
+        ensures { PullsThen L.table L.setup L.me result }
     {
         self.moored.lock(rt).pull(rt, alloc, bus)
     }
@@ -114,11 +117,13 @@ impl<L: Dock> SharedPort<L> {
     /// Pushes the next frame of what others may lack.
     pub fn put<R: Wait>(&self, rt: &R, alloc: Global, bus: &Bus) -> Result<Push, OutOfMemory>
         requires queue { table_of bus.now ≡ L.table }
+        ensures { PutsThen L.table L.setup L.me result }
     {
         self.moored.lock(rt).put(rt, alloc, bus)
     }
 
-    /// So many times a pull and a put. It ends at the first want of memory.
+    /// So many times a pull and a put, each time with a yield to other threads behind: a thread that went on would meet its own frames
+    /// in the queue. It ends at the first want of memory.
     pub fn gossip<R: Wait>(
         &self,
         rt: &R,
@@ -127,12 +132,14 @@ impl<L: Dock> SharedPort<L> {
         turns: u32,
     ) -> Result<(), OutOfMemory>
         requires queue { table_of bus.now ≡ L.table }
+        ensures { TurnsThen L.table L.setup L.me turns result }
     {
-        for _ in 0..turns {
+        for _turn in 0..turns {
             if let Pull::OutOfMemory(_) = self.pull(rt, alloc, bus) {
                 return Err(OutOfMemory);
             }
             let _ = self.put(rt, alloc, bus)?;
+            yield_now();
         }
         Ok(())
     }

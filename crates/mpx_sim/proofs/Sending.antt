@@ -32,27 +32,7 @@ spelled_shown bytes v s = ap shown (decoded_again bytes v s)
 is_refused : (r : Result PartsView WireError) (e : WireError) → IsTrue (is_ok r) → r ≡ Err e → ⊥
 is_refused r e ok f = let none : false ≡ true = sym (ap is_ok f) ∙ ok in cc none
 
--- what is decoded is refused for want of memory alone
-pub only_memory : (e : WireError) (r : Result PartsView WireError) → IsTrue (is_ok r) → Refuses e r → (e ≡ E.OutOfMemory → ⊥) → ⊥
-only_memory E.OutOfMemory r ok f other = other refl
-only_memory E.TooLong r ok f other = is_refused r E.TooLong ok f
-only_memory E.BadMagic r ok f other = is_refused r E.BadMagic ok f
-only_memory E.BadVersion r ok f other = is_refused r E.BadVersion ok f
-only_memory E.ShortFrame r ok f other = is_refused r E.ShortFrame ok f
-only_memory (E.OutOfLimits at) r ok f other = is_refused r (E.OutOfLimits at) ok f
-only_memory (E.NotCanonical at) r ok f other = is_refused r (E.NotCanonical at) ok f
-
-pub has_frame : (v : PartsView) → length_told v ≤ 1048576 → is_too_long v ≡ true → ⊥
-has_frame v few long =
-    let l : suc most_bytes ≤ 1048576 = subst (λ b. cond b (suc most_bytes) (length (frame.spelling v)) ≤ 1048576) long few in
-    omega (arith, l)
-
 -- PARTS
-
-pub one_more_part : (frames : List Frame) (parts : List Board) (i : ℕ) (d : Board) (new : Frame) → i < length parts → map part_of frames ≡ map look (take i parts) → part_of new ≡ look (get_or parts i d)
-    → map part_of (frames ++ new ∷ []) ≡ map look (take (i + 1) parts)
-one_more_part frames parts i d new lt before is =
-    map-append part_of frames (new ∷ []) ∙ (λ j. before j ++ is j ∷ []) ∙ sym (map-append look (take i parts) (get_or parts i d ∷ [])) ∙ ap (map look) (sym (take_more parts i d lt))
 
 pub all_behind : {A B : Type 0} (f : A → B) (P : B → Type 0) (xs : List A) → All P (map f xs) → All (λ x. P (f x)) xs
 all_behind f P [] h = All-nil (λ x. P (f x))
@@ -61,9 +41,6 @@ all_behind f P (x ∷ xs) h = All-cons (λ y. P (f y)) x xs (All-head P (f x) (m
 -- what is so of each part is so of each frame that shows it
 pub all_same : {A B C : Type 0} (f : A → C) (g : B → C) (P : C → Type 0) (xs : List A) (ys : List B) → map f xs ≡ map g ys → All (λ y. P (g y)) ys → All (λ x. P (f x)) xs
 all_same f g P xs ys e h = all_behind f P xs (subst (All P) (sym e) (All-map P g ys h))
-
-pub shown_by : (found : Option Frame) (new : Frame) (b : Look) → found ≡ Some new → IfSome found (λ f. part_of f ≡ b) → part_of new ≡ b
-shown_by found new b e h = subst (λ x. IfSome x (λ f. part_of f ≡ b)) e h
 
 -- what was written at a place stands there
 pub set_at : {A : Type 0} (xs : List A) (p : ℕ) (x : A) → p < length xs → slice_get (set xs p x) p ≡ Some x

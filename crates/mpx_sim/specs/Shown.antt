@@ -1,11 +1,9 @@
 -- What the program's processes show.
 use Rattle.std.specs.Prelude.{◌≡◌, ℕ, List, [], Option, Some, Result, Ok, Err}
 use Rattle.std.specs.Option.{option_map}
-use Rattle.mpx_board.specs.Boards.{Look, empty}
-use Rattle.mpx_board.specs.Contexts.{look_of}
-use Rattle.mpx_board.specs.Parts.{PartsView}
-use Rattle.mpx_format.specs.declared.faults.WireError.{WireError}
+use Rattle.mpx_board.specs.Boards.{Look}
 use Rattle.mpx_format.specs.Decoding.{decoded}
+pub use Rattle.mpx_format.specs.Decoding.{shown}
 use Rattle.mpx_name.specs.Name.{Name}
 use Rattle.mpx_post.specs.declared.draft.PostError.{PostError}
 use Rattle.mpx_comm.specs.declared.comm.Comm.{Comm}
@@ -44,11 +42,6 @@ process_with r node = record { me = r.me; node = node; bound = names_of r.bound;
 
 abbrev pub process_of : Process → ProcessView
 process_of p = process_with (rank_of call_of p.rank) (node_of p.desk.desk.host)
-
--- what decoded bytes show
-abbrev pub shown : Result PartsView WireError → Look
-shown (Ok v) = look_of v
-shown (Err e) = empty
 
 -- the board that a frame's bytes spell
 abbrev pub part_of : Frame → Look

@@ -1,3 +1,4 @@
+// A frame on its way.
 ghost use Rattle.std.specs.Prelude.{is_ok, IsTrue};
 ghost use Rattle.mpx_format.specs.Decoding.{decoded};
 

@@ -1,3 +1,4 @@
+// How far a process has come with sending.
 ghost use Rattle.std.specs.Prelude.{◌≡◌, length, IfOk};
 
 use join_core::OutOfMemory;

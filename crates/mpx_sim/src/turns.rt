@@ -1,3 +1,4 @@
+// The turns of a run, and when it ends.
 ghost use Rattle.std.specs.Prelude.{◌≡◌, ◌<◌, ◌≤◌, ◌+◌, ◌++◌, ◌∷◌, [], ◌⊎◌, All, IfOk, OnOk, false, length, map, slice_get, true, List, Some, ℕ};
 ghost use Rattle.mpx_board.specs.Boards.{Look, join_all};
 ghost use Rattle.mpx_parts.specs.Facts.{OnlyFactsOf};

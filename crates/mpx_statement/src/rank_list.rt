@@ -1,3 +1,4 @@
+// Lists of ranks as a script has them.
 ghost use Rattle.std.specs.Prelude.{◌≡◌, IfOk};
 
 use join_core::OutOfMemory;

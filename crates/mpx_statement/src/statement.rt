@@ -1,3 +1,4 @@
+// Statements of a script, and the draft that each posts.
 ghost use Rattle.std.specs.Prelude.{◌≡◌, [], ◌∷◌, IfOk};
 ghost use Rattle.std.specs.Option.{option_copied, option_to_list};
 ghost use Rattle.mpx_statement.specs.Statements.{create_group_draft};

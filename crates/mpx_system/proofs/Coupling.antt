@@ -13,8 +13,7 @@ use Rattle.mpx_post.specs.declared.draft.Draft.{Draft}
 use Rattle.mpx_post.specs.declared.draft.PostError.{PostError}
 use Rattle.mpx_post.specs.declared.draft.PostError.TheVariants.{NotMember}
 use Rattle.mpx_board.specs.Boards.{told}
-use Rattle.mpx_value.specs.declared.outcomes.Outcome.{Outcome}
-use Rattle.mpx_value.specs.declared.outcomes.Outcome.TheVariants.{Nothing, Absent, Items, NewComm, Null, Fault}
+use Rattle.mpx_value.specs.declared.outcomes.Outcome.TheVariants.{NewComm}
 use Rattle.mpx_value.specs.Histories.{Answer, Made, answer_with, gathered, birth_of, posts_on, outcomes_by, Results, Within, results_of, value_for}
 use Rattle.mpx_node.specs.declared.finished.Finished.{Finished}
 use Rattle.mpx_node.specs.Nodes.{NodeView, OpenedView, opened_at_start, posted_by, posted_on, results_on, checked_by, checked_on, gathering_name, gathers_by, gathers_on, open_gathering_node}
@@ -25,7 +24,6 @@ use Rattle.mpx_world.proofs.Lists.{same_number, name_itself}
 use Rattle.mpx_world.proofs.Later.{Later, births_grow, later_happens, later_itself, later_then, made_happens}
 use Rattle.mpx_world.proofs.Truth.{told_agrees}
 use Rattle.mpx_world.proofs.Steps.{Holds, board_so, holds_happens, holds_start, at_here}
-use Rattle.mpx_world.proofs.Born.{gathered_there}
 use Rattle.mpx_world.proofs.Opened.{AllIn, gathering_opened, in_happens, in_start}
 use Rattle.mpx_statement.specs.declared.statement.Posting.{Posting}
 use Rattle.mpx_statement.specs.declared.statement.Question.{Question}
@@ -38,7 +36,7 @@ use Rattle.mpx_evaluation.specs.Ranks.{answered as answered_rank}
 use Rattle.mpx_evaluation.specs.Evaluation.{State, start, bound_at_start, world_of, statements_of, known, or_stay, goes_on, move, moves, IsReached}
 use Rattle.mpx_evaluation.specs.Evaluation.{history as history_of_ranks}
 use Rattle.mpx_evaluation.specs.Told.{CarriesOut, none}
-use Rattle.mpx_evaluation.proofs.Fronts.{append-nil}
+use Rattle.std.proofs.lemmas.List.{append-nil}
 use Rattle.mpx_evaluation.proofs.Steps.{heard, posted, started, told_at_once, turned_down, waited, step_asks, step_ends, step_hears, step_passes, step_posts, step_refused, step_starts, step_stays, step_waits}
 use Rattle.mpx_evaluation.proofs.Ways.{step-grows}
 use Rattle.mpx_evaluation.proofs.Ahead.{goes_on_cases}
@@ -46,6 +44,7 @@ use Rattle.mpx_evaluation.proofs.Ends.{goes_on-at}
 use Rattle.mpx_evaluation.proofs.Tells.{carries_out-grows, step-carries_out, carried_out-tell, each-me, each-bound, given_by, mapped_some, named-bound}
 use Rattle.mpx_system.specs.Systems.{System, node_births, node_tells, posts_bound, posts_gathered, posts_in, posts_of, Doing, Nets, Drives, does, does_all, MayDo, MayDoAll, start_system, TellsResults}
 use Rattle.mpx_system.specs.Running.{Tried, answered_on, communicator_in, known_to, name_of, names_in, tried, tried_gathered, tried_in, tried_post}
+use Rattle.mpx_value.proofs.Histories.{same_answer, gathered_there}
 
 -- WORLDS
 
@@ -56,15 +55,6 @@ pub record Upheld (w : WorldView) : Type 0 where
 
 pub upheld_happens : (w : WorldView) (h : Happening) → Upheld w → MayHappen w h → Upheld (happens w h)
 upheld_happens w h u m = record { holds = holds_happens w h u.holds m; in_all = in_happens w h u.holds m u.in_all }
-
--- births that are the same where a new communicator is told make the same answer
-same_answer : (f g : Name → Option BirthView) (outcome : Outcome) → ((new : Name) (size rank : ℕ) → outcome ≡ NewComm new size rank → f new ≡ g new) → answer_with f outcome ≡ answer_with g outcome
-same_answer f g Nothing h = refl
-same_answer f g Absent h = refl
-same_answer f g (Items items) h = refl
-same_answer f g (NewComm new size rank) h = ap (λ born. let a : Answer = record { outcome = NewComm new size rank; born = born } in a) (h new size rank refl)
-same_answer f g Null h = refl
-same_answer f g (Fault fault) h = refl
 
 opened_checks : (o : Option OpenedView) (birth : BirthView) (me : ℕ) (name : Name) (draft : Draft) → IsTrue (is_some o) → checked_by o (Some birth) me name draft ≡ checked birth me (at name (posted_by o)) draft
 opened_checks None birth me name draft e = cc e

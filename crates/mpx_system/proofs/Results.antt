@@ -6,7 +6,7 @@ use Rattle.std.proofs.lemmas.Option.{slice_get-map}
 use Rattle.std.proofs.lemmas.Bool.Decides.{nat_tests}
 use Rattle.mpx_node.specs.Nodes.{NodeView}
 use Rattle.mpx_board.specs.Boards.{Look}
-use Rattle.mpx_world.proofs.Lists.{slice_get-append, slice_get-push}
+use Rattle.mpx_world.proofs.Lists.{slice_get-push}
 use Rattle.mpx_world.proofs.Steps.{sound_of}
 use Rattle.mpx_statement.specs.declared.statement.Statement.{Statement}
 use Rattle.mpx_script.specs.ScriptView.{ScriptView}
@@ -24,6 +24,7 @@ use Rattle.mpx_system.specs.Systems.{System, IsOfHappenings}
 use Rattle.mpx_system.proofs.Happenings.{of_happenings}
 use Rattle.mpx_system.proofs.Coupling.{tells_results}
 use Rattle.mpx_system.proofs.Running.{coupled}
+use Rattle.mpx_post.proofs.Lists.{slice_get-append}
 
 -- LISTS
 

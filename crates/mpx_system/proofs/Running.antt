@@ -3,9 +3,9 @@ use Rattle.std.proofs.Common.{◌≡◌, ℕ, zero, suc, ◌+◌, ◌<◌, Bool,
 use Rattle.std.specs.Prelude.{slice_get, unwrap_or, Result, Ok, Err, OnOk, OnErr}
 use Rattle.std.specs.List.{All, items_where_true}
 use Rattle.std.proofs.lemmas.Grind.{get_or_picked}
-use Rattle.std.proofs.lemmas.List.{map-append, length-set}
+use Rattle.std.proofs.lemmas.List.{map-append, length-set, append-nil}
 use Rattle.std.proofs.lemmas.List.Elements.{All-push}
-use Rattle.std.proofs.lemmas.Option.{slice_get-map, slice_get-get_or, slice_get_within, same_Some}
+use Rattle.std.proofs.lemmas.Option.{slice_get-get_or, slice_get_within, same_Some}
 use Rattle.std.specs.Option.{option_map}
 use Rattle.std.specs.Str.{bytes_eq}
 use Rattle.join_core.specs.declared.memory.OutOfMemory.{OutOfMemory}
@@ -29,7 +29,7 @@ use Rattle.mpx_world.specs.declared.events.Event.TheVariants as E
 use Rattle.mpx_world.specs.declared.events.Cut.TheVariants as C
 use Rattle.mpx_world.specs.Worlds.{ProcessView, WorldView, stores, drops, takes, acknowledges, harvests, prunes, Happening, Harvests, Prunes, Sends, Takes, Acknowledges, at_process}
 use Rattle.mpx_world.specs.Worlds.{goes_on as goes_on_world}
-use Rattle.mpx_world.proofs.Lists.{slice_get-append, slice_get-push, slice_get-push_cases}
+use Rattle.mpx_world.proofs.Lists.{slice_get-push, slice_get-push_cases}
 use Rattle.mpx_world.proofs.Steps.{at_here}
 use Rattle.mpx_world.proofs.Reached.{may_happen}
 use Rattle.mpx_statement.specs.declared.statement.Posting.{Posting}
@@ -42,7 +42,6 @@ use Rattle.mpx_evaluation.specs.Ranks.{answered as answered_rank}
 use Rattle.mpx_evaluation.specs.Ranks.{Await, Bindings, Bound, NullCommunicator, Line, Local, Told, Refused, answers, awaited_by, bind, bound_by, doing, done, next_call, step, waited_lines}
 use Rattle.mpx_evaluation.specs.Transcripts.{line_text, outcome_text}
 use Rattle.mpx_evaluation.proofs.Ends.{goes_on-at}
-use Rattle.mpx_evaluation.proofs.Fronts.{append-nil}
 use Rattle.mpx_evaluation.proofs.Steps.{heard, posted, started, told_at_once, turned_down, waited, step_asks, step_hears, step_passes, step_posts, step_refused, step_starts}
 use Rattle.mpx_system.specs.Systems.{System, node_tells, posts_bound, posts_of, Doing, Nets, Drives, does, does_all, MayDo, MayDoAll, Leads, start_system}
 use Rattle.mpx_evaluation.specs.Standing.{WaitView, closed_all, or_new, binds, todo_of}
@@ -50,31 +49,9 @@ use Rattle.mpx_system.specs.Running.{RankView, Names, Tried, answered_on, are_he
 use Rattle.mpx_system.proofs.Coupling.{Couples, Driven, answered, answer_born, answer_same, attempt_at, attempts_same, couples_all, couples_start, driven, each_other, goes_on-other, not_same}
 use Rattle.mpx_evaluation.proofs.Standing.{binds_seen, named_behind, named_without_all}
 use Rattle.mpx_system.proofs.Waiting.{passing}
+use Rattle.mpx_post.proofs.Lists.{set_cases, set_twice, set_has, set_same, written, slice_get-append}
 
 -- LISTS
-
--- where a list was written, it has the new value; elsewhere what it had
-set_cases : {A : Type 0} (xs : List A) (i p : ℕ) (y x : A) (P : A → Type 0) → slice_get (set xs i y) p ≡ Some x → (p ≡ i → P y) → (slice_get xs p ≡ Some x → (p ≡ i → ⊥) → P x) → P x
-set_cases [] i p y x P e f g = cc e
-set_cases (z ∷ xs) zero zero y x P e f g = subst P (let q : y ≡ x = cc e in q) (f refl)
-set_cases (z ∷ xs) zero (suc p) y x P e f g = g e (λ q. omega (arith, q))
-set_cases (z ∷ xs) (suc i) zero y x P e f g = g e (λ q. omega (arith, q))
-set_cases (z ∷ xs) (suc i) (suc p) y x P e f g = set_cases xs i p y x P e (λ q. f (ap suc q)) (λ s q. g s (λ r. q (omega (arith, r))))
-
-set_twice : {A : Type 0} (xs : List A) (i : ℕ) (x y : A) → set (set xs i x) i y ≡ set xs i y
-set_twice [] i x y = refl
-set_twice (z ∷ xs) zero x y = refl
-set_twice (z ∷ xs) (suc i) x y = ap (λ ys. z ∷ ys) (set_twice xs i x y)
-
-set_has : {A : Type 0} (xs : List A) (i : ℕ) (x y : A) → slice_get xs i ≡ Some x → slice_get (set xs i y) i ≡ Some y
-set_has [] i x y e = cc e
-set_has (z ∷ xs) zero x y e = refl
-set_has (z ∷ xs) (suc i) x y e = set_has xs i x y e
-
-set_same : {A : Type 0} (xs : List A) (i : ℕ) (x : A) → slice_get xs i ≡ Some x → set xs i x ≡ xs
-set_same [] i x e = cc e
-set_same (z ∷ xs) zero x e = ap (λ y. y ∷ xs) (let q : x ≡ z = cc e in q)
-set_same (z ∷ xs) (suc i) x e = ap (λ ys. z ∷ ys) (set_same xs i x e)
 
 all_at : {A : Type 0} (P : A → Type 0) (xs : List A) (i : ℕ) (x : A) → slice_get xs i ≡ Some x → All P xs → P x
 all_at P xs i x e h =
@@ -504,22 +481,11 @@ lines_push text_of lines new line text e f = ap (map text_of) e ∙ map-append t
 
 -- THE CODE'S LISTS
 
-map_set : {A B : Type 0} (f : A → B) (xs : List A) (p : ℕ) (x : A) → map f (set xs p x) ≡ set (map f xs) p (f x)
-map_set f [] p x = refl
-map_set f (y ∷ xs) zero x = refl
-map_set f (y ∷ xs) (suc p) x = ap (λ zs. f y ∷ zs) (map_set f xs p x)
-
-pub written : {A B : Type 0} (f : A → B) (xs : List A) (p : ℕ) (x : A) → set (map f xs) p (f x) ≡ map f (set xs p x)
-written f xs p x = sym (map_set f xs p x)
-
 -- a write that leaves what f reads
 pub kept : {A B : Type 0} (f : A → B) (xs : List A) (p : ℕ) (d x : A) → p < length xs → f x ≡ f (get_or xs p d) → map f (set xs p x) ≡ map f xs
 kept f [] p d x l e = refl
 kept f (y ∷ ys) zero d x l e = ap (λ z. z ∷ map f ys) e
 kept f (y ∷ ys) (suc p) d x l e = ap (λ zs. f y ∷ zs) (kept f ys p d x (omega (arith, l)) e)
-
-pub element : {A B : Type 0} (f : A → B) (xs : List A) (p : ℕ) (d : A) → p < length xs → slice_get (map f xs) p ≡ Some (f (get_or xs p d))
-element f xs p d l = slice_get-map f xs p ∙ ap (option_map f) (slice_get-get_or xs p d l)
 
 -- a vector whose elements were lent has what was written there
 pub written_back : {A : Type 0} (len : ℕ) (old new : List A) → length new ≡ length old → length old ≡ len → take len (new ++ drop (length new) old) ≡ new

@@ -1,5 +1,5 @@
 -- What a wait comes to by what a node holds.
-use Rattle.std.proofs.Common.{◌≡◌, ℕ, zero, suc, ◌+◌, ◌<◌, Bool, true, false, cond, List, [], ◌∷◌, ◌++◌, length, map, drop, get_or, Option, Some, None, refl, sym, ap, ◌∙◌, arith}
+use Rattle.std.proofs.Common.{◌≡◌, ℕ, ◌+◌, Bool, true, false, cond, List, [], ◌∷◌, ◌++◌, map, Option, Some, None, refl, sym, ap, ◌∙◌}
 use Rattle.std.specs.Prelude.{◌&&◌, slice_get}
 use Rattle.std.specs.Option.{option_map}
 use Rattle.std.specs.Str.{bytes_eq}
@@ -46,14 +46,6 @@ held_first node opened word words h =
     let parts = both_true (is_held node (opened word)) (are_held node opened words) h in
     (parts.0, held_less node word opened words parts.1)
 
--- the next of the words that are left
-pub next_left : {A : Type 0} (xs : List A) (i : ℕ) (x : A) → i < length xs → x ≡ get_or xs i x → drop i xs ≡ x ∷ drop (i + 1) xs
-next_left [] i x l e = absurd (omega (arith, l))
-next_left (y ∷ xs) zero x l e = ap (λ z. z ∷ xs) (sym e)
-next_left (y ∷ xs) (suc i) x l e =
-    let more : suc (i + 1) ≡ suc i + 1 = omega arith in
-    next_left xs i x (omega (arith, l)) e ∙ ap (λ n. x ∷ drop n (y ∷ xs)) more
-
 -- what a wait for these words comes to: all its calls are answered, and its lines are these
 pub record Passing (r : Results) (requests : Requests) (words : List (List ℕ)) (lines : List (List ℕ)) : Type 0 where
   pub told : List Answer
@@ -89,10 +81,3 @@ module _ (node : NodeView) where
   passing (word ∷ words) opened requests same h =
       let held = held_first node opened word words h in
       passing_first opened requests word words same held.0 (passing words (closed word opened) (without word requests) (are_closed word opened requests same) held.1) (named requests word) refl
-
--- one word more
-pub held_last : (node : NodeView) (opened : Open) (words : List (List ℕ)) (word : List ℕ) → are_held node opened words ≡ true → is_held node (opened word) ≡ true → are_held node opened (words ++ word ∷ []) ≡ true
-held_last node opened [] word h e = together (is_held node (opened word)) true e refl
-held_last node opened (x ∷ xs) word h e =
-    let parts = both_true (is_held node (opened x)) (are_held node opened xs) h in
-    together (is_held node (opened x)) (are_held node opened (xs ++ word ∷ [])) parts.0 (held_last node opened xs word parts.1 e)

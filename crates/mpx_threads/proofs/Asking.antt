@@ -31,10 +31,6 @@ module _ (table : TableId) (setup : Setup) (me : ℕ) (planned : setup.planned �
   pub born_so : (name : Name) (birth : BirthView) → TellsBirth table setup me name (Some birth) → planned_birth setup name ≡ Some birth
   born_so name birth tells = P.planned_birth setup name birth planned (docked_birth table setup me tells.port name birth tells.docked tells.told)
 
--- an answer with a result's outcome is the plan's
-pub answer_so : (setup : Setup) (me : ℕ) (name : Name) (call : ℕ) (f : Finished) (answer : Answer) → IsPlannedResult setup me name call f → answer ≡ answer_with (planned_birth setup) f.outcome → planned_results setup me name call ≡ Some answer
-answer_so setup me name call f answer is e = is.result ∙ ap Some (sym e)
-
 -- a communicator that was born so
 pub comm_so : (setup : Setup) (outcome : Outcome) (new : Name) (size rank : ℕ) (birth : BirthView) → outcome ≡ NewComm new size rank → planned_birth setup new ≡ Some birth → answer_of (record { outcome = outcome; born = Some birth }) ≡ answer_with (planned_birth setup) outcome
 comm_so setup outcome new size rank birth e born = subst (λ o. answer_of (record { outcome = o; born = Some birth }) ≡ answer_with (planned_birth setup) o) (sym e) (λ i. record { outcome = NewComm new size rank; born = sym born i })

@@ -183,12 +183,13 @@ module _ (script : ScriptView) (relays : ℕ) (setup : Setup) (plan : Plans scri
 
 -- before its statements a rank stands at the start of its script
 pub stands_first : (script : ScriptView) (me : ℕ) (r : RankView CommunicatorView) → ((word : List ℕ) → r.bound word ≡ bound_first (Some ([], world_of script.ranks)) word) → ((word : List ℕ) → r.requests word ≡ None)
-    → r.todo ≡ statements_of script.statements me → r.waits ≡ None → r.lines ≡ [] → Stands r (start script.statements script.ranks me)
-stands_first script me r bound requests todo waits lines = record {
+    → r.todo ≡ statements_of script.statements me → r.waits ≡ None → r.lines ≡ [] → r.origins ≡ [] → Stands r (start script.statements script.ranks me)
+stands_first script me r bound requests todo waits lines origins = record {
   bound = λ word. ap (option_map bound_as) (bound word) ∙ by_test word (bytes_eq word (codes "world"));
   requests = requests;
   todo = ap doing (sym todo) ∙ ap (λ w. todo_of w r.todo) (sym waits);
   lines = lines;
+  origins = origins;
 } where
   by_test : (word : List ℕ) (b : Bool) → option_map bound_as (cond b (Some (Some ([], world_of script.ranks))) None) ≡ (if b then Some (Communicator [] (world_of script.ranks)) else None)
   by_test word true = refl

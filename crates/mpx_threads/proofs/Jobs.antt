@@ -14,8 +14,11 @@ use Rattle.mpx_shared.proofs.Docked.{new_docked, new_none}
 use Rattle.mpx_script.specs.ScriptView.{ScriptView}
 use Rattle.mpx_threads.specs.declared.worker.Job.{Job}
 use Rattle.mpx_threads.specs.declared.worker.Worked.{Worked}
+use Rattle.mpx_threads.specs.declared.gate.Step.{Step}
+use Rattle.mpx_threads.specs.declared.gossip.GossipEnd.TheVariants.{GaveUp}
+use Rattle.mpx_threads.specs.Gates.{GivesUpAmong, GivesUpWithin}
 use Rattle.mpx_threads.specs.Plans.{Plans}
-use Rattle.mpx_threads.specs.Work.{AreJobs, AreReady, AreWorked, IsReady, IsWorked}
+use Rattle.mpx_threads.specs.Work.{AreGivenUpBy, AreJobs, AreReady, AreWorked, IsReady, IsWorked, gossip_at}
 
 within_get : {A : Type 0} (xs : List A) (k : ℕ) (x : A) → slice_get xs k ≡ Some x → k < length xs
 within_get [] k x e = cc e
@@ -70,7 +73,7 @@ pub ready_at : (script : ScriptView) (relays : ℕ) (setup : Setup) (table : Tab
 ready_at script relays setup table jobs are i j e = let at = are.each i j e in subst (λ u. IsReady script relays u table j) (sym at.1.1) at.1.0
 
 -- all have worked
-pub are_worked : (script : ScriptView) (relays : ℕ) (setup : Setup) (table : TableId) (jobs : List Job) (ws : List Worked) → AreReady script relays setup table jobs → length ws ≡ length jobs
+are_worked : (script : ScriptView) (relays : ℕ) (setup : Setup) (table : TableId) (jobs : List Job) (ws : List Worked) → AreReady script relays setup table jobs → length ws ≡ length jobs
     → ((i : ℕ) (w : Worked) → slice_get ws i ≡ Some w → (j : Job) × ((slice_get jobs i ≡ Some j) × IsWorked script relays j.port.setup table j.me w)) → AreWorked script relays setup table ws
 are_worked script relays setup table jobs ws are count each = record {
   plan = are.plan;
@@ -87,15 +90,36 @@ read_back [] i x e = cc e
 read_back (y ∷ xs) zero x e = same_Some y x e
 read_back (y ∷ xs) (suc i) x e = read_back xs i x e
 
--- the same by what each thread gave
+-- what each thread gave is so of its job
+of_its_job : (Q : Job → Worked → Type 0) (jobs : List Job) (rs : List (Result Worked OutOfMemory)) (ws : List Worked) → length rs ≡ length jobs
+    → ((i : ℕ) (d : Result Worked OutOfMemory) → i < length jobs → (j : Job) × ((j ≡ slice_index_or jobs i j) × IfOk (slice_index_or rs i d) (Q j)))
+    → map Ok ws ≡ rs → (i : ℕ) (w : Worked) → slice_get ws i ≡ Some w → (j : Job) × ((slice_get jobs i ≡ Some j) × Q j w)
+of_its_job Q jobs rs ws count each all i w e =
+    let at : slice_get rs i ≡ Some (Ok w) = ap (λ xs. slice_get xs i) (sym all) ∙ slice_get-map Ok ws i ∙ ap (option_map Ok) e in
+    let less : i < length jobs = subst (λ n. i < n) (sym (length-map ws Ok) ∙ ap length all ∙ count) (within_get ws i w e) in
+    let found = each i (Ok w) less in
+    let read : slice_index_or rs i (Ok w) ≡ Ok w = read_back rs i (Ok w) at in
+    (found.0, (read_at jobs i found.0 less found.1.0, subst (λ r. IfOk r (Q found.0)) read found.1.1))
+
+-- so all have worked
 pub worked_all : (script : ScriptView) (relays : ℕ) (setup : Setup) (table : TableId) (jobs : List Job) (rs : List (Result Worked OutOfMemory)) (ws : List Worked) → AreReady script relays setup table jobs → length rs ≡ length jobs
     → ((i : ℕ) (d : Result Worked OutOfMemory) → i < length jobs → (j : Job) × ((j ≡ slice_index_or jobs i j) × IfOk (slice_index_or rs i d) (λ w. IsWorked script relays j.port.setup table j.me w)))
     → map Ok ws ≡ rs → AreWorked script relays setup table ws
-worked_all script relays setup table jobs rs ws are count each all = are_worked script relays setup table jobs ws are same (λ i w e.
-    let at : slice_get rs i ≡ Some (Ok w) = ap (λ xs. slice_get xs i) (sym all) ∙ slice_get-map Ok ws i ∙ ap (option_map Ok) e in
-    let less : i < length jobs = subst (λ n. i < n) same (within_get ws i w e) in
-    let found = each i (Ok w) less in
-    let read : slice_index_or rs i (Ok w) ≡ Ok w = read_back rs i (Ok w) at in
-    (found.0, (read_at jobs i found.0 less found.1.0, subst (λ r. IfOk r (λ v. IsWorked script relays found.0.port.setup table found.0.me v)) read found.1.1))) where
-      same : length ws ≡ length jobs
-      same = sym (length-map ws Ok) ∙ ap length all ∙ count
+worked_all script relays setup table jobs rs ws are count each all =
+    are_worked script relays setup table jobs ws are (sym (length-map ws Ok) ∙ ap length all ∙ count) (of_its_job (λ j w. IsWorked script relays j.port.setup table j.me w) jobs rs ws count each all)
+
+-- and each of their gossips that ended for the gate ended at a step at which that gives up
+pub given_up_all : (gives_up : ℕ → Step → ℕ → Type 0) (turns : ℕ) (script : ScriptView) (relays : ℕ) (setup : Setup) (table : TableId) (jobs : List Job) (rs : List (Result Worked OutOfMemory)) (ws : List Worked) → AreReady script relays setup table jobs → length rs ≡ length jobs
+    → ((i : ℕ) (d : Result Worked OutOfMemory) → i < length jobs → (j : Job) × ((j ≡ slice_index_or jobs i j) × IfOk (slice_index_or rs i d) (λ w. w.gossip ≡ GaveUp → GivesUpWithin gives_up j.me turns)))
+    → map Ok ws ≡ rs → AreGivenUpBy gives_up turns ws
+given_up_all gives_up turns script relays setup table jobs rs ws are count each all = λ i w e gave.
+    let found = of_its_job (λ j w. w.gossip ≡ GaveUp → GivesUpWithin gives_up j.me turns) jobs rs ws count each all i w e in
+    subst (λ k. GivesUpWithin gives_up k turns) (are.each i found.0 found.1.0).0 (found.1.1 gave)
+
+-- a gossip that ended for the gate is that of one of them
+pub gave_up_among : (gives_up : ℕ → Step → ℕ → Type 0) (processes turns : ℕ) (ws : List Worked) → AreGivenUpBy gives_up turns ws → length ws ≡ processes
+    → (p : ℕ) → gossip_at (slice_get ws p) ≡ Some GaveUp → GivesUpAmong gives_up processes turns
+gave_up_among gives_up processes turns ws given count p e = by_process (slice_get ws p) refl e where
+  by_process : (o : Option Worked) → slice_get ws p ≡ o → gossip_at o ≡ Some GaveUp → GivesUpAmong gives_up processes turns
+  by_process None at e = cc e
+  by_process (Some w) at e = (p, (subst (λ n. p < n) count (within_get ws p w at), given p w at (same_Some w.gossip GaveUp e)))

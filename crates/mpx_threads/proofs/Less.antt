@@ -9,7 +9,7 @@ use Rattle.mpx_statement.specs.declared.statement.Statement.{Statement}
 use Rattle.mpx_statement.specs.Lookups.{named}
 use Rattle.mpx_evaluation.specs.Ranks.{Bindings, Line, Local, Requests, Told, answers, awaited_by, awaited_then, line_then, next_call, waited_lines, without}
 use Rattle.mpx_evaluation.specs.Told.{CarriesOut, Passes, accepted, asked, none, refused, started, waited}
-use Rattle.mpx_evaluation.proofs.Fronts.{slice_get-append}
+use Rattle.mpx_post.proofs.Lists.{slice_get-append}
 
 -- what follows has a place behind
 behind : {A : Type 0} (xs ys : List A) (k : ℕ) (x : A) → slice_get ys k ≡ Some x → (j : ℕ) × (slice_get (xs ++ ys) j ≡ Some x)

@@ -105,9 +105,6 @@ module _ (script : ScriptView) (relays : ℕ) (setup : Setup) (plan : Plans scri
   pub posts_are : (p : ℕ) → planned_posts setup p ≡ (plan.end p).made
   posts_are p = ap (λ (u : Setup). planned_posts u p) plan.setup_is ∙ posts_by p
 
-  pub relays_plan_nothing : (p : ℕ) → script.ranks ≤ p → planned_posts setup p ≡ []
-  relays_plan_nothing p past = posts_are p ∙ made_past p past
-
   pub history_is : plan_history setup ≡ history plan.end
   history_is = λ i. history_of (λ p. posts_are p i)
 
@@ -139,11 +136,3 @@ take_whole (suc n) (x ∷ xs) e = ap (λ l. x ∷ l) (take_whole n xs (omega (ar
 
 abbrev pub end_of : ScriptView → State
 end_of script = (eval_of (take script.ranks script.statements) script.ranks (take_few script.ranks script.statements)).0
-
-pub plans_end : (script : ScriptView) (relays : ℕ) → length script.statements ≡ script.ranks → Plans script relays (setup_by script.ranks relays (end_of script))
-plans_end script relays counted = record {
-  counted = counted;
-  end = end_of script;
-  evaluation = subst (λ xs. IsEvaluation xs script.ranks (end_of script)) (take_whole script.ranks script.statements counted) (eval_of (take script.ranks script.statements) script.ranks (take_few script.ranks script.statements)).1;
-  setup_is = refl;
-}

@@ -15,7 +15,7 @@ use Rattle.mpx_board.specs.Boards.{told}
 use Rattle.mpx_value.specs.Histories.{Made, birth_of, gathered, posts_on}
 use Rattle.mpx_node.specs.Nodes.{NodeView, OpenedView, Opens, Posts, checked_by, checked_on, gathering_name, gathers_by, gathers_on, posted_by, posted_on}
 use Rattle.mpx_world.specs.Worlds.{ProcessView}
-use Rattle.mpx_world.proofs.Born.{gathered_there}
+use Rattle.mpx_value.proofs.Histories.{gathered_there}
 use Rattle.mpx_world.proofs.Steps.{Good}
 use Rattle.mpx_bus.specs.declared.act.Setup.{Setup}
 use Rattle.mpx_bus.specs.Rule.{planned_posts, world_of}

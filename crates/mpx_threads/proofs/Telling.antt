@@ -24,13 +24,6 @@ so_more known ts t so e i u f = elim (slice_get-parts ts (t ∷ []) i u f) [ inl
   last zero g = subst (λ (v : ToldCall). known v.name v.call ≡ Some (answer_of v.answered)) (same_Some t u g) e
   last (suc j) g = cc g
 
--- and one more is held
-pub held_more : (node : NodeView) (ts : List ToldCall) (t : ToldCall) → AllHeld node ts → IsTrue (is_some (slice_get (results_on node t.name) t.call)) → AllHeld node (ts ++ t ∷ [])
-held_more node ts t held e i u f = elim (slice_get-parts ts (t ∷ []) i u f) [ inl old ↦ held i u old | inr new ↦ last new.0 new.1 ] where
-  last : (j : ℕ) → slice_get (t ∷ []) j ≡ Some u → IsTrue (is_some (slice_get (results_on node u.name) u.call))
-  last zero g = subst (λ (v : ToldCall). IsTrue (is_some (slice_get (results_on node v.name) v.call))) (same_Some t u g) e
-  last (suc j) g = cc g
-
 -- the last of them is among them; and so is each
 pub among_parts : (xs ys : List ToldCall) (name : Name) (call : ℕ) → is_among (xs ++ ys) name call ≡ (is_among xs name call || is_among ys name call)
 among_parts [] ys name call = refl
@@ -47,9 +40,6 @@ or_true : (a b : Bool) → b ≡ true → (a || b) ≡ true
 or_true true b e = refl
 or_true false b e = e
 
-pub among_not : (xs : List ToldCall) (t : ToldCall) (name : Name) (call : ℕ) → is_among xs name call ≡ false → is_at name call t ≡ false → is_among (xs ++ t ∷ []) name call ≡ false
-among_not xs t name call e f = among_parts xs (t ∷ []) name call ∙ or_false (is_among xs name call) (is_at name call t || false) e (or_false (is_at name call t) false f refl)
-
 -- what was just added is told
 pub told_last : (known : Results) (ts : List ToldCall) (t : ToldCall) (name : Name) (call : ℕ) (answer : Answer) → is_at name call t ≡ true → known name call ≡ Some answer → told_of known (ts ++ t ∷ []) name call ≡ Some answer
 told_last known ts t name call answer e f =
@@ -59,9 +49,6 @@ told_last known ts t name call answer e f =
 -- what is among them is told, and what isn't isn't
 pub told_there : (known : Results) (ts : List ToldCall) (name : Name) (call : ℕ) (answer : Answer) → is_among ts name call ≡ true → known name call ≡ Some answer → told_of known ts name call ≡ Some answer
 told_there known ts name call answer e f = ap (λ b. cond b (known name call) None) e ∙ f
-
-pub told_not : (known : Results) (ts : List ToldCall) (name : Name) (call : ℕ) → is_among ts name call ≡ false → told_of known ts name call ≡ None
-told_not known ts name call e = ap (λ b. cond b (known name call) None) e
 
 -- a call is at its own place
 pub at_same : (name : Name) (call : ℕ) (t : ToldCall) → t.name ≡ name → t.call ≡ call → is_at name call t ≡ true

@@ -2,3 +2,4 @@ pub mod Plans
 pub mod Told
 pub mod Work
 pub mod Runs
+pub mod Gates

@@ -17,6 +17,10 @@ use Rattle.mpx_rank.specs.Carriers.{outcomes_of}
 use Rattle.mpx_threads.specs.declared.told.ToldCall.{ToldCall}
 use Rattle.mpx_threads.specs.declared.worker.Worked.{Worked}
 use Rattle.mpx_threads.specs.declared.worker.Job.{Job}
+use Rattle.mpx_threads.specs.declared.gate.Step.{Step}
+use Rattle.mpx_threads.specs.declared.gossip.GossipEnd.{GossipEnd}
+use Rattle.mpx_threads.specs.declared.gossip.GossipEnd.TheVariants.{GaveUp}
+use Rattle.mpx_threads.specs.Gates.{GivesUpWithin}
 use Rattle.mpx_threads.specs.Plans.{Plans, planned_results}
 use Rattle.mpx_threads.specs.Runs.{IsDone}
 use Rattle.mpx_threads.specs.Told.{first_posts, told_of}
@@ -75,3 +79,12 @@ pub record AreWorked (script : ScriptView) (relays : ℕ) (setup : Setup) (table
 abbrev pub waits_at : Option Worked → Bool
 waits_at None = false
 waits_at (Some w) = w.waits
+
+-- how the gossip of this process ended
+abbrev pub gossip_at : Option Worked → Option GossipEnd
+gossip_at None = None
+gossip_at (Some w) = Some w.gossip
+
+-- where a process's gossip ended for the gate, that gives up at one of its first so many steps of some kind
+abbrev pub AreGivenUpBy : (ℕ → Step → ℕ → Type 0) → (turns : ℕ) → List Worked → Type 0
+AreGivenUpBy gives_up turns ws = (i : ℕ) (w : Worked) → slice_get ws i ≡ Some w → w.gossip ≡ GaveUp → GivesUpWithin gives_up i turns

@@ -1,4 +1,6 @@
 //! Who may stop a run, and at which step of which process.
+ghost use Rattle.std.specs.Prelude.{◌≡◌};
+
 use mpx_group::Proc;
 
 /// A step of a process at the bus.
@@ -20,10 +22,18 @@ pub enum Pass {
 }
 
 /// It is asked before each step of each process at the bus, by the process's own thread, which holds no lock then. So a gate that waits
-/// holds that process back, and one that gives up ends the run.
+/// holds that process back, and one that gives up ends the run. Its contract says where it may give up, and by what a run promises no
+/// run is told to have been given up elsewhere.
 pub trait Gate {
+    ghost use Rattle.std.specs.Prelude.{ℕ};
+    ghost use Rattle.mpx_threads.specs.declared.gate.Step.{Step};
+
+    /// At which of a process's steps of a kind, by its number from 0, the gate may give up.
+    ghost gives_up: { Self → ℕ → Step → ℕ → Type 0 };
+
     /// `nth` counts the process's steps of this kind, from 0.
-    fn pass(&self, process: Proc, step: Step, nth: u64) -> Pass;
+    fn pass(&self, process: Proc, step: Step, nth: u64) -> Pass
+        ensures { result ≡ Pass.GiveUp → gives_up self.now process step nth };
 }
 
 /// A gate that lets each step pass.
@@ -31,6 +41,10 @@ pub trait Gate {
 pub struct OpenGate;
 
 impl Gate for OpenGate {
+    ghost use Rattle.mpx_threads.specs.Gates.{nowhere};
+
+    ghost gives_up = { λ _gate. nowhere };
+
     fn pass(&self, _process: Proc, _step: Step, _nth: u64) -> Pass {
         Pass::Go
     }

@@ -1,11 +1,12 @@
 //! The gossip of one process: it takes frames out of the queue and puts its own in.
-ghost use Rattle.std.specs.Prelude.{◌≡◌};
+ghost use Rattle.std.specs.Prelude.{◌≡◌, IfOk};
 ghost use Rattle.mpx_bus.specs.Buses.{table_of};
+ghost use Rattle.mpx_threads.specs.Gates.{GivesUpAt, GivesUpWithin};
 
 use crate::gate::{Gate, Pass, Step};
 use crate::watch::{Signal, Watch};
 use join_core::OutOfMemory;
-use mpx_bus::{Bus, Push};
+use mpx_bus::Bus;
 use mpx_group::Proc;
 use mpx_shared::{Dock, Pull, SharedPort};
 use std::alloc::Global;
@@ -24,8 +25,17 @@ pub(crate) struct Bench<'a, G> {
     pub(crate) turns: u32,
 }
 
-/// Gossips until nobody needs it more, a gate gives up, memory is wanting, or all turns are made. It tells the rank at its end, and
-/// answers whether memory was enough.
+/// How a gossip ended.
+#[derive(Clone, Copy, Debug, Drop, PartialEq, Eq)]
+pub(crate) enum GossipEnd {
+    /// Nobody needed it more, or all its turns were made.
+    Over,
+    /// The gate gave up at one of its own steps.
+    GaveUp,
+}
+
+/// Gossips until nobody needs it more, the gate gives up, memory is wanting, or all turns are made. It tells the rank at its end, and the
+/// run to stop where it ended for the gate or for memory.
 pub(crate) fn gossip<L: Dock, G: Gate, R: Wait>(
     rt: &R,
     alloc: Global,
@@ -33,15 +43,18 @@ pub(crate) fn gossip<L: Dock, G: Gate, R: Wait>(
     me: Proc,
     port: &SharedPort<L>,
     signal: &Signal,
-) -> bool
+) -> Result<GossipEnd, OutOfMemory>
     requires { table_of bench.now.bus.now ≡ L.table }
+    ensures { IfOk result (λ end. end ≡ GossipEnd.GaveUp → GivesUpWithin (G.gives_up bench.now.gate.now) me bench.now.turns) }
 {
     let gossiped = make_turns(rt, alloc, bench, me, port, signal);
-    if gossiped.is_err() {
-        bench.watch.stop();
+    match gossiped {
+        Ok(GossipEnd::Over) => {}
+        Ok(GossipEnd::GaveUp) => bench.watch.stop(),
+        Err(OutOfMemory) => bench.watch.stop(),
     }
     signal.end();
-    gossiped.is_ok()
+    gossiped
 }
 
 fn make_turns<L: Dock, G: Gate, R: Wait>(
@@ -51,22 +64,24 @@ fn make_turns<L: Dock, G: Gate, R: Wait>(
     me: Proc,
     port: &SharedPort<L>,
     signal: &Signal,
-) -> Result<(), OutOfMemory>
+) -> Result<GossipEnd, OutOfMemory>
     requires { table_of bench.now.bus.now ≡ L.table }
+    ensures { IfOk result (λ end. end ≡ GossipEnd.GaveUp → GivesUpWithin (G.gives_up bench.now.gate.now) me bench.now.turns) }
 {
     for nth in 0..bench.turns {
         if bench.watch.is_over(bench.ranks) {
-            return Ok(());
+            return Ok(GossipEnd::Over);
         }
-        if !turn(rt, alloc, bench, me, port, signal, nth)? {
-            bench.watch.give_up();
-            return Ok(());
+        match turn(rt, alloc, bench, me, port, signal, nth)? {
+            Pass::Go => {}
+            Pass::GiveUp => return Ok(GossipEnd::GaveUp),
         }
     }
-    Ok(())
+    Ok(GossipEnd::Over)
 }
 
-// A frame out, and one in. It answers whether the gate let both pass.
+// A frame out, and one in, as far as the gate lets them pass; then the other threads have their turn, since a thread that goes on meets
+// its own frames in the queue.
 fn turn<L: Dock, G: Gate, R: Wait>(
     rt: &R,
     alloc: Global,
@@ -75,28 +90,33 @@ fn turn<L: Dock, G: Gate, R: Wait>(
     port: &SharedPort<L>,
     signal: &Signal,
     nth: u32,
-) -> Result<bool, OutOfMemory>
+) -> Result<Pass, OutOfMemory>
     requires { table_of bench.now.bus.now ≡ L.table }
+    ensures { IfOk result (λ pass. pass ≡ Pass.GiveUp → GivesUpAt (G.gives_up bench.now.gate.now) me nth) }
 {
-    if !passes(bench.gate, me, Step::Pop, nth) {
-        return Ok(false);
+    match ask(bench.gate, me, Step::Pop, nth) {
+        Pass::Go => {}
+        Pass::GiveUp => return Ok(Pass::GiveUp),
     }
     let pulled = port.pull(rt, alloc, bench.bus);
     signal.tell();
     match pulled {
         Pull::OutOfMemory(_) => return Err(OutOfMemory),
-        Pull::Empty => yield_now(),
+        Pull::Empty => {}
         Pull::Took => {}
     }
-    if !passes(bench.gate, me, Step::Push, nth) {
-        return Ok(false);
+    match ask(bench.gate, me, Step::Push, nth) {
+        Pass::Go => {}
+        Pass::GiveUp => return Ok(Pass::GiveUp),
     }
-    if let Push::Full(_) = port.put(rt, alloc, bench.bus)? {
-        yield_now();
-    }
-    Ok(true)
+    let _ = port.put(rt, alloc, bench.bus)?;
+    yield_now();
+    Ok(Pass::Go)
 }
 
-fn passes<G: Gate>(gate: &G, me: Proc, step: Step, nth: u32) -> bool {
-    gate.pass(me, step, u64::from(nth)) == Pass::Go
+// What the gate says to a step.
+fn ask<G: Gate>(gate: &G, me: Proc, step: Step, nth: u32) -> Pass
+    ensures { result ≡ Pass.GiveUp → GivesUpAt (G.gives_up gate.now) me nth }
+{
+    gate.pass(me, step, u64::from(nth))
 }

@@ -1,17 +1,18 @@
 //! A run in threads: its bus, its processes, and what they come to.
-ghost use Rattle.std.specs.Prelude.{◌≡◌, ◌+◌, ◌++◌, ◌∷◌, ◌<◌, ◌≤◌, [], cond, IfOk, Ok, OnOk, length, map, slice_get, string_bytes};
+ghost use Rattle.std.specs.Prelude.{◌≡◌, ◌+◌, ◌++◌, ◌∷◌, ◌<◌, ◌≤◌, [], ℕ, cond, IfErr, IfOk, IsTrue, Ok, OnOk, Some, length, map, slice_get, string_bytes};
 ghost use Rattle.mpx_evaluation.specs.Evaluation.{State, IsEvaluation};
 ghost use Rattle.mpx_evaluation.specs.Reports.{transcripts_of, which};
 ghost use Rattle.mpx_system.specs.Runs.{AreWhole, Begin};
 ghost use Rattle.mpx_bus.specs.Buses.{table_of};
 ghost use Rattle.mpx_bus.specs.declared.act.Setup.{Setup};
 ghost use Rattle.mpx_threads.specs.declared.worker.Worked.{Worked as WorkedView};
+ghost use Rattle.mpx_threads.specs.Gates.{GivesUpAmong, GivesUpWithin};
 ghost use Rattle.mpx_threads.specs.Plans.{Plans};
 ghost use Rattle.mpx_threads.specs.Runs.{IsThreadRun};
-ghost use Rattle.mpx_threads.specs.Work.{AreJobs, AreReady, AreWorked, IsReady, IsWorked, lines_in, waits_at};
+ghost use Rattle.mpx_threads.specs.Work.{AreGivenUpBy, AreJobs, AreReady, AreWorked, IsReady, IsWorked, gossip_at, lines_in, waits_at};
 
 use crate::gate::Gate;
-use crate::gossip::Bench;
+use crate::gossip::{Bench, GossipEnd};
 use crate::watch::Watch;
 use crate::worker::{Job, Worked, work};
 use join_core::OutOfMemory;
@@ -48,6 +49,10 @@ pub enum ThreadsError {
 }
 
 impl From<OutOfMemory> for ThreadsError {
+    ghost use Rattle.mpx_threads.specs.declared.run.ThreadsError.TheVariants.{OutOfMemory};
+
+    ghost from_gives = { λ _ e. e ≡ OutOfMemory };
+
     fn from(_e: OutOfMemory) -> ThreadsError {
         ThreadsError::OutOfMemory
     }
@@ -60,7 +65,8 @@ impl From<OutOfMemory> for ThreadsError {
 /// with ranks that wait.
 ///
 /// # Errors
-/// `OutOfMemory` where memory was wanting in some thread; `GateGaveUp` where the gate gave up. All threads have ended then.
+/// `OutOfMemory` where memory was wanting in some thread; `GateGaveUp` where the gate gave up at some process's own step. All threads
+/// have ended then.
 pub fn run_threads<G: Gate + Sync, R: Threads + Wait + Sync>(
     rt: &R,
     alloc: Global,
@@ -69,6 +75,7 @@ pub fn run_threads<G: Gate + Sync, R: Threads + Wait + Sync>(
     gate: &G,
 ) -> Result<ThreadRun, ThreadsError>
     requires { script.now.ranks + options.now.relays ≤ 64 }
+    ensures gate { IfErr result (λ e. e ≡ ThreadsError.GateGaveUp → GivesUpAmong (G.gives_up gate.now) (script.now.ranks + options.now.relays) options.now.turns) }
     ensures run { IfOk result (λ run. IsThreadRun script.now options.now.relays (table_of run.bus) run.ports.items (transcripts_of run.report) run.report.waiting.items) }
     ensures begins { IfOk result (λ run. (evaluation : State) → IsEvaluation script.now.statements script.now.ranks evaluation → Begin (transcripts_of run.report) evaluation) }
     ensures whole { IfOk result (λ run. (evaluation : State) → IsEvaluation script.now.statements script.now.ranks evaluation → AreWhole (transcripts_of run.report) run.report.waiting.items evaluation) }
@@ -76,7 +83,7 @@ pub fn run_threads<G: Gate + Sync, R: Threads + Wait + Sync>(
     let (bus, jobs) = planned_bus(alloc, script, options.relays)?;
     let watch = Watch::new();
     let worked = work_all(rt, alloc, &bus, gate, &watch, script, options, jobs)?;
-    if watch.has_given_up() {
+    if has_given_up(worked.as_slice()) {
         return Err(ThreadsError::GateGaveUp);
     }
     let waiting = waiting_of(alloc, worked.as_slice(), script.ranks())?;
@@ -143,7 +150,8 @@ fn work_all<G: Gate + Sync, R: Threads + Wait + Sync>(
 ) -> Result<Vec<Worked>, OutOfMemory>
     requires ready { (setup : Setup) × AreReady script.now options.now.relays setup (table_of bus.now) jobs.items }
     requires few { script.now.ranks + options.now.relays ≤ 64 }
-    ensures { IfOk result (λ worked. (setup : Setup) × AreWorked script.now options.now.relays setup (table_of bus.now) worked.items) }
+    ensures worked { IfOk result (λ worked. (setup : Setup) × AreWorked script.now options.now.relays setup (table_of bus.now) worked.items) }
+    ensures gate { IfOk result (λ worked. AreGivenUpBy (G.gives_up gate.now) options.now.turns worked.items) }
 {
     let bench = Bench {
         bus,
@@ -156,7 +164,8 @@ fn work_all<G: Gate + Sync, R: Threads + Wait + Sync>(
     let bench = &bench;
     let at_work = |job: Job| -> Result<Worked, OutOfMemory>
         requires { IsReady script.now bench.now.relays job.port.setup (table_of bench.now.bus.now) job × ((bench.now.ranks ≡ script.now.ranks) × (bench.now.ranks + bench.now.relays ≤ 64)) }
-        ensures { IfOk result (λ worked. IsWorked script.entry.now bench.entry.now.relays job.port.setup (table_of bench.entry.now.bus.now) job.me worked) }
+        ensures worked { IfOk result (λ worked. IsWorked script.entry.now bench.entry.now.relays job.port.setup (table_of bench.entry.now.bus.now) job.me worked) }
+        ensures gate { IfOk result (λ worked. worked.gossip ≡ GossipEnd.GaveUp → GivesUpWithin (G.gives_up bench.entry.now.gate.now) job.me bench.entry.now.turns) }
     { work(rt, alloc, bench, script, job) };
     let worked = map_vec(rt, jobs, &at_work)?;
     all_worked(alloc, worked)
@@ -174,6 +183,19 @@ fn all_worked(
         all.push(one?)?;
     }
     Ok(all)
+}
+
+// Whether the gate gave up at a step of some process.
+fn has_given_up(worked: &[Worked]) -> bool
+    ensures { IsTrue result → (p : ℕ) × (gossip_at (slice_get worked.now p) ≡ Some GossipEnd.GaveUp) }
+{
+    for p in 0..worked.len() {
+        match worked[p].gossip {
+            GossipEnd::GaveUp => return true,
+            GossipEnd::Over => {}
+        }
+    }
+    false
 }
 
 // The ranks that have something left, in rising order.

@@ -8,7 +8,6 @@ use std::thread::Parker;
 pub(crate) struct Watch {
     ended: AtomicU64,
     stopped: AtomicBool,
-    gave_up: AtomicBool,
 }
 
 impl Watch {
@@ -16,7 +15,6 @@ impl Watch {
         Watch {
             ended: AtomicU64::new(0),
             stopped: AtomicBool::new(false),
-            gave_up: AtomicBool::new(false),
         }
     }
 
@@ -25,19 +23,9 @@ impl Watch {
         self.ended.fetch_add(1, Ordering::SeqCst);
     }
 
-    /// The run is to stop: memory was wanting.
+    /// The run is to stop: memory was wanting, or the gate gave up.
     pub(crate) fn stop(&self) {
         self.stopped.store(true, Ordering::SeqCst);
-    }
-
-    /// The run is to stop: a gate gave up.
-    pub(crate) fn give_up(&self) {
-        self.gave_up.store(true, Ordering::SeqCst);
-        self.stop();
-    }
-
-    pub(crate) fn has_given_up(&self) -> bool {
-        self.gave_up.load(Ordering::SeqCst)
     }
 
     /// Whether nobody needs any gossip more: so many ranks have ended, or the run is to stop.

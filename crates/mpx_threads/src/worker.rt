@@ -2,12 +2,13 @@
 ghost use Rattle.std.specs.Prelude.{◌≡◌, ◌+◌, ◌<◌, ◌≤◌, ℕ, IfOk, [], length, map, string_bytes};
 ghost use Rattle.mpx_bus.specs.Buses.{table_of};
 ghost use Rattle.mpx_shared.specs.Docks.{IsDocked, made_in};
+ghost use Rattle.mpx_threads.specs.Gates.{GivesUpWithin};
 ghost use Rattle.mpx_threads.specs.Plans.{Plans};
 ghost use Rattle.mpx_threads.specs.Work.{HasCome, HasWorked, IsReady, IsWorked, lines_in};
 
 use crate::carry::{Carried, carry_out};
 use crate::gate::Gate;
-use crate::gossip::{Bench, gossip};
+use crate::gossip::{Bench, GossipEnd, gossip};
 use crate::told::Told;
 use crate::watch::Signal;
 use join_core::OutOfMemory;
@@ -28,10 +29,11 @@ pub(crate) struct Job {
     pub(crate) port: Port,
 }
 
-/// A process when it has worked: its port, and, of a rank, its lines and whether it has something left.
+/// A process when it has worked: its port, how its gossip ended, and, of a rank, its lines and whether it has something left.
 #[derive(Drop)]
 pub(crate) struct Worked {
     pub(crate) port: Port,
+    pub(crate) gossip: GossipEnd,
     pub(crate) lines: Vec<String>,
     pub(crate) waits: bool,
 }
@@ -47,7 +49,8 @@ pub(crate) fn work<G: Gate + Sync, R: Threads + Wait + Sync>(
     requires ready { IsReady script.now bench.now.relays job.port.setup (table_of bench.now.bus.now) job }
     requires ranks { bench.now.ranks ≡ script.now.ranks }
     requires few { bench.now.ranks + bench.now.relays ≤ 64 }
-    ensures { IfOk result (λ worked. IsWorked script.now bench.now.relays job.port.setup (table_of bench.now.bus.now) job.me worked) }
+    ensures worked { IfOk result (λ worked. IsWorked script.now bench.now.relays job.port.setup (table_of bench.now.bus.now) job.me worked) }
+    ensures gate { IfOk result (λ worked. worked.gossip ≡ GossipEnd.GaveUp → GivesUpWithin (G.gives_up bench.now.gate.now) job.me bench.now.turns) }
 {
     let Job { me, port } = job;
     if me < bench.ranks {
@@ -76,10 +79,13 @@ fn work_as_rank<L: Dock + Send + Sync, G: Gate + Sync, R: Threads + Wait + Sync>
     requires plan { Plans script.now bench.now.relays L.setup }
     ensures docked { IfOk result (λ worked. IsDocked L.table L.setup L.me worked.port) }
     ensures worked { IfOk result (λ worked. HasWorked script.now bench.now.relays L.setup L.me worked.port (lines_in worked) worked.waits) }
+    ensures gate { IfOk result (λ worked. worked.gossip ≡ GossipEnd.GaveUp → GivesUpWithin (G.gives_up bench.now.gate.now) me bench.now.turns) }
 {
     let (shared, poster) = SharedPort::<L>::new(alloc, port, me, blank);
     let signal = Signal::new();
-    let carried = carry_and_gossip(rt, alloc, bench, script, me, &shared, &signal, poster)?;
+    let (carried, gossip) = carry_and_gossip(
+        rt, alloc, bench, script, me, &shared, &signal, poster,
+    )?;
     let Carried {
         lines,
         waits,
@@ -87,7 +93,7 @@ fn work_as_rank<L: Dock + Send + Sync, G: Gate + Sync, R: Threads + Wait + Sync>
         poster,
     } = carried;
     let port = shared.into_port(poster);
-    Ok(with_port(script, me, port, lines, waits, &told))
+    Ok(with_port(script, me, port, gossip, lines, waits, &told))
 }
 
 // Both at once.
@@ -100,30 +106,25 @@ fn carry_and_gossip<L: Dock + Send + Sync, G: Gate + Sync, R: Threads + Wait + S
     port: &SharedPort<L>,
     signal: &Signal,
     poster: Poster<L>,
-) -> Result<Carried<L>, OutOfMemory>
+) -> Result<(Carried<L>, GossipEnd), OutOfMemory>
     requires ledger { (L.all ≡ L.parts) × (0 < L.parts) }
     requires me { (me ≡ L.me) × (me < script.now.ranks) }
     requires new { (L.before ≡ 0) × (poster.share.amount ≡ 0) }
     requires queue { table_of bench.now.bus.now ≡ L.table }
     requires plan { Plans script.now bench.now.relays L.setup }
-    ensures { IfOk result (λ carried. HasCome script.now L.setup me carried.told carried.poster.share.amount (map string_bytes carried.lines.items) carried.waits) }
+    ensures come { IfOk result (λ both. HasCome script.now L.setup me both.0.told both.0.poster.share.amount (map string_bytes both.0.lines.items) both.0.waits) }
+    ensures gate { IfOk result (λ both. both.1 ≡ GossipEnd.GaveUp → GivesUpWithin (G.gives_up bench.now.gate.now) me bench.now.turns) }
 {
-    let (carried, gossiped) = join(
-        rt,
-        move || -> Result<Carried<L>, OutOfMemory>
-            requires { (L.all ≡ L.parts) × ((0 < L.parts) × ((me ≡ L.me) × ((me < script.now.ranks) × ((L.before ≡ 0) × ((poster.share.amount ≡ 0) × Plans script.now bench.now.relays L.setup))))) }
-            ensures { IfOk result (λ carried. HasCome script.entry.now L.setup me carried.told carried.poster.share.amount (map string_bytes carried.lines.items) carried.waits) }
-        { carry(rt, alloc, bench, script, me, port, signal, poster) },
-        || -> bool
-            requires { table_of bench.now.bus.now ≡ L.table }
-        { gossip(rt, alloc, bench, me, port, signal) },
-    );
-    let carried = carried?;
-    if gossiped {
-        Ok(carried)
-    } else {
-        Err(OutOfMemory)
-    }
+    let carrying = move || -> Result<Carried<L>, OutOfMemory>
+        requires { (L.all ≡ L.parts) × ((0 < L.parts) × ((me ≡ L.me) × ((me < script.now.ranks) × ((L.before ≡ 0) × ((poster.share.amount ≡ 0) × Plans script.now bench.now.relays L.setup))))) }
+        ensures { IfOk result (λ carried. HasCome script.entry.now L.setup me carried.told carried.poster.share.amount (map string_bytes carried.lines.items) carried.waits) }
+    { carry(rt, alloc, bench, script, me, port, signal, poster) };
+    let gossiping = || -> Result<GossipEnd, OutOfMemory>
+        requires { table_of bench.now.bus.now ≡ L.table }
+        ensures { IfOk result (λ end. end ≡ GossipEnd.GaveUp → GivesUpWithin (G.gives_up bench.entry.now.gate.now) me bench.entry.now.turns) }
+    { gossip(rt, alloc, bench, me, port, signal) };
+    let (carried, gossiped) = join(rt, carrying, gossiping);
+    Ok((carried?, gossiped?))
 }
 
 // The rank's part: it says so when it ends, and stops the run where memory was wanting.
@@ -157,6 +158,7 @@ fn with_port<L: Dock>(
     script: &Script,
     me: Proc,
     port: Port,
+    gossip: GossipEnd,
     lines: Vec<String>,
     waits: bool,
     told: &Told<L>,
@@ -165,15 +167,26 @@ fn with_port<L: Dock>(
     requires me { me ≡ L.me }
     requires come { HasCome script.now L.setup L.me told.now (length (made_in port)) (map string_bytes lines.items) waits }
     ensures port { result.port ≡ port }
+    ensures gossip { result.gossip ≡ gossip }
     ensures worked { (relays : ℕ) → HasWorked script.now relays L.setup L.me port (lines_in result) result.waits }
 {
     if told.are_held(port.node()) {
-        return Worked { port, lines, waits };
+        return Worked {
+            port,
+            gossip,
+            lines,
+            waits,
+        };
     }
     let mut lines = lines;
     lines.clear();
     let waits = !script.statements(me.number()).is_empty();
-    Worked { port, lines, waits }
+    Worked {
+        port,
+        gossip,
+        lines,
+        waits,
+    }
 }
 
 // A relay gossips alone.
@@ -192,13 +205,13 @@ fn work_as_relay<L: Dock, G: Gate, R: Wait>(
     requires queue { table_of bench.now.bus.now ≡ L.table }
     ensures docked { IfOk result (λ worked. IsDocked L.table L.setup L.me worked.port) }
     ensures none { IfOk result (λ worked. made_in worked.port ≡ []) }
+    ensures gate { IfOk result (λ worked. worked.gossip ≡ GossipEnd.GaveUp → GivesUpWithin (G.gives_up bench.now.gate.now) me bench.now.turns) }
 {
     let (shared, poster) = SharedPort::<L>::new(alloc, port, me, blank);
-    if !gossip(rt, alloc, bench, me, &shared, &Signal::new()) {
-        return Err(OutOfMemory);
-    }
+    let gossip = gossip(rt, alloc, bench, me, &shared, &Signal::new())?;
     Ok(Worked {
         port: shared.into_port(poster),
+        gossip,
         lines: Vec::new(alloc),
         waits: false,
     })

@@ -8,3 +8,4 @@ pub mod Topologies
 pub mod NewCommunicators
 pub mod Within
 pub mod Growth
+pub mod Histories

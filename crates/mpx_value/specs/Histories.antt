@@ -7,6 +7,7 @@ use Rattle.mpx_name.specs.declared.steps.Step.TheVariants.{Child, Gathering}
 use Rattle.mpx_name.specs.Name.{Name, same_name}
 use Rattle.mpx_post.specs.Posts.{Given}
 use Rattle.mpx_post.specs.Births.{BirthView, of_members, rank_in, upto}
+use Rattle.mpx_post.specs.Gatherings.{GatheringView}
 use Rattle.mpx_post.specs.Rows.{RowView, all_of}
 use Rattle.mpx_value.specs.declared.outcomes.Outcome.{Outcome}
 use Rattle.mpx_value.specs.declared.outcomes.Outcome.TheVariants.{Nothing, Absent, Items, NewComm, Null, Fault}
@@ -53,6 +54,10 @@ may_gather members birth = nat_lt 0 (length members) && (not (has_twice members)
 
 abbrev pub gathered : List ℕ → BirthView → Option BirthView
 gathered members birth = cond (may_gather members birth) (Some (of_members members)) None
+
+-- the gathering of these members below a context
+abbrev pub gathering_name : Name → GatheringView → Name
+gathering_name parent g = Gathering g.tag g.members ∷ parent
 
 -- the birth of a context, where the history has all that made it: the world's members are the ranks
 abbrev pub birth_of : History → (ranks : ℕ) → Name → Option BirthView

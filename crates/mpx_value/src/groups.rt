@@ -1,3 +1,4 @@
+// The communicator of a group that its members give.
 ghost use Rattle.std.specs.Prelude.{◌≡◌, ◌<◌, IfOk, length};
 ghost use Rattle.mpx_post.specs.Agreement.{IsFine};
 ghost use Rattle.mpx_post.specs.Drafts.{most_calls, most_steps};

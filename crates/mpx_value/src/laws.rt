@@ -1,3 +1,4 @@
+// What is so of all communicators that a call makes.
 ghost use Rattle.std.specs.Prelude.{◌≡◌, ◌<◌, ℕ, Some, true, length, slice_get};
 ghost use Rattle.std.specs.List.{All, AllPairs};
 ghost use Rattle.mpx_group.specs.Group.{has};

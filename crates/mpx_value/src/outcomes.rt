@@ -1,3 +1,4 @@
+// What a call gives a member: nothing, items, or a communicator.
 ghost use Rattle.std.specs.Prelude.{◌≡◌, IfOk};
 
 use join_core::{Exact, OutOfMemory};

@@ -1,15 +1,13 @@
 -- What calls and gatherings make is born, and is opened where it was given.
-use Rattle.std.proofs.Common.{◌≡◌, ℕ, ◌<◌, ◌==◌, true, cond, not, ◌&&◌, List, ◌∷◌, length, Option, Some, None, refl, sym, ap, ◌∙◌, subst, arith, ℤ}
-use Rattle.std.specs.Prelude.{slice_get, nat_lt, Ok, option_and_then}
+use Rattle.std.proofs.Common.{◌≡◌, ℕ, ◌==◌, true, ◌&&◌, List, ◌∷◌, length, Option, Some, None, refl, sym, ap, ◌∙◌, subst, ℤ}
+use Rattle.std.specs.Prelude.{slice_get, Ok, option_and_then}
 use Rattle.std.specs.Option.{option_map}
-use Rattle.std.specs.List.{list_all}
 use Rattle.std.proofs.lemmas.Bool.{and_from}
-use Rattle.std.proofs.lemmas.Bool.Decides.{nat_tests}
 use Rattle.std.proofs.lemmas.List.Folds.{list_any_at}
 use Rattle.std.proofs.lemmas.List.Quantifiers.{position-Some}
 use Rattle.std.proofs.lemmas.Option.{option_and_then_some, slice_get-map}
 use Rattle.join_core.specs.Flat.{known}
-use Rattle.mpx_group.specs.Group.{has, has_twice}
+use Rattle.mpx_group.specs.Group.{has}
 use Rattle.mpx_name.specs.declared.steps.Step.TheVariants.{Child}
 use Rattle.mpx_name.specs.Name.{Name, same_name}
 use Rattle.mpx_post.specs.Births.{BirthView, of_members, rank_in}
@@ -26,7 +24,7 @@ use Rattle.mpx_node.specs.Nodes.{NodeView, OpenedView, outcome_on, result_of, or
 use Rattle.mpx_world.specs.Worlds.{WorldView, history, births}
 use Rattle.mpx_world.proofs.Lists.{any_at, name_itself}
 use Rattle.mpx_world.proofs.Truth.{LookSo, born_so, told_agrees}
-use Rattle.mpx_post.proofs.Gatherings.{gathers, some_is_more}
+use Rattle.mpx_value.proofs.Histories.{gathered_there}
 
 pub option_map_some : {A B P : Type 0} (f : A → B) (o : Option A) (y : B) → option_map f o ≡ Some y → ((x : A) → o ≡ Some x → f x ≡ y → P) → P
 option_map_some f None y e k = cc e
@@ -108,16 +106,6 @@ pub gathers_is : (x : Option OpenedView) (o : Option BirthView) (me : ℕ) (pare
 gathers_is None o me parent tag ranks g e = cc e
 gathers_is (Some v) None me parent tag ranks g e = cc e
 gathers_is (Some v) (Some birth) me parent tag ranks g e = (birth, refl, e)
-
--- members that gather may do so
-pub gathered_there : (birth : BirthView) (me depth : ℕ) (tag : ℤ) (ranks : List ℤ) (g : GatheringView) → gathering birth me depth tag ranks ≡ Ok g → gathered g.members birth ≡ Some (of_members g.members)
-gathered_there birth me depth tag ranks g e =
-    let a = gathers birth me depth tag ranks g e in
-    let l : 0 < length g.members = some_is_more g.members a.some in
-    let more : nat_lt 0 (length g.members) ≡ true = grind (arith, nat_tests, l) in
-    let may : (nat_lt 0 (length g.members) && (not (has_twice g.members) && list_all (has birth.members) g.members)) ≡ true =
-    and_from _ _ more (and_from _ _ (ap not a.distinct) a.members) in
-    ap (λ b. cond b (Some (of_members g.members)) None) may
 
 -- what a board that tells the truth lets gather is born
 pub gathering_born : (w : WorldView) (node : NodeView) (parent : Name) (tag : ℤ) (ranks : List ℤ) (g : GatheringView) → LookSo w node.board → gathers_on node parent tag ranks ≡ Ok g → births w (gathering_name parent g) ≡ Some (of_members g.members)

@@ -3,23 +3,12 @@ use Rattle.std.proofs.Common.{◌≡◌, ℕ, ◌<◌, ◌≤◌, max, List, [],
 use Rattle.std.specs.Prelude.{nat_le, false}
 use Rattle.std.specs.List.{fold}
 use Rattle.std.proofs.lemmas.Bool.Decides.{nat_tests}
-use Rattle.join_core.specs.Flat.{FlatView, unknown, flat_joining}
-use Rattle.join_core.specs.FlatLaws.{flat_laws}
-use Rattle.join_core.specs.Order.{IsOrder}
-use Rattle.join_core.proofs.Orders.{order_laws}
+use Rattle.join_core.specs.Flat.{FlatView, unknown}
 use Rattle.mpx_post.specs.Posts.{Given}
-use Rattle.mpx_post.specs.Equality.{same_given, given_equality}
-use Rattle.mpx_post.specs.Births.{same_birth, birth_equality}
 use Rattle.mpx_name.specs.Name.{Name}
 use Rattle.mpx_board.specs.Boards.{Context, Look, join, join_all, empty, Fact, Born, Held, Front, Dropped, Acknowledged, Stands, IsBelow}
-use Rattle.mpx_board.proofs.Facts.{IsPostUnder, IsContextUnder, IsUnder, looks_below, join_all_is_least}
+use Rattle.mpx_board.proofs.Facts.{IsPostUnder, IsContextUnder, IsUnder, looks_below, join_all_is_least, births_order, posts_order}
 use Rattle.mpx_world.specs.Soundness.{AreToldBy}
-
-births_order : IsOrder (flat_joining same_birth)
-births_order = order_laws (flat_laws birth_equality)
-
-posts_order : IsOrder (flat_joining same_given)
-posts_order = order_laws (flat_laws given_equality)
 
 -- NO POST BELOW THE DROPPED FRONT
 

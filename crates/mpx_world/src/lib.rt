@@ -2,13 +2,15 @@
 //!
 //! In the order of reading: [`Event`] with its [`Cut`] and [`Reply`], [`World`] with [`Stopped`], and the laws
 //! [`every_world_is_sound`], [`completed_results_are_permanent`], [`processes_agree_at_any_time`],
-//! [`what_all_acknowledge_all_have`], [`nodes_are_of_one_world`] and [`every_history_is_sound`]. Contracts see a world as
-//! its processes and the parts that they sent (`specs/Worlds.antt`); what is sound is said in `specs/Soundness.antt`, and
-//! what an event comes to and is answered in `specs/Events.antt`.
+//! [`what_all_acknowledge_all_have`], [`nodes_are_of_one_world`] and [`every_history_is_sound`]; for nodes of one's own
+//! [`networks_begin`], [`networks_go_on`] and [`networks_are_sound`]. Contracts see a world as its processes and the parts that
+//! they sent (`specs/Worlds.antt`); what is sound is said in `specs/Soundness.antt`, what an event comes to and is answered in
+//! `specs/Events.antt`, and what a network is in `specs/Networks.antt`.
 #![tactic(auto)]
 
 mod events;
 mod laws;
+mod networks;
 mod processes;
 mod world;
 
@@ -17,4 +19,5 @@ pub use laws::{
     completed_results_are_permanent, every_history_is_sound, every_world_is_sound,
     nodes_are_of_one_world, processes_agree_at_any_time, what_all_acknowledge_all_have,
 };
+pub use networks::{networks_are_sound, networks_begin, networks_go_on};
 pub use world::World;

@@ -1,4 +1,5 @@
-ghost use Rattle.std.specs.Prelude.{◌≡◌, ◌<◌, ◌≤◌, ◌↔◌, ◌++◌, ◌∷◌, [], Ok, IfOk, IfErr, OnOk, OnErr, IsTrue};
+// The processes of a world, each by itself.
+ghost use Rattle.std.specs.Prelude.{◌≡◌, ◌<◌, ◌≤◌, ◌++◌, ◌∷◌, [], Ok, IfOk, IfErr, OnOk, OnErr};
 ghost use Rattle.std.specs.Option.{option_copied};
 ghost use Rattle.mpx_board.specs.Looks.{look};
 ghost use Rattle.mpx_world.specs.declared.events.Event.TheVariants as E;
@@ -13,7 +14,7 @@ use mpx_group::Proc;
 use mpx_name::Name;
 use mpx_node::{Harvest, Node};
 use mpx_num::Numbers;
-use mpx_post::{Draft, PostError};
+use mpx_post::Draft;
 use std::alloc::Global;
 
 // The nodes of all processes, and the parts that they sent.
@@ -122,7 +123,7 @@ impl Processes {
         match self.nodes[at].post(alloc, name, draft) {
             Ok(call) => Ok(Reply::Posted(call)),
             Err(refusal) => {
-                if is_want_of_memory(refusal) {
+                if refusal.is_want_of_memory() {
                     return Err(OutOfMemory);
                 }
                 Ok(Reply::PostRefused(refusal))
@@ -158,7 +159,7 @@ impl Processes {
         match self.nodes[at].open_gathering(alloc, parent, tag, ranks.as_slice()) {
             Ok(name) => Ok(Reply::Opened(name)),
             Err(refusal) => {
-                if is_want_of_memory(refusal) {
+                if refusal.is_want_of_memory() {
                     return Err(OutOfMemory);
                 }
                 Ok(Reply::GatherRefused(refusal))
@@ -224,27 +225,5 @@ fn harvested(harvest: Harvest) -> Reply
         Harvest::Done(call) => Reply::Harvested(call),
         Harvest::NotYet => Reply::NotYet,
         Harvest::NotOpened => Reply::NotOpened,
-    }
-}
-
-fn is_want_of_memory(refusal: PostError) -> bool
-    ensures { IsTrue result ↔ (refusal ≡ PostError.OutOfMemory) }
-{
-    match refusal {
-        PostError::OutOfMemory => true,
-        PostError::NotMember => false,
-        PostError::RootOutOfRange => false,
-        PostError::OpNotForType => false,
-        PostError::CountsLength => false,
-        PostError::ItemsLength => false,
-        PostError::ItemOutOfRange => false,
-        PostError::TooManyItems => false,
-        PostError::NoTopology => false,
-        PostError::CallsUsedUp => false,
-        PostError::DepthUsedUp => false,
-        PostError::BadGroup => false,
-        PostError::BadEdge => false,
-        PostError::TooManyEdges => false,
-        PostError::BadTag => false,
     }
 }

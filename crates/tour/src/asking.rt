@@ -1,16 +1,14 @@
 //! Requests that overlap, and waits that make turns.
 ghost use Rattle.std.specs.Prelude.{◌≡◌, ◌≤◌, ℕ, IfOk, Some, drop};
-ghost use Rattle.mpx_board.specs.Looks.{look};
-ghost use Rattle.mpx_node.specs.Shown.{node_of};
 ghost use Rattle.mpx_comm.specs.Requests.{result_of};
 
-use crate::desks::{desk_of, number_in, numbers, swap};
+use crate::desks::{board_of, desk_of, number_in, numbers, swap};
 use crate::inbox::Inbox;
 use crate::stop::Stop;
 use mpx_board::Board;
 use mpx_comm::{Comm, Desk, Host, Request, Tested};
 use mpx_group::Proc;
-use mpx_node::{Finished, Node, PartError};
+use mpx_node::{Finished, Node};
 use mpx_num::{Op, Ty};
 use mpx_post::PostError;
 use std::alloc::Global;
@@ -89,20 +87,9 @@ pub fn awaited(
     Ok(desk.wait(alloc, request, turns)?)
 }
 
-// The rank's whole board, as one that can be sent.
-fn board_of(alloc: Global, desk: &Desk<Node>) -> Result<Board, Stop>
-    ensures { IfOk result (λ board. look board ≡ (node_of desk.now.host).board) }
-{
-    match desk.host().part(alloc, 1_048_576) {
-        Ok(board) => Ok(board),
-        Err(PartError::OutOfMemory) => Err(Stop::OutOfMemory),
-        Err(PartError::DoesNotFit) => Err(Stop::NoAnswer),
-    }
-}
-
 // One more board of the rank comes.
 fn send(alloc: Global, desk: &Desk<Node>, boards: &mut VecDeque<Board>) -> Result<(), Stop> {
-    boards.push_back(board_of(alloc, desk)?)?;
+    boards.push_back(board_of(alloc, desk.host())?)?;
     Ok(())
 }
 

@@ -1,13 +1,19 @@
 //! Desks of nodes, and what goes between them.
 ghost use Rattle.std.specs.Prelude.{◌≡◌, ◌<◌, ◌≤◌, IfOk, OnOk};
+ghost use Rattle.mpx_board.specs.Looks.{look};
+ghost use Rattle.mpx_node.specs.Shown.{node_of};
 
 use crate::stop::Stop;
+use mpx_board::Board;
 use mpx_comm::Desk;
 use mpx_group::Proc;
-use mpx_node::{Finished, Node};
+use mpx_node::{Finished, Node, PartError};
 use mpx_num::Numbers;
 use mpx_value::Outcome;
 use std::alloc::Global;
+
+/// The most bytes of a frame.
+pub const LIMIT: usize = 1_048_576;
 
 /// The desk of the rank `me` of so many.
 pub fn desk_of(alloc: Global, me: u8, ranks: u8) -> Result<Desk<Node>, Stop>
@@ -23,6 +29,17 @@ pub fn swap(alloc: Global, left: &mut Desk<Node>, right: &mut Desk<Node>) -> Res
     left.take(alloc, right.host().board())?;
     right.take(alloc, left.host().board())?;
     Ok(())
+}
+
+/// The node's whole board, as one that can be sent.
+pub fn board_of(alloc: Global, node: &Node) -> Result<Board, Stop>
+    ensures { IfOk result (λ board. look board ≡ (node_of node.now).board) }
+{
+    match node.part(alloc, LIMIT) {
+        Ok(board) => Ok(board),
+        Err(PartError::OutOfMemory) => Err(Stop::OutOfMemory),
+        Err(PartError::DoesNotFit) => Err(Stop::NoAnswer),
+    }
 }
 
 /// The numbers, as calls take them.

@@ -5,6 +5,7 @@ mod asking;
 mod desks;
 mod inbox;
 mod making;
+mod nodes;
 mod stop;
 mod threads;
 mod tour;

@@ -4,20 +4,16 @@ ghost use Rattle.mpx_bus.specs.Berths.{HaveMet, IsSamePort, node_in};
 ghost use Rattle.mpx_bus.specs.Buses.{table_of};
 ghost use Rattle.mpx_bus.specs.Finished.{HaveFinished};
 
-use crate::desks::number_of;
+use crate::desks::LIMIT;
+use crate::nodes::{sum_at, sum_draft};
 use crate::stop::Stop;
 use mpx_bus::{Bus, Pop, Port, Push};
 use mpx_name::Name;
-use mpx_node::{Harvest, Node};
-use mpx_num::{Numbers, Op, Ty};
-use mpx_post::{Call, Draft, Kind};
+use mpx_node::Harvest;
 use std::alloc::Global;
 use std::marker::Brand;
 use std::sync::Wait;
 use std::thread::{Threads, join, yield_now};
-
-// The most bytes of a frame.
-const LIMIT: usize = 1_048_576;
 
 // The most turns of a rank.
 const TURNS: u32 = 10_000_000;
@@ -26,19 +22,7 @@ const TURNS: u32 = 10_000_000;
 fn post_number(alloc: Global, port: &mut Port, number: i128) -> Result<(), Stop>
     ensures { IsSamePort port.old port.new }
 {
-    let draft = Draft {
-        call: Call::blocking(Kind::Allreduce),
-        root: 0,
-        op: Op::Sum,
-        ty: Ty::I32,
-        scounts: Numbers::none(),
-        rcounts: Numbers::none(),
-        items: Numbers::one(number),
-        colour: None,
-        key: 0,
-        group: Numbers::none(),
-        graph: None,
-    };
+    let draft = sum_draft(number);
     port.post(alloc, &Name::world(alloc), draft)?;
     Ok(())
 }
@@ -84,14 +68,6 @@ fn worked<R: Wait>(rt: &R, alloc: Global, bus: &Bus, mut port: Port) -> (Port, R
 {
     let ended = work(rt, alloc, bus, &mut port);
     (port, ended)
-}
-
-// What the node has of the sum.
-fn sum_at(alloc: Global, node: &Node) -> Result<i128, Stop> {
-    match node.result(&Name::world(alloc), 0) {
-        Some(finished) => number_of(finished),
-        None => Err(Stop::NoAnswer),
-    }
 }
 
 // The sum at the first of two ports that meet, and how many instances both have finished.

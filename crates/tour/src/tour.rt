@@ -2,6 +2,7 @@
 use crate::asking::{any_sum, refusal, sum_from_inbox, two_sums};
 use crate::desks::desk_of;
 use crate::making::{group, neighbours, split_apart, split_by_key};
+use crate::nodes::sums_of_own_nodes;
 use crate::stop::Stop;
 use crate::threads::sum_in_threads;
 use mpx_comm::{Comm, Desk};
@@ -85,6 +86,7 @@ pub fn print_tour<R: Threads + Wait + Sync, W: Write>(
     drop(left);
     drop(right);
     answer?;
+    print_two(out, "nodes", sums_of_own_nodes(alloc)?)?;
     print_threads(rt, alloc, out)?;
     Ok(out.flush()?)
 }

@@ -1,7 +1,9 @@
 -- What the program writes, and its exit status.
 use Rattle.std.specs.Prelude.{◌≡◌, ℕ, Bool, true, false, not, ◌==◌, List, [], ◌++◌, codes, length, IfSome, Option, Result, Ok, Err}
 use Rattle.std.specs.Io.KnownBytes.{Appends}
-use Rattle.mpx_eval.specs.Waiting.{IsWaitedFor, WaitingView}
+use Rattle.mpx_eval.specs.Complaints.{ComplaintView}
+use Rattle.mpx_eval.specs.Findings.{AreFindings}
+use Rattle.mpx_eval.specs.Waiting.{WaitingView}
 use Rattle.mpx_script.specs.Faults.{error_text}
 use Rattle.mpx_script.specs.Reading.{reading}
 use Rattle.mpx_script.specs.ScriptView.{ScriptView}
@@ -9,14 +11,16 @@ use Rattle.waits.specs.declared.program.Fault.{Fault}
 use Rattle.waits.specs.declared.program.Fault.TheVariants.{Script, Memory, Read, Write}
 use Rattle.waits.specs.Told.{all_told}
 
--- the text is read as a script, and the lines of those who wait at the end of its evaluation are out
+-- the text is read as a script, and the lines of those who wait at the end of its evaluation are out, and behind them those of
+-- the calls that were refused or are faults
 pub record Told (text : List ℕ) (old new : Option (List ℕ)) (waits : Bool) : Type 0 where
   pub script : ScriptView
   pub read : reading text ≡ Ok script
-  pub found : List WaitingView
-  pub waited : IsWaitedFor script found
-  pub somebody : waits ≡ not (length found == 0)
-  pub written : Appends old new (all_told text script.statements found)
+  pub waiting : List WaitingView
+  pub complaints : List ComplaintView
+  pub found : AreFindings script waiting complaints
+  pub somebody : waits ≡ not (length waiting == 0)
+  pub written : Appends old new (all_told text script.statements waiting complaints)
 
 -- somebody waits, or nobody does, and that is told; or the script is refused, or there is another fault, and then nothing is
 -- written, unless the writer failed

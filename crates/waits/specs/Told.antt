@@ -1,10 +1,10 @@
--- The lines that tell who waits.
-use Rattle.std.specs.Prelude.{ℕ, ◌==◌, List, [], ◌∷◌, ◌++◌, bytes_eq, codes, cond, false, map, slice_get, slice_index_or, Bool, Option, Some, None, unwrap_or}
+-- The lines that tell who waits, and which calls were refused or are faults.
+use Rattle.std.specs.Prelude.{ℕ, ◌==◌, List, [], ◌∷◌, ◌++◌, codes, cond, map, slice_get, slice_index_or, Option, Some, None, unwrap_or}
 use Rattle.std.specs.Fmt.{decimal}
-use Rattle.std.specs.List.{flat_map, position_or_len}
+use Rattle.std.specs.List.{flat_map}
+use Rattle.mpx_eval.specs.Complaints.{ComplaintView, started_at}
 use Rattle.mpx_eval.specs.Waiting.{MissingCallView, WaitingView}
 use Rattle.mpx_script.specs.LinesGiven.{lines_given, words_at}
-use Rattle.mpx_statement.specs.Statements.{request_of}
 use Rattle.mpx_statement.specs.declared.statement.Statement.{Statement}
 
 -- PLACES
@@ -17,15 +17,7 @@ line_at numbers statement = slice_index_or numbers statement 0
 abbrev pub place_of : (text : List ℕ) → WaitingView → ℕ × ℕ
 place_of text w = (w.rank, line_at (lines_given w.rank text) w.statement)
 
-abbrev pub is_word : List ℕ → Option (List ℕ) → Bool
-is_word word None = false
-is_word word (Some other) = bytes_eq other word
-
--- the place of the statement that starts this request
-abbrev pub started_at : List Statement → (request : List ℕ) → ℕ
-started_at statements request = position_or_len (λ statement. is_word request (request_of statement)) statements
-
--- LINES
+-- WHO WAITS
 
 -- the second word of a line
 abbrev pub second_word : (text : List ℕ) (line : ℕ) → List ℕ
@@ -57,7 +49,7 @@ abbrev pub members_text : (places : List (ℕ × ℕ)) → List ℕ → List ℕ
 members_text places [] = []
 members_text places (member ∷ more) = member_text places member ++ flat_map (λ other. codes ", " ++ member_text places other) more
 
--- how the line of a call begins that a rank waits for at a line
+-- how a line begins that tells of a rank at a line
 abbrev pub start_text : (rank line : ℕ) → List ℕ
 start_text rank line = codes "rank " ++ decimal rank ++ codes " line " ++ decimal line ++ codes ": "
 
@@ -75,5 +67,20 @@ rank_text text statements places w =
     flat_map (call_text text (slice_index_or statements w.rank []) (lines_given w.rank text) places w.rank (line_at (lines_given w.rank text) w.statement)) w.calls
 
 -- of all that wait
-abbrev pub all_told : (text : List ℕ) → List (List Statement) → List WaitingView → List ℕ
-all_told text statements found = flat_map (rank_text text statements (map (place_of text) found)) found
+abbrev pub waiting_told : (text : List ℕ) → List (List Statement) → List WaitingView → List ℕ
+waiting_told text statements found = flat_map (rank_text text statements (map (place_of text) found)) found
+
+-- COMPLAINTS
+
+-- where a call stands that was refused or is a fault, and what the transcript says of it
+abbrev pub complaint_text : (numbers : List ℕ) → ComplaintView → List ℕ
+complaint_text numbers c = start_text c.rank (line_at numbers c.statement) ++ c.text ++ codes "\n"
+
+abbrev pub complaint_told : (text : List ℕ) → ComplaintView → List ℕ
+complaint_told text c = complaint_text (lines_given c.rank text) c
+
+-- ALL
+
+-- of all that wait, and then of all complaints
+abbrev pub all_told : (text : List ℕ) → List (List Statement) → List WaitingView → List ComplaintView → List ℕ
+all_told text statements waiting complaints = waiting_told text statements waiting ++ flat_map (complaint_told text) complaints

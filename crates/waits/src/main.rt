@@ -1,7 +1,9 @@
 //! The program `waits`: reads a script on the standard input and prints, for each rank that waits at the end of its evaluation, at
-//! which line it does, for which calls, and which ranks have not posted to them.
+//! which line it does, for which calls, and which ranks have not posted to them; and then, for each call that was refused or is
+//! a fault, its rank, its line, and what the transcript says of it.
 #![tactic(auto)]
 
+mod complaints;
 mod numbers;
 mod places;
 mod program;

@@ -1,12 +1,11 @@
 //! Where statements stand in a script's text.
 ghost use Rattle.std.specs.Prelude.{◌≡◌, IfOk, map};
-ghost use Rattle.mpx_statement.specs.Statements.{request_of};
 ghost use Rattle.mpx_eval.specs.Found.{waiting_view};
-ghost use Rattle.waits.specs.Told.{is_word, line_at, place_of, started_at};
+ghost use Rattle.waits.specs.Told.{line_at, place_of};
 
 use join_core::OutOfMemory;
 use mpx_eval::WaitingRank;
-use mpx_script::{Statement, statement_lines};
+use mpx_script::statement_lines;
 use std::alloc::Global;
 
 /// The ranks that wait, each with the line at which it does.
@@ -39,25 +38,5 @@ pub fn line_at(numbers: &[u32], statement: usize) -> u32
     match numbers.get(statement) {
         Some(line) => *line,
         None => 0,
-    }
-}
-
-/// The place of the statement that starts this request.
-pub fn started_at(statements: &[Statement], request: &[u8]) -> usize
-    ensures { result ≡ started_at statements.now request.now }
-{
-    statements
-        .iter()
-        .take_while(|statement| !starts(statement, request))
-        .count()
-}
-
-// Whether a statement starts this request.
-fn starts(statement: &Statement, request: &[u8]) -> bool
-    ensures { result ≡ is_word request.now (request_of statement.now) }
-{
-    match statement.request() {
-        Some(word) => word.as_bytes() == request,
-        None => false,
     }
 }

@@ -4,7 +4,7 @@ ghost use Rattle.std.specs.Io.KnownBytes.{Appends};
 ghost use Rattle.waits.specs.Program.{Answers, Tells, message, status};
 
 use crate::told::all_told;
-use mpx_eval::waiting_calls;
+use mpx_eval::examine;
 use mpx_script::{ReadScriptError, ScriptError, read_script};
 use std::alloc::Global;
 use std::io;
@@ -22,7 +22,8 @@ pub enum Fault {
     Write,
 }
 
-/// Reads a script to the reader's end, and then writes who waits at the end of its evaluation. It answers whether somebody does.
+/// Reads a script to the reader's end, and then writes who waits at the end of its evaluation, and which calls were refused or are
+/// faults. It answers whether somebody waits.
 /// Nothing is written before all is known.
 pub fn tell_waits<R: Read, W: Write>(
     alloc: Global,
@@ -48,14 +49,14 @@ fn tell_text<W: Write>(alloc: Global, text: &[u8], writer: &mut W) -> Result<boo
         Err(ReadScriptError::Refused(refusal)) => return Err(Fault::Script(refusal)),
         Err(ReadScriptError::OutOfMemory) => return Err(Fault::Memory),
     };
-    let Ok(found) = waiting_calls(alloc, &script) else {
+    let Ok(found) = examine(alloc, &script) else {
         return Err(Fault::Memory);
     };
     let Ok(told) = all_told(alloc, text, &script, &found) else {
         return Err(Fault::Memory);
     };
     match write_whole(writer, &told) {
-        Ok(()) => Ok(!found.is_empty()),
+        Ok(()) => Ok(!found.waiting.is_empty()),
         Err(_) => Err(Fault::Write),
     }
 }

@@ -36,7 +36,7 @@ fn a_request_is_waited_for(rt: HostRuntime) -> Result<(), Fail> {
     let script =
         b"ranks 3\n*: barrier world\n1: barrier world\n2: ibarrier world -> r\n2: sources world\n2: wait r\n";
     let told =
-        b"rank 1 line 3: barrier world, call 1: no post of 0 (finished)\nrank 2 line 6: wait r, for ibarrier world of line 4, call 1: no post of 0 (finished)\n";
+        b"rank 1 line 3: barrier world, call 1: no post of 0 (finished)\nrank 2 line 6: wait r, for ibarrier world of line 4, call 1: no post of 0 (finished)\nrank 2 line 5: refused NoTopology\n";
     assert!(rt; tells(rt.alloc(), script, told, 3));
     Ok(())
 }
@@ -47,6 +47,52 @@ fn several_requests_are_waited_for(rt: HostRuntime) -> Result<(), Fail> {
         b"ranks 3\n2: ibarrier world -> r\n2: ibcast world 0 i32 1 -> s\n1: ibarrier world -> r\n1: wait r\n2: waitall s r s\n";
     let told =
         b"rank 1 line 5: wait r, for ibarrier world of line 4, call 0: no post of 0 (finished)\nrank 2 line 6: waitall s, for ibcast world of line 3, call 1: no post of 0 (finished), 1 (line 5)\nrank 2 line 6: waitall r, for ibarrier world of line 2, call 0: no post of 0 (finished)\n";
+    assert!(rt; tells(rt.alloc(), script, told, 3));
+    Ok(())
+}
+
+#[test]
+fn a_call_is_refused(rt: HostRuntime) -> Result<(), Fail> {
+    let script = b"ranks 2\n*: bcast world 0 i32 1 7\n";
+    let told =
+        b"rank 0 line 2: bcast world, call 0: no post of 1 (finished)\nrank 1 line 2: refused ItemsLength\n";
+    assert!(rt; tells(rt.alloc(), script, told, 3));
+    Ok(())
+}
+
+#[test]
+fn a_question_is_refused(rt: HostRuntime) -> Result<(), Fail> {
+    let script = b"ranks 2\n\n1: sources world\n*: translate world world 0,2\n";
+    let told =
+        b"rank 0 line 4: refused RankOutOfRange\nrank 1 line 3: refused NoTopology\nrank 1 line 4: refused RankOutOfRange\n";
+    assert!(rt; tells(rt.alloc(), script, told, 0));
+    Ok(())
+}
+
+#[test]
+fn calls_do_not_fit_together(rt: HostRuntime) -> Result<(), Fail> {
+    let script =
+        b"ranks 3\n0: barrier world\n2: barrier world\n# another call\n1: allreduce world sum i32 1\n";
+    let told =
+        b"rank 0 line 2: fault Kind at 1\nrank 1 line 5: fault Kind at 1\nrank 2 line 3: fault Kind at 1\n";
+    assert!(rt; tells(rt.alloc(), script, told, 0));
+    Ok(())
+}
+
+#[test]
+fn a_fault_is_waited_for_later(rt: HostRuntime) -> Result<(), Fail> {
+    let script =
+        b"ranks 2\n0: ibarrier world -> r\n1: iallreduce world sum i32 1 -> r\n*: ibarrier world -> s\n*: waitall s r s\n";
+    let told = b"rank 0 line 2: fault Kind at 1\nrank 1 line 3: fault Kind at 1\n";
+    assert!(rt; tells(rt.alloc(), script, told, 0));
+    Ok(())
+}
+
+#[test]
+fn a_refused_call_shifts_the_next_ones(rt: HostRuntime) -> Result<(), Fail> {
+    let script = b"ranks 2\n0: bcast world 0 i8 1 300\n1: bcast world 0 i8 1\n*: barrier world\n";
+    let told =
+        b"rank 1 line 4: barrier world, call 1: no post of 0 (finished)\nrank 0 line 2: refused ItemOutOfRange\nrank 0 line 4: fault Kind at 1\nrank 1 line 3: fault Kind at 1\n";
     assert!(rt; tells(rt.alloc(), script, told, 3));
     Ok(())
 }

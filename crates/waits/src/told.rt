@@ -1,24 +1,39 @@
-//! The text of the lines that tell who waits.
+//! The text of the lines that tell who waits, and of all lines.
 ghost use Rattle.std.specs.Prelude.{◌≡◌, ◌++◌, IfOk, OnOk, map};
 ghost use Rattle.std.specs.Option.{option_copied};
-ghost use Rattle.mpx_eval.specs.Found.{missing_view, waiting_view};
-ghost use Rattle.waits.specs.Told.{all_told, call_text, call_words, end_text, member_text, members_text, rank_text, request_text, second_word, standing_text, start_text, what_text};
+ghost use Rattle.mpx_eval.specs.Found.{complaint_view, missing_view, waiting_view};
+ghost use Rattle.waits.specs.Told.{all_told, call_text, call_words, end_text, member_text, members_text, rank_text, request_text, second_word, standing_text, start_text, waiting_told, what_text};
 
+use crate::complaints::push_complaints;
 use crate::numbers::push_decimal;
-use crate::places::{line_at, places_of, started_at};
+use crate::places::{line_at, places_of};
 use join_core::OutOfMemory;
-use mpx_eval::{MissingCall, WaitingRank};
+use mpx_eval::{Findings, MissingCall, WaitingRank, started_at};
 use mpx_script::{Script, Statement, Word, statement_lines, words_of_line};
 use std::alloc::Global;
 
-/// A line for each call that is missing.
+/// A line for each call that is missing, and behind these one for each call that was refused or is a fault.
 pub fn all_told(
+    alloc: Global,
+    text: &[u8],
+    script: &Script,
+    found: &Findings,
+) -> Result<Vec<u8>, OutOfMemory>
+    ensures { IfOk result (λ told. told.items ≡ all_told text.now script.now.statements (map waiting_view found.now.waiting.items) (map complaint_view found.now.complaints.items)) }
+{
+    let mut told = waiting_told(alloc, text, script, found.waiting.as_slice())?;
+    push_complaints(alloc, text, found.complaints.as_slice(), &mut told)?;
+    Ok(told)
+}
+
+// A line for each call that is missing.
+fn waiting_told(
     alloc: Global,
     text: &[u8],
     script: &Script,
     found: &[WaitingRank],
 ) -> Result<Vec<u8>, OutOfMemory>
-    ensures { IfOk result (λ told. told.items ≡ all_told text.now script.now.statements (map waiting_view found.now)) }
+    ensures { IfOk result (λ told. told.items ≡ waiting_told text.now script.now.statements (map waiting_view found.now)) }
 {
     let places = places_of(alloc, text, found)?;
     let mut told = Vec::new(alloc);
@@ -85,8 +100,8 @@ fn push_call(
     push_end(alloc, places, call, told)
 }
 
-// Adds how the line of a call begins.
-fn push_start(alloc: Global, rank: u8, line: u32, told: &mut Vec<u8>) -> Result<(), OutOfMemory>
+/// Adds how a line begins that tells of a rank at a line.
+pub fn push_start(alloc: Global, rank: u8, line: u32, told: &mut Vec<u8>) -> Result<(), OutOfMemory>
     ensures { OnOk result (told.new.items ≡ told.old.items ++ start_text rank line) }
 {
     told.extend_from_slice(b"rank ")?;

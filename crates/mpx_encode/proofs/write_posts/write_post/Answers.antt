@@ -1,6 +1,7 @@
 use Rattle.std.proofs.Common.{◌≡◌, [], ◌∷◌, ◌++◌}
 use Rattle.mpx_encode.proofs.Maps.{told_behind, written_behind}
-use Rattle.mpx_format.specs.Codes.{code_of_kind, code_of_mode}
+use Rattle.mpx_format.specs.Codes.{code_of_mode}
+use Rattle.mpx_kind.specs.Codes.{code_of_kind}
 use Rattle.mpx_encode.proofs.Posts.{post_in_turn, post_making, root_part, operation_part, type_part, sent_part, received_part, items_part}
 use Rattle.mpx_encode.proofs.write_posts.write_post.Goals as goal
 

@@ -3,7 +3,8 @@ use Rattle.std.specs.Option.{option_map}
 use Rattle.mpx_kind.specs.Kinds.{fields_of}
 use Rattle.mpx_encode.proofs.Maps.{told_as}
 use Rattle.mpx_num.specs.ItemList.{ItemList}
-use Rattle.mpx_format.specs.Codes.{when, code_of_type}
+use Rattle.mpx_format.specs.Codes.{when}
+use Rattle.mpx_num.specs.Codes.{code_of_type}
 use Rattle.mpx_format.specs.Posts.{type_for}
 use Rattle.mpx_encode.proofs.Posts.{when_some, type_spelled}
 use Rattle.mpx_encode.proofs.write_posts.write_type.Goals as goal

@@ -1,6 +1,6 @@
 use Rattle.std.proofs.Common.{subst, arith}
 use Rattle.mpx_post.specs.Drafts.{Checks, at, checked}
-use Rattle.mpx_eval.proofs.Contexts.{room_of_post}
+use Rattle.mpx_post.proofs.Checks.{room_of_post}
 use Rattle.mpx_eval.proofs.context.checked.Goals as goal
 
 pub returns-clause-room : goal.returns-clause-room

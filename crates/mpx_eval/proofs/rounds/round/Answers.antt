@@ -5,7 +5,8 @@ use Rattle.mpx_eval.specs.Rounds.{Round, all_left}
 use Rattle.mpx_eval.specs.Carrying.{shown}
 use Rattle.mpx_eval.specs.Tables.{table_of}
 use Rattle.mpx_eval.proofs.Carried.{goes_is, goes_left}
-use Rattle.mpx_eval.proofs.Going.{element, left_le, left_lt, less_more, round_more, written}
+use Rattle.mpx_eval.proofs.Going.{left_le, left_lt, less_more, round_more}
+use Rattle.mpx_post.proofs.Lists.{element, written}
 use Rattle.mpx_eval.proofs.rounds.round.Goals as goal
 
 pub loop-p-preserved : goal.loop-p-preserved

@@ -4,8 +4,8 @@ use Rattle.std.proofs.lemmas.Bool.Decides.{nat_tests}
 use Rattle.mpx_birth.specs.declared.edges.Neighbour.{Neighbour}
 use Rattle.mpx_post.specs.Agreement.{awaited_on, post_at, sent_on}
 use Rattle.mpx_post.specs.Topologies.{destinations_at, sources_at}
-use Rattle.mpx_meet.specs.Places.{rank_at, taken_at}
-use Rattle.mpx_meet.proofs.Passes.{AreMet, destinations_mutual, meet_one, next_small, none_met}
+use Rattle.mpx_birth.specs.Ends.{rank_at, taken_at}
+use Rattle.mpx_birth.proofs.Passes.{AreMet, destinations_mutual, meet_one, next_small, none_met}
 use Rattle.mpx_match.specs.Questions.{edge_differs}
 use Rattle.mpx_match.proofs.Below.{none_below, some_below}
 use Rattle.mpx_match.proofs.Ends.{edge_is}

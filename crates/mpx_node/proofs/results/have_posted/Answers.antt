@@ -4,7 +4,7 @@ use Rattle.std.proofs.lemmas.Iterator.{YieldsList-from_slice}
 use Rattle.std.proofs.lemmas.Iterator.Search.{all_from_yields_List}
 use Rattle.mpx_board.specs.Boards.{told}
 use Rattle.mpx_board.specs.Looks.{look}
-use Rattle.mpx_node.proofs.Calls.{is_some-all_of}
+use Rattle.mpx_post.proofs.Lists.{is_some-all_of}
 use Rattle.mpx_node.proofs.results.have_posted.Goals as goal
 
 pub returns : goal.returns

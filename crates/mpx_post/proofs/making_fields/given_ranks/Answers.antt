@@ -3,6 +3,7 @@ use mir.Syntax.{w128}
 use Rattle.std.specs.List.{list_all}
 use Rattle.std.proofs.lemmas.Bool.{and_parts}
 use Rattle.std.proofs.lemmas.Int.{to_z-of_z}
+use Rattle.std.proofs.lemmas.Result.{IfOk-weaker}
 use Rattle.mpx_group.specs.Group.{has_twice}
 use Rattle.mpx_post.specs.Drafts.{is_rank, natural, naturals}
 use Rattle.mpx_post.proofs.Lists.{all_at, map_all, map_pushed}
@@ -30,4 +31,4 @@ new-requires c =
     rw (c.loop-rank.invariant, all) (AreRanks-from c.args.group.now c.requires)
 
 pub returns : goal.returns
-returns c = c.new.ensures ∙ c.loop-rank.invariant ∙ map_all natural c.args.group.now c.loop-rank.rank-index c.loop-rank-test.false
+returns c = IfOk-weaker c.new.result _ _ (λ ranks is. is ∙ c.loop-rank.invariant ∙ map_all natural c.args.group.now c.loop-rank.rank-index c.loop-rank-test.false) c.new.ensures

@@ -4,7 +4,8 @@ use Rattle.mpx_evaluation.specs.Transcripts.{line_text}
 use Rattle.mpx_rank.specs.Moves.{are_done, wait_lines}
 use Rattle.mpx_rank.specs.Shown.{requests_of}
 use Rattle.mpx_rank.proofs.Moving.{lines_push}
-use Rattle.mpx_rank.proofs.Telling.{done_first, done_later, line_later, next_left}
+use Rattle.mpx_rank.proofs.Telling.{done_first, done_later, line_later}
+use Rattle.mpx_post.proofs.Lists.{next_left}
 use Rattle.mpx_rank.proofs.waiting.close_all.Goals as goal
 
 pub close-requires : goal.close-requires

@@ -6,8 +6,8 @@ use Rattle.mpx_run.specs.Reports.{lines_at}
 use Rattle.mpx_run.proofs.Reporting.{threads_reported}
 use Rattle.mpx_run.proofs.report.print_threads.Goals as goal
 
-pub returns-in-Ok : goal.returns-in-Ok
-returns-in-Ok g c =
+pub returns-in-Ok-clause-printed : goal.returns-in-Ok-clause-printed
+returns-in-Ok-clause-printed g c =
     let run = c.in_ok-run.run' in
     let said = transcripts_of run.report in
     let printed = c.in-Ok.printed in

@@ -1,6 +1,6 @@
-use Rattle.mpx_shared.specs.Docks.{MakesNoPost}
+use Rattle.mpx_shared.proofs.Gossiping.{IsHarvesting}
 use Rattle.mpx_shared.proofs.gossip.harvest_on.Given as goal
 
--- so far it has gone on, and made no post
+-- so far each turn has stored a result
 abbrev pub invariant-loop-call : goal.invariant-loop-call
-invariant-loop-call l = MakesNoPost l.fn.port l.port
+invariant-loop-call l = IsHarvesting l.fn.name l._call l.fn.port l.port

@@ -7,7 +7,7 @@ use Rattle.mpx_board.specs.Contexts.{look_of}
 use Rattle.mpx_board.specs.Looks.{look, parts_of}
 use Rattle.mpx_board.specs.Parts.{parts_equality}
 use Rattle.mpx_system.specs.Running.{RankView}
-use Rattle.mpx_system.proofs.Running.{element}
+use Rattle.mpx_post.proofs.Lists.{element}
 use Rattle.mpx_sim.specs.Shown.{process_of}
 use Rattle.mpx_sim.proofs.turns.are_same.Goals as goal
 

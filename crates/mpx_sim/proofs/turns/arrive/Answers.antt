@@ -1,7 +1,7 @@
 use Rattle.std.proofs.Common.{◌∙◌, List, Some, map, ap, sym, subst, arith}
 use Rattle.mpx_system.specs.Running.{RankView, IsUnderWay}
 use Rattle.mpx_sim.specs.Shown.{process_of}
-use Rattle.mpx_system.proofs.Running.{written, element}
+use Rattle.mpx_post.proofs.Lists.{written, element}
 use Rattle.mpx_sim.proofs.turns.arrive.Goals as goal
 
 pub returns : goal.returns

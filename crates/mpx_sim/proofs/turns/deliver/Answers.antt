@@ -1,6 +1,6 @@
 use Rattle.std.proofs.Common.{map, sym, ap, ◌∙◌, Some, arith}
 use Rattle.mpx_sim.specs.Shown.{part_of}
-use Rattle.mpx_system.proofs.Running.{element}
+use Rattle.mpx_post.proofs.Lists.{element}
 use Rattle.mpx_sim.proofs.turns.deliver.Goals as goal
 
 pub loop-i-preserved : goal.loop-i-preserved

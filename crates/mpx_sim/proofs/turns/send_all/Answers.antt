@@ -3,7 +3,7 @@ use Rattle.std.specs.Prelude.{slice_get}
 use Rattle.std.proofs.lemmas.List.{length-map}
 use Rattle.mpx_system.specs.Running.{IsUnderWay, RankView}
 use Rattle.mpx_sim.specs.Shown.{process_of, part_of}
-use Rattle.mpx_system.proofs.Running.{element, written}
+use Rattle.mpx_post.proofs.Lists.{element, written}
 use Rattle.mpx_sim.proofs.Sending.{set_at}
 use Rattle.mpx_sim.proofs.turns.send_all.Goals as goal
 use Rattle.mpx_sim.proofs.turns.send_all.Goals.{then-is_free+in_ok-made+in_ok-send_each, else-is_free}

@@ -5,7 +5,7 @@ use Rattle.std.proofs.lemmas.Iterator.Search.{all_from_yields_List}
 use Rattle.mpx_post.specs.Posts.{Given}
 use Rattle.mpx_post.specs.Rows.{all_of}
 use Rattle.mpx_eval.specs.Contexts.{ContextView}
-use Rattle.mpx_rank.proofs.Words.{is_some-all_of}
+use Rattle.mpx_post.proofs.Lists.{is_some-all_of}
 use Rattle.mpx_eval.proofs.context.Context.has_row.Goals as goal
 
 pub returns : goal.returns

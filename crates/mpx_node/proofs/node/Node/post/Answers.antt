@@ -12,7 +12,8 @@ use Rattle.mpx_board.specs.Looks.{look}
 use Rattle.mpx_node.specs.Nodes.{OpenedView, checked_by, checked_on, posted_by}
 use Rattle.mpx_node.specs.Opened.{opened_of}
 use Rattle.mpx_node.specs.Shown.{node_of}
-use Rattle.mpx_node.proofs.Stepping.{Contexts, seen, has, stays, does, posts_refused, posts_turned_down, posts_made, posts_wants, checks_post}
+use Rattle.mpx_node.proofs.Stepping.{Contexts, seen, has, stays, does, posts_refused, posts_turned_down, posts_made, posts_wants}
+use Rattle.mpx_post.proofs.Checks.{checks_post}
 use Rattle.mpx_node.proofs.node.Node.post.Goals as goal
 
 pub returns-in_default-birth : goal.returns-in_default-birth

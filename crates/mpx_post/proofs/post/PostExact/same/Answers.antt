@@ -1,6 +1,5 @@
-use Rattle.std.proofs.Common.{◌∙◌, nat_eq, refl}
-use lib.Pointwise.{pointwise}
-use Rattle.mpx_post.specs.Equality.{same_given, same_operation}
+use Rattle.std.proofs.Common.{◌∙◌, nat_eq, refl, sym}
+use Rattle.mpx_post.specs.Equality.{same_given, same_items, same_operation, same_option}
 use Rattle.mpx_post.proofs.Equality.{eight_tests, kinds_test, modes_test, operations_test, options_test}
 use Rattle.mpx_post.proofs.post.PostExact.same.Goals as goal
 
@@ -13,8 +12,8 @@ returns c =
     (c.eq-2.ensures ∙ modes_test left.mode right.mode)
     (c.eq-3.ensures ∙ options_test nat_eq nat_eq (λ a b. refl) left.root right.root)
     (c.eq-4.ensures ∙ options_test _ same_operation operations_test left.op right.op)
-    (c.eq-5.ensures ∙ (λ i. pointwise nat_eq (c.as_slice.ensures.value i) (c.as_slice-2.ensures.value i)))
-    (c.eq-6.ensures ∙ (λ i. pointwise nat_eq (c.as_slice-3.ensures.value i) (c.as_slice-4.ensures.value i)))
-    c.are_same.ensures
-    c.same.ensures in
+    c.same.ensures
+    c.same-2.ensures
+    (c.are_same.ensures ∙ (λ i. same_option same_items (c.items.ensures.value i) (c.items-2.ensures.value i)) ∙ sym (λ i. same_option same_items (c.self.view_is i).items (c.other.view_is i).items))
+    c.same-3.ensures in
     all ∙ (λ i. same_given (c.self.view_is i) (c.other.view_is i))

@@ -1,6 +1,8 @@
-use Rattle.std.proofs.Common.{◌+◌, ◌∙◌, sym, ap, arith}
-use Rattle.mpx_node.specs.Nodes.{NodeView, checked_on, posted_on}
-use Rattle.mpx_shared.proofs.Docked.{docked_of, moored_me, moored_posts, posts_as}
+use Rattle.std.proofs.Common.{◌+◌, ◌∙◌, Err, refl, sym, ap, subst, arith, rules}
+use Rattle.mpx_node.specs.Nodes.{NodeView, Posts, checked_on, posted_on}
+use Rattle.mpx_node.specs.Shown.{node_of}
+use Rattle.mpx_bus.specs.Berths.{Berth, node_in}
+use Rattle.mpx_shared.proofs.Docked.{docked_of, moored_me, moored_posts, posts_as, refused_then, stays}
 use Rattle.mpx_shared.proofs.moored.Moored.post.Goals as goal
 
 pub ticket_for-requires : goal.ticket_for-requires
@@ -27,4 +29,22 @@ returns-clause-then g c =
       counted = omega (arith, counted, same);
       posts = posts_as c.args.name.now _ c.in_ok-ticket.ticket.post _ c.in_ok-ticket.ticket.call _ _ checks c.in_ok-_call.ensures.node (c.in_ok-ticket.ensures.ok.1.0 ∙ ap (λ (n : NodeView). posted_on n c.args.name.now) c.node.ensures.node);
       ticket = (c.in_ok-ticket.ensures.ok.0, checks);
+      goes = c.in_ok-_call.ensures.port;
+      acts = c.in_ok-_call.ensures.ok;
+      kept = c.in_ok-_call.ensures.still.1;
     }
+
+pub returns-in_err-ticket-clause-then : goal.returns-in_err-ticket-clause-then
+returns-in_err-ticket-clause-then g c =
+    refused_then g.L.Dock.table g.L.Dock.setup g.L.Dock.me g.L.Dock.before c.self.inside.book.total c.args.share.now.amount c.self.inside.port (node_of c.node.result.now) c.args.name.now c.args.draft _ c.from_residual.result c.self.invariant.1 c.node.ensures.stood
+    (c.audit.ensures.whole c.requires.whole.0) c.node.ensures.node c.in_err-ticket.ensures.err (search rules)
+
+pub returns-in_err-_call-clause-then : goal.returns-in_err-_call-clause-then
+returns-in_err-_call-clause-then g c =
+    refused_then g.L.Dock.table g.L.Dock.setup g.L.Dock.me g.L.Dock.before c.self.inside.book.total c.args.share.now.amount c.self.inside.port (node_in c.self.inside.port) c.args.name.now c.args.draft c.in_err-_call.field-0.0 c.from_residual-in_err-_call.result c.self.invariant.1 c.node.ensures.stood
+    (c.audit.ensures.whole c.requires.whole.0) refl
+    (subst (λ (b : Berth). Posts c.args.name.now (checked_on (node_in c.self.inside.port) c.args.name.now c.args.draft) (Err c.in_err-_call.field-0.0) (node_in c.self.inside.port) (node_in b)) c.in_err-_call.ensures.err c.in_err-_call.ensures.node)
+    (search rules)
+
+pub returns-then-is_err-clause-port : goal.returns-then-is_err-clause-port
+returns-then-is_err-clause-port g c = stays c.self.inside.port c.args.self.now.0 (search rules)

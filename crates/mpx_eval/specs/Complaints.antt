@@ -1,0 +1,63 @@
+-- Which calls were refused, and which are faults, by the lines of an evaluation's transcripts.
+use Rattle.std.specs.Prelude.{ℕ, zero, suc, ◌-◌, ◌==◌, Bool, false, ◌||◌, cond, List, [], ◌∷◌, ◌++◌, bytes_eq, codes, length, slice_get, Option, Some, None}
+use Rattle.std.specs.List.{flat_map, position_or_len, starts_with, zip}
+use Rattle.mpx_statement.specs.Statements.{request_of}
+use Rattle.mpx_statement.specs.declared.statement.Statement.{Statement}
+use Rattle.mpx_statement.specs.declared.statement.Statement.TheVariants.{Post, Wait, Ask}
+use Rattle.mpx_evaluation.specs.declared.origin.Origin.{Origin}
+use Rattle.mpx_evaluation.specs.Evaluation.{State, statements_of}
+use Rattle.mpx_evaluation.specs.Reports.{lines_in}
+
+-- a line of a rank's transcript that says so, and the place of the statement of its call among the rank's statements
+pub record ComplaintView : Type 0 where
+  pub rank : ℕ
+  pub statement : ℕ
+  pub text : List ℕ
+
+-- such a line begins with one of two words
+abbrev pub is_complaint : List ℕ → Bool
+is_complaint text = starts_with ◌==◌ text (codes "refused ") || starts_with ◌==◌ text (codes "fault ")
+
+-- THE STATEMENT OF A LINE'S CALL
+
+abbrev pub is_word : List ℕ → Option (List ℕ) → Bool
+is_word word None = false
+is_word word (Some other) = bytes_eq other word
+
+-- the place of the statement that starts this request
+abbrev pub started_at : List Statement → (request : List ℕ) → ℕ
+started_at statements request = position_or_len (λ statement. is_word request (request_of statement)) statements
+
+-- the statement that starts this request of a wait, if the wait names it
+abbrev pub call_of_request : List Statement → (place : ℕ) → (request : Option (List ℕ)) → ℕ
+call_of_request statements place None = place
+call_of_request statements place (Some request) = started_at statements request
+
+-- of a statement's lines the one of this number tells of the statement's own call, of a wait's lines of that of one of its requests
+abbrev pub call_of_line : List Statement → (place nth : ℕ) → Option Statement → ℕ
+call_of_line statements place nth None = place
+call_of_line statements place nth (Some (Post posting)) = place
+call_of_line statements place nth (Some (Wait words)) = call_of_request statements place (slice_get words nth)
+call_of_line statements place nth (Some (Ask question)) = place
+
+abbrev pub call_at : List Statement → Origin → ℕ
+call_at statements origin = call_of_line statements (length statements - origin.left) origin.nth (slice_get statements (length statements - origin.left))
+
+-- COMPLAINTS
+
+-- the line, where it is one
+abbrev pub complaint_in : (rank : ℕ) → List Statement → List ℕ × Origin → List ComplaintView
+complaint_in rank statements line = cond (is_complaint line.0) (record { rank = rank; statement = call_at statements line.1; text = line.0 } ∷ []) []
+
+-- those among a rank's lines, in their order
+abbrev pub complaints_at : (rank : ℕ) → List Statement → (lines : List (List ℕ)) → List Origin → List ComplaintView
+complaints_at rank statements lines origins = flat_map (complaint_in rank statements) (zip lines origins)
+
+-- those of the first so many ranks, rank by rank
+abbrev pub complaints_upto : ((rank : ℕ) → List ComplaintView) → (ranks : ℕ) → List ComplaintView
+complaints_upto complaints zero = []
+complaints_upto complaints (suc n) = complaints_upto complaints n ++ complaints n
+
+-- all where the ranks stand so
+abbrev pub complaints_in : List (List Statement) → (ranks : ℕ) → State → List ComplaintView
+complaints_in script ranks s = complaints_upto (λ p. complaints_at p (statements_of script p) (lines_in s p) (s p).origins) ranks

@@ -1,0 +1,148 @@
+// The lines of ranks that say that a call was refused or is a fault, and the statements of these calls.
+ghost use Rattle.std.specs.Prelude.{◌≡◌, ◌≤◌, ◌++◌, IfOk, OnOk, Some, length, map, slice_get, string_bytes};
+ghost use Rattle.mpx_statement.specs.Statements.{request_of};
+ghost use Rattle.mpx_eval.specs.Carrying.{shown};
+ghost use Rattle.mpx_eval.specs.Complaints.{call_at, complaint_in, complaints_at, complaints_upto, is_complaint, is_word, started_at};
+ghost use Rattle.mpx_eval.specs.Found.{complaint_view, complaints_found};
+
+use crate::table::Table;
+use join_core::OutOfMemory;
+use mpx_evaluation::Origin;
+use mpx_rank::Rank;
+use mpx_script::{Script, Statement};
+use std::alloc::Global;
+
+/// A line of a rank's transcript that says that a call was refused, or that it is a fault.
+#[derive(Debug, Drop)]
+pub struct Complaint {
+    pub rank: u8,
+    /// The place, from 0 on, of the call's statement among the rank's statements.
+    pub statement: usize,
+    /// The line.
+    pub text: String,
+}
+
+/// Those of the first so many of these ranks, rank by rank, and of each in the order of its lines.
+pub(crate) fn complaints_of(
+    alloc: Global,
+    script: &Script,
+    count: u8,
+    places: &[Rank<'_, Table>],
+) -> Result<Vec<Complaint>, OutOfMemory>
+    requires { count ≤ length places.now }
+    ensures { IfOk result (λ found. map complaint_view found.items ≡ complaints_upto (λ p. complaints_found script.now.statements p (slice_get (map shown places.now) p)) count) }
+{
+    let mut found = Vec::new(alloc);
+    for p in 0..count {
+        push_of_rank(alloc, script, p, &places[p as usize], &mut found)?;
+    }
+    Ok(found)
+}
+
+// Adds those of a rank.
+fn push_of_rank(
+    alloc: Global,
+    script: &Script,
+    rank: u8,
+    place: &Rank<'_, Table>,
+    found: &mut Vec<Complaint>,
+) -> Result<(), OutOfMemory>
+    ensures { OnOk result (map complaint_view found.new.items ≡ map complaint_view found.old.items ++ complaints_found script.now.statements rank (Some (shown place.now))) }
+{
+    let statements = script.statements(rank);
+    push_complaints(
+        alloc,
+        rank,
+        statements,
+        place.lines(),
+        place.origins(),
+        found,
+    )
+}
+
+// Adds those of a rank with these statements and lines.
+fn push_complaints(
+    alloc: Global,
+    rank: u8,
+    statements: &[Statement],
+    lines: &[String],
+    origins: &[Origin],
+    found: &mut Vec<Complaint>,
+) -> Result<(), OutOfMemory>
+    ensures { OnOk result (map complaint_view found.new.items ≡ map complaint_view found.old.items ++ complaints_at rank statements.now (map string_bytes lines.now) origins.now) }
+{
+    let mut rest = origins;
+    for line in lines {
+        let Some((origin, more)) = rest.split_first() else {
+            return Ok(());
+        };
+        push_complaint(alloc, rank, statements, line, *origin, found)?;
+        rest = more;
+    }
+    Ok(())
+}
+
+// Adds a line, if it is one.
+fn push_complaint(
+    alloc: Global,
+    rank: u8,
+    statements: &[Statement],
+    line: &String,
+    origin: Origin,
+    found: &mut Vec<Complaint>,
+) -> Result<(), OutOfMemory>
+    ensures { OnOk result (map complaint_view found.new.items ≡ map complaint_view found.old.items ++ complaint_in rank statements.now (string_bytes line.now, origin)) }
+{
+    if !is_complaint(line.as_bytes()) {
+        return Ok(());
+    }
+    let statement = call_at(statements, origin);
+    let text = String::from_str(alloc, line.as_str())?;
+    found.push(Complaint {
+        rank,
+        statement,
+        text,
+    })?;
+    Ok(())
+}
+
+// Whether a line says that a call was refused, or that it is a fault.
+fn is_complaint(line: &[u8]) -> bool
+    ensures { result ≡ is_complaint line.now }
+{
+    line.starts_with(b"refused ") || line.starts_with(b"fault ")
+}
+
+// The place of the statement of the call that a line tells of.
+fn call_at(statements: &[Statement], origin: Origin) -> usize
+    ensures { result ≡ call_at statements.now origin }
+{
+    let place = statements.len().saturating_sub(origin.left);
+    match statements.get(place) {
+        Some(Statement::Wait(words)) => match words.as_slice().get(origin.nth) {
+            Some(request) => started_at(statements, request.as_bytes()),
+            None => place,
+        },
+        Some(Statement::Post(_) | Statement::Ask(_)) | None => place,
+    }
+}
+
+/// The place of the statement that starts this request.
+pub fn started_at(statements: &[Statement], request: &[u8]) -> usize
+    ensures { result ≡ started_at statements.now request.now }
+{
+    statements
+        .iter()
+        .take_while(|statement| !starts(statement, request))
+        .count()
+}
+
+// Whether a statement starts this request.
+fn starts(statement: &Statement, request: &[u8]) -> bool
+    ensures { result ≡ is_word request.now (request_of statement.now) }
+{
+    match statement.request() {
+        Some(word) => word.as_bytes() == request,
+        None => false,
+    }
+}

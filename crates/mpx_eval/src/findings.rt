@@ -1,0 +1,41 @@
+// What is told of a script's evaluation beside its transcripts.
+ghost use Rattle.std.specs.Prelude.{IfOk, map};
+ghost use Rattle.mpx_eval.specs.Findings.{AreFindings};
+ghost use Rattle.mpx_eval.specs.Found.{complaint_view, waiting_view};
+
+use crate::complaints::{Complaint, complaints_of};
+use crate::evaluation::start;
+use crate::rounds::rounds;
+use crate::table::Table;
+use crate::who_waits::{WaitingRank, waiting_ranks};
+use join_core::OutOfMemory;
+use mpx_script::Script;
+use std::alloc::Global;
+
+/// Who waits at the end of a script's evaluation, and what its lines complain of.
+#[derive(Debug, Drop)]
+pub struct Findings {
+    /// The ranks that wait, in rising order: where each of them does, for which calls, and which members of their contexts have
+    /// not posted to them.
+    pub waiting: Vec<WaitingRank>,
+    /// The lines that say that a call was refused or is a fault, rank by rank and in the order of the transcripts, each with
+    /// the statement of its call.
+    pub complaints: Vec<Complaint>,
+}
+
+/// Evaluates a script, and finds who waits at the end, and which calls were refused or are faults.
+pub fn examine(alloc: Global, script: &Script) -> Result<Findings, OutOfMemory>
+    ensures { IfOk result (λ found. AreFindings script.now (map waiting_view found.waiting.items) (map complaint_view found.complaints.items)) }
+{
+    let count = script.ranks();
+    let mut ranks = start(alloc, script)?;
+    let mut table = Table::new(alloc);
+    rounds(alloc, &mut ranks, &mut table)?;
+    let places = ranks.as_slice();
+    let waiting = waiting_ranks(alloc, script, count, places, &table)?;
+    let complaints = complaints_of(alloc, script, count, places)?;
+    Ok(Findings {
+        waiting,
+        complaints,
+    })
+}

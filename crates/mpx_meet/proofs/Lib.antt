@@ -1,4 +1,0 @@
-pub mod Turns
-pub mod Meeting
-pub mod Passes
-pub mod Examples

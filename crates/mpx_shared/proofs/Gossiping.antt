@@ -1,0 +1,165 @@
+-- What pulls and puts do.
+use Rattle.std.proofs.Common.{◌≡◌, ℕ, ◌+◌, Bool, true, false, List, [], ◌∷◌, ◌++◌, Option, None, Some, Result, Ok, Err, is_some, refl, sym, ap, ◌∙◌, append_assoc}
+use Rattle.std.specs.Prelude.{All, IfOk, OnOk, OnErr}
+use Rattle.std.proofs.lemmas.List.{append-nil}
+use Rattle.std.proofs.lemmas.List.Elements.{All-append, All-cons, All-nil}
+use Rattle.join_core.specs.declared.memory.OutOfMemory.{OutOfMemory}
+use Rattle.atomic_table.specs.Seated.{TableId}
+use Rattle.mpx_name.specs.Name.{Name}
+use Rattle.mpx_board.specs.Boards.{Look}
+use Rattle.mpx_board.specs.declared.errors.PruneError.{PruneError}
+use Rattle.mpx_node.specs.declared.finished.Finished.{Finished}
+use Rattle.mpx_node.specs.declared.node.Harvest.{Harvest}
+use Rattle.mpx_node.specs.declared.node.Harvest.TheVariants as H
+use Rattle.mpx_node.specs.Nodes.{NodeView, OpenedView, children_on, front_on, next_of, next_result, posted_on}
+use Rattle.mpx_node.specs.Harvests.{Harvests}
+use Rattle.mpx_world.proofs.Kept.{front_added, posted_added}
+use Rattle.mpx_bus.specs.declared.act.Act.{Act}
+use Rattle.mpx_bus.specs.declared.act.Act.TheVariants as A
+use Rattle.mpx_bus.specs.declared.act.Setup.{Setup}
+use Rattle.mpx_bus.specs.declared.port.Push.{Push}
+use Rattle.mpx_bus.specs.Answers.{HarvestsOne, PushesNext, WantsList}
+use Rattle.mpx_bus.specs.Berths.{Berth, GoesOn, KeepsPlan, node_in}
+use Rattle.mpx_bus.specs.Rule.{Stood}
+use Rattle.mpx_shared.specs.declared.ticket.Pull.{Pull}
+use Rattle.mpx_shared.specs.declared.ticket.Pull.TheVariants as L
+use Rattle.mpx_shared.specs.Docks.{IsMoored, MakesNoPost}
+use Rattle.mpx_shared.specs.Gossip.{HarvestsAndPrunes, HarvestsNext, IsHarvestOrPruning, Pulls, Puts, Settles, WantsResult, has_next}
+use Rattle.mpx_shared.specs.Turns.{PullsThen, PutsThen, Sufficed}
+use Rattle.mpx_shared.proofs.Docked.{docked_of, moored_later, no_post_by, no_post_itself, no_post_then}
+
+-- HARVESTS AND PRUNINGS
+
+pub nothing_done : (a b : Berth) → b ≡ a → HarvestsAndPrunes a b
+nothing_done a b e = record { no_post = no_post_itself a b e; acts = []; each = All-nil IsHarvestOrPruning; journal = ap (λ (x : Berth). x.journal) e ∙ sym (append-nil a.journal); kept = ap (λ (x : Berth). x.kept) e }
+
+just_one : (a : Act) → IsHarvestOrPruning a → All IsHarvestOrPruning (a ∷ [])
+just_one a is = All-cons IsHarvestOrPruning a [] is (All-nil IsHarvestOrPruning)
+
+pub done_then : (a b c : Berth) → HarvestsAndPrunes a b → HarvestsAndPrunes b c → HarvestsAndPrunes a c
+done_then a b c g h = record {
+  no_post = no_post_then a b c g.no_post h.no_post;
+  acts = g.acts ++ h.acts;
+  each = All-append IsHarvestOrPruning g.acts h.acts g.each h.each;
+  journal = h.journal ∙ ap (λ js. js ++ h.acts) g.journal ∙ append_assoc a.journal g.acts h.acts;
+  kept = h.kept ∙ g.kept;
+}
+
+pub prunes_one : (name : Name) (n : ℕ) (r : Result (Unit {0}) PruneError) (a b : Berth) → GoesOn a b → b.kept ≡ a.kept → OnOk r (b.journal ≡ a.journal ++ A.Pruned name n ∷ []) → OnErr r (b ≡ a) → HarvestsAndPrunes a b
+prunes_one name n (Ok u) a b goes kept ok err = record { no_post = no_post_by a b (A.Pruned name n ∷ []) goes ok (tt, tt); acts = A.Pruned name n ∷ []; each = just_one (A.Pruned name n) tt; journal = ok; kept = kept }
+prunes_one name n (Err e) a b goes kept ok err = nothing_done a b err
+
+pub harvests_one : (name : Name) (r : Result Harvest OutOfMemory) (a b : Berth) → GoesOn a b → b.kept ≡ a.kept → HarvestsOne name r a b → HarvestsAndPrunes a b
+harvests_one name (Ok (H.Done call)) a b goes kept h = record { no_post = no_post_by a b (A.Harvested name ∷ []) goes h (tt, tt); acts = A.Harvested name ∷ []; each = just_one (A.Harvested name) tt; journal = h; kept = kept }
+harvests_one name (Ok H.NotYet) a b goes kept h = nothing_done a b h
+harvests_one name (Ok H.NotOpened) a b goes kept h = nothing_done a b h
+harvests_one name (Err e) a b goes kept h = nothing_done a b h
+
+-- NEXT RESULTS
+
+-- whether a harvest stored a result
+abbrev pub is_done : Harvest → Bool
+is_done (H.Done call) = true
+is_done H.NotYet = false
+is_done H.NotOpened = false
+
+-- a harvest that stored none found none
+no_next : (o : Option OpenedView) (name : Name) (next : Option Finished) (h : Harvest) (old new : NodeView) → (o ≡ None → next ≡ None) → Harvests (is_some o) name next (Ok h) old new → is_done h ≡ false → is_some next ≡ false
+no_next None name next h old new nothing hs stop = ap is_some (nothing refl)
+no_next (Some o) name None h old new nothing hs stop = refl
+no_next (Some o) name (Some f) (H.Done call) old new nothing hs stop = cc stop
+no_next (Some o) name (Some f) H.NotYet old new nothing hs stop = absurd hs
+no_next (Some o) name (Some f) H.NotOpened old new nothing hs stop = absurd hs
+
+nothing_opened : (o : Option OpenedView) (board : Look) (name : Name) (me : ℕ) → o ≡ None → next_of o board name me ≡ None
+nothing_opened None board name me e = refl
+nothing_opened (Some o) board name me e = cc e
+
+stores_next : (o : Option OpenedView) (name : Name) (next : Option Finished) (call : ℕ) (old new : NodeView) → old.opened name ≡ o → Harvests (is_some o) name next (Ok (H.Done call)) old new
+    → (posted_on new name ≡ posted_on old name) × (front_on new name ≡ front_on old name + 1)
+stores_next None name next call old new is hs = let f : Ok (H.Done call) ≡ Ok H.NotOpened = hs.0 in absurd (cc f)
+stores_next (Some o) name None call old new is hs = absurd hs
+stores_next (Some o) name (Some f) call old new is hs =
+    let made = children_on old.board name (front_on old name) in (
+      ap (λ (n : NodeView). posted_on n name) hs.1 ∙ posted_added name f made old name,
+      ap (λ (n : NodeView). front_on n name) hs.1 ∙ front_added name f made old o is,
+    )
+
+none_stored : (h : Harvest) (name : Name) (a b : Berth) → b ≡ a → is_done h ≡ false → Harvests (is_some ((node_in a).opened name)) name (next_result (node_in a) name) (Ok h) (node_in a) (node_in b) → HarvestsNext false name a b
+none_stored h name a b same stop hs =
+    let n = node_in a in record {
+      posted = ap (λ (x : Berth). posted_on (node_in x) name) same;
+      stored = λ (e : false ≡ true). cc e;
+      none = λ e. ap (λ (x : Berth). has_next x name) same ∙ no_next (n.opened name) name (next_result n name) h n (node_in b) (nothing_opened (n.opened name) n.board name n.me) hs stop;
+    }
+
+pub next_harvested : (h : Harvest) (name : Name) (a b : Berth) → HarvestsOne name (Ok h) a b → Harvests (is_some ((node_in a).opened name)) name (next_result (node_in a) name) (Ok h) (node_in a) (node_in b) → HarvestsNext (is_done h) name a b
+next_harvested (H.Done call) name a b one hs =
+    let n = node_in a in
+    let x = stores_next (n.opened name) name (next_result n name) call n (node_in b) refl hs in
+    record { posted = x.0; stored = λ e. x.1; none = λ (e : true ≡ false). cc e }
+next_harvested H.NotYet name a b one hs = none_stored H.NotYet name a b one refl hs
+next_harvested H.NotOpened name a b one hs = none_stored H.NotOpened name a b one refl hs
+
+-- so far it has harvested: the number of the next call is that of the results
+pub record IsHarvesting (name : Name) (call : ℕ) (old new : Berth) : Type 0 where
+  pub done : HarvestsAndPrunes old new
+  pub posted : posted_on (node_in new) name ≡ posted_on (node_in old) name
+  pub front : front_on (node_in new) name ≡ call
+
+pub harvesting_begins : (name : Name) (port : Berth) → IsHarvesting name (front_on (node_in port) name) port port
+harvesting_begins name port = record { done = nothing_done port port refl; posted = refl; front = refl }
+
+pub harvesting_more : (name : Name) (call : ℕ) (had : Bool) (a b c : Berth) → IsHarvesting name call a b → HarvestsAndPrunes b c → HarvestsNext had name b c → had ≡ true → IsHarvesting name (call + 1) a c
+harvesting_more name call had a b c i h n e = record {
+  done = done_then a b c i.done h;
+  posted = n.posted ∙ i.posted;
+  front = n.stored e ∙ ap (λ k. k + 1) i.front;
+}
+
+-- WHAT FOLLOWS A POP
+
+pub settles_by : (a b c d : Berth) → HarvestsAndPrunes a b → has_next b [] ≡ false → HarvestsAndPrunes b c → HarvestsAndPrunes c d → Settles a d
+settles_by a b c d first none prunes rest = record { harvested = b; harvests = first; none_left = none; then = done_then b c d prunes rest }
+
+pub wants_later : (a b c : Berth) (r : Result (Unit {0}) OutOfMemory) → HarvestsAndPrunes a b → OnErr r (WantsResult b c) → OnErr r (WantsResult a c)
+wants_later a b c (Ok u) h w = tt
+wants_later a b c (Err e) h w = record { harvests = done_then a b c h w.harvests; name = w.name; next = w.next }
+
+pub on_ok : {T E P : Type 0} (r : Result T E) → P → OnOk r P
+on_ok (Ok x) p = p
+on_ok (Err e) p = tt
+
+-- TURNS
+
+pub sufficed_by : (pull : Pull) → ((lost : Option (List ℕ)) → pull ≡ L.OutOfMemory lost → ⊥) → Sufficed pull
+sufficed_by L.Took not = tt
+sufficed_by L.Empty not = tt
+sufficed_by (L.OutOfMemory lost) not = not lost refl
+
+-- UNDER THE LOCK
+
+module _ (table : TableId) (setup : Setup) (me before total : ℕ) (a b : Berth) (m : IsMoored table setup me before a total) (first : KeepsPlan a → Stood a.setup a.me a.journal) (last : KeepsPlan b → Stood b.setup b.me b.journal) (n : MakesNoPost a b) where
+  pub pulls_then : (pull : Pull) → Pulls pull a b → PullsThen table setup me pull
+  pulls_then pull pulls = record {
+    before = a;
+    after = b;
+    docked_before = docked_of table setup me before total a m first;
+    docked_after = docked_of table setup me before total b (moored_later table setup me before total a b m n) last;
+    no_post = n;
+    pulls = pulls;
+  }
+
+  pub puts_then : (put : Result Push OutOfMemory) → Puts put a b → PutsThen table setup me put
+  puts_then put puts = record {
+    before = a;
+    after = b;
+    docked_before = docked_of table setup me before total a m first;
+    docked_after = docked_of table setup me before total b (moored_later table setup me before total a b m n) last;
+    no_post = n;
+    puts = puts;
+  }
+
+pub puts_as : (put : Result Push OutOfMemory) (a b : Berth) → IfOk put (λ push. PushesNext push a b) → OnErr put (WantsList a b) → OnErr put (a.kept ≡ []) → Puts put a b
+puts_as (Ok push) a b next err used = next
+puts_as (Err e) a b next err used = (used, err)

@@ -1,0 +1,234 @@
+-- Networks go on by the steps of their nodes, and what is so of their worlds.
+use Rattle.std.proofs.Common.{◌≡◌, ℕ, zero, suc, Bool, true, false, cond, ◌==◌, List, [], ◌∷◌, ◌++◌, length, map, set, Option, Some, None, refl, sym, ap, ◌∙◌, inl, inr, subst, arith, append-nil, append_assoc}
+use Rattle.std.specs.Prelude.{◌⊎◌, ℤ, All, slice_get, is_some, Result, Ok, Err, OnOk, OnErr}
+use Rattle.std.proofs.lemmas.Option.{same_Some}
+use Rattle.join_core.specs.declared.memory.OutOfMemory.{OutOfMemory}
+use Rattle.mpx_name.specs.Name.{Name}
+use Rattle.mpx_post.specs.Posts.{Given}
+use Rattle.mpx_post.specs.Gatherings.{GatheringView}
+use Rattle.mpx_post.specs.declared.draft.Draft.{Draft}
+use Rattle.mpx_post.specs.declared.draft.PostError.{PostError}
+use Rattle.mpx_board.specs.declared.board.Board.{Board}
+use Rattle.mpx_board.specs.declared.errors.PruneError.{PruneError}
+use Rattle.mpx_board.specs.Boards.{Look, IsBetween, Dropped, Has, floor_on, only}
+use Rattle.mpx_board.specs.Changes.{pruned}
+use Rattle.mpx_board.specs.Looks.{look}
+use Rattle.mpx_parts.specs.Facts.{OnlyFactsOf}
+use Rattle.mpx_delta.specs.Digests.{HasUpTo}
+use Rattle.mpx_node.specs.declared.finished.Finished.{Finished}
+use Rattle.mpx_node.specs.declared.node.Harvest.{Harvest}
+use Rattle.mpx_node.specs.declared.node.Harvest.TheVariants as H
+use Rattle.mpx_node.specs.Deltas.{SaysWhatItHas}
+use Rattle.mpx_node.specs.Harvests.{Harvests, HarvestsOpened}
+use Rattle.mpx_node.specs.Nodes.{NodeView, Opens, Posts as MakesPost, StopsTaking, acknowledge, add_result, checked_on, gathers_on, learn, next_result, open_gathering_node, post_at, results_on}
+use Rattle.mpx_world.specs.Worlds.{ProcessView, WorldView, MayLeave, makes, made_next, stores, opens_gathering, drops, takes, learns, posts, harvests, gathers, prunes, acknowledges, Happening, Posts, Harvests as HappensHarvest, Gathers, Prunes, Sends, Takes, TakesPartly, Acknowledges, at_process, happens, MayHappen, MayGoOn, start, world_by}
+use Rattle.mpx_world.specs.Soundness.{AgreeAcross, BoardsAgree}
+use Rattle.mpx_world.specs.Networks.{AllAgree, AreAmong, AreKept, AreNew, Gives, GoesOn, HasPruned, IsNetwork, IsStep, IsTake, Network, NodesAgree, network_of, new_network, world_in}
+use Rattle.mpx_world.proofs.Lists.{cond_cases, itself, same_number, slice_get-push}
+use Rattle.mpx_world.proofs.Later.{Later}
+use Rattle.mpx_world.proofs.Reached.{agree_across, all_agree, own_seen}
+use Rattle.mpx_world.proofs.Covering.{digest_had}
+use Rattle.mpx_post.proofs.Lists.{set_cases, slice_get-append}
+use Rattle.mpx_world.proofs.Whole.{IsWell, goes_on-append, may_append, well_by, later_by}
+
+-- WHAT HAPPENS NEXT
+
+-- the nodes are those of the world's processes
+abbrev AreOf : WorldView → List NodeView → Type 0
+AreOf w nodes = (p : ℕ) (node : NodeView) → slice_get nodes p ≡ Some node → node ≡ (w.each p).node
+
+pub well : (n : Network) → IsNetwork n → IsWell (world_in n)
+well n s = well_by n.ranks n.size n.happenings s.may
+
+-- nothing has happened
+by_nothing : (n : Network) (nodes : List NodeView) (parts : List Look) → IsNetwork n → AreOf (world_in n) nodes → AreAmong parts (world_in n).parts → GoesOn n nodes parts
+by_nothing n nodes parts s each sent =
+    let same : n.happenings ≡ n.happenings ++ [] = sym (append-nil n.happenings) in
+    record {
+      later = [];
+      network = record {
+        may = subst (MayGoOn (start n.ranks n.size)) same s.may;
+        each = subst (λ hs. AreOf (world_by n.ranks n.size hs) nodes) same each;
+        sent = subst (λ hs. AreAmong parts (world_by n.ranks n.size hs).parts) same sent;
+      };
+    }
+
+-- this has happened
+by_happening : (n : Network) (h : Happening) (nodes : List NodeView) (parts : List Look) → IsNetwork n → MayHappen (world_in n) h → AreOf (happens (world_in n) h) nodes → AreAmong parts (happens (world_in n) h).parts → GoesOn n nodes parts
+by_happening n h nodes parts s m each sent =
+    let is : happens (world_in n) h ≡ world_by n.ranks n.size (n.happenings ++ h ∷ []) = sym (goes_on-append n.happenings (h ∷ []) (start n.ranks n.size)) in
+    record {
+      later = h ∷ [];
+      network = record {
+        may = may_append n.happenings (h ∷ []) (start n.ranks n.size) s.may (m, tt);
+        each = subst (λ w. AreOf w nodes) is each;
+        sent = subst (λ (w : WorldView). AreAmong parts w.parts) is sent;
+      };
+    }
+
+pub further : (n : Network) (middle nodes : List NodeView) (sent parts : List Look) (first : GoesOn n middle sent) → GoesOn (network_of first) nodes parts → GoesOn n nodes parts
+further n middle nodes sent parts first next = record {
+  later = first.later ++ next.later;
+  network = subst (λ hs. IsNetwork (record n { happenings = hs; nodes = nodes; parts = parts })) (append_assoc n.happenings first.later next.later) next.network;
+}
+
+pub fewer_sent : (n : Network) (nodes : List NodeView) (parts fewer : List Look) → AreAmong fewer parts → GoesOn n nodes parts → GoesOn n nodes fewer
+fewer_sent n nodes parts fewer among on = record {
+  later = on.later;
+  network = record {
+    may = on.network.may;
+    each = on.network.each;
+    sent = λ i part e. let there = among i part e in on.network.sent there.0 part there.1;
+  };
+}
+
+pub begins : (ranks size : ℕ) (nodes : List NodeView) → AreNew ranks size nodes → IsNetwork (new_network ranks size nodes)
+begins ranks size nodes new = record { may = tt; each = new; sent = λ i part e. cc e }
+
+-- ONE NODE CHANGES
+
+pub unchanged_step : (old new : NodeView) → new ≡ old → IsStep old new
+unchanged_step old new is n s p at =
+    let w = world_in n in
+    by_nothing n (set n.nodes p new) n.parts s
+    (λ q node e. set_cases n.nodes p q new node (λ v. v ≡ (w.each q).node) e (λ same. is ∙ s.each p old at ∙ ap (λ i. (w.each i).node) (sym same)) (λ there other. s.each q node there))
+    s.sent
+
+-- where its process makes this step
+by_step : (n : Network) (p : ℕ) (old new : NodeView) (step : ProcessView → ProcessView) (h : Happening) → IsNetwork n → slice_get n.nodes p ≡ Some old → MayHappen (world_in n) h → happens (world_in n) h ≡ at_process p step (world_in n) → new ≡ (step ((world_in n).each p)).node → GoesOn n (set n.nodes p new) n.parts
+by_step n p old new step h s at m is new_is =
+    let w = world_in n in
+    let each : AreOf (at_process p step w) (set n.nodes p new) = λ q node e.
+    set_cases n.nodes p q new node (λ v. v ≡ (cond (q == p) (step (w.each q)) (w.each q)).node) e
+    (λ same. new_is ∙ sym (ap (λ (b : Bool). (cond b (step (w.each q)) (w.each q)).node) (ap (λ i. i == p) same ∙ itself p) ∙ ap (λ i. (step (w.each i)).node) same))
+    (λ there other. cond_cases (λ (v : ProcessView). node ≡ v.node) (q == p) (step (w.each q)) (w.each q) (λ t. absurd (other (same_number q p t))) (λ t. s.each q node there)) in
+    by_happening n h (set n.nodes p new) n.parts s m (subst (λ u. AreOf u (set n.nodes p new)) (sym is) each) (subst (λ (u : WorldView). AreAmong n.parts u.parts) (sym is) s.sent)
+
+-- CALLS OF A NODE
+
+post_cases : (name : Name) (r : Result Given PostError) (result : Result ℕ PostError) (old new : NodeView) → MakesPost name r result old new → (new ≡ old) ⊎ ((given : Given) × (r ≡ Ok given) × (new ≡ post_at name given old))
+post_cases name (Err refusal) result old new h = inl h.1
+post_cases name (Ok given) (Ok call) old new h = inr (given, refl, h.1)
+post_cases name (Ok given) (Err e) old new h = inl h.1
+
+pub post_step : (old new : NodeView) (name : Name) (draft : Draft) (result : Result ℕ PostError) → MakesPost name (checked_on old name draft) result old new → IsStep old new
+post_step old new name draft result h n s p at = elim (post_cases name (checked_on old name draft) result old new h) [
+  | inl same ↦ unchanged_step old new same n s p at
+  | inr made ↦ by_step n p old new (posts name draft) (Posts p name draft) s at tt refl (let v = (world_in n).each p in let here = s.each p old at in
+      made.2 ∙ ap (post_at name made.0) here ∙ ap (λ r. (makes name r v).node) (sym (ap (λ x. checked_on x name draft) (sym here) ∙ made.1)))
+]
+
+opened_cases : (name : Name) (next : Option Finished) (result : Result Harvest OutOfMemory) (old new : NodeView) → HarvestsOpened name next result old new → (new ≡ old) ⊎ ((finished : Finished) × (next ≡ Some finished) × (new ≡ add_result name finished (made_next name old) old))
+opened_cases name (Some finished) (Ok (H.Done call)) old new h = inr (finished, refl, h.1)
+opened_cases name (Some finished) (Ok H.NotYet) old new h = absurd h
+opened_cases name (Some finished) (Ok H.NotOpened) old new h = absurd h
+opened_cases name (Some finished) (Err e) old new h = inl h
+opened_cases name None (Ok (H.Done call)) old new h = absurd h
+opened_cases name None (Ok H.NotYet) old new h = inl h
+opened_cases name None (Ok H.NotOpened) old new h = absurd h
+opened_cases name None (Err e) old new h = absurd h
+
+harvest_cases : (is_opened : Bool) (name : Name) (next : Option Finished) (result : Result Harvest OutOfMemory) (old new : NodeView) → Harvests is_opened name next result old new → (new ≡ old) ⊎ ((finished : Finished) × (next ≡ Some finished) × (new ≡ add_result name finished (made_next name old) old))
+harvest_cases false name next result old new h = inl h.1
+harvest_cases true name next result old new h = opened_cases name next result old new h
+
+pub harvest_step : (old new : NodeView) (name : Name) (result : Result Harvest OutOfMemory) → Harvests (is_some (old.opened name)) name (next_result old name) result old new → IsStep old new
+harvest_step old new name result h n s p at = elim (harvest_cases (is_some (old.opened name)) name (next_result old name) result old new h) [
+  | inl same ↦ unchanged_step old new same n s p at
+  | inr made ↦ by_step n p old new (harvests name) (HappensHarvest p name) s at tt refl (let v = (world_in n).each p in let here = s.each p old at in
+      made.2 ∙ ap (λ x. add_result name made.0 (made_next name x) x) here ∙ ap (λ o. (stores name o v).node) (sym (ap (λ x. next_result x name) (sym here) ∙ made.1)))
+]
+
+gather_cases : (parent : Name) (r : Result GatheringView PostError) (result : Result Name PostError) (old new : NodeView) → Opens parent r result old new → (new ≡ old) ⊎ ((g : GatheringView) × (r ≡ Ok g) × (new ≡ open_gathering_node parent g old))
+gather_cases parent (Err refusal) result old new h = inl h.1
+gather_cases parent (Ok g) (Ok name) old new h = inr (g, refl, h.1)
+gather_cases parent (Ok g) (Err e) old new h = inl h.1
+
+pub gather_step : (old new : NodeView) (parent : Name) (tag : ℤ) (ranks : List ℤ) (result : Result Name PostError) → Opens parent (gathers_on old parent tag ranks) result old new → IsStep old new
+gather_step old new parent tag ranks result h n s p at = elim (gather_cases parent (gathers_on old parent tag ranks) result old new h) [
+  | inl same ↦ unchanged_step old new same n s p at
+  | inr made ↦ by_step n p old new (gathers parent tag ranks) (Gathers p parent tag ranks) s at tt refl (let v = (world_in n).each p in let here = s.each p old at in
+      made.2 ∙ ap (open_gathering_node parent made.0) here ∙ ap (λ r. (opens_gathering parent r v).node) (sym (ap (λ x. gathers_on x parent tag ranks) (sym here) ∙ made.1)))
+]
+
+pub prune_step : (old new : NodeView) (name : Name) (m : ℕ) (result : Result (Unit {0}) PruneError) → HasPruned name m result old new → IsStep old new
+prune_step old new name m (Ok u) h n s p at =
+    let v = (world_in n).each p in
+    let here = s.each p old at in
+    by_step n p old new (prunes name m) (Prunes p name m) s at tt refl (h.1 ∙ ap (learn (only (Dropped name m))) here ∙ ap (λ r. (drops name m r v).node) (h.0 ∙ ap (λ (x : NodeView). pruned (floor_on x.board name) m) here))
+prune_step old new name m (Err refusal) h n s p at = unchanged_step old new h.2 n s p at
+
+pub take_step : (old new : NodeView) (part : Look) (result : Result (Unit {0}) OutOfMemory) → OnOk result (new ≡ learn part old) → OnErr result (StopsTaking part old new) → IsTake part old new
+take_step old new part (Ok u) ok err n s p at place sent =
+    let v = (world_in n).each p in
+    let here = s.each p old at in
+    let there = s.sent place part sent in
+    by_step n p old new (takes (slice_get (world_in n).parts there.0)) (Takes p there.0) s at tt refl (ok ∙ ap (learn part) here ∙ ap (λ o. (takes o v).node) (sym there.1))
+take_step old new part (Err e) ok err n s p at place sent =
+    let v = (world_in n).each p in
+    let here = s.each p old at in
+    let there = s.sent place part sent in
+    let may : MayLeave v.node.board (slice_get (world_in n).parts there.0) new.board = subst (λ o. MayLeave v.node.board o new.board) (sym there.1) (subst (λ (x : NodeView). IsBetween x.board part new.board) here err.1) in
+    by_step n p old new (learns new.board) (TakesPartly p there.0 new.board) s at may refl (err.0 ∙ sym (ap (λ b. record old { board = b }) err.1.joined) ∙ ap (learn new.board) here)
+
+pub deltas_step : (old new : NodeView) → SaysWhatItHas old new → IsStep old new
+deltas_step old new says n s p at =
+    let here = s.each p old at in
+    let may : MayHappen (world_in n) (Acknowledges p says.numbers) = subst (λ (x : NodeView). (name : Name) (m : ℕ) → HasUpTo x.board name m (says.numbers name m)) here (digest_had says.numbers old.board says.digest) in
+    by_step n p old new (acknowledges says.numbers) (Acknowledges p says.numbers) s at may refl (says.learnt ∙ ap (acknowledge says.numbers) here)
+
+-- PARTS THAT ARE GIVEN
+
+-- a part with facts of the node's board alone
+gives : (n : Network) (p : ℕ) (node : NodeView) (part : Look) → IsNetwork n → slice_get n.nodes p ≡ Some node → OnlyFactsOf part node.board → GoesOn n n.nodes (part ∷ n.parts)
+gives n p node part s at facts =
+    let w = world_in n in
+    let may : MayHappen w (Sends p part) = λ f has. own_seen w p (w.each p) f ((well n s).holds.processes p) (subst (λ (x : NodeView). Has x.board f) (s.each p node at) (facts f has)) in
+    by_happening n (Sends p part) n.nodes (part ∷ n.parts) s may s.each more where
+      more : AreAmong (part ∷ n.parts) ((world_in n).parts ++ part ∷ [])
+      more zero x e = (length (world_in n).parts, slice_get-push (world_in n).parts part ∙ e)
+      more (suc i) x e = let there = s.sent i x e in (there.0, slice_get-append (world_in n).parts (part ∷ []) there.0 x there.1)
+
+-- several
+gives_all : (made : List Board) (n : Network) (p : ℕ) (node : NodeView) → IsNetwork n → slice_get n.nodes p ≡ Some node → ((i : ℕ) (b : Board) → slice_get made i ≡ Some b → OnlyFactsOf (look b) node.board) → GoesOn n n.nodes (map look made ++ n.parts)
+gives_all [] n p node s at facts = by_nothing n n.nodes n.parts s s.each s.sent
+gives_all (b ∷ made) n p node s at facts =
+    let first = gives_all made n p node s at (λ i. facts (suc i)) in
+    further n n.nodes n.nodes (map look made ++ n.parts) (look b ∷ (map look made ++ n.parts)) first (gives (network_of first) p node (look b) first.network at (facts zero b refl))
+
+all_facts : (board : Look) (made : List Board) → All (λ b. OnlyFactsOf (look b) board) made → (i : ℕ) (b : Board) → slice_get made i ≡ Some b → OnlyFactsOf (look b) board
+all_facts board [] all i b e = cc e
+all_facts board (x ∷ made) all zero b e = subst (λ y. OnlyFactsOf (look y) board) (same_Some x b e) (all zero x (omega arith))
+all_facts board (x ∷ made) all (suc i) b e = all_facts board made (λ k d lt. all (suc k) d (omega (arith, lt))) i b e
+
+pub part_given : (node : NodeView) (part : Look) → part ≡ node.board → Gives node (part ∷ [])
+part_given node part is n s p at = gives n p node part s at (λ f has. subst (λ b. Has b f) is has)
+
+pub parts_given : (node : NodeView) (made : List Board) → All (λ part. OnlyFactsOf (look part) node.board) made → Gives node (map look made)
+parts_given node made all n s p at = gives_all made n p node s at (all_facts node.board made all)
+
+-- AGREEMENT
+
+pub later_on : (n : Network) (nodes : List NodeView) (parts : List Look) (on : GoesOn n nodes parts) → Later (world_in n) (world_in (network_of on))
+later_on n nodes parts on = later_by n.ranks n.size n.happenings on.later
+
+pub across : (n : Network) (nodes : List NodeView) (parts : List Look) → IsNetwork n → (on : GoesOn n nodes parts) → (p q : ℕ) → AgreeAcross (world_in n) (world_in (network_of on)) p q
+across n nodes parts s on = agree_across (world_in n) (world_in (network_of on)) (later_on n nodes parts on) (well n s).holds (well (network_of on) on.network).holds
+
+-- in the words of the nodes
+nodes_agree : (old new : WorldView) (p q : ℕ) (a b : NodeView) → a ≡ (old.each p).node → b ≡ (new.each q).node → AgreeAcross old new p q → NodesAgree old p q a b
+nodes_agree old new p q a b first second x = record {
+  boards = subst (λ (v : NodeView). BoardsAgree v.board b.board) (sym first) (subst (λ (v : NodeView). BoardsAgree (old.each p).node.board v.board) (sym second) x.boards);
+  results = λ name k r s er es. x.results name k r s (subst (λ v. slice_get (results_on v name) k ≡ Some r) first er) (subst (λ v. slice_get (results_on v name) k ≡ Some s) second es);
+}
+
+pub all_nodes_agree : (n : Network) → IsNetwork n → AllAgree (world_in n) n.nodes n.nodes
+all_nodes_agree n s p q a b ea eb = nodes_agree (world_in n) (world_in n) p q a b (s.each p a ea) (s.each q b eb) (all_agree (world_in n) (well n s).holds p q)
+
+pub later_nodes_agree : (n : Network) (nodes : List NodeView) (parts : List Look) → IsNetwork n → GoesOn n nodes parts → AllAgree (world_in n) n.nodes nodes
+later_nodes_agree n nodes parts s on p q a b ea eb = nodes_agree (world_in n) (world_in (network_of on)) p q a b (s.each p a ea) (on.network.each q b eb) (across n nodes parts s on p q)
+
+pub results_kept : (n : Network) (nodes : List NodeView) (parts : List Look) → IsNetwork n → GoesOn n nodes parts → AreKept n.nodes nodes
+results_kept n nodes parts s on p a b ea eb name k r er =
+    subst (λ v. slice_get (results_on v name) k ≡ Some r) (sym (on.network.each p b eb))
+    (((later_on n nodes parts on).kept p).results_kept name k r (subst (λ v. slice_get (results_on v name) k ≡ Some r) (s.each p a ea) er))
