@@ -1,30 +1,17 @@
-// Drafts and results that the tests use, and what one port does.
+// Results that the tests use, and what one port does.
 ghost use Rattle.std.specs.Prelude.{◌≡◌, false};
 ghost use Rattle.mpx_bus.specs.Berths.{IsSamePort};
 
 use mpx_bus::Port;
 use mpx_name::Name;
 use mpx_node::Harvest;
-use mpx_post::{Draft, Kind};
 use mpx_value::Outcome;
 use std::alloc::Global;
 use std::test::Fail;
-use test_drafts::{Drafted, draft, just};
+use test_drafts::a_sum;
 
 // The most bytes of a frame.
 pub const LIMIT: usize = 1_048_576;
-
-fn sum_of(items: &[i128]) -> Drafted<'_> {
-    Drafted {
-        items,
-        ..just(Kind::Allreduce)
-    }
-}
-
-fn a_sum(alloc: Global, number: i128) -> Result<Draft, Fail> {
-    let items = [number];
-    Ok(draft(alloc, &sum_of(&items))?)
-}
 
 // The port posts its number to the first sum of all.
 pub fn posts(alloc: Global, port: &mut Port, number: i128) -> Result<bool, Fail>

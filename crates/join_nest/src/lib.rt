@@ -5,9 +5,11 @@
 //! `delta` are one pass over both.
 #![tactic(auto)]
 
+mod changes;
 mod entries;
 mod maps;
 mod truncs;
 
+pub use entries::push_copy;
 pub use maps::Keyed;
 pub use truncs::Trunc;

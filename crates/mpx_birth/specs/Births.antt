@@ -44,6 +44,11 @@ is_birth birth =
     && (not (has_twice birth.members)
     && (list_all (λ p. nat_lt p 64) birth.members && has_ranks (length birth.members) birth.topology)))
 
+-- what is made of such parts: the communicator, where they are one's, and none where they aren't
+abbrev pub IsBirthOf : BirthView → Option BirthView → Type 0
+IsBirthOf parts None = is_birth parts ≡ false
+IsBirthOf parts (Some birth) = (is_birth parts ≡ true) × (birth ≡ parts)
+
 -- the place of a process in such a list: its rank
 abbrev pub rank_in : ℕ → List ℕ → Option ℕ
 rank_in p ps = position (λ q. q == p) ps

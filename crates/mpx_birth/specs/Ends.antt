@@ -33,6 +33,14 @@ pub record Meet (topology : TopologyView) (i k j l : ℕ) : Type 0 where
 abbrev pub sent_at : TopologyView → (rank place : ℕ) → ℕ
 sent_at topology rank place = let sources = sources_at topology rank in place_of rank (turn sources place) (destinations_at topology (rank_at sources place))
 
+-- each place among a rank's sources meets one among the source's destinations
+abbrev pub SourcesMeet : TopologyView → Type 0
+SourcesMeet topology = (rank place : ℕ) → place < length (sources_at topology rank) → Meet topology (rank_at (sources_at topology rank) place) (sent_at topology rank place) rank place
+
 -- the place among the destination's sources that meets this place among the rank's destinations
 abbrev pub taken_at : TopologyView → (rank place : ℕ) → ℕ
 taken_at topology rank place = let destinations = destinations_at topology rank in place_of rank (turn destinations place) (sources_at topology (rank_at destinations place))
+
+-- each place among a rank's destinations meets one among the destination's sources
+abbrev pub DestinationsMeet : TopologyView → Type 0
+DestinationsMeet topology = (rank place : ℕ) → place < length (destinations_at topology rank) → Meet topology rank place (rank_at (destinations_at topology rank) place) (taken_at topology rank place)

@@ -1,5 +1,5 @@
 -- Topologies: for each rank its sources and its destinations (MPI 4.1, sections 8.5.4 and 8.5.5).
-use Rattle.std.specs.Prelude.{◌≡◌, ℕ, ◌==◌, ◌≤◌, ◌^◌, ◌&&◌, nat_eq, nat_le, nat_lt, Bool, true, cond, List, [], length, map, slice_index_or, Option, Some, None, refl}
+use Rattle.std.specs.Prelude.{◌≡◌, ℕ, ◌==◌, ◌≤◌, ◌^◌, ◌&&◌, nat_eq, nat_le, nat_lt, Bool, true, false, cond, List, [], length, map, slice_index_or, Option, Some, None, refl}
 use Rattle.std.proofs.Common.{ap}
 use Rattle.std.specs.Bool.{Decides, beq}
 use Rattle.std.specs.List.{list_all, sum}
@@ -86,6 +86,11 @@ is_topology topology =
     && (list_all (is_near (length topology.ranks) topology.weighted) topology.ranks
     && (nat_le (sources_in_all topology.ranks) most_neighbours
     && (nat_le (destinations_in_all topology.ranks) most_neighbours && are_paired topology.ranks)))
+
+-- what is made of such neighbours: the topology, where they are one's, and none where they aren't
+abbrev pub IsTopologyOf : TopologyView → Option TopologyView → Type 0
+IsTopologyOf neighbours None = is_topology neighbours ≡ false
+IsTopologyOf neighbours (Some topology) = (is_topology neighbours ≡ true) × (topology ≡ neighbours)
 
 -- what a topology keeps: that it is one, and what follows
 pub record IsTopology (topology : TopologyView) : Type 0 where

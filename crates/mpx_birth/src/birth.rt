@@ -1,8 +1,8 @@
 // How a communicator came to be.
-ghost use Rattle.std.specs.Prelude.{◌≡◌, ◌<◌, ◌≤◌, All, IfOk, MatchOption, OnErr, Some, false, length, true};
+ghost use Rattle.std.specs.Prelude.{◌≡◌, ◌<◌, ◌≤◌, All, IfOk, OnErr, Some, false, length, true};
 ghost use Rattle.std.specs.Option.{option_copied};
 ghost use Rattle.mpx_group.specs.Group.{IsGroup, has_twice};
-ghost use Rattle.mpx_birth.specs.Births.{fits_topology, is_birth, of_members, rank_in, same_topologies, upto};
+ghost use Rattle.mpx_birth.specs.Births.{IsBirthOf, fits_topology, is_birth, of_members, rank_in, same_topologies, upto};
 ghost use Rattle.mpx_birth.specs.Topologies.{IsKept, indegree_in, most_neighbours, outdegree_in};
 
 use crate::topology::Topology;
@@ -82,7 +82,7 @@ impl Birth {
         members: Vec<Proc>,
         topology: Option<Topology>,
     ) -> Result<Option<Birth>, OutOfMemory>
-        ensures made { IfOk result (λ made. MatchOption made (is_birth (record { members = members.items; topology = topology }) ≡ false) (λ birth. (is_birth (record { members = members.items; topology = topology }) ≡ true) × (birth ≡ record { members = members.items; topology = topology }))) }
+        ensures made { IfOk result (λ made. IsBirthOf (record { members = members.items; topology = topology }) made) }
         ensures memory { OnErr result (is_birth (record { members = members.items; topology = topology }) ≡ true) }
     {
         let as_many = match &topology {

@@ -1,7 +1,7 @@
 // The neighbours of each rank of a distributed graph.
-ghost use Rattle.std.specs.Prelude.{◌≡◌, ◌≤◌, ◌++◌, ◌∷◌, ◌&&◌, [], IfOk, MatchOption, OnOk, OnErr, false, length, nat_eq, true};
+ghost use Rattle.std.specs.Prelude.{◌≡◌, ◌≤◌, ◌++◌, ◌∷◌, ◌&&◌, [], IfOk, OnOk, OnErr, length, nat_eq, true};
 ghost use Rattle.std.specs.Arc.{arc_value};
-ghost use Rattle.mpx_birth.specs.Topologies.{Agrees, IsTopology, destinations_at, is_topology, most_neighbours, nobody, same_near, same_nears, same_topology, sources_at};
+ghost use Rattle.mpx_birth.specs.Topologies.{Agrees, IsTopology, IsTopologyOf, destinations_at, is_topology, most_neighbours, nobody, same_near, same_nears, same_topology, sources_at};
 
 use crate::edges::Neighbour;
 use crate::limits::is_topology;
@@ -124,7 +124,7 @@ impl Topology {
         weighted: bool,
         ranks: Vec<Neighbours>,
     ) -> Result<Option<Topology>, OutOfMemory>
-        ensures made { IfOk result (λ made. MatchOption made (is_topology (record { weighted = weighted; ranks = ranks.items }) ≡ false) (λ topology. (is_topology (record { weighted = weighted; ranks = ranks.items }) ≡ true) × (topology ≡ record { weighted = weighted; ranks = ranks.items }))) }
+        ensures made { IfOk result (λ made. IsTopologyOf (record { weighted = weighted; ranks = ranks.items }) made) }
         ensures memory { OnErr result (is_topology (record { weighted = weighted; ranks = ranks.items }) ≡ true) }
     {
         if !is_topology(weighted, &ranks) {

@@ -16,7 +16,8 @@ use Rattle.mpx_board.specs.Contexts.{or_zero, or_nothing, number_in, numbers_of,
 use Rattle.mpx_board.specs.Tidy.{is_bare, is_tidy_numbers, are_tidy_numbers, is_tidy_acks, are_tidy_acks, are_tidy_entries, is_tidy_entry, is_tidy}
 use Rattle.mpx_board.proofs.Entries.{all_empty, bare_gets, entries_get, get_entries}
 use Rattle.mpx_board.proofs.Looking.{ack_join}
-use Rattle.mpx_board.proofs.Telling.{both_tests, nothing_told, raised_tidy, set_by_insert}
+use Rattle.mpx_board.proofs.Setting.{set_by_insert}
+use Rattle.mpx_board.proofs.Telling.{both_tests, nothing_told, raised_tidy}
 use Rattle.mpx_board.proofs.Tidiness.{joined_at, tidy_acks_keep}
 
 pub positive : (n : ℕ) → (n ≡ 0 → ⊥) → 0 < n

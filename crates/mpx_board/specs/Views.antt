@@ -45,6 +45,10 @@ module _ {O : ord.Ghosts ℕ} {E : partial_eq.Ghosts ℕ} {P : partial_ord.Ghost
     abbrev pub view_of_acks : Keyed Name (Keyed ℕ Max O E P) N F Q → AcksView
     view_of_acks m = keyed_view name_cmp view_of_numbers m.entries.items
 
+    -- what each process says that it has
+    abbrev pub view_of_all_acks : Keyed ℕ (Keyed Name (Keyed ℕ Max O E P) N F Q) O E P → OfProcesses AcksView
+    view_of_all_acks m = keyed_view nat_cmp view_of_acks m.entries.items
+
     -- what stands inside a board
     abbrev pub view_of_parts : Pair (Keyed Name (Pair (Flat BirthView) (Pair (Keyed ℕ Max O E P) (Trunc (Keyed ℕ (Flat Given) O E P)))) N F Q) (Keyed ℕ (Keyed Name (Keyed ℕ Max O E P) N F Q) O E P) → PartsView
-    view_of_parts p = (view_of_entries p.first, keyed_view nat_cmp view_of_acks p.second.entries.items)
+    view_of_parts p = (view_of_entries p.first, view_of_all_acks p.second)

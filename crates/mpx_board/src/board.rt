@@ -1,15 +1,15 @@
 // What a process knows of all contexts, and how it is changed in place.
-ghost use Rattle.std.specs.Prelude.{◌≡◌, ◌↔◌, ◌<◌, ◌≤◌, true, false, not, map, IfOk, OnOk, OnErr, IsErrOf, MatchOption, IsTrue};
+ghost use Rattle.std.specs.Prelude.{◌≡◌, ◌↔◌, ◌<◌, ◌≤◌, true, false, map, IfOk, OnOk, OnErr, IsErrOf, MatchOption, IsTrue};
 ghost use Rattle.std.specs.FinMap.{get, insert};
 ghost use Rattle.std.specs.Option.{option_copied, option_map};
 ghost use Rattle.join_core.specs.Flat.{known as knows};
 ghost use Rattle.mpx_board.specs.declared.errors.AddPostError.TheVariants as A;
-ghost use Rattle.mpx_board.specs.Boards.{IsBelow, IsBetween, empty, join, join_all, minimum, only, own_acks, told, row_on, floor_on, Born, Front, Held, Dropped, Acknowledged};
+ghost use Rattle.mpx_board.specs.Boards.{IsBelow, IsBetween, empty, join, join_all, only, own_acks, floor_on, Born, Front, Held, Dropped, Acknowledged};
 ghost use Rattle.mpx_board.specs.Changes.{is_posted, pruned, cut_to};
-ghost use Rattle.mpx_board.specs.Contexts.{context_of, numbers_of, post_in};
+ghost use Rattle.mpx_board.specs.Contexts.{numbers_of};
 ghost use Rattle.mpx_post.specs.Drafts.{most_calls};
-ghost use Rattle.mpx_board.specs.Tidy.{are_tidy_numbers, is_tidy, is_unknown};
-ghost use Rattle.mpx_board.specs.Views.{view_of_acks, view_of_call, view_of_entries, view_of_entry, view_of_parts};
+ghost use Rattle.mpx_board.specs.Tidy.{are_tidy_numbers, is_tidy};
+ghost use Rattle.mpx_board.specs.Views.{view_of_acks, view_of_entries, view_of_entry, view_of_parts};
 
 use crate::acks::{one_ack, put_joined};
 use crate::copies::copied_acks;
@@ -19,12 +19,12 @@ use crate::joins::{
     copied_entries, delta_of_acks, delta_of_entries, join_parts_in, joined_acks, joined_entries,
     leq_acks, leq_entries, same_acks, same_entries,
 };
-use crate::nested::{Acks, Call, Entry, Parts, is_tidy_board, known, number_of};
-use join_core::{Exact, Flat, Join, OutOfMemory, Pair};
+use crate::nested::{Acks, Entry, Parts, is_tidy_board};
+use join_core::{Exact, Join, OutOfMemory, Pair};
 use join_nest::Keyed;
 use mpx_group::Proc;
 use mpx_name::Name;
-use mpx_post::{Birth, Post, Row};
+use mpx_post::{Birth, Post};
 use std::alloc::Global;
 
 /// What a process knows of all contexts: births, how many calls each process has harvested, and the posts of calls at or
@@ -142,79 +142,6 @@ impl Board {
         ensures tidy { IsTrue (is_tidy (parts_of self.now)) }
     {
         &self.inside
-    }
-
-    /// How the context came to be, where that is known.
-    pub fn birth(&self, name: &Name) -> Option<&Birth>
-        ensures { option_copied result ≡ told ((look self.now).contexts name.now).birth }
-    {
-        match self.entry(name) {
-            None => None,
-            Some(entry) => known(&entry.first),
-        }
-    }
-
-    /// How many calls the process has harvested, as far as is known.
-    pub fn front(&self, name: &Name, process: Proc) -> u32
-        ensures { result ≡ ((look self.now).contexts name.now).fronts process }
-    {
-        match self.entry(name) {
-            None => 0,
-            Some(entry) => number_of(&entry.second.first, process),
-        }
-    }
-
-    /// Posts of calls below this are dropped.
-    pub fn dropped(&self, name: &Name) -> u32
-        ensures { result ≡ ((look self.now).contexts name.now).dropped }
-    {
-        match self.entry(name) {
-            None => 0,
-            Some(entry) => entry.second.second.dropped(),
-        }
-    }
-
-    /// The post that the process made as this call, where it is known.
-    pub fn holds(&self, name: &Name, call: u32, process: Proc) -> Option<&Post>
-        ensures { option_copied result ≡ told (((look self.now).contexts name.now).posts call process) }
-    {
-        match self.entry(name) {
-            None => None,
-            Some(entry) => post_of(entry, call, process),
-        }
-    }
-
-    /// The posts of all members to this call in rank order, where the birth and all of them are known.
-    pub fn row(&self, alloc: Global, name: &Name, call: u32) -> Result<Option<Row<'_>>, OutOfMemory>
-        ensures { IfOk result (λ row. row ≡ row_on (look self.now) name.now call) }
-    {
-        let Some(entry) = self.entry(name) else {
-            return Ok(None);
-        };
-        let Some(birth) = known(&entry.first) else {
-            return Ok(None);
-        };
-        let mut posts = Vec::new(alloc);
-        for member in birth.members() {
-            match post_of(entry, call, *member) {
-                Some(post) => posts.push(post)?,
-                None => return Ok(None),
-            }
-        }
-        Ok(Some(Row::new(posts)))
-    }
-
-    /// The least number of calls that a member has harvested, as far as is known; none where the members aren't known.
-    pub fn floor(&self, name: &Name) -> Option<u32>
-        ensures { result ≡ floor_on (look self.now) name.now }
-    {
-        match self.entry(name) {
-            None => None,
-            Some(entry) => match known(&entry.first) {
-                None => None,
-                Some(birth) => Some(least_front(birth, entry)),
-            },
-        }
     }
 
     /// Joins a part to the board, in place: only what is new takes memory, and a part that is below the board takes none. An
@@ -411,23 +338,10 @@ impl Board {
     }
 
     // What is known of the context with this name. Whoever looks into the map itself pays for its nested types.
-    fn entry(&self, name: &Name) -> Option<&Entry>
+    pub(crate) fn entry(&self, name: &Name) -> Option<&Entry>
         ensures { option_map view_of_entry (option_copied result) ≡ get (parts_of self.now).0 name.now }
     {
         self.inside.first.get(name)
-    }
-
-    // Whether something is told of the process's post of the call, or that is dropped.
-    fn is_posted(&self, name: &Name, call: u32, process: Proc) -> bool
-        ensures { result ≡ is_posted ((look self.now).contexts name.now) call process }
-    {
-        match self.entry(name) {
-            None => false,
-            Some(entry) => {
-                let posts = &entry.second.second;
-                call < posts.dropped() || is_told(posts.get(&call), process)
-            }
-        }
     }
 }
 
@@ -441,43 +355,4 @@ fn put_copy(
     ensures { OnOk result (view_of_entries entries.new ≡ insert (view_of_entries entries.old) name.now (view_of_entry entry.now)) }
 {
     entries.put(name.copy(alloc)?, entry.copy(alloc)?)
-}
-
-// The post that the process made as this call, where it is known.
-fn post_of(entry: &Entry, call: u32, process: Proc) -> Option<&Post>
-    ensures { option_copied result ≡ told ((context_of (view_of_entry entry.now)).posts call process) }
-{
-    match entry.second.second.get(&call) {
-        None => None,
-        Some(posts) => match posts.get(&process) {
-            None => None,
-            Some(post) => known(post),
-        },
-    }
-}
-
-// Whether something is told of the post of the process.
-fn is_told(posts: Option<&Call>, process: Proc) -> bool
-    ensures { result ≡ not (is_unknown (post_in process (option_map view_of_call (option_copied posts.entry)))) }
-{
-    match posts {
-        None => false,
-        Some(posts) => match posts.get(&process) {
-            None => false,
-            Some(post) => !matches!(post, Flat::Unknown),
-        },
-    }
-}
-
-// The least front of all members.
-fn least_front(birth: &Birth, entry: &Entry) -> u32
-    ensures { result ≡ minimum (map (context_of (view_of_entry entry.now)).fronts birth.now.members) }
-{
-    let fronts = &entry.second.first;
-    let members = birth.members();
-    let mut least = number_of(fronts, members[0]);
-    for member in &members[1..] {
-        least = least.min(number_of(fronts, *member));
-    }
-    least
 }

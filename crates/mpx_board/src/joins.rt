@@ -4,9 +4,7 @@ ghost use Rattle.std.specs.Prelude.{◌≡◌, false, IfOk, OnErr, OnOk};
 ghost use Rattle.join_nest.specs.Keyed.{keyed_equal, keyed_joining};
 ghost use Rattle.join_nest.specs.Between.{keyed_between};
 ghost use Rattle.mpx_board.specs.Parts.{acks_between, acks_joining, entry_between, entry_joining, parts_between, parts_joining, same_acks, same_entry};
-ghost use Rattle.mpx_board.specs.Views.{view_of_acks, view_of_entries, view_of_parts};
-ghost use Rattle.std.specs.Ordering.{nat_cmp};
-ghost use Rattle.join_nest.specs.Seen.{keyed_view};
+ghost use Rattle.mpx_board.specs.Views.{view_of_all_acks, view_of_entries, view_of_parts};
 
 use crate::nested::{Acks, Entry, Parts};
 use join_core::{Exact, Join, OutOfMemory};
@@ -22,7 +20,7 @@ pub fn same_entries(left: &Keyed<Name, Entry>, right: &Keyed<Name, Entry>) -> bo
 }
 
 pub fn same_acks(left: &Keyed<Proc, Acks>, right: &Keyed<Proc, Acks>) -> bool
-    ensures { result ≡ keyed_equal same_acks (keyed_view nat_cmp view_of_acks left.now.entries.items) (keyed_view nat_cmp view_of_acks right.now.entries.items) }
+    ensures { result ≡ keyed_equal same_acks (view_of_all_acks left.now) (view_of_all_acks right.now) }
 {
     left.same(right)
 }
@@ -43,7 +41,7 @@ pub fn leq_entries(left: &Keyed<Name, Entry>, right: &Keyed<Name, Entry>) -> boo
 }
 
 pub fn leq_acks(left: &Keyed<Proc, Acks>, right: &Keyed<Proc, Acks>) -> bool
-    ensures { result ≡ (keyed_joining acks_joining).leq (keyed_view nat_cmp view_of_acks left.now.entries.items) (keyed_view nat_cmp view_of_acks right.now.entries.items) }
+    ensures { result ≡ (keyed_joining acks_joining).leq (view_of_all_acks left.now) (view_of_all_acks right.now) }
 {
     left.leq(right)
 }
@@ -63,7 +61,7 @@ pub fn joined_acks(
     left: &Keyed<Proc, Acks>,
     right: &Keyed<Proc, Acks>,
 ) -> Result<Keyed<Proc, Acks>, OutOfMemory>
-    ensures { IfOk result (λ made. keyed_view nat_cmp view_of_acks made.entries.items ≡ (keyed_joining acks_joining).join (keyed_view nat_cmp view_of_acks left.now.entries.items) (keyed_view nat_cmp view_of_acks right.now.entries.items)) }
+    ensures { IfOk result (λ made. view_of_all_acks made ≡ (keyed_joining acks_joining).join (view_of_all_acks left.now) (view_of_all_acks right.now)) }
 {
     left.joined(alloc, right)
 }
@@ -94,9 +92,9 @@ fn join_acks_in(
     acks: &mut Keyed<Proc, Acks>,
     other: &Keyed<Proc, Acks>,
 ) -> Result<(), OutOfMemory>
-    ensures ok { OnOk result (keyed_view nat_cmp view_of_acks acks.new.entries.items ≡ (keyed_joining acks_joining).join (keyed_view nat_cmp view_of_acks acks.old.entries.items) (keyed_view nat_cmp view_of_acks other.now.entries.items)) }
-    ensures err { OnErr result (keyed_between acks_between (keyed_view nat_cmp view_of_acks acks.old.entries.items) (keyed_view nat_cmp view_of_acks other.now.entries.items) (keyed_view nat_cmp view_of_acks acks.new.entries.items)) }
-    ensures more { OnErr result ((keyed_joining acks_joining).leq (keyed_view nat_cmp view_of_acks other.now.entries.items) (keyed_view nat_cmp view_of_acks acks.old.entries.items) ≡ false) }
+    ensures ok { OnOk result (view_of_all_acks acks.new ≡ (keyed_joining acks_joining).join (view_of_all_acks acks.old) (view_of_all_acks other.now)) }
+    ensures err { OnErr result (keyed_between acks_between (view_of_all_acks acks.old) (view_of_all_acks other.now) (view_of_all_acks acks.new)) }
+    ensures more { OnErr result ((keyed_joining acks_joining).leq (view_of_all_acks other.now) (view_of_all_acks acks.old) ≡ false) }
 {
     acks.join_in(alloc, other)
 }
@@ -116,7 +114,7 @@ pub fn delta_of_acks(
     acks: &Keyed<Proc, Acks>,
     known: &Keyed<Proc, Acks>,
 ) -> Result<Keyed<Proc, Acks>, OutOfMemory>
-    ensures { IfOk result (λ made. keyed_view nat_cmp view_of_acks made.entries.items ≡ (keyed_joining acks_joining).delta (keyed_view nat_cmp view_of_acks acks.now.entries.items) (keyed_view nat_cmp view_of_acks known.now.entries.items)) }
+    ensures { IfOk result (λ made. view_of_all_acks made ≡ (keyed_joining acks_joining).delta (view_of_all_acks acks.now) (view_of_all_acks known.now)) }
 {
     acks.delta(alloc, known)
 }

@@ -13,6 +13,7 @@ mod errors;
 mod fact;
 mod joins;
 mod laws;
+mod looks;
 mod nested;
 
 pub use board::Board;
@@ -21,4 +22,4 @@ pub use laws::{
     boards_are_joined_by_their_facts, boards_are_their_facts, boards_stay_tidy,
     joining_boards_is_a_semilattice,
 };
-pub use nested::{Acks, Call, Entry, Parts, VersionVector, says_something};
+pub use nested::{Acks, Call, Entry, Parts, VersionVector, is_told, says_something};

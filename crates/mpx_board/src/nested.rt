@@ -93,7 +93,8 @@ pub fn says_something(entry: &Entry) -> bool
         || !posts.entries().is_empty()
 }
 
-fn is_told<T>(value: &Flat<T>) -> bool
+/// Whether something is told, the value or a clash.
+pub fn is_told<T>(value: &Flat<T>) -> bool
     ensures { result ≡ not (is_unknown (flat_view (λ t. t) value.now)) }
 {
     !matches!(value, Flat::Unknown)

@@ -8,6 +8,7 @@ mod both;
 mod frame;
 mod port;
 mod rule;
+mod steps;
 mod trace;
 
 pub use frame::Frame;

@@ -1,16 +1,14 @@
 // The queue that all ports share, and a port's calls.
-ghost use Rattle.std.specs.Prelude.{◌≡◌, ◌≢◌, ℕ, List, is_some, ◌<◌, ◌≤◌, ◌++◌, ◌∷◌, [], Err, IfOk, IfErr, OnOk, OnErr, IsTrue, is_ok, MatchResult, MatchOption};
-ghost use Rattle.crossbeam_queue.specs.Passes.{view, IsPassOf, IsSamePass, ruled_capacity};
-ghost use Rattle.crossbeam_queue.specs.Fifo.{Pushes, Pops};
+ghost use Rattle.std.specs.Prelude.{◌≡◌, ◌≢◌, ℕ, List, is_some, ◌<◌, ◌≤◌, ◌++◌, ◌∷◌, [], Err, IfOk, IfErr, OnOk, OnErr};
+ghost use Rattle.crossbeam_queue.specs.Passes.{view, IsPassOf};
 ghost use Rattle.mpx_board.specs.Boards.{floor_on};
 ghost use Rattle.mpx_board.specs.Changes.{pruned};
-ghost use Rattle.mpx_format.specs.Decoding.{decoded};
 ghost use Rattle.mpx_node.specs.Nodes.{Opens, Posts, checked_on, gathers_on, next_result};
 ghost use Rattle.mpx_node.specs.Harvests.{Harvests};
 ghost use Rattle.mpx_node.specs.Shown.{node_of};
 ghost use Rattle.mpx_bus.specs.declared.act.Act.TheVariants as A;
-ghost use Rattle.mpx_bus.specs.Views.{maker as first_view, maker_of, after_push, after_pop, seat_of};
-ghost use Rattle.mpx_bus.specs.Rule.{Sound, Stood};
+ghost use Rattle.mpx_bus.specs.Views.{seat_of};
+ghost use Rattle.mpx_bus.specs.Rule.{Stood};
 ghost use Rattle.mpx_bus.specs.Berths.{CanPush, Goes, GoesOn, HasListed, HaveMet, IsFleet, IsSamePort, KeepsPlan, node_in};
 ghost use Rattle.mpx_bus.specs.Buses.{table_of};
 ghost use Rattle.mpx_bus.specs.Finished.{HaveFinished};
@@ -18,7 +16,8 @@ ghost use Rattle.mpx_bus.specs.Answers.{HarvestsOne, Lists, PopsOne, PushesNext,
 
 use crate::both::both_finished;
 use crate::frame::{Frame, frames_of};
-use crate::rule::{Aim, Meets, Named, Names, Place, Queue, Seats, Sends, Takes};
+use crate::rule::{Meets, Named, Place, Queue, Seats};
+use crate::steps::{name_all, opened_line, pop_to, push_to};
 use crate::trace::{
     Desk, Line, acknowledged, gathered, harvested, popped, posted, pruned, pushed, stopped, took,
 };
@@ -28,7 +27,7 @@ use mpx_group::Proc;
 use mpx_name::Name;
 use mpx_node::{Harvest, Node};
 use mpx_post::{Draft, PostError};
-use std::alloc::{AllocError, Global};
+use std::alloc::Global;
 use std::marker::{Brand, Model};
 use std::sync::Wait;
 
@@ -92,56 +91,6 @@ pub struct Met {
     pub second: Node,
     /// How many instances both have finished, or the greatest number where there are more.
     pub both: u64,
-}
-
-fn push_to<M: Aim, R: Wait>(
-    rt: &R,
-    queue: &Queue,
-    pass: &mut Place,
-    line: &Line,
-    frame: Frame,
-) -> Result<(), Frame>
-    requires queue { IsPassOf queue.now pass.old }
-    requires line { view line.now ≡ M.journal }
-    requires rule { Pushes Sound (ruled_capacity queue.now) pass.old.id (view pass.old) frame
-        (λ w. (w ≡ after_push M.journal frame (view pass.old)) × Stood (view pass.old).setup (seat_of (view pass.old)).me (seat_of w).journal) }
-    ensures queue { IsSamePass pass.old pass.new }
-    ensures rule { MatchResult result
-        (λ _. (view pass.new ≡ after_push (view line.now) frame (view pass.old)) × Stood (view pass.old).setup (seat_of (view pass.old)).me (seat_of (view pass.new)).journal)
-        (λ f. (f ≡ frame) × (view pass.new ≡ view pass.old)) }
-{
-    let _ = line;
-    queue.push_as::<Sends<M>, R>(rt, pass, frame)
-}
-
-fn pop_to<M: Aim, R: Wait>(rt: &R, queue: &Queue, pass: &mut Place, line: &Line) -> Option<Frame>
-    requires queue { IsPassOf queue.now pass.old }
-    requires line { view line.now ≡ M.journal }
-    requires rule { Pops Sound pass.old.id (view pass.old)
-        (λ x w. (w ≡ after_pop M.journal x (view pass.old)) × Stood (view pass.old).setup (seat_of (view pass.old)).me (seat_of w).journal × IsTrue (is_ok (decoded x))) }
-    ensures queue { IsSamePass pass.old pass.new }
-    ensures rule { MatchOption result (view pass.new ≡ view pass.old)
-        (λ x. (view pass.new ≡ after_pop (view line.now) x (view pass.old)) × Stood (view pass.old).setup (seat_of (view pass.old)).me (seat_of (view pass.new)).journal × IsTrue (is_ok (decoded x))) }
-{
-    let _ = line;
-    queue.pop_as::<Takes<M>, R>(rt, pass)
-}
-
-// The maker learns what all agree on.
-fn name_all<N: Named>(queue: &Queue, maker: &mut Place)
-    requires queue { IsPassOf queue.now maker.old }
-    requires first { view maker.old ≡ first_view }
-    ensures queue { IsSamePass maker.old maker.new }
-    ensures named { view maker.new ≡ maker_of N.setup 0 }
-{
-    let _ = queue.another::<Names<N>>(maker);
-}
-
-// A list of nothing done.
-fn opened_line(alloc: Global) -> Result<(Desk, Line), AllocError>
-    ensures { IfOk result (λ l. IsPassOf l.0 l.1 × (view l.1 ≡ [])) }
-{
-    Desk::ruled(alloc, 1)
 }
 
 impl Bus {

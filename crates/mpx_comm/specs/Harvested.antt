@@ -6,7 +6,11 @@ use Rattle.mpx_node.specs.declared.node.Harvest.{Harvest}
 use Rattle.mpx_node.specs.Harvests.{Harvests}
 use Rattle.mpx_node.specs.Nodes.{NodeView, next_result}
 
+-- a harvest of the next call on a context
+abbrev pub HarvestsNext : Name → Result Harvest OutOfMemory → (old new : NodeView) → Type 0
+HarvestsNext name answer old new = Harvests (is_some (old.opened name)) name (next_result old name) answer old new
+
 -- harvests, one after the other, of any contexts
 pub data Harvested : NodeView → NodeView → Type 0 where
   stay : (a b : NodeView) → b ≡ a → Harvested a b
-  on : (a b c : NodeView) (name : Name) (answer : Result Harvest OutOfMemory) → Harvests (is_some (a.opened name)) name (next_result a name) answer a b → Harvested b c → Harvested a c
+  on : (a b c : NodeView) (name : Name) (answer : Result Harvest OutOfMemory) → HarvestsNext name answer a b → Harvested b c → Harvested a c

@@ -9,11 +9,13 @@ use Rattle.mpx_kind.specs.declared.kinds.Call.{Call}
 use Rattle.mpx_kind.specs.declared.kinds.Call.TheVariants as C
 use Rattle.mpx_kind.specs.declared.kinds.Exchange.TheVariants as E
 use Rattle.mpx_kind.specs.declared.kinds.Reduction.TheVariants as R
+use Rattle.mpx_kind.specs.declared.kinds.NewCommunicator.{NewCommunicator}
 use Rattle.mpx_kind.specs.declared.kinds.NewCommunicator.TheVariants as N
 use Rattle.mpx_kind.specs.declared.kinds.Neighbourhood.TheVariants as H
 use Rattle.mpx_post.specs.declared.draft.Draft.{Draft}
 use Rattle.mpx_post.specs.declared.drafted_edges.DraftedEdge.{DraftedEdge}
 use Rattle.mpx_post.specs.declared.drafted_edges.DraftedNeighbour.{DraftedNeighbour}
+use Rattle.mpx_post.specs.Graphs.{GraphView}
 
 -- nothing is told but the call; a field that its kind hasn't is not looked at
 abbrev pub plain : Call → Draft
@@ -86,11 +88,15 @@ create ranks = record (plain (C.NewCommunicator N.Create)) { group = ranks }
 abbrev pub create_group : Draft
 create_group = plain (C.NewCommunicator N.CreateGroup)
 
+-- one of these with a graph
+abbrev pub of_graph : NewCommunicator → GraphView → Draft
+of_graph new graph = record (plain (C.NewCommunicator new)) { graph = Some graph }
+
 abbrev pub dist_graph : (weighted : Bool) → (edges : List DraftedEdge) → Draft
-dist_graph weighted edges = record (plain (C.NewCommunicator N.DistGraph)) { graph = Some (record { weighted = weighted; edges = edges; sources = []; destinations = [] }) }
+dist_graph weighted edges = of_graph N.DistGraph (record { weighted = weighted; edges = edges; sources = []; destinations = [] })
 
 abbrev pub dist_graph_adjacent : (weighted : Bool) → (sources destinations : List DraftedNeighbour) → Draft
-dist_graph_adjacent weighted sources destinations = record (plain (C.NewCommunicator N.DistGraphAdjacent)) { graph = Some (record { weighted = weighted; edges = []; sources = sources; destinations = destinations }) }
+dist_graph_adjacent weighted sources destinations = of_graph N.DistGraphAdjacent (record { weighted = weighted; edges = []; sources = sources; destinations = destinations })
 
 -- ALONG THE EDGES OF A GRAPH
 

@@ -1,5 +1,5 @@
 // A desk over a node alone, whose user carries the boards.
-ghost use Rattle.std.specs.Prelude.{◌≡◌, ◌≤◌, All, IfOk, OnOk, OnErr, is_some, map};
+ghost use Rattle.std.specs.Prelude.{◌≡◌, ◌≤◌, All, IfOk, OnOk, OnErr, map};
 ghost use Rattle.mpx_board.specs.Boards.{IsBelow, join_all, only, floor_on, Dropped};
 ghost use Rattle.mpx_board.specs.Changes.{pruned};
 ghost use Rattle.mpx_board.specs.Looks.{look, parts_of};
@@ -7,8 +7,8 @@ ghost use Rattle.mpx_format.specs.Encoding.{length_told};
 ghost use Rattle.mpx_parts.specs.Facts.{OnlyFactsOf};
 ghost use Rattle.mpx_node.specs.Bounded.{node_bounded};
 ghost use Rattle.mpx_node.specs.Deltas.{SaysWhatItHas, lacking_on};
-ghost use Rattle.mpx_node.specs.Harvests.{Harvests};
-ghost use Rattle.mpx_node.specs.Nodes.{StopsTaking, learn, next_result};
+ghost use Rattle.mpx_node.specs.Nodes.{StopsTaking, learn};
+ghost use Rattle.mpx_comm.specs.Harvested.{HarvestsNext};
 
 use crate::desk::Desk;
 use crate::host::Host;
@@ -83,7 +83,7 @@ impl Desk<Node> {
 
     /// Harvests the next call on a context, as the node does.
     pub fn harvest(&mut self, alloc: Global, name: &Name) -> Result<Harvest, OutOfMemory>
-        ensures harvests { Harvests (is_some ((node_of self.old.host).opened name.now)) name.now (next_result (node_of self.old.host) name.now) result (node_of self.old.host) (node_of self.new.host) }
+        ensures harvests { HarvestsNext name.now result (node_of self.old.host) (node_of self.new.host) }
         ensures requests { self.new.requests.keys ≡ self.old.requests.keys }
     {
         self.host.harvest(alloc, name)

@@ -1,6 +1,6 @@
 // The calls that make communicators, which all block. Each is a draft that is posted and waited for.
-ghost use Rattle.std.specs.Prelude.{◌≡◌, ◌⊎◌, Some};
-ghost use Rattle.mpx_comm.specs.Requests.{AsksGathered, Calls, CallsGathered, IsNotGathered};
+ghost use Rattle.std.specs.Prelude.{◌≡◌, Some};
+ghost use Rattle.mpx_comm.specs.Desks.{DeskAsksGathered, DeskCalls, DeskCallsGathered};
 ghost use Rattle.mpx_comm.specs.Lines as line;
 
 use crate::answers::CallError;
@@ -17,7 +17,7 @@ use std::alloc::Global;
 impl<H: Host> Desk<H> {
     /// `MPI_COMM_DUP` (MPI 4.1 section 7.4.2): a new communicator of the same members, with the same topology.
     pub fn dup(&mut self, alloc: Global, comm: &Comm, turns: u64) -> Result<Finished, CallError>
-        ensures { Calls H.node H.turned H.turn_refused comm.now.name line.dup turns result self.old.host self.new.host self.old.requests.keys self.new.requests.keys }
+        ensures { DeskCalls H.node H.turned H.turn_refused comm.now.name line.dup turns result self.old self.new }
     {
         let draft = lines::dup();
         self.call_on(alloc, &comm.name, draft, turns)
@@ -32,7 +32,7 @@ impl<H: Host> Desk<H> {
         key: i128,
         turns: u64,
     ) -> Result<Finished, CallError>
-        ensures { Calls H.node H.turned H.turn_refused comm.now.name (line.split colour key) turns result self.old.host self.new.host self.old.requests.keys self.new.requests.keys }
+        ensures { DeskCalls H.node H.turned H.turn_refused comm.now.name (line.split colour key) turns result self.old self.new }
     {
         let draft = lines::split(colour, key);
         self.call_on(alloc, &comm.name, draft, turns)
@@ -46,7 +46,7 @@ impl<H: Host> Desk<H> {
         ranks: Numbers,
         turns: u64,
     ) -> Result<Finished, CallError>
-        ensures { Calls H.node H.turned H.turn_refused comm.now.name (line.create ranks) turns result self.old.host self.new.host self.old.requests.keys self.new.requests.keys }
+        ensures { DeskCalls H.node H.turned H.turn_refused comm.now.name (line.create ranks) turns result self.old self.new }
     {
         let draft = lines::create(ranks);
         self.call_on(alloc, &comm.name, draft, turns)
@@ -63,8 +63,7 @@ impl<H: Host> Desk<H> {
         ranks: &[i128],
         turns: u64,
     ) -> Result<Finished, CallError>
-        ensures { IsNotGathered H.node H.turned comm.now.name tag ranks.now result self.old.host self.new.host self.old.requests.keys self.new.requests.keys
-            ⊎ CallsGathered H.node H.turned H.turn_refused comm.now.name tag ranks.now turns result self.old.host self.new.host self.old.requests.keys self.new.requests.keys }
+        ensures { DeskCallsGathered H.node H.turned H.turn_refused comm.now.name tag ranks.now turns result self.old self.new }
     {
         match self.open_gathering(alloc, comm, tag, ranks) {
             Err(refusal) => Err(CallError::Refused(refusal)),
@@ -83,7 +82,7 @@ impl<H: Host> Desk<H> {
         tag: i128,
         ranks: &[i128],
     ) -> Result<Request, PostError>
-        ensures asks { AsksGathered H.node H.turned comm.now.name tag ranks.now result self.old.host self.new.host self.old.requests.keys self.new.requests.keys }
+        ensures asks { DeskAsksGathered H.node H.turned comm.now.name tag ranks.now result self.old self.new }
         ensures no_turn { H.turned self.old.host 0 self.new.host }
     {
         match self.open_gathering(alloc, comm, tag, ranks) {
@@ -104,7 +103,7 @@ impl<H: Host> Desk<H> {
         edges: Vec<DraftedEdge>,
         turns: u64,
     ) -> Result<Finished, CallError>
-        ensures { Calls H.node H.turned H.turn_refused comm.now.name (line.dist_graph weighted edges.items) turns result self.old.host self.new.host self.old.requests.keys self.new.requests.keys }
+        ensures { DeskCalls H.node H.turned H.turn_refused comm.now.name (line.dist_graph weighted edges.items) turns result self.old self.new }
     {
         let (sources, destinations) = (Vec::new(alloc), Vec::new(alloc));
         let new = NewCommunicator::DistGraph;
@@ -122,7 +121,7 @@ impl<H: Host> Desk<H> {
         destinations: Vec<DraftedNeighbour>,
         turns: u64,
     ) -> Result<Finished, CallError>
-        ensures { Calls H.node H.turned H.turn_refused comm.now.name (line.dist_graph_adjacent weighted sources.items destinations.items) turns result self.old.host self.new.host self.old.requests.keys self.new.requests.keys }
+        ensures { DeskCalls H.node H.turned H.turn_refused comm.now.name (line.dist_graph_adjacent weighted sources.items destinations.items) turns result self.old self.new }
     {
         let new = NewCommunicator::DistGraphAdjacent;
         let draft = lines::of_graph(new, weighted, Vec::new(alloc), sources, destinations);

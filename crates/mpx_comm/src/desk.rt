@@ -6,7 +6,7 @@ ghost use Rattle.mpx_post.specs.Drafts.{given_by};
 ghost use Rattle.mpx_comm.specs.Comms.{gathering_in};
 ghost use Rattle.mpx_comm.specs.Harvested.{Harvested};
 ghost use Rattle.mpx_comm.specs.Later.{Later, IsAtHand};
-ghost use Rattle.mpx_comm.specs.Requests.{Asks, Calls, HasStatus, Tests, TestsAll, TestsAny, Waits, WaitsAll, ArePosted};
+ghost use Rattle.mpx_comm.specs.Requests.{HasStatus, Tests, TestsAll, TestsAny, Waits, WaitsAll, ArePosted};
 
 use crate::answers::{CallError, Tested, WaitError};
 use crate::comm::{Comm, Gathering};
@@ -29,6 +29,8 @@ pub struct Desk<H: Host> {
 }
 
 impl<H: Host> Desk<H> {
+    ghost use Rattle.mpx_comm.specs.Desks.{DeskAsks, DeskCalls};
+
     /// A desk without requests.
     pub fn new(alloc: Global, host: H) -> Desk<H>
         ensures host { result.host ≡ host }
@@ -57,7 +59,7 @@ impl<H: Host> Desk<H> {
     /// Posts the draft as the next call on the communicator. An `Err` changes nothing, and is want of memory only where the
     /// draft isn't refused.
     pub fn post(&mut self, alloc: Global, comm: &Comm, draft: Draft) -> Result<Request, PostError>
-        ensures asks { Asks comm.now.name draft result (H.node self.old.host) (H.node self.new.host) self.old.requests.keys self.new.requests.keys }
+        ensures asks { DeskAsks H.node comm.now.name draft result self.old self.new }
         ensures no_turn { H.turned self.old.host 0 self.new.host }
     {
         self.post_on(alloc, &comm.name, draft)
@@ -89,7 +91,7 @@ impl<H: Host> Desk<H> {
         gathering: &Gathering,
         draft: Draft,
     ) -> Result<Request, PostError>
-        ensures asks { Asks gathering.now.name draft result (H.node self.old.host) (H.node self.new.host) self.old.requests.keys self.new.requests.keys }
+        ensures asks { DeskAsks H.node gathering.now.name draft result self.old self.new }
         ensures no_turn { H.turned self.old.host 0 self.new.host }
     {
         self.post_on(alloc, &gathering.name, draft)
@@ -225,7 +227,7 @@ impl<H: Host> Desk<H> {
         name: &Name,
         draft: Draft,
     ) -> Result<Request, PostError>
-        ensures asks { Asks name.now draft result (H.node self.old.host) (H.node self.new.host) self.old.requests.keys self.new.requests.keys }
+        ensures asks { DeskAsks H.node name.now draft result self.old self.new }
         ensures no_turn { H.turned self.old.host 0 self.new.host }
     {
         if let Some(refusal) = self.host.refusal(name, &draft) {
@@ -249,7 +251,7 @@ impl<H: Host> Desk<H> {
         draft: Draft,
         turns: u64,
     ) -> Result<Finished, CallError>
-        ensures { Calls H.node H.turned H.turn_refused name.now draft turns result self.old.host self.new.host self.old.requests.keys self.new.requests.keys }
+        ensures { DeskCalls H.node H.turned H.turn_refused name.now draft turns result self.old self.new }
     {
         let request = match self.post_on(alloc, name, draft) {
             Ok(request) => request,

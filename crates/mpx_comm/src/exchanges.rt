@@ -2,7 +2,7 @@
 // waited for where it blocks.
 ghost use Rattle.std.specs.Prelude.{◌≡◌};
 ghost use Rattle.mpx_kind.specs.declared.kinds.Mode.TheVariants.{Blocking, Nonblocking};
-ghost use Rattle.mpx_comm.specs.Requests.{Asks, Calls};
+ghost use Rattle.mpx_comm.specs.Desks.{DeskAsks, DeskCalls};
 ghost use Rattle.mpx_comm.specs.Lines as line;
 
 use crate::answers::CallError;
@@ -26,7 +26,7 @@ impl<H: Host> Desk<H> {
         items: Numbers,
         turns: u64,
     ) -> Result<Finished, CallError>
-        ensures { Calls H.node H.turned H.turn_refused comm.now.name (line.allgather Blocking ty items) turns result self.old.host self.new.host self.old.requests.keys self.new.requests.keys }
+        ensures { DeskCalls H.node H.turned H.turn_refused comm.now.name (line.allgather Blocking ty items) turns result self.old self.new }
     {
         let draft = lines::allgather(Mode::Blocking, ty, items);
         self.call_on(alloc, &comm.name, draft, turns)
@@ -40,7 +40,7 @@ impl<H: Host> Desk<H> {
         ty: Ty,
         items: Numbers,
     ) -> Result<Request, PostError>
-        ensures asks { Asks comm.now.name (line.allgather Nonblocking ty items) result (H.node self.old.host) (H.node self.new.host) self.old.requests.keys self.new.requests.keys }
+        ensures asks { DeskAsks H.node comm.now.name (line.allgather Nonblocking ty items) result self.old self.new }
         ensures no_turn { H.turned self.old.host 0 self.new.host }
     {
         let draft = lines::allgather(Mode::Nonblocking, ty, items);
@@ -58,7 +58,7 @@ impl<H: Host> Desk<H> {
         items: Numbers,
         turns: u64,
     ) -> Result<Finished, CallError>
-        ensures { Calls H.node H.turned H.turn_refused comm.now.name (line.allgatherv Blocking ty rcounts items) turns result self.old.host self.new.host self.old.requests.keys self.new.requests.keys }
+        ensures { DeskCalls H.node H.turned H.turn_refused comm.now.name (line.allgatherv Blocking ty rcounts items) turns result self.old self.new }
     {
         let draft = lines::allgatherv(Mode::Blocking, ty, rcounts, items);
         self.call_on(alloc, &comm.name, draft, turns)
@@ -73,7 +73,7 @@ impl<H: Host> Desk<H> {
         rcounts: Numbers,
         items: Numbers,
     ) -> Result<Request, PostError>
-        ensures asks { Asks comm.now.name (line.allgatherv Nonblocking ty rcounts items) result (H.node self.old.host) (H.node self.new.host) self.old.requests.keys self.new.requests.keys }
+        ensures asks { DeskAsks H.node comm.now.name (line.allgatherv Nonblocking ty rcounts items) result self.old self.new }
         ensures no_turn { H.turned self.old.host 0 self.new.host }
     {
         let draft = lines::allgatherv(Mode::Nonblocking, ty, rcounts, items);
@@ -91,7 +91,7 @@ impl<H: Host> Desk<H> {
         items: Numbers,
         turns: u64,
     ) -> Result<Finished, CallError>
-        ensures { Calls H.node H.turned H.turn_refused comm.now.name (line.alltoall Blocking ty count items) turns result self.old.host self.new.host self.old.requests.keys self.new.requests.keys }
+        ensures { DeskCalls H.node H.turned H.turn_refused comm.now.name (line.alltoall Blocking ty count items) turns result self.old self.new }
     {
         let draft = lines::alltoall(Mode::Blocking, ty, count, items);
         self.call_on(alloc, &comm.name, draft, turns)
@@ -106,7 +106,7 @@ impl<H: Host> Desk<H> {
         count: i128,
         items: Numbers,
     ) -> Result<Request, PostError>
-        ensures asks { Asks comm.now.name (line.alltoall Nonblocking ty count items) result (H.node self.old.host) (H.node self.new.host) self.old.requests.keys self.new.requests.keys }
+        ensures asks { DeskAsks H.node comm.now.name (line.alltoall Nonblocking ty count items) result self.old self.new }
         ensures no_turn { H.turned self.old.host 0 self.new.host }
     {
         let draft = lines::alltoall(Mode::Nonblocking, ty, count, items);
@@ -125,7 +125,7 @@ impl<H: Host> Desk<H> {
         items: Numbers,
         turns: u64,
     ) -> Result<Finished, CallError>
-        ensures { Calls H.node H.turned H.turn_refused comm.now.name (line.alltoallv Blocking ty scounts rcounts items) turns result self.old.host self.new.host self.old.requests.keys self.new.requests.keys }
+        ensures { DeskCalls H.node H.turned H.turn_refused comm.now.name (line.alltoallv Blocking ty scounts rcounts items) turns result self.old self.new }
     {
         let draft = lines::alltoallv(Mode::Blocking, ty, scounts, rcounts, items);
         self.call_on(alloc, &comm.name, draft, turns)
@@ -141,7 +141,7 @@ impl<H: Host> Desk<H> {
         rcounts: Numbers,
         items: Numbers,
     ) -> Result<Request, PostError>
-        ensures asks { Asks comm.now.name (line.alltoallv Nonblocking ty scounts rcounts items) result (H.node self.old.host) (H.node self.new.host) self.old.requests.keys self.new.requests.keys }
+        ensures asks { DeskAsks H.node comm.now.name (line.alltoallv Nonblocking ty scounts rcounts items) result self.old self.new }
         ensures no_turn { H.turned self.old.host 0 self.new.host }
     {
         let draft = lines::alltoallv(Mode::Nonblocking, ty, scounts, rcounts, items);

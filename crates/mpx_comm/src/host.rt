@@ -1,9 +1,9 @@
 // Who posts for a process and hears of others.
-ghost use Rattle.std.specs.Prelude.{◌≡◌, ◌+◌, ◌≤◌, ℕ, OnOk, OnErr, is_some, slice_get};
+ghost use Rattle.std.specs.Prelude.{◌≡◌, ◌+◌, ◌≤◌, ℕ, OnOk, OnErr, slice_get};
 ghost use Rattle.std.specs.Option.{option_copied};
 ghost use Rattle.mpx_post.specs.Drafts.{refusal_of};
-ghost use Rattle.mpx_node.specs.Nodes.{NodeView, Opens, Posts, checked_on, gathers_on, next_result, results_on, posted_on, front_on};
-ghost use Rattle.mpx_node.specs.Harvests.{Harvests};
+ghost use Rattle.mpx_node.specs.Nodes.{NodeView, Opens, Posts, checked_on, gathers_on, results_on, posted_on, front_on};
+ghost use Rattle.mpx_comm.specs.Harvested.{HarvestsNext};
 ghost use Rattle.mpx_comm.specs.Later.{Later};
 
 use join_core::OutOfMemory;
@@ -45,7 +45,7 @@ pub trait Host: Drop {
 
     /// Harvests the next call on a context. It makes no turn.
     fn harvest(&mut self, alloc: Global, name: &Name) -> Result<Harvest, OutOfMemory>
-        ensures harvests { Harvests (is_some ((node self.old).opened name.now)) name.now (next_result (node self.old) name.now) result (node self.old) (node self.new) }
+        ensures harvests { HarvestsNext name.now result (node self.old) (node self.new) }
         ensures no_turn { turned self.old 0 self.new };
 
     /// The result of a call that was harvested, kept for good.

@@ -1,17 +1,17 @@
 // What follows from the calls' contracts, as calls that do nothing.
-ghost use Rattle.std.specs.Prelude.{◌≡◌, ℤ, List, Result, Ok, Some, is_some};
+ghost use Rattle.std.specs.Prelude.{◌≡◌, ℤ, List, Result, Ok, Some};
 ghost use Rattle.join_core.specs.declared.memory.OutOfMemory.{OutOfMemory};
 ghost use Rattle.mpx_name.specs.Name.{Name};
 ghost use Rattle.mpx_post.specs.Drafts.{given_by};
 ghost use Rattle.mpx_post.specs.declared.draft.Draft.{Draft};
 ghost use Rattle.mpx_post.specs.declared.draft.PostError.{PostError};
 ghost use Rattle.mpx_board.specs.Boards.{Look};
-ghost use Rattle.mpx_node.specs.Nodes.{NodeView, Opens, gathers_on, learn, next_result};
-ghost use Rattle.mpx_node.specs.Harvests.{Harvests};
+ghost use Rattle.mpx_node.specs.Nodes.{NodeView, Opens, gathers_on, learn};
 ghost use Rattle.mpx_node.specs.declared.node.Harvest.{Harvest};
 ghost use Rattle.mpx_node.specs.declared.finished.Finished.{Finished};
 ghost use Rattle.mpx_comm.specs.declared.answers.Tested.TheVariants.{Done};
 ghost use Rattle.mpx_comm.specs.declared.request.Request.{Request};
+ghost use Rattle.mpx_comm.specs.Harvested.{HarvestsNext};
 ghost use Rattle.mpx_comm.specs.Keeps.{Keeps};
 ghost use Rattle.mpx_comm.specs.Later.{Later};
 ghost use Rattle.mpx_comm.specs.Requests.{HasPosted, Tests, result_of, next_call};
@@ -24,7 +24,7 @@ pub fn calls_keep_posts_and_results()
     ensures gatherings { (old now : NodeView) (parent : Name) (tag : ℤ) (ranks : List ℤ) (answer : Result Name PostError)
         → Opens parent (gathers_on old parent tag ranks) answer old now → Keeps old now }
     ensures harvests { (old now : NodeView) (name : Name) (answer : Result Harvest OutOfMemory)
-        → Harvests (is_some (old.opened name)) name (next_result old name) answer old now → Keeps old now }
+        → HarvestsNext name answer old now → Keeps old now }
     ensures boards { (old : NodeView) (part : Look) → Keeps old (learn part old) }
     ensures chain { (old between now : NodeView) → Keeps old between → Keeps between now → Keeps old now }
 {}

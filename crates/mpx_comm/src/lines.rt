@@ -260,7 +260,7 @@ pub fn of_graph(
     sources: Vec<DraftedNeighbour>,
     destinations: Vec<DraftedNeighbour>,
 ) -> Draft
-    ensures { result ≡ record (line.plain (Call.NewCommunicator new)) { graph = Some (record { weighted = weighted; edges = edges.items; sources = sources.items; destinations = destinations.items }) } }
+    ensures { result ≡ line.of_graph new (record { weighted = weighted; edges = edges.items; sources = sources.items; destinations = destinations.items }) }
 {
     let graph = DraftedGraph::new(weighted, edges, sources, destinations);
     let mut draft = plain(Call::NewCommunicator(new));

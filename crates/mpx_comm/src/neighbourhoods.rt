@@ -2,7 +2,7 @@
 // waited for where it blocks.
 ghost use Rattle.std.specs.Prelude.{◌≡◌};
 ghost use Rattle.mpx_kind.specs.declared.kinds.Mode.TheVariants.{Blocking, Nonblocking};
-ghost use Rattle.mpx_comm.specs.Requests.{Asks, Calls};
+ghost use Rattle.mpx_comm.specs.Desks.{DeskAsks, DeskCalls};
 ghost use Rattle.mpx_comm.specs.Lines as line;
 
 use crate::answers::CallError;
@@ -28,7 +28,7 @@ impl<H: Host> Desk<H> {
         items: Numbers,
         turns: u64,
     ) -> Result<Finished, CallError>
-        ensures { Calls H.node H.turned H.turn_refused comm.now.name (line.neighbor_allgather Blocking ty count items) turns result self.old.host self.new.host self.old.requests.keys self.new.requests.keys }
+        ensures { DeskCalls H.node H.turned H.turn_refused comm.now.name (line.neighbor_allgather Blocking ty count items) turns result self.old self.new }
     {
         let draft = lines::neighbor_allgather(Mode::Blocking, ty, count, items);
         self.call_on(alloc, &comm.name, draft, turns)
@@ -43,7 +43,7 @@ impl<H: Host> Desk<H> {
         count: i128,
         items: Numbers,
     ) -> Result<Request, PostError>
-        ensures asks { Asks comm.now.name (line.neighbor_allgather Nonblocking ty count items) result (H.node self.old.host) (H.node self.new.host) self.old.requests.keys self.new.requests.keys }
+        ensures asks { DeskAsks H.node comm.now.name (line.neighbor_allgather Nonblocking ty count items) result self.old self.new }
         ensures no_turn { H.turned self.old.host 0 self.new.host }
     {
         let draft = lines::neighbor_allgather(Mode::Nonblocking, ty, count, items);
@@ -61,7 +61,7 @@ impl<H: Host> Desk<H> {
         items: Numbers,
         turns: u64,
     ) -> Result<Finished, CallError>
-        ensures { Calls H.node H.turned H.turn_refused comm.now.name (line.neighbor_allgatherv Blocking ty rcounts items) turns result self.old.host self.new.host self.old.requests.keys self.new.requests.keys }
+        ensures { DeskCalls H.node H.turned H.turn_refused comm.now.name (line.neighbor_allgatherv Blocking ty rcounts items) turns result self.old self.new }
     {
         let draft = lines::neighbor_allgatherv(Mode::Blocking, ty, rcounts, items);
         self.call_on(alloc, &comm.name, draft, turns)
@@ -76,7 +76,7 @@ impl<H: Host> Desk<H> {
         rcounts: Numbers,
         items: Numbers,
     ) -> Result<Request, PostError>
-        ensures asks { Asks comm.now.name (line.neighbor_allgatherv Nonblocking ty rcounts items) result (H.node self.old.host) (H.node self.new.host) self.old.requests.keys self.new.requests.keys }
+        ensures asks { DeskAsks H.node comm.now.name (line.neighbor_allgatherv Nonblocking ty rcounts items) result self.old self.new }
         ensures no_turn { H.turned self.old.host 0 self.new.host }
     {
         let draft = lines::neighbor_allgatherv(Mode::Nonblocking, ty, rcounts, items);
@@ -95,7 +95,7 @@ impl<H: Host> Desk<H> {
         items: Numbers,
         turns: u64,
     ) -> Result<Finished, CallError>
-        ensures { Calls H.node H.turned H.turn_refused comm.now.name (line.neighbor_alltoall Blocking ty scount rcount items) turns result self.old.host self.new.host self.old.requests.keys self.new.requests.keys }
+        ensures { DeskCalls H.node H.turned H.turn_refused comm.now.name (line.neighbor_alltoall Blocking ty scount rcount items) turns result self.old self.new }
     {
         let draft = lines::neighbor_alltoall(Mode::Blocking, ty, scount, rcount, items);
         self.call_on(alloc, &comm.name, draft, turns)
@@ -111,7 +111,7 @@ impl<H: Host> Desk<H> {
         rcount: i128,
         items: Numbers,
     ) -> Result<Request, PostError>
-        ensures asks { Asks comm.now.name (line.neighbor_alltoall Nonblocking ty scount rcount items) result (H.node self.old.host) (H.node self.new.host) self.old.requests.keys self.new.requests.keys }
+        ensures asks { DeskAsks H.node comm.now.name (line.neighbor_alltoall Nonblocking ty scount rcount items) result self.old self.new }
         ensures no_turn { H.turned self.old.host 0 self.new.host }
     {
         let draft = lines::neighbor_alltoall(Mode::Nonblocking, ty, scount, rcount, items);
@@ -130,7 +130,7 @@ impl<H: Host> Desk<H> {
         items: Numbers,
         turns: u64,
     ) -> Result<Finished, CallError>
-        ensures { Calls H.node H.turned H.turn_refused comm.now.name (line.neighbor_alltoallv Blocking ty scounts rcounts items) turns result self.old.host self.new.host self.old.requests.keys self.new.requests.keys }
+        ensures { DeskCalls H.node H.turned H.turn_refused comm.now.name (line.neighbor_alltoallv Blocking ty scounts rcounts items) turns result self.old self.new }
     {
         let draft = lines::neighbor_alltoallv(Mode::Blocking, ty, scounts, rcounts, items);
         self.call_on(alloc, &comm.name, draft, turns)
@@ -146,7 +146,7 @@ impl<H: Host> Desk<H> {
         rcounts: Numbers,
         items: Numbers,
     ) -> Result<Request, PostError>
-        ensures asks { Asks comm.now.name (line.neighbor_alltoallv Nonblocking ty scounts rcounts items) result (H.node self.old.host) (H.node self.new.host) self.old.requests.keys self.new.requests.keys }
+        ensures asks { DeskAsks H.node comm.now.name (line.neighbor_alltoallv Nonblocking ty scounts rcounts items) result self.old self.new }
         ensures no_turn { H.turned self.old.host 0 self.new.host }
     {
         let draft = lines::neighbor_alltoallv(Mode::Nonblocking, ty, scounts, rcounts, items);

@@ -2,7 +2,7 @@
 // waited for where it blocks.
 ghost use Rattle.std.specs.Prelude.{◌≡◌};
 ghost use Rattle.mpx_kind.specs.declared.kinds.Mode.TheVariants.{Blocking, Nonblocking};
-ghost use Rattle.mpx_comm.specs.Requests.{Asks, Calls};
+ghost use Rattle.mpx_comm.specs.Desks.{DeskAsks, DeskCalls};
 ghost use Rattle.mpx_comm.specs.Lines as line;
 
 use crate::answers::CallError;
@@ -28,7 +28,7 @@ impl<H: Host> Desk<H> {
         items: Numbers,
         turns: u64,
     ) -> Result<Finished, CallError>
-        ensures { Calls H.node H.turned H.turn_refused comm.now.name (line.reduce Blocking root op ty items) turns result self.old.host self.new.host self.old.requests.keys self.new.requests.keys }
+        ensures { DeskCalls H.node H.turned H.turn_refused comm.now.name (line.reduce Blocking root op ty items) turns result self.old self.new }
     {
         let draft = lines::reduce(Mode::Blocking, root, op, ty, items);
         self.call_on(alloc, &comm.name, draft, turns)
@@ -44,7 +44,7 @@ impl<H: Host> Desk<H> {
         ty: Ty,
         items: Numbers,
     ) -> Result<Request, PostError>
-        ensures asks { Asks comm.now.name (line.reduce Nonblocking root op ty items) result (H.node self.old.host) (H.node self.new.host) self.old.requests.keys self.new.requests.keys }
+        ensures asks { DeskAsks H.node comm.now.name (line.reduce Nonblocking root op ty items) result self.old self.new }
         ensures no_turn { H.turned self.old.host 0 self.new.host }
     {
         let draft = lines::reduce(Mode::Nonblocking, root, op, ty, items);
@@ -61,7 +61,7 @@ impl<H: Host> Desk<H> {
         items: Numbers,
         turns: u64,
     ) -> Result<Finished, CallError>
-        ensures { Calls H.node H.turned H.turn_refused comm.now.name (line.allreduce Blocking op ty items) turns result self.old.host self.new.host self.old.requests.keys self.new.requests.keys }
+        ensures { DeskCalls H.node H.turned H.turn_refused comm.now.name (line.allreduce Blocking op ty items) turns result self.old self.new }
     {
         let draft = lines::allreduce(Mode::Blocking, op, ty, items);
         self.call_on(alloc, &comm.name, draft, turns)
@@ -76,7 +76,7 @@ impl<H: Host> Desk<H> {
         ty: Ty,
         items: Numbers,
     ) -> Result<Request, PostError>
-        ensures asks { Asks comm.now.name (line.allreduce Nonblocking op ty items) result (H.node self.old.host) (H.node self.new.host) self.old.requests.keys self.new.requests.keys }
+        ensures asks { DeskAsks H.node comm.now.name (line.allreduce Nonblocking op ty items) result self.old self.new }
         ensures no_turn { H.turned self.old.host 0 self.new.host }
     {
         let draft = lines::allreduce(Mode::Nonblocking, op, ty, items);
@@ -95,7 +95,7 @@ impl<H: Host> Desk<H> {
         items: Numbers,
         turns: u64,
     ) -> Result<Finished, CallError>
-        ensures { Calls H.node H.turned H.turn_refused comm.now.name (line.reduce_scatter_block Blocking op ty count items) turns result self.old.host self.new.host self.old.requests.keys self.new.requests.keys }
+        ensures { DeskCalls H.node H.turned H.turn_refused comm.now.name (line.reduce_scatter_block Blocking op ty count items) turns result self.old self.new }
     {
         let draft = lines::reduce_scatter_block(Mode::Blocking, op, ty, count, items);
         self.call_on(alloc, &comm.name, draft, turns)
@@ -111,7 +111,7 @@ impl<H: Host> Desk<H> {
         count: i128,
         items: Numbers,
     ) -> Result<Request, PostError>
-        ensures asks { Asks comm.now.name (line.reduce_scatter_block Nonblocking op ty count items) result (H.node self.old.host) (H.node self.new.host) self.old.requests.keys self.new.requests.keys }
+        ensures asks { DeskAsks H.node comm.now.name (line.reduce_scatter_block Nonblocking op ty count items) result self.old self.new }
         ensures no_turn { H.turned self.old.host 0 self.new.host }
     {
         let draft = lines::reduce_scatter_block(Mode::Nonblocking, op, ty, count, items);
@@ -130,7 +130,7 @@ impl<H: Host> Desk<H> {
         items: Numbers,
         turns: u64,
     ) -> Result<Finished, CallError>
-        ensures { Calls H.node H.turned H.turn_refused comm.now.name (line.reduce_scatter Blocking op ty rcounts items) turns result self.old.host self.new.host self.old.requests.keys self.new.requests.keys }
+        ensures { DeskCalls H.node H.turned H.turn_refused comm.now.name (line.reduce_scatter Blocking op ty rcounts items) turns result self.old self.new }
     {
         let draft = lines::reduce_scatter(Mode::Blocking, op, ty, rcounts, items);
         self.call_on(alloc, &comm.name, draft, turns)
@@ -146,7 +146,7 @@ impl<H: Host> Desk<H> {
         rcounts: Numbers,
         items: Numbers,
     ) -> Result<Request, PostError>
-        ensures asks { Asks comm.now.name (line.reduce_scatter Nonblocking op ty rcounts items) result (H.node self.old.host) (H.node self.new.host) self.old.requests.keys self.new.requests.keys }
+        ensures asks { DeskAsks H.node comm.now.name (line.reduce_scatter Nonblocking op ty rcounts items) result self.old self.new }
         ensures no_turn { H.turned self.old.host 0 self.new.host }
     {
         let draft = lines::reduce_scatter(Mode::Nonblocking, op, ty, rcounts, items);
@@ -163,7 +163,7 @@ impl<H: Host> Desk<H> {
         items: Numbers,
         turns: u64,
     ) -> Result<Finished, CallError>
-        ensures { Calls H.node H.turned H.turn_refused comm.now.name (line.scan Blocking op ty items) turns result self.old.host self.new.host self.old.requests.keys self.new.requests.keys }
+        ensures { DeskCalls H.node H.turned H.turn_refused comm.now.name (line.scan Blocking op ty items) turns result self.old self.new }
     {
         let draft = lines::scan(Mode::Blocking, op, ty, items);
         self.call_on(alloc, &comm.name, draft, turns)
@@ -178,7 +178,7 @@ impl<H: Host> Desk<H> {
         ty: Ty,
         items: Numbers,
     ) -> Result<Request, PostError>
-        ensures asks { Asks comm.now.name (line.scan Nonblocking op ty items) result (H.node self.old.host) (H.node self.new.host) self.old.requests.keys self.new.requests.keys }
+        ensures asks { DeskAsks H.node comm.now.name (line.scan Nonblocking op ty items) result self.old self.new }
         ensures no_turn { H.turned self.old.host 0 self.new.host }
     {
         let draft = lines::scan(Mode::Nonblocking, op, ty, items);
@@ -195,7 +195,7 @@ impl<H: Host> Desk<H> {
         items: Numbers,
         turns: u64,
     ) -> Result<Finished, CallError>
-        ensures { Calls H.node H.turned H.turn_refused comm.now.name (line.exscan Blocking op ty items) turns result self.old.host self.new.host self.old.requests.keys self.new.requests.keys }
+        ensures { DeskCalls H.node H.turned H.turn_refused comm.now.name (line.exscan Blocking op ty items) turns result self.old self.new }
     {
         let draft = lines::exscan(Mode::Blocking, op, ty, items);
         self.call_on(alloc, &comm.name, draft, turns)
@@ -210,7 +210,7 @@ impl<H: Host> Desk<H> {
         ty: Ty,
         items: Numbers,
     ) -> Result<Request, PostError>
-        ensures asks { Asks comm.now.name (line.exscan Nonblocking op ty items) result (H.node self.old.host) (H.node self.new.host) self.old.requests.keys self.new.requests.keys }
+        ensures asks { DeskAsks H.node comm.now.name (line.exscan Nonblocking op ty items) result self.old self.new }
         ensures no_turn { H.turned self.old.host 0 self.new.host }
     {
         let draft = lines::exscan(Mode::Nonblocking, op, ty, items);

@@ -2,7 +2,7 @@
 // waited for where it blocks.
 ghost use Rattle.std.specs.Prelude.{◌≡◌};
 ghost use Rattle.mpx_kind.specs.declared.kinds.Mode.TheVariants.{Blocking, Nonblocking};
-ghost use Rattle.mpx_comm.specs.Requests.{Asks, Calls};
+ghost use Rattle.mpx_comm.specs.Desks.{DeskAsks, DeskCalls};
 ghost use Rattle.mpx_comm.specs.Lines as line;
 
 use crate::answers::CallError;
@@ -19,7 +19,7 @@ use std::alloc::Global;
 impl<H: Host> Desk<H> {
     /// `MPI_BARRIER` (MPI 4.1 section 6.3).
     pub fn barrier(&mut self, alloc: Global, comm: &Comm, turns: u64) -> Result<Finished, CallError>
-        ensures { Calls H.node H.turned H.turn_refused comm.now.name (line.barrier Blocking) turns result self.old.host self.new.host self.old.requests.keys self.new.requests.keys }
+        ensures { DeskCalls H.node H.turned H.turn_refused comm.now.name (line.barrier Blocking) turns result self.old self.new }
     {
         let draft = lines::barrier(Mode::Blocking);
         self.call_on(alloc, &comm.name, draft, turns)
@@ -27,7 +27,7 @@ impl<H: Host> Desk<H> {
 
     /// `MPI_IBARRIER` (MPI 4.1 section 6.3).
     pub fn ibarrier(&mut self, alloc: Global, comm: &Comm) -> Result<Request, PostError>
-        ensures asks { Asks comm.now.name (line.barrier Nonblocking) result (H.node self.old.host) (H.node self.new.host) self.old.requests.keys self.new.requests.keys }
+        ensures asks { DeskAsks H.node comm.now.name (line.barrier Nonblocking) result self.old self.new }
         ensures no_turn { H.turned self.old.host 0 self.new.host }
     {
         let draft = lines::barrier(Mode::Nonblocking);
@@ -45,7 +45,7 @@ impl<H: Host> Desk<H> {
         items: Numbers,
         turns: u64,
     ) -> Result<Finished, CallError>
-        ensures { Calls H.node H.turned H.turn_refused comm.now.name (line.bcast Blocking root ty count items) turns result self.old.host self.new.host self.old.requests.keys self.new.requests.keys }
+        ensures { DeskCalls H.node H.turned H.turn_refused comm.now.name (line.bcast Blocking root ty count items) turns result self.old self.new }
     {
         let draft = lines::bcast(Mode::Blocking, root, ty, count, items);
         self.call_on(alloc, &comm.name, draft, turns)
@@ -61,7 +61,7 @@ impl<H: Host> Desk<H> {
         count: i128,
         items: Numbers,
     ) -> Result<Request, PostError>
-        ensures asks { Asks comm.now.name (line.bcast Nonblocking root ty count items) result (H.node self.old.host) (H.node self.new.host) self.old.requests.keys self.new.requests.keys }
+        ensures asks { DeskAsks H.node comm.now.name (line.bcast Nonblocking root ty count items) result self.old self.new }
         ensures no_turn { H.turned self.old.host 0 self.new.host }
     {
         let draft = lines::bcast(Mode::Nonblocking, root, ty, count, items);
@@ -78,7 +78,7 @@ impl<H: Host> Desk<H> {
         items: Numbers,
         turns: u64,
     ) -> Result<Finished, CallError>
-        ensures { Calls H.node H.turned H.turn_refused comm.now.name (line.gather Blocking root ty items) turns result self.old.host self.new.host self.old.requests.keys self.new.requests.keys }
+        ensures { DeskCalls H.node H.turned H.turn_refused comm.now.name (line.gather Blocking root ty items) turns result self.old self.new }
     {
         let draft = lines::gather(Mode::Blocking, root, ty, items);
         self.call_on(alloc, &comm.name, draft, turns)
@@ -93,7 +93,7 @@ impl<H: Host> Desk<H> {
         ty: Ty,
         items: Numbers,
     ) -> Result<Request, PostError>
-        ensures asks { Asks comm.now.name (line.gather Nonblocking root ty items) result (H.node self.old.host) (H.node self.new.host) self.old.requests.keys self.new.requests.keys }
+        ensures asks { DeskAsks H.node comm.now.name (line.gather Nonblocking root ty items) result self.old self.new }
         ensures no_turn { H.turned self.old.host 0 self.new.host }
     {
         let draft = lines::gather(Mode::Nonblocking, root, ty, items);
@@ -112,7 +112,7 @@ impl<H: Host> Desk<H> {
         items: Numbers,
         turns: u64,
     ) -> Result<Finished, CallError>
-        ensures { Calls H.node H.turned H.turn_refused comm.now.name (line.gatherv Blocking root ty rcounts items) turns result self.old.host self.new.host self.old.requests.keys self.new.requests.keys }
+        ensures { DeskCalls H.node H.turned H.turn_refused comm.now.name (line.gatherv Blocking root ty rcounts items) turns result self.old self.new }
     {
         let draft = lines::gatherv(Mode::Blocking, root, ty, rcounts, items);
         self.call_on(alloc, &comm.name, draft, turns)
@@ -128,7 +128,7 @@ impl<H: Host> Desk<H> {
         rcounts: Numbers,
         items: Numbers,
     ) -> Result<Request, PostError>
-        ensures asks { Asks comm.now.name (line.gatherv Nonblocking root ty rcounts items) result (H.node self.old.host) (H.node self.new.host) self.old.requests.keys self.new.requests.keys }
+        ensures asks { DeskAsks H.node comm.now.name (line.gatherv Nonblocking root ty rcounts items) result self.old self.new }
         ensures no_turn { H.turned self.old.host 0 self.new.host }
     {
         let draft = lines::gatherv(Mode::Nonblocking, root, ty, rcounts, items);
@@ -147,7 +147,7 @@ impl<H: Host> Desk<H> {
         items: Numbers,
         turns: u64,
     ) -> Result<Finished, CallError>
-        ensures { Calls H.node H.turned H.turn_refused comm.now.name (line.scatter Blocking root ty count items) turns result self.old.host self.new.host self.old.requests.keys self.new.requests.keys }
+        ensures { DeskCalls H.node H.turned H.turn_refused comm.now.name (line.scatter Blocking root ty count items) turns result self.old self.new }
     {
         let draft = lines::scatter(Mode::Blocking, root, ty, count, items);
         self.call_on(alloc, &comm.name, draft, turns)
@@ -163,7 +163,7 @@ impl<H: Host> Desk<H> {
         count: i128,
         items: Numbers,
     ) -> Result<Request, PostError>
-        ensures asks { Asks comm.now.name (line.scatter Nonblocking root ty count items) result (H.node self.old.host) (H.node self.new.host) self.old.requests.keys self.new.requests.keys }
+        ensures asks { DeskAsks H.node comm.now.name (line.scatter Nonblocking root ty count items) result self.old self.new }
         ensures no_turn { H.turned self.old.host 0 self.new.host }
     {
         let draft = lines::scatter(Mode::Nonblocking, root, ty, count, items);
@@ -183,7 +183,7 @@ impl<H: Host> Desk<H> {
         items: Numbers,
         turns: u64,
     ) -> Result<Finished, CallError>
-        ensures { Calls H.node H.turned H.turn_refused comm.now.name (line.scatterv Blocking root ty scounts count items) turns result self.old.host self.new.host self.old.requests.keys self.new.requests.keys }
+        ensures { DeskCalls H.node H.turned H.turn_refused comm.now.name (line.scatterv Blocking root ty scounts count items) turns result self.old self.new }
     {
         let draft = lines::scatterv(Mode::Blocking, root, ty, scounts, count, items);
         self.call_on(alloc, &comm.name, draft, turns)
@@ -200,7 +200,7 @@ impl<H: Host> Desk<H> {
         count: i128,
         items: Numbers,
     ) -> Result<Request, PostError>
-        ensures asks { Asks comm.now.name (line.scatterv Nonblocking root ty scounts count items) result (H.node self.old.host) (H.node self.new.host) self.old.requests.keys self.new.requests.keys }
+        ensures asks { DeskAsks H.node comm.now.name (line.scatterv Nonblocking root ty scounts count items) result self.old self.new }
         ensures no_turn { H.turned self.old.host 0 self.new.host }
     {
         let draft = lines::scatterv(Mode::Nonblocking, root, ty, scounts, count, items);

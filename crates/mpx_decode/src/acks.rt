@@ -4,6 +4,7 @@ ghost use Rattle.std.specs.Ordering.{nat_cmp};
 ghost use Rattle.std.specs.FinMap.{FinMap};
 ghost use Rattle.join_nest.specs.Seen.{keyed_view};
 ghost use Rattle.mpx_name.specs.Order.{name_cmp};
+ghost use Rattle.mpx_board.specs.Views.{view_of_all_acks};
 ghost use Rattle.mpx_format.specs.Format.{Gives};
 ghost use Rattle.mpx_format.specs.Fields.{process, name, some_calls, numbers, acks, all_acks, fronts};
 
@@ -99,7 +100,7 @@ impl WireValue for Acks {
 
 #[tactic(auto, unfolding(mpx_format::specs::Fields::all_acks))]
 pub fn read_all_acks(alloc: Global, bytes: &[u8]) -> Result<(Keyed<Proc, Acks>, &[u8]), ReadError>
-    ensures { Gives (λ x. (keyed_view nat_cmp (λ a. keyed_view name_cmp (λ m. keyed_view nat_cmp (λ n. n.0) m.entries.items) a.entries.items) x.0.entries.items, x.1.now)) result (all_acks.read bytes.now) }
+    ensures { Gives (λ x. (view_of_all_acks x.0, x.1.now)) result (all_acks.read bytes.now) }
 {
     let (count, rest) = read_u8(bytes)?;
     let (entries, rest) = read_entries(alloc, &None, count as usize, rest)?;

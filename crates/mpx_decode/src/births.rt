@@ -1,9 +1,9 @@
 // Births of communicators.
-ghost use Rattle.std.specs.Prelude.{◌≡◌, nat_lt, IfOk, length, true};
+ghost use Rattle.std.specs.Prelude.{◌≡◌, IfOk, length, true};
 ghost use Rattle.std.specs.Option.{option_map};
 ghost use Rattle.mpx_birth.specs.Births.{BirthView, fits_topology};
-ghost use Rattle.mpx_format.specs.Format.{Gives, tagged};
-ghost use Rattle.mpx_format.specs.Births.{birth, code_of_topology, nears, topology, topology_form};
+ghost use Rattle.mpx_format.specs.Format.{Gives};
+ghost use Rattle.mpx_format.specs.Births.{any_topology, birth, nears, topology};
 
 use crate::entries::WireValue;
 use crate::lists::read_list;
@@ -32,7 +32,7 @@ fn read_form(
     alloc: Global,
     bytes: &[u8],
 ) -> Result<(Option<(bool, Vec<Neighbours>)>, &[u8]), ReadError>
-    ensures read { Gives (λ x. (option_map (λ t. record { weighted = t.0; ranks = t.1.items }) x.0, x.1.now)) result ((tagged (λ t. nat_lt t 3) code_of_topology (topology_form size)).read bytes.now) }
+    ensures read { Gives (λ x. (option_map (λ t. record { weighted = t.0; ranks = t.1.items }) x.0, x.1.now)) result ((any_topology size).read bytes.now) }
     ensures ranks { IfOk result (λ x. fits_topology size (option_map (λ t. record { weighted = t.0; ranks = t.1.items }) x.0)) }
 {
     let (form, rest) = read_u8(bytes)?;

@@ -1,11 +1,11 @@
 // What frames say of contexts.
-ghost use Rattle.std.specs.Prelude.{◌≡◌, true, not};
+ghost use Rattle.std.specs.Prelude.{◌≡◌, true};
 ghost use Rattle.join_core.specs.Flat.{FlatView};
 ghost use Rattle.join_core.specs.FlatSeen.{flat_view};
 ghost use Rattle.mpx_post.specs.Posts.{Given};
 ghost use Rattle.mpx_board.specs.Parts.{CallView, EntryView, PartsView, ProgressView};
 ghost use Rattle.join_nest.specs.Trunc.{TruncView};
-ghost use Rattle.mpx_board.specs.Tidy.{is_unknown, says_nothing};
+ghost use Rattle.mpx_board.specs.Tidy.{says_nothing};
 ghost use Rattle.mpx_format.specs.Format.{Gives};
 ghost use Rattle.mpx_format.specs.Contexts.{told, posted, call_posts, held, progress, context, parts, says_something};
 ghost use Rattle.mpx_format.specs.Fields.{fronts, call};
@@ -16,7 +16,7 @@ use crate::fields::{read_call, read_name_count, read_some_byte};
 use crate::numbers::{read_u8, read_u32};
 use join_core::{Exact, Flat, Pair};
 use join_nest::{Keyed, Trunc};
-use mpx_board::{Call, Entry, Parts, VersionVector, says_something};
+use mpx_board::{Call, Entry, Parts, VersionVector, is_told, says_something};
 use mpx_format::{ReadError, out_of_limits};
 use mpx_post::{Birth, Post};
 use std::alloc::Global;
@@ -36,12 +36,6 @@ fn read_told<T: WireValue>(alloc: Global, bytes: &[u8]) -> Result<(Flat<T>, &[u8
     } else {
         Err(out_of_limits(bytes))
     }
-}
-
-fn is_told<T>(value: &Flat<T>) -> bool
-    ensures { result ≡ not (is_unknown (flat_view (λ t. t) value.now)) }
-{
-    !matches!(value, Flat::Unknown)
 }
 
 impl WireValue for Flat<Post> {

@@ -120,18 +120,15 @@ impl Number for u64 {
     }
 }
 
-// One of a pair.
+// One of a pair, whose bytes are those of an `i32`.
 struct OfPair;
 
 impl Number for OfPair {
     ghost ty = { TwoInt };
 
-    #[tactic(auto, using(crate::proofs::Signed::signed32), unfolding(mpx_format::specs::Posts::integer))]
+    #[tactic(auto, unfolding(mpx_format::specs::Posts::integer))]
     fn front(bytes: &[u8]) -> (i128, &[u8]) {
-        match bytes.split_first_chunk::<4>() {
-            None => unreachable!(),
-            Some((number, rest)) => (i128::from(i32::from_be_bytes(*number)), rest),
-        }
+        i32::front(bytes)
     }
 }
 

@@ -1,13 +1,11 @@
 // Posts: the fields of each kind.
 ghost use Rattle.std.specs.Prelude.{◌≡◌, ◌≤◌, ◌+◌, ◌*◌, ◌++◌, true, OnOk, length};
 ghost use Rattle.std.specs.List.{flat_map};
-ghost use Rattle.std.specs.Option.{option_map};
-ghost use Rattle.mpx_num.specs.ItemList.{ItemList};
 ghost use Rattle.mpx_post.specs.Kinds.{fields_of, is_had};
 ghost use Rattle.mpx_post.specs.Posts.{most_counts};
 ghost use Rattle.mpx_format.specs.Fields.{process};
 ghost use Rattle.mpx_format.specs.Codes.{operation, when};
-ghost use Rattle.mpx_format.specs.Posts.{count as count_format, counts as counts_format, counts_if, items_for, nums_of, post as post_format, type_for};
+ghost use Rattle.mpx_format.specs.Posts.{count as count_format, counts as counts_format, counts_if, items_spelled, post as post_format, type_spelled};
 
 use crate::write_codes::{code_of_kind, code_of_mode, code_of_operation, code_of_type};
 use crate::write_items::{items_len, write_items};
@@ -35,7 +33,7 @@ fn write_operation(given: &Post, out: &mut Vec<u8>) -> Result<(), OutOfMemory>
 }
 
 fn write_type(given: &Post, out: &mut Vec<u8>) -> Result<(), OutOfMemory>
-    ensures { OnOk result (out.new.items ≡ out.old.items ++ (when (fields_of given.now.kind).items (type_for given.now.op)).spelling (option_map (λ (i : ItemList). i.ty) given.now.items)) }
+    ensures { OnOk result (out.new.items ≡ out.old.items ++ type_spelled given.now) }
 {
     match given.items() {
         None => Ok(()),
@@ -44,7 +42,7 @@ fn write_type(given: &Post, out: &mut Vec<u8>) -> Result<(), OutOfMemory>
 }
 
 fn write_items_of(given: &Post, out: &mut Vec<u8>) -> Result<(), OutOfMemory>
-    ensures { OnOk result (out.new.items ≡ out.old.items ++ (items_for (option_map (λ (i : ItemList). i.ty) given.now.items)).spelling (nums_of given.now.items)) }
+    ensures { OnOk result (out.new.items ≡ out.old.items ++ items_spelled given.now) }
 {
     match given.items() {
         None => Ok(()),
@@ -54,7 +52,7 @@ fn write_items_of(given: &Post, out: &mut Vec<u8>) -> Result<(), OutOfMemory>
 
 // How many bytes the type and the items take.
 fn typed_len(given: &Post) -> usize
-    ensures value { result ≡ length ((when (fields_of given.now.kind).items (type_for given.now.op)).spelling (option_map (λ (i : ItemList). i.ty) given.now.items)) + length ((items_for (option_map (λ (i : ItemList). i.ty) given.now.items)).spelling (nums_of given.now.items)) }
+    ensures value { result ≡ length (type_spelled given.now) + length (items_spelled given.now) }
     ensures small { result ≤ 65539 }
 {
     match given.items() {

@@ -1,5 +1,4 @@
 pub mod Contexts
-pub mod Answered
 pub mod Tables
 pub mod Places
 pub mod Carrying

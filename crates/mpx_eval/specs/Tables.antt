@@ -10,7 +10,7 @@ use Rattle.mpx_post.specs.declared.draft.PostError.TheVariants.{OutOfMemory}
 use Rattle.mpx_post.specs.Births.{BirthView}
 use Rattle.mpx_post.specs.Posts.{Given}
 use Rattle.mpx_value.specs.Histories.{Answer, Made, birth_of, history_of, posts_on}
-use Rattle.mpx_evaluation.specs.Ranks.{next_call}
+use Rattle.mpx_evaluation.specs.Ranks.{next_call, post_on}
 use Rattle.mpx_eval.specs.Contexts.{ContextView, answer_in, checked_there, count_in, fresh, with_post}
 use Rattle.mpx_eval.specs.declared.table.Table.{Table as Held}
 
@@ -52,6 +52,11 @@ PostsOn me name draft (Err refusal) c old new = (refusal ≡ OutOfMemory → ⊥
 abbrev pub Tries : (ranks : ℕ) → Posted → (me : ℕ) → Result Made PostError → Result (Name × ℕ) PostError → (new : Table) → Type 0
 Tries ranks made me r (Ok call) new = (m : Made) × (r ≡ Ok m) × (call.0 ≡ m.name) × (call.1 ≡ next_call m.name (made me)) × Shows ranks new (with_made me m made)
 Tries ranks made me r (Err refusal) new = (refusal ≡ OutOfMemory → ⊥) → (r ≡ Err refusal) × Shows ranks new made
+
+-- the same of a post on a context that came to be so, whatever posts the old table shows
+abbrev pub TriesOn : (me : ℕ) → Draft → Name → BirthView → Result (Name × ℕ) PostError → (old new : Table) → Type 0
+TriesOn me draft name birth result old new = (ranks : ℕ) (made : Posted) → Shows ranks old made → birth_of (history_of made) ranks name ≡ Some birth
+    → Tries ranks made me (post_on me (made me) draft name birth) result new
 
 -- what a call gives a process, where its row is whole
 abbrev pub answer_on : Table → (me : ℕ) → Name → (call : ℕ) → Option Answer

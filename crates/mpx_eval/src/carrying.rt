@@ -1,10 +1,6 @@
 //! The table as the carrier of ranks' posts.
-ghost use Rattle.std.specs.Prelude.{◌≡◌, refl, Some};
-ghost use Rattle.mpx_evaluation.specs.Ranks.{bound_by};
-ghost use Rattle.mpx_eval.specs.Answered.{answer_of};
-ghost use Rattle.mpx_rank.specs.Places.{bound_as};
+ghost use Rattle.std.specs.Prelude.{refl, Some};
 
-use crate::context::Answered;
 use crate::posting::attempt;
 use crate::table::Table;
 use join_core::OutOfMemory;
@@ -14,7 +10,6 @@ use mpx_name::Name;
 use mpx_post::{Birth, PostError};
 use mpx_rank::{Carrier, Heard};
 use mpx_statement::Posting;
-use mpx_value::Outcome;
 use std::alloc::Global;
 
 impl Carrier for Table {
@@ -60,7 +55,7 @@ impl Carrier for Table {
         };
         drop(call);
         let text = line(alloc, &answered.outcome)?;
-        let given = given(answered);
+        let given = answered.given(alloc)?;
         Ok(Heard::Told { text, given })
     }
 
@@ -74,45 +69,4 @@ impl Carrier for Table {
     ghost hears_more = { hears_no_more };
 
     ghost stays_told = { stays_told };
-}
-
-// The communicator that a call gave, where it gave one.
-fn given(answered: Answered) -> Option<(Name, Birth)>
-    ensures { bound_as result ≡ bound_by (answer_of answered).outcome (answer_of answered).born }
-{
-    let Answered { outcome, born } = answered;
-    match outcome {
-        Outcome::NewComm { name, .. } => match born {
-            Some(birth) => Some((name, birth)),
-            None => {
-                drop(name);
-                None
-            }
-        },
-        Outcome::Nothing => {
-            drop(outcome);
-            drop(born);
-            None
-        }
-        Outcome::Absent => {
-            drop(outcome);
-            drop(born);
-            None
-        }
-        Outcome::Items(_) => {
-            drop(outcome);
-            drop(born);
-            None
-        }
-        Outcome::Null => {
-            drop(outcome);
-            drop(born);
-            None
-        }
-        Outcome::Fault(_) => {
-            drop(outcome);
-            drop(born);
-            None
-        }
-    }
 }

@@ -4,17 +4,17 @@ ghost use Rattle.std.specs.Prelude.{slice_get};
 ghost use Rattle.std.specs.Option.{option_copied, option_map};
 ghost use Rattle.mpx_group.specs.Group.{has_twice};
 ghost use Rattle.mpx_name.specs.Name.{Name as NameView};
-ghost use Rattle.mpx_post.specs.Drafts.{Checks, at, checked, most_calls};
+ghost use Rattle.mpx_post.specs.Drafts.{most_calls};
 ghost use Rattle.mpx_value.specs.Children.{children, named_children};
 ghost use Rattle.mpx_value.specs.Histories.{born_by};
 ghost use Rattle.mpx_eval.specs.Contexts.{births_by, found};
-ghost use Rattle.mpx_eval.specs.Answered.{answer_of};
+ghost use Rattle.mpx_rank.specs.Answered.{answer_of};
 
-use crate::evaluation::push_where;
 use join_core::{Exact, OutOfMemory};
 use mpx_group::Proc;
 use mpx_name::Name;
-use mpx_post::{At, Birth, Draft, Post, PostError, Row};
+use mpx_post::{Birth, Draft, Post, PostError, Row};
+use mpx_rank::{Answered, push_where};
 use mpx_value::{Outcome, children, outcome};
 use std::alloc::Global;
 use std::marker::Model;
@@ -68,13 +68,6 @@ impl Column {
         self.posts.push(post)?;
         Ok(())
     }
-}
-
-/// What a call gave a process, and how the communicator came to be that this names.
-#[derive(Drop)]
-pub(crate) struct Answered {
-    pub(crate) outcome: Outcome,
-    pub(crate) born: Option<Birth>,
 }
 
 /// A context: how it came to be, and the posts of each member, in rank order.
@@ -137,7 +130,7 @@ impl Context {
         };
         let rank = usize::from(rank);
         let call = self.columns[rank].count();
-        let post = checked(alloc, &self.birth, me, name, call, draft)?;
+        let post = draft.check_call(alloc, &self.birth, me, name, call)?;
         if self.columns[rank].push(post).is_err() {
             return Err(PostError::OutOfMemory);
         }
@@ -215,21 +208,6 @@ impl Context {
             }
         }
     }
-}
-
-// The post of the draft as this call on the context, of which there is none past the last.
-fn checked(
-    alloc: Global,
-    birth: &Birth,
-    me: Proc,
-    name: &Name,
-    call: u32,
-    draft: Draft,
-) -> Result<Post, PostError>
-    ensures value { Checks (checked birth.now me (at name.now call) draft) result }
-    ensures room { OnOk result (call < most_calls) }
-{
-    draft.check(alloc, birth, me, &At::on(name, call))
 }
 
 // How the communicator came to be that an outcome of this call names.

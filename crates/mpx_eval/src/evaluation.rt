@@ -1,7 +1,8 @@
 // The evaluation of a script.
-ghost use Rattle.std.specs.Prelude.{◌≡◌, ◌<◌, ◌≤◌, ◌++◌, ◌∷◌, ℕ, IfOk, List, None, OnOk, [], cond, length, map, slice_get, string_bytes};
+ghost use Rattle.std.specs.Prelude.{◌≡◌, ◌<◌, ◌≤◌, ℕ, IfOk, List, None, length, map, slice_get};
 ghost use Rattle.mpx_name.specs.Name.{Name as NameView};
 ghost use Rattle.mpx_evaluation.specs.Reports.{transcripts_of, which};
+ghost use Rattle.mpx_evaluation.specs.Transcripts.{as_text};
 ghost use Rattle.mpx_eval.specs.Evaluated.{IsEvaluated};
 ghost use Rattle.mpx_eval.specs.Places.{TableRank};
 ghost use Rattle.mpx_eval.specs.Rounds.{Start, StartsAt, is_waiting_at};
@@ -14,7 +15,7 @@ use mpx_evaluation::Report;
 use mpx_group::Proc;
 use mpx_name::Name;
 use mpx_post::Birth;
-use mpx_rank::Rank;
+use mpx_rank::{Rank, push_where};
 use mpx_script::Script;
 use std::alloc::Global;
 
@@ -77,20 +78,9 @@ fn waiting_of(alloc: Global, places: &[Rank<'_, Table>], ranks: u8) -> Result<Ve
     Ok(waiting)
 }
 
-/// Adds the rank where the test holds.
-pub(crate) fn push_where(ranks: &mut Vec<u8>, rank: u8, test: bool) -> Result<(), OutOfMemory>
-    ensures { OnOk result (ranks.new.items ≡ ranks.old.items ++ cond test (rank ∷ []) []) }
-{
-    if !test {
-        return Ok(());
-    }
-    ranks.push(rank)?;
-    Ok(())
-}
-
 // The lines of each rank.
 fn lines_of(alloc: Global, places: Vec<Rank<'_, Table>>) -> Result<Vec<Vec<String>>, OutOfMemory>
-    ensures { IfOk result (λ transcripts. map (λ lines. map string_bytes lines.items) transcripts.items ≡ map (λ (r : TableRank). r.lines) (map shown places.entry.items)) }
+    ensures { IfOk result (λ transcripts. map as_text transcripts.items ≡ map (λ (r : TableRank). r.lines) (map shown places.entry.items)) }
 {
     let mut transcripts = Vec::new(alloc);
     for place in places {

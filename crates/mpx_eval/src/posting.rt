@@ -3,11 +3,11 @@ ghost use Rattle.std.specs.Prelude.{◌≡◌, ℕ, Some, length};
 ghost use Rattle.std.specs.Option.{option_copied};
 ghost use Rattle.mpx_post.specs.Births.{of_members};
 ghost use Rattle.mpx_post.specs.Gatherings.{ChecksGathering, gathering};
-ghost use Rattle.mpx_evaluation.specs.Ranks.{post_gathered, post_on};
+ghost use Rattle.mpx_evaluation.specs.Ranks.{post_gathered};
 ghost use Rattle.mpx_value.specs.Histories.{birth_of, history_of};
 ghost use Rattle.mpx_rank.specs.Places.{attempt_by};
 ghost use Rattle.mpx_eval.specs.Places.{IsBornSo, gathering_name};
-ghost use Rattle.mpx_eval.specs.Tables.{Posted, Shows, Tries, table_of};
+ghost use Rattle.mpx_eval.specs.Tables.{Posted, Shows, Tries, TriesOn, table_of};
 
 use crate::table::Table;
 use join_core::Exact;
@@ -54,8 +54,7 @@ fn post_on(
     birth: &Birth,
     draft: Draft,
 ) -> Result<(Name, u32), PostError>
-    ensures { (ranks : ℕ) (made : Posted) → Shows ranks (table_of table.old) made → birth_of (history_of made) ranks name.now ≡ Some birth.now
-        → Tries ranks made me (post_on me (made me) draft name.now birth.now) result (table_of table.new) }
+    ensures { TriesOn me draft name.now birth.now result (table_of table.old) (table_of table.new) }
 {
     match name.copy(alloc) {
         Ok(name) => table.post(alloc, me, name, birth, draft),
@@ -112,8 +111,7 @@ fn post_below(
     gathering: &Gathering,
     draft: Draft,
 ) -> Result<(Name, u32), PostError>
-    ensures { (ranks : ℕ) (made : Posted) → Shows ranks (table_of table.old) made → birth_of (history_of made) ranks (gathering_name parent.now gathering.now) ≡ Some (of_members gathering.now.members)
-        → Tries ranks made me (post_on me (made me) draft (gathering_name parent.now gathering.now) (of_members gathering.now.members)) result (table_of table.new) }
+    ensures { TriesOn me draft (gathering_name parent.now gathering.now) (of_members gathering.now.members) result (table_of table.old) (table_of table.new) }
 {
     let Ok(name) = parent.gathering(alloc, gathering.tag(), gathering.members()) else {
         drop(draft);

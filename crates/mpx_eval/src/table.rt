@@ -1,19 +1,18 @@
 // The contexts on which somebody has posted.
-ghost use Rattle.std.specs.Prelude.{◌≡◌, ℕ, IfOk, OnOk, None, Some, is_some, true};
+ghost use Rattle.std.specs.Prelude.{◌≡◌, IfOk, OnOk, None, Some, is_some, true};
 ghost use Rattle.std.specs.Option.{option_map};
 ghost use Rattle.mpx_name.specs.Name.{Name as NameView};
-ghost use Rattle.mpx_evaluation.specs.Ranks.{post_on};
-ghost use Rattle.mpx_value.specs.Histories.{birth_of, history_of};
-ghost use Rattle.mpx_eval.specs.Answered.{answer_of};
+ghost use Rattle.mpx_rank.specs.Answered.{answer_of};
 ghost use Rattle.mpx_eval.specs.Contexts.{ContextView};
 ghost use Rattle.mpx_eval.specs.Lacking.{missing_there};
-ghost use Rattle.mpx_eval.specs.Tables.{Posted, PostsOn, Shows, Tries, answer_on, opened, table_of};
+ghost use Rattle.mpx_eval.specs.Tables.{PostsOn, TriesOn, answer_on, opened, table_of};
 
-use crate::context::{Answered, Context};
+use crate::context::Context;
 use join_core::{Exact, OutOfMemory};
 use mpx_group::Proc;
 use mpx_name::Name;
 use mpx_post::{Birth, Draft, PostError};
+use mpx_rank::Answered;
 use std::alloc::Global;
 use std::collections::BTreeMap;
 
@@ -43,8 +42,7 @@ impl Table {
         birth: &Birth,
         draft: Draft,
     ) -> Result<(Name, u32), PostError>
-        ensures { (ranks : ℕ) (made : Posted) → Shows ranks (table_of self.old) made → birth_of (history_of made) ranks name ≡ Some birth.now
-            → Tries ranks made me (post_on me (made me) draft name birth.now) result (table_of self.new) }
+        ensures { TriesOn me draft name birth.now result (table_of self.old) (table_of self.new) }
     {
         match self.open(alloc, &name, birth) {
             Ok(()) => match self.post_on(alloc, me, &name, draft) {

@@ -9,7 +9,8 @@ use Rattle.mpx_evaluation.specs.Told.{CarriesOut, none}
 use Rattle.mpx_evaluation.proofs.Steps.{step-keeps}
 use Rattle.mpx_evaluation.proofs.Ways.{Way, way-adds, way-step}
 use Rattle.mpx_evaluation.proofs.Ahead.{finished, on_way-reached}
-use Rattle.mpx_evaluation.proofs.Tells.{AreThere, start-there, step-carries_out, step_there}
+use Rattle.mpx_evaluation.proofs.Passing.{step-carries_out}
+use Rattle.mpx_evaluation.proofs.Tells.{AreThere, start-there, step_there}
 
 -- some moves, and then others
 pub goes_then : (r : Results) (s t u : Local) → Goes r s t → Goes r t u → Goes r s u

@@ -5,6 +5,10 @@ use Rattle.mpx_value.specs.Histories.{History, history_of, Results, results_of}
 use Rattle.mpx_statement.specs.declared.statement.Statement.{Statement}
 use Rattle.mpx_evaluation.specs.Ranks.{Bindings, Communicator, Local, step, doing, weights}
 
+-- the statements of each rank
+abbrev pub Script : Type 0
+Script = List (List Statement)
+
 -- where each rank stands
 abbrev pub State : Type 0
 State = (rank : ℕ) → Local
@@ -17,10 +21,10 @@ abbrev pub bound_at_start : ℕ → Bindings
 bound_at_start ranks = (codes "world", Communicator [] (world_of ranks)) ∷ []
 
 -- the statements of a rank
-abbrev pub statements_of : List (List Statement) → (rank : ℕ) → List Statement
+abbrev pub statements_of : Script → (rank : ℕ) → List Statement
 statements_of script p = unwrap_or (slice_get script p) []
 
-abbrev pub start : List (List Statement) → ℕ → State
+abbrev pub start : Script → ℕ → State
 start script ranks p = record { me = p; bound = bound_at_start ranks; requests = []; todo = doing (statements_of script p); made = []; lines = []; origins = [] }
 
 -- all posts that were made
@@ -50,7 +54,7 @@ moves ranks [] s = s
 moves ranks (p ∷ ps) s = moves ranks ps (move ranks s p)
 
 -- some list of moves leads there
-pub record IsReached (script : List (List Statement)) (ranks : ℕ) (s : State) : Type 0 where
+pub record IsReached (script : Script) (ranks : ℕ) (s : State) : Type 0 where
   pub order : List ℕ
   pub reached : moves ranks order (start script ranks) ≡ s
 
@@ -59,7 +63,7 @@ abbrev pub IsMaximal : ℕ → State → Type 0
 IsMaximal ranks s = (p : ℕ) → step (known ranks s p) (s p) ≡ None
 
 -- what stands after a list of moves that no move extends
-pub record IsEvaluation (script : List (List Statement)) (ranks : ℕ) (end : State) : Type 0 where
+pub record IsEvaluation (script : Script) (ranks : ℕ) (end : State) : Type 0 where
   pub reached : IsReached script ranks end
   pub maximal : IsMaximal ranks end
 

@@ -1,13 +1,13 @@
 -- What a report says, as text.
-use Rattle.std.specs.Prelude.{ℕ, zero, suc, Bool, true, false, cond, List, [], ◌∷◌, ◌++◌, map, string_bytes}
+use Rattle.std.specs.Prelude.{ℕ, zero, suc, Bool, true, false, cond, List, [], ◌∷◌, ◌++◌, map}
 use Rattle.mpx_evaluation.specs.Ranks.{Todo}
 use Rattle.mpx_evaluation.specs.Evaluation.{State}
-use Rattle.mpx_evaluation.specs.Transcripts.{line_text}
+use Rattle.mpx_evaluation.specs.Transcripts.{as_text, line_text}
 use Rattle.mpx_evaluation.specs.declared.report.Report.{Report}
 
 -- the lines of each rank
 abbrev pub transcripts_of : Report → List (List (List ℕ))
-transcripts_of r = map (λ lines. map string_bytes lines.items) r.transcripts.items
+transcripts_of r = map as_text r.transcripts.items
 
 -- those numbers below n for which the test holds
 abbrev pub which : (ℕ → Bool) → ℕ → List ℕ

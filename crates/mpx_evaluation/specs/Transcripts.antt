@@ -1,5 +1,5 @@
 -- The text of a transcript.
-use Rattle.std.specs.Prelude.{ℕ, zero, suc, ℤ, pos, Bool, true, false, List, [], ◌∷◌, ◌++◌, codes}
+use Rattle.std.specs.Prelude.{ℕ, zero, suc, ℤ, pos, Bool, true, false, List, [], ◌∷◌, ◌++◌, String, Vec, codes, map, string_bytes}
 use Rattle.mpx_num.specs.Text.{number_text}
 use Rattle.mpx_post.specs.RefusalNames.{refusal_name}
 use Rattle.mpx_match.specs.declared.faults.FaultKind.{FaultKind}
@@ -12,6 +12,10 @@ use Rattle.mpx_group.specs.declared.ranks.Rank.TheVariants.{At, ProcNull, Undefi
 use Rattle.mpx_evaluation.specs.declared.asking.Relation.{Relation}
 use Rattle.mpx_evaluation.specs.declared.asking.Relation.TheVariants as C
 use Rattle.mpx_evaluation.specs.Ranks.{Line, Compared, Idle, Near, Refused, StrayRank, Told, Translated}
+
+-- lines as text
+abbrev pub as_text : {Z : Type 0} → Vec (String Z) Z → List (List ℕ)
+as_text lines = map string_bytes lines.items
 
 -- each number with a space before it
 abbrev pub spaced : List ℤ → List ℕ

@@ -1,22 +1,21 @@
 //! The laws of the evaluation of a script: it is there, it is one, and whatever moves reach begins it.
-ghost use Rattle.std.specs.Prelude.{◌≡◌, ◌≤◌, ℕ, List, [], length};
-ghost use Rattle.mpx_statement.specs.declared.statement.Statement.{Statement as Told};
-ghost use Rattle.mpx_evaluation.specs.Evaluation.{State, IsReached, IsEvaluation, IsPrefixOf};
+ghost use Rattle.std.specs.Prelude.{◌≡◌, ◌≤◌, ℕ, [], length};
+ghost use Rattle.mpx_evaluation.specs.Evaluation.{Script, State, IsReached, IsEvaluation, IsPrefixOf};
 
 /// Every script has an evaluation.
 pub fn every_script_has_an_evaluation()
-    ensures { (script : List (List Told)) (ranks : ℕ) → length script ≤ ranks → (end : State) × IsEvaluation script ranks end }
+    ensures { (script : Script) (ranks : ℕ) → length script ≤ ranks → (end : State) × IsEvaluation script ranks end }
 {}
 
 /// It has one alone: every list of moves that no move extends ends in the same state.
 pub fn evaluations_are_one()
-    ensures { (script : List (List Told)) (ranks : ℕ) (a b : State) → IsEvaluation script ranks a → IsEvaluation script ranks b → a ≡ b }
+    ensures { (script : Script) (ranks : ℕ) (a b : State) → IsEvaluation script ranks a → IsEvaluation script ranks b → a ≡ b }
 {}
 
 /// After any list of moves a rank's lines and posts are the first of those that it has in the evaluation,
 /// and a rank that has nothing left to do has all of them.
 pub fn whatever_is_reached_is_a_beginning()
-    ensures lines { (script : List (List Told)) (ranks : ℕ) (end s : State) → IsEvaluation script ranks end → IsReached script ranks s → (p : ℕ) → IsPrefixOf (s p).lines (end p).lines }
-    ensures posts { (script : List (List Told)) (ranks : ℕ) (end s : State) → IsEvaluation script ranks end → IsReached script ranks s → (p : ℕ) → IsPrefixOf (s p).made (end p).made }
-    ensures whole { (script : List (List Told)) (ranks : ℕ) (end s : State) → IsEvaluation script ranks end → IsReached script ranks s → (p : ℕ) → (s p).todo ≡ [] → s p ≡ end p }
+    ensures lines { (script : Script) (ranks : ℕ) (end s : State) → IsEvaluation script ranks end → IsReached script ranks s → (p : ℕ) → IsPrefixOf (s p).lines (end p).lines }
+    ensures posts { (script : Script) (ranks : ℕ) (end s : State) → IsEvaluation script ranks end → IsReached script ranks s → (p : ℕ) → IsPrefixOf (s p).made (end p).made }
+    ensures whole { (script : Script) (ranks : ℕ) (end s : State) → IsEvaluation script ranks end → IsReached script ranks s → (p : ℕ) → (s p).todo ≡ [] → s p ≡ end p }
 {}

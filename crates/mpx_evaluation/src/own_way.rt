@@ -3,11 +3,10 @@ ghost use Rattle.std.specs.Prelude.{◌≡◌, ℕ, List, [], Some};
 ghost use Rattle.mpx_name.specs.Name.{Name};
 ghost use Rattle.mpx_post.specs.Births.{BirthView};
 ghost use Rattle.mpx_value.specs.Histories.{birth_of};
-ghost use Rattle.mpx_statement.specs.declared.statement.Statement.{Statement};
 ghost use Rattle.mpx_statement.specs.Lookups.{named};
 ghost use Rattle.mpx_evaluation.specs.Ranks.{Communicator, Local};
-ghost use Rattle.mpx_evaluation.specs.Evaluation.{State, IsEvaluation, IsPrefixOf, bound_at_start, history, known, start, statements_of};
-ghost use Rattle.mpx_evaluation.specs.Going.{Goes};
+ghost use Rattle.mpx_evaluation.specs.Evaluation.{Script, State, IsEvaluation, IsPrefixOf, bound_at_start, history, known, statements_of};
+ghost use Rattle.mpx_evaluation.specs.Going.{GoesTo};
 ghost use Rattle.mpx_evaluation.specs.Told.{CarriesOut};
 
 /// A rank that goes on alone, by answers that the evaluation gives at its end, goes the way that it has in the evaluation. Its
@@ -15,11 +14,11 @@ ghost use Rattle.mpx_evaluation.specs.Told.{CarriesOut};
 /// far as it has come it has carried out its statements, each once and in their order, and the outcomes that it was given are
 /// those of the evaluation. Each communicator that a word of its is bound to came to be as the posts of the evaluation say.
 pub fn a_rank_goes_its_own_way()
-    ensures lines { (script : List (List Statement)) (ranks : ℕ) (end : State) → IsEvaluation script ranks end → (p : ℕ) (s : Local) → Goes (known ranks end p) (start script ranks p) s → IsPrefixOf s.lines (end p).lines }
-    ensures posts { (script : List (List Statement)) (ranks : ℕ) (end : State) → IsEvaluation script ranks end → (p : ℕ) (s : Local) → Goes (known ranks end p) (start script ranks p) s → IsPrefixOf s.made (end p).made }
-    ensures whole { (script : List (List Statement)) (ranks : ℕ) (end : State) → IsEvaluation script ranks end → (p : ℕ) (s : Local) → Goes (known ranks end p) (start script ranks p) s → s.todo ≡ [] → s ≡ end p }
-    ensures carries_out { (script : List (List Statement)) (ranks : ℕ) (end : State) → IsEvaluation script ranks end → (p : ℕ) (s : Local) → Goes (known ranks end p) (start script ranks p) s
+    ensures lines { (script : Script) (ranks : ℕ) (end : State) → IsEvaluation script ranks end → (p : ℕ) (s : Local) → GoesTo script ranks end p s → IsPrefixOf s.lines (end p).lines }
+    ensures posts { (script : Script) (ranks : ℕ) (end : State) → IsEvaluation script ranks end → (p : ℕ) (s : Local) → GoesTo script ranks end p s → IsPrefixOf s.made (end p).made }
+    ensures whole { (script : Script) (ranks : ℕ) (end : State) → IsEvaluation script ranks end → (p : ℕ) (s : Local) → GoesTo script ranks end p s → s.todo ≡ [] → s ≡ end p }
+    ensures carries_out { (script : Script) (ranks : ℕ) (end : State) → IsEvaluation script ranks end → (p : ℕ) (s : Local) → GoesTo script ranks end p s
         → CarriesOut (known ranks end p) (bound_at_start ranks) (statements_of script p) s }
-    ensures bound { (script : List (List Statement)) (ranks : ℕ) (end : State) → IsEvaluation script ranks end → (p : ℕ) (s : Local) → Goes (known ranks end p) (start script ranks p) s
+    ensures bound { (script : Script) (ranks : ℕ) (end : State) → IsEvaluation script ranks end → (p : ℕ) (s : Local) → GoesTo script ranks end p s
         → (word : List ℕ) (name : Name) (birth : BirthView) → named s.bound word ≡ Some (Communicator name birth) → birth_of (history end) ranks name ≡ Some birth }
 {}

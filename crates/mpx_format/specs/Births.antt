@@ -75,9 +75,13 @@ abbrev pub may_stand : Option TopologyView → Bool
 may_stand None = true
 may_stand (Some t) = is_topology t
 
--- 0, or 1 and a topology without weights, or 2 and one with weights; asked once it is read whole
+-- 0, or 1 and a topology without weights, or 2 and one with weights, whatever its neighbours are
+abbrev pub any_topology : (size : ℕ) → Format (Option TopologyView)
+any_topology size = tagged (λ t. nat_lt t 3) code_of_topology (topology_form size)
+
+-- the same within the limits, which are asked once it is read whole
 unfoldable pub topology : (size : ℕ) → Format (Option TopologyView)
-topology size = only out_of_limits may_stand (tagged (λ t. nat_lt t 3) code_of_topology (topology_form size))
+topology size = only out_of_limits may_stand (any_topology size)
 
 -- BIRTHS
 

@@ -205,6 +205,14 @@ abbrev pub nums_of : Option ItemList → List ℤ
 nums_of None = []
 nums_of (Some i) = i.nums
 
+-- the bytes of a post's type, none where it has no items
+abbrev pub type_spelled : Given → List ℕ
+type_spelled g = (when (fields_of g.kind).items (type_for g.op)).spelling (option_map (λ (i : ItemList). i.ty) g.items)
+
+-- the bytes of its items, none where it has none
+abbrev pub items_spelled : Given → List ℕ
+items_spelled g = (items_for (option_map (λ (i : ItemList). i.ty) g.items)).spelling (nums_of g.items)
+
 abbrev pub fields_from : Given → PostFields
 fields_from g = (g.kind, (g.mode, (g.root, (g.op, (option_map (λ (i : ItemList). i.ty) g.items, (g.scounts, (g.rcounts, (nums_of g.items, g.making))))))))
 

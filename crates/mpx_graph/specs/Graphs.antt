@@ -1,5 +1,5 @@
 -- The topologies that calls make, and what is read of one (MPI 4.1, sections 8.5.4 and 8.5.5).
-use Rattle.std.specs.Prelude.{ℕ, ◌<◌, List, map, length}
+use Rattle.std.specs.Prelude.{◌≡◌, ◌++◌, ℕ, ◌<◌, List, map, length}
 use Rattle.std.specs.List.{flat_map}
 use Rattle.mpx_birth.specs.declared.edges.Edge.{Edge}
 use Rattle.mpx_birth.specs.Births.{upto}
@@ -20,6 +20,10 @@ near_among edges rank = record { sources = sources_among rank edges; destination
 
 abbrev pub graph_among : (size : ℕ) → List Edge → List Near
 graph_among size edges = map (near_among edges) (upto size)
+
+-- these edges are added: where old is the graph of some, new is that of those and then these
+abbrev pub AddsEdges : (size : ℕ) → List Edge → (old new : List Near) → Type 0
+AddsEdges size edges old new = (before : List Edge) → old ≡ graph_among size before → new ≡ graph_among size (before ++ edges)
 
 -- both ends of the edge are ranks of so many
 pub record IsBetween (size : ℕ) (edge : Edge) : Type 0 where

@@ -1,9 +1,8 @@
 // Which topology the posts of a graph's call make.
-ghost use Rattle.std.specs.Prelude.{◌≡◌, ◌<◌, ◌++◌, ◌∷◌, [], List, IfOk, OnOk, vec_len};
+ghost use Rattle.std.specs.Prelude.{◌≡◌, ◌<◌, ◌∷◌, [], IfOk, OnOk, vec_len};
 ghost use Rattle.std.specs.List.{All};
-ghost use Rattle.mpx_birth.specs.declared.edges.Edge.{Edge};
 ghost use Rattle.mpx_post.specs.Agreement.{IsFine};
-ghost use Rattle.mpx_graph.specs.Graphs.{adjacent, general, graph_among, IsBetween};
+ghost use Rattle.mpx_graph.specs.Graphs.{AddsEdges, adjacent, general, IsBetween};
 
 use join_core::OutOfMemory;
 use mpx_post::{Edge, Neighbour, Neighbours, Row, Topology};
@@ -28,7 +27,7 @@ pub fn topology_general(alloc: Global, row: &Row<'_>) -> Result<Topology, OutOfM
 fn put_all(ranks: &mut Vec<Neighbours>, edges: &[Edge]) -> Result<(), OutOfMemory>
     requires within { All (IsBetween (vec_len ranks.old)) edges.now }
     ensures long { vec_len ranks.new ≡ vec_len ranks.old }
-    ensures graph { OnOk result ((before : List Edge) → ranks.old.items ≡ graph_among (vec_len ranks.old) before → ranks.new.items ≡ graph_among (vec_len ranks.old) (before ++ edges.now)) }
+    ensures graph { OnOk result (AddsEdges (vec_len ranks.old) edges.now ranks.old.items ranks.new.items) }
 {
     for edge in edges {
         put(ranks, *edge)?;
@@ -40,7 +39,7 @@ fn put_all(ranks: &mut Vec<Neighbours>, edges: &[Edge]) -> Result<(), OutOfMemor
 fn put(ranks: &mut Vec<Neighbours>, edge: Edge) -> Result<(), OutOfMemory>
     requires { IsBetween (vec_len ranks.old) edge }
     ensures long { vec_len ranks.new ≡ vec_len ranks.old }
-    ensures graph { OnOk result ((before : List Edge) → ranks.old.items ≡ graph_among (vec_len ranks.old) before → ranks.new.items ≡ graph_among (vec_len ranks.old) (before ++ edge ∷ [])) }
+    ensures graph { OnOk result (AddsEdges (vec_len ranks.old) (edge ∷ []) ranks.old.items ranks.new.items) }
 {
     let destination = Neighbour {
         rank: edge.destination,

@@ -43,7 +43,7 @@ fn value_of(
     match exchange {
         Exchange::Barrier => Ok(Value::Nothing),
         Exchange::Bcast => {
-            let items = given(row, root(row)).copy()?;
+            let items = row.given(root(row)).copy()?;
             Ok(Value::Items(items))
         }
         Exchange::Gather | Exchange::Gatherv => {
@@ -66,9 +66,9 @@ fn joined_value(alloc: Global, row: &Row<'_>) -> Result<Value, OutOfMemory>
     requires some { 0 < length row.now }
     ensures { IfOk result (λ value. value ≡ as_items row.now (joined row.now)) }
 {
-    let mut items = Items::empty(given(row, 0).ty());
+    let mut items = Items::empty(row.given(0).ty());
     for rank in 0..row.len() {
-        let all = given(row, rank);
+        let all = row.given(rank);
         items.extend(alloc, all, 0, all.count())?;
     }
     Ok(Value::Items(items))
@@ -81,7 +81,7 @@ fn blocks_value(alloc: Global, row: &Row<'_>, receiver: u8) -> Result<Value, Out
     requires receiver { receiver < length row.now }
     ensures { IfOk result (λ value. value ≡ as_items row.now (blocks_for row.now receiver)) }
 {
-    let mut items = Items::empty(given(row, 0).ty());
+    let mut items = Items::empty(row.given(0).ty());
     for sender in 0..row.len() {
         append_block(alloc, &mut items, row, sender, receiver)?;
     }
@@ -101,7 +101,7 @@ fn block_value(
     requires receiver { receiver < length row.now }
     ensures { IfOk result (λ value. value ≡ as_items row.now (block_for row.now receiver sender)) }
 {
-    let mut items = Items::empty(given(row, 0).ty());
+    let mut items = Items::empty(row.given(0).ty());
     append_block(alloc, &mut items, row, sender, receiver)?;
     Ok(Value::Items(items))
 }
@@ -122,7 +122,7 @@ fn append_block(
     ensures { OnOk result (items.new ≡ record { ty = items.old.ty; nums = items.old.nums ++ block_for row.now receiver sender }) }
 {
     let block = block_of(row, sender, receiver);
-    items.extend(alloc, given(row, sender), block.first, block.count)?;
+    items.extend(alloc, row.given(sender), block.first, block.count)?;
     Ok(())
 }
 
@@ -169,14 +169,4 @@ fn root(row: &Row<'_>) -> usize
     ensures rank { result < length row.now }
 {
     usize::from(row.post(0).root().unwrap())
-}
-
-// What the member with this rank gives.
-fn given<'a>(row: &Row<'a>, rank: usize) -> &'a Items
-    requires fine { IsFine row.now }
-    requires items { (fields_of (first_of row.now).kind).items ≡ true }
-    requires rank { rank < length row.now }
-    ensures { result.now ≡ record { ty = type_of (first_of row.now); nums = numbers_of (post_at row.now rank) } }
-{
-    row.post(rank).items().unwrap()
 }

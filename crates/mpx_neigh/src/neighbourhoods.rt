@@ -1,9 +1,8 @@
 // What neighbourhood exchanges give each member.
 ghost use Rattle.std.specs.Prelude.{◌≡◌, ◌<◌, ◌≤◌, IfOk, Some, length, true};
 ghost use Rattle.mpx_birth.specs.Topologies.{sources_at};
-ghost use Rattle.mpx_post.specs.Agreement.{IsFine, IsFineWith, first_of, post_at};
+ghost use Rattle.mpx_post.specs.Agreement.{IsFineWith, first_of};
 ghost use Rattle.mpx_post.specs.Kinds.{fields_of, neighbourhood_kind};
-ghost use Rattle.mpx_post.specs.Posts.{numbers_of, type_of};
 ghost use Rattle.mpx_post.specs.Values.{GivesValue, as_items};
 ghost use Rattle.mpx_neigh.specs.Cursors.{sends_blocks};
 ghost use Rattle.mpx_neigh.specs.Neighbourhoods.{blocks_met, joined, neigh_of, neigh_value, source_at};
@@ -76,9 +75,9 @@ fn joined_value(
     requires rank { rank < length row.now }
     ensures { IfOk result (λ value. value ≡ as_items row.now (joined topology.now row.now rank)) }
 {
-    let mut items = Items::empty(given(row, 0).ty());
+    let mut items = Items::empty(row.given(0).ty());
     for source in topology.sources(rank) {
-        let all = given(row, usize::from(source.rank));
+        let all = row.given(usize::from(source.rank));
         items.extend(alloc, all, 0, all.count())?;
     }
     Ok(Value::Items(items))
@@ -100,14 +99,14 @@ fn blocks_value(
     ensures { IfOk result (λ value. value ≡ as_items row.now (blocks_met topology.now row.now rank)) }
 {
     prove!(topology.size() <= 64);
-    let mut items = Items::empty(given(row, 0).ty());
+    let mut items = Items::empty(row.given(0).ty());
     let mut cursors = Cursors::new();
     for place in 0..topology.sources(rank).len() {
         let sender = source_at(topology, rank, place);
         let block = cursors.take(exchange, topology, row, rank, place, sender);
         items.extend(
             alloc,
-            given(row, usize::from(sender)),
+            row.given(usize::from(sender)),
             block.first,
             block.count,
         )?;
@@ -125,14 +124,4 @@ fn source_at(topology: &Topology, rank: u8, place: usize) -> u8
 {
     prove!(topology.size() <= 64);
     topology.sources(rank)[place].rank
-}
-
-// What the member with this rank gives.
-fn given<'a>(row: &Row<'a>, rank: usize) -> &'a Items
-    requires fine { IsFine row.now }
-    requires items { (fields_of (first_of row.now).kind).items ≡ true }
-    requires rank { rank < length row.now }
-    ensures { result.now ≡ record { ty = type_of (first_of row.now); nums = numbers_of (post_at row.now rank) } }
-{
-    row.post(rank).items().unwrap()
 }

@@ -9,6 +9,7 @@ mod opened;
 mod opening;
 mod part;
 mod results;
+mod starting;
 
 pub use finished::Finished;
 pub use node::{Harvest, Node};

@@ -1,30 +1,26 @@
 // One process, and its steps.
 ghost use Rattle.std.specs.Prelude.{◌≡◌, ◌↔◌, ◌<◌, ◌≤◌, false, [], map, All, Some, None, OnOk, OnErr, IfOk, IsErrOf, IsTrue, slice_get, is_some};
 ghost use Rattle.std.specs.Option.{option_copied};
-ghost use Rattle.mpx_post.specs.Drafts.{Checks, at, checked, most_calls, refusal_of};
-ghost use Rattle.mpx_name.specs.Name.{Name as NameView};
-ghost use Rattle.join_core.specs.Flat.{known};
-ghost use Rattle.mpx_post.specs.Births.{of_members, upto};
-ghost use Rattle.mpx_board.specs.Boards.{IsBelow, join, join_all, only, floor_on, Born, Dropped};
+ghost use Rattle.mpx_post.specs.Drafts.{most_calls, refusal_of};
+ghost use Rattle.mpx_board.specs.Boards.{IsBelow, join_all, only, floor_on, Dropped};
 ghost use Rattle.mpx_board.specs.Changes.{pruned};
 ghost use Rattle.mpx_board.specs.Looks.{look, parts_of};
 ghost use Rattle.mpx_format.specs.Encoding.{length_told};
 ghost use Rattle.mpx_parts.specs.Facts.{OnlyFactsOf};
-ghost use Rattle.mpx_node.specs.Nodes.{opened_at_start};
-ghost use Rattle.mpx_node.specs.Opened.{opened_by};
 
 use crate::finished::Finished;
 use crate::opened::Opened;
 use crate::opening::{open, store_and_open};
 use crate::part::{PartError, whole_part};
 use crate::results::{children_on, finished, harvested_board, has_result};
-use join_core::{Exact, Join, OutOfMemory};
+use crate::starting::{board_at_start, gathered_board, opened_at_start};
+use join_core::OutOfMemory;
 use mpx_board::{Board, PruneError};
 use mpx_delta::deltas;
 use mpx_group::Proc;
 use mpx_name::Name;
 use mpx_parts::parts;
-use mpx_post::{At, Birth, Draft, Gathering, Post, PostError};
+use mpx_post::{At, Birth, Draft, Gathering, PostError};
 use std::alloc::Global;
 use std::collections::BTreeMap;
 
@@ -97,7 +93,7 @@ impl Node {
             return Err(PostError::NotMember);
         };
         let call = opened.posted;
-        let post = checked(alloc, birth, self.me, name, call, draft)?;
+        let post = draft.check_call(alloc, birth, self.me, name, call)?;
         match self.board.join_post(alloc, name, call, self.me, post) {
             Ok(()) => {
                 opened.posted = call + 1;
@@ -398,61 +394,4 @@ impl Node {
             }
         }
     }
-}
-
-// A board that has just the birth of the world.
-fn board_at_start(alloc: Global, ranks: u8) -> Result<Board, OutOfMemory>
-    requires some { 0 < ranks }
-    requires few { ranks ≤ 64 }
-    ensures { IfOk result (λ board. look board ≡ only (Born [] (known (of_members (upto ranks))))) }
-{
-    let world = Name::world(alloc);
-    let mut board = Board::new(alloc);
-    board.add_birth(alloc, &world, Birth::world(alloc, ranks)?)?;
-    Ok(board)
-}
-
-// The board with the birth of a gathering of this name.
-fn gathered_board(
-    alloc: Global,
-    board: &Board,
-    name: &Name,
-    gathering: &Gathering,
-) -> Result<Board, OutOfMemory>
-    ensures { IfOk result (λ after. look after ≡ join (look board.now) (only (Born name.now (known (of_members gathering.now.members))))) }
-{
-    let mut part = Board::new(alloc);
-    part.add_birth(alloc, name, gathering.birth(alloc)?)?;
-    board.joined(alloc, &part)
-}
-
-// The world, where the process is a rank.
-fn opened_at_start(
-    alloc: Global,
-    me: Proc,
-    ranks: u8,
-) -> Result<BTreeMap<Name, Opened>, OutOfMemory>
-    ensures { IfOk result (λ m. (name : NameView) → opened_by m name ≡ opened_at_start me ranks name) }
-{
-    let mut opened = BTreeMap::new(alloc);
-    if me.number() >= ranks {
-        return Ok(opened);
-    }
-    opened.insert(Name::world(alloc), Opened::new(alloc))?;
-    Ok(opened)
-}
-
-// The post of the draft as this call on the context, of which there is none past the last.
-fn checked(
-    alloc: Global,
-    birth: &Birth,
-    me: Proc,
-    name: &Name,
-    call: u32,
-    draft: Draft,
-) -> Result<Post, PostError>
-    ensures value { Checks (checked birth.now me (at name.now call) draft) result }
-    ensures room { OnOk result (call < most_calls) }
-{
-    draft.check(alloc, birth, me, &At::on(name, call))
 }

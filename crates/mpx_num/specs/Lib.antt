@@ -6,3 +6,4 @@ pub mod Text
 pub mod Laws
 pub mod Kept
 pub mod Codes
+pub mod KeptItems

@@ -5,13 +5,16 @@ ghost use Rattle.std.specs.Result.{IsErrOf};
 ghost use Rattle.std.specs.List.{All, Any};
 ghost use Rattle.mpx_num.specs.Types.{IsInRange, IsOutOfRange, item_len};
 ghost use Rattle.mpx_num.specs.ItemList.{AreItems, is_whole, item_count};
+ghost use Rattle.mpx_num.specs.KeptItems.{typed_items};
 ghost use Rattle.mpx_num.specs.Operations.{elementwise, fits};
 
-use crate::numbers::Numbers;
+use crate::numbers::{Kept, Numbers};
 use crate::operations::Op;
 use crate::types::{Ty, is_in_range};
 use std::alloc::{AllocError, Global};
 use std::marker::Model;
+use std::mem;
+use std::sync::Arc;
 
 /// The greatest number of items of one contribution.
 pub const MOST_ITEMS: usize = 4096;
@@ -19,18 +22,26 @@ pub const MOST_ITEMS: usize = 4096;
 /// Items of one type: numbers, each in the type's range, as many as whole items have. Copies share them.
 #[derive(Debug, Drop)]
 pub struct Items {
-    ty: Ty,
-    nums: Numbers,
+    kept: Typed,
+}
+
+// The numbers as `Numbers` keeps them, with the type beside: so they are smaller than both one after the other.
+#[derive(Debug, Drop)]
+enum Typed {
+    None(Ty),
+    One(Ty, [i128; 1]),
+    Shared(Ty, Arc<Vec<i128>>),
 }
 
 impl Model for Items {
     ghost use Rattle.mpx_num.specs.ItemList.{ItemList, AreItems};
+    ghost use Rattle.mpx_num.specs.KeptItems.{typed_items};
 
     ghost Value = { ItemList };
 
-    ghost view = { λ items. record { ty = items.ty; nums = items.nums } };
+    ghost view = { λ items. typed_items items.kept };
 
-    ghost invariant = { λ items. AreItems items.ty items.nums };
+    ghost invariant = { λ items. AreItems (typed_items items.kept).ty (typed_items items.kept).nums };
 }
 
 /// Why numbers are no items of a type.
@@ -64,7 +75,9 @@ impl Items {
         if nums.as_slice().len() > MOST_ITEMS * ty.item_len() {
             return Err(ItemsError::TooManyItems);
         }
-        Ok(Items { ty, nums })
+        Ok(Items {
+            kept: with_type(ty, nums),
+        })
     }
 
     /// Numbers that are items of the type, as few as fit, as items. It takes no memory, and asks nothing of the numbers.
@@ -73,7 +86,9 @@ impl Items {
         requires few { length nums ≤ MOST_ITEMS * item_len ty }
         ensures { result ≡ record { ty = ty; nums = nums } }
     {
-        Items { ty, nums }
+        Items {
+            kept: with_type(ty, nums),
+        }
     }
 
     /// No items of the type. It takes no memory.
@@ -81,8 +96,7 @@ impl Items {
         ensures { result ≡ record { ty = ty; nums = [] } }
     {
         Items {
-            ty,
-            nums: Numbers::none(),
+            kept: Typed::None(ty),
         }
     }
 
@@ -90,7 +104,11 @@ impl Items {
     pub fn ty(&self) -> Ty
         ensures { result ≡ self.now.ty }
     {
-        self.ty
+        match &self.kept {
+            Typed::None(ty) => *ty,
+            Typed::One(ty, _) => *ty,
+            Typed::Shared(ty, _) => *ty,
+        }
     }
 
     /// The numbers, item by item.
@@ -98,7 +116,11 @@ impl Items {
         ensures value { result.now ≡ self.now.nums }
         ensures in_range { AreItems self.now.ty self.now.nums }
     {
-        self.nums.as_slice()
+        match &self.kept {
+            Typed::None(_) => &[],
+            Typed::One(_, one) => one,
+            Typed::Shared(_, list) => list.as_slice(),
+        }
     }
 
     /// How many items there are.
@@ -106,22 +128,26 @@ impl Items {
         ensures value { result ≡ item_count self.now.ty self.now.nums }
         ensures whole { result * item_len self.now.ty ≡ length self.now.nums }
     {
-        self.nums.as_slice().len() / self.ty.item_len()
+        self.nums().len() / self.ty().item_len()
     }
 
     /// Whether the items are equal in type and numbers.
     pub fn same(&self, other: &Self) -> bool
         ensures { IsTrue result ↔ (self.now ≡ other.now) }
     {
-        self.ty == other.ty && are_equal(self.nums.as_slice(), other.nums.as_slice())
+        self.ty() == other.ty() && are_equal(self.nums(), other.nums())
     }
 
     /// The same items once more, shared.
     pub fn copy(&self) -> Result<Self, AllocError>
         ensures { IfOk result (λ copied. copied ≡ self.now) }
     {
-        let nums = self.nums.copy()?;
-        Ok(Items { ty: self.ty, nums })
+        let kept = match &self.kept {
+            Typed::None(ty) => Typed::None(*ty),
+            Typed::One(ty, one) => Typed::One(*ty, *one),
+            Typed::Shared(ty, list) => Typed::Shared(*ty, Arc::try_clone(list)?),
+        };
+        Ok(Items { kept })
     }
 
     /// Appends so many items of another list of the same type, from a place on.
@@ -137,7 +163,11 @@ impl Items {
         ensures ok { OnOk result (self.new ≡ record { ty = self.old.ty; nums = self.old.nums ++ take (count * item_len self.old.ty) (drop (first * item_len self.old.ty) from.now.nums) }) }
         ensures err { OnErr result (self.new ≡ self.old) }
     {
-        self.nums.append(alloc, from.part(first, count))
+        let ty = self.ty();
+        let mut nums = without_type(mem::replace(&mut self.kept, Typed::None(ty)));
+        let appended = nums.append(alloc, from.part(first, count));
+        self.kept = with_type(ty, nums);
+        appended
     }
 
     // The numbers of so many items, from a place on.
@@ -147,10 +177,33 @@ impl Items {
         ensures items { AreItems self.now.ty result.now }
     {
         let nums = self.nums();
-        let item_len = self.ty.item_len();
+        let item_len = self.ty().item_len();
         let start = first * item_len;
         &nums[start..start + count * item_len]
     }
+}
+
+// The numbers with their type.
+fn with_type(ty: Ty, nums: Numbers) -> Typed
+    ensures { typed_items result ≡ record { ty = ty; nums = nums } }
+{
+    match nums.list {
+        Kept::None => Typed::None(ty),
+        Kept::One(one) => Typed::One(ty, one),
+        Kept::Shared(list) => Typed::Shared(ty, list),
+    }
+}
+
+// The numbers alone.
+fn without_type(kept: Typed) -> Numbers
+    ensures { result ≡ (typed_items kept).nums }
+{
+    let list = match kept {
+        Typed::None(_) => Kept::None,
+        Typed::One(_, one) => Kept::One(one),
+        Typed::Shared(_, list) => Kept::Shared(list),
+    };
+    Numbers { list }
 }
 
 // Whether two lists have the same numbers. It looks at all of them, which is faster than a test after each: most are equal.
@@ -197,5 +250,8 @@ pub fn apply(op: Op, ty: Ty, left: &mut Items, right: &Items) -> Result<(), Allo
     ensures same_len { length left.new.nums ≡ length left.old.nums }
     ensures err { OnErr result (left.new ≡ left.old) }
 {
-    left.nums.combine(op, ty, right.nums())
+    let mut nums = without_type(mem::replace(&mut left.kept, Typed::None(ty)));
+    let combined = nums.combine(op, ty, right.nums());
+    left.kept = with_type(ty, nums);
+    combined
 }

@@ -14,12 +14,12 @@ use std::sync::Arc;
 /// A list of whole numbers. Of no or one number it takes no memory, and copies of a longer one share it.
 #[derive(Debug, Drop)]
 pub struct Numbers {
-    list: Kept,
+    pub(crate) list: Kept,
 }
 
 // How the numbers are kept.
 #[derive(Debug, Drop)]
-enum Kept {
+pub(crate) enum Kept {
     None,
     One([i128; 1]),
     Shared(Arc<Vec<i128>>),

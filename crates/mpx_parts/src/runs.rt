@@ -1,5 +1,5 @@
 // Runs of a board: whole entries that stand one behind another, as boards of their own where their frames are short.
-ghost use Rattle.std.specs.Prelude.{◌≡◌, ◌∷◌, ◌++◌, [], ◌≤◌, ◌<◌, length, All, IfOk, IfSome, IsTrue, OnOk};
+ghost use Rattle.std.specs.Prelude.{◌≡◌, ◌≤◌, ◌<◌, length, All, IfOk, IfSome, IsTrue};
 ghost use Rattle.std.specs.Ordering.{nat_cmp};
 ghost use Rattle.std.specs.FinMap.{from_sorted, is_sorted};
 ghost use Rattle.join_nest.specs.Seen.{seen};
@@ -14,7 +14,7 @@ ghost use Rattle.mpx_parts.specs.Pieces.{IsPiece, IsRun, most_of_piece};
 use crate::bounds::{room_after_acks, room_after_contexts, room_after_names};
 use crate::pieces::one;
 use join_core::{Exact, Key, OutOfMemory, Pair};
-use join_nest::Keyed;
+use join_nest::{Keyed, push_copy};
 use mpx_board::{Acks, Board, Entry, VersionVector};
 use mpx_encode::frame_len;
 use mpx_group::Proc;
@@ -23,20 +23,6 @@ use std::alloc::Global;
 
 // The greatest number of bytes of a piece's frame.
 const MOST_OF_PIECE: usize = 524_288;
-
-// Adds a copy at the end.
-fn push_copy<K: Key, J: Exact>(
-    alloc: Global,
-    made: &mut Vec<(K, J)>,
-    entry: &(K, J),
-) -> Result<(), OutOfMemory>
-    ensures { OnOk result (seen J.view made.new.items ≡ seen J.view made.old.items ++ (entry.now.0, J.view entry.now.1) ∷ []) }
-{
-    let key = entry.0.copy(alloc)?;
-    let value = entry.1.copy(alloc)?;
-    made.push((key, value))?;
-    Ok(())
-}
 
 // The map of copies of these entries.
 fn copied<K: Key, J: Exact>(alloc: Global, entries: &[(K, J)]) -> Result<Keyed<K, J>, OutOfMemory>

@@ -28,7 +28,7 @@ use Rattle.mpx_birth.specs.declared.edges.Edge.{Edge}
 use Rattle.mpx_birth.specs.declared.edges.Neighbour.{Neighbour}
 use Rattle.mpx_post.specs.declared.drafted_edges.DraftedEdge.{DraftedEdge}
 use Rattle.mpx_post.specs.declared.drafted_edges.DraftedNeighbour.{DraftedNeighbour}
-use Rattle.mpx_post.specs.Graphs.{GraphView, most_edges, no_graph}
+use Rattle.mpx_post.specs.Graphs.{EdgesView, GraphView, NeighboursView, most_edges, no_graph}
 use Rattle.mpx_post.specs.Posts.{Given, most_counts, most_items}
 
 -- the first of these refusals whose condition holds
@@ -105,6 +105,10 @@ is_rank size z = int_le (pos 0) z && nat_lt (natural z) size
 abbrev pub are_so_many : List ℤ → Number → Seat → Bool
 are_so_many counts number seat = length counts == number_in number seat
 
+-- it has as many counts as its kind asks for
+abbrev pub has_its_counts : Seat → Draft → Bool
+has_its_counts seat draft = are_so_many (sent_counts draft) (fields_of (kind_of draft.call)).scounts seat && are_so_many (received_counts draft) (fields_of (kind_of draft.call)).rcounts seat
+
 -- another number of items than the blocks have. It isn't asked where a block's count is out of its limit
 abbrev pub misfill : Option (List ℤ) → Ty → List ℤ → Bool
 misfill None ty nums = false
@@ -165,12 +169,16 @@ edge_count M.Neighbours graph = length graph.sources + length graph.destinations
 abbrev pub is_misplaced : (gathering gathered : Bool) → Bool
 is_misplaced gathering gathered = cond gathering (not gathered) gathered
 
+-- such calls aren't made there, or a rank of the group is none of so many or stands twice
+abbrev pub has_bad_group : (size : ℕ) → At → Draft → Bool
+has_bad_group size at draft = is_misplaced at.gathering (is_gathered (family_of (kind_of draft.call))) || not (are_ranks size (ranks_in (fields_of (kind_of draft.call)).makes draft))
+
 -- what is asked last, of the place of the call and of the new communicator
 abbrev pub place_refusals : (size : ℕ) → At → Draft → List (Bool × PostError)
 place_refusals size at draft =
     (at.call == most_calls, CallsUsedUp)
     ∷ (makes_communicators (family_of (kind_of draft.call)) && nat_le most_steps at.depth, DepthUsedUp)
-    ∷ (is_misplaced at.gathering (is_gathered (family_of (kind_of draft.call))) || not (are_ranks size (ranks_in (fields_of (kind_of draft.call)).makes draft)), BadGroup)
+    ∷ (has_bad_group size at draft, BadGroup)
     ∷ (not (are_edges (fields_of (kind_of draft.call)).makes size (graph_of draft)), BadEdge)
     ∷ (nat_lt most_edges (edge_count (fields_of (kind_of draft.call)).makes (graph_of draft)), TooManyEdges)
     ∷ (not (has_colour_and_key (fields_of (kind_of draft.call)).makes draft), BadTag)
@@ -181,7 +189,7 @@ abbrev pub asked_first : Seat → Draft → (misfilled : Bool) → List (Bool ×
 asked_first seat draft misfilled =
     ((fields_of (kind_of draft.call)).root && not (is_rank seat.size draft.root), RootOutOfRange)
     ∷ ((fields_of (kind_of draft.call)).op && not (fits draft.op draft.ty), OpNotForType)
-    ∷ (not (are_so_many (sent_counts draft) (fields_of (kind_of draft.call)).scounts seat && are_so_many (received_counts draft) (fields_of (kind_of draft.call)).rcounts seat), CountsLength)
+    ∷ (not (has_its_counts seat draft), CountsLength)
     ∷ (misfilled, ItemsLength)
     ∷ []
 
@@ -223,13 +231,21 @@ edge_of weighted edge = record { source = natural edge.source; destination = nat
 abbrev pub neighbour_of : (weighted : Bool) → DraftedNeighbour → Neighbour
 neighbour_of weighted neighbour = record { rank = natural neighbour.rank; weight = cond weighted (natural neighbour.weight) 0 }
 
+-- the edges that a graph gives, where they passed
+abbrev pub edges_given : GraphView → EdgesView
+edges_given graph = record { weighted = graph.weighted; edges = map (edge_of graph.weighted) graph.edges }
+
+-- the neighbours that it names as the member's own, where they passed
+abbrev pub neighbours_given : GraphView → NeighboursView
+neighbours_given graph = record { weighted = graph.weighted; sources = map (neighbour_of graph.weighted) graph.sources; destinations = map (neighbour_of graph.weighted) graph.destinations }
+
 -- what is said of a new communicator, by a colour, a key, the ranks of a group and a graph
 abbrev pub making_of : Makes → Option ℤ → (key : ℤ) → List ℤ → GraphView → Making
 making_of M.Nothing colour key ranks graph = Nothing
 making_of M.Colour colour key ranks graph = Split (option_map natural colour) key
 making_of M.Group colour key ranks graph = Group (naturals ranks)
-making_of M.Edges colour key ranks graph = Edges (record { weighted = graph.weighted; edges = map (edge_of graph.weighted) graph.edges })
-making_of M.Neighbours colour key ranks graph = Neighbours (record { weighted = graph.weighted; sources = map (neighbour_of graph.weighted) graph.sources; destinations = map (neighbour_of graph.weighted) graph.destinations })
+making_of M.Edges colour key ranks graph = Edges (edges_given graph)
+making_of M.Neighbours colour key ranks graph = Neighbours (neighbours_given graph)
 
 -- what a draft says of a new communicator
 abbrev pub drafted_making : Makes → Draft → Making

@@ -1,32 +1,28 @@
 // What a process would post, and whether it may.
-ghost use Rattle.std.specs.Prelude.{◌≡◌, ◌≤◌, ◌&&◌, ◌||◌, cond, nat_le, None, Some, not, length, true, IfOk, IfErr, Err};
+ghost use Rattle.std.specs.Prelude.{◌≡◌, ◌<◌, ◌≤◌, ◌&&◌, cond, None, Some, length, true, IfOk, IfErr, OnOk, Err};
 ghost use Rattle.std.specs.List.{list_all};
 ghost use Rattle.std.specs.Option.{option_or};
 ghost use Rattle.mpx_num.specs.Operations.{fits};
-ghost use Rattle.mpx_post.specs.Kinds.{family_of, fields_of, is_gathered, kind_of, makes_communicators};
+ghost use Rattle.mpx_post.specs.Kinds.{fields_of, kind_of};
 ghost use Rattle.mpx_post.specs.Seats.{lacks_topology};
 ghost use Rattle.mpx_post.specs.Topologies.{most_neighbours};
-ghost use Rattle.mpx_post.specs.Blocks.{blocks_sent};
-ghost use Rattle.mpx_post.specs.Drafts.{misfill, is_count, naturals, drafted_making};
+ghost use Rattle.mpx_post.specs.Drafts.{is_count, naturals, drafted_making};
 ghost use Rattle.mpx_post.specs.declared.draft.PostError.TheVariants.{TooManyItems};
-ghost use Rattle.mpx_post.specs.Drafts.{Checks, refusal_of, asked_first, at, are_ranks, given_by, has_colour_and_key, has_making, is_misfilled, is_misplaced, most_steps, numbers_refusal, ranks_in, checked, checked_in, is_rank as is_rank_of, is_drafted_root, are_so_many, drafted_seat, sent_counts, received_counts, drafted_numbers, first_that_holds, place_refusals, stray_refusals, unless};
+ghost use Rattle.mpx_post.specs.Drafts.{Checks, refusal_of, at, given_by, has_making, most_calls, numbers_refusal, checked, checked_in, is_rank as is_rank_of, is_drafted_root, drafted_seat, sent_counts, received_counts, unless};
 ghost use Rattle.mpx_post.specs.Posts.{most_counts};
 
 use crate::counts::{Counts, are_counts};
 use crate::drafted_edges::DraftedGraph;
-use crate::graph_fields::{are_edges, edge_count};
 use crate::making::Making;
-use crate::making_fields::{are_ranks, given_making, is_colour, is_key};
+use crate::making_fields::given_making;
 use crate::post::Post;
-use crate::post_fields::{
-    are_all_of, given_counts, given_items, given_op, given_root, is_misfill, is_rank, where_had,
-};
+use crate::post_fields::{given_counts, given_items, given_op, given_root, where_had};
 use join_core::OutOfMemory;
 use mpx_birth::Birth;
 use mpx_group::Proc;
-use mpx_kind::{Call, Makes, Seat, Sent};
+use mpx_kind::{Call, Seat};
 use mpx_name::Name;
-use mpx_num::{Numbers, Op, Ty, op_fits};
+use mpx_num::{Numbers, Op, Ty};
 use std::alloc::Global;
 use thiserror::Error;
 
@@ -136,6 +132,21 @@ impl Draft {
         }
     }
 
+    /// The same for the call with this number on the context with this name. No call has a post past the last.
+    pub fn check_call(
+        self,
+        alloc: Global,
+        birth: &Birth,
+        me: Proc,
+        name: &Name,
+        call: u32,
+    ) -> Result<Post, PostError>
+        ensures value { Checks (checked birth.now me (at name.now call) self) result }
+        ensures room { OnOk result (call < most_calls) }
+    {
+        self.check(alloc, birth, me, &At::on(name, call))
+    }
+
     /// The first reason why [`Draft::check`] would refuse this draft. It takes no memory.
     pub fn refusal(&self, birth: &Birth, me: Proc, at: &At) -> Option<PostError>
         ensures { result ≡ refusal_of (checked birth.now me at.now self.now) }
@@ -181,22 +192,6 @@ impl Draft {
         self.call.kind().needs_topology() & birth.topology().is_none()
     }
 
-    // Why it is refused where it lacks a topology.
-    fn stray_refusal(&self) -> PostError
-        ensures { first_that_holds (stray_refusals self.now) ≡ Some result }
-    {
-        let fields = self.call.kind().fields();
-        let numbers = where_had(fields.items, &self.items);
-        if !are_all_of(self.ty, numbers) {
-            return PostError::ItemOutOfRange;
-        }
-        let many = 4096 * self.ty.item_len() < numbers.len();
-        if many || !(are_counts(self.sent_counts()) & are_counts(self.received_counts())) {
-            return PostError::TooManyItems;
-        }
-        PostError::NoTopology
-    }
-
     // What the numbers of its counts depend on, as the draft of the member with this rank.
     fn seat(&self, birth: &Birth, rank: u8) -> Seat
         ensures value { result ≡ drafted_seat birth.now rank self.now }
@@ -240,27 +235,6 @@ impl Draft {
             return Some(refusal);
         }
         self.place_refusal(seat.size, at)
-    }
-
-    // Why its numbers are no items, or its counts no counts.
-    fn numbers_refusal(&self) -> Option<PostError>
-        ensures { result ≡ numbers_refusal self.now }
-    {
-        let numbers = where_had(self.call.kind().fields().items, &self.items);
-        let item_len = self.ty.item_len();
-        if numbers.len() / item_len * item_len != numbers.len() {
-            return Some(PostError::ItemsLength);
-        }
-        if !are_all_of(self.ty, numbers) {
-            return Some(PostError::ItemOutOfRange);
-        }
-        if 4096 * item_len < numbers.len() {
-            return Some(PostError::TooManyItems);
-        }
-        if !(are_counts(self.sent_counts()) & are_counts(self.received_counts())) {
-            return Some(PostError::TooManyItems);
-        }
-        None
     }
 
     // The post of this draft, or why its numbers are none of a post, or else this refusal.
@@ -336,144 +310,10 @@ impl Draft {
         }
     }
 
-    // Why its root, its operation or its counts refuse it.
-    fn shape_refusal(&self, seat: &Seat) -> Option<PostError>
-        requires size { seat.now.size ≤ 64 }
-        requires sources { seat.now.indegree ≤ most_neighbours }
-        requires destinations { seat.now.outdegree ≤ most_neighbours }
-        ensures { result ≡ first_that_holds (asked_first seat.now self.now (is_misfilled seat.now self.now)) }
-    {
-        if self.has_wrong_root(seat.size) {
-            return Some(PostError::RootOutOfRange);
-        }
-        if self.has_wrong_op() {
-            return Some(PostError::OpNotForType);
-        }
-        if self.has_wrong_lengths(seat) {
-            return Some(PostError::CountsLength);
-        }
-        if self.is_misfilled(seat) {
-            return Some(PostError::ItemsLength);
-        }
-        None
-    }
-
-    // Why it may not be posted there, or makes no communicator there.
-    fn place_refusal(&self, size: usize, at: &At) -> Option<PostError>
-        requires { size ≤ 64 }
-        ensures { result ≡ first_that_holds (place_refusals size at.now self.now) }
-    {
-        if at.call == MOST_CALLS {
-            return Some(PostError::CallsUsedUp);
-        }
-        if self.is_too_deep(at) {
-            return Some(PostError::DepthUsedUp);
-        }
-        if self.has_bad_group(size, at) {
-            return Some(PostError::BadGroup);
-        }
-        let makes = self.call.kind().fields().makes;
-        if !are_edges(makes, size, &self.graph) {
-            return Some(PostError::BadEdge);
-        }
-        if 512 < edge_count(makes, &self.graph) {
-            return Some(PostError::TooManyEdges);
-        }
-        if !self.has_colour_and_key() {
-            return Some(PostError::BadTag);
-        }
-        None
-    }
-
-    pub(crate) fn has_wrong_root(&self, size: usize) -> bool
-        ensures { result ≡ ((fields_of (kind_of self.now.call)).root && not (is_rank_of size self.now.root)) }
-    {
-        self.call.kind().fields().root & !is_rank(size, self.root)
-    }
-
-    pub(crate) fn has_wrong_op(&self) -> bool
-        ensures { result ≡ ((fields_of (kind_of self.now.call)).op && not (fits self.now.op self.now.ty)) }
-    {
-        self.call.kind().fields().op & !op_fits(self.op, self.ty)
-    }
-
     fn is_root(&self, rank: u8) -> bool
         ensures { result ≡ is_drafted_root rank self.now }
     {
         self.call.kind().fields().root & (self.root == i128::from(rank))
-    }
-
-    fn has_wrong_lengths(&self, seat: &Seat) -> bool
-        ensures { result ≡ not (are_so_many (sent_counts self.now) (fields_of (kind_of self.now.call)).scounts seat.now && are_so_many (received_counts self.now) (fields_of (kind_of self.now.call)).rcounts seat.now) }
-    {
-        let fields = self.call.kind().fields();
-        let sent = self.sent_counts().len() == fields.scounts.of(seat);
-        let received = self.received_counts().len() == fields.rcounts.of(seat);
-        !(sent & received)
-    }
-
-    // Whether there are more or fewer items than its counts tell.
-    fn is_misfilled(&self, seat: &Seat) -> bool
-        requires size { seat.now.size ≤ 64 }
-        requires sources { seat.now.indegree ≤ most_neighbours }
-        requires destinations { seat.now.outdegree ≤ most_neighbours }
-        requires sent { length (sent_counts self.now) ≤ most_neighbours }
-        requires received { length (received_counts self.now) ≤ most_neighbours }
-        ensures { result ≡ is_misfilled seat.now self.now }
-    {
-        let fields = self.call.kind().fields();
-        let numbers = where_had(fields.items, &self.items).len();
-        match fields.sent {
-            Sent::Any => false,
-            Sent::Scounts(number) => {
-                is_misfill(self.sent_counts(), number.of(seat), self.ty, numbers)
-            }
-            Sent::Rcounts(number) => {
-                is_misfill(self.received_counts(), number.of(seat), self.ty, numbers)
-            }
-        }
-    }
-
-    // Whether the new communicator's name would have too many steps.
-    fn is_too_deep(&self, at: &At) -> bool
-        ensures { result ≡ (makes_communicators (family_of (kind_of self.now.call)) && nat_le most_steps at.now.depth) }
-    {
-        self.call.kind().makes_communicators() & (8 <= at.depth)
-    }
-
-    // Whether the call isn't made on such a context, or the group has a rank out of range or twice.
-    fn has_bad_group(&self, size: usize, at: &At) -> bool
-        requires { size ≤ 64 }
-        ensures { result ≡ (is_misplaced at.now.gathering (is_gathered (family_of (kind_of self.now.call))) || not (are_ranks size (ranks_in (fields_of (kind_of self.now.call)).makes self.now))) }
-    {
-        let misplaced = at.gathering != self.call.kind().is_gathered();
-        misplaced | !are_ranks(size, self.ranks())
-    }
-
-    // The ranks of the group, where the kind has one.
-    pub(crate) fn ranks(&self) -> &[i128]
-        ensures { result.now ≡ ranks_in (fields_of (kind_of self.now.call)).makes self.now }
-    {
-        match self.call.kind().fields().makes {
-            Makes::Group => self.group.as_slice(),
-            Makes::Nothing => &[],
-            Makes::Colour => &[],
-            Makes::Edges => &[],
-            Makes::Neighbours => &[],
-        }
-    }
-
-    // Whether the colour and the key are within their limits, where the kind has them.
-    pub(crate) fn has_colour_and_key(&self) -> bool
-        ensures { result ≡ has_colour_and_key (fields_of (kind_of self.now.call)).makes self.now }
-    {
-        match self.call.kind().fields().makes {
-            Makes::Colour => is_colour(self.colour) & is_key(self.key),
-            Makes::Nothing => true,
-            Makes::Group => true,
-            Makes::Edges => true,
-            Makes::Neighbours => true,
-        }
     }
 
     pub(crate) fn sent_counts(&self) -> &[i128]

@@ -1,7 +1,7 @@
 // What a draft says of a graph, and what a post says of it then.
-ghost use Rattle.std.specs.Prelude.{◌≡◌, ◌<◌, ◌≤◌, ◌+◌, ◌^◌, ℤ, List, cond, map, true, unwrap_or, length, IfOk};
+ghost use Rattle.std.specs.Prelude.{◌≡◌, ◌<◌, ◌≤◌, ◌+◌, List, cond, map, true, unwrap_or, IfOk};
 ghost use Rattle.std.specs.List.{list_all};
-ghost use Rattle.mpx_post.specs.Drafts.{are_edges as are_edges_of, edge_count as edge_count_of, edge_of, is_edge as is_edge_of, is_neighbour as is_neighbour_of, is_rank as is_rank_of, is_weight as is_weight_of, natural, neighbour_of};
+ghost use Rattle.mpx_post.specs.Drafts.{are_edges as are_edges_of, edge_count as edge_count_of, edge_of, edges_given, is_edge as is_edge_of, is_neighbour as is_neighbour_of, is_rank as is_rank_of, is_weight as is_weight_of, natural, neighbour_of, neighbours_given};
 ghost use Rattle.mpx_post.specs.Graphs.{most_edges, no_graph};
 ghost use Rattle.mpx_kind.specs.declared.kinds.Makes.TheVariants as M;
 
@@ -89,7 +89,7 @@ fn is_weight(weighted: bool, weight: i128) -> bool
 pub(crate) fn given_edges(alloc: Global, graph: &Option<DraftedGraph>) -> Result<Edges, OutOfMemory>
     requires edges { are_edges_of M.Edges 64 (unwrap_or graph.now no_graph) ≡ true }
     requires few { edge_count_of M.Edges (unwrap_or graph.now no_graph) ≤ most_edges }
-    ensures { IfOk result (λ edges. edges ≡ record { weighted = (unwrap_or graph.now no_graph).weighted; edges = map (edge_of (unwrap_or graph.now no_graph).weighted) (unwrap_or graph.now no_graph).edges }) }
+    ensures { IfOk result (λ edges. edges ≡ edges_given (unwrap_or graph.now no_graph)) }
 {
     let Some(graph) = graph else {
         return Edges::new(alloc, false, Vec::new(alloc));
@@ -105,7 +105,7 @@ pub(crate) fn given_neighbours(
 ) -> Result<OwnNeighbours, OutOfMemory>
     requires edges { are_edges_of M.Neighbours 64 (unwrap_or graph.now no_graph) ≡ true }
     requires few { edge_count_of M.Neighbours (unwrap_or graph.now no_graph) ≤ most_edges }
-    ensures { IfOk result (λ own. own ≡ record { weighted = (unwrap_or graph.now no_graph).weighted; sources = map (neighbour_of (unwrap_or graph.now no_graph).weighted) (unwrap_or graph.now no_graph).sources; destinations = map (neighbour_of (unwrap_or graph.now no_graph).weighted) (unwrap_or graph.now no_graph).destinations }) }
+    ensures { IfOk result (λ own. own ≡ neighbours_given (unwrap_or graph.now no_graph)) }
 {
     let Some(graph) = graph else {
         return OwnNeighbours::new(alloc, false, Neighbours::none(alloc));

@@ -14,6 +14,7 @@ mod bare;
 mod block;
 mod counts;
 mod draft;
+mod draft_refusals;
 mod drafted_edges;
 mod gathering;
 mod graph_fields;

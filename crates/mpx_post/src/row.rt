@@ -1,8 +1,11 @@
 // The posts of all members to one call.
-ghost use Rattle.std.specs.Prelude.{◌≡◌, ◌<◌, ◌≤◌, Some, map, length, slice_get};
-ghost use Rattle.mpx_post.specs.Agreement.{post_at};
+ghost use Rattle.std.specs.Prelude.{◌≡◌, ◌<◌, ◌≤◌, Some, map, length, slice_get, true};
+ghost use Rattle.mpx_post.specs.Agreement.{IsFine, first_of, post_at};
+ghost use Rattle.mpx_post.specs.Kinds.{fields_of};
+ghost use Rattle.mpx_post.specs.Posts.{numbers_of, type_of};
 
 use crate::post::Post;
+use mpx_num::Items;
 use std::marker::Model;
 
 /// The posts of all members to one call, in rank order, each lent.
@@ -48,5 +51,14 @@ impl<'a> Row<'a> {
         ensures value { result.now ≡ post_at self.now rank }
     {
         self.posts[rank]
+    }
+    /// What the member with this rank gives, in a fine row of a kind whose posts have items.
+    pub fn given(&self, rank: usize) -> &'a Items
+        requires fine { IsFine self.now }
+        requires items { (fields_of (first_of self.now).kind).items ≡ true }
+        requires rank { rank < length self.now }
+        ensures { result.now ≡ record { ty = type_of (first_of self.now); nums = numbers_of (post_at self.now rank) } }
+    {
+        self.post(rank).items().unwrap()
     }
 }

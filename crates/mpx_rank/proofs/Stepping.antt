@@ -22,7 +22,7 @@ use Rattle.mpx_evaluation.specs.Transcripts.{line_text, outcome_text}
 use Rattle.mpx_evaluation.proofs.Fronts.{slice_get-parts}
 use Rattle.mpx_evaluation.proofs.Standing.{named_behind, named_without_all}
 use Rattle.mpx_evaluation.proofs.Steps as S
-use Rattle.mpx_evaluation.proofs.Tells.{answer_no_call}
+use Rattle.mpx_evaluation.proofs.Passing.{answer_no_call}
 use Rattle.mpx_rank.specs.Carriers.{IsWithin, Terms, outcomes_of}
 use Rattle.mpx_rank.specs.Moves.{GoesOn, Move, Ran, RankView, Still, answered, are_done, asks, communicator_in, has_ended, heard, hears, is_refused, moved_on, passes, passes_not, posted, posts, posts_not, refused, started, starts, stayed, wait_lines, waited, waits_on}
 use Rattle.mpx_rank.specs.Places.{CommunicatorView, Stands, attempt_by, bound_as}

@@ -1,3 +1,4 @@
+pub mod Answered
 pub mod Carriers
 pub mod Moves
 pub mod Places

@@ -2,6 +2,7 @@
 use Rattle.std.specs.Prelude.{◌≡◌, ℕ, ◌+◌, ◌*◌, Bool, true, false, ◌||◌, cond, is_some, codes, bytes_eq, List, [], ◌∷◌, ◌++◌, length, map, Option, Some, None, option_and_then, Ok, Err}
 use Rattle.std.specs.List.{list_all}
 use Rattle.mpx_name.specs.Name.{Name}
+use Rattle.mpx_post.specs.Births.{BirthView}
 use Rattle.mpx_post.specs.declared.draft.PostError.{PostError}
 use Rattle.mpx_post.specs.declared.draft.PostError.TheVariants.{OutOfMemory}
 use Rattle.mpx_value.specs.declared.outcomes.Outcome.{Outcome}
@@ -33,6 +34,10 @@ pub record RankView (K : Type 0) : Type 0 where
 abbrev pub communicator_in : {K : Type 0} → Option (Option K) → Option K
 communicator_in None = None
 communicator_in (Some to) = to
+
+-- that communicator by its name, and how it came to be, as far as that is known
+abbrev pub known_by : {K : Type 0} → (K → Option (Name × BirthView)) → (List ℕ → Option (Option K)) → List ℕ → Option (Name × BirthView)
+known_by knows bound word = option_and_then knows (communicator_in (bound word))
 
 -- before any statement `world` alone is bound, if any word is
 abbrev pub bound_first : {K : Type 0} → Option K → List ℕ → Option (Option K)
@@ -136,7 +141,7 @@ pub data Move {C K : Type 0} (terms : Terms C K) : RankView K → C → RankView
       → terms.hears c mid → are_done (terms.tells mid r.me) r.requests words ≡ true → terms.hears mid d
       → Move terms r c (waited r words rest (terms.tells mid r.me)) d
   asks : {r : RankView K} {c : C} (question : Question) (rest : List Statement) (text : List ℕ) → r.waits ≡ None → r.todo ≡ Ask question ∷ rest
-      → text ≡ line_text (answered_by r.me (λ word. option_and_then (terms.knows c) (communicator_in (r.bound word))) question)
+      → text ≡ line_text (answered_by r.me (known_by (terms.knows c) r.bound) question)
       → Move terms r c (answered r rest text) c
 
 -- there is no move: nothing is left; or the outcome that it waits for isn't told, or not that of each request of a wait; or its

@@ -1,10 +1,10 @@
 //! Statements that are answered at once.
-ghost use Rattle.std.specs.Prelude.{◌≡◌, IfOk, string_bytes, option_and_then};
+ghost use Rattle.std.specs.Prelude.{◌≡◌, IfOk, string_bytes};
 ghost use Rattle.std.specs.Option.{option_copied, option_map};
 ghost use Rattle.mpx_evaluation.specs.Transcripts.{line_text};
 ghost use Rattle.mpx_evaluation.specs.Ranks.{answered_by, birth_in};
 ghost use Rattle.mpx_evaluation.specs.Standing.{looked_up};
-ghost use Rattle.mpx_rank.specs.Moves.{communicator_in};
+ghost use Rattle.mpx_rank.specs.Moves.{known_by};
 
 use crate::carrier::Carrier;
 use crate::rank::communicator;
@@ -25,7 +25,7 @@ pub(crate) fn answer<C: Carrier>(
     bound: &BTreeMap<Word, Option<C::Communicator>>,
     question: &Question,
 ) -> Result<String, OutOfMemory>
-    ensures { IfOk result (λ text. string_bytes text ≡ line_text (answered_by me (λ word. option_and_then (C.terms.knows carrier.now) (communicator_in (looked_up bound.now word))) question.now)) }
+    ensures { IfOk result (λ text. string_bytes text ≡ line_text (answered_by me (known_by (C.terms.knows carrier.now) (looked_up bound.now)) question.now)) }
 {
     match question {
         Question::Neighbours { on, side } => {
@@ -51,7 +51,7 @@ fn known<'m, C: Carrier>(
     bound: &'m BTreeMap<Word, Option<C::Communicator>>,
     word: &Word,
 ) -> Option<(&'m Name, &'m Birth)>
-    ensures { option_map (λ c. (c.0.now, c.1.now)) result ≡ option_and_then (C.terms.knows carrier.now) (communicator_in (looked_up bound.now word.now)) }
+    ensures { option_map (λ c. (c.0.now, c.1.now)) result ≡ known_by (C.terms.knows carrier.now) (looked_up bound.now) word.now }
 {
     carrier.known(communicator(bound, word)?)
 }
@@ -62,7 +62,7 @@ fn birth_of<'m, C: Carrier>(
     bound: &'m BTreeMap<Word, Option<C::Communicator>>,
     word: &Word,
 ) -> Option<&'m Birth>
-    ensures { option_copied result ≡ birth_in (option_and_then (C.terms.knows carrier.now) (communicator_in (looked_up bound.now word.now))) }
+    ensures { option_copied result ≡ birth_in (known_by (C.terms.knows carrier.now) (looked_up bound.now) word.now) }
 {
     let (_, birth) = known(carrier, bound, word)?;
     Some(birth)

@@ -6,11 +6,15 @@
 //! moves do in `specs/Moves.antt`.
 #![tactic(auto)]
 
+mod answered;
 mod asking;
 mod carrier;
 mod origins;
+mod picking;
 mod rank;
 mod waiting;
 
+pub use answered::Answered;
 pub use carrier::{Carrier, Heard};
+pub use picking::push_where;
 pub use rank::Rank;

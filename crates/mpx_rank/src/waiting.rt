@@ -1,7 +1,7 @@
 //! Waits for open requests.
 ghost use Rattle.std.specs.Prelude.{◌≡◌, ◌++◌, ℕ, IfOk, IsTrue, List, OnOk, cond, map, string_bytes, true, false};
 ghost use Rattle.std.specs.Option.{option_copied, option_map};
-ghost use Rattle.mpx_evaluation.specs.Transcripts.{line_text};
+ghost use Rattle.mpx_evaluation.specs.Transcripts.{as_text, line_text};
 ghost use Rattle.mpx_evaluation.specs.Standing.{closed, closed_all};
 ghost use Rattle.mpx_rank.specs.Moves.{are_done, is_done, request_line, wait_lines};
 ghost use Rattle.mpx_rank.specs.Waits.{WasNotDone};
@@ -62,7 +62,7 @@ pub(crate) fn close_all<C: Carrier>(
 ) -> Result<(), OutOfMemory>
     requires { are_done (C.terms.tells carrier.old me) (requests_of C.place requests.old) words.now ≡ true }
     ensures hears { OnOk result (C.terms.hears carrier.old carrier.new) }
-    ensures lines { OnOk result (map string_bytes lines.new.items ≡ map string_bytes lines.old.items ++ map line_text (wait_lines (C.terms.tells carrier.old me) (requests_of C.place requests.old) words.now)) }
+    ensures lines { OnOk result (as_text lines.new ≡ as_text lines.old ++ map line_text (wait_lines (C.terms.tells carrier.old me) (requests_of C.place requests.old) words.now)) }
     ensures requests { OnOk result ((word : List ℕ) → requests_of C.place requests.new word ≡ closed_all words.now (requests_of C.place requests.old) word) }
 {
     for word in words {

@@ -97,6 +97,10 @@ pub record PrintsPart (job : Job) (text : List ℕ) (old new : Option (List ℕ)
 abbrev pub IsGated : Job → Type 0
 IsGated job = (job.command ≡ Run) × (job.options.threads ≡ true)
 
+-- the job runs the script in threads, and the gate gives up at a step of one of its processes
+abbrev pub IsEndedByGate : (gives_up : ℕ → Step → ℕ → Type 0) (job : Job) → ScriptView → Type 0
+IsEndedByGate gives_up job script = IsGated job × GivesUpAmong gives_up (script.ranks + job.options.relays) job.options.turns
+
 -- a text is read as a script that is run in threads, and the gate gives up at a step of one of its processes
 pub record IsGivenUp (gives_up : ℕ → Step → ℕ → Type 0) (job : Job) (text : List ℕ) : Type 0 where
   pub script : ScriptView

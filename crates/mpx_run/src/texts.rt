@@ -1,7 +1,7 @@
 //! A job from the bytes of a script to what it prints.
 ghost use Rattle.std.specs.Prelude.{◌≡◌, ◌≢◌, ◌+◌, ◌<◌, ◌≤◌, IfErr, IfOk, IsFalse, IsTrue, Some, false, string_bytes};
-ghost use Rattle.mpx_threads.specs.Gates.{GivesUpAmong, nowhere};
-ghost use Rattle.mpx_run.specs.Texts.{ComesTo, IsGated, Prints, Runs, error_text, told};
+ghost use Rattle.mpx_threads.specs.Gates.{nowhere};
+ghost use Rattle.mpx_run.specs.Texts.{ComesTo, IsEndedByGate, IsGated, Prints, Runs, error_text, told};
 
 use crate::bytes::{ReadFault, WriteFault, read_bytes, write_bytes};
 use crate::check::check_text;
@@ -72,8 +72,8 @@ impl From<ReadFault> for RunError {
 /// The reader is read to its end, or up to one byte more than a script may have, in at most 1,048,577 calls; a call that
 /// fails ends it. Nothing is written before all is computed; after `Write` a beginning of the text is out, and after
 /// every other error nothing. No clause says that `Read` and `Write` come only where the reader or the writer fails,
-/// nor that all is flushed: that is shown by tests. A run in threads may wait for them; where the system refuses a thread the run ends
-/// early, with ranks that wait. This call has an open gate: it never answers `GateGaveUp`.
+/// nor that all is flushed: that is shown by tests. A run in threads may wait for them; a thread that the system refuses is want of
+/// memory. This call has an open gate: it never answers `GateGaveUp`.
 pub fn run_text<T: Threads + Wait + Sync, R: Read, W: Write>(
     rt: &T,
     alloc: Global,
@@ -173,7 +173,7 @@ fn printed_of<T: Threads + Wait + Sync, G: Gate + Sync>(
 ) -> Result<Printed, ThreadsError>
     requires { job.now.command ≡ Command.Run → script.now.ranks + job.now.options.relays ≤ 64 }
     ensures text { IfOk result (λ printed. ComesTo job.now.command job.now.options.threads job.now.options.relays script.now printed.end (string_bytes printed.text)) }
-    ensures gave_up { IfErr result (λ e. e ≡ ThreadsError.GateGaveUp → IsGated job.now × GivesUpAmong (G.gives_up gate.now) (script.now.ranks + job.now.options.relays) job.now.options.turns) }
+    ensures gave_up { IfErr result (λ e. e ≡ ThreadsError.GateGaveUp → IsEndedByGate (G.gives_up gate.now) job.now script.now) }
 {
     if is_in_threads(job) {
         return print_threads(rt, alloc, script, &job.options, gate);

@@ -7,7 +7,11 @@ use Rattle.mpx_num.specs.Text.{number_of}
 use Rattle.mpx_kind.specs.declared.kinds.Kind.{Kind}
 use Rattle.mpx_post.specs.Kinds.{fields_of}
 use Rattle.mpx_post.specs.Graphs.{GraphView}
-use Rattle.mpx_script.specs.Grammar.{NewSyntax, CallSyntax, fails, is_number, said, colour_named, list_named, has_strange_count, has_strange_number, has_strange_list, has_strange_new_list, graph_in}
+use Rattle.mpx_script.specs.Fields.{is_number, colour_named, list_named}
+use Rattle.mpx_script.specs.Syntax.{NewSyntax, CallSyntax}
+use Rattle.mpx_script.specs.Graphs.{graph_in}
+use Rattle.mpx_script.specs.Refusals.{fails, has_strange_count, has_strange_number, has_strange_list, has_strange_new_list}
+use Rattle.mpx_script.specs.Meanings.{said}
 use Rattle.mpx_script.specs.Sentences.{IsRefusal, counts_refusal, draft_refusal, fields_refusal, read_at}
 use Rattle.mpx_script.specs.declared.faults.LineError.{LineError}
 use Rattle.mpx_script.specs.declared.faults.LineError.TheVariants.{Fault, OutOfMemory}

@@ -1,7 +1,7 @@
 -- The entries of a list of a graph.
 use Rattle.std.proofs.Common.{◌≡◌, ℕ, ◌==◌, true, false, List, []}
 use Rattle.std.specs.List.{slice_split}
-use Rattle.mpx_script.specs.Grammar.{entries_in, has_no_entries}
+use Rattle.mpx_script.specs.Graphs.{entries_in, has_no_entries}
 
 pub none_in : (word : List ℕ) → has_no_entries word ≡ true → entries_in word ≡ []
 unfolding entries_in

@@ -16,7 +16,12 @@ use Rattle.mpx_post.specs.declared.drafted_edges.DraftedNeighbour.{DraftedNeighb
 use Rattle.mpx_post.specs.Graphs.{GraphView, no_graph}
 use Rattle.mpx_post.specs.Kinds.{blocking}
 use Rattle.mpx_script.specs.Words.{words, counts, is_ascii}
-use Rattle.mpx_script.specs.Grammar.{ranks_number, kind_named, started_named, local_named, operation_named, type_named, list_named, rank_named, ranks_named, new_in, call_in, ask_in, label_of, statements_in, colour_named, edge_named, neighbour_named, is_weighted, entries_in, edges_graph, neighbours_graph, graph_in, lacks_ranks, has_ranks_out_of_range, has_rank_out_of_range, is_unknown, has_wrong_words, has_bad_number, has_bad_list, names_rank, statement_in}
+use Rattle.mpx_script.specs.Grammar.{ranks_number, kind_named, started_named, local_named, label_of}
+use Rattle.mpx_script.specs.Fields.{operation_named, type_named, list_named, rank_named, ranks_named, colour_named}
+use Rattle.mpx_script.specs.Syntax.{new_in, call_in, ask_in, statements_in}
+use Rattle.mpx_script.specs.Graphs.{edge_named, neighbour_named, is_weighted, entries_in, edges_graph, neighbours_graph, graph_in}
+use Rattle.mpx_script.specs.Refusals.{lacks_ranks, has_ranks_out_of_range, has_rank_out_of_range, is_unknown, has_wrong_words, has_bad_number, has_bad_list}
+use Rattle.mpx_script.specs.Meanings.{names_rank, statement_in}
 use Rattle.mpx_script.specs.Naming.{is_name, has_bad_name, has_unknown_name, has_taken_name}
 use Rattle.mpx_script.specs.ScriptView.{ScriptView}
 use Rattle.mpx_script.specs.Reading.{reading}

@@ -9,7 +9,9 @@ use Rattle.std.proofs.lemmas.List.{append-nil, take_more, drop-drop, get_or-drop
 use Rattle.std.proofs.lemmas.List.Elements.{filter-append}
 use Rattle.std.proofs.lemmas.List.FromFn.{get_or-map-range_with_len}
 use Rattle.mpx_script.specs.Words.{words, counts, counting, script_lines, with_first_line, bytes_limit}
-use Rattle.mpx_script.specs.Grammar.{DirectiveSyntax, directive_in, form_in, given_to, is_unknown, is_unknown_as, label_in, names_rank, statement_in}
+use Rattle.mpx_script.specs.Syntax.{DirectiveSyntax, directive_in, form_in, label_in}
+use Rattle.mpx_script.specs.Refusals.{is_unknown, is_unknown_as}
+use Rattle.mpx_script.specs.Meanings.{given_to, names_rank, statement_in}
 use Rattle.mpx_script.specs.LinesGiven.{Give, NumberedLine, lines_given, naming, numbered_counting, words_at}
 use Rattle.mpx_script.specs.Reading.{LineContext, context_at, error_at, errors, first_holding, on_further, ranks_settled, ranks_told, read_as, reading, refusal, refusals, script_of}
 use Rattle.mpx_script.specs.ScriptView.{ScriptView}

@@ -7,7 +7,10 @@ use Rattle.mpx_kind.specs.declared.kinds.Kind.{Kind}
 use Rattle.mpx_kind.specs.declared.kinds.Mode.{Mode}
 use Rattle.mpx_post.specs.Kinds.{fields_of}
 use Rattle.mpx_script.specs.Words.{words, counts, is_ascii}
-use Rattle.mpx_script.specs.Grammar.{DirectiveSyntax, NewSyntax, CallSyntax, directive_in, form_named, form_in, label_in, shape_of, ranks_meant, statements_in, statement_in, statement_as, has_rank_out_of_range, is_past, is_unknown, has_unknown_word, has_wrong_words, has_wrong_new_words, has_wrong_count, has_wrong_end, has_bad_number, has_bad_list}
+use Rattle.mpx_script.specs.Grammar.{form_named, shape_of}
+use Rattle.mpx_script.specs.Syntax.{DirectiveSyntax, NewSyntax, CallSyntax, directive_in, form_in, label_in, ranks_meant, statements_in}
+use Rattle.mpx_script.specs.Refusals.{has_rank_out_of_range, is_past, is_unknown, has_unknown_word, has_wrong_words, has_wrong_new_words, has_wrong_count, has_wrong_end, has_bad_number, has_bad_list}
+use Rattle.mpx_script.specs.Meanings.{statement_in, statement_as}
 use Rattle.mpx_script.specs.Naming.{BoundNames, has_bad_name, has_unknown_name, has_taken_name, ranks_labelled}
 use Rattle.mpx_script.specs.Reading.{refusal, first_holding, plain_context, statements_limit}
 use Rattle.mpx_script.specs.Sentences.{IsRefusal, form_refusal, statement_refusal, names_refusal, call_refusal, draft_refusal, read_at}

@@ -5,7 +5,8 @@ use Rattle.std.proofs.lemmas.List.Elements.{filter_map-append}
 use Rattle.std.proofs.lemmas.List.FromFn.{fill_by_all, get_or-map-range_with_len, length-map-range_with_len}
 use Rattle.std.proofs.lemmas.List.Sums.{sum_by_push}
 use Rattle.mpx_script.specs.Words.{counts}
-use Rattle.mpx_script.specs.Grammar.{directive_in, given_to, statements_in}
+use Rattle.mpx_script.specs.Syntax.{directive_in, statements_in}
+use Rattle.mpx_script.specs.Meanings.{given_to}
 use Rattle.mpx_script.specs.ScriptView.{ScriptView, Adds}
 use Rattle.mpx_script.specs.Reading.{ranks_told, script_of}
 use Rattle.mpx_script.specs.Sentences.{IsAssignment}

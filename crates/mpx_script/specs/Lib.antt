@@ -1,6 +1,11 @@
 pub mod Faults
 pub mod Words
 pub mod Grammar
+pub mod Fields
+pub mod Syntax
+pub mod Graphs
+pub mod Refusals
+pub mod Meanings
 pub mod Naming
 pub mod ScriptView
 pub mod Reading

@@ -2,7 +2,8 @@
 use Rattle.std.specs.Prelude.{◌≡◌, ℕ, ◌+◌, ◌-◌, List, [], ◌∷◌, drop, map, slice_index_or, Some}
 use Rattle.std.specs.List.{filter}
 use Rattle.mpx_script.specs.Words.{counts, script_lines, words}
-use Rattle.mpx_script.specs.Grammar.{directive_in, given_to, names_rank}
+use Rattle.mpx_script.specs.Syntax.{directive_in}
+use Rattle.mpx_script.specs.Meanings.{given_to, names_rank}
 use Rattle.mpx_statement.specs.declared.statement.Statement.{Statement}
 
 -- a line's number, and its words

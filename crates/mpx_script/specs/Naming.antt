@@ -1,9 +1,10 @@
 -- Names: which words are some, which are bound, and what a line's names are refused for.
-use Rattle.std.specs.Prelude.{ℕ, nat_le, Bool, false, not, ◌==◌, ◌||◌, ◌&&◌, List, [], ◌∷◌, ◌++◌, length, slice_index_or, codes, bytes_eq, Option, Some, None, pos, negsuc}
+use Rattle.std.specs.Prelude.{ℕ, nat_le, Bool, false, not, ◌==◌, ◌||◌, ◌&&◌, List, [], ◌∷◌, ◌++◌, length, map, slice_index_or, codes, bytes_eq, Option, Some, None, pos, negsuc}
 use Rattle.std.specs.List.{filter_map, list_all, list_any, range_with_len}
 use Rattle.std.specs.Option.{option_map_or, option_to_list}
 use Rattle.mpx_statement.specs.Statements.{communicators_of, requests_of, target_of, request_of}
-use Rattle.mpx_script.specs.Grammar.{DirectiveSyntax, label_in, statement_in}
+use Rattle.mpx_script.specs.Syntax.{DirectiveSyntax, label_in}
+use Rattle.mpx_script.specs.Meanings.{statement_in}
 use Rattle.mpx_script.specs.declared.grammar.Label.{Label}
 use Rattle.mpx_script.specs.declared.grammar.Label.TheVariants.{Every, Numbered}
 use Rattle.mpx_statement.specs.declared.statement.Statement.{Statement}
@@ -33,6 +34,10 @@ names_bound statements = record { communicators = codes "world" ∷ filter_map t
 -- the names of a rank that there isn't
 abbrev pub nothing_bound : BoundNames
 nothing_bound = record { communicators = []; requests = [] }
+
+-- those that a rank has bound by its statements so far
+abbrev pub names_at : List (List Statement) → (rank : ℕ) → BoundNames
+names_at statements rank = slice_index_or (map names_bound statements) rank nothing_bound
 
 -- one of the names is the word
 abbrev pub is_bound : List (List ℕ) → List ℕ → Bool

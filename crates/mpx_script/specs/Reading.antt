@@ -3,7 +3,9 @@ use Rattle.std.specs.Prelude.{ℕ, ◌+◌, nat_lt, Bool, false, not, ◌==◌, 
 use Rattle.std.specs.List.{filter_map, range_with_len}
 use Rattle.std.specs.Option.{option_map, option_map_or}
 use Rattle.mpx_script.specs.Words.{words, counts, counting, is_ascii, is_over_limit, script_lines}
-use Rattle.mpx_script.specs.Grammar.{DirectiveSyntax, directive_in, statements_in, ranks_in, given_to, lacks_ranks, has_ranks_out_of_range, has_rank_out_of_range, is_unknown, has_wrong_words, has_bad_number, has_bad_list}
+use Rattle.mpx_script.specs.Syntax.{DirectiveSyntax, directive_in, statements_in, ranks_in}
+use Rattle.mpx_script.specs.Refusals.{lacks_ranks, has_ranks_out_of_range, has_rank_out_of_range, is_unknown, has_wrong_words, has_bad_number, has_bad_list}
+use Rattle.mpx_script.specs.Meanings.{given_to}
 use Rattle.mpx_script.specs.Naming.{BoundNames, has_bad_name, has_unknown_name, has_taken_name, names_bound}
 use Rattle.mpx_script.specs.ScriptView.{ScriptView}
 use Rattle.mpx_script.specs.declared.faults.ScriptFault.{ScriptFault}

@@ -5,7 +5,11 @@ use Rattle.mpx_kind.specs.declared.kinds.Kind.{Kind}
 use Rattle.mpx_kind.specs.declared.kinds.Mode.{Mode}
 use Rattle.mpx_post.specs.Kinds.{fields_of}
 use Rattle.mpx_script.specs.Words.{counts}
-use Rattle.mpx_script.specs.Grammar.{DirectiveSyntax, NewSyntax, CallSyntax, directive_in, ranks_in, statements_in, names_rank, statement_in, is_unknown, is_unknown_as, has_wrong_words, has_wrong_words_as, has_bad_number, has_bad_number_as, has_bad_list, has_bad_list_as, has_unknown_word, has_wrong_new_words, has_wrong_count, has_wrong_end, has_strange_choice, has_strange_new_number, has_strange_count, has_strange_number, has_strange_list, has_strange_new_list, is_one, shape_of}
+use Rattle.mpx_script.specs.Grammar.{shape_of}
+use Rattle.mpx_script.specs.Fields.{is_one}
+use Rattle.mpx_script.specs.Syntax.{DirectiveSyntax, NewSyntax, CallSyntax, directive_in, ranks_in, statements_in}
+use Rattle.mpx_script.specs.Refusals.{is_unknown, is_unknown_as, has_wrong_words, has_wrong_words_as, has_bad_number, has_bad_number_as, has_bad_list, has_bad_list_as, has_unknown_word, has_wrong_new_words, has_wrong_count, has_wrong_end, has_strange_choice, has_strange_new_number, has_strange_count, has_strange_number, has_strange_list, has_strange_new_list}
+use Rattle.mpx_script.specs.Meanings.{names_rank, statement_in}
 use Rattle.mpx_script.specs.Naming.{BoundNames, at_some_rank, lacks_name, misnames, takes_name}
 use Rattle.mpx_script.specs.Reading.{statements_limit, first_holding}
 use Rattle.mpx_script.specs.declared.faults.ScriptFault.{ScriptFault}

@@ -5,11 +5,14 @@ ghost use Rattle.std.specs.Option.{option_copied};
 ghost use Rattle.mpx_num.specs.Text.{number_of};
 ghost use Rattle.mpx_post.specs.Kinds.{family_of};
 ghost use Rattle.mpx_script.specs.Words.{words};
-ghost use Rattle.mpx_script.specs.Grammar.{is_number, is_one, list_named, counts_named, operation_named, type_named, colour_named, said, call_draft_in, call_with, draft_in};
+ghost use Rattle.mpx_script.specs.Grammar.{call_with};
+ghost use Rattle.mpx_script.specs.Fields.{is_number, is_one, list_named, counts_named, operation_named, type_named, colour_named};
+ghost use Rattle.mpx_script.specs.Meanings.{said, call_draft_in, draft_in};
 ghost use Rattle.mpx_script.specs.Sentences.{faulty_counts, IsRefusal, counts_refusal, draft_refusal, fields_refusal, read_at};
 
 use crate::faults::{LineError, ScriptFault};
-use crate::grammar::{call_with, colour_named, is_one, list_named, operation_named, type_named};
+use crate::fields::{colour_named, is_one, list_named, operation_named, type_named};
+use crate::grammar::call_with;
 use crate::graphs::graph_in;
 use crate::syntax::{CallSyntax, NewSyntax};
 use crate::words::first_word;

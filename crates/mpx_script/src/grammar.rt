@@ -1,17 +1,14 @@
-// What a single word of a script means.
-ghost use Rattle.std.specs.Prelude.{◌≡◌, map, IfOk};
+// What the first words of a line stand for: the number of ranks, a label, or a statement's word.
+ghost use Rattle.std.specs.Prelude.{◌≡◌, map};
 ghost use Rattle.mpx_post.specs.Kinds.{family_of};
-ghost use Rattle.mpx_script.specs.Grammar.{call_with, rank_count, ranks_number, label_of, kind_named, started_named, local_named, form_named, operation_named, type_named, list_named, rank_named, ranks_named, is_nonblocking, is_one, has_second, has_ranks, colour_named, is_arrow, shape_in, shape_of, shape_of_new};
+ghost use Rattle.mpx_script.specs.Grammar.{call_with, rank_count, ranks_number, label_of, kind_named, started_named, local_named, form_named, is_nonblocking, has_second, has_ranks, shape_in, shape_of, shape_of_new};
 ghost use Rattle.mpx_statement.specs.Lookups.{below, named};
-ghost use Rattle.mpx_script.specs.Naming.{is_small_letter, is_name_byte, is_name};
 ghost use Rattle.mpx_script.specs.Words.{words};
-ghost use Rattle.std.specs.List.{list_all};
 
 use crate::words::first_word;
-use mpx_num::{Numbers, Op, Ty, parse_number};
-use mpx_post::{Call, Family, Kind, Mode, NewCommunicator, Number};
-use mpx_statement::{RankList, Side};
-use std::alloc::{AllocError, Global};
+use mpx_num::parse_number;
+use mpx_post::{Call, Family, Kind, Mode, NewCommunicator};
+use mpx_statement::Side;
 
 /// Which ranks a further line is for.
 #[derive(Clone, Copy)]
@@ -77,8 +74,8 @@ pub fn label_of(word: &[u8]) -> Option<Label>
     Some(Label::Numbered(number))
 }
 
-// What a table has for a word.
-fn named<T: Copy>(table: &[(&[u8], T)], word: &[u8]) -> Option<T>
+/// What a table has for a word.
+pub fn named<T: Copy>(table: &[(&[u8], T)], word: &[u8]) -> Option<T>
     ensures { result ≡ named (map (λ entry. (entry.0.now, entry.1)) table.now) word.now }
 {
     for (name, meaning) in table {
@@ -248,152 +245,6 @@ impl Asked {
             Asked::Translate => true,
         }
     }
-}
-
-// The words of the operations.
-const OPERATIONS: &[(&[u8], Op)] = &[
-    (b"max", Op::Max),
-    (b"min", Op::Min),
-    (b"sum", Op::Sum),
-    (b"prod", Op::Prod),
-    (b"land", Op::Land),
-    (b"lor", Op::Lor),
-    (b"lxor", Op::Lxor),
-    (b"band", Op::Band),
-    (b"bor", Op::Bor),
-    (b"bxor", Op::Bxor),
-    (b"maxloc", Op::Maxloc),
-    (b"minloc", Op::Minloc),
-];
-
-/// The operation of a word.
-#[tactic(auto, unfolding(crate::specs::Grammar::operation_named))]
-pub fn operation_named(word: &[u8]) -> Option<Op>
-    ensures { result ≡ operation_named word.now }
-{
-    named(OPERATIONS, word)
-}
-
-// The words of the types.
-const TYPES: &[(&[u8], Ty)] = &[
-    (b"i8", Ty::I8),
-    (b"i16", Ty::I16),
-    (b"i32", Ty::I32),
-    (b"i64", Ty::I64),
-    (b"u8", Ty::U8),
-    (b"u16", Ty::U16),
-    (b"u32", Ty::U32),
-    (b"u64", Ty::U64),
-    (b"2int", Ty::TwoInt),
-];
-
-/// The type of a word.
-#[tactic(auto, unfolding(crate::specs::Grammar::type_named))]
-pub fn type_named(word: &[u8]) -> Option<Ty>
-    ensures { result ≡ type_named word.now }
-{
-    named(TYPES, word)
-}
-
-/// The numbers of a list: numbers with commas between them, or `-` for none.
-#[tactic(auto, unfolding(crate::specs::Grammar::list_named))]
-pub fn list_named(alloc: Global, word: &[u8]) -> Result<Option<Numbers>, AllocError>
-    ensures { IfOk result (λ found. found ≡ list_named word.now) }
-{
-    let mut numbers = Vec::new(alloc);
-    if word == b"-".as_slice() {
-        return Ok(Some(Numbers::new(alloc, numbers)?));
-    }
-    for part in word.split(|byte| *byte == b',') {
-        let Some(number) = parse_number(part) else {
-            return Ok(None);
-        };
-        numbers.push(number)?;
-    }
-    Ok(Some(Numbers::new(alloc, numbers)?))
-}
-
-// The rank of a word, or none for `null`.
-#[tactic(auto, unfolding(crate::specs::Grammar::rank_named))]
-fn rank_named(word: &[u8]) -> Option<Option<i128>>
-    ensures { result ≡ rank_named word.now }
-{
-    if word == b"null".as_slice() {
-        return Some(None);
-    }
-    let number = parse_number(word)?;
-    Some(Some(number))
-}
-
-/// The ranks of a list: such ranks with commas between them, or `-` for none of them.
-#[tactic(auto, unfolding(crate::specs::Grammar::ranks_named))]
-pub fn ranks_named(alloc: Global, word: &[u8]) -> Result<Option<RankList>, AllocError>
-    ensures { IfOk result (λ found. found ≡ ranks_named word.now) }
-{
-    let mut ranks = Vec::new(alloc);
-    if word == b"-".as_slice() {
-        return Ok(Some(RankList::new(ranks)));
-    }
-    for part in word.split(|byte| *byte == b',') {
-        let Some(rank) = rank_named(part) else {
-            return Ok(None);
-        };
-        ranks.push(rank)?;
-    }
-    Ok(Some(RankList::new(ranks)))
-}
-
-/// Whether a kind with so many counts has just one.
-pub fn is_one(number: Number) -> bool
-    ensures { result ≡ is_one number }
-{
-    number == Number::One
-}
-
-fn is_small_letter(byte: u8) -> bool
-    ensures { result ≡ is_small_letter byte }
-{
-    b'a' <= byte && byte <= b'z'
-}
-
-fn is_name_byte(byte: u8) -> bool
-    ensures { result ≡ is_name_byte byte }
-{
-    is_small_letter(byte) || (b'0' <= byte && byte <= b'9') || byte == b'_'
-}
-
-fn are_name_bytes(word: &[u8]) -> bool
-    ensures { result ≡ list_all is_name_byte word.now }
-{
-    word.iter().all(|byte| is_name_byte(*byte))
-}
-
-#[tactic(auto, unfolding(crate::specs::Naming::is_name))]
-pub fn is_name(word: &[u8]) -> bool
-    ensures { result ≡ is_name word.now }
-{
-    match word {
-        [] => false,
-        [first, more @ ..] => is_small_letter(*first) && are_name_bytes(more) && word.len() <= 32,
-    }
-}
-
-/// The colour of a word: a number, or none for `undefined`.
-#[tactic(auto, unfolding(crate::specs::Grammar::colour_named))]
-pub fn colour_named(word: &[u8]) -> Option<Option<i128>>
-    ensures { result ≡ colour_named word.now }
-{
-    if word == b"undefined".as_slice() {
-        return Some(None);
-    }
-    let number = parse_number(word)?;
-    Some(Some(number))
-}
-
-pub fn is_arrow(word: &[u8]) -> bool
-    ensures { result ≡ is_arrow word.now }
-{
-    word == b"->".as_slice()
 }
 
 /// Which words a kind of call has, beside the fields of its posts.

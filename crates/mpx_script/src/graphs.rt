@@ -3,7 +3,7 @@ ghost use Rattle.std.specs.Prelude.{◌≡◌, ◌==◌, ◌≤◌, length, IfOk
 ghost use Rattle.std.specs.List.{list_any, position_or_len};
 ghost use Rattle.std.specs.Option.{option_map};
 ghost use Rattle.mpx_post.specs.Rows.{all_of};
-ghost use Rattle.mpx_script.specs.Grammar.{edge_named, edges_graph, entries_in, graph_in, has_no_entries, is_weighted, neighbour_named, neighbours_graph, parted, weighed};
+ghost use Rattle.mpx_script.specs.Graphs.{edge_named, edges_graph, entries_in, graph_in, has_no_entries, is_weighted, neighbour_named, neighbours_graph, parted, weighed};
 
 use crate::syntax::NewSyntax;
 use join_core::OutOfMemory;
@@ -44,7 +44,7 @@ fn weighed(weighted: bool, word: &[u8]) -> Option<(&[u8], i128)>
 }
 
 /// The edge of an entry, or None where it is none.
-#[tactic(auto, unfolding(crate::specs::Grammar::edge_named))]
+#[tactic(auto, unfolding(crate::specs::Graphs::edge_named))]
 fn edge_named(weighted: bool, word: &[u8]) -> Option<DraftedEdge>
     ensures { result ≡ edge_named weighted word.now }
 {
@@ -60,7 +60,7 @@ fn edge_named(weighted: bool, word: &[u8]) -> Option<DraftedEdge>
 }
 
 /// The neighbour of an entry, or None where it is none.
-#[tactic(auto, unfolding(crate::specs::Grammar::neighbour_named))]
+#[tactic(auto, unfolding(crate::specs::Graphs::neighbour_named))]
 fn neighbour_named(weighted: bool, word: &[u8]) -> Option<DraftedNeighbour>
     ensures { result ≡ neighbour_named weighted word.now }
 {
@@ -84,7 +84,7 @@ fn has_colon(word: &[u8]) -> bool
 }
 
 /// Whether the list has weights.
-#[tactic(auto, unfolding(crate::specs::Grammar::is_weighted))]
+#[tactic(auto, unfolding(crate::specs::Graphs::is_weighted))]
 fn is_weighted(word: &[u8]) -> bool
     ensures { result ≡ is_weighted word.now }
 {
@@ -134,7 +134,7 @@ fn neighbours_in(
 }
 
 /// The graph of these edges, or None where they are no list of edges.
-#[tactic(auto, unfolding(crate::specs::Grammar::edges_graph))]
+#[tactic(auto, unfolding(crate::specs::Graphs::edges_graph))]
 fn edges_graph(alloc: Global, word: &[u8]) -> Result<Option<DraftedGraph>, OutOfMemory>
     ensures { IfOk result (λ found. found ≡ edges_graph word.now) }
 {
@@ -148,7 +148,7 @@ fn edges_graph(alloc: Global, word: &[u8]) -> Result<Option<DraftedGraph>, OutOf
 }
 
 /// The graph of these neighbours, or None where they are no lists of neighbours or one alone has weights.
-#[tactic(auto, unfolding(crate::specs::Grammar::neighbours_graph))]
+#[tactic(auto, unfolding(crate::specs::Graphs::neighbours_graph))]
 fn neighbours_graph(
     alloc: Global,
     from: &[u8],
@@ -172,7 +172,7 @@ fn neighbours_graph(
 }
 
 /// The graph of the words of a call, if it has them, or None where they are no lists of one.
-#[tactic(auto, unfolding(crate::specs::Grammar::graph_in))]
+#[tactic(auto, unfolding(crate::specs::Graphs::graph_in))]
 pub fn graph_in(
     alloc: Global,
     new: &NewSyntax<'_>,

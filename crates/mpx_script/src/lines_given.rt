@@ -2,7 +2,8 @@
 ghost use Rattle.std.specs.Prelude.{◌≡◌, ◌<◌, ◌&&◌, ◌++◌, ◌∷◌, cond, IfOk, Ok, OnOk, slice_get, slice_index_or, []};
 ghost use Rattle.std.specs.Option.{option_copied};
 ghost use Rattle.mpx_script.specs.Words.{counts, words};
-ghost use Rattle.mpx_script.specs.Grammar.{directive_in, names_rank};
+ghost use Rattle.mpx_script.specs.Syntax.{directive_in};
+ghost use Rattle.mpx_script.specs.Meanings.{names_rank};
 ghost use Rattle.mpx_script.specs.LinesGiven.{Give, lines_given, words_at};
 ghost use Rattle.mpx_script.specs.Reading.{reading};
 ghost use Rattle.mpx_script.specs.ScriptView.{ScriptView};
@@ -54,7 +55,7 @@ fn is_given(line: &[u8], rank: u8, is_opened: bool) -> bool
 }
 
 // Whether the label of a further line names the rank.
-#[tactic(auto, unfolding(crate::specs::Grammar::names_rank))]
+#[tactic(auto, unfolding(crate::specs::Meanings::names_rank))]
 fn names_rank(line: &[u8], rank: u8) -> bool
     ensures { result ≡ names_rank rank (directive_in (words line.now)) }
 {

@@ -1,13 +1,13 @@
 // What the names of a statement are refused for.
-ghost use Rattle.std.specs.Prelude.{◌≡◌, ◌-◌, ◌++◌, ◌||◌, not, map, slice_index_or};
+ghost use Rattle.std.specs.Prelude.{◌≡◌, ◌-◌, ◌++◌, ◌||◌, not, map};
 ghost use Rattle.std.specs.List.{list_any, range_with_len};
 ghost use Rattle.std.specs.Option.{option_copied, option_to_list};
 ghost use Rattle.mpx_statement.specs.Statements.{communicators_of, requests_of};
-ghost use Rattle.mpx_script.specs.Naming.{at_some_rank, is_bound, is_name, lacks_name, misnames, names_bound, nothing_bound, takes_name};
+ghost use Rattle.mpx_script.specs.Naming.{at_some_rank, is_bound, is_name, lacks_name, misnames, names_at, names_bound, takes_name};
 ghost use Rattle.mpx_script.specs.Sentences.{names_refusal};
 
 use crate::faults::ScriptFault;
-use crate::grammar::is_name;
+use crate::fields::is_name;
 use crate::script::Script;
 use mpx_statement::{Statement, Word};
 
@@ -65,14 +65,14 @@ fn misnames(statement: &Statement) -> bool
 
 // Whether the word is there and the rank hasn't bound it to a communicator.
 fn is_unbound(script: &Script, rank: u8, word: Option<&Word>) -> bool
-    ensures { result ≡ list_any (λ word. not (is_bound (slice_index_or (map names_bound script.now.statements) rank nothing_bound).communicators word)) (option_to_list (option_copied word.entry)) }
+    ensures { result ≡ list_any (λ word. not (is_bound (names_at script.now.statements rank).communicators word)) (option_to_list (option_copied word.entry)) }
 {
     word.is_some_and(|word| !script.has_communicator(rank, word.as_bytes()))
 }
 
 // Whether the rank hasn't bound one of the words to a request.
 fn are_unbound(script: &Script, rank: u8, words: &[Word]) -> bool
-    ensures { result ≡ list_any (λ word. not (is_bound (slice_index_or (map names_bound script.now.statements) rank nothing_bound).requests word)) words.now }
+    ensures { result ≡ list_any (λ word. not (is_bound (names_at script.now.statements rank).requests word)) words.now }
 {
     words
         .iter()
@@ -82,7 +82,7 @@ fn are_unbound(script: &Script, rank: u8, words: &[Word]) -> bool
 // Whether the rank hasn't bound a name that the statement uses, or to the other sort.
 #[tactic(auto, using(crate::proofs::Names::any_of_two, crate::proofs::Names::none_of_two))]
 fn lacks_name_at(script: &Script, rank: u8, statement: &Statement) -> bool
-    ensures { result ≡ lacks_name statement.now (slice_index_or (map names_bound script.now.statements) rank nothing_bound) }
+    ensures { result ≡ lacks_name statement.now (names_at script.now.statements rank) }
 {
     let (first, second) = communicators(statement);
     is_unbound(script, rank, first)
@@ -92,8 +92,8 @@ fn lacks_name_at(script: &Script, rank: u8, statement: &Statement) -> bool
 
 // Whether the word is there and the rank has bound it, to a communicator or to a request.
 fn is_taken(script: &Script, rank: u8, word: Option<&Word>) -> bool
-    ensures { result ≡ list_any (λ word. is_bound (slice_index_or (map names_bound script.now.statements) rank nothing_bound).communicators word
-        || is_bound (slice_index_or (map names_bound script.now.statements) rank nothing_bound).requests word) (option_to_list (option_copied word.entry)) }
+    ensures { result ≡ list_any (λ word. is_bound (names_at script.now.statements rank).communicators word
+        || is_bound (names_at script.now.statements rank).requests word) (option_to_list (option_copied word.entry)) }
 {
     word.is_some_and(|word| {
         script.has_communicator(rank, word.as_bytes()) || script.has_request(rank, word.as_bytes())
@@ -103,7 +103,7 @@ fn is_taken(script: &Script, rank: u8, word: Option<&Word>) -> bool
 // Whether the rank has bound a name already that the statement binds.
 #[tactic(auto, using(crate::proofs::Names::any_of_two))]
 fn takes_name_at(script: &Script, rank: u8, statement: &Statement) -> bool
-    ensures { result ≡ takes_name statement.now (slice_index_or (map names_bound script.now.statements) rank nothing_bound) }
+    ensures { result ≡ takes_name statement.now (names_at script.now.statements rank) }
 {
     is_taken(script, rank, statement.target()) || is_taken(script, rank, statement.request())
 }

@@ -3,9 +3,9 @@ ghost use Rattle.std.specs.Prelude.{◌≡◌, ◌+◌, ◌++◌, ◌∷◌, [],
 ghost use Rattle.std.specs.List.{filter};
 ghost use Rattle.std.specs.Str.Lines.{lines};
 ghost use Rattle.mpx_script.specs.Words.{bytes_limit, words, counts, counting, is_ascii, is_over_limit, with_first_line};
-ghost use Rattle.mpx_script.specs.Reading.{refusal, bounded_context, is_bare_script, reading};
+ghost use Rattle.mpx_script.specs.Reading.{refusal, is_bare_script, reading};
 ghost use Rattle.mpx_script.specs.Sentences.{IsRefusal};
-ghost use Rattle.mpx_script.specs.PartialScripts.{ranks_of_script, bound_of_script, IsSettled};
+ghost use Rattle.mpx_script.specs.PartialScripts.{IsSettled, context_behind};
 ghost use Rattle.mpx_script.specs.Answer.{Answers, at_line};
 
 use crate::faults::{LineError, ReadScriptError, ScriptError, ScriptFault};
@@ -34,10 +34,10 @@ fn with_line(
 ) -> Result<PartialScript, LineError>
     requires { partial.statements ≤ STATEMENTS }
     ensures few { IfOk result (λ after. after.statements ≤ STATEMENTS) }
-    ensures accepted { OnOk result (refusal (bounded_context line.now cut (ranks_of_script partial.script) partial.statements (bound_of_script partial.script)) ≡ None) }
+    ensures accepted { OnOk result (refusal (context_behind line.now cut partial.script partial.statements) ≡ None) }
     ensures settled { IfOk result (λ after. (before : List (List (List ℕ))) → IsSettled before partial
         → IsSettled (before ++ filter counts (words line.now ∷ [])) after) }
-    ensures refused { IfErr result (IsRefusal (refusal (bounded_context line.now cut (ranks_of_script partial.script) partial.statements (bound_of_script partial.script)))) }
+    ensures refused { IfErr result (IsRefusal (refusal (context_behind line.now cut partial.script partial.statements))) }
 {
     let PartialScript { script, statements } = partial;
     match (
@@ -162,7 +162,7 @@ fn read_lines(alloc: Global, text: &[u8]) -> Result<Script, ReadScriptError>
 
 /// Reads a script: at most 1,048,576 bytes of ASCII, line by line. Empty lines and lines whose first word begins with
 /// `#` are passed over; the first other line is `ranks N`, and each further line `R: STATEMENT`, or `*: STATEMENT` for
-/// every rank. A statement is one of these, see `specs/Grammar.antt`:
+/// every rank. A statement is one of these, see `specs/Grammar.antt` and `specs/Syntax.antt`:
 ///
 /// - `KIND C ROOT OPERATION TYPE SCOUNTS RCOUNTS ITEMS` without the words that calls of its kind don't have; with `i` before
 ///   the kind and `-> Q` at the end it is nonblocking (MPI 4.1 section 6.12);

@@ -2,7 +2,7 @@
 ghost use Rattle.std.specs.Prelude.{◌≡◌, ◌-◌, ◌<◌, ◌≤◌, [], ◌∷◌, ◌++◌, length, map, slice_index_or, slice_set, IfOk, OnOk, vec_len};
 ghost use Rattle.std.specs.List.{range_with_len};
 ghost use Rattle.mpx_script.specs.ScriptView.{Adds};
-ghost use Rattle.mpx_script.specs.Naming.{is_bound, names_bound, nothing_bound};
+ghost use Rattle.mpx_script.specs.Naming.{is_bound, names_at};
 
 use crate::rank_statements::RankStatements;
 use crate::script_line::Assignment;
@@ -52,7 +52,7 @@ impl Script {
 
     /// Whether a rank has bound a name to a communicator; none where the script has no such rank.
     pub(crate) fn has_communicator(&self, rank: u8, word: &[u8]) -> bool
-        ensures { result ≡ is_bound (slice_index_or (map names_bound self.now.statements) rank nothing_bound).communicators word.now }
+        ensures { result ≡ is_bound (names_at self.now.statements rank).communicators word.now }
     {
         match self.statements.get(rank as usize) {
             Some(statements) => statements.has_communicator(word),
@@ -62,7 +62,7 @@ impl Script {
 
     /// Whether a rank has bound a name to a request; none where the script has no such rank.
     pub(crate) fn has_request(&self, rank: u8, word: &[u8]) -> bool
-        ensures { result ≡ is_bound (slice_index_or (map names_bound self.now.statements) rank nothing_bound).requests word.now }
+        ensures { result ≡ is_bound (names_at self.now.statements rank).requests word.now }
     {
         match self.statements.get(rank as usize) {
             Some(statements) => statements.has_request(word),

@@ -1,17 +1,20 @@
 // What one line of a script says, or why it is refused.
 ghost use Rattle.std.specs.Prelude.{◌≡◌, ◌+◌, ◌-◌, ◌<◌, ◌≤◌, [], map, true, false, is_none, None, Some, IfOk, OnOk, IfErr, unwrap_or};
 ghost use Rattle.std.specs.Option.{option_copied};
-ghost use Rattle.mpx_script.specs.PartialScripts.{ranks_of_script, bound_of_script};
+ghost use Rattle.mpx_script.specs.PartialScripts.{context_behind, ranks_of_script};
 ghost use Rattle.mpx_script.specs.Words.{words, counts, is_ascii};
-ghost use Rattle.mpx_script.specs.Grammar.{ask_in, call_posted, directive_in, label_in, new_posted, ranks_in, ranks_named, posting_said, question_said, said, statement_as, statement_in};
+ghost use Rattle.mpx_script.specs.Fields.{ranks_named};
+ghost use Rattle.mpx_script.specs.Syntax.{ask_in, directive_in, label_in, ranks_in};
+ghost use Rattle.mpx_script.specs.Meanings.{call_posted, new_posted, posting_said, question_said, said, statement_as, statement_in};
 ghost use Rattle.mpx_script.specs.Naming.{names_bound};
-ghost use Rattle.mpx_script.specs.Reading.{refusal, plain_context, bounded_context};
+ghost use Rattle.mpx_script.specs.Reading.{refusal, plain_context};
 ghost use Rattle.mpx_script.specs.Sentences.{IsAssignment, Says, IsRefusal, form_refusal, read_at, statement_refusal, call_refusal, names_refusal};
 ghost use Rattle.std.specs.List.{range_with_len};
 
 use crate::calls::{draft_in, number_at};
 use crate::faults::{LineError, ScriptFault};
-use crate::grammar::{Asked, Form, Waited, rank_count, ranks_named, ranks_number, shape_of};
+use crate::fields::ranks_named;
+use crate::grammar::{Asked, Form, Waited, rank_count, ranks_number, shape_of};
 use crate::naming::names_fault;
 use crate::script::Script;
 use crate::syntax::{
@@ -46,7 +49,7 @@ pub enum Sentence {
 }
 
 // The number of ranks on the first line that counts.
-#[tactic(auto, unfolding(crate::specs::Grammar::lacks_ranks, crate::specs::Grammar::has_ranks_out_of_range))]
+#[tactic(auto, unfolding(crate::specs::Refusals::lacks_ranks, crate::specs::Refusals::has_ranks_out_of_range))]
 fn opening_line(line: &[u8]) -> Result<u8, LineError>
     requires ascii { is_ascii line.now ≡ true }
     requires counts { counts (words line.now) ≡ true }
@@ -246,7 +249,7 @@ fn statement_as(alloc: Global, form: Form, line: &[u8]) -> Result<Statement, Lin
 }
 
 // The statement behind a label.
-#[tactic(auto, using(crate::proofs::Refusals::refusal_of_form, crate::proofs::Refusals::refusal_of_no_word), unfolding(crate::specs::Grammar::statement_in))]
+#[tactic(auto, using(crate::proofs::Refusals::refusal_of_form, crate::proofs::Refusals::refusal_of_no_word), unfolding(crate::specs::Meanings::statement_in))]
 fn statement_in(alloc: Global, directive: &DirectiveSyntax<'_>) -> Result<Statement, LineError>
     requires { is_none (label_in directive.now) ≡ false }
     ensures accepted { OnOk result (statement_refusal directive.now ≡ None) }
@@ -260,7 +263,7 @@ fn statement_in(alloc: Global, directive: &DirectiveSyntax<'_>) -> Result<Statem
 }
 
 // The statement of a further line.
-#[tactic(auto, using(crate::proofs::Refusals::refusal_of_many, crate::proofs::Refusals::count_of_statement), unfolding(crate::specs::Grammar::names_rank))]
+#[tactic(auto, using(crate::proofs::Refusals::refusal_of_many, crate::proofs::Refusals::count_of_statement), unfolding(crate::specs::Meanings::names_rank))]
 fn further_line(
     alloc: Global,
     line: &[u8],
@@ -325,9 +328,9 @@ pub fn read_line(
     statements: u32,
 ) -> Result<Sentence, LineError>
     requires { statements ≤ STATEMENTS }
-    ensures accepted { OnOk result (refusal (bounded_context line.now cut (ranks_of_script (option_copied script.entry)) statements (bound_of_script (option_copied script.entry))) ≡ None) }
+    ensures accepted { OnOk result (refusal (context_behind line.now cut (option_copied script.entry) statements) ≡ None) }
     ensures says { IfOk result (Says (ranks_of_script (option_copied script.entry)) statements (words line.now)) }
-    ensures refused { IfErr result (IsRefusal (refusal (bounded_context line.now cut (ranks_of_script (option_copied script.entry)) statements (bound_of_script (option_copied script.entry))))) }
+    ensures refused { IfErr result (IsRefusal (refusal (context_behind line.now cut (option_copied script.entry) statements))) }
 {
     if !is_ascii(line) {
         return Err(LineError::Fault(ScriptFault::NotAscii));

@@ -2,15 +2,15 @@
 ghost use Rattle.std.specs.Prelude.{◌≡◌, ◌==◌, ◌+◌, ◌-◌, ◌<◌, ◌≤◌, ℕ, ◌&&◌, ◌⊎◌, true, false, not, None, Some, IfOk, IfErr, nat_le, nat_lt, is_none, length};
 ghost use Rattle.std.specs.Option.{option_copied};
 ghost use Rattle.mpx_script.specs.Words.{words};
-ghost use Rattle.mpx_script.specs.Grammar.{ask_in, directive_in, form_in, label_in, new_in, call_in, ranks_meant, statements_in, is_past, is_meant, lacks, has_unknown_word, has_wrong_new_words, has_wrong_count, has_wrong_end, has_wrong_question};
+ghost use Rattle.mpx_script.specs.Syntax.{ask_in, directive_in, form_in, label_in, new_in, call_in, ranks_meant, statements_in};
+ghost use Rattle.mpx_script.specs.Refusals.{is_past, lacks, has_unknown_word, has_wrong_new_words, has_wrong_count, has_wrong_end, has_wrong_question};
+ghost use Rattle.mpx_script.specs.Meanings.{is_meant};
 ghost use Rattle.mpx_script.specs.Naming.{ranks_labelled};
 ghost use Rattle.std.specs.List.{range_with_len};
 
 use crate::faults::{LineError, ScriptFault};
-use crate::grammar::{
-    Asked, Form, Label, Shape, below, form_named, is_arrow, is_nonblocking, label_of,
-    operation_named, type_named,
-};
+use crate::fields::{is_arrow, operation_named, type_named};
+use crate::grammar::{Asked, Form, Label, Shape, below, form_named, is_nonblocking, label_of};
 use crate::words::{first_word, last_word, next_word};
 use mpx_post::{Fields, Mode};
 use std::marker::Model;
@@ -27,7 +27,7 @@ pub struct DirectiveSyntax<'a> {
 impl<'a> Model for DirectiveSyntax<'a> {
     ghost use Rattle.std.specs.Option.{option_copied};
     ghost use Rattle.mpx_script.specs.Words.{words};
-    ghost use Rattle.mpx_script.specs.Grammar.{DirectiveSyntax as DirectiveSyntaxView};
+    ghost use Rattle.mpx_script.specs.Syntax.{DirectiveSyntax as DirectiveSyntaxView};
 
     ghost Value = { DirectiveSyntaxView };
 
@@ -62,7 +62,7 @@ impl DirectiveSyntax<'_> {
     }
 
     /// How many statements the line has in a script of so many ranks.
-    #[tactic(auto, unfolding(crate::specs::Grammar::statements_in))]
+    #[tactic(auto, unfolding(crate::specs::Syntax::statements_in))]
     pub fn statements(&self, ranks: u8) -> u8
         ensures { result ≡ statements_in ranks self.now }
     {
@@ -107,7 +107,7 @@ pub struct NewSyntax<'a> {
 impl<'a> Model for NewSyntax<'a> {
     ghost use Rattle.std.specs.Option.{option_copied};
     ghost use Rattle.mpx_script.specs.Words.{words};
-    ghost use Rattle.mpx_script.specs.Grammar.{NewSyntax as NewSyntaxView};
+    ghost use Rattle.mpx_script.specs.Syntax.{NewSyntax as NewSyntaxView};
 
     ghost Value = { NewSyntaxView };
 
@@ -126,7 +126,7 @@ impl<'a> Model for NewSyntax<'a> {
 }
 
 /// What stands behind the communicator as the words of a call of this shape.
-#[tactic(auto, unfolding(crate::specs::Grammar::new_in))]
+#[tactic(auto, unfolding(crate::specs::Syntax::new_in))]
 pub fn new_in(shape: Shape, line: &[u8]) -> NewSyntax<'_>
     ensures { result ≡ new_in shape (words line.now) }
 {
@@ -180,7 +180,7 @@ pub struct CallSyntax<'a> {
 impl<'a> Model for CallSyntax<'a> {
     ghost use Rattle.std.specs.Option.{option_copied};
     ghost use Rattle.mpx_script.specs.Words.{words};
-    ghost use Rattle.mpx_script.specs.Grammar.{CallSyntax as CallSyntaxView};
+    ghost use Rattle.mpx_script.specs.Syntax.{CallSyntax as CallSyntaxView};
 
     ghost Value = { CallSyntaxView };
 
@@ -197,7 +197,7 @@ impl<'a> Model for CallSyntax<'a> {
 }
 
 /// What stands behind those words as the words of a call's fields.
-#[tactic(auto, unfolding(crate::specs::Grammar::call_in))]
+#[tactic(auto, unfolding(crate::specs::Syntax::call_in))]
 pub fn call_in(fields: Fields, mode: Mode, line: &[u8]) -> CallSyntax<'_>
     ensures { result ≡ call_in fields mode (words line.now) }
 {
@@ -265,7 +265,7 @@ pub struct AskSyntax<'a> {
 impl<'a> Model for AskSyntax<'a> {
     ghost use Rattle.std.specs.Option.{option_copied};
     ghost use Rattle.mpx_script.specs.Words.{words};
-    ghost use Rattle.mpx_script.specs.Grammar.{AskSyntax as AskSyntaxView};
+    ghost use Rattle.mpx_script.specs.Syntax.{AskSyntax as AskSyntaxView};
 
     ghost Value = { AskSyntaxView };
 
@@ -278,7 +278,7 @@ impl<'a> Model for AskSyntax<'a> {
 }
 
 /// What stands behind a statement's word as the words of one that asks.
-#[tactic(auto, unfolding(crate::specs::Grammar::ask_in))]
+#[tactic(auto, unfolding(crate::specs::Syntax::ask_in))]
 pub fn ask_in(asked: Asked, line: &[u8]) -> AskSyntax<'_>
     ensures { result ≡ ask_in asked (words line.now) }
 {

@@ -8,7 +8,7 @@ use Rattle.mpx_post.specs.declared.draft.Draft.{Draft}
 use Rattle.mpx_post.specs.declared.draft.PostError.{PostError}
 use Rattle.mpx_board.specs.Boards.{told}
 use Rattle.mpx_value.specs.Histories.{posts_on}
-use Rattle.mpx_node.specs.Nodes.{Opens, Posts, checked_on, gathers_on, results_on}
+use Rattle.mpx_node.specs.Nodes.{NodeView, Opens, Posts, checked_on, gathers_on, posted_on, results_on}
 use Rattle.mpx_bus.specs.declared.act.Setup.{Setup}
 use Rattle.mpx_bus.specs.declared.act.Act.TheVariants as A
 use Rattle.mpx_bus.specs.Berths.{Berth, Goes, node_in}
@@ -25,6 +25,10 @@ call_of (Err refusal) = Err refusal
 -- the ticket has this name, and the post that the draft comes to
 abbrev pub IsTicketOf : Name → Result Given PostError → Result Ticket PostError → Type 0
 IsTicketOf name checked result = IfOk result (λ ticket. (ticket.name ≡ name) × (checked ≡ Ok ticket.post))
+
+-- the ticket of the next post on the context, the draft's, by a node
+abbrev pub IsNextTicket : NodeView → Name → Draft → Ticket → Type 0
+IsNextTicket node name draft ticket = (ticket.name ≡ name) × ((ticket.call ≡ posted_on node name) × (checked_on node name draft ≡ Ok ticket.post))
 
 -- the post stands in the journal as the one act of the call; a refusal leaves the port as it was
 abbrev pub PostsOne : Name → Draft → Result Ticket PostError → Berth → Berth → Type 0

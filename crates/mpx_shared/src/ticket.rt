@@ -1,7 +1,8 @@
 // What a post leaves to ask with, and what is answered.
 ghost use Rattle.std.specs.Prelude.{◌≡◌, IfOk, IfErr, Ok, Err};
-ghost use Rattle.mpx_node.specs.Nodes.{Posts, checked_on, posted_on};
+ghost use Rattle.mpx_node.specs.Nodes.{Posts, checked_on};
 ghost use Rattle.mpx_node.specs.Shown.{node_of};
+ghost use Rattle.mpx_shared.specs.Tickets.{IsNextTicket};
 
 use join_core::Exact;
 use mpx_bus::Frame;
@@ -50,7 +51,7 @@ pub(crate) fn ticket_for(
     draft: &Draft,
 ) -> Result<Ticket, PostError>
     requires { me ≡ (node_of node.now).me }
-    ensures ok { IfOk result (λ ticket. (ticket.name ≡ name.now) × ((ticket.call ≡ posted_on (node_of node.now) name.now) × (checked_on (node_of node.now) name.now draft.now ≡ Ok ticket.post))) }
+    ensures ok { IfOk result (λ ticket. IsNextTicket (node_of node.now) name.now draft.now ticket) }
     ensures err { IfErr result (λ refusal. Posts name.now (checked_on (node_of node.now) name.now draft.now) (Err refusal) (node_of node.now) (node_of node.now)) }
 {
     if let Some(refusal) = node.refusal(name, draft) {

@@ -18,7 +18,7 @@ use Rattle.mpx_rank.proofs.Telling.{done_first}
 use Rattle.mpx_rank.specs.Moves.{GoesOn, Move, Ran, RankView, Still, are_done, asks, communicator_in, has_ended, hears, is_done, is_refused, moved_on, passes, passes_not, posts, posts_not, request_line, starts, stayed, wait_lines, waits_on}
 use Rattle.mpx_system.specs.Running as Y
 use Rattle.mpx_system.specs.Systems.{node_births, node_tells}
-use Rattle.mpx_system.proofs.Running.{moves_asks, moves_hears, moves_itself, moves_keeps, moves_passes, moves_posts, moves_refused, moves_starts, moves_then}
+use Rattle.mpx_system.proofs.Moving.{moves_asks, moves_hears, moves_itself, moves_keeps, moves_passes, moves_posts, moves_refused, moves_starts, moves_then}
 use Rattle.mpx_sim.specs.declared.desk.RunDesk.{RunDesk}
 use Rattle.mpx_sim.specs.Carrying.{desk_terms, outcomes_on}
 use Rattle.mpx_sim.specs.Shown.{name_in, names_of, process_with}

@@ -17,3 +17,7 @@ IsAtRest loses_all count processes = HaveFinished count processes ⊎ (AreAlike 
 
 abbrev pub RestsBy : (loss count : ℕ) → List RankView → Type 0
 RestsBy loss count processes = HaveFinished count processes ⊎ (AreAlike processes ⊎ (100 ≤ loss))
+
+-- so many turns are made, all that there may be; or fewer, and that is so
+abbrev pub AllMadeOr : (made turns : ℕ) → (over : Type 0) → Type 0
+AllMadeOr made turns over = (made ≡ turns) ⊎ ((made < turns) × over)

@@ -1,10 +1,10 @@
 //! The desk of a run's process: it carries the posts of the process's rank, and looks at contexts.
 ghost use Rattle.std.specs.Prelude.{◌≡◌, ◌<◌, ◌≤◌, IfOk, OnOk};
 ghost use Rattle.std.specs.Option.{option_copied};
-ghost use Rattle.mpx_node.specs.Nodes.{checked_on, gathers_on, start_node};
+ghost use Rattle.mpx_node.specs.Nodes.{checked_on, start_node};
 ghost use Rattle.mpx_node.specs.Shown.{node_of};
-ghost use Rattle.mpx_statement.specs.Statements.{create_group_draft, draft_of};
-ghost use Rattle.mpx_system.specs.Running.{KeepsNode, Tries, tried_gathered, tried_on, tried_post};
+ghost use Rattle.mpx_statement.specs.Statements.{draft_of};
+ghost use Rattle.mpx_system.specs.Running.{KeepsNode, Tries, tried_group, tried_on, tried_post};
 ghost use Rattle.mpx_sim.specs.Shown.{call_in, name_in};
 
 use join_core::{Exact, OutOfMemory};
@@ -193,7 +193,7 @@ fn start_create_group(
     tag: &i128,
     ranks: &Numbers,
 ) -> Result<Request, PostError>
-    ensures { Tries (tried_gathered parent.now.name create_group_draft (gathers_on (node_of desk.old.host) parent.now.name tag.now ranks.now) (node_of desk.old.host)) (call_in result) (node_of desk.new.host) }
+    ensures { Tries (tried_group parent.now.name tag.now ranks.now (node_of desk.old.host)) (call_in result) (node_of desk.new.host) }
 {
     desk.start_create_group(alloc, parent, *tag, ranks.as_slice())
 }

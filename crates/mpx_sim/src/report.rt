@@ -1,10 +1,12 @@
 //! What a run comes to.
-ghost use Rattle.std.specs.Prelude.{◌≡◌, ◌++◌, ◌<◌, ◌≤◌, ◌+◌, ◌⊎◌, ◌∷◌, [], cond, IfOk, OnOk, length, map, slice_get, string_bytes};
+ghost use Rattle.std.specs.Prelude.{◌≡◌, ◌++◌, ◌<◌, ◌≤◌, ◌+◌, ◌∷◌, [], IfOk, OnOk, length, map, slice_get};
 ghost use Rattle.mpx_node.specs.Shown.{node_of};
-ghost use Rattle.mpx_evaluation.specs.Evaluation.{State, IsEvaluation};
+ghost use Rattle.mpx_evaluation.specs.Evaluation.{State};
 ghost use Rattle.mpx_evaluation.specs.Reports.{transcripts_of, which};
+ghost use Rattle.mpx_evaluation.specs.Transcripts.{as_text};
 ghost use Rattle.mpx_system.specs.Running.{RankView, is_waiting_at};
-ghost use Rattle.mpx_system.specs.Runs.{AreWhole, Begin, IsOver, IsRun};
+ghost use Rattle.mpx_system.specs.Runs.{AreWhole, Begin, IsEvaluationOf, IsOver, IsRun};
+ghost use Rattle.mpx_sim.specs.Ends.{AllMadeOr};
 ghost use Rattle.mpx_sim.specs.Shown.{process_of};
 
 use crate::observer::{Observer, Unobserved};
@@ -14,6 +16,7 @@ use join_core::OutOfMemory;
 use mpx_evaluation::Report;
 use mpx_job::Options;
 use mpx_node::Node;
+use mpx_rank::push_where;
 use mpx_script::Script;
 use std::alloc::Global;
 
@@ -37,9 +40,9 @@ pub struct Run {
 pub fn run_sim(alloc: Global, script: &Script, options: &Options) -> Result<Run, OutOfMemory>
     requires { script.now.ranks + options.now.relays ≤ 64 }
     ensures run { IfOk result (λ run. IsRun script.now options.now.relays (map node_of run.nodes.items) (transcripts_of run.report) run.report.waiting.items) }
-    ensures begins { IfOk result (λ run. (evaluation : State) → IsEvaluation script.now.statements script.now.ranks evaluation → Begin (transcripts_of run.report) evaluation) }
-    ensures whole { IfOk result (λ run. (evaluation : State) → IsEvaluation script.now.statements script.now.ranks evaluation → AreWhole (transcripts_of run.report) run.report.waiting.items evaluation) }
-    ensures ended { IfOk result (λ run. (run.turns ≡ options.now.turns) ⊎ ((run.turns < options.now.turns) × IsOver options.now.loss (map node_of run.nodes.items) run.report.waiting.items)) }
+    ensures begins { IfOk result (λ run. (evaluation : State) → IsEvaluationOf script.now evaluation → Begin (transcripts_of run.report) evaluation) }
+    ensures whole { IfOk result (λ run. (evaluation : State) → IsEvaluationOf script.now evaluation → AreWhole (transcripts_of run.report) run.report.waiting.items evaluation) }
+    ensures ended { IfOk result (λ run. AllMadeOr run.turns options.now.turns (IsOver options.now.loss (map node_of run.nodes.items) run.report.waiting.items)) }
 {
     run_sim_observed(alloc, script, options, &mut Unobserved)
 }
@@ -53,9 +56,9 @@ pub fn run_sim_observed(
 ) -> Result<Run, OutOfMemory>
     requires { script.now.ranks + options.now.relays ≤ 64 }
     ensures run { IfOk result (λ run. IsRun script.now options.now.relays (map node_of run.nodes.items) (transcripts_of run.report) run.report.waiting.items) }
-    ensures begins { IfOk result (λ run. (evaluation : State) → IsEvaluation script.now.statements script.now.ranks evaluation → Begin (transcripts_of run.report) evaluation) }
-    ensures whole { IfOk result (λ run. (evaluation : State) → IsEvaluation script.now.statements script.now.ranks evaluation → AreWhole (transcripts_of run.report) run.report.waiting.items evaluation) }
-    ensures ended { IfOk result (λ run. (run.turns ≡ options.now.turns) ⊎ ((run.turns < options.now.turns) × IsOver options.now.loss (map node_of run.nodes.items) run.report.waiting.items)) }
+    ensures begins { IfOk result (λ run. (evaluation : State) → IsEvaluationOf script.now evaluation → Begin (transcripts_of run.report) evaluation) }
+    ensures whole { IfOk result (λ run. (evaluation : State) → IsEvaluationOf script.now evaluation → AreWhole (transcripts_of run.report) run.report.waiting.items evaluation) }
+    ensures ended { IfOk result (λ run. AllMadeOr run.turns options.now.turns (IsOver options.now.loss (map node_of run.nodes.items) run.report.waiting.items)) }
 {
     let ran = simulate(alloc, script, options, observer);
     observer.over();
@@ -86,23 +89,12 @@ fn waiting_of(alloc: Global, processes: &[Process<'_>], ranks: u8) -> Result<Vec
     Ok(waiting)
 }
 
-// Adds the rank where the test holds.
-fn push_where(ranks: &mut Vec<u8>, rank: u8, test: bool) -> Result<(), OutOfMemory>
-    ensures { OnOk result (ranks.new.items ≡ ranks.old.items ++ cond test (rank ∷ []) []) }
-{
-    if !test {
-        return Ok(());
-    }
-    ranks.push(rank)?;
-    Ok(())
-}
-
 // The lines and the node of each process.
 fn parts_of(
     alloc: Global,
     processes: Vec<Process<'_>>,
 ) -> Result<(Vec<Vec<String>>, Vec<Node>), OutOfMemory>
-    ensures lines { IfOk result (λ parts. map (λ lines. map string_bytes lines.items) parts.0.items ≡ map (λ (r : RankView). r.lines) (map process_of processes.entry.items)) }
+    ensures lines { IfOk result (λ parts. map as_text parts.0.items ≡ map (λ (r : RankView). r.lines) (map process_of processes.entry.items)) }
     ensures nodes { IfOk result (λ parts. map node_of parts.1.items ≡ map (λ (r : RankView). r.node) (map process_of processes.entry.items)) }
 {
     let mut transcripts = Vec::new(alloc);
@@ -119,7 +111,7 @@ fn push_parts(
     transcripts: &mut Vec<Vec<String>>,
     nodes: &mut Vec<Node>,
 ) -> Result<(), OutOfMemory>
-    ensures lines { OnOk result (map (λ lines. map string_bytes lines.items) transcripts.new.items ≡ map (λ lines. map string_bytes lines.items) transcripts.old.items ++ (process_of process.entry).lines ∷ []) }
+    ensures lines { OnOk result (map as_text transcripts.new.items ≡ map as_text transcripts.old.items ++ (process_of process.entry).lines ∷ []) }
     ensures nodes { OnOk result (map node_of nodes.new.items ≡ map node_of nodes.old.items ++ (process_of process.entry).node ∷ []) }
 {
     let (node, lines) = process.into_parts();

@@ -2,11 +2,11 @@
 ghost use Rattle.std.specs.Prelude.{◌≡◌, ◌<◌, ◌≤◌, ◌+◌, ◌++◌, ◌∷◌, [], ◌⊎◌, All, IfOk, OnOk, false, length, map, slice_get, true, List, Some, ℕ};
 ghost use Rattle.mpx_board.specs.Boards.{Look, join_all};
 ghost use Rattle.mpx_parts.specs.Facts.{OnlyFactsOf};
-ghost use Rattle.mpx_statement.specs.declared.statement.Statement.{Statement as Said};
+ghost use Rattle.mpx_evaluation.specs.Evaluation.{Script as Statements};
 ghost use Rattle.mpx_sim.specs.Shown.{process_of, part_of};
-ghost use Rattle.mpx_sim.specs.Ends.{AreAlike, HaveFinished, IsAtRest, RestsBy};
+ghost use Rattle.mpx_sim.specs.Ends.{AllMadeOr, AreAlike, HaveFinished, IsAtRest, RestsBy};
 ghost use Rattle.mpx_node.specs.Deltas.{lacking_on};
-ghost use Rattle.mpx_system.specs.Running.{IsUnderWay, Keeps, RankView, Starts, StartsAt};
+ghost use Rattle.mpx_system.specs.Running.{AllReceive, AreOfRun, IsUnderWay, Keeps, RankView, Starts, StartsAt};
 
 use crate::frame::Frame;
 use crate::frames::{frames_of, opened};
@@ -28,8 +28,8 @@ pub(crate) fn simulate<'a>(
     observer: &mut dyn Observer,
 ) -> Result<(Vec<Process<'a>>, u32), OutOfMemory>
     requires { script.now.ranks + options.now.relays ≤ 64 }
-    ensures run { IfOk result (λ ran. (frames : List Look) × IsUnderWay script.now.statements script.now.ranks (script.now.ranks + options.now.relays) (map process_of ran.0.items) frames) }
-    ensures ended { IfOk result (λ ran. (ran.1 ≡ options.now.turns) ⊎ ((ran.1 < options.now.turns) × RestsBy options.now.loss script.now.ranks (map process_of ran.0.items))) }
+    ensures run { IfOk result (λ ran. AreOfRun script.now options.now.relays (map process_of ran.0.items)) }
+    ensures ended { IfOk result (λ ran. AllMadeOr ran.1 options.now.turns (RestsBy options.now.loss script.now.ranks (map process_of ran.0.items))) }
 {
     let mut processes = start(alloc, script, options.relays)?;
     let mut schedule = Schedule::new(alloc, options.seed, options.loss, processes.len())?;
@@ -79,7 +79,7 @@ fn turn(
     requires few { count ≤ length processes.old }
     requires each { length processes.old ≤ length senders.old }
     requires number { number < 4294967296 }
-    ensures run { OnOk result ((script : List (List Said)) (ranks size : ℕ) → count ≤ ranks → IsUnderWay script ranks size (map process_of processes.old) (map part_of frames.old.items)
+    ensures run { OnOk result ((script : Statements) (ranks size : ℕ) → count ≤ ranks → IsUnderWay script ranks size (map process_of processes.old) (map part_of frames.old.items)
         → IsUnderWay script ranks size (map process_of processes.new) (map part_of frames.new.items)) }
     ensures rest { IfOk result (λ goes_on. goes_on ≡ false → IsAtRest loses_all count (map process_of processes.new)) }
 {
@@ -98,7 +98,7 @@ fn turn(
 // Every rank in order goes on until it must wait. It answers whether one moved.
 fn go_round(alloc: Global, processes: &mut [Process<'_>], count: usize) -> Result<bool, OutOfMemory>
     requires { count ≤ length processes.old }
-    ensures { OnOk result ((script : List (List Said)) (ranks size : ℕ) (frames : List Look) → count ≤ ranks → IsUnderWay script ranks size (map process_of processes.old) frames
+    ensures { OnOk result ((script : Statements) (ranks size : ℕ) (frames : List Look) → count ≤ ranks → IsUnderWay script ranks size (map process_of processes.old) frames
         → IsUnderWay script ranks size (map process_of processes.new) frames) }
 {
     let mut changed = false;
@@ -111,7 +111,7 @@ fn go_round(alloc: Global, processes: &mut [Process<'_>], count: usize) -> Resul
 
 // Every process drops what it may. It answers whether one did.
 fn prune_all(processes: &mut [Process<'_>]) -> bool
-    ensures { (script : List (List Said)) (ranks size : ℕ) (frames : List Look) → IsUnderWay script ranks size (map process_of processes.old) frames
+    ensures { (script : Statements) (ranks size : ℕ) (frames : List Look) → IsUnderWay script ranks size (map process_of processes.old) frames
         → IsUnderWay script ranks size (map process_of processes.new) frames }
 {
     let mut changed = false;
@@ -198,7 +198,7 @@ fn send_all(
     turn: u64,
 ) -> Result<(), OutOfMemory>
     requires { length processes.old ≤ length senders.old }
-    ensures { OnOk result ((script : List (List Said)) (ranks size : ℕ) → IsUnderWay script ranks size (map process_of processes.old) (map part_of frames.old.items)
+    ensures { OnOk result ((script : Statements) (ranks size : ℕ) → IsUnderWay script ranks size (map process_of processes.old) (map part_of frames.old.items)
         → IsUnderWay script ranks size (map process_of processes.new) (map part_of frames.new.items)) }
 {
     for p in 0..processes.len() {
@@ -220,7 +220,7 @@ fn send_each(
 ) -> Result<(), OutOfMemory>
     ensures all { OnOk result (schedule.old.loss ≡ 0 → frames.new.items ≡ frames.old.items ++ made.items) }
     ensures loss { schedule.new.loss ≡ schedule.old.loss }
-    ensures run { OnOk result ((script : List (List Said)) (ranks size : ℕ) (processes : List RankView) (p : ℕ) (r : RankView) → slice_get processes p ≡ Some r
+    ensures run { OnOk result ((script : Statements) (ranks size : ℕ) (processes : List RankView) (p : ℕ) (r : RankView) → slice_get processes p ≡ Some r
         → All (λ frame. OnlyFactsOf (part_of frame) r.node.board) made.items → IsUnderWay script ranks size processes (map part_of frames.old.items)
         → IsUnderWay script ranks size processes (map part_of frames.new.items)) }
 {
@@ -234,7 +234,7 @@ fn send_each(
 fn send(frame: Frame, frames: &mut Vec<Frame>, schedule: &mut Schedule) -> Result<(), OutOfMemory>
     ensures all { OnOk result (schedule.old.loss ≡ 0 → frames.new.items ≡ frames.old.items ++ frame ∷ []) }
     ensures loss { schedule.new.loss ≡ schedule.old.loss }
-    ensures run { OnOk result ((script : List (List Said)) (ranks size : ℕ) (processes : List RankView) (p : ℕ) (r : RankView) → slice_get processes p ≡ Some r
+    ensures run { OnOk result ((script : Statements) (ranks size : ℕ) (processes : List RankView) (p : ℕ) (r : RankView) → slice_get processes p ≡ Some r
         → OnlyFactsOf (part_of frame) r.node.board → IsUnderWay script ranks size processes (map part_of frames.old.items)
         → IsUnderWay script ranks size processes (map part_of frames.new.items)) }
 {
@@ -252,7 +252,7 @@ fn deliver(
     frames: &[Frame],
     turn: u64,
 ) -> Result<(), OutOfMemory>
-    ensures { OnOk result ((script : List (List Said)) (ranks size : ℕ) → IsUnderWay script ranks size (map process_of processes.old) (map part_of frames.now)
+    ensures { OnOk result ((script : Statements) (ranks size : ℕ) → IsUnderWay script ranks size (map process_of processes.old) (map part_of frames.now)
         → IsUnderWay script ranks size (map process_of processes.new) (map part_of frames.now)) }
 {
     for i in 0..frames.len() {
@@ -268,8 +268,7 @@ fn arrive(
     frame: &Frame,
     turn: u64,
 ) -> Result<(), OutOfMemory>
-    ensures { OnOk result ((script : List (List Said)) (ranks size : ℕ) (frames : List Look) (i : ℕ) → slice_get frames i ≡ Some (part_of frame.now) → IsUnderWay script ranks size (map process_of processes.old) frames
-        → IsUnderWay script ranks size (map process_of processes.new) frames) }
+    ensures { OnOk result (AllReceive (part_of frame.now) (map process_of processes.old) (map process_of processes.new)) }
 {
     if frame.turn != turn || frame.to >= processes.len() {
         return Ok(());
@@ -282,7 +281,7 @@ fn arrive(
 // One in four of the turn's frames is taken again in a later turn, and the others are let go.
 fn keep_some(frames: &mut Vec<Frame>, schedule: &mut Schedule, turn: u64)
     requires { turn < 4294967296 }
-    ensures { (script : List (List Said)) (ranks size : ℕ) (processes : List RankView) → IsUnderWay script ranks size processes (map part_of frames.old.items)
+    ensures { (script : Statements) (ranks size : ℕ) (processes : List RankView) → IsUnderWay script ranks size processes (map part_of frames.old.items)
         → IsUnderWay script ranks size processes (map part_of frames.new.items) }
 {
     delay_some(frames, schedule, turn);

@@ -1,5 +1,5 @@
 -- The processes of a run, and which system they show.
-use Rattle.std.specs.Prelude.{◌≡◌, ℕ, ◌<◌, ◌+◌, ◌*◌, Bool, true, false, ◌||◌, is_some, List, [], ◌∷◌, length, map, slice_get, Option, Some, None, Result, Ok, Err}
+use Rattle.std.specs.Prelude.{◌≡◌, ℕ, ◌<◌, ◌+◌, ◌*◌, Bool, true, false, ◌||◌, is_some, List, [], ◌∷◌, length, map, slice_get, Option, Some, None, Result, Ok, Err, ℤ}
 use Rattle.std.proofs.Common.{set}
 use Rattle.std.specs.List.{All, list_all}
 use Rattle.std.specs.Option.{option_map}
@@ -18,10 +18,11 @@ use Rattle.mpx_node.specs.declared.finished.Finished.{Finished}
 use Rattle.mpx_statement.specs.declared.statement.Posting.{Posting}
 use Rattle.mpx_statement.specs.declared.statement.Question.{Question}
 use Rattle.mpx_statement.specs.declared.statement.Statement.{Statement}
-use Rattle.mpx_statement.specs.Statements.{Gathers as Asked, draft_of, gathers_of}
+use Rattle.mpx_statement.specs.Statements.{Gathers as Asked, create_group_draft, draft_of, gathers_of}
 use Rattle.mpx_statement.specs.Lookups.{named}
 use Rattle.mpx_evaluation.specs.Ranks.{Bindings, Bound, Communicator, NullCommunicator, Line, Idle, Local, answered_by}
-use Rattle.mpx_evaluation.specs.Evaluation.{bound_at_start}
+use Rattle.mpx_script.specs.ScriptView.{ScriptView}
+use Rattle.mpx_evaluation.specs.Evaluation.{Script, bound_at_start}
 use Rattle.mpx_evaluation.specs.Standing.{WaitView, awaited, closed, has_statements, todo_of}
 use Rattle.mpx_evaluation.specs.Transcripts.{line_text, outcome_text}
 use Rattle.mpx_system.specs.Systems.{System, Leads, node_births, start_system}
@@ -77,6 +78,10 @@ tried_post name (Err refusal) node = record { node = node; answer = Err refusal 
 abbrev pub tried_gathered : (parent : Name) → Draft → Result GatheringView PostError → NodeView → Tried
 tried_gathered parent draft (Ok g) node = tried_post (gathering_name parent g) (checked_on (open_gathering_node parent g node) (gathering_name parent g) draft) (open_gathering_node parent g node)
 tried_gathered parent draft (Err refusal) node = record { node = node; answer = Err refusal }
+
+-- the same of `create_group`
+abbrev pub tried_group : (parent : Name) → (tag : ℤ) → (ranks : List ℤ) → NodeView → Tried
+tried_group parent tag ranks node = tried_gathered parent create_group_draft (gathers_on node parent tag ranks) node
 
 abbrev pub tried_in : Draft → Option Asked → Name → NodeView → Tried
 tried_in draft None name node = tried_post name (checked_on node name draft) node
@@ -177,14 +182,18 @@ pub record Shows (ranks size : ℕ) (processes : List RankView) (frames : List L
   pub sent : All (IsAmong s.world.parts) frames
 
 -- the processes and frames of a run of the script: they show a system to which doings lead
-pub record IsUnderWay (script : List (List Statement)) (ranks size : ℕ) (processes : List RankView) (frames : List Look) : Type 0 where
+pub record IsUnderWay (script : Script) (ranks size : ℕ) (processes : List RankView) (frames : List Look) : Type 0 where
   pub system : System
   pub led : Leads ranks (start_system script ranks size) system
   pub shows : Shows ranks size processes frames system
 
+-- these are the processes of a run of the script with so many relays, whatever its frames are
+abbrev pub AreOfRun : ScriptView → (relays : ℕ) → List RankView → Type 0
+AreOfRun script relays processes = (frames : List Look) × IsUnderWay script.statements script.ranks (script.ranks + relays) processes frames
+
 -- in place of the one in a run stands the other
 abbrev pub Keeps : RankView → RankView → Type 0
-Keeps old new = (script : List (List Statement)) (ranks size : ℕ) (processes : List RankView) (frames : List Look) (p : ℕ) → slice_get processes p ≡ Some old
+Keeps old new = (script : Script) (ranks size : ℕ) (processes : List RankView) (frames : List Look) (p : ℕ) → slice_get processes p ≡ Some old
     → IsUnderWay script ranks size processes frames → IsUnderWay script ranks size (set processes p new) frames
 
 -- the same of a process that changes just its node
@@ -193,16 +202,21 @@ KeepsNode old new = (r : RankView) → r.node ≡ old → Keeps r (record r { no
 
 -- the same of a rank
 abbrev pub Moves : RankView → RankView → Type 0
-Moves old new = (script : List (List Statement)) (ranks size : ℕ) (processes : List RankView) (frames : List Look) (p : ℕ) → p < ranks → slice_get processes p ≡ Some old
+Moves old new = (script : Script) (ranks size : ℕ) (processes : List RankView) (frames : List Look) (p : ℕ) → p < ranks → slice_get processes p ≡ Some old
     → IsUnderWay script ranks size processes frames → IsUnderWay script ranks size (set processes p new) frames
 
 -- the same of a process that takes one of the frames
 abbrev pub Receives : Look → RankView → RankView → Type 0
-Receives b old new = (script : List (List Statement)) (ranks size : ℕ) (processes : List RankView) (frames : List Look) (p i : ℕ) → slice_get processes p ≡ Some old → slice_get frames i ≡ Some b
+Receives b old new = (script : Script) (ranks size : ℕ) (processes : List RankView) (frames : List Look) (p i : ℕ) → slice_get processes p ≡ Some old → slice_get frames i ≡ Some b
     → IsUnderWay script ranks size processes frames → IsUnderWay script ranks size (set processes p new) frames
 
+-- the same of all processes together, of which one may take that frame
+abbrev pub AllReceive : Look → (old new : List RankView) → Type 0
+AllReceive b old new = (script : Script) (ranks size : ℕ) (frames : List Look) (i : ℕ) → slice_get frames i ≡ Some b → IsUnderWay script ranks size old frames
+    → IsUnderWay script ranks size new frames
+
 -- process p at the start
-pub record StartsAt (script : List (List Statement)) (ranks size p : ℕ) (r : RankView) : Type 0 where
+pub record StartsAt (script : Script) (ranks size p : ℕ) (r : RankView) : Type 0 where
   pub me : r.me ≡ p
   pub node : r.node ≡ start_node p ranks size
   pub bound : p < ranks → (word : List ℕ) → r.bound word ≡ names_in (bound_at_start ranks) word
@@ -212,6 +226,6 @@ pub record StartsAt (script : List (List Statement)) (ranks size p : ℕ) (r : R
   pub lines : r.lines ≡ []
 
 -- the first so many processes at the start, of so many in all
-pub record Starts (script : List (List Statement)) (ranks size count : ℕ) (processes : List RankView) : Type 0 where
+pub record Starts (script : Script) (ranks size count : ℕ) (processes : List RankView) : Type 0 where
   pub count_is : length processes ≡ count
   pub each : (p : ℕ) (r : RankView) → slice_get processes p ≡ Some r → StartsAt script ranks size p r

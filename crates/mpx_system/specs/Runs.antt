@@ -2,7 +2,7 @@
 use Rattle.std.specs.Prelude.{◌≡◌, ℕ, ◌≤◌, ◌+◌, ◌⊎◌, List, [], length, slice_get, Some}
 use Rattle.mpx_node.specs.Nodes.{NodeView}
 use Rattle.mpx_script.specs.ScriptView.{ScriptView}
-use Rattle.mpx_evaluation.specs.Evaluation.{State, IsPrefixOf, bound_at_start, statements_of}
+use Rattle.mpx_evaluation.specs.Evaluation.{State, IsEvaluation, IsPrefixOf, bound_at_start, statements_of}
 use Rattle.mpx_evaluation.specs.Told.{CarriesOut}
 use Rattle.mpx_evaluation.specs.Reports.{lines_in, waiting_in}
 use Rattle.mpx_world.specs.Soundness.{Sound}
@@ -25,6 +25,10 @@ pub record IsRun (script : ScriptView) (relays : ℕ) (nodes : List NodeView) (t
   pub ranks_are : length transcripts ≡ script.ranks
   pub lines : (p : ℕ) (lines : List (List ℕ)) → slice_get transcripts p ≡ Some lines → lines ≡ lines_in system.ranks p
   pub waiting_are : waiting ≡ waiting_in system.ranks script.ranks
+
+-- this is the evaluation of the script
+abbrev pub IsEvaluationOf : ScriptView → State → Type 0
+IsEvaluationOf script evaluation = IsEvaluation script.statements script.ranks evaluation
 
 -- each rank's lines begin those that it has there
 abbrev pub Begin : List (List (List ℕ)) → State → Type 0

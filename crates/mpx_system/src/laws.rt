@@ -1,7 +1,6 @@
 //! What is so after every list of doings, as a call that a contract can name: it does nothing.
 ghost use Rattle.std.specs.Prelude.{◌≡◌, ◌≤◌, List, ℕ, []};
-ghost use Rattle.mpx_statement.specs.declared.statement.Statement.{Statement};
-ghost use Rattle.mpx_evaluation.specs.Evaluation.{State, IsEvaluation, IsPrefixOf, bound_at_start, statements_of};
+ghost use Rattle.mpx_evaluation.specs.Evaluation.{Script, State, IsEvaluation, IsPrefixOf, bound_at_start, statements_of};
 ghost use Rattle.mpx_evaluation.specs.Told.{CarriesOut};
 ghost use Rattle.mpx_world.specs.Soundness.{Sound};
 ghost use Rattle.mpx_system.specs.Systems.{Doing, IsOfHappenings, MayDoAll, TellsResults, does_all, node_tells, start_system};
@@ -11,20 +10,20 @@ ghost use Rattle.mpx_system.specs.Systems.{Doing, IsOfHappenings, MayDoAll, Tell
 /// of the result which the rank's node holds, and what a process posted is what the rank posted: a relay posts nothing. The
 /// world is one of what can happen: so what is so after every such history is so of it.
 pub fn every_run_begins_the_evaluation()
-    ensures lines { (script : List (List Statement)) (ranks size : ℕ) (doings : List Doing) (end : State) → MayDoAll ranks (start_system script ranks size) doings → IsEvaluation script ranks end
+    ensures lines { (script : Script) (ranks size : ℕ) (doings : List Doing) (end : State) → MayDoAll ranks (start_system script ranks size) doings → IsEvaluation script ranks end
         → (p : ℕ) → IsPrefixOf ((does_all (start_system script ranks size) doings).ranks p).lines (end p).lines }
-    ensures whole { (script : List (List Statement)) (ranks size : ℕ) (doings : List Doing) (end : State) → MayDoAll ranks (start_system script ranks size) doings → IsEvaluation script ranks end
+    ensures whole { (script : Script) (ranks size : ℕ) (doings : List Doing) (end : State) → MayDoAll ranks (start_system script ranks size) doings → IsEvaluation script ranks end
         → (p : ℕ) → ((does_all (start_system script ranks size) doings).ranks p).todo ≡ [] → (does_all (start_system script ranks size) doings).ranks p ≡ end p }
-    ensures told { (script : List (List Statement)) (ranks size : ℕ) (doings : List Doing) → MayDoAll ranks (start_system script ranks size) doings
+    ensures told { (script : Script) (ranks size : ℕ) (doings : List Doing) → MayDoAll ranks (start_system script ranks size) doings
         → (p : ℕ) → TellsResults ((does_all (start_system script ranks size) doings).world.each p).node ((does_all (start_system script ranks size) doings).ranks p) }
-    ensures posts { (script : List (List Statement)) (ranks size : ℕ) (doings : List Doing) → MayDoAll ranks (start_system script ranks size) doings
+    ensures posts { (script : Script) (ranks size : ℕ) (doings : List Doing) → MayDoAll ranks (start_system script ranks size) doings
         → (p : ℕ) → ((does_all (start_system script ranks size) doings).world.each p).made ≡ ((does_all (start_system script ranks size) doings).ranks p).made }
-    ensures carries_out { (script : List (List Statement)) (ranks size : ℕ) (doings : List Doing) → MayDoAll ranks (start_system script ranks size) doings
+    ensures carries_out { (script : Script) (ranks size : ℕ) (doings : List Doing) → MayDoAll ranks (start_system script ranks size) doings
         → (p : ℕ) → CarriesOut (node_tells ((does_all (start_system script ranks size) doings).world.each p).node) (bound_at_start ranks) (statements_of script p) ((does_all (start_system script ranks size) doings).ranks p) }
-    ensures relays { (script : List (List Statement)) (ranks size : ℕ) (doings : List Doing) → MayDoAll ranks (start_system script ranks size) doings
+    ensures relays { (script : Script) (ranks size : ℕ) (doings : List Doing) → MayDoAll ranks (start_system script ranks size) doings
         → (p : ℕ) → ranks ≤ p → ((does_all (start_system script ranks size) doings).world.each p).made ≡ [] }
-    ensures sound { (script : List (List Statement)) (ranks size : ℕ) (doings : List Doing) → MayDoAll ranks (start_system script ranks size) doings
+    ensures sound { (script : Script) (ranks size : ℕ) (doings : List Doing) → MayDoAll ranks (start_system script ranks size) doings
         → Sound (does_all (start_system script ranks size) doings).world }
-    ensures happenings { (script : List (List Statement)) (ranks size : ℕ) (doings : List Doing) → MayDoAll ranks (start_system script ranks size) doings
+    ensures happenings { (script : Script) (ranks size : ℕ) (doings : List Doing) → MayDoAll ranks (start_system script ranks size) doings
         → IsOfHappenings ranks size (does_all (start_system script ranks size) doings).world }
 {}

@@ -16,9 +16,10 @@ use Rattle.mpx_shared.specs.Laws.{IsPlannedResult}
 use Rattle.mpx_shared.specs.Tickets.{Answers, TellsBirth}
 use Rattle.mpx_shared.proofs.Docked.{docked_birth, docked_result}
 use Rattle.mpx_shared.proofs.Plans as P
-use Rattle.mpx_threads.specs.declared.told.Answered.{Answered}
+use Rattle.mpx_rank.specs.Answered.{answer_of}
+use Rattle.mpx_rank.specs.declared.answered.Answered.{Answered}
 use Rattle.mpx_threads.specs.Plans.{planned_results}
-use Rattle.mpx_threads.specs.Told.{answer_of, planned_birth}
+use Rattle.mpx_threads.specs.Told.{planned_birth}
 
 module _ (table : TableId) (setup : Setup) (me : ℕ) (planned : setup.planned ≡ true) where
   -- a result is the plan's

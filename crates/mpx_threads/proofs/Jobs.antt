@@ -1,6 +1,6 @@
 -- The processes of a run before they work, and when they have.
 use Rattle.std.proofs.Common.{◌≡◌, ℕ, zero, suc, ◌+◌, ◌<◌, List, [], ◌∷◌, ◌++◌, length, map, Option, Some, None, refl, sym, ap, ◌∙◌, subst, arith, length-append}
-use Rattle.std.specs.Prelude.{slice_get, slice_index_or, Result, Ok, Err, IfOk}
+use Rattle.std.specs.Prelude.{slice_get, slice_index_or, Result, Ok, IfOk}
 use Rattle.std.proofs.lemmas.List.{length-map}
 use Rattle.std.specs.Option.{option_map}
 use Rattle.std.proofs.lemmas.Option.{same_Some, slice_get-map}
@@ -9,7 +9,6 @@ use Rattle.atomic_table.specs.Seated.{TableId}
 use Rattle.mpx_world.proofs.Lists.{slice_get-push_cases}
 use Rattle.mpx_bus.specs.declared.act.Setup.{Setup}
 use Rattle.mpx_bus.specs.Berths.{Berth, IsFleet, IsNew}
-use Rattle.mpx_shared.specs.Docks.{IsDocked, made_in}
 use Rattle.mpx_shared.proofs.Docked.{new_docked, new_none}
 use Rattle.mpx_script.specs.ScriptView.{ScriptView}
 use Rattle.mpx_threads.specs.declared.worker.Job.{Job}
@@ -19,11 +18,7 @@ use Rattle.mpx_threads.specs.declared.gossip.GossipEnd.TheVariants.{GaveUp}
 use Rattle.mpx_threads.specs.Gates.{GivesUpAmong, GivesUpWithin}
 use Rattle.mpx_threads.specs.Plans.{Plans}
 use Rattle.mpx_threads.specs.Work.{AreGivenUpBy, AreJobs, AreReady, AreWorked, IsReady, IsWorked, gossip_at}
-
-within_get : {A : Type 0} (xs : List A) (k : ℕ) (x : A) → slice_get xs k ≡ Some x → k < length xs
-within_get [] k x e = cc e
-within_get (y ∷ xs) zero x e = omega arith
-within_get (y ∷ xs) (suc k) x e = let l = within_get xs k x e in omega (arith, l)
+use Rattle.mpx_threads.proofs.Tasks.{within_get}
 
 -- what is read there stands there
 pub read_at : {A : Type 0} (xs : List A) (i : ℕ) (x : A) → i < length xs → x ≡ slice_index_or xs i x → slice_get xs i ≡ Some x

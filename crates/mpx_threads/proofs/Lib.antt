@@ -6,4 +6,5 @@ pub mod Reporting
 pub mod Telling
 pub mod Posting
 pub mod Jobs
+pub mod Tasks
 pub mod Asking

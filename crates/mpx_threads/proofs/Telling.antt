@@ -15,7 +15,8 @@ use Rattle.mpx_evaluation.proofs.Fronts.{slice_get-parts}
 use Rattle.mpx_rank.specs.Places.{CommunicatorView, bound_as}
 use Rattle.mpx_threads.specs.declared.desk.Said.{Said}
 use Rattle.mpx_threads.specs.declared.told.ToldCall.{ToldCall}
-use Rattle.mpx_threads.specs.Told.{AllHeld, AreSo, Tells, answer_of, is_among, is_at, told_of}
+use Rattle.mpx_rank.specs.Answered.{answer_of}
+use Rattle.mpx_threads.specs.Told.{AllHeld, AreSo, Tells, is_among, is_at, told_of}
 
 -- one more is so
 pub so_more : (known : Results) (ts : List ToldCall) (t : ToldCall) → AreSo known ts → known t.name t.call ≡ Some (answer_of t.answered) → AreSo known (ts ++ t ∷ [])

@@ -11,7 +11,7 @@ use Rattle.mpx_post.specs.declared.draft.PostError.TheVariants.{OutOfMemory}
 use Rattle.mpx_value.specs.Histories.{Answer, Made, Results, birth_of}
 use Rattle.mpx_statement.specs.declared.statement.Posting.{Posting}
 use Rattle.mpx_statement.specs.Statements.{draft_of, gathers_of}
-use Rattle.mpx_evaluation.specs.Ranks.{attempt_in, bound_by, next_call, post_gathered}
+use Rattle.mpx_evaluation.specs.Ranks.{attempt_in, bound_by, next_call, post_gathered, post_on}
 use Rattle.mpx_evaluation.specs.Transcripts.{outcome_text}
 use Rattle.mpx_evaluation.specs.Evaluation.{IsPrefixOf}
 use Rattle.mpx_node.specs.Nodes.{NodeView, results_on}
@@ -19,15 +19,12 @@ use Rattle.mpx_bus.specs.declared.act.Setup.{Setup}
 use Rattle.mpx_bus.specs.Rule.{planned_posts}
 use Rattle.mpx_shared.specs.declared.ticket.Ticket.{Ticket}
 use Rattle.mpx_shared.specs.Docks.{plan_history}
-use Rattle.mpx_rank.specs.Carriers.{IsWithin, Terms, outcomes_of}
+use Rattle.mpx_rank.specs.Answered.{answer_of}
+use Rattle.mpx_rank.specs.Carriers.{IsWithin, Terms, outcomes_of, placed}
 use Rattle.mpx_rank.specs.Places.{CommunicatorView, attempt_by, bound_as}
 use Rattle.mpx_threads.specs.declared.desk.Said.{Said}
-use Rattle.mpx_threads.specs.declared.told.Answered.{Answered}
 use Rattle.mpx_threads.specs.declared.told.ToldCall.{ToldCall}
 use Rattle.mpx_threads.specs.Plans.{planned_results}
-
-abbrev pub answer_of : Answered → Answer
-answer_of a = record { outcome = a.outcome; born = a.born }
 
 -- each of these was answered so
 abbrev pub AreSo : Results → List ToldCall → Type 0
@@ -94,6 +91,22 @@ Tried made outcome (Err refusal) old new = (refusal ≡ OutOfMemory → ⊥) →
 -- the same of an outcome that is a function of how the context came to be
 abbrev pub ComesTo : Setup → Name → (BirthView → Result Made PostError) → List Made → Result (Option (Name × ℕ)) PostError → (old new : ℕ) → Type 0
 ComesTo setup name outcome made result old new = (birth : BirthView) → planned_birth setup name ≡ Some birth → Tried made (outcome birth) result old new
+
+-- after the first so many posts of the plan this outcome is told, or nothing was posted, now
+abbrev pub PostsAs : Setup → (me before : ℕ) → Name → (List Made → BirthView → Result Made PostError) → Result (Option Ticket) PostError → (old new : ℕ) → Type 0
+PostsAs setup me before name outcome result old new =
+    ComesTo setup name (outcome (first_posts setup me (before + old))) (first_posts setup me (before + old)) (placed place_of result) old new
+
+-- what a statement comes to after these posts: on a context that came to be so, on a gathering of these ranks below it, or on the
+-- one of these that it asks for
+abbrev pub on_context : (me : ℕ) → Posting → Name → List Made → BirthView → Result Made PostError
+on_context me posting name made birth = post_on me made (draft_of posting) name birth
+
+abbrev pub on_gathering : (me : ℕ) → Posting → (parent : Name) → (tag : ℤ) → (ranks : List ℤ) → List Made → BirthView → Result Made PostError
+on_gathering me posting parent tag ranks made birth = post_gathered me made (draft_of posting) parent (gathering birth me (length parent) tag ranks)
+
+abbrev pub on_either : (me : ℕ) → Posting → Name → List Made → BirthView → Result Made PostError
+on_either me posting name made birth = attempt_in me made (draft_of posting) (gathers_of posting) name birth
 
 -- more may be told, and nothing is posted
 abbrev pub HearsMore : DeskView → DeskView → Type 0

@@ -1,18 +1,17 @@
 -- How far a rank has come, and what its port holds of that.
-use Rattle.std.specs.Prelude.{◌≡◌, ℕ, ◌<◌, ◌≤◌, ◌+◌, Bool, false, Option, None, List, [], length, map, Some, slice_get, string_bytes}
-use Rattle.std.specs.Prelude.{String, Vec}
+use Rattle.std.specs.Prelude.{◌≡◌, ℕ, ◌<◌, ◌≤◌, ◌+◌, Bool, false, Option, None, List, [], length, map, Some, slice_get}
 use Rattle.atomic_table.specs.Seated.{TableId}
 use Rattle.mpx_name.specs.Name.{Name}
 use Rattle.mpx_value.specs.declared.outcomes.Outcome.{Outcome}
 use Rattle.mpx_bus.specs.declared.act.Setup.{Setup}
-use Rattle.mpx_bus.specs.Berths.{Berth, IsFleet, IsNew}
+use Rattle.mpx_bus.specs.Berths.{Berth}
 use Rattle.mpx_shared.specs.Docks.{IsDocked, made_in}
 use Rattle.mpx_script.specs.ScriptView.{ScriptView}
 use Rattle.mpx_evaluation.specs.Ranks.{Local, Told}
 use Rattle.mpx_evaluation.specs.Evaluation.{start}
 use Rattle.mpx_evaluation.specs.Going.{Goes}
 use Rattle.mpx_evaluation.specs.Reports.{is_left}
-use Rattle.mpx_evaluation.specs.Transcripts.{line_text}
+use Rattle.mpx_evaluation.specs.Transcripts.{as_text, line_text}
 use Rattle.mpx_rank.specs.Carriers.{outcomes_of}
 use Rattle.mpx_threads.specs.declared.told.ToldCall.{ToldCall}
 use Rattle.mpx_threads.specs.declared.worker.Worked.{Worked}
@@ -61,13 +60,21 @@ pub record AreReady (script : ScriptView) (relays : ℕ) (setup : Setup) (table 
   pub each : (i : ℕ) (j : Job) → slice_get jobs i ≡ Some j → (j.me ≡ i) × (IsReady script relays setup table j × (j.port.setup ≡ setup))
 
 abbrev pub lines_in : Worked → List (List ℕ)
-lines_in w = map string_bytes w.lines.items
+lines_in w = as_text w.lines
 
 -- a rank has worked so; a relay has posted nothing
 pub record IsWorked (script : ScriptView) (relays : ℕ) (setup : Setup) (table : TableId) (me : ℕ) (w : Worked) : Type 0 where
   pub docked : IsDocked table setup me w.port
   pub rank : me < script.ranks → HasWorked script relays setup me w.port (lines_in w) w.waits
   pub relay : script.ranks ≤ me → made_in w.port ≡ []
+
+-- where a process's gossip ended for the gate, that gives up at one of its first so many steps of some kind
+abbrev pub EndsSo : (ℕ → Step → ℕ → Type 0) → (process turns : ℕ) → GossipEnd → Type 0
+EndsSo gives_up process turns end = end ≡ GaveUp → GivesUpWithin gives_up process turns
+
+-- a ledger all of whose shares are one's own, which has seen nothing yet
+abbrev pub IsNewLedger : (all parts before amount : ℕ) → Type 0
+IsNewLedger all parts before amount = (all ≡ parts) × ((0 < parts) × ((before ≡ 0) × (amount ≡ 0)))
 
 -- all processes have worked so
 pub record AreWorked (script : ScriptView) (relays : ℕ) (setup : Setup) (table : TableId) (ws : List Worked) : Type 0 where

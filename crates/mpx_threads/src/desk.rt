@@ -1,17 +1,14 @@
 //! The desk of a rank in a thread: it carries the rank's posts over a port that the rank shares with its gossip.
-ghost use Rattle.std.specs.Prelude.{◌≡◌, ◌+◌, ◌<◌, ◌↔◌, [], IfOk, IfSome, IsTrue, OnOk, Some, true, length};
-ghost use Rattle.std.specs.Option.{option_copied, option_map};
-ghost use Rattle.mpx_post.specs.Gatherings.{gathering};
+ghost use Rattle.std.specs.Prelude.{◌≡◌, ◌+◌, ◌<◌, ◌↔◌, [], IfOk, IfSome, IsTrue, OnOk, Some, true};
 ghost use Rattle.mpx_value.specs.Histories.{answer_with, birth_of};
-ghost use Rattle.mpx_statement.specs.Statements.{draft_of, gathers_of};
-ghost use Rattle.mpx_evaluation.specs.Ranks.{attempt_in, post_gathered, post_on};
-ghost use Rattle.mpx_rank.specs.Carriers.{placed};
+ghost use Rattle.mpx_statement.specs.Statements.{draft_of};
+ghost use Rattle.mpx_rank.specs.Answered.{answer_of};
 ghost use Rattle.mpx_shared.specs.Docks.{IsNext, plan_history};
 ghost use Rattle.mpx_shared.specs.Laws.{IsPlannedResult};
 ghost use Rattle.mpx_threads.specs.Plans.{planned_results};
-ghost use Rattle.mpx_threads.specs.Told.{ComesTo, HearsMore, IsNextGathered, IsNextIn, Tells, answer_of, first_posts, place_of};
+ghost use Rattle.mpx_threads.specs.Told.{HearsMore, IsNextGathered, IsNextIn, PostsAs, Tells, on_context, on_either, on_gathering, place_of};
 
-use crate::told::{Answered, Told};
+use crate::told::Told;
 use crate::watch::Signal;
 use join_core::{Exact, OutOfMemory};
 use mpx_evaluation::line;
@@ -19,7 +16,7 @@ use mpx_group::Proc;
 use mpx_name::Name;
 use mpx_node::Finished;
 use mpx_post::{Birth, PostError};
-use mpx_rank::{Carrier, Heard};
+use mpx_rank::{Answered, Carrier, Heard};
 use mpx_shared::{Dock, Poster, SharedPort, Tested, Ticket};
 use mpx_statement::Posting;
 use mpx_value::Outcome;
@@ -246,7 +243,7 @@ fn attempt<L: Dock, R: Wait>(
     requires ledger { (L.all ≡ L.parts) × (0 < L.parts) }
     requires planned { L.setup.planned ≡ true }
     requires next { IsNextIn L.setup L.me (L.before + poster.old.share.amount) name.now posting.now }
-    ensures { ComesTo L.setup name.now (λ birth. attempt_in L.me (first_posts L.setup L.me (L.before + poster.old.share.amount)) (draft_of posting.now) (gathers_of posting.now) name.now birth) (first_posts L.setup L.me (L.before + poster.old.share.amount)) (placed place_of result) poster.old.share.amount poster.new.share.amount }
+    ensures { PostsAs L.setup L.me L.before name.now (on_either L.me posting.now name.now) result poster.old.share.amount poster.new.share.amount }
 {
     match posting {
         Posting::CreateGroup { tag, ranks, .. } => post_gathered(
@@ -278,7 +275,7 @@ fn post_on<L: Dock, R: Wait>(
     requires ledger { (L.all ≡ L.parts) × (0 < L.parts) }
     requires planned { L.setup.planned ≡ true }
     requires next { IsNext L.setup L.me (L.before + poster.old.share.amount) name.now (draft_of posting.now) }
-    ensures { ComesTo L.setup name.now (λ birth. post_on L.me (first_posts L.setup L.me (L.before + poster.old.share.amount)) (draft_of posting.now) name.now birth) (first_posts L.setup L.me (L.before + poster.old.share.amount)) (placed place_of result) poster.old.share.amount poster.new.share.amount }
+    ensures { PostsAs L.setup L.me L.before name.now (on_context L.me posting.now name.now) result poster.old.share.amount poster.new.share.amount }
 {
     let Ok(draft) = posting.draft(alloc) else {
         return Err(PostError::OutOfMemory);
@@ -308,7 +305,7 @@ fn gather_and_post<L: Dock, R: Wait>(
     requires ledger { (L.all ≡ L.parts) × (0 < L.parts) }
     requires planned { L.setup.planned ≡ true }
     requires next { IsNextGathered L.setup L.me (L.before + poster.old.share.amount) parent.now tag ranks.now (draft_of posting.now) }
-    ensures { ComesTo L.setup parent.now (λ birth. post_gathered L.me (first_posts L.setup L.me (L.before + poster.old.share.amount)) (draft_of posting.now) parent.now (gathering birth L.me (length parent.now) tag ranks.now)) (first_posts L.setup L.me (L.before + poster.old.share.amount)) (placed place_of result) poster.old.share.amount poster.new.share.amount }
+    ensures { PostsAs L.setup L.me L.before parent.now (on_gathering L.me posting.now parent.now tag ranks.now) result poster.old.share.amount poster.new.share.amount }
 {
     match port.open_gathering(rt, alloc, parent, tag, ranks) {
         Ok(name) => post_on(rt, alloc, port, poster, &name, posting),
@@ -335,7 +332,7 @@ fn post_gathered<L: Dock, R: Wait>(
     requires ledger { (L.all ≡ L.parts) × (0 < L.parts) }
     requires planned { L.setup.planned ≡ true }
     requires next { IsNextGathered L.setup L.me (L.before + poster.old.share.amount) parent.now tag.now ranks.now (draft_of posting.now) }
-    ensures { ComesTo L.setup parent.now (λ birth. post_gathered L.me (first_posts L.setup L.me (L.before + poster.old.share.amount)) (draft_of posting.now) parent.now (gathering birth L.me (length parent.now) tag.now ranks.now)) (first_posts L.setup L.me (L.before + poster.old.share.amount)) (placed place_of result) poster.old.share.amount poster.new.share.amount }
+    ensures { PostsAs L.setup L.me L.before parent.now (on_gathering L.me posting.now parent.now tag.now ranks.now) result poster.old.share.amount poster.new.share.amount }
 {
     gather_and_post(rt, alloc, port, poster, parent, *tag, ranks, posting)
 }

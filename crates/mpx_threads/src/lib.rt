@@ -1,16 +1,19 @@
 //! Running a script in threads of one program: each rank goes on in a thread of its own, beside the gossip of its process, over one
 //! queue of frames that all processes share. What each rank writes begins what it writes in the script's evaluation.
 //!
-//! In the order of reading: [`run_threads`], which answers a [`ThreadRun`]; its processes (`worker.rt`), each a rank
-//! beside its gossip (`gossip.rt`), or a relay; the rank's part (`carry.rt`), whose posts a `ThreadDesk` carries (`desk.rt`);
-//! and the [`Gate`], which may hold a process back or end the run.
+//! In the order of reading: [`run_threads`], which answers a [`ThreadRun`]; its threads (`at_once.rt`); its processes
+//! (`processes.rt`, `worker.rt`), each a rank beside its gossip (`gossip.rt`), or a relay; the rank's part (`carry.rt`), whose
+//! posts a `ThreadDesk` carries (`desk.rt`); and the [`Gate`], which may hold a process back or end the run.
 #![tactic(auto)]
 
+mod at_once;
 mod carry;
 mod desk;
 mod gate;
 mod gossip;
+mod processes;
 mod run;
+mod task;
 mod told;
 mod watch;
 mod worker;

@@ -1,29 +1,32 @@
 //! A run in threads: its bus, its processes, and what they come to.
-ghost use Rattle.std.specs.Prelude.{◌≡◌, ◌+◌, ◌++◌, ◌∷◌, ◌<◌, ◌≤◌, [], ℕ, cond, IfErr, IfOk, IsTrue, Ok, OnOk, Some, length, map, slice_get, string_bytes};
-ghost use Rattle.mpx_evaluation.specs.Evaluation.{State, IsEvaluation};
+ghost use Rattle.std.specs.Prelude.{◌≡◌, ◌+◌, ◌++◌, ◌∷◌, ◌<◌, ◌≤◌, [], ℕ, IfErr, IfOk, IsTrue, Ok, OnOk, Some, length, map, slice_get};
+ghost use Rattle.mpx_evaluation.specs.Evaluation.{State};
 ghost use Rattle.mpx_evaluation.specs.Reports.{transcripts_of, which};
-ghost use Rattle.mpx_system.specs.Runs.{AreWhole, Begin};
+ghost use Rattle.mpx_evaluation.specs.Transcripts.{as_text};
+ghost use Rattle.mpx_system.specs.Runs.{AreWhole, Begin, IsEvaluationOf};
 ghost use Rattle.mpx_bus.specs.Buses.{table_of};
 ghost use Rattle.mpx_bus.specs.declared.act.Setup.{Setup};
 ghost use Rattle.mpx_threads.specs.declared.worker.Worked.{Worked as WorkedView};
-ghost use Rattle.mpx_threads.specs.Gates.{GivesUpAmong, GivesUpWithin};
+ghost use Rattle.mpx_threads.specs.Gates.{GivesUpAmong};
 ghost use Rattle.mpx_threads.specs.Plans.{Plans};
 ghost use Rattle.mpx_threads.specs.Runs.{IsThreadRun};
-ghost use Rattle.mpx_threads.specs.Work.{AreGivenUpBy, AreJobs, AreReady, AreWorked, IsReady, IsWorked, gossip_at, lines_in, waits_at};
+ghost use Rattle.mpx_threads.specs.Work.{AreJobs, AreReady, gossip_at, lines_in, waits_at};
 
 use crate::gate::Gate;
-use crate::gossip::{Bench, GossipEnd};
+use crate::gossip::GossipEnd;
+use crate::processes::work_all;
 use crate::watch::Watch;
-use crate::worker::{Job, Worked, work};
+use crate::worker::{Job, Worked};
 use join_core::OutOfMemory;
 use mpx_bus::{Bus, Named, Port};
 use mpx_evaluation::Report;
 use mpx_job::Options;
+use mpx_rank::push_where;
 use mpx_script::Script;
 use std::alloc::Global;
 use std::marker::Brand;
 use std::sync::Wait;
-use std::thread::{Threads, map_vec};
+use std::thread::Threads;
 
 /// So many frames have room in the queue of a run.
 const ROOM: usize = 256;
@@ -42,7 +45,7 @@ pub struct ThreadRun {
 /// Why a run in threads came to nothing.
 #[derive(Clone, Copy, Debug, Drop, PartialEq, Eq)]
 pub enum ThreadsError {
-    /// Memory was wanting.
+    /// Memory was wanting, or a thread.
     OutOfMemory,
     /// A gate gave up.
     GateGaveUp,
@@ -61,12 +64,11 @@ impl From<OutOfMemory> for ThreadsError {
 /// Runs a script's ranks, and relays, in threads of this program, over one queue of frames: each rank has one that carries out its
 /// statements and one that gossips, each relay one that gossips. A turn of a gossip takes a frame out of the queue and puts one in; each
 /// process makes at most `options.turns` of them, and none once all ranks have ended. The gate is asked before each step. The seed and
-/// the loss aren't used. It may wait. Where the system refuses threads, their work is done one after the other, and the run ends early,
-/// with ranks that wait.
+/// the loss aren't used. It may wait.
 ///
 /// # Errors
-/// `OutOfMemory` where memory was wanting in some thread; `GateGaveUp` where the gate gave up at some process's own step. All threads
-/// have ended then.
+/// `OutOfMemory` where memory was wanting in some thread, or the system refused one; `GateGaveUp` where the gate gave up at some
+/// process's own step. All threads have ended then.
 pub fn run_threads<G: Gate + Sync, R: Threads + Wait + Sync>(
     rt: &R,
     alloc: Global,
@@ -77,8 +79,8 @@ pub fn run_threads<G: Gate + Sync, R: Threads + Wait + Sync>(
     requires { script.now.ranks + options.now.relays ≤ 64 }
     ensures gate { IfErr result (λ e. e ≡ ThreadsError.GateGaveUp → GivesUpAmong (G.gives_up gate.now) (script.now.ranks + options.now.relays) options.now.turns) }
     ensures run { IfOk result (λ run. IsThreadRun script.now options.now.relays (table_of run.bus) run.ports.items (transcripts_of run.report) run.report.waiting.items) }
-    ensures begins { IfOk result (λ run. (evaluation : State) → IsEvaluation script.now.statements script.now.ranks evaluation → Begin (transcripts_of run.report) evaluation) }
-    ensures whole { IfOk result (λ run. (evaluation : State) → IsEvaluation script.now.statements script.now.ranks evaluation → AreWhole (transcripts_of run.report) run.report.waiting.items evaluation) }
+    ensures begins { IfOk result (λ run. (evaluation : State) → IsEvaluationOf script.now evaluation → Begin (transcripts_of run.report) evaluation) }
+    ensures whole { IfOk result (λ run. (evaluation : State) → IsEvaluationOf script.now evaluation → AreWhole (transcripts_of run.report) run.report.waiting.items evaluation) }
 {
     let (bus, jobs) = planned_bus(alloc, script, options.relays)?;
     let watch = Watch::new();
@@ -137,54 +139,6 @@ fn jobs_of(alloc: Global, ports: Vec<Port>) -> Result<Vec<Job>, OutOfMemory>
     Ok(jobs)
 }
 
-// All processes work, in threads of their own where these can be had.
-fn work_all<G: Gate + Sync, R: Threads + Wait + Sync>(
-    rt: &R,
-    alloc: Global,
-    bus: &Bus,
-    gate: &G,
-    watch: &Watch,
-    script: &Script,
-    options: &Options,
-    jobs: Vec<Job>,
-) -> Result<Vec<Worked>, OutOfMemory>
-    requires ready { (setup : Setup) × AreReady script.now options.now.relays setup (table_of bus.now) jobs.items }
-    requires few { script.now.ranks + options.now.relays ≤ 64 }
-    ensures worked { IfOk result (λ worked. (setup : Setup) × AreWorked script.now options.now.relays setup (table_of bus.now) worked.items) }
-    ensures gate { IfOk result (λ worked. AreGivenUpBy (G.gives_up gate.now) options.now.turns worked.items) }
-{
-    let bench = Bench {
-        bus,
-        gate,
-        watch,
-        ranks: script.ranks(),
-        relays: options.relays,
-        turns: options.turns,
-    };
-    let bench = &bench;
-    let at_work = |job: Job| -> Result<Worked, OutOfMemory>
-        requires { IsReady script.now bench.now.relays job.port.setup (table_of bench.now.bus.now) job × ((bench.now.ranks ≡ script.now.ranks) × (bench.now.ranks + bench.now.relays ≤ 64)) }
-        ensures worked { IfOk result (λ worked. IsWorked script.entry.now bench.entry.now.relays job.port.setup (table_of bench.entry.now.bus.now) job.me worked) }
-        ensures gate { IfOk result (λ worked. worked.gossip ≡ GossipEnd.GaveUp → GivesUpWithin (G.gives_up bench.entry.now.gate.now) job.me bench.entry.now.turns) }
-    { work(rt, alloc, bench, script, job) };
-    let worked = map_vec(rt, jobs, &at_work)?;
-    all_worked(alloc, worked)
-}
-
-// All of them, where memory was wanting for none.
-fn all_worked(
-    alloc: Global,
-    worked: Vec<Result<Worked, OutOfMemory>>,
-) -> Result<Vec<Worked>, OutOfMemory>
-    ensures { IfOk result (λ all. map Ok all.items ≡ worked.items) }
-{
-    let mut all = Vec::new(alloc);
-    for one in worked {
-        all.push(one?)?;
-    }
-    Ok(all)
-}
-
 // Whether the gate gave up at a step of some process.
 fn has_given_up(worked: &[Worked]) -> bool
     ensures { IsTrue result → (p : ℕ) × (gossip_at (slice_get worked.now p) ≡ Some GossipEnd.GaveUp) }
@@ -210,23 +164,12 @@ fn waiting_of(alloc: Global, worked: &[Worked], ranks: u8) -> Result<Vec<u8>, Ou
     Ok(waiting)
 }
 
-// Adds the rank where the test holds.
-fn push_where(ranks: &mut Vec<u8>, rank: u8, test: bool) -> Result<(), OutOfMemory>
-    ensures { OnOk result (ranks.new.items ≡ ranks.old.items ++ cond test (rank ∷ []) []) }
-{
-    if !test {
-        return Ok(());
-    }
-    ranks.push(rank)?;
-    Ok(())
-}
-
 // The lines and the port of each process.
 fn parts_of(
     alloc: Global,
     worked: Vec<Worked>,
 ) -> Result<(Vec<Vec<String>>, Vec<Port>), OutOfMemory>
-    ensures lines { IfOk result (λ parts. map (λ lines. map string_bytes lines.items) parts.0.items ≡ map lines_in worked.items) }
+    ensures lines { IfOk result (λ parts. map as_text parts.0.items ≡ map lines_in worked.items) }
     ensures ports { IfOk result (λ parts. parts.1.items ≡ map (λ (w : WorkedView). w.port) worked.items) }
 {
     let mut transcripts = Vec::new(alloc);
@@ -243,7 +186,7 @@ fn push_parts(
     transcripts: &mut Vec<Vec<String>>,
     ports: &mut Vec<Port>,
 ) -> Result<(), OutOfMemory>
-    ensures lines { OnOk result (map (λ lines. map string_bytes lines.items) transcripts.new.items ≡ map (λ lines. map string_bytes lines.items) transcripts.old.items ++ lines_in worked ∷ []) }
+    ensures lines { OnOk result (map as_text transcripts.new.items ≡ map as_text transcripts.old.items ++ lines_in worked ∷ []) }
     ensures ports { OnOk result (ports.new.items ≡ ports.old.items ++ worked.port ∷ []) }
 {
     let Worked { port, lines, .. } = worked;

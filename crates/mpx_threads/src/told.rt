@@ -1,45 +1,17 @@
 //! What a rank was told of its calls.
-ghost use Rattle.std.specs.Prelude.{◌≡◌, ◌++◌, ◌∷◌, [], IfOk, IfNone, IfSome, OnOk, Some, true, false};
+ghost use Rattle.std.specs.Prelude.{◌≡◌, ◌++◌, ◌∷◌, [], IfNone, IfSome, OnOk, Some, true, false};
 ghost use Rattle.mpx_node.specs.Shown.{node_of};
-ghost use Rattle.mpx_evaluation.specs.Ranks.{bound_by};
-ghost use Rattle.mpx_rank.specs.Places.{bound_as};
+ghost use Rattle.mpx_rank.specs.Answered.{answer_of};
 ghost use Rattle.mpx_threads.specs.Plans.{planned_results};
-ghost use Rattle.mpx_threads.specs.Told.{AllHeld, answer_of, is_among};
+ghost use Rattle.mpx_threads.specs.Told.{AllHeld, is_among};
 
 use join_core::{Exact, OutOfMemory};
 use mpx_name::Name;
 use mpx_node::Node;
-use mpx_post::Birth;
+use mpx_rank::Answered;
 use mpx_shared::Dock;
-use mpx_value::Outcome;
 use std::alloc::Global;
 use std::marker::{Model, PhantomData};
-
-/// What came of a call, and how the communicator came to be that it gave.
-#[derive(Drop)]
-pub(crate) struct Answered {
-    pub(crate) outcome: Outcome,
-    pub(crate) born: Option<Birth>,
-}
-
-impl Answered {
-    /// The communicator that the call gave, where it gave one.
-    pub(crate) fn given(&self, alloc: Global) -> Result<Option<(Name, Birth)>, OutOfMemory>
-        ensures { IfOk result (λ given. bound_as given ≡ bound_by self.now.outcome self.now.born) }
-    {
-        match &self.outcome {
-            Outcome::NewComm { name, .. } => match &self.born {
-                Some(birth) => Ok(Some((name.copy(alloc)?, birth.copy(alloc)?))),
-                None => Ok(None),
-            },
-            Outcome::Nothing => Ok(None),
-            Outcome::Absent => Ok(None),
-            Outcome::Items(_) => Ok(None),
-            Outcome::Null => Ok(None),
-            Outcome::Fault(_) => Ok(None),
-        }
-    }
-}
 
 /// A call, and what came of it.
 #[derive(Drop)]

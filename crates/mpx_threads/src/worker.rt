@@ -4,11 +4,13 @@ ghost use Rattle.mpx_bus.specs.Buses.{table_of};
 ghost use Rattle.mpx_shared.specs.Docks.{IsDocked, made_in};
 ghost use Rattle.mpx_threads.specs.Gates.{GivesUpWithin};
 ghost use Rattle.mpx_threads.specs.Plans.{Plans};
-ghost use Rattle.mpx_threads.specs.Work.{HasCome, HasWorked, IsReady, IsWorked, lines_in};
+ghost use Rattle.mpx_threads.specs.Work.{EndsSo, HasCome, HasWorked, IsNewLedger, IsReady, IsWorked, lines_in};
 
+use crate::at_once::both;
 use crate::carry::{Carried, carry_out};
 use crate::gate::Gate;
 use crate::gossip::{Bench, GossipEnd, gossip};
+use crate::task::Task;
 use crate::told::Told;
 use crate::watch::Signal;
 use join_core::OutOfMemory;
@@ -20,7 +22,7 @@ use std::alloc::Global;
 use std::marker::Brand;
 use std::sync::Wait;
 use std::sync::ledger::Blank;
-use std::thread::{Threads, join};
+use std::thread::Threads;
 
 /// A process before it works: its number and its port.
 #[derive(Drop)]
@@ -60,8 +62,7 @@ pub(crate) fn work<G: Gate + Sync, R: Threads + Wait + Sync>(
     }
 }
 
-// A rank goes on with its statements in one thread, and gossips in the other. Where no second thread can be had it gossips first, so
-// that the rank then waits for nobody.
+// A rank goes on with its statements in one thread, and gossips in the other.
 fn work_as_rank<L: Dock + Send + Sync, G: Gate + Sync, R: Threads + Wait + Sync>(
     rt: &R,
     alloc: Global,
@@ -96,7 +97,7 @@ fn work_as_rank<L: Dock + Send + Sync, G: Gate + Sync, R: Threads + Wait + Sync>
     Ok(with_port(script, me, port, gossip, lines, waits, &told))
 }
 
-// Both at once.
+// Both at once; where the thread is refused, the run stops.
 fn carry_and_gossip<L: Dock + Send + Sync, G: Gate + Sync, R: Threads + Wait + Sync>(
     rt: &R,
     alloc: Global,
@@ -115,16 +116,97 @@ fn carry_and_gossip<L: Dock + Send + Sync, G: Gate + Sync, R: Threads + Wait + S
     ensures come { IfOk result (λ both. HasCome script.now L.setup me both.0.told both.0.poster.share.amount (map string_bytes both.0.lines.items) both.0.waits) }
     ensures gate { IfOk result (λ both. both.1 ≡ GossipEnd.GaveUp → GivesUpWithin (G.gives_up bench.now.gate.now) me bench.now.turns) }
 {
-    let carrying = move || -> Result<Carried<L>, OutOfMemory>
-        requires { (L.all ≡ L.parts) × ((0 < L.parts) × ((me ≡ L.me) × ((me < script.now.ranks) × ((L.before ≡ 0) × ((poster.share.amount ≡ 0) × Plans script.now bench.now.relays L.setup))))) }
-        ensures { IfOk result (λ carried. HasCome script.entry.now L.setup me carried.told carried.poster.share.amount (map string_bytes carried.lines.items) carried.waits) }
-    { carry(rt, alloc, bench, script, me, port, signal, poster) };
-    let gossiping = || -> Result<GossipEnd, OutOfMemory>
-        requires { table_of bench.now.bus.now ≡ L.table }
-        ensures { IfOk result (λ end. end ≡ GossipEnd.GaveUp → GivesUpWithin (G.gives_up bench.entry.now.gate.now) me bench.entry.now.turns) }
-    { gossip(rt, alloc, bench, me, port, signal) };
-    let (carried, gossiped) = join(rt, carrying, gossiping);
-    Ok((carried?, gossiped?))
+    let carrying = Carrying {
+        rt,
+        alloc,
+        bench,
+        script,
+        me,
+        port,
+        signal,
+        poster,
+    };
+    let gossiping = Gossiping {
+        rt,
+        alloc,
+        bench,
+        me,
+        port,
+        signal,
+    };
+    match both(rt, carrying, gossiping) {
+        Ok((carried, gossiped)) => Ok((carried?, gossiped?)),
+        Err(OutOfMemory) => {
+            bench.watch.stop();
+            Err(OutOfMemory)
+        }
+    }
+}
+
+// A rank's part.
+#[derive(Drop)]
+struct Carrying<'a, L: Dock, G, R> {
+    rt: &'a R,
+    alloc: Global,
+    bench: &'a Bench<'a, G>,
+    script: &'a Script,
+    me: Proc,
+    port: &'a SharedPort<L>,
+    signal: &'a Signal,
+    poster: Poster<L>,
+}
+
+impl<'a, L: Dock, G: Gate, R: Wait> Task for Carrying<'a, L, G, R> {
+    type Output = Result<Carried<L>, OutOfMemory>;
+
+    ghost can_run = { λ t. IsNewLedger L.all L.parts L.before t.poster.share.amount × ((t.me ≡ L.me) × ((t.me < t.script.now.ranks) × Plans t.script.now t.bench.now.relays L.setup)) };
+
+    ghost gives = { λ t r. IfOk r (λ carried. HasCome t.script.now L.setup t.me carried.told carried.poster.share.amount (map string_bytes carried.lines.items) carried.waits) };
+
+    fn run(self) -> Result<Carried<L>, OutOfMemory> {
+        let Carrying {
+            rt,
+            alloc,
+            bench,
+            script,
+            me,
+            port,
+            signal,
+            poster,
+        } = self;
+        carry(rt, alloc, bench, script, me, port, signal, poster)
+    }
+}
+
+// A process's gossip.
+#[derive(Drop)]
+struct Gossiping<'a, L: Dock, G, R> {
+    rt: &'a R,
+    alloc: Global,
+    bench: &'a Bench<'a, G>,
+    me: Proc,
+    port: &'a SharedPort<L>,
+    signal: &'a Signal,
+}
+
+impl<'a, L: Dock, G: Gate, R: Wait> Task for Gossiping<'a, L, G, R> {
+    type Output = Result<GossipEnd, OutOfMemory>;
+
+    ghost can_run = { λ t. table_of t.bench.now.bus.now ≡ L.table };
+
+    ghost gives = { λ t r. IfOk r (EndsSo (G.gives_up t.bench.now.gate.now) t.me t.bench.now.turns) };
+
+    fn run(self) -> Result<GossipEnd, OutOfMemory> {
+        let Gossiping {
+            rt,
+            alloc,
+            bench,
+            me,
+            port,
+            signal,
+        } = self;
+        gossip(rt, alloc, bench, me, port, signal)
+    }
 }
 
 // The rank's part: it says so when it ends, and stops the run where memory was wanting.

@@ -1,8 +1,9 @@
 -- The communicators that a call makes (MPI 4.1, sections 7.4.2 and 8.5.4).
 use Rattle.std.specs.Prelude.{◌≡◌, ℕ, ◌==◌, nat_eq, nat_lt, Bool, true, false, cond, List, [], ◌∷◌, map, length, filter, slice_get, slice_index_or, Option, Some, None}
-use Rattle.std.specs.List.{filter_map}
+use Rattle.std.specs.List.{All, filter_map}
 use Rattle.std.specs.Option.{option_eq}
 use Rattle.std.specs.Ordering.{int_cmp, is_lt}
+use Rattle.mpx_group.specs.Group.{has}
 use Rattle.mpx_name.specs.declared.steps.Step.TheVariants.{Child}
 use Rattle.mpx_name.specs.Name.{Name}
 use Rattle.mpx_kind.specs.declared.kinds.Family.{Family}
@@ -133,6 +134,14 @@ child birth row name call colour = of_colour colour (children birth row name cal
 -- their names below the context of the call, with their births
 abbrev pub named_children : Name → ℕ → List ChildView → List (Name × BirthView)
 named_children name call made = map (λ (x : ChildView). (Child call x.colour ∷ name, x.birth)) made
+
+-- each child is the one of its colour
+abbrev pub AreOfTheirColours : BirthView → RowView → Name → (call : ℕ) → Type 0
+AreOfTheirColours birth row name call = (place : ℕ) (x : ChildView) → slice_get (children birth row name call) place ≡ Some x → child birth row name call x.colour ≡ Some x.birth
+
+-- the child's members are members of the communicator
+abbrev pub IsWithin : BirthView → ChildView → Type 0
+IsWithin birth x = All (λ p. has birth.members p ≡ true) x.birth.members
 
 -- a communicator with this name and size, in which the process has this rank, is one of what the call makes
 pub record IsNewCommunicator (birth : BirthView) (row : RowView) (name : Name) (call process : ℕ) (new : Name) (size rank : ℕ) : Type 0 where

@@ -11,7 +11,7 @@ use Rattle.mpx_post.specs.Gatherings.{GatheringView}
 use Rattle.mpx_post.specs.Rows.{RowView, all_of}
 use Rattle.mpx_value.specs.declared.outcomes.Outcome.{Outcome}
 use Rattle.mpx_value.specs.declared.outcomes.Outcome.TheVariants.{Nothing, Absent, Items, NewComm, Null, Fault}
-use Rattle.mpx_value.specs.Children.{child}
+use Rattle.mpx_value.specs.Children.{IsNewCommunicator, child}
 use Rattle.mpx_value.specs.Values.{value}
 
 -- POSTS
@@ -74,6 +74,10 @@ whole_row h ranks name k = option_and_then (λ birth. row_of h name birth k) (bi
 -- what a row gives a member, by the member's rank
 abbrev pub value_for : BirthView → ℕ → RowView → Name → (call : ℕ) → Option Outcome
 value_for birth me row name call = option_and_then (λ rank. Some (value birth row name call rank)) (rank_in me birth.members)
+
+-- a new communicator that this gives the process is one that the call makes, with its size, and has the process at this rank
+abbrev pub GivesItsChildren : BirthView → ℕ → RowView → Name → (call : ℕ) → Type 0
+GivesItsChildren birth me row name call = (new : Name) (size rank : ℕ) → value_for birth me row name call ≡ Some (NewComm new size rank) → IsNewCommunicator birth row name call me new size rank
 
 -- what the whole rows of a context with this birth give a process
 abbrev pub outcomes_by : History → Name → BirthView → (me call : ℕ) → Option Outcome

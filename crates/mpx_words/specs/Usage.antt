@@ -22,10 +22,17 @@ run = record (new_shape (codes "run")) {
       ∷ [];
 }
 
+-- the program without its commands: it tells its version, and wants a command
+abbrev pub bare_usage : App
+bare_usage = record {
+  top = record (new_shape (codes "gossipmpi")) { has_version = true; arg_required_else_help = true; subcommand_required = true };
+  subs = [];
+}
+
 -- one of `run`, `eval` and `check` is wanted
 abbrev pub usage : App
 usage = record {
-  top = record (new_shape (codes "gossipmpi")) { is_leaf = false; has_version = true; arg_required_else_help = true; subcommand_required = true };
+  top = record (bare_usage.top) { is_leaf = false };
   subs = run ∷ new_shape (codes "eval") ∷ new_shape (codes "check") ∷ [];
 }
 

@@ -3,7 +3,7 @@ ghost use Rattle.std.specs.Prelude.{◌≡◌, [], ◌∷◌, IfOk, Some, codes,
 ghost use Rattle.clap.specs.Words.{app_of, new_rule, rule_of, shape_of};
 ghost use Rattle.clap.specs.declared.builder.command.Command.TheViews.{out-Command as fields_of};
 ghost use Rattle.clap.specs.Simple.{new_shape};
-ghost use Rattle.mpx_words.specs.Usage.{run, threads, usage};
+ghost use Rattle.mpx_words.specs.Usage.{bare_usage, run, threads, usage};
 
 use clap::{Arg, ArgAction, Command};
 use std::alloc::{AllocError, Global};
@@ -40,7 +40,7 @@ const CHECK: &str =
 
 // The program without its commands.
 fn bare_program<'a>(alloc: Global) -> Result<Command<'a>, AllocError>
-    ensures app { IfOk result (λ c. app_of c ≡ record { top = record (new_shape (codes "gossipmpi")) { has_version = true; arg_required_else_help = true; subcommand_required = true }; subs = [] }) }
+    ensures app { IfOk result (λ c. app_of c ≡ bare_usage) }
 {
     Command::new(alloc, "gossipmpi")
         .about("Run, evaluate or check a text script of MPI collectives for up to 64 ranks")

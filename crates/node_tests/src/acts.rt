@@ -1,5 +1,5 @@
 //! What processes of a world do, and what they are told.
-use crate::making::{On, WORLD, name_of, proc, sum_of};
+use crate::making::{On, WORLD, name_of, sum_of};
 use mpx_board::PruneError;
 use mpx_group::Proc;
 use mpx_name::Name;
@@ -8,7 +8,7 @@ use mpx_post::{Kind, PostError};
 use mpx_world::{Cut, Event, Names, Reply, World};
 use std::alloc::Global;
 use std::test::Fail;
-use test_drafts::{Drafted, draft, just};
+use test_drafts::{Drafted, draft, just, proc};
 
 // What a process does, on the context of all where it names none.
 #[derive(Clone, Copy)]

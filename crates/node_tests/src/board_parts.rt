@@ -1,12 +1,13 @@
 // Parts that say nothing, and the call past the last one, make no board.
 use crate::board_rows::{Step, board_of};
-use crate::making::{post_of, proc};
+use crate::making::post_of;
 use join_core::{Exact, Flat, Pair};
 use join_nest::{Keyed, Trunc};
 use mpx_board::{Board, Call, Entry, Parts};
 use mpx_name::Name;
 use std::alloc::Global;
 use std::test::Fail;
+use test_drafts::proc;
 
 // What one process posted.
 fn call_of(alloc: Global, told: bool) -> Result<Call, Fail> {

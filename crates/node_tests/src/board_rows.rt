@@ -1,5 +1,5 @@
 //! Rows of what is done to a board of the world and then seen of it.
-use crate::making::{post_of, proc};
+use crate::making::post_of;
 use join_core::Exact;
 use mpx_board::{AddPostError, Board, PruneError};
 use mpx_name::Name;
@@ -7,6 +7,7 @@ use mpx_post::Birth;
 use std::alloc::Global;
 use std::process::Abort;
 use std::test::Fail;
+use test_drafts::proc;
 
 #[derive(Clone, Copy)]
 pub enum Step {

@@ -1,7 +1,6 @@
 //! What the digest of a board says, what all processes acknowledge, and what deltas leave out.
 use crate::board_rows::{Step, board_of};
 use crate::long_boards::long_board;
-use crate::making::proc;
 use join_core::{Exact, OutOfMemory};
 use mpx_board::Board;
 use mpx_delta::{Digest, common, delta_for, digest_of};
@@ -12,7 +11,7 @@ use mpx_post::Kind;
 use std::alloc::Global;
 use std::process::Abort;
 use std::test::Fail;
-use test_drafts::{draft, just};
+use test_drafts::{draft, just, proc};
 
 // The number of process 0 on the context of all.
 fn number_of(alloc: Global, digest: &Digest) -> Option<u32> {

@@ -1,7 +1,7 @@
 //! Posts on a communicator that come before its birth.
 use crate::acts::{Act, Told};
 use crate::looks::{Look, is_seen};
-use crate::making::{On, WORLD, name_of, proc};
+use crate::making::{On, WORLD, name_of};
 use crate::rows::{Row, go_on};
 use join_core::Exact;
 use mpx_board::{Board, PruneError};
@@ -13,7 +13,7 @@ use mpx_world::World;
 use std::alloc::Global;
 use std::process::Abort;
 use std::test::Fail;
-use test_drafts::{draft, just};
+use test_drafts::{draft, just, proc};
 
 const CHILD: On = On::Below(1);
 

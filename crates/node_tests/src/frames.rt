@@ -3,13 +3,13 @@
 ghost use Rattle.std.specs.Prelude.{◌<◌};
 
 use crate::board_rows::{Step, board_of};
-use crate::making::proc;
 use mpx_board::Board;
 use mpx_name::Name;
 use mpx_wire::{EncodeError, WireError, decode, encode, frame_len};
 use std::alloc::Global;
 use std::process::Abort;
 use std::test::Fail;
+use test_drafts::proc;
 
 const EMPTY: [u8; 8] = [0x4d, 0x50, 0x58, 0x47, 1, 0, 0, 0];
 

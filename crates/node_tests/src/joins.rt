@@ -1,11 +1,12 @@
 //! Joins, deltas and cuts of boards.
 use crate::board_rows::{Step, board_of, go_on};
-use crate::making::{On, WORLD, name_of, post_of, proc};
+use crate::making::{On, WORLD, name_of, post_of};
 use join_core::{Exact, Join, OutOfMemory};
 use mpx_board::Board;
 use std::alloc::Global;
 use std::process::Abort;
 use std::test::Fail;
+use test_drafts::proc;
 
 // Posts of calls 3 and 6.
 const LATE: &[Step] = &[

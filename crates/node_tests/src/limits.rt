@@ -1,11 +1,11 @@
 // The limits of a post.
-use crate::making::{proc, sum_of};
+use crate::making::sum_of;
 use join_core::Exact;
 use mpx_group::Proc;
 use mpx_name::Name;
 use mpx_post::{At, Birth, Post, PostError};
 use std::alloc::Global;
-use test_drafts::check;
+use test_drafts::{check, proc};
 
 // What a world of two makes of a sum of these numbers, after so many calls.
 fn checked(alloc: Global, me: Proc, call: u32, nums: &[i128]) -> Result<Post, PostError> {

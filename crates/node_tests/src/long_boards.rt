@@ -1,7 +1,7 @@
 //! Boards at the limits of a frame, and beyond them, in parts.
 ghost use Rattle.std.specs.Prelude.{◌≤◌};
 
-use crate::making::{post_of, proc};
+use crate::making::post_of;
 use join_core::Exact;
 use mpx_board::Board;
 use mpx_delta::digest_of;
@@ -12,6 +12,7 @@ use mpx_wire::{EncodeError, decode, encode, frame_len};
 use std::alloc::Global;
 use std::process::Abort;
 use std::test::Fail;
+use test_drafts::proc;
 
 // A post with 4,096 items of 64 bits.
 fn long_post(alloc: Global) -> Result<Post, Fail> {

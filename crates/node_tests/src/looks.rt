@@ -1,5 +1,5 @@
 //! What is seen of a node.
-use crate::making::{On, name_of, proc, sum_of};
+use crate::making::{On, name_of, sum_of};
 use join_core::Exact;
 use mpx_encode::frame_len;
 use mpx_name::Name;
@@ -8,7 +8,7 @@ use mpx_post::PostError;
 use mpx_value::{Fault, FaultKind, Outcome};
 use std::alloc::Global;
 use std::test::Fail;
-use test_drafts::draft;
+use test_drafts::{draft, proc};
 
 // What is seen, on a context where it is of one.
 #[derive(Clone, Copy)]

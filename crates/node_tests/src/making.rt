@@ -1,11 +1,11 @@
 //! Contexts, drafts and posts that the tests use.
-use mpx_group::{Group, Proc};
+use mpx_group::Group;
 use mpx_name::Name;
 use mpx_num::Ty;
 use mpx_post::{Kind, Post};
 use std::alloc::Global;
 use std::test::Fail;
-use test_drafts::{Drafted, bare, just};
+use test_drafts::{Drafted, bare, just, proc};
 
 // A context.
 #[derive(Clone, Copy)]
@@ -21,14 +21,6 @@ pub enum On {
 }
 
 pub const WORLD: On = On::Below(0);
-
-// The process with this number, which is below 64.
-pub fn proc(number: u8) -> Proc {
-    if number < 64 {
-        return Proc::new(number);
-    }
-    Proc::new(0)
-}
 
 fn below(alloc: Global, depth: u8) -> Result<Name, Fail> {
     let mut name = Name::world(alloc);

@@ -2,7 +2,7 @@
 use crate::acts::{Act, Told};
 use crate::frames::FRAME;
 use crate::looks::Look;
-use crate::making::{WORLD, name_of, post_of, proc, sum_of};
+use crate::making::{WORLD, name_of, post_of, sum_of};
 use crate::rows::{Row, run};
 use join_core::{Exact, Join};
 use mpx_board::{Board, PruneError};
@@ -15,7 +15,7 @@ use mpx_wire::decode;
 use std::alloc::Global;
 use std::process::Abort;
 use std::test::Fail;
-use test_drafts::draft;
+use test_drafts::{draft, proc};
 
 // Three posts of the left one, and two of the right one. A relay takes both boards, and both take the relay's. What both
 // have harvested is dropped, once each knows of the other; results are kept.

@@ -3,12 +3,13 @@ ghost use Rattle.std.specs.Prelude.{◌<◌, ◌≤◌};
 
 use crate::acts::{Act, Told, reply, reply_of};
 use crate::looks::{Look, is_seen};
-use crate::making::{On, name_of, proc};
+use crate::making::{On, name_of};
 use join_core::Exact;
 use mpx_world::World;
 use std::alloc::Global;
 use std::process::Abort;
 use std::test::Fail;
+use test_drafts::proc;
 
 #[derive(Clone, Copy)]
 pub enum Row {

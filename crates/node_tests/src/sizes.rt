@@ -1,12 +1,13 @@
 //! A world of 64 processes, and a long list of events.
 use crate::acts::{Act, Told, event};
 use crate::looks::Look;
-use crate::making::{WORLD, proc};
+use crate::making::WORLD;
 use crate::rows::{Row, go_on};
 use mpx_world::{Event, Reply, World};
 use std::alloc::Global;
 use std::process::Abort;
 use std::test::Fail;
+use test_drafts::proc;
 
 // Process 0 sends its board, and the last process takes that. 0 + 1 + .. + 63 is 2016.
 const LAST: [Row; 4] = [

@@ -7,14 +7,13 @@ ghost use Rattle.shared_tests.specs.Fresh.{IsFresh};
 use mpx_bus::{Bus, Port};
 use mpx_group::Proc;
 use mpx_name::Name;
-use mpx_post::{Draft, Kind, PostError};
+use mpx_post::{Draft, PostError};
 use mpx_shared::{Dock, Poster, SharedPort, Ticket};
 use std::alloc::Global;
 use std::marker::Brand;
 use std::sync::Wait;
 use std::sync::ledger::Blank;
 use std::test::Fail;
-use test_drafts::{Drafted, draft, just};
 
 /// A shared port, and the right to post on it.
 #[derive(Drop)]
@@ -59,19 +58,6 @@ pub fn share<L: Dock>(alloc: Global, port: Port, me: u8, blank: Blank) -> Shared
 {
     let (port, poster) = SharedPort::<L>::new(alloc, port, Proc::new(me), blank);
     Shared { port, poster }
-}
-
-fn sum_of(items: &[i128]) -> Drafted<'_> {
-    Drafted {
-        items,
-        ..just(Kind::Allreduce)
-    }
-}
-
-/// The draft of a sum of all.
-pub fn a_sum(alloc: Global, number: i128) -> Result<Draft, Fail> {
-    let items = [number];
-    Ok(draft(alloc, &sum_of(&items))?)
 }
 
 /// Makes the port's next post on the world.

@@ -3,7 +3,7 @@ ghost use Rattle.std.specs.Prelude.{◌≡◌, ◌<◌, false, length};
 ghost use Rattle.mpx_bus.specs.Buses.{table_of};
 ghost use Rattle.mpx_shared.specs.Docks.{IsDocked, made_in};
 
-use crate::making::{Shared, a_sum, post, share, two_ports};
+use crate::making::{Shared, post, share, two_ports};
 use join_core::Exact;
 use mpx_bus::{Bus, Port};
 use mpx_node::Finished;
@@ -14,6 +14,7 @@ use std::marker::Brand;
 use std::sync::Wait;
 use std::sync::ledger::Blank;
 use std::test::Fail;
+use test_drafts::a_sum;
 
 // The sum, where there is one.
 fn sum_in(finished: &Finished) -> Option<i128> {

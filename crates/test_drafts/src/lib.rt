@@ -55,6 +55,14 @@ pub fn just(kind: Kind) -> Drafted<'static> {
     }
 }
 
+/// The sum over all ranks of these items of 32 bits.
+pub fn sum_of(items: &[i128]) -> Drafted<'_> {
+    Drafted {
+        items,
+        ..just(Kind::Allreduce)
+    }
+}
+
 fn numbers(alloc: Global, list: &[i128]) -> Result<Numbers, OutOfMemory> {
     Ok(Numbers::new(alloc, Vec::from_slice(alloc, list)?)?)
 }
@@ -108,6 +116,12 @@ pub fn draft(alloc: Global, drafted: &Drafted<'_>) -> Result<Draft, OutOfMemory>
         group: numbers(alloc, drafted.group)?,
         graph: graph_of(alloc, drafted.graph)?,
     })
+}
+
+/// The draft of a sum over all ranks, to which the rank gives this number.
+pub fn a_sum(alloc: Global, number: i128) -> Result<Draft, OutOfMemory> {
+    let items = [number];
+    draft(alloc, &sum_of(&items))
 }
 
 /// The post of this data, or why the process may not post it there.
@@ -174,4 +188,12 @@ pub fn says(draft: &Draft, drafted: &Drafted<'_>) -> bool {
 /// The communicator of these members, where there are 1 to 64 of them, none twice, and there is memory.
 pub fn birth(alloc: Global, members: Vec<Proc>) -> Option<Birth> {
     Birth::new(alloc, members, None).ok()?
+}
+
+/// The process with this number, which is below 64.
+pub fn proc(number: u8) -> Proc {
+    if number < 64 {
+        return Proc::new(number);
+    }
+    Proc::new(0)
 }

@@ -1,12 +1,12 @@
 //! Topologies and births of parts from outside: which are made, and each reason why others aren't.
-use crate::making::{blocks, in_world, proc, processes};
+use crate::making::{blocks, in_world, processes};
 use join_core::Exact;
 use mpx_birth::{Birth, Neighbour, Neighbours, Topology};
 use mpx_graph::{NeighbourCounts, counts};
 use mpx_post::{Kind, PostError};
 use std::alloc::{AllocError, Global};
 use std::test::Fail;
-use test_drafts::check;
+use test_drafts::{check, proc};
 
 // The neighbours of one rank, as ranks and weights.
 type Beside = (&'static [(u8, u32)], &'static [(u8, u32)]);

@@ -1,10 +1,10 @@
 //! Gatherings: their members in the order given, and two refusals that no script shows.
-use crate::making::{proc, processes};
+use crate::making::processes;
 use mpx_group::Proc;
 use mpx_post::{Birth, Gathering, PostError};
 use std::alloc::Global;
 use std::test::Fail;
-use test_drafts::birth;
+use test_drafts::{birth, proc};
 
 // The communicator of the processes 5, 2, 7 and 0.
 fn parent(alloc: Global) -> Option<Birth> {

@@ -2,15 +2,7 @@
 use mpx_group::Proc;
 use mpx_post::{At, Birth, Kind, Post, PostError};
 use std::alloc::{AllocError, Global};
-use test_drafts::{Drafted, check, just};
-
-// The process with this number, which is below 64.
-pub fn proc(number: u8) -> Proc {
-    if number < 64 {
-        return Proc::new(number);
-    }
-    Proc::new(0)
-}
+use test_drafts::{Drafted, check, just, proc};
 
 // The processes with these numbers.
 pub fn processes(alloc: Global, numbers: &[u8]) -> Result<Vec<Proc>, AllocError> {

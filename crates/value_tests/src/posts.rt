@@ -98,7 +98,7 @@ fn calls_that_make_communicators(rt: HostRuntime) {
 
 // Where call 0 stands of the gathering of process 1 alone below the name.
 fn gathered(alloc: Global, name: &Name) -> Result<At, Fail> {
-    let members = Group::new(vec![in alloc; crate::making::proc(1)]?)?;
+    let members = Group::new(vec![in alloc; test_drafts::proc(1)]?)?;
     Ok(At::on(&name.gathering(alloc, 9, &members)?, 0))
 }
 

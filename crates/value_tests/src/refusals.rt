@@ -1,10 +1,10 @@
 //! Refusals of drafts that no script shows: strangers, calls used up, and contexts of other calls.
-use crate::making::{blocks, in_world, on, post_at, proc, reduce, split};
+use crate::making::{blocks, in_world, on, post_at, reduce, split};
 use mpx_num::Ty;
 use mpx_post::{At, Birth, Draft, Kind, PostError};
 use std::alloc::Global;
 use std::process::Abort;
-use test_drafts::{Drafted, draft, just};
+use test_drafts::{Drafted, draft, just, proc};
 
 fn refusal(alloc: Global, number: u8, at: &At, drafted: &Drafted<'_>) -> Option<PostError> {
     match post_at(alloc, number, at, drafted) {

@@ -3,8 +3,8 @@ use Rattle.mpx_birth.proofs.laws.ends_meet.Goals as goal
 
 pub returns : goal.returns
 returns c = record {
-  sent = λ topology rank place promise l. sent_meets topology promise rank place l;
-  taken = λ topology rank place promise l. taken_meets topology promise rank place l;
+  sent = λ topology promise rank place l. sent_meets topology promise rank place l;
+  taken = λ topology promise rank place l. taken_meets topology promise rank place l;
   taken_once = taken_once;
   sent_once = sent_once;
 }

@@ -8,7 +8,8 @@ use Rattle.mpx_board.specs.Boards.{Context, nothing, join_contexts}
 use Rattle.mpx_board.specs.Parts.{EntryView}
 use Rattle.mpx_board.specs.Contexts.{context_of, or_nothing}
 use Rattle.mpx_board.specs.Tidy.{is_tidy_entry}
-use Rattle.mpx_board.proofs.Telling.{set_by_swap, told_by_name, swapped_entry_tidy, posts_dropped, dropped_tidy}
+use Rattle.mpx_board.proofs.Setting.{set_by_swap}
+use Rattle.mpx_board.proofs.Telling.{told_by_name, swapped_entry_tidy, posts_dropped, dropped_tidy}
 use Rattle.mpx_board.proofs.fact.drop_posts.Goals as goal
 
 pub returns-in-Some-clause-ok : goal.returns-in-Some-clause-ok

@@ -4,7 +4,8 @@ use Rattle.mpx_name.specs.Order.{name_total, name_exact}
 use Rattle.mpx_board.specs.Boards.{Context, join_contexts}
 use Rattle.mpx_board.specs.Contexts.{or_nothing}
 use Rattle.mpx_board.specs.Fact.{context_told}
-use Rattle.mpx_board.proofs.Telling.{set_by_put, set_by_swap, swap_undone, told_by_name, told_entries_tidy, swapped_neat_entry_tidy}
+use Rattle.mpx_board.proofs.Setting.{set_by_put, set_by_swap, swap_undone}
+use Rattle.mpx_board.proofs.Telling.{told_by_name, told_entries_tidy, swapped_neat_entry_tidy}
 use Rattle.mpx_board.proofs.fact.tell.Goals as goal
 
 pub returns-in_ok-entry-in-None-clause-ok : goal.returns-in_ok-entry-in-None-clause-ok

@@ -2,7 +2,7 @@
 use Rattle.std.proofs.Common.{rules, ◌≡◌, ◌∙◌, [], Option, Some, sym}
 use Rattle.std.specs.Prelude.{is_none}
 use Rattle.mpx_script.specs.declared.faults.ScriptFault.{ScriptFault}
-use Rattle.mpx_script.specs.Grammar.{counts_named}
+use Rattle.mpx_script.specs.Fields.{counts_named}
 use Rattle.mpx_script.specs.Sentences.{faulty_counts, read_at}
 use Rattle.mpx_script.proofs.Counts.{same_fault}
 use Rattle.mpx_script.proofs.calls.counts_in.Goals as goal

@@ -3,7 +3,7 @@ use Rattle.std.proofs.lemmas.Iterator.Consumers.{YieldsList-at, YieldsList-turn,
 use Rattle.std.proofs.lemmas.Iterator.Splits.{YieldsList-from_slice_split}
 use Rattle.std.proofs.lemmas.List.{map_push}
 use Rattle.mpx_post.specs.Rows.{all_of}
-use Rattle.mpx_script.specs.Grammar.{neighbour_named}
+use Rattle.mpx_script.specs.Graphs.{neighbour_named}
 use Rattle.mpx_statement.proofs.Entries.{all_of_none, all_of_push}
 use Rattle.mpx_script.proofs.Entries.{none_in, some_in}
 use Rattle.mpx_script.proofs.graphs.neighbours_in.Goals as goal

@@ -1,6 +1,6 @@
 use Rattle.std.proofs.Common.{◌≡◌, map, Some}
 use Rattle.mpx_post.specs.Rows.{all_of}
-use Rattle.mpx_script.specs.Grammar.{neighbour_named}
+use Rattle.mpx_script.specs.Graphs.{neighbour_named}
 use Rattle.mpx_script.proofs.graphs.neighbours_in.Given as goal
 
 abbrev pub invariant-loop-entry : goal.invariant-loop-entry

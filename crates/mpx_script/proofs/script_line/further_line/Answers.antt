@@ -2,7 +2,9 @@ use Rattle.std.proofs.Common.{◌≡◌, ◌≤◌, ◌<◌, ◌+◌, ◌-◌, �
 use Rattle.std.proofs.lemmas.Bool.Decides.{nat_tests}
 use Rattle.std.proofs.lemmas.Result.{IfOk-weaker, on_ok_weaker}
 use Rattle.std.specs.List.{range_with_len}
-use Rattle.mpx_script.specs.Grammar.{DirectiveSyntax, directive_in, is_meant, is_past, label_in, names_rank, ranks_meant, statement_in, statements_in}
+use Rattle.mpx_script.specs.Syntax.{DirectiveSyntax, directive_in, label_in, ranks_meant, statements_in}
+use Rattle.mpx_script.specs.Refusals.{is_past}
+use Rattle.mpx_script.specs.Meanings.{is_meant, names_rank, statement_in}
 use Rattle.mpx_script.specs.Naming.{names_bound, ranks_labelled}
 use Rattle.mpx_script.specs.Reading.{refusal, plain_context, statements_limit}
 use Rattle.mpx_script.specs.Words.{words}

@@ -1,10 +1,11 @@
-use Rattle.std.proofs.Common.{◌≡◌, map, string_bytes}
+use Rattle.std.proofs.Common.{◌≡◌, map}
+use Rattle.mpx_evaluation.specs.Transcripts.{as_text}
 use Rattle.mpx_threads.specs.declared.worker.Worked.{Worked}
 use Rattle.mpx_threads.specs.Work.{lines_in}
 use Rattle.mpx_threads.proofs.run.parts_of.Given as goal
 
 abbrev pub invariant-loop-one : goal.invariant-loop-one
 invariant-loop-one l = record {
-  lines : map (λ lines. map string_bytes lines.items) l.transcripts.items ≡ map lines_in l.yielded;
+  lines : map as_text l.transcripts.items ≡ map lines_in l.yielded;
   ports : l.ports.items ≡ map (λ (w : Worked). w.port) l.yielded;
 }

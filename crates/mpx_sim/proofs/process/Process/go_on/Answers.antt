@@ -1,7 +1,7 @@
 use Rattle.std.proofs.Common.{refl}
 use Rattle.mpx_node.specs.Shown.{node_of}
 use Rattle.mpx_rank.specs.Shown.{rank_of}
-use Rattle.mpx_system.proofs.Running.{moves_keeps, moves_then}
+use Rattle.mpx_system.proofs.Moving.{moves_keeps, moves_then}
 use Rattle.mpx_sim.specs.Shown.{call_of, process_of, process_with}
 use Rattle.mpx_sim.proofs.Carried.{goes_is}
 use Rattle.mpx_sim.proofs.Tried.{on_if_ok}

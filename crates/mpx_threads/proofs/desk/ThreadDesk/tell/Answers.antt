@@ -2,7 +2,8 @@ use Rattle.std.proofs.Common.{◌≡◌, ◌∷◌, ◌++◌, ◌∙◌, [], Som
 use Rattle.std.specs.Prelude.{IfSome}
 use Rattle.mpx_threads.specs.declared.told.ToldCall.{ToldCall}
 use Rattle.mpx_threads.specs.Plans.{planned_results}
-use Rattle.mpx_threads.specs.Told.{answer_of, told_of}
+use Rattle.mpx_rank.specs.Answered.{answer_of}
+use Rattle.mpx_threads.specs.Told.{told_of}
 use Rattle.mpx_threads.proofs.Telling.{at_same, told_last}
 use Rattle.mpx_threads.proofs.desk.ThreadDesk.tell.Goals as goal
 

@@ -1,6 +1,7 @@
 use Rattle.mpx_threads.specs.Plans.{planned_results}
 use Rattle.std.proofs.Common.{◌≡◌, Some, subst}
-use Rattle.mpx_threads.specs.Told.{answer_of, told_of}
+use Rattle.mpx_rank.specs.Answered.{answer_of}
+use Rattle.mpx_threads.specs.Told.{told_of}
 use Rattle.mpx_threads.proofs.Telling.{told_there}
 use Rattle.mpx_threads.proofs.desk.ThreadDesk.tell_again.Goals as goal
 

@@ -1,0 +1,70 @@
+// A process's steps at the queue, under its rule, and the list of what it did, which has none at first.
+ghost use Rattle.std.specs.Prelude.{◌≡◌, [], IfOk, IsTrue, is_ok, MatchOption, MatchResult};
+ghost use Rattle.crossbeam_queue.specs.Fifo.{Pops, Pushes};
+ghost use Rattle.crossbeam_queue.specs.Passes.{IsPassOf, IsSamePass, ruled_capacity, view};
+ghost use Rattle.mpx_format.specs.Decoding.{decoded};
+ghost use Rattle.mpx_bus.specs.Rule.{Sound, Stood};
+ghost use Rattle.mpx_bus.specs.Views.{after_pop, after_push, maker as first_view, maker_of, seat_of};
+
+use crate::frame::Frame;
+use crate::rule::{Aim, Named, Names, Place, Queue, Sends, Takes};
+use crate::trace::{Desk, Line};
+use std::alloc::{AllocError, Global};
+use std::sync::Wait;
+
+/// Pushes a frame, where the rule lets it, behind what the line shows. A frame that finds no room comes back.
+pub(crate) fn push_to<M: Aim, R: Wait>(
+    rt: &R,
+    queue: &Queue,
+    pass: &mut Place,
+    line: &Line,
+    frame: Frame,
+) -> Result<(), Frame>
+    requires queue { IsPassOf queue.now pass.old }
+    requires line { view line.now ≡ M.journal }
+    requires rule { Pushes Sound (ruled_capacity queue.now) pass.old.id (view pass.old) frame
+        (λ w. (w ≡ after_push M.journal frame (view pass.old)) × Stood (view pass.old).setup (seat_of (view pass.old)).me (seat_of w).journal) }
+    ensures queue { IsSamePass pass.old pass.new }
+    ensures rule { MatchResult result
+        (λ _. (view pass.new ≡ after_push (view line.now) frame (view pass.old)) × Stood (view pass.old).setup (seat_of (view pass.old)).me (seat_of (view pass.new)).journal)
+        (λ f. (f ≡ frame) × (view pass.new ≡ view pass.old)) }
+{
+    let _ = line;
+    queue.push_as::<Sends<M>, R>(rt, pass, frame)
+}
+
+/// Pops a frame behind what the line shows: it is read as a part.
+pub(crate) fn pop_to<M: Aim, R: Wait>(
+    rt: &R,
+    queue: &Queue,
+    pass: &mut Place,
+    line: &Line,
+) -> Option<Frame>
+    requires queue { IsPassOf queue.now pass.old }
+    requires line { view line.now ≡ M.journal }
+    requires rule { Pops Sound pass.old.id (view pass.old)
+        (λ x w. (w ≡ after_pop M.journal x (view pass.old)) × Stood (view pass.old).setup (seat_of (view pass.old)).me (seat_of w).journal × IsTrue (is_ok (decoded x))) }
+    ensures queue { IsSamePass pass.old pass.new }
+    ensures rule { MatchOption result (view pass.new ≡ view pass.old)
+        (λ x. (view pass.new ≡ after_pop (view line.now) x (view pass.old)) × Stood (view pass.old).setup (seat_of (view pass.old)).me (seat_of (view pass.new)).journal × IsTrue (is_ok (decoded x))) }
+{
+    let _ = line;
+    queue.pop_as::<Takes<M>, R>(rt, pass)
+}
+
+/// The maker learns what all agree on.
+pub(crate) fn name_all<N: Named>(queue: &Queue, maker: &mut Place)
+    requires queue { IsPassOf queue.now maker.old }
+    requires first { view maker.old ≡ first_view }
+    ensures queue { IsSamePass maker.old maker.new }
+    ensures named { view maker.new ≡ maker_of N.setup 0 }
+{
+    let _ = queue.another::<Names<N>>(maker);
+}
+
+/// A list of nothing done.
+pub(crate) fn opened_line(alloc: Global) -> Result<(Desk, Line), AllocError>
+    ensures { IfOk result (λ l. IsPassOf l.0 l.1 × (view l.1 ≡ [])) }
+{
+    Desk::ruled(alloc, 1)
+}

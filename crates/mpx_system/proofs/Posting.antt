@@ -1,0 +1,246 @@
+-- What a process's post comes to in a world, and what is so of that world then.
+use Rattle.std.proofs.Common.{◌≡◌, ℕ, ℤ, Bool, true, false, cond, ◌==◌, List, [], ◌∷◌, ◌++◌, length, Option, Some, None, refl, sym, ap, ◌∙◌, subst}
+use Rattle.std.specs.Prelude.{slice_get, is_some, IsTrue, Result, Ok, Err, option_and_then}
+use Rattle.std.specs.Option.{option_map}
+use Rattle.mpx_name.specs.Name.{Name}
+use Rattle.mpx_post.specs.Posts.{Given}
+use Rattle.mpx_post.specs.Births.{BirthView, of_members}
+use Rattle.mpx_post.specs.Drafts.{at, checked}
+use Rattle.mpx_post.specs.Gatherings.{GatheringView, gathering}
+use Rattle.mpx_post.specs.declared.draft.Draft.{Draft}
+use Rattle.mpx_post.specs.declared.draft.PostError.{PostError}
+use Rattle.mpx_post.specs.declared.draft.PostError.TheVariants.{NotMember}
+use Rattle.mpx_board.specs.Boards.{told}
+use Rattle.mpx_value.specs.Histories.{Answer, Made, answer_with, gathered, outcomes_by, Within, results_of, value_for}
+use Rattle.mpx_node.specs.declared.finished.Finished.{Finished}
+use Rattle.mpx_node.specs.Nodes.{NodeView, OpenedView, posted_by, posted_on, results_on, checked_by, checked_on, gathering_name, gathers_by, gathers_on, open_gathering_node}
+use Rattle.mpx_world.specs.Worlds.{ProcessView, WorldView, history, births, at_process, gathers, makes, opens_gathering, posts, Happening, Posts, Gathers, happens, MayHappen}
+use Rattle.mpx_world.specs.Worlds.{goes_on as goes_on_world}
+use Rattle.mpx_world.specs.Soundness.{IsValue}
+use Rattle.mpx_world.proofs.Lists.{same_number}
+use Rattle.mpx_world.proofs.Later.{Later, births_grow, later_happens, later_itself, later_then, made_happens}
+use Rattle.mpx_world.proofs.Truth.{told_agrees}
+use Rattle.mpx_world.proofs.Steps.{Holds, board_so, holds_happens, at_here}
+use Rattle.mpx_world.proofs.Opened.{AllIn, gathering_opened, in_happens}
+use Rattle.mpx_statement.specs.declared.statement.Posting.{Posting}
+use Rattle.mpx_statement.specs.Statements.{Gathers as Asked, draft_of, gathers_of}
+use Rattle.mpx_evaluation.specs.Ranks.{Bound, Communicator, NullCommunicator, attempt_in, attempt_on, communicator_of, made_on, next_call, post_gathered, post_on}
+use Rattle.std.proofs.lemmas.List.{append-nil}
+use Rattle.mpx_evaluation.proofs.Tells.{mapped_some}
+use Rattle.mpx_system.specs.Systems.{node_births, node_tells, posts_bound, posts_gathered, posts_in}
+use Rattle.mpx_system.specs.Running.{Tried, communicator_in, known_to, name_of, tried, tried_gathered, tried_in, tried_post}
+use Rattle.mpx_value.proofs.Histories.{same_answer, gathered_there}
+
+-- WORLDS
+
+-- boards tell the truth, and each process is in what it has opened
+pub record Upheld (w : WorldView) : Type 0 where
+  pub holds : Holds w
+  pub in_all : AllIn w
+
+pub upheld_happens : (w : WorldView) (h : Happening) → Upheld w → MayHappen w h → Upheld (happens w h)
+upheld_happens w h u m = record { holds = holds_happens w h u.holds m; in_all = in_happens w h u.holds m u.in_all }
+
+opened_checks : (o : Option OpenedView) (birth : BirthView) (me : ℕ) (name : Name) (draft : Draft) → IsTrue (is_some o) → checked_by o (Some birth) me name draft ≡ checked birth me (at name (posted_by o)) draft
+opened_checks None birth me name draft e = cc e
+opened_checks (Some o) birth me name draft e = refl
+
+opened_gathers : (o : Option OpenedView) (birth : BirthView) (me : ℕ) (name : Name) (tag : ℤ) (ranks : List ℤ) → IsTrue (is_some o) → gathers_by o (Some birth) me name tag ranks ≡ gathering birth me (length name) tag ranks
+opened_gathers None birth me name tag ranks e = cc e
+opened_gathers (Some o) birth me name tag ranks e = refl
+
+module _ (w : WorldView) (u : Upheld w) (p : ℕ) where
+  -- an opened context has its birth on the board
+  pub is_told : (name : Name) → IsTrue (is_some ((w.each p).node.opened name)) → (birth : BirthView) × (node_births (w.each p).node name ≡ Some birth) × (births w name ≡ Some birth)
+  is_told name t = by_opened ((w.each p).node.opened name) refl t where
+    by_opened : (o : Option OpenedView) → (w.each p).node.opened name ≡ o → IsTrue (is_some o) → (birth : BirthView) × (node_births (w.each p).node name ≡ Some birth) × (births w name ≡ Some birth)
+    by_opened None e is = cc is
+    by_opened (Some o) e is =
+        let i = u.in_all p name o e in
+        let t : node_births (w.each p).node name ≡ Some i.birth = ap (λ v. told v) i.born in
+        let so = (board_so w p (w.each p) (u.holds.processes p)).contexts_so name in
+        (i.birth, t, told_agrees ((w.each p).node.board.contexts name).birth (births w name) i.birth so.birth_so t)
+
+  birth_told : (name : Name) (birth : BirthView) → IsTrue (is_some ((w.each p).node.opened name)) → births w name ≡ Some birth → node_births (w.each p).node name ≡ Some birth
+  birth_told name birth t b = let x = is_told name t in x.1 ∙ sym x.2 ∙ b
+
+  -- the node checks a draft as its birth and its posts say
+  checks_so : (name : Name) (birth : BirthView) → IsTrue (is_some ((w.each p).node.opened name)) → births w name ≡ Some birth → (draft : Draft) → checked_on (w.each p).node name draft ≡ checked birth p (at name (next_call name (w.each p).made)) draft
+  checks_so name birth t b draft =
+      let node = (w.each p).node in
+      let g = u.holds.processes p in
+      (λ i. checked_by (node.opened name) (birth_told name birth t b i) (g.me_is i) name draft)
+      ∙ opened_checks (node.opened name) birth p name draft t
+      ∙ λ i. checked birth p (at name (g.counted name i)) draft
+
+  gathers_so : (name : Name) (birth : BirthView) → IsTrue (is_some ((w.each p).node.opened name)) → births w name ≡ Some birth → (tag : ℤ) (ranks : List ℤ) → gathers_on (w.each p).node name tag ranks ≡ gathering birth p (length name) tag ranks
+  gathers_so name birth t b tag ranks =
+      let node = (w.each p).node in
+      (λ i. gathers_by (node.opened name) (birth_told name birth t b i) ((u.holds.processes p).me_is i) name tag ranks)
+      ∙ opened_gathers (node.opened name) birth p name tag ranks t
+
+  -- a result tells what it tells by the births of the history
+  tells_so : (name : Name) (k : ℕ) (f : Finished) → slice_get (results_on (w.each p).node name) k ≡ Some f → answer_with (node_births (w.each p).node) f.outcome ≡ answer_with (births w) f.outcome
+  tells_so name k f held = same_answer (node_births (w.each p).node) (births w) f.outcome (λ new size rank is. let x = is_told new ((u.holds.processes p).opened_given name k f held new size rank is) in x.1 ∙ sym x.2)
+
+  -- the result behind an answer
+  pub tells_at : (name : Name) (k : ℕ) (answer : Answer) → node_tells (w.each p).node name k ≡ Some answer → (f : Finished) × (slice_get (results_on (w.each p).node name) k ≡ Some f) × (answer_with (births w) f.outcome ≡ answer)
+  tells_at name k answer e =
+      let found = mapped_some (λ (f : Finished). answer_with (node_births (w.each p).node) f.outcome) (slice_get (results_on (w.each p).node name) k) answer e in
+      (found.0, found.1, sym (tells_so name k found.0 found.1) ∙ found.2)
+
+-- who holds more tells more
+pub tells_on : (w new : WorldView) → Later w new → Upheld w → Upheld new → (q : ℕ) → Within (node_tells (w.each q).node) (node_tells (new.each q).node)
+tells_on w new later u v q name k answer e =
+    let found = tells_at w u q name k answer e in
+    let held = (later.kept q).results_kept name k found.0 found.1 in
+    ap (option_map (λ (f : Finished). answer_with (node_births (new.each q).node) f.outcome)) held
+    ∙ ap Some (tells_so new v q name k found.0 held
+    ∙ same_answer (births new) (births w) found.0.outcome (λ at size rank is. let x = is_told w u q at ((u.holds.processes q).opened_given name k found.0 found.1 at size rank is) in births_grow w new later at x.0 x.2 ∙ sym x.2)
+    ∙ found.2)
+
+-- a result is what the row of all posts gives
+pub value_known : (w : WorldView) (p : ℕ) (name : Name) (k : ℕ) (f : Finished) → IsValue w p name k f → results_of (history w) w.ranks p name k ≡ Some (answer_with (births w) f.outcome)
+value_known w p name k f v = ap (option_map (answer_with (births w)))
+    (ap (option_and_then (λ birth. outcomes_by (history w) name birth p k)) v.born
+    ∙ ap (option_and_then (λ row. value_for v.birth p row name k)) v.whole ∙ v.outcome)
+
+-- A NODE'S POSTS
+
+-- the world after a rank's move: what has happened in it, which made the posts that the rank added
+pub record Follows (p : ℕ) (old new : WorldView) (added : List Made) : Type 0 where
+  pub upheld : Upheld new
+  pub later : Later old new
+  pub here : (new.each p).made ≡ (old.each p).made ++ added
+  pub others : (q : ℕ) → (q == p) ≡ false → (new.each q).made ≡ (old.each q).made
+
+abbrev pub added_by : Result Made PostError → List Made
+added_by (Ok m) = m ∷ []
+added_by (Err refusal) = []
+
+-- the context and the number of the call
+abbrev pub answered : List Made → Result Made PostError → Result (Name × ℕ) PostError
+answered made (Ok m) = Ok (m.name, next_call m.name made)
+answered made (Err refusal) = Err refusal
+
+-- these happenings come of a statement, as what its node does shows
+pub record Driven (w : WorldView) (p : ℕ) (hs : List Happening) (o : Result Made PostError) (t : Tried) : Type 0 where
+  pub follows : Follows p w (goes_on_world w hs) (added_by o)
+  pub node : t.node ≡ ((goes_on_world w hs).each p).node
+  pub nodes : (q : ℕ) → (q ≡ p → ⊥) → ((goes_on_world w hs).each q).node ≡ (w.each q).node
+  pub parts : (goes_on_world w hs).parts ≡ w.parts
+  pub answer : t.answer ≡ answered (w.each p).made o
+
+pub not_same : (q p : ℕ) → (q ≡ p → ⊥) → (q == p) ≡ false
+not_same q p other = by_test (q == p) refl where
+  by_test : (b : Bool) → (q == p) ≡ b → b ≡ false
+  by_test true e = absurd (other (same_number q p e))
+  by_test false e = refl
+
+pub each_other : (w : WorldView) (p : ℕ) (f : ProcessView → ProcessView) (q : ℕ) → (q ≡ p → ⊥) → (at_process p f w).each q ≡ w.each q
+each_other w p f q other = ap (λ b. cond b (f (w.each q)) (w.each q)) (not_same q p other)
+
+-- nothing happens
+pub follows_itself : (w : WorldView) → Upheld w → (p : ℕ) → Follows p w w []
+follows_itself w u p = record { upheld = u; later = later_itself w; here = sym (append-nil (w.each p).made); others = λ q d. refl }
+
+driven_nothing : (w : WorldView) → Upheld w → (p : ℕ) (refusal : PostError) → Driven w p [] (Err refusal) (record { node = (w.each p).node; answer = Err refusal })
+driven_nothing w u p refusal = record { follows = follows_itself w u p; node = refl; nodes = λ q other. refl; parts = refl; answer = refl }
+
+module _ (w : WorldView) (u : Upheld w) (p : ℕ) (name : Name) where
+  made_by : (r : Result Given PostError) (v : ProcessView) → (makes name r v).made ≡ v.made ++ added_by (made_on name r)
+  made_by (Ok given) v = refl
+  made_by (Err refusal) v = sym (append-nil v.made)
+
+  tries_by : (r : Result Given PostError) (v : ProcessView) → (tried_post name r v.node).node ≡ (makes name r v).node
+  tries_by (Ok given) v = refl
+  tries_by (Err refusal) v = refl
+
+  answers_by : (r : Result Given PostError) (v : ProcessView) → posted_on v.node name ≡ next_call name v.made → (tried_post name r v.node).answer ≡ answered v.made (made_on name r)
+  answers_by (Ok given) v e = ap (λ k. let a : Result (Name × ℕ) PostError = Ok (name, k) in a) e
+  answers_by (Err refusal) v e = refl
+
+  driven_checked : (draft : Draft) → Driven w p (Posts p name draft ∷ []) (made_on name (checked_on (w.each p).node name draft)) (tried_post name (checked_on (w.each p).node name draft) (w.each p).node)
+  driven_checked draft =
+      let v = w.each p in
+      let r = checked_on v.node name draft in
+      record {
+        follows = record {
+          upheld = upheld_happens w (Posts p name draft) u tt;
+          later = later_happens w (Posts p name draft);
+          here = ap (λ (x : ProcessView). x.made) (at_here w p (posts name draft)) ∙ made_by r v;
+          others = λ q d. ap (λ b. (cond b (posts name draft (w.each q)) (w.each q)).made) d;
+        };
+        node = tries_by r v ∙ ap (λ (x : ProcessView). x.node) (sym (at_here w p (posts name draft)));
+        nodes = λ q other. ap (λ (x : ProcessView). x.node) (each_other w p (posts name draft) q other);
+        parts = refl;
+        answer = answers_by r v ((u.holds.processes p).counted name);
+      }
+
+  driven_post : (birth : BirthView) → IsTrue (is_some ((w.each p).node.opened name)) → births w name ≡ Some birth → (draft : Draft)
+      → Driven w p (Posts p name draft ∷ []) (post_on p (w.each p).made draft name birth) (tried_post name (checked_on (w.each p).node name draft) (w.each p).node)
+  driven_post birth t b draft = subst (λ x. Driven w p (Posts p name draft ∷ []) (made_on name x) (tried_post name (checked_on (w.each p).node name draft) (w.each p).node)) (checks_so w u p name birth t b draft) (driven_checked draft)
+
+-- A GATHERING, AND THE POST THERE
+
+module _ (w : WorldView) (u : Upheld w) (p : ℕ) (name : Name) where
+  gathers_node : (tag : ℤ) (ranks : List ℤ) (g : GatheringView) → gathers_on (w.each p).node name tag ranks ≡ Ok g → ((happens w (Gathers p name tag ranks)).each p).node ≡ open_gathering_node name g (w.each p).node
+  gathers_node tag ranks g e = ap (λ (x : ProcessView). x.node) (at_here w p (gathers name tag ranks)) ∙ ap (λ r. (opens_gathering name r (w.each p)).node) e
+
+  driven_gathering : (birth : BirthView) → IsTrue (is_some ((w.each p).node.opened name)) → births w name ≡ Some birth → (draft : Draft) (asked : Asked) (g : GatheringView) → gathering birth p (length name) asked.tag asked.ranks ≡ Ok g
+      → Driven w p (posts_gathered p draft name asked (Ok g)) (post_gathered p (w.each p).made draft name (Ok g)) (tried_gathered name draft (Ok g) (w.each p).node)
+  driven_gathering birth t b draft asked g e =
+      let h : Happening = Gathers p name asked.tag asked.ranks in
+      let new = happens w h in
+      let at_new = gathering_name name g in
+      let later = later_happens w h in
+      let accepted : gathers_on (w.each p).node name asked.tag asked.ranks ≡ Ok g = gathers_so w u p name birth t b asked.tag asked.ranks ∙ e in
+      let node_is : (new.each p).node ≡ open_gathering_node name g (w.each p).node = gathers_node asked.tag asked.ranks g accepted in
+      let made_is : (new.each p).made ≡ (w.each p).made = made_happens w h tt p in
+      let there : IsTrue (is_some ((new.each p).node.opened at_new)) = gathering_opened w p name asked.tag asked.ranks g accepted in
+      let born : births new at_new ≡ Some (of_members g.members) = ap (option_and_then (gathered g.members)) (births_grow w new later name birth b) ∙ gathered_there birth p (length name) asked.tag asked.ranks g e in
+      let d = driven_post new (upheld_happens w h u tt) p at_new (of_members g.members) there born draft in
+      let moved : Driven new p (Posts p at_new draft ∷ []) (post_on p (w.each p).made draft at_new (of_members g.members)) (tried_gathered name draft (Ok g) (w.each p).node)
+      = subst (λ (n : NodeView). Driven new p (Posts p at_new draft ∷ []) (post_on p (w.each p).made draft at_new (of_members g.members)) (tried_post at_new (checked_on n at_new draft) n)) node_is
+      (subst (λ ms. Driven new p (Posts p at_new draft ∷ []) (post_on p ms draft at_new (of_members g.members)) (tried_post at_new (checked_on (new.each p).node at_new draft) (new.each p).node)) made_is d) in
+      record {
+        follows = record {
+          upheld = moved.follows.upheld;
+          later = later_then w new (goes_on_world new (Posts p at_new draft ∷ [])) later moved.follows.later;
+          here = moved.follows.here ∙ ap (λ ms. ms ++ added_by (post_on p (w.each p).made draft at_new (of_members g.members))) made_is;
+          others = λ q d. moved.follows.others q d ∙ made_happens w h tt q;
+        };
+        node = moved.node;
+        nodes = λ q other. moved.nodes q other ∙ ap (λ (x : ProcessView). x.node) (each_other w p (gathers name asked.tag asked.ranks) q other);
+        parts = moved.parts;
+        answer = moved.answer ∙ ap (λ ms. answered ms (post_on p (w.each p).made draft at_new (of_members g.members))) made_is;
+      }
+
+  driven_gathers : (birth : BirthView) → IsTrue (is_some ((w.each p).node.opened name)) → births w name ≡ Some birth → (draft : Draft) (asked : Asked) (x : Result GatheringView PostError) → gathering birth p (length name) asked.tag asked.ranks ≡ x
+      → Driven w p (posts_gathered p draft name asked x) (post_gathered p (w.each p).made draft name x) (tried_gathered name draft x (w.each p).node)
+  driven_gathers birth t b draft asked (Ok g) e = driven_gathering birth t b draft asked g e
+  driven_gathers birth t b draft asked (Err refusal) e = driven_nothing w u p refusal
+
+  driven_in : (birth : BirthView) → IsTrue (is_some ((w.each p).node.opened name)) → births w name ≡ Some birth → (draft : Draft) (asked : Option Asked)
+      → Driven w p (posts_in p draft asked name birth) (attempt_in p (w.each p).made draft asked name birth) (tried_in draft asked name (w.each p).node)
+  driven_in birth t b draft None = driven_post w u p name birth t b draft
+  driven_in birth t b draft (Some asked) =
+      let x = gathering birth p (length name) asked.tag asked.ranks in
+      subst (λ y. Driven w p (posts_gathered p draft name asked x) (post_gathered p (w.each p).made draft name x) (tried_gathered name draft y (w.each p).node)) (sym (gathers_so w u p name birth t b asked.tag asked.ranks)) (driven_gathers birth t b draft asked x refl)
+
+-- a word's communicator is opened, and came to be as its binding says
+abbrev pub IsBoundSo : WorldView → (p : ℕ) → Option Bound → Type 0
+IsBoundSo w p bound = (name : Name) (birth : BirthView) → bound ≡ Some (Communicator name birth) → IsTrue (is_some ((w.each p).node.opened name)) × (births w name ≡ Some birth)
+
+-- a statement on what its word is bound to
+pub driven_bound : (w : WorldView) → Upheld w → (p : ℕ) (posting : Posting) (bound : Option Bound) → IsBoundSo w p bound
+    → Driven w p (posts_bound p posting bound) (attempt_on p (w.each p).made posting bound) (tried posting (option_map name_of bound) (w.each p).node)
+driven_bound w u p posting None h = driven_nothing w u p NotMember
+driven_bound w u p posting (Some NullCommunicator) h = driven_nothing w u p NotMember
+driven_bound w u p posting (Some (Communicator name birth)) h = let x = h name birth refl in driven_in w u p name birth x.0 x.1 (draft_of posting) (gathers_of posting)
+
+-- the communicator that a node knows is what the word is bound to
+pub known_bound : (w : WorldView) → Upheld w → (p : ℕ) (bound : Option Bound) → IsBoundSo w p bound → known_to (w.each p).node (communicator_in (option_map name_of bound)) ≡ communicator_of bound
+known_bound w u p None h = refl
+known_bound w u p (Some NullCommunicator) h = refl
+known_bound w u p (Some (Communicator name birth)) h = let x = h name birth refl in ap (option_map (λ (b : BirthView). (name, b))) (birth_told w u p name birth x.0 x.1)

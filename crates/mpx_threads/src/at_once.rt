@@ -1,0 +1,152 @@
+//! Tasks that are done at once, in threads that end before the call does. A thread that the system refuses is want of memory.
+ghost use Rattle.std.specs.Prelude.{◌≡◌, IfOk, length, map};
+ghost use Rattle.std.specs.Fork.{AcceptsJobs, GivesJobs};
+ghost use Rattle.mpx_threads.specs.declared.task.Calling.{Calling};
+ghost use Rattle.mpx_threads.specs.Tasks.{AllCan, AllGive, beside, tasks_of};
+
+use crate::task::{Calling, Task, TaskPromise};
+use crate::watch::Watch;
+use join_core::OutOfMemory;
+use std::alloc::Global;
+use std::snapshot::Snapshot;
+use std::sync::Wait;
+use std::thread::{PromisedHandle, Scope, Threads, scope, scope_env};
+
+/// Does the first task in a thread of its own, and the second in this one. Where that thread is refused neither is done.
+pub(crate) fn both<
+    R: Threads + Wait,
+    A: Send + Drop,
+    B: Drop,
+    T: Task<Output = A> + Send + Drop,
+    U: Task<Output = B> + Drop,
+>(rt: &R, first: T, second: U) -> Result<(A, B), OutOfMemory>
+    requires { T.can_run first × U.can_run second }
+    ensures first { IfOk result (λ r. T.gives first r.0) }
+    ensures second { IfOk result (λ r. U.gives second r.1) }
+{
+    scope(
+        scope_env(),
+        rt,
+        move |scope| -> Result<(A, B), OutOfMemory>
+            requires { T.can_run first × U.can_run second }
+            ensures { IfOk result (λ r. T.gives first r.0 × U.gives second r.1) }
+        {
+            let handle = start(scope, first)?;
+            let other = second.run();
+            Ok((handle.join(rt), other))
+        },
+    )
+}
+
+/// Calls f with each job, each time in a thread of its own, and gives the results in their order. Where a thread is refused, or memory
+/// is wanting, the others are told to stop.
+pub(crate) fn map_at_once<R: Threads + Wait, J: Send + Drop, X: Send + Drop, F: Fn(J) -> X + Sync>(
+    rt: &R,
+    alloc: Global,
+    watch: &Watch,
+    jobs: Vec<J>,
+    f: &F,
+) -> Result<Vec<X>, OutOfMemory>
+    requires { AcceptsJobs F.Fn f.now jobs.items }
+    ensures len { IfOk result (λ all. length all.items ≡ length jobs.items) }
+    ensures each { IfOk result (λ all. GivesJobs F.Fn f.now jobs.items all.items) }
+{
+    let calls = calls_of(alloc, f, jobs)?;
+    all_at_once(rt, alloc, watch, calls)
+}
+
+// A task for each job.
+fn calls_of<'a, J: Drop, F>(
+    alloc: Global,
+    f: &'a F,
+    jobs: Vec<J>,
+) -> Result<Vec<Calling<'a, F, J>>, OutOfMemory>
+    ensures { IfOk result (λ calls. map (λ (t : Calling F J). beside t.f.now t.job) calls.items ≡ map (beside f.now) jobs.items) }
+{
+    let mut calls = Vec::new(alloc);
+    for job in jobs {
+        calls.push(Calling { f, job })?;
+    }
+    Ok(calls)
+}
+
+// Does all tasks, each in a thread of its own.
+fn all_at_once<R: Threads + Wait, A: Send + Drop, T: Task<Output = A> + Send + Drop>(
+    rt: &R,
+    alloc: Global,
+    watch: &Watch,
+    tasks: Vec<T>,
+) -> Result<Vec<A>, OutOfMemory>
+    requires { AllCan T.can_run tasks.items }
+    ensures { IfOk result (λ all. AllGive T.gives tasks.items all.items) }
+{
+    scope(
+        scope_env(),
+        rt,
+        move |scope| -> Result<Vec<A>, OutOfMemory>
+            requires { AllCan T.can_run tasks.items }
+            ensures { IfOk result (λ all. AllGive T.gives tasks.items all.items) }
+        {
+            let joined = match start_all(scope, alloc, tasks) {
+                Ok(handles) => join_all(rt, alloc, handles),
+                Err(OutOfMemory) => Err(OutOfMemory),
+            };
+            if joined.is_err() {
+                watch.stop();
+            }
+            joined
+        },
+    )
+}
+
+// A thread for the task.
+fn start<'s, E, A: Send + Drop + 's, T: Task<Output = A> + Send + Drop + 's>(
+    scope: &Scope<'s, E>,
+    task: T,
+) -> Result<PromisedHandle<A, TaskPromise<T>>, OutOfMemory>
+    requires { T.can_run task }
+    ensures { IfOk result (λ handle. handle.promise.task.value ≡ task) }
+{
+    let promise = TaskPromise {
+        task: Snapshot::of(&task),
+    };
+    let running = move || -> A
+        requires { T.can_run task }
+        ensures { T.gives task result }
+    { task.run() };
+    match scope.spawn_with(promise, running) {
+        Ok(handle) => Ok(handle),
+        Err(_) => Err(OutOfMemory),
+    }
+}
+
+// A thread for each task.
+fn start_all<'s, E, A: Send + Drop + 's, T: Task<Output = A> + Send + Drop + 's>(
+    scope: &Scope<'s, E>,
+    alloc: Global,
+    tasks: Vec<T>,
+) -> Result<Vec<PromisedHandle<A, TaskPromise<T>>>, OutOfMemory>
+    requires { AllCan T.can_run tasks.items }
+    ensures { IfOk result (λ handles. tasks_of handles.items ≡ tasks.items) }
+{
+    let mut handles = Vec::new(alloc);
+    for task in tasks {
+        handles.push(start(scope, task)?)?;
+    }
+    Ok(handles)
+}
+
+// What each thread gave.
+fn join_all<R: Threads, A: Send + Drop, T: Task<Output = A>>(
+    rt: &R,
+    alloc: Global,
+    handles: Vec<PromisedHandle<A, TaskPromise<T>>>,
+) -> Result<Vec<A>, OutOfMemory>
+    ensures { IfOk result (λ all. AllGive T.gives (tasks_of handles.items) all.items) }
+{
+    let mut all = Vec::new(alloc);
+    for handle in handles {
+        all.push(handle.join(rt))?;
+    }
+    Ok(all)
+}
