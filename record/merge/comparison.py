@@ -1,0 +1,130 @@
+"""What this MPI gave, held against what the evaluation gives."""
+import collections, re, subprocess
+
+from .choice import leaves_range
+from .parts import Unreadable
+
+TOLD_RANKS = 8
+
+
+class Programs:
+    """The programs gossipmpi and waits; the second may be missing."""
+
+    def __init__(self, gossipmpi, waits):
+        self.gossipmpi, self.waits = gossipmpi, waits
+
+    def evaluate(self, script):
+        """Of each rank its lines, and which ranks wait."""
+        try: run = subprocess.run([self.gossipmpi, 'eval'], input=script.text, capture_output=True, text=True)
+        except OSError as error:
+            raise Unreadable('no program %s (%s): record/README.md says how it is built, and --gossipmpi names another' % (self.gossipmpi, error.strerror))
+        if run.returncode not in (0, 3):
+            raise Unreadable('gossipmpi eval refuses the merged script: status %d, %s' % (run.returncode, run.stderr.strip()[:300]))
+        lines = [[] for _ in script.ranks]
+        for line in run.stdout.splitlines():
+            place, _, rest = line.partition(': ')
+            lines[int(place)].append(rest)
+        waiting = {int(place) for place in run.stderr.split(':')[1].split()} if run.returncode == 3 else set()
+        return lines, waiting
+
+    def ask_waits(self, script):
+        """The lines of `waits`, or None where it isn't at hand."""
+        try: run = subprocess.run([self.waits], input=script.text, capture_output=True, text=True)
+        except (OSError, TypeError): return None
+        return run.stdout.splitlines() if run.returncode in (0, 3) else None
+
+
+class Comparison:
+    """`reports` has what is told of each call that differs: key, title, lines; `waiting` what `waits` says of each part that
+    waits, with its script; `compared` counts results."""
+
+    def __init__(self, record, calls, choice, programs):
+        self.record, self.calls, self.choice, self.programs = record, calls, choice, programs
+        self.reports = [(key, title, [self.part_line(part) for _, part in row[:TOLD_RANKS]]) for key, title, row in choice.reports]
+        self.compared, self.seen, self.told, self.waiting, self.waiting_ranks, self.has_waits = 0, set(), set(), {}, set(), True
+
+    def run(self, script):
+        lines, waiting = self.programs.evaluate(script)
+        self.waiting_ranks |= {script.ranks[place] for place in waiting}
+        complaints, differing = {}, collections.defaultdict(list)
+        if waiting or any(line.startswith(('refused', 'fault')) for told in lines for line in told):
+            complaints = self.take_waits(script, lines)
+        for place, expected in enumerate(script.expected): self.compare_rank(expected, lines[place], complaints, differing)
+        for key, line in complaints.items():
+            if line.startswith('fault') and not differing[key]: differing[key] = [(None, None, line)]
+        for key, rows in differing.items():
+            if rows: self.tell(key, rows)
+
+    def take_waits(self, script, lines):
+        """By key or, where a nonblocking call was refused, by part: what is said of it."""
+        told, complaints = self.programs.ask_waits(script), {}
+        if told is None:
+            self.has_waits = False
+            if any(line.startswith('refused') for rank in lines for line in rank) and self.calls.requests:
+                raise Unreadable('a call is refused, and which tells the program waits, which isn\'t at hand: record/README.md says how it is built, and --waits names another')
+            return {}
+        for line in told:
+            found = re.fullmatch(r'rank \d+ line (\d+): (.*)', line)
+            part = script.lines[int(found[1]) - 1] if found and int(found[1]) <= len(script.lines) else None
+            if part is None: continue
+            if found[2].startswith('refused'): complaints[part.rank, part.id] = found[2]
+            elif found[2].startswith('fault'): complaints[part.key] = found[2]
+            else: self.waiting.setdefault((part.rank, part.id), (script, part, found[2]))
+        return complaints
+
+    def compare_rank(self, expected, lines, complaints, differing):
+        lines, ordinals = iter(lines), collections.Counter()
+        for line_expected in expected:
+            part, call = line_expected.part, line_expected.call
+            if line_expected.how == 'refused' and (part.rank, part.id) not in complaints: continue
+            line = next(lines, None)
+            if line is None: return
+            ordinals[part.id] += 1
+            mark = part.rank, part.id, ordinals[part.id]
+            if mark in self.seen: continue                  # of a maker that an earlier script had, too
+            self.seen.add(mark)
+            if line == 'idle' and (call.rank, call.id) in complaints: continue      # its call was refused, which is told there
+            self.compare_line(line_expected, line, differing[call.key])
+
+    def compare_line(self, expected, line, rows):
+        given = expected.given
+        if given is None and not line.startswith(('fault', 'refused')): return
+        if line == 'refused NotMember':                     # what should have made its communicator is told already
+            self.choice.left[expected.call.name_of_kind() + ': its communicator is none by the standard'] += 1
+            return
+        if expected.how == 'refused': given = None
+        self.compared += 1
+        is_same = sorted(line.split()) == sorted(given.split()) if expected.how == 'any order' and given else line == given
+        if not is_same: rows.append((expected.call, given, line))
+
+    def part_line(self, part):
+        return '  rank %d, %s: %s' % (part.rank, self.record.place_of(part), part.text(most=TOLD_RANKS))
+
+    def tell(self, key, rows):
+        if key in self.told: return                         # a maker in an earlier script
+        self.told.add(key)
+        row, line = self.calls.rows[key], rows[0][2]
+        if line.startswith('fault'):
+            parts = [self.part_line(row[rank]) for rank in sorted(row)]
+            lines = parts[:TOLD_RANKS] + ['  .. and %d ranks more' % (len(parts) - TOLD_RANKS)] * (len(parts) > TOLD_RANKS)
+            self.reports.append((key, 'doesn\'t fit together: %s' % line, lines))
+            return
+        lines = []
+        for part, given, line in rows[:TOLD_RANKS]: lines += [self.part_line(part), '    ' + difference(given, line)]
+        if leaves_range(row): lines.append('    (past the range of a signed type, of which C and MPI say nothing; the proved value wraps)')
+        if len(rows) > TOLD_RANKS: lines.append('  .. and at %d ranks more' % (len(rows) - TOLD_RANKS))
+        self.reports.append((key, 'differs', lines))
+
+
+def difference(given, line):
+    def short(text):
+        words = text.split()
+        return text if len(words) <= 12 else ' '.join(words[:12]) + ' .. (%d numbers)' % len(words)
+    if given is None: return 'this MPI hadn\'t returned; by the standard: %s' % short(line)
+    here, there = given.split(), line.split()
+    text = 'this MPI gave %s, the standard gives %s' % (short(given), short(line))
+    if not len(here) == len(there) > 1: return text
+    places = [place for place in range(len(here)) if here[place] != there[place]]
+    if len(here) <= 12: return text + ' (%d of %d differ)' % (len(places), len(here))
+    first = places[0]
+    return 'number %d: this MPI gave %s, the standard gives %s; %d of %d numbers differ' % (first, here[first], there[first], len(places), len(here))

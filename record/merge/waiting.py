@@ -1,0 +1,81 @@
+"""Who waits for whom. Lines of `waits` where it has them; the rest from the record: calls left out, an endless test, a rank that ended."""
+import re
+
+from .parts import MESSAGES, WAITS
+
+
+def grouped(ranks):
+    """Ranks with their states; neighbours with one state together."""
+    groups = []
+    for rank, state in ranks:
+        if groups and groups[-1][1] == rank - 1 and groups[-1][2] == state: groups[-1][1] = rank
+        else: groups.append([rank, rank, state])
+    return ', '.join('%s (%s)' % (first if first == last else '%d to %d' % (first, last), state) for first, last, state in groups)
+
+
+class Waiting:
+    """`lines` of all ranks that neither finished nor go on."""
+
+    def __init__(self, record, calls, comparison):
+        self.record, self.calls = record, calls
+        self.open = [self.open_part(parts) for parts in record.parts]
+        proved = {}
+        for script, part, text in comparison.waiting.values(): proved.setdefault(part.rank, []).append((script, part, text))
+        self.lines = []
+        for rank in range(record.size):
+            if rank in proved: self.lines += [self.translate(*entry) for entry in proved[rank]]
+            elif not record.ended[rank]: self.lines += self.by_record(rank)
+            elif rank in comparison.waiting_ranks and record.ended[rank] == 'end':
+                self.lines.append('rank %d waits by the standard, where this MPI let it go on; the program waits tells in which call' % rank)
+
+    def open_part(self, parts):
+        """Where a rank is: its last part that has no result."""
+        for part in reversed(parts):
+            if part.result is None and part.tag != 'abort' and not (part.nonblocking and part.tag == 'call'): return part
+        return None
+
+    def translate(self, script, part, text):
+        """A line of `waits`, with places in the program for lines of the script, ranks of the world, and the record's number of the call."""
+        call = self.calls.requests.get((part.rank, part.request)) if part.kind == 'wait' else part
+        what, _, members = text.partition(': no post of ')
+        what = re.sub(r'of line (\d+)', lambda line: self.at(script, int(line[1])), what)
+        if call and call.key: what = re.sub(r'\bcall \d+', 'call %d' % call.key[1], what)
+        missing = []
+        for first, last, state, line in re.findall(r'(\d+)(?: to (\d+))? \((finished|line (\d+))\)', members):
+            for place in range(int(first), int(last or first) + 1):
+                rank = script.ranks[place]
+                missing.append((rank, self.at(script, int(line)) if line else self.state(rank)))
+        return 'rank %d waits at %s: %s: no post of %s' % (part.rank, self.record.place_of(part), what, grouped(missing) or members)
+
+    def at(self, script, line):
+        part = script.lines[line - 1] if 0 < line <= len(script.lines) else None
+        return 'at %s' % self.record.place_of(part) if part else 'line %d' % line
+
+    def state(self, rank):
+        part, parts = self.open[rank], self.record.parts[rank]
+        if self.record.ended[rank] == 'end': return 'in MPI_Finalize or past it'
+        if self.record.ended[rank] == 'abort': return 'called MPI_Abort at %s' % self.record.place_of(parts[-1])
+        if part: return 'in ' + self.described(part)
+        return 'in no recorded call' + (', the last was %s' % self.described(parts[-1]) if parts else '')
+
+    def described(self, part): return '%s at %s' % (part.text(most=4), self.record.place_of(part))
+
+    def by_record(self, rank):
+        lines = ['rank %d is %s' % (rank, self.state(rank))]
+        for call in self.asked(rank):
+            if not call.key: continue
+            name, missing = self.calls.name_of(call.key[0]), self.calls.missing(call.key)
+            start = '  %scall %d of %s: ' % ('' if call is self.open[rank] else self.described(call) + ', ', call.key[1], name)
+            lines.append(start + ('no post of ' + grouped([(other, self.state(other)) for other in missing]) if missing else 'all members came'))
+        return lines
+
+    def asked(self, rank):
+        """The calls for whose results it may wait."""
+        part, requests = self.open[rank], self.calls.requests
+        if part is None:                # it may ask again and again by MPI_Test
+            done = {other.request for other in self.record.parts[rank] if other.kind == 'wait'}
+            return [other for other in self.record.parts[rank] if other.nonblocking and other.tag == 'call' and other.name not in done]
+        if part.kind in MESSAGES: return []
+        if part.kind not in WAITS: return [part]
+        names = [part.request] if part.kind == 'wait' else part.words[1:]
+        return [requests[rank, name] for name in names if (rank, name) in requests]
