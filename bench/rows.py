@@ -5,7 +5,8 @@ Each examples/NAME.job with its NAME.out is to be a row of `run` and one of `eva
 tells what a row prints on both streams, and the status. A run with options that ends early prints a beginning of each rank's
 lines, and has status 3. Texts of usage, and calls with more than 64 processes, are known to the program alone, and so are
 words that are no call (`statements`, `reader 5 run`). Scripts that are made of pieces (`>*`) would take it minutes. The last line of all
-tells how many runs were made in threads too: the first of each script that ends well.
+tells how many runs were made in threads too, the first of each script that ends well, and how many after an evaluation that ends well
+before any run, where the script is no longer than 2,000 bytes.
 
 rows.py     prints what disagrees, and how many rows were held; exit status 1 if any disagrees. No gate runs it.
 """
@@ -47,7 +48,8 @@ def rows_asked(stdin):
 
 
 def rows_told(asked, stdout):
-    """What each row prints, on both streams, and its status; None where the rows don't follow one another."""
+    """What each row prints, on both streams, and its status; None where the rows don't follow one another. What a gate has counted
+    stands behind the status."""
     told, at, last = [], 0, None
     stdout = stdout[: stdout.rindex(b"\n", 0, -1) + 1]
     for line, *_ in asked:
@@ -66,6 +68,8 @@ def rows_told(asked, stdout):
             after = stdout.find(b"\n", end) + 1
             last = stdout[at:end].decode("latin-1"), int(stdout[end + 2:after])
             at = after
+            while stdout.startswith(b"process ", at):
+                at = stdout.find(b"\n", at) + 1
         told.append(last)
     return told if at == len(stdout) else None
 
@@ -80,15 +84,20 @@ def beginnings(text, whole):
     return all(of(lines, rank) == of(all_lines, rank)[:len(of(lines, rank))] for rank in ranks)
 
 
-def in_threads(asked, told):
-    """How many runs are made in threads too."""
-    count, is_done = 0, False
-    for (line, *_), (_, status) in zip(asked, told):
+def more_runs(asked, told):
+    """How many runs are made in threads too, and how many after an evaluation."""
+    threaded, simulated, is_threaded, is_run = 0, 0, False, False
+    for (line, script, _), (_, status) in zip(asked, told):
         words = line.split()
-        is_done = is_done and line.startswith(b">> ")
-        if not is_done and words[1:2] == [b"run"] and b"--threads" not in words and status == 0:
-            count, is_done = count + 1, True
-    return count
+        if not line.startswith(b">> "):
+            is_threaded = is_run = False
+        if status != 0:
+            continue
+        if words[1:2] == [b"run"] and b"--threads" not in words and not is_threaded:
+            threaded, is_threaded, is_run = threaded + 1, True, True
+        elif words[1:2] == [b"eval"] and not is_run and len(script) <= 2000:
+            simulated, is_run = simulated + 1, True
+    return threaded, simulated
 
 
 def is_held(words, script, told, opinions):
@@ -109,8 +118,9 @@ def main():
     asked = rows_asked(contents("crates", "job_rows", "stdin"))
     stdout = contents("crates", "job_rows", "stdout")
     told = rows_told(asked, stdout)
-    if told is not None and not stdout.endswith(b"\n%d runs were made in threads too\n" % in_threads(asked, told)):
-        print("%d runs are made in threads too" % in_threads(asked, told))
+    last = b"\n%d runs were made in threads too, and %d after an evaluation\n"
+    if told is not None and not stdout.endswith(last % more_runs(asked, told)):
+        print("%d runs are made in threads too, and %d after an evaluation" % more_runs(asked, told))
         return 1
     if told is None:
         print("the rows of stdout don't follow those of stdin")

@@ -1,17 +1,17 @@
 //! What a row asks for: a call of the program, with streams as they mostly are or with such as fail, or what no call shows.
+use crate::begins::begins;
+use crate::gates::{Both, Counting};
 use crate::lines::{number_of, word_at, words_of};
 use crate::statements::{last_statement, sizes, statements};
-use crate::streams::{Endless, Failing, Holding, Limited};
-use mpx_group::Proc;
+use crate::streams::{Failing, Holding, Limited};
 use mpx_program::{refuse, run_job, status_of, write_message};
-use mpx_run::{Command, Gate, Job, Options, Pass, Step, Unobserved, run_text, run_text_observed};
+use mpx_run::{Command, Gate, Job, Options, Unobserved, run_text, run_text_observed};
 use mpx_script::ReadScriptError;
 use mpx_words::not_text;
 use std::alloc::Global;
 use std::io::{self, Read, Write};
 use std::sync::Wait;
-use std::sync::atomic::{AtomicBool, Ordering};
-use std::thread::{Threads, yield_now};
+use std::thread::Threads;
 
 /// What the row of this line comes to, with its status.
 pub fn told<T: Threads + Wait + Sync>(
@@ -30,9 +30,13 @@ pub fn told<T: Threads + Wait + Sync>(
     } else if word == b"job".as_slice() {
         strange_job(rt, alloc, word_at(line, 2), script)
     } else if word == b"gate".as_slice() {
-        gated(rt, alloc, script, &Shut)
+        counted(rt, alloc, script, true)
+    } else if word == b"steps".as_slice() {
+        counted(rt, alloc, script, false)
     } else if word == b"both".as_slice() {
         both_asked(rt, alloc, script)
+    } else if word == b"begins".as_slice() {
+        begins(rt, alloc, line, script)
     } else if word == b"no-text".as_slice() {
         no_text(alloc)
     } else if word == b"memory".as_slice() {
@@ -140,14 +144,15 @@ fn from_failing<T: Threads + Wait + Sync>(
     ended(out, &said)
 }
 
-// `endless WORDS`: the reader gives zeros without end.
+// `endless WORDS`: the reader gives `#` without end.
 fn from_endless<T: Threads + Wait + Sync>(
     rt: &T,
     alloc: Global,
     line: &[u8],
 ) -> io::Result<Vec<u8>> {
+    let mut reader = io::repeat(b'#');
     let mut out = Vec::new(alloc);
-    let said = called(rt, alloc, line, 2, &mut Endless, &mut out)?;
+    let said = called(rt, alloc, line, 2, &mut reader, &mut out)?;
     ended(out, &said)
 }
 
@@ -253,91 +258,51 @@ fn strange_job<T: Threads + Wait + Sync>(
     Ok(out)
 }
 
-// A gate that gives up at the fifth push of a process.
-#[derive(Drop)]
-struct Shut;
-
-impl Gate for Shut {
-    ghost use Rattle.std.specs.Prelude.{◌≡◌};
-    ghost use Rattle.mpx_threads.specs.declared.gate.Step.TheVariants.{Push};
-
-    ghost gives_up = { λ _gate _process step nth. (step ≡ Push) × (nth ≡ 4) };
-
-    fn pass(&self, _process: Proc, step: Step, nth: u64) -> Pass {
-        if step == Step::Push && nth == 4 {
-            Pass::GiveUp
-        } else {
-            Pass::Go
-        }
-    }
-}
-
-// A gate that holds the first pops of ranks 0 and 1 until both were asked for: a run with both on one thread would never get on.
-#[derive(Drop)]
-struct Both {
-    first: AtomicBool,
-    second: AtomicBool,
-}
-
-impl Gate for Both {
-    ghost use Rattle.std.specs.Prelude.{◌≡◌};
-    ghost use Rattle.mpx_threads.specs.declared.gate.Step.TheVariants.{Pop};
-
-    ghost gives_up = { λ _gate _process step nth. (step ≡ Pop) × (nth ≡ 0) };
-
-    fn pass(&self, process: Proc, step: Step, nth: u64) -> Pass {
-        if step == Step::Push || nth != 0 {
-            return Pass::Go;
-        }
-        match process.number() {
-            0 => meets(&self.first, &self.second),
-            1 => meets(&self.second, &self.first),
-            _ => Pass::Go,
-        }
-    }
-}
-
-// One is asked for, and waits for the other: it gives up after a million looks.
-fn meets(own: &AtomicBool, other: &AtomicBool) -> Pass {
-    own.store(true, Ordering::SeqCst);
-    for _ in 0..1_000_000 {
-        if other.load(Ordering::SeqCst) {
-            return Pass::Go;
-        }
-        yield_now();
-    }
-    Pass::GiveUp
-}
-
 // `both`: a run in threads in which ranks 0 and 1 are held until both have asked for their first frame.
 fn both_asked<T: Threads + Wait + Sync>(
     rt: &T,
     alloc: Global,
     script: &[u8],
 ) -> io::Result<Vec<u8>> {
-    let both = Both {
-        first: AtomicBool::new(false),
-        second: AtomicBool::new(false),
-    };
-    let mut out = gated(rt, alloc, script, &both)?;
-    if !both.first.load(Ordering::SeqCst) || !both.second.load(Ordering::SeqCst) {
+    let both = Both::new();
+    let mut out = gated(rt, alloc, script, 0, &both)?;
+    if !both.were_asked() {
         writeln!(out, "not asked")?;
     }
     Ok(out)
 }
 
-// `gate`: a run in threads that this gate may end.
+// `gate`: a run of three ranks and two relays in threads, which a gate ends at the fifth push of rank 0; `steps`: the same with a gate
+// that lets all pass. Behind it stands of each process whether the gate was asked for each of its steps.
+fn counted<T: Threads + Wait + Sync>(
+    rt: &T,
+    alloc: Global,
+    script: &[u8],
+    gives_up: bool,
+) -> io::Result<Vec<u8>> {
+    let counting = Counting::new(alloc, 5, gives_up)?;
+    let mut out = gated(rt, alloc, script, 2, &counting)?;
+    counting.tell(TURNS, &mut out)?;
+    Ok(out)
+}
+
+// How many turns a process makes at most in a run that has a gate.
+const TURNS: u32 = 20_000;
+
+// A run in threads that this gate may end.
 fn gated<T: Threads + Wait + Sync, G: Gate + Sync>(
     rt: &T,
     alloc: Global,
     script: &[u8],
+    relays: u8,
     gate: &G,
 ) -> io::Result<Vec<u8>> {
     let job = Job {
         command: Command::Run,
         options: Options {
             threads: true,
-            relays: 0,
+            relays,
+            turns: TURNS,
             ..STRANGE
         },
     };

@@ -3,19 +3,21 @@
 //! ([`lines::of_pieces`]); a line `>> WORDS` asks for the script above once more. Behind each row's own line stand the text
 //! that is printed, what the standard error is told, and `= STATUS`, or `= as above`, where the script's row before came to the
 //! same. Words that are no call of the program, as `statements` or `reader 5 run`, are told in [`calls`]. Of each script the first run
-//! that ends well is made in threads too ([`threaded`]): where that comes to something else, this stands behind `in threads:`, and the
-//! last line of all tells how many were made so.
+//! that ends well is made in threads too, and where an evaluation ends well before any run, a run is made ([`more_runs`]): where
+//! that comes to something else, this stands behind `in another run:`. The last line of all tells how many were made so.
 #![tactic(auto)]
 
+mod begins;
 mod calls;
+mod gates;
 mod lines;
+mod more_runs;
 mod statements;
 mod streams;
-mod threaded;
 
 use crate::calls::told;
 use crate::lines::of_pieces;
-use crate::threaded::Threaded;
+use crate::more_runs::MoreRuns;
 use std::alloc::Global;
 use std::io;
 use std::io::{Read, Write};
@@ -23,83 +25,116 @@ use std::process::ExitCode;
 use std::sync::Wait;
 use std::thread::Threads;
 
-/// Adds a row's line, and what its call comes to, where that isn't `last`. Gives what it comes to.
-fn tell<T: Threads + Wait + Sync>(
-    rt: &T,
-    alloc: Global,
-    line: &[u8],
-    script: &mut Vec<u8>,
-    last: &[u8],
-    threaded: &mut Threaded,
-    text: &mut Vec<u8>,
-) -> io::Result<Vec<u8>> {
-    if line.starts_with(b">* ") {
-        *script = of_pieces(alloc, script)?;
-    }
-    let came = told(rt, alloc, line, script)?;
-    text.extend_from_slice(line)?;
-    text.push(b'\n')?;
-    if came.as_slice() == last {
-        text.extend_from_slice(b"= as above\n")?;
-    } else {
-        text.extend_from_slice(&came)?;
-    }
-    if let Some(again) = threaded.run_again(rt, alloc, line, script, &came)? {
-        text.extend_from_slice(b"in threads:\n")?;
-        text.extend_from_slice(&again)?;
-    }
-    Ok(came)
+/// The row that is read, its script, what the row before came to, and what was told of all rows.
+#[derive(Drop)]
+struct Rows {
+    call: Vec<u8>,
+    script: Vec<u8>,
+    is_first_line: bool,
+    last: Vec<u8>,
+    more: MoreRuns,
+    text: Vec<u8>,
 }
 
-/// What all rows come to, one after the other.
-fn all_told<T: Threads + Wait + Sync>(rt: &T, alloc: Global, rows: &[u8]) -> io::Result<Vec<u8>> {
-    let mut text = Vec::new(alloc);
-    let mut call = Vec::new(alloc);
-    let mut script = Vec::new(alloc);
-    let mut last = Vec::new(alloc);
-    let mut threaded = Threaded::new();
-    let mut is_first = true;
-    for line in rows.split(|byte| *byte == b'\n') {
-        let is_new = line.starts_with(b"> ") || line.starts_with(b">* ");
-        if is_new || line.starts_with(b">> ") {
-            if !call.is_empty() {
-                last = tell(
-                    rt,
-                    alloc,
-                    &call,
-                    &mut script,
-                    &last,
-                    &mut threaded,
-                    &mut text,
-                )?;
-            }
-            if is_new {
-                script.clear();
-                last.clear();
-                threaded.begin_script();
-            }
-            call.clear();
-            call.extend_from_slice(line)?;
-            is_first = true;
-        } else {
-            if !is_first {
-                script.push(b'\n')?;
-            }
-            script.extend_from_slice(line)?;
-            is_first = false;
+impl Rows {
+    /// None yet.
+    fn new(alloc: Global) -> Rows {
+        Rows {
+            call: Vec::new(alloc),
+            script: Vec::new(alloc),
+            is_first_line: true,
+            last: Vec::new(alloc),
+            more: MoreRuns::new(),
+            text: Vec::new(alloc),
         }
     }
-    tell(
-        rt,
-        alloc,
-        &call,
-        &mut script,
-        &last,
-        &mut threaded,
-        &mut text,
-    )?;
-    writeln!(text, "{} runs were made in threads too", threaded.count())?;
-    Ok(text)
+
+    /// A row begins with this line.
+    fn begin(&mut self, line: &[u8]) -> io::Result<()> {
+        if !line.starts_with(b">> ") {
+            self.script.clear();
+            self.last.clear();
+            self.more.begin_script();
+        }
+        self.call.clear();
+        self.call.extend_from_slice(line)?;
+        self.is_first_line = true;
+        Ok(())
+    }
+
+    /// The script has one more line.
+    fn add_line(&mut self, line: &[u8]) -> io::Result<()> {
+        if !self.is_first_line {
+            self.script.push(b'\n')?;
+        }
+        self.script.extend_from_slice(line)?;
+        self.is_first_line = false;
+        Ok(())
+    }
+
+    /// The row ends: adds its line, and what its call comes to, where that isn't what the row before came to.
+    fn end<T: Threads + Wait + Sync>(&mut self, rt: &T, alloc: Global) -> io::Result<()> {
+        if self.call.starts_with(b">* ") {
+            self.script = of_pieces(alloc, &self.script)?;
+        }
+        self.text.extend_from_slice(&self.call)?;
+        self.text.push(b'\n')?;
+        let came = told(rt, alloc, &self.call, &self.script)?;
+        if came == self.last {
+            self.text.extend_from_slice(b"= as above\n")?;
+        } else {
+            self.text.extend_from_slice(&came)?;
+        }
+        self.last = came;
+        self.run_more(rt, alloc)
+    }
+
+    // Adds what another run comes to, where that isn't the same.
+    fn run_more<T: Threads + Wait + Sync>(&mut self, rt: &T, alloc: Global) -> io::Result<()> {
+        let again = self
+            .more
+            .make(rt, alloc, &self.call, &self.script, &self.last)?;
+        if let Some(again) = again {
+            self.text.extend_from_slice(b"in another run:\n")?;
+            self.text.extend_from_slice(&again)?;
+        }
+        Ok(())
+    }
+
+    /// Does what the line asks for.
+    fn read_line<T: Threads + Wait + Sync>(
+        &mut self,
+        rt: &T,
+        alloc: Global,
+        line: &[u8],
+    ) -> io::Result<()> {
+        if !line.starts_with(b"> ") && !line.starts_with(b">* ") && !line.starts_with(b">> ") {
+            return self.add_line(line);
+        }
+        if !self.call.is_empty() {
+            self.end(rt, alloc)?;
+        }
+        self.begin(line)
+    }
+}
+
+/// Reads the rows, and tells what all of them come to, one after the other.
+fn read_all<T: Threads + Wait + Sync>(
+    rt: &T,
+    alloc: Global,
+    rows: &mut Rows,
+    text: &[u8],
+) -> io::Result<()> {
+    for line in text.split(|byte| *byte == b'\n') {
+        rows.read_line(rt, alloc, line)?;
+    }
+    rows.end(rt, alloc)?;
+    writeln!(
+        rows.text,
+        "{} runs were made in threads too, and {} after an evaluation",
+        rows.more.threaded(),
+        rows.more.simulated(),
+    )
 }
 
 fn print_rows<T: Threads + Wait + Sync, R: Read, W: Write>(
@@ -108,10 +143,11 @@ fn print_rows<T: Threads + Wait + Sync, R: Read, W: Write>(
     reader: &mut R,
     writer: &mut W,
 ) -> io::Result<()> {
-    let mut rows = Vec::new(alloc);
-    reader.read_to_end(&mut rows)?;
-    let text = all_told(rt, alloc, &rows)?;
-    writer.write_all(&text)?;
+    let mut text = Vec::new(alloc);
+    reader.read_to_end(&mut text)?;
+    let mut rows = Rows::new(alloc);
+    read_all(rt, alloc, &mut rows, &text)?;
+    writer.write_all(&rows.text)?;
     writer.flush()
 }
 

@@ -18,16 +18,6 @@ impl Read for Failing<'_> {
     }
 }
 
-/// Never ends.
-#[derive(Drop)]
-pub struct Endless;
-
-impl Read for Endless {
-    fn read(&mut self, buf: &mut [u8]) -> io::Result<usize> {
-        Ok(buf.len())
-    }
-}
-
 /// Takes so many bytes a call, up to so many in all, and then fails.
 #[derive(Drop)]
 pub struct Limited {

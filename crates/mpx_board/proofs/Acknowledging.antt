@@ -1,5 +1,5 @@
 -- What one process says that it has, joined to a board.
-use Rattle.std.proofs.Common.{arith, ◌≡◌, ℕ, zero, suc, ◌<◌, ◌==◌, ◌&&◌, max, Bool, true, false, not, cond, Option, Some, None, refl, sym, ap, ◌∙◌, subst}
+use Rattle.std.proofs.Common.{arith, ◌≡◌, ℕ, zero, suc, ◌<◌, ◌==◌, ◌&&◌, max, Bool, true, false, not, cond, Option, Some, None, is_some, refl, sym, ap, ◌∙◌, subst}
 use Rattle.std.specs.Prelude.{Result, Ok, Err, OnOk, OnErr}
 use Rattle.std.proofs.lemmas.Option.{same_Some}
 use Rattle.std.specs.declared.cmp.Ordering.{Ordering}
@@ -7,10 +7,15 @@ use Rattle.std.specs.Ordering.{eq_by_cmp, nat_cmp}
 use Rattle.std.specs.Cmp.{IsTotalOrder, unsigned_tied, nat_cmp_total}
 use Rattle.std.specs.FinMap.{empty as no_entry, get, get-empty, get-insert, get_tied, insert, nat_cmp-IsAntisymmetric}
 use Rattle.join_core.specs.Cases.{answer, yes, no, is_tied, both_true, first_true, second_true}
+use Rattle.join_nest.specs.Keyed.{replaced}
 use Rattle.join_nest.specs.Optional.{option_join}
 use Rattle.mpx_name.specs.Name.{Name, same_name}
 use Rattle.mpx_name.specs.Order.{name_cmp, name_total, name_exact}
-use Rattle.mpx_board.specs.Boards.{empty, join, only, own_acks, Acknowledged}
+use Rattle.mpx_board.specs.Boards.{IsBelow, Look, empty, join, only, own_acks, Acknowledged}
+use Rattle.mpx_board.specs.Raised.{Raises, Nothing, stored, view_of_raised}
+use Rattle.mpx_board.specs.declared.acks.Raised.{Raised}
+use Rattle.mpx_board.proofs.Facts.{join_is_least}
+use Rattle.mpx_board.proofs.Order.{same_look}
 use Rattle.mpx_board.specs.Parts.{OfNames, OfProcesses, AcksView, EntryView, PartsView, acks_joining}
 use Rattle.mpx_board.specs.Contexts.{or_zero, or_nothing, number_in, numbers_of, ack_in, look_of}
 use Rattle.mpx_board.specs.Tidy.{is_bare, is_tidy_numbers, are_tidy_numbers, is_tidy_acks, are_tidy_acks, are_tidy_entries, is_tidy_entry, is_tidy}
@@ -101,6 +106,14 @@ module _ (process : ℕ) (said : AcksView) where
     | no n ↦ rw (n, sym (unsigned_tied q process) ∙ n) (nothing_joined (get old q))
   ]
 
+  -- a row that is put in the old one's place
+  pub row_stored : (old new : OfProcesses AcksView) (before row : AcksView) → Some before ≡ get old process → row ≡ acks_joining.join before said → new ≡ replaced old process row → (q : ℕ) → get new q ≡ option_join acks_joining (get old q) (part q)
+  row_stored old new before row there is e = joined_by_put old new row (ap Some is ∙ ap (λ o. option_join acks_joining o (Some said)) there) (e ∙ ap (λ o. cond (is_some o) (insert old process row) old) (sym there))
+
+  -- a row where there was none, put in a copy
+  pub all_stored : (old copied new : OfProcesses AcksView) (row : AcksView) → None ≡ get old process → copied ≡ old → row ≡ said → new ≡ insert copied process row → (q : ℕ) → get new q ≡ option_join acks_joining (get old q) (part q)
+  all_stored old copied new row none copy is e = joined_by_put old new row (ap Some is ∙ ap (λ o. option_join acks_joining o (Some said)) none) (e ∙ ap (λ m. insert m process row) copy)
+
   module _ (a : PartsView) where
     -- no number says nothing
     pub look_unsaid : is_bare said ≡ true → look_of a ≡ join (look_of a) (own_acks process (numbers_of said))
@@ -147,3 +160,35 @@ look_replaced a b = refl
 
 pub replaced_tidy : (a b : PartsView) → is_tidy a ≡ true → is_tidy b ≡ true → is_tidy (a.0, b.1) ≡ true
 replaced_tidy a b s t = both_true (are_tidy_entries a.0) (are_tidy_acks b.1) (first_true (are_tidy_entries a.0) (are_tidy_acks a.1) s) (second_true (are_tidy_entries b.0) (are_tidy_acks b.1) t)
+
+-- MADE BEFORE IT IS STORED
+
+module _ (process : ℕ) (said : AcksView) (raised : Raised) (a : PartsView) (tidy : is_tidy a ≡ true) where
+  pub raises_nothing : view_of_raised raised ≡ Nothing → is_bare said ≡ true → Raises raised (look_of a) (join (look_of a) (own_acks process (numbers_of said)))
+  raises_nothing is bare =
+      let same : stored (view_of_raised raised) a.1 ≡ a.1 = ap (λ r. stored r a.1) is in
+      record { parts = a; tidy = tidy; made_of = refl; gives = ap (λ m. look_of (a.0, m)) same ∙ look_unsaid process said a bare; neat = ap (λ m. is_tidy (a.0, m)) same ∙ tidy; above = (join_is_least (look_of a) (own_acks process (numbers_of said))).left }
+
+  pub raises_more : ((q : ℕ) → get (stored (view_of_raised raised) a.1) q ≡ option_join acks_joining (get a.1 q) (part process said q)) → is_bare said ≡ false → are_tidy_numbers said ≡ true → Raises raised (look_of a) (join (look_of a) (own_acks process (numbers_of said)))
+  raises_more gets some neat = record {
+    parts = a;
+    tidy = tidy;
+    made_of = refl;
+    gives = look_said process said a (stored (view_of_raised raised) a.1) gets;
+    neat = said_tidy process said a (stored (view_of_raised raised) a.1) gets tidy some neat;
+    above = (join_is_least (look_of a) (own_acks process (numbers_of said))).left;
+  }
+
+module _ (raised : Raised) (a : PartsView) (tidy : is_tidy a ≡ true) (new : Look) (r : Raises raised (look_of a) new) where
+  -- the board that it was made of is this one
+  made_of_it : r.parts ≡ a
+  made_of_it = same_look r.parts a r.tidy tidy r.made_of
+
+  pub stored_gives : (parts : PartsView) → parts ≡ (a.0, stored (view_of_raised raised) a.1) → look_of parts ≡ new
+  stored_gives parts is = ap look_of is ∙ sym (ap (λ (p : PartsView). look_of (p.0, stored (view_of_raised raised) p.1)) made_of_it) ∙ r.gives
+
+  pub stored_tidy : (parts : PartsView) → parts ≡ (a.0, stored (view_of_raised raised) a.1) → is_tidy parts ≡ true
+  stored_tidy parts is = ap is_tidy is ∙ sym (ap (λ (p : PartsView). is_tidy (p.0, stored (view_of_raised raised) p.1)) made_of_it) ∙ r.neat
+
+  pub stored_above : (parts : PartsView) → parts ≡ (a.0, stored (view_of_raised raised) a.1) → IsBelow (look_of a) (look_of parts)
+  stored_above parts is = subst (IsBelow (look_of a)) (sym (stored_gives parts is)) r.above

@@ -8,7 +8,6 @@ use Rattle.join_core.specs.Laws.{Joining, JoinLaws, BetweenLaws, old_or_joined}
 use Rattle.join_core.proofs.Orders.{order_laws}
 use Rattle.join_core.specs.Max.{max_joining, max_laws}
 use Rattle.join_core.specs.Flat.{unknown, flat_joining}
-use Rattle.join_core.specs.Pair.{pair_between}
 use Rattle.join_core.specs.BetweenLaws.{old_or_joined-laws}
 use Rattle.join_core.specs.FlatLaws.{flat_laws}
 use Rattle.join_core.specs.Cases.{answer, yes, no, both_true, first_true, second_true}

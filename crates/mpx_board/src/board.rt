@@ -4,14 +4,15 @@ ghost use Rattle.std.specs.FinMap.{get, insert};
 ghost use Rattle.std.specs.Option.{option_copied, option_map};
 ghost use Rattle.join_core.specs.Flat.{known as knows};
 ghost use Rattle.mpx_board.specs.declared.errors.AddPostError.TheVariants as A;
-ghost use Rattle.mpx_board.specs.Boards.{IsBelow, IsBetween, empty, join, join_all, only, own_acks, floor_on, Born, Front, Held, Dropped, Acknowledged};
+ghost use Rattle.mpx_board.specs.Boards.{IsBelow, IsBetween, Look, empty, join, join_all, only, own_acks, floor_on, Born, Front, Held, Dropped, Acknowledged};
 ghost use Rattle.mpx_board.specs.Changes.{is_posted, pruned, cut_to};
 ghost use Rattle.mpx_board.specs.Contexts.{numbers_of};
 ghost use Rattle.mpx_post.specs.Drafts.{most_calls};
+ghost use Rattle.mpx_board.specs.Raised.{Raises};
 ghost use Rattle.mpx_board.specs.Tidy.{are_tidy_numbers, is_tidy};
 ghost use Rattle.mpx_board.specs.Views.{view_of_acks, view_of_entries, view_of_entry, view_of_parts};
 
-use crate::acks::{one_ack, put_joined};
+use crate::acks::{Raised, one_ack, raised_by};
 use crate::copies::copied_acks;
 use crate::errors::{AddPostError, PruneError};
 use crate::fact::{Fact, drop_posts, tell};
@@ -262,10 +263,37 @@ impl Board {
         ensures ok { OnOk result (look self.new ≡ join (look self.old) (own_acks process (numbers_of (view_of_acks said.now)))) }
         ensures err { OnErr result (look self.new ≡ look self.old) }
     {
+        let raised = self.raised(alloc, process, said)?;
+        self.store(raised);
+        Ok(())
+    }
+
+    /// Makes what stands once the process says all these calls too, of which no number is 0: what [`Board::store`] stores.
+    pub fn raised(&self, alloc: Global, process: Proc, said: &Acks) -> Result<Raised, OutOfMemory>
+        requires { IsTrue (are_tidy_numbers (view_of_acks said.now)) }
+        ensures { IfOk result (λ made. Raises made (look self.now) (join (look self.now) (own_acks process (numbers_of (view_of_acks said.now))))) }
+    {
         if said.is_empty() {
-            return Ok(());
+            return Ok(Raised::Nothing);
         }
-        put_joined(alloc, &mut self.inside.second, process, said)
+        raised_by(alloc, &self.inside.second, process, said)
+    }
+
+    /// Stores what was made of this board as it stands. It takes no memory and can't fail.
+    pub fn store(&mut self, raised: Raised)
+        requires made { (new : Look) × Raises raised (look self.old) new }
+        ensures gives { (new : Look) → Raises raised (look self.old) new → look self.new ≡ new }
+        ensures above { IsBelow (look self.old) (look self.new) }
+    {
+        match raised {
+            Raised::Nothing => {}
+            Raised::Row(process, row) => {
+                let _before = self.inside.second.replace(&process, row);
+            }
+            Raised::All(all) => {
+                self.inside.second = all;
+            }
+        }
     }
 
     /// The acknowledgements alone.
@@ -281,11 +309,16 @@ impl Board {
         })
     }
 
-    /// Puts the acknowledgements of the other board in place of its own. It takes no memory.
-    pub fn replace_acks(&mut self, other: Board)
-        ensures { look self.new ≡ record (look self.old) { acks = (look other).acks } }
+    /// The contexts of this board with the acknowledgements of the other. It takes no memory.
+    pub fn with_acks(self, other: Board) -> Board
+        ensures { look result ≡ record (look self) { acks = (look other).acks } }
     {
-        self.inside.second = other.inside.second;
+        Board {
+            inside: Pair {
+                first: self.inside.first,
+                second: other.inside.second,
+            },
+        }
     }
 
     /// Drops the posts of calls below the number, which is at most the floor: what every member has harvested nobody

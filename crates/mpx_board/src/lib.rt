@@ -16,6 +16,7 @@ mod laws;
 mod looks;
 mod nested;
 
+pub use acks::Raised;
 pub use board::Board;
 pub use errors::{AddPostError, PruneError};
 pub use laws::{

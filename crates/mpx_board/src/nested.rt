@@ -1,8 +1,13 @@
 // The maps nested inside a board, and the test that no part of them says nothing.
-ghost use Rattle.std.specs.Prelude.{◌≡◌, true, not};
+ghost use Rattle.std.specs.Prelude.{◌≡◌, ℕ, Bool, nat_lt, true, not};
+ghost use Rattle.std.specs.List.{list_all};
 ghost use Rattle.std.specs.Option.{option_copied};
 ghost use Rattle.std.specs.FinMap.{get};
+ghost use Rattle.join_core.specs.Flat.{FlatView};
 ghost use Rattle.join_core.specs.FlatSeen.{flat_view};
+ghost use Rattle.join_nest.specs.Seen.{seen};
+ghost use Rattle.mpx_post.specs.Posts.{Given};
+ghost use Rattle.mpx_board.specs.Parts.{AcksView, EntryView, OfProcesses};
 ghost use Rattle.mpx_board.specs.Boards.{nothing, told};
 ghost use Rattle.mpx_board.specs.Contexts.{context_of, or_zero};
 ghost use Rattle.mpx_board.specs.Tidy.{all_entries, are_tidy_posts, has_no_zero, is_neat_entry, is_tidy, is_tidy_acks, is_tidy_call, is_tidy_entry, is_tidy_numbers, is_unknown, says_nothing};
@@ -70,16 +75,42 @@ pub fn number_of(numbers: &VersionVector, process: Proc) -> u32
 pub fn is_tidy_board(parts: &Parts) -> bool
     ensures { result ≡ is_tidy (view_of_parts parts.now) }
 {
-    parts.first.entries().iter().all(|e| is_tidy_entry(&e.1))
-        && parts.second.entries().iter().all(|e| are_tidy_acks(&e.1))
+    all_tidy(parts.first.entries()) && all_tidy(parts.second.entries())
 }
 
-fn is_tidy_entry(entry: &Entry) -> bool
-    ensures { result ≡ is_tidy_entry (view_of_entry entry.now) }
+// A value that says something, and no part of it says nothing. (One test of all entries of a map, for all sorts of values: a
+// closure at nested types would have each of its proofs at these.)
+trait Tidy {
+    // What it shows.
+    ghost Shown: { Type 0 };
+
+    ghost shown: { Self → Shown };
+
+    ghost tidy: { Shown → Bool };
+
+    fn is_tidy(&self) -> bool
+        ensures { result ≡ tidy (shown self.now) };
+}
+
+// Whether each of these values is tidy.
+fn all_tidy<K, J: Tidy>(entries: &[(K, J)]) -> bool
+    ensures { result ≡ list_all (λ e. J.tidy e.1) (seen J.shown entries.now) }
 {
-    says_something(entry)
-        && has_no_zero(&entry.second.first)
-        && are_tidy_calls(&entry.second.second)
+    entries.iter().all(|e| e.1.is_tidy())
+}
+
+impl Tidy for Entry {
+    ghost Shown = { EntryView };
+
+    ghost shown = { view_of_entry };
+
+    ghost tidy = { is_tidy_entry };
+
+    fn is_tidy(&self) -> bool {
+        says_something(self)
+            && has_no_zero(&self.second.first)
+            && are_tidy_calls(&self.second.second)
+    }
 }
 
 /// Whether the entry says something of its context.
@@ -112,23 +143,59 @@ fn are_tidy_calls(calls: &Trunc<Call>) -> bool
 fn is_tidy_call(posts: &Call) -> bool
     ensures { result ≡ are_tidy_posts (view_of_call posts.now) }
 {
-    !posts.is_empty() && posts.entries().iter().all(|e| is_told(&e.1))
+    !posts.is_empty() && all_tidy(posts.entries())
 }
 
-fn are_tidy_acks(acks: &Acks) -> bool
-    ensures { result ≡ is_tidy_acks (view_of_acks acks.now) }
-{
-    !acks.is_empty() && acks.entries().iter().all(|e| is_tidy_numbers(&e.1))
+impl Tidy for Flat<Post> {
+    ghost Shown = { FlatView Given };
+
+    ghost shown = { flat_view (λ post. post) };
+
+    ghost tidy = { λ told. not (is_unknown told) };
+
+    fn is_tidy(&self) -> bool {
+        is_told(self)
+    }
 }
 
-fn is_tidy_numbers(numbers: &VersionVector) -> bool
-    ensures { result ≡ is_tidy_numbers (view_of_numbers numbers.now) }
-{
-    !numbers.is_empty() && has_no_zero(numbers)
+impl Tidy for Acks {
+    ghost Shown = { AcksView };
+
+    ghost shown = { view_of_acks };
+
+    ghost tidy = { is_tidy_acks };
+
+    fn is_tidy(&self) -> bool {
+        !self.is_empty() && all_tidy(self.entries())
+    }
+}
+
+impl Tidy for VersionVector {
+    ghost Shown = { OfProcesses ℕ };
+
+    ghost shown = { view_of_numbers };
+
+    ghost tidy = { is_tidy_numbers };
+
+    fn is_tidy(&self) -> bool {
+        !self.is_empty() && has_no_zero(self)
+    }
+}
+
+impl Tidy for Max {
+    ghost Shown = { ℕ };
+
+    ghost shown = { λ number. number.0 };
+
+    ghost tidy = { λ number. nat_lt 0 number };
+
+    fn is_tidy(&self) -> bool {
+        self.0 != 0
+    }
 }
 
 fn has_no_zero(numbers: &VersionVector) -> bool
     ensures { result ≡ has_no_zero (view_of_numbers numbers.now) }
 {
-    numbers.entries().iter().all(|e| e.1.0 != 0)
+    all_tidy(numbers.entries())
 }

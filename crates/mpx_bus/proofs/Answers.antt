@@ -13,7 +13,7 @@ use Rattle.mpx_bus.specs.Berths.{Berth, CanPush, IsSamePort, GoesOn, node_in}
 use Rattle.mpx_bus.proofs.Journals.{did_before, did_last}
 use Rattle.mpx_bus.proofs.Moves.{pop_same}
 use Rattle.mpx_bus.proofs.Ports.{node_more}
-use Rattle.mpx_bus.specs.Answers.{PushesOne, PushesLast, PushesNext, Lists, PopsOne, Stopped, Wants, TakesIn}
+use Rattle.mpx_bus.specs.Answers.{PushesOne, PushesLast, PushesNext, PassesOn, PopsOne, Stopped, Wants, TakesIn}
 use Rattle.mpx_bus.proofs.Goes.{goes_on, goes_itself, two_acts}
 
 pub goes_push : (bytes : List ℕ) (push : Push) (a b : Berth) → IsSamePort a b → PushesOne bytes push a b → GoesOn a b
@@ -57,11 +57,18 @@ last_of_one bytes P.Pushed a kept b may p = p
 last_of_one bytes (P.Full frame) a kept b may p = (p.0, (ap (λ (x : Berth). x.journal) p.1, subst (λ (x : Berth). CanPush x frame) (sym p.1) (subst (CanPush a) (sym p.0) may)))
 
 -- a frame that comes back may be pushed on
-pub full_can_push : (push : Push) (frame : List ℕ) (a b : Berth) → push ≡ P.Full frame → PushesNext push a b → CanPush b frame
+pub full_can_push : {limit : ℕ} (push : Push) (frame : List ℕ) (a b : Berth) → push ≡ P.Full frame → PushesNext limit push a b → CanPush b frame
 full_can_push push frame a b is n = (subst (λ q. PushesLast n.bytes q n.listed b) is n.pushes).1.1
 
 -- so may one that was popped
-pub took_can_push : (pop : Pop) (frame : List ℕ) (a b : Berth) → pop ≡ O.Took frame → PopsOne pop a b → CanPush b frame
-took_can_push pop frame a b is p =
-    inr (subst (λ j. DidIn j (A.Popped frame)) (sym (subst (λ q. PopsOne q a b) is p))
-    (did_before (a.journal ++ A.Popped frame ∷ []) (A.Took frame ∷ []) (A.Popped frame) (did_last a.journal (A.Popped frame))))
+after_popped : (frame : List ℕ) (more : List Act) (a b : Berth) → b.journal ≡ (a.journal ++ A.Popped frame ∷ []) ++ more → CanPush b frame
+after_popped frame more a b e = inr (subst (λ j. DidIn j (A.Popped frame)) (sym e) (did_before (a.journal ++ A.Popped frame ∷ []) more (A.Popped frame) (did_last a.journal (A.Popped frame))))
+
+pub passes_on : (pop : Pop) (a b : Berth) → PopsOne pop a b → PassesOn pop b
+passes_on (O.Took frame) a b p = after_popped frame (A.Took frame ∷ []) a b p
+passes_on O.Empty a b p = tt
+passes_on (O.OutOfMemory frame) a b p =
+    ⊎_elim
+    (λ (e : b.journal ≡ a.journal ++ A.Popped frame ∷ []). inr (subst (λ j. DidIn j (A.Popped frame)) (sym e) (did_last a.journal (A.Popped frame))))
+    (λ (e : Stopped frame a b). after_popped frame (A.StoppedTaking frame e.left ∷ []) a b e.journal)
+    p

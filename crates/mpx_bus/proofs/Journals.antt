@@ -9,14 +9,14 @@ use Rattle.mpx_board.specs.Looks.{look}
 use Rattle.mpx_board.specs.Contexts.{look_of}
 use Rattle.mpx_format.proofs.Decoded.{decoded_again}
 use Rattle.mpx_delta.specs.Digests.{HasUpTo}
-use Rattle.mpx_world.specs.Worlds.{ProcessView, WorldView, learns, takes, acknowledges, at_process, Happening, Posts, Harvests, Gathers, Prunes, Sends, Takes, TakesPartly, Acknowledges, IsSeen, happens, goes_on, MayLeave, MayHappen, MayGoOn, start}
+use Rattle.mpx_world.specs.Worlds.{ProcessView, WorldView, learns, takes, acknowledges, at_process, Happening, Posts, Harvests, Gathers, Prunes, Sends, Takes, TakesPartly, Acknowledges, IsSeen, happens, goes_on, MayLeave, MayHappen, MayGoOn}
 use Rattle.mpx_world.proofs.Lists.{itself, same_number, cond_cases, slice_get-push}
 use Rattle.mpx_world.proofs.Steps.{Holds, board_so, holds_happens}
 use Rattle.mpx_world.proofs.Whole.{goes_on-append, may_append, well_by}
 use Rattle.mpx_bus.specs.declared.act.Act.{Act}
 use Rattle.mpx_bus.specs.declared.act.Act.TheVariants as A
 use Rattle.mpx_bus.specs.declared.act.Setup.{Setup}
-use Rattle.mpx_bus.specs.Acts.{shown, part_of, said_on, act_on, after, at_start, process_at, DidIn, SaysNoMore, IsLocal, AreLocal, IsAhead}
+use Rattle.mpx_bus.specs.Acts.{shown, part_of, said_on, act_on, after, at_start, process_at, start_of, DidIn, SaysNoMore, IsLocal, AreLocal, IsAhead}
 use Rattle.mpx_bus.specs.Rule.{IsSent, world_of}
 use Rattle.mpx_post.proofs.Lists.{slice_get-append}
 
@@ -179,13 +179,13 @@ way published (a ∷ acts) w p h sent are =
 -- what can happen after this, so that one process is as given and the parts are these
 pub record Onward (setup : Setup) (happenings : List Happening) (p : ℕ) (v : ProcessView) (parts : List Look) : Type 0 where
   pub all : List Happening
-  pub may : MayGoOn (start setup.ranks setup.size) all
+  pub may : MayGoOn (start_of setup) all
   pub here : (world_of setup all).each p ≡ v
   pub others : (q : ℕ) → q ≢ p → (world_of setup all).each q ≡ (world_of setup happenings).each q
   pub parts_are : (world_of setup all).parts ≡ parts
 
 -- a process that is as published goes on to its journal
-pub onward : (setup : Setup) (hs : List Happening) (p : ℕ) (published journal : List Act) → MayGoOn (start setup.ranks setup.size) hs
+pub onward : (setup : Setup) (hs : List Happening) (p : ℕ) (published journal : List Act) → MayGoOn (start_of setup) hs
     → (world_of setup hs).each p ≡ process_at setup p published → IsAhead setup p published journal
     → ((bytes : List ℕ) → DidIn published (A.Popped bytes) → IsSent (world_of setup hs).parts bytes)
     → Onward setup hs p (process_at setup p journal) (world_of setup hs).parts
@@ -193,10 +193,10 @@ onward setup hs p published journal m here ahead popped =
     let w : WorldView = world_of setup hs in
     let are : AreLocal published (w.each p) ahead.locals = subst (λ (v : ProcessView). AreLocal published v ahead.locals) (sym here) ahead.local in
     let go : Way w p (after ahead.locals (w.each p)) = way published ahead.locals w p (well_by setup.ranks setup.size hs m).holds popped are in
-    let e : world_of setup (hs ++ go.more) ≡ goes_on w go.more = goes_on-append hs go.more (start setup.ranks setup.size) in
+    let e : world_of setup (hs ++ go.more) ≡ goes_on w go.more = goes_on-append hs go.more (start_of setup) in
     record {
       all = hs ++ go.more;
-      may = may_append hs go.more (start setup.ranks setup.size) m go.may;
+      may = may_append hs go.more (start_of setup) m go.may;
       here = ap (λ (u : WorldView). u.each p) e ∙ go.here ∙ ap (after ahead.locals) here ∙ sym (after_ahead published journal ahead);
       others = λ q ne. ap (λ (u : WorldView). u.each q) e ∙ go.others q ne;
       parts_are = ap (λ (u : WorldView). u.parts) e ∙ go.parts;
@@ -207,10 +207,10 @@ pub onward_sends : (setup : Setup) (hs : List Happening) (p : ℕ) (v : ProcessV
     → Onward setup hs p v parts → Onward setup hs p v (parts ++ part ∷ [])
 onward_sends setup hs p v parts part seen o =
     let w : WorldView = world_of setup o.all in
-    let e : world_of setup (o.all ++ Sends p part ∷ []) ≡ happens w (Sends p part) = goes_on-append o.all (Sends p part ∷ []) (start setup.ranks setup.size) in
+    let e : world_of setup (o.all ++ Sends p part ∷ []) ≡ happens w (Sends p part) = goes_on-append o.all (Sends p part ∷ []) (start_of setup) in
     record {
       all = o.all ++ Sends p part ∷ [];
-      may = may_append o.all (Sends p part ∷ []) (start setup.ranks setup.size) o.may ((λ f has. subst (λ (x : ProcessView). IsSeen x f) (sym o.here) (seen f has)), tt);
+      may = may_append o.all (Sends p part ∷ []) (start_of setup) o.may ((λ f has. subst (λ (x : ProcessView). IsSeen x f) (sym o.here) (seen f has)), tt);
       here = ap (λ (u : WorldView). u.each p) e ∙ o.here;
       others = λ q ne. ap (λ (u : WorldView). u.each q) e ∙ o.others q ne;
       parts_are = ap (λ (u : WorldView). u.parts) e ∙ ap (λ xs. xs ++ part ∷ []) o.parts_are;

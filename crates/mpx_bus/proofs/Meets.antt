@@ -6,7 +6,7 @@ use lib.ListN.{get_elem?}
 use Rattle.crossbeam_queue.specs.Fifo.{Merges, Learns}
 use Rattle.crossbeam_queue.proofs.Lists.{at_set, set_else}
 use Rattle.mpx_node.specs.Nodes.{NodeView}
-use Rattle.mpx_world.specs.Worlds.{WorldView, MayGoOn, start}
+use Rattle.mpx_world.specs.Worlds.{WorldView, MayGoOn}
 use Rattle.atomic_table.specs.Seated.{TableId}
 use Rattle.mpx_world.proofs.Steps.{sound_of}
 use Rattle.mpx_world.proofs.Whole.{well_by}
@@ -15,7 +15,7 @@ use Rattle.mpx_bus.specs.declared.act.Act.TheVariants as A
 use Rattle.mpx_bus.specs.declared.act.Setup.{Setup}
 use Rattle.mpx_bus.specs.declared.act.Seen.{Seen}
 use Rattle.mpx_bus.specs.declared.act.View.{View}
-use Rattle.mpx_bus.specs.Acts.{DidIn, IsAhead, process_at}
+use Rattle.mpx_bus.specs.Acts.{DidIn, IsAhead, process_at, start_of}
 use Rattle.mpx_bus.specs.Views.{standing, seat_of, nobody, met}
 use Rattle.mpx_bus.specs.Rule.{Seating, IsSent, IsPushed, world_of, FitsSeat, FitsView, Sound, Stands}
 use Rattle.mpx_bus.specs.Berths.{IsPort, berth, HaveMet}
@@ -112,7 +112,7 @@ learns pass v named items views h at =
     let setup : v.setup ≡ h.setup = (f.names named).1 in
     record {
       happenings = h.happenings;
-      may = subst (λ (u : Setup). MayGoOn (start u.ranks u.size) h.happenings) (sym setup) h.may;
+      may = subst (λ (u : Setup). MayGoOn (start_of u) h.happenings) (sym setup) h.may;
       each = λ place s e. subst (λ (u : Setup). (world_of u h.happenings).each s.me ≡ process_at u s.me s.journal) (sym setup) (f.seats place s e).process;
       sent = λ place s e bytes d. subst (λ (u : Setup). IsSent (world_of u h.happenings).parts bytes) (sym setup) ((f.seats place s e).popped bytes d);
       apart = λ i j s t e e' same. second_of_some (pass, i) (pass, j) (sym (f.seats i s e).here ∙ (ap h.seat same ∙ (f.seats j t e').here));

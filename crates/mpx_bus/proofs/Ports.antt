@@ -5,13 +5,13 @@ use Rattle.std.proofs.lemmas.Bool.{cases_eq, cases_lt}
 use mathlib.Core.List.{IsPrefix}
 use Rattle.std.proofs.lemmas.List.Elements.{All-head, All-tail}
 use Rattle.join_core.specs.Flat.{known, unknown, flat_leq}
-use Rattle.join_core.specs.declared.memory.OutOfMemory.{OutOfMemory}
 use Rattle.mpx_name.specs.Name.{Name}
 use Rattle.mpx_post.specs.Births.{BirthView, same_birth, of_members, upto}
 use Rattle.mpx_post.specs.Posts.{Given}
 use Rattle.mpx_post.specs.Gatherings.{GatheringView}
 use Rattle.mpx_post.specs.declared.draft.Draft.{Draft}
 use Rattle.mpx_post.specs.declared.draft.PostError.{PostError}
+use Rattle.mpx_board.specs.declared.acks.Raised.{Raised}
 use Rattle.mpx_board.specs.declared.board.Board.{Board}
 use Rattle.mpx_board.specs.declared.errors.PruneError.{PruneError}
 use Rattle.mpx_board.specs.Boards.{Look, Born, Dropped, Has, Stands, IsBetween, nothing, join, join_contexts, join_all, only, own_acks, floor_on}
@@ -25,7 +25,7 @@ use Rattle.mpx_delta.specs.Digests.{HasUpTo, Numbers}
 use Rattle.mpx_node.specs.declared.finished.Finished.{Finished}
 use Rattle.mpx_node.specs.declared.node.Harvest.TheVariants as H
 use Rattle.mpx_node.specs.Harvests.{Harvests}
-use Rattle.mpx_node.specs.Deltas.{SaysWhatItHas, lacking_on}
+use Rattle.mpx_node.specs.Deltas.{LacksOn, SaysWhatItHas, lacking_on}
 use Rattle.mpx_node.specs.Nodes.{NodeView, Posts, Opens, StopsTaking, checked_on, next_result, gathers_on, start_node, learn}
 use Rattle.mpx_world.specs.Worlds.{ProcessView, makes, stores, opens_gathering, drops, in_board}
 use Rattle.mpx_world.proofs.Lists.{itself, same_number, name_itself, slice_get-push, take-all, join_all-push}
@@ -44,7 +44,7 @@ use Rattle.mpx_bus.specs.Berths.{AreDeltas, IsPort, MayPushAll}
 use Rattle.mpx_bus.proofs.Journals.{after-append, ahead_itself, ahead_more, did_last, one_of, onward, popped_before}
 use Rattle.mpx_bus.proofs.Moves.{push_same, pop_same}
 use Rattle.mpx_bus.proofs.Seen.{may_push_later}
-use Rattle.mpx_bus.proofs.Spelled.{spelled_parts, spelled_facts}
+use Rattle.mpx_bus.proofs.Spelled.{spelled_facts, spelled_fit, spelled_parts}
 use Rattle.mpx_post.proofs.Lists.{slice_get-append}
 
 -- A BOARD IS THE JOIN OF WHAT WAS LEARNED
@@ -112,7 +112,7 @@ kept_act (A.Acknowledged board) v = kept_learns (own_acks v.node.me (said_on boa
 kept_act (A.Pushed bytes) v = kept_itself v
 kept_act (A.Popped bytes) v = kept_itself v
 
-kept_after : (acts : List Act) (v : ProcessView) → Kept v (after acts v)
+pub kept_after : (acts : List Act) (v : ProcessView) → Kept v (after acts v)
 kept_after [] v = kept_itself v
 kept_after (a ∷ acts) v = kept_then v (act_on a v) (after acts (act_on a v)) (kept_act a v) (kept_after acts (act_on a v))
 
@@ -341,11 +341,16 @@ spelled_may setup p journal (x ∷ frames) (board ∷ boards) s all zero bytes e
 spelled_may setup p journal (x ∷ frames) (board ∷ boards) s all (suc k) bytes e =
     spelled_may setup p journal frames boards s.1 (All-tail (λ b. OnlyFactsOf (look b) (node_at setup p journal).board) board boards all) k bytes e
 
-pub new_kept : (setup : Setup) (p : ℕ) (journal : List Act) (node : NodeView) (frames : List (List ℕ)) (boards : List Board) → node ≡ node_at setup p journal → AreSpelled frames boards → All (λ board. OnlyFactsOf (look board) node.board) boards → MayPushAll setup p journal frames
-new_kept setup p journal node frames boards is s all = record { each = spelled_may setup p journal frames boards s (subst (λ (n : NodeView). All (λ board. OnlyFactsOf (look board) n.board) boards) is all) }
+pub new_kept : (setup : Setup) (p : ℕ) (journal : List Act) (limit : ℕ) (old : NodeView) (said : Raised) (frames : List (List ℕ)) (boards : List Board) (made : LacksOn limit old said boards) → made.after ≡ node_at setup p journal → AreSpelled frames boards → MayPushAll setup p journal frames
+new_kept setup p journal limit old said frames boards made is s = record { each = spelled_may setup p journal frames boards s (subst (λ (n : NodeView). All (λ board. OnlyFactsOf (look board) n.board) boards) is made.facts) }
 
-pub new_deltas : (old now : NodeView) (frames : List (List ℕ)) (boards : List Board) → SaysWhatItHas old now → AreSpelled frames boards → All (λ board. OnlyFactsOf (look board) now.board) boards → join_all (map look boards) ≡ lacking_on now → AreDeltas old now frames
-new_deltas old now frames boards says s all joined = record { says = says; facts = spelled_facts now.board frames boards s all; join = ap join_all (spelled_parts frames boards s) ∙ joined }
+pub new_deltas : (limit : ℕ) (old : NodeView) (said : Raised) (frames : List (List ℕ)) (boards : List Board) (made : LacksOn limit old said boards) → AreSpelled frames boards → AreDeltas limit old made.after frames
+new_deltas limit old said frames boards made s = record {
+  says = made.own;
+  fit = spelled_fit limit frames boards s made.fit;
+  facts = spelled_facts made.after.board frames boards s made.facts;
+  join = ap join_all (spelled_parts frames boards s) ∙ made.join;
+}
 
 -- WHERE NOTHING IS DONE
 

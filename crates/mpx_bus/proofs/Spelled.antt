@@ -1,12 +1,15 @@
 -- Frames with the bytes of boards.
-use Rattle.std.proofs.Common.{◌≡◌, ℕ, zero, suc, List, [], ◌∷◌, ◌++◌, map, take, Some, All, refl, sym, ap, subst}
+use Rattle.std.proofs.Common.{◌≡◌, ◌≤◌, ℕ, zero, suc, Bool, true, false, cond, List, [], ◌∷◌, ◌++◌, length, map, take, Some, All, refl, sym, ap, subst, arith}
 use Rattle.std.specs.Prelude.{slice_get}
-use Rattle.std.proofs.lemmas.List.Elements.{All-nil, All-cons, All-head, All-tail}
+use Rattle.std.proofs.lemmas.List.Elements.{All-nil, All-cons, All-head, All-tail, All-weaker}
 use Rattle.std.proofs.lemmas.Option.{same_Some}
 use Rattle.mpx_board.specs.declared.board.Board.{Board}
 use Rattle.mpx_board.specs.Boards.{Look}
 use Rattle.mpx_board.specs.Looks.{look, parts_of}
-use Rattle.mpx_format.specs.Decoding.{Spells}
+use Rattle.mpx_board.specs.Parts.{PartsView}
+use Rattle.mpx_format.specs.Contexts.{frame}
+use Rattle.mpx_format.specs.Decoding.{Spells, most_bytes}
+use Rattle.mpx_format.specs.Encoding.{is_too_long, length_told}
 use Rattle.mpx_format.proofs.Decoded.{decoded_again}
 use Rattle.mpx_parts.specs.Facts.{OnlyFactsOf}
 use Rattle.mpx_bus.specs.Frames.{shown, part_of, AreSpelled}
@@ -33,3 +36,30 @@ spelled_facts b (bytes ∷ frames) (board ∷ boards) s all =
     All-cons (λ xs. OnlyFactsOf (part_of xs) b) bytes frames
     (subst (λ x. OnlyFactsOf x b) (sym (ap shown (decoded_again bytes (parts_of board) s.0))) (All-head (λ x. OnlyFactsOf (look x) b) board boards all))
     (spelled_facts b frames boards s.1 (All-tail (λ x. OnlyFactsOf (look x) b) board boards all))
+
+-- THEIR LENGTHS
+
+told_above : (long : Bool) (n : ℕ) → n ≤ most_bytes → n ≤ cond long (suc most_bytes) n
+told_above true n few = omega (arith, few)
+told_above false n few = omega arith
+
+length_above : (bytes : List ℕ) (v : PartsView) → Spells bytes v → length bytes ≤ length_told v
+length_above bytes v s =
+    subst (λ xs. length xs ≤ length_told v) (sym s.bytes_are) (told_above (is_too_long v) (length (frame.spelling v)) (subst (λ xs. length xs ≤ most_bytes) s.bytes_are s.few))
+
+within : (a b limit : ℕ) → a ≤ b → b ≤ limit → a ≤ limit
+within a b limit l m = omega (arith, l, m)
+
+-- they are no longer than what the boards tell
+pub spelled_fit : (limit : ℕ) (frames : List (List ℕ)) (boards : List Board) → AreSpelled frames boards → All (λ board. length_told (parts_of board) ≤ limit) boards → All (λ bytes. length bytes ≤ limit) frames
+spelled_fit limit [] [] s all = All-nil (λ bytes. length bytes ≤ limit)
+spelled_fit limit [] (board ∷ boards) s all = absurd s
+spelled_fit limit (bytes ∷ frames) [] s all = absurd s
+spelled_fit limit (bytes ∷ frames) (board ∷ boards) s all =
+    All-cons (λ xs. length xs ≤ limit) bytes frames
+    (within (length bytes) (length_told (parts_of board)) limit (length_above bytes (parts_of board) s.0) (All-head (λ x. length_told (parts_of x) ≤ limit) board boards all))
+    (spelled_fit limit frames boards s.1 (All-tail (λ x. length_told (parts_of x) ≤ limit) board boards all))
+
+-- a greater limit lets them be longer
+pub fit_more : (limit most : ℕ) (boards : List Board) → limit ≤ most → All (λ board. length_told (parts_of board) ≤ limit) boards → All (λ board. length_told (parts_of board) ≤ most) boards
+fit_more limit most boards le all = All-weaker (λ board. length_told (parts_of board) ≤ limit) (λ board. length_told (parts_of board) ≤ most) (λ board l. within (length_told (parts_of board)) limit most l le) boards all

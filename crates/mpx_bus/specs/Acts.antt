@@ -9,7 +9,7 @@ use Rattle.mpx_board.specs.Parts.{PartsView}
 use Rattle.mpx_format.specs.Decoding.{Spells}
 use Rattle.mpx_delta.specs.Digests.{Numbers, HasUpTo}
 use Rattle.mpx_node.specs.Nodes.{NodeView}
-use Rattle.mpx_world.specs.Worlds.{ProcessView, posts, harvests, gathers, prunes, learns, acknowledges, start_process, IsSeen}
+use Rattle.mpx_world.specs.Worlds.{ProcessView, WorldView, posts, harvests, gathers, prunes, learns, acknowledges, start, IsSeen}
 use Rattle.mpx_bus.specs.declared.act.Act.{Act}
 use Rattle.mpx_bus.specs.declared.act.Act.TheVariants as A
 use Rattle.mpx_bus.specs.declared.act.Setup.{Setup}
@@ -35,9 +35,13 @@ abbrev pub after : List Act → ProcessView → ProcessView
 after [] v = v
 after (a ∷ more) v = after more (act_on a v)
 
+-- the world before anything happens
+abbrev pub start_of : Setup → WorldView
+start_of setup = start setup.ranks setup.size
+
 -- a process before it does anything
 abbrev pub at_start : Setup → (process : ℕ) → ProcessView
-at_start setup p = start_process setup.ranks setup.size p
+at_start setup p = (start_of setup).each p
 
 -- a process once it has done these
 abbrev pub process_at : Setup → (process : ℕ) → List Act → ProcessView

@@ -37,6 +37,12 @@ PopsOne (O.Took frame) old new = new.journal ≡ (old.journal ++ A.Popped frame 
 PopsOne O.Empty old new = new ≡ old
 PopsOne (O.OutOfMemory frame) old new = Wants frame old new
 
+-- a frame that was popped may be pushed on
+abbrev pub PassesOn : Pop → Berth → Type 0
+PassesOn (O.Took frame) new = CanPush new frame
+PassesOn O.Empty new = Unit {0}
+PassesOn (O.OutOfMemory frame) new = CanPush new frame
+
 -- the part is joined to the board; or nothing is; or memory was wanting, and the board is as it was or one between it and the join
 abbrev pub TakesIn : Pop → NodeView → NodeView → Type 0
 TakesIn (O.Took frame) old new = new ≡ learn (part_of frame) old
@@ -50,23 +56,20 @@ HarvestsOne name (Ok H.NotYet) old new = new ≡ old
 HarvestsOne name (Ok H.NotOpened) old new = new ≡ old
 HarvestsOne name (Err e) old new = new ≡ old
 
--- the port keeps frames of its list, or has made a new one
-abbrev pub Lists : Berth → Berth → Type 0
-Lists old new = ((old.kept ≢ []) × (new ≡ old)) ⊎ ((old.kept ≡ []) × HasListed old new)
+-- the port keeps frames of its list, or has made a new one, of frames of at most so many bytes
+abbrev pub Lists : ℕ → Berth → Berth → Type 0
+Lists limit old new = ((old.kept ≢ []) × (new ≡ old)) ⊎ ((old.kept ≡ []) × HasListed limit old new)
 
 -- the next frame of the list of this port
 abbrev pub PushesLast : List ℕ → Push → Berth → Berth → Type 0
 PushesLast bytes P.Pushed old new = new.journal ≡ old.journal ++ A.Pushed bytes ∷ []
 PushesLast bytes (P.Full frame) old new = (frame ≡ bytes) × ((new.journal ≡ old.journal) × CanPush new frame)
 
--- the port pushes the next frame of its list; where the queue is full, it comes back, and counts as sent
-pub record PushesNext (push : Push) (old new : Berth) : Type 0 where
+-- the port pushes the next frame of its list; where the queue is full, it comes back, and counts as sent. The limit is that of a
+-- list made now: frames kept of an earlier one fit the limit which that was made with
+pub record PushesNext (limit : ℕ) (push : Push) (old new : Berth) : Type 0 where
   pub listed : Berth
-  pub lists : Lists old listed
+  pub lists : Lists limit old listed
   pub bytes : List ℕ
   pub next : listed.kept ≡ new.kept ++ bytes ∷ []
   pub pushes : PushesLast bytes push listed new
-
--- memory was wanting for a list: the port has done nothing, or has said what it has
-abbrev pub WantsList : Berth → Berth → Type 0
-WantsList old new = (new ≡ old) ⊎ ((said : Board) × ((new.journal ≡ old.journal ++ A.Acknowledged said ∷ []) × (new.kept ≡ [])))

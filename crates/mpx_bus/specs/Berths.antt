@@ -1,18 +1,18 @@
 -- A port: a node, the pass that stands for it, and the frames of its list that are not sent yet.
-use Rattle.std.specs.Prelude.{◌≡◌, ◌≢◌, ℕ, All, List, [], ◌∷◌, ◌++◌, map, Some, slice_get, length}
+use Rattle.std.specs.Prelude.{◌≡◌, ◌≢◌, ◌≤◌, ℕ, All, List, [], ◌∷◌, ◌++◌, map, Some, slice_get, length}
 use Rattle.atomic_table.specs.Seated.{TableId}
 use Rattle.mpx_board.specs.declared.board.Board.{Board}
 use Rattle.mpx_board.specs.Boards.{join_all}
 use Rattle.mpx_parts.specs.Facts.{OnlyFactsOf}
 use Rattle.mpx_node.specs.Nodes.{NodeView}
 use Rattle.mpx_node.specs.Deltas.{SaysWhatItHas, lacking_on}
-use Rattle.mpx_world.specs.Worlds.{ProcessView, Happening, MayGoOn, start}
+use Rattle.mpx_world.specs.Worlds.{ProcessView, Happening, MayGoOn}
 use Rattle.mpx_world.specs.Soundness.{Sound}
 use Rattle.mpx_bus.specs.declared.act.Act.{Act}
 use Rattle.mpx_bus.specs.declared.act.Act.TheVariants as A
 use Rattle.mpx_bus.specs.declared.act.Setup.{Setup}
 use Rattle.mpx_bus.specs.declared.act.View.{View}
-use Rattle.mpx_bus.specs.Acts.{IsAhead, MayPush, part_of, process_at, node_at}
+use Rattle.mpx_bus.specs.Acts.{IsAhead, MayPush, part_of, process_at, node_at, start_of}
 use Rattle.mpx_bus.specs.Views.{standing, seat_of}
 use Rattle.mpx_bus.specs.Rule.{Stood, IsPlanned, world_of}
 
@@ -74,18 +74,19 @@ pub record GoesOn (a b : Berth) : Type 0 where
   pub keeps : (bytes : List ℕ) → CanPush a bytes → CanPush b bytes
   pub plan : KeepsPlan a → KeepsPlan b
 
--- the process says what it has, and these frames are its board without what all processes say that they have: each has only facts
--- of the board, and their join is that
-pub record AreDeltas (old new : NodeView) (frames : List (List ℕ)) : Type 0 where
+-- the process says what it has, and these frames are its board without what all processes say that they have: each has at most so
+-- many bytes and only facts of the board, and their join is that
+pub record AreDeltas (limit : ℕ) (old new : NodeView) (frames : List (List ℕ)) : Type 0 where
   pub says : SaysWhatItHas old new
+  pub fit : All (λ bytes. length bytes ≤ limit) frames
   pub facts : All (λ bytes. OnlyFactsOf (part_of bytes) new.board) frames
   pub join : join_all (map part_of frames) ≡ lacking_on new
 
--- the port made a new list, which it keeps
-pub record HasListed (old new : Berth) : Type 0 where
+-- the port made a new list, which it keeps, of frames of at most so many bytes
+pub record HasListed (limit : ℕ) (old new : Berth) : Type 0 where
   pub said : Board
   pub journal : new.journal ≡ old.journal ++ A.Acknowledged said ∷ []
-  pub deltas : AreDeltas (node_in old) (node_in new) new.kept
+  pub deltas : AreDeltas limit (node_in old) (node_in new) new.kept
 
 -- a port that has done nothing yet
 pub record IsNew (setup : Setup) (table : TableId) (me : ℕ) (b : Berth) : Type 0 where
@@ -104,7 +105,7 @@ pub record IsFleet (setup : Setup) (table : TableId) (processes : ℕ) (ports : 
 -- all that two ports did is of one sound world
 pub record HaveMet (a b : Berth) : Type 0 where
   pub happenings : List Happening
-  pub may : MayGoOn (start a.setup.ranks a.setup.size) happenings
+  pub may : MayGoOn (start_of a.setup) happenings
   pub first : (world_of a.setup happenings).each a.me ≡ process_in a
   pub second : (world_of a.setup happenings).each b.me ≡ process_in b
   pub apart : a.me ≢ b.me

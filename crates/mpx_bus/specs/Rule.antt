@@ -10,13 +10,13 @@ use Rattle.mpx_board.specs.Contexts.{look_of}
 use Rattle.mpx_board.specs.Parts.{PartsView}
 use Rattle.mpx_format.specs.Decoding.{Spells}
 use Rattle.mpx_value.specs.Histories.{Made}
-use Rattle.mpx_world.specs.Worlds.{WorldView, Happening, MayGoOn, start, world_by}
+use Rattle.mpx_world.specs.Worlds.{WorldView, Happening, MayGoOn, goes_on}
 use Rattle.mpx_bus.specs.declared.act.Act.{Act}
 use Rattle.mpx_bus.specs.declared.act.Act.TheVariants as A
 use Rattle.mpx_bus.specs.declared.act.Setup.{Setup}
 use Rattle.mpx_bus.specs.declared.act.Seen.{Seen}
 use Rattle.mpx_bus.specs.declared.act.View.{View}
-use Rattle.mpx_bus.specs.Acts.{DidIn, at_start, process_at}
+use Rattle.mpx_bus.specs.Acts.{DidIn, at_start, process_at, start_of}
 
 -- which pass stands for a process, and at which place of its list
 abbrev pub Seating : Type 0
@@ -54,14 +54,15 @@ BeginsPlan setup w = setup.planned ≡ true → (p : ℕ) → IsPrefix ((w.each 
 abbrev pub IsPlanned : Setup → (process : ℕ) → List Act → Type 0
 IsPlanned setup p journal = setup.planned ≡ true → IsPrefix ((process_at setup p journal).made) (planned_posts setup p)
 
+-- the world that this leads to from the start
 abbrev pub world_of : Setup → List Happening → WorldView
-world_of setup hs = world_by setup.ranks setup.size hs
+world_of setup hs = goes_on (start_of setup) hs
 
 -- all that can happen leads to a world, sound by the laws of worlds, in which the process stands so, and in which each frame that
 -- it popped was sent. Where there is a plan, it begins the plan
 pub record Stood (setup : Setup) (process : ℕ) (journal : List Act) : Type 0 where
   pub happenings : List Happening
-  pub may : MayGoOn (start setup.ranks setup.size) happenings
+  pub may : MayGoOn (start_of setup) happenings
   pub stands : (world_of setup happenings).each process ≡ process_at setup process journal
   pub sent : (bytes : List ℕ) → DidIn journal (A.Popped bytes) → IsSent (world_of setup happenings).parts bytes
   pub planned : BeginsPlan setup (world_of setup happenings)
@@ -86,7 +87,7 @@ pub record Sound (items : List (List ℕ)) (views : List View) : Type 0 where
   pub named : Bool
   pub setup : Setup
   pub maker : ℕ
-  pub may : MayGoOn (start setup.ranks setup.size) happenings
+  pub may : MayGoOn (start_of setup) happenings
   pub planned : BeginsPlan setup (world_of setup happenings)
   pub frames : (k : ℕ) (bytes : List ℕ) → slice_get items k ≡ Some bytes → IsPushed views bytes
   pub passes : (pass : ℕ) (v : View) → get_elem? views pass ≡ some v → FitsView (world_of setup happenings) seat named setup maker pass v
@@ -94,7 +95,7 @@ pub record Sound (items : List (List ℕ)) (views : List View) : Type 0 where
 -- all processes of this view are of one world, and they are different processes
 pub record Stands (v : View) : Type 0 where
   pub happenings : List Happening
-  pub may : MayGoOn (start v.setup.ranks v.setup.size) happenings
+  pub may : MayGoOn (start_of v.setup) happenings
   pub each : (place : ℕ) (s : Seen) → slice_get v.seats place ≡ Some s → (world_of v.setup happenings).each s.me ≡ process_at v.setup s.me s.journal
   pub sent : (place : ℕ) (s : Seen) → slice_get v.seats place ≡ Some s → (bytes : List ℕ) → DidIn s.journal (A.Popped bytes) → IsSent (world_of v.setup happenings).parts bytes
   pub apart : (i j : ℕ) (s t : Seen) → slice_get v.seats i ≡ Some s → slice_get v.seats j ≡ Some t → s.me ≡ t.me → i ≡ j

@@ -10,9 +10,9 @@ ghost use Rattle.mpx_bus.specs.declared.act.Act.TheVariants as A;
 ghost use Rattle.mpx_bus.specs.Views.{seat_of};
 ghost use Rattle.mpx_bus.specs.Rule.{Stood};
 ghost use Rattle.mpx_bus.specs.Berths.{CanPush, Goes, GoesOn, HasListed, HaveMet, IsFleet, IsSamePort, KeepsPlan, node_in};
-ghost use Rattle.mpx_bus.specs.Buses.{table_of};
+ghost use Rattle.mpx_bus.specs.Buses.{room_of, table_of};
 ghost use Rattle.mpx_bus.specs.Finished.{HaveFinished};
-ghost use Rattle.mpx_bus.specs.Answers.{HarvestsOne, Lists, PopsOne, PushesNext, PushesOne, PushesLast, TakesIn, WantsList};
+ghost use Rattle.mpx_bus.specs.Answers.{HarvestsOne, Lists, PassesOn, PopsOne, PushesNext, PushesOne, PushesLast, TakesIn};
 
 use crate::both::both_finished;
 use crate::frame::{Frame, frames_of};
@@ -23,6 +23,7 @@ use crate::trace::{
 };
 use join_core::OutOfMemory;
 use mpx_board::PruneError;
+use mpx_delta::NewList;
 use mpx_group::Proc;
 use mpx_name::Name;
 use mpx_node::{Harvest, Node};
@@ -108,7 +109,8 @@ impl Bus {
         requires ranks { ranks ≤ processes }
         requires few { processes ≤ 64 }
         requires setup { (N.setup.ranks ≡ ranks) × (N.setup.size ≡ processes) }
-        ensures { IfOk result (λ r. IsFleet N.setup (table_of r.0) processes r.1.items) }
+        ensures room { IfOk result (λ r. room_of r.0 ≡ capacity) }
+        ensures ports { IfOk result (λ r. IsFleet N.setup (table_of r.0) processes r.1.items) }
     {
         let (queue, mut maker) = Queue::ruled(alloc, capacity)?;
         name_all::<N>(&queue, &mut maker);
@@ -131,10 +133,11 @@ impl Bus {
 
     /// Pushes the next frame of the port's list of what others may lack of its board, and makes a new list where all of the last
     /// one were sent: the port then says what it has, and its list is its board without the posts that all processes say that
-    /// they have, in parts whose frames have at most so many bytes. A frame that comes back counts as sent. It may wait.
+    /// they have, in parts whose frames have at most so many bytes. What is left of the last list was made under the limit of its
+    /// own call. A frame that comes back counts as sent. It may wait.
     ///
     /// # Errors
-    /// Memory may be wanting for a new list, and then the port has done nothing, or has said what it has.
+    /// Memory may be wanting for a new list, and then the port has done nothing.
     pub fn push_own<R: Wait>(
         &self,
         rt: &R,
@@ -147,8 +150,8 @@ impl Bus {
         requires least { 524288 ≤ limit }
         requires most { limit ≤ 1048576 }
         ensures port { GoesOn port.old port.new }
-        ensures next { IfOk result (λ push. PushesNext push port.old port.new) }
-        ensures err { OnErr result (WantsList port.old port.new) }
+        ensures next { IfOk result (λ push. PushesNext limit push port.old port.new) }
+        ensures err { OnErr result (port.new ≡ port.old) }
         ensures memory { OnErr result (port.old.kept ≡ []) }
     {
         port.lists(alloc, limit)?;
@@ -200,7 +203,7 @@ impl Bus {
         self.push(rt, port, frame)
     }
 
-    /// Pops a frame, and joins its part to the port's board. It may wait.
+    /// Pops a frame, and joins its part to the port's board. A frame that it gives may be pushed on. It may wait.
     pub fn pop<R: Wait>(&self, rt: &R, alloc: Global, port: &mut Port) -> Pop
         requires queue { port.old.table ≡ table_of self.now }
         requires plan { KeepsPlan port.old }
@@ -208,6 +211,7 @@ impl Bus {
         ensures kept { port.new.kept ≡ port.old.kept }
         ensures answer { PopsOne result port.old port.new }
         ensures board { TakesIn result (node_in port.old) (node_in port.new) }
+        ensures passes_on { PassesOn result port.new }
     {
         self.pop_one(rt, alloc, port)
     }
@@ -363,9 +367,9 @@ impl Port {
         requires least { 524288 ≤ limit }
         requires most { limit ≤ 1048576 }
         ensures port { GoesOn self.old self.new }
-        ensures ok { OnOk result (Lists self.old self.new) }
+        ensures ok { OnOk result (Lists limit self.old self.new) }
         ensures some { OnOk result (self.new.kept ≢ []) }
-        ensures err { OnErr result (WantsList self.old self.new) }
+        ensures err { OnErr result (self.new ≡ self.old) }
         ensures memory { OnErr result (self.old.kept ≡ []) }
     {
         if self.kept.as_slice().is_empty() {
@@ -381,13 +385,15 @@ impl Port {
         requires least { 524288 ≤ limit }
         requires most { limit ≤ 1048576 }
         ensures port { GoesOn self.old self.new }
-        ensures ok { OnOk result (HasListed self.old self.new) }
+        ensures ok { OnOk result (HasListed limit self.old self.new) }
         ensures some { OnOk result (self.new.kept ≢ []) }
-        ensures err { OnErr result (WantsList self.old self.new) }
+        ensures err { OnErr result (self.new ≡ self.old) }
     {
-        let made = self.node.deltas(alloc, limit)?;
+        let NewList { said, parts } = self.node.lacking(alloc, limit)?;
+        let frames = frames_of(alloc, parts.as_slice())?;
+        self.node.acknowledge(said);
         acknowledged::<Brand>(&self.desk, &mut self.line, self.node.board());
-        self.kept = frames_of(alloc, made.as_slice())?;
+        self.kept = frames;
         Ok(())
     }
 }

@@ -6,7 +6,7 @@ ghost use Rattle.mpx_post.specs.Drafts.{given_by};
 ghost use Rattle.mpx_post.specs.declared.draft.Draft.{Draft};
 ghost use Rattle.mpx_post.specs.declared.draft.PostError.{PostError};
 ghost use Rattle.mpx_board.specs.Boards.{Look};
-ghost use Rattle.mpx_node.specs.Nodes.{NodeView, Opens, gathers_on, learn};
+ghost use Rattle.mpx_node.specs.Nodes.{NodeView, Opens, StopsTaking, gathers_on, learn};
 ghost use Rattle.mpx_node.specs.declared.node.Harvest.{Harvest};
 ghost use Rattle.mpx_node.specs.declared.finished.Finished.{Finished};
 ghost use Rattle.mpx_comm.specs.declared.answers.Tested.TheVariants.{Done};
@@ -17,7 +17,7 @@ ghost use Rattle.mpx_comm.specs.Later.{Later};
 ghost use Rattle.mpx_comm.specs.Requests.{HasPosted, Tests, result_of, next_call};
 
 /// Posts, tests, waits and turns, in any number and order, keep what was posted and stored; so do gatherings that are opened,
-/// harvests, and boards that come.
+/// harvests, and boards that come, also where memory was wanting to take one whole.
 pub fn calls_keep_posts_and_results()
     ensures later { (old now : NodeView) → Later old now → Keeps old now }
     ensures posts { (old now : NodeView) (name : Name) (draft : Draft) → HasPosted name draft old now → Keeps old now }
@@ -26,6 +26,7 @@ pub fn calls_keep_posts_and_results()
     ensures harvests { (old now : NodeView) (name : Name) (answer : Result Harvest OutOfMemory)
         → HarvestsNext name answer old now → Keeps old now }
     ensures boards { (old : NodeView) (part : Look) → Keeps old (learn part old) }
+    ensures stopped { (old now : NodeView) (part : Look) → StopsTaking part old now → Keeps old now }
     ensures chain { (old between now : NodeView) → Keeps old between → Keeps between now → Keeps old now }
 {}
 

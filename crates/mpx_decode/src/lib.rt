@@ -1,6 +1,5 @@
-//! From frames to boards. Which bytes spell a board, and which refusal other bytes get, is said in `mpx_format`.
-//!
-//! In the order of reading: [`decode`], and below it a reader for each field.
+//! What stands in frames, read: [`read_parts`], and below it a reader for each field. Which bytes spell what, and which refusal
+//! other bytes get, is said in `mpx_format`; whole frames are read in `mpx_wire`.
 #![tactic(auto)]
 
 mod acks;
@@ -8,7 +7,6 @@ mod births;
 mod codes;
 mod contexts;
 mod counts;
-mod decoding;
 mod entries;
 mod fields;
 mod items;
@@ -19,5 +17,4 @@ mod neighbours;
 mod numbers;
 mod posts;
 
-pub use decoding::decode;
-pub use mpx_format::WireError;
+pub use contexts::read_parts;

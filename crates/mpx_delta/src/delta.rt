@@ -51,9 +51,8 @@ pub fn lean_board(
     match lean_contexts(alloc, &board.pair().first, digest) {
         Ok(first) => {
             let second = Keyed::new(alloc);
-            let mut lean = Board::from_tidy(Pair { first, second });
-            lean.replace_acks(said);
-            Ok(lean)
+            let lean = Board::from_tidy(Pair { first, second });
+            Ok(lean.with_acks(said))
         }
         Err(e) => {
             drop(said);

@@ -7,16 +7,53 @@ ghost use Rattle.mpx_board.specs.Views.{view_of_acks};
 ghost use Rattle.mpx_format.specs.Encoding.{length_told};
 ghost use Rattle.mpx_parts.specs.Facts.{OnlyFactsOf};
 ghost use Rattle.mpx_delta.specs.Digests.{Acknowledges, common_on, numbers_of, without};
+ghost use Rattle.mpx_delta.specs.Lacking.{IsLacking};
 
 use crate::delta::lean_board;
 use crate::digest::{Digest, digest_of};
 use crate::least::common;
 use join_core::OutOfMemory;
-use mpx_board::Board;
+use mpx_board::{Board, Raised};
 use mpx_encode::frame_len;
 use mpx_group::Proc;
 use mpx_parts::parts;
 use std::alloc::Global;
+
+/// What a process says that it has, to be stored on its board, and what others may lack of its board, in parts.
+#[derive(Debug, Drop)]
+pub struct NewList {
+    pub said: Raised,
+    pub parts: Vec<Board>,
+}
+
+/// Makes what the process `me` of so many stores where it says that it has all that its board has, and the board with that
+/// and without the posts below what all processes say, in parts, each of which has only facts of that board and a frame of
+/// at most so many bytes. The board stays as it is: [`Board::store`] stores what was made of it.
+pub fn new_list(
+    alloc: Global,
+    board: &Board,
+    me: Proc,
+    processes: u8,
+    limit: usize,
+) -> Result<NewList, OutOfMemory>
+    requires some { 0 < processes }
+    requires few { processes ≤ 64 }
+    requires least { 524288 ≤ limit }
+    requires most { limit ≤ 1048576 }
+    ensures { IfOk result (λ made. IsLacking me processes limit (look board.now) made.said made.parts.items) }
+{
+    let digest = digest_of(alloc, board)?;
+    let acks = raised_acks(alloc, board, me, &digest)?;
+    let lean = lean_by_all(alloc, board, acks, processes)?;
+    let parts = in_parts(alloc, lean, limit)?;
+    match board.raised(alloc, me, &digest) {
+        Ok(said) => Ok(NewList { said, parts }),
+        Err(e) => {
+            drop(parts);
+            Err(e)
+        }
+    }
+}
 
 /// The process `me` of so many says that it has all that its board has, and gives the board without the posts below what
 /// all of them say, in parts, each of which has only facts of the board and a frame of at most so many bytes. An `Err`
@@ -38,12 +75,9 @@ pub fn deltas(
     ensures join { IfOk result (λ made. join_all (map look made.items) ≡ without (common_on processes (look board.new)) (look board.new)) }
     ensures err { OnErr result (look board.new ≡ look board.old) }
 {
-    let digest = digest_of(alloc, board)?;
-    let said = raised_acks(alloc, board, me, &digest)?;
-    let lean = lean_by_all(alloc, board, said, processes)?;
-    let made = in_parts(alloc, lean, limit)?;
-    board.raise_acks(alloc, me, &digest)?;
-    Ok(made)
+    let NewList { said, parts } = new_list(alloc, board, me, processes, limit)?;
+    board.store(said);
+    Ok(parts)
 }
 
 // What all processes say, where the process says what the digest says.

@@ -2,7 +2,8 @@
 //!
 //! A digest says, for each context and process, how many of that process's calls are known in order ([`Digest`],
 //! [`digest_of`]); the least that all processes acknowledge is [`common`]; and [`delta_for`] gives the rest of a board in
-//! parts, which serve each board that has what the digest says. [`deltas`] is all of that for one process.
+//! parts, which serve each board that has what the digest says. [`new_list`] makes all of that for one process from its board
+//! as it stands, and [`deltas`] also stores what the process says.
 #![tactic(auto)]
 
 mod delta;
@@ -12,5 +13,5 @@ mod least;
 
 pub use delta::delta_for;
 pub use digest::{Digest, digest_of};
-pub use lacking::deltas;
+pub use lacking::{NewList, deltas, new_list};
 pub use least::common;

@@ -1,7 +1,13 @@
 -- What a node says that it has, and what others may lack of its board.
-use Rattle.std.specs.Prelude.{◌≡◌, ◌≤◌, ℕ}
+use Rattle.std.specs.Prelude.{◌≡◌, ◌≤◌, ℕ, List, All, map}
 use Rattle.mpx_name.specs.Name.{Name}
-use Rattle.mpx_board.specs.Boards.{Look}
+use Rattle.mpx_board.specs.declared.acks.Raised.{Raised}
+use Rattle.mpx_board.specs.declared.board.Board.{Board}
+use Rattle.mpx_board.specs.Boards.{Look, join_all}
+use Rattle.mpx_board.specs.Looks.{look, parts_of}
+use Rattle.mpx_board.specs.Raised.{Raises}
+use Rattle.mpx_format.specs.Encoding.{length_told}
+use Rattle.mpx_parts.specs.Facts.{OnlyFactsOf}
 use Rattle.mpx_delta.specs.Digests.{IsDigest, Numbers, common_on, without}
 use Rattle.mpx_node.specs.Nodes.{NodeView, acknowledge}
 
@@ -15,3 +21,17 @@ pub record SaysWhatItHas (old new : NodeView) : Type 0 where
 -- its board without the posts that all processes say that they have
 abbrev pub lacking_on : NodeView → Look
 lacking_on node = without (common_on node.processes node.board) node.board
+
+-- what was made of the old node gives the new one once it is stored
+pub record Stores (said : Raised) (old new : NodeView) : Type 0 where
+  pub raises : Raises said old.board new.board
+  pub rest : record old { board = new.board } ≡ new
+
+-- the node `after` is the one that has said what it has; the parts are those of its board, without the posts that all have
+pub record LacksOn (limit : ℕ) (node : NodeView) (said : Raised) (parts : List Board) : Type 0 where
+  pub after : NodeView
+  pub stores : Stores said node after
+  pub own : SaysWhatItHas node after
+  pub facts : All (λ part. OnlyFactsOf (look part) after.board) parts
+  pub fit : All (λ part. length_told (parts_of part) ≤ limit) parts
+  pub join : join_all (map look parts) ≡ lacking_on after

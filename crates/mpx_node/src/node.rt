@@ -15,8 +15,8 @@ use crate::part::{PartError, whole_part};
 use crate::results::{children_on, finished, harvested_board, has_result};
 use crate::starting::{board_at_start, gathered_board, opened_at_start};
 use join_core::OutOfMemory;
-use mpx_board::{Board, PruneError};
-use mpx_delta::deltas;
+use mpx_board::{Board, PruneError, Raised};
+use mpx_delta::{NewList, new_list};
 use mpx_group::Proc;
 use mpx_name::Name;
 use mpx_parts::parts;
@@ -47,8 +47,8 @@ pub enum Harvest {
 }
 
 impl Node {
-    ghost use Rattle.mpx_node.specs.Nodes.{Opens, Posts, StopsTaking, add_result, start_node, learn, checked_on, children_on, gathering_name, gathers_on, next_result, open_gathering_node, posted_on, results_on, front_on};
-    ghost use Rattle.mpx_node.specs.Deltas.{SaysWhatItHas, lacking_on};
+    ghost use Rattle.mpx_node.specs.Nodes.{Opens, Posts, StopsTaking, add_result, NodeView, start_node, learn, checked_on, children_on, gathering_name, gathers_on, next_result, open_gathering_node, posted_on, results_on, front_on};
+    ghost use Rattle.mpx_node.specs.Deltas.{LacksOn, SaysWhatItHas, Stores, lacking_on};
     ghost use Rattle.mpx_node.specs.Shown.{node_of};
     ghost use Rattle.mpx_node.specs.Opened.{HasUnfinished};
     ghost use Rattle.mpx_node.specs.Harvests.{Harvests};
@@ -250,6 +250,24 @@ impl Node {
         parts(alloc, &self.board, limit)
     }
 
+    /// What [`Node::deltas`] stores and gives, made from the node as it stands: what the process says, and what others lack of
+    /// the board with that, in parts whose frames have at most so many bytes. [`Node::acknowledge`] stores what it says.
+    pub fn lacking(&self, alloc: Global, limit: usize) -> Result<NewList, OutOfMemory>
+        requires least { 524288 ≤ limit }
+        requires most { limit ≤ 1048576 }
+        ensures { IfOk result (λ made. LacksOn limit (node_of self.now) made.said made.parts.items) }
+    {
+        new_list(alloc, &self.board, self.me, self.processes, limit)
+    }
+
+    /// Stores what [`Node::lacking`] made from this node as it stands. It takes no memory and can't fail.
+    pub fn acknowledge(&mut self, said: Raised)
+        requires made { (new : NodeView) × Stores said (node_of self.old) new }
+        ensures gives { (new : NodeView) → Stores said (node_of self.old) new → node_of self.new ≡ new }
+    {
+        self.board.store(said);
+    }
+
     /// Says that the process has all that its board has, and gives the board without the posts below what all processes
     /// say, in parts, each of which has only facts of the board and a frame of at most so many bytes. An `Err` changes
     /// nothing.
@@ -262,7 +280,9 @@ impl Node {
         ensures join { IfOk result (λ made. join_all (map look made.items) ≡ lacking_on (node_of self.new)) }
         ensures err { OnErr result (node_of self.new ≡ node_of self.old) }
     {
-        deltas(alloc, &mut self.board, self.me, self.processes, limit)
+        let NewList { said, parts } = self.lacking(alloc, limit)?;
+        self.acknowledge(said);
+        Ok(parts)
     }
 
     // Stores the result of the next call on an opened context, tells of it, and opens what the call made. An `Err` changes

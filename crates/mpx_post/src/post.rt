@@ -1,6 +1,6 @@
 // What one member posts to one call.
 ghost use Rattle.std.specs.Prelude.{◌≡◌, ◌≤◌, ◌*◌, is_some, OnOk, length};
-ghost use Rattle.std.specs.Option.{option_copied};
+ghost use Rattle.std.specs.Option.{option_copied, option_map};
 ghost use Rattle.mpx_num.specs.ItemList.{ItemList};
 ghost use Rattle.mpx_post.specs.Kinds.{fields_of};
 ghost use Rattle.mpx_post.specs.Ranks.{AreRanks};
@@ -190,6 +190,18 @@ impl Post {
     {
         if self.has_items {
             Some(&self.items)
+        } else {
+            None
+        }
+    }
+
+    /// The type of the items that it gives, where the kind has items.
+    pub fn ty(&self) -> Option<Ty>
+        ensures value { result ≡ option_map (λ items. items.ty) self.now.items }
+        ensures there { is_some result ≡ (fields_of self.now.kind).items }
+    {
+        if self.has_items {
+            Some(self.items.ty())
         } else {
             None
         }

@@ -33,23 +33,14 @@ impl PostError {
     pub fn is_want_of_memory(self) -> bool
         ensures { IsTrue result ↔ (self ≡ PostError.OutOfMemory) }
     {
-        match self {
-            PostError::OutOfMemory => true,
-            PostError::NotMember => false,
-            PostError::RootOutOfRange => false,
-            PostError::OpNotForType => false,
-            PostError::CountsLength => false,
-            PostError::ItemsLength => false,
-            PostError::ItemOutOfRange => false,
-            PostError::TooManyItems => false,
-            PostError::NoTopology => false,
-            PostError::CallsUsedUp => false,
-            PostError::DepthUsedUp => false,
-            PostError::BadGroup => false,
-            PostError::BadEdge => false,
-            PostError::TooManyEdges => false,
-            PostError::BadTag => false,
-        }
+        self == PostError::OutOfMemory
+    }
+
+    /// Whether the process isn't a member, as far as its board knows.
+    pub fn is_no_member(self) -> bool
+        ensures { IsTrue result ↔ (self ≡ PostError.NotMember) }
+    {
+        self == PostError::NotMember
     }
 }
 

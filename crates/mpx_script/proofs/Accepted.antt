@@ -12,7 +12,7 @@ use Rattle.mpx_script.specs.Syntax.{NewSyntax, CallSyntax}
 use Rattle.mpx_script.specs.Graphs.{graph_in}
 use Rattle.mpx_script.specs.Refusals.{fails, has_strange_count, has_strange_number, has_strange_list, has_strange_new_list}
 use Rattle.mpx_script.specs.Meanings.{said}
-use Rattle.mpx_script.specs.Sentences.{IsRefusal, counts_refusal, draft_refusal, fields_refusal, read_at}
+use Rattle.mpx_script.specs.Sentences.{IsRefusal, counts_refusal, draft_refusal, fields_refusal, new_refusal, read_at}
 use Rattle.mpx_script.specs.declared.faults.LineError.{LineError}
 use Rattle.mpx_script.specs.declared.faults.LineError.TheVariants.{Fault, OutOfMemory}
 use Rattle.mpx_script.specs.declared.faults.ScriptFault.{ScriptFault}
@@ -71,12 +71,21 @@ module _ (kind : Kind) (new : NewSyntax) (p : CallSyntax) where
       refusal_of_fields (Fault what) h = behind_choice ∙ first_kept _ _ _ what h
 
       -- its fields are in order
-      pub refusal_of_ranks : fields_refusal kind p ≡ None → read_at list_named [] new.ranks ≡ None → draft_refusal kind new p ≡ Some BadList
-      refusal_of_ranks fine h = behind_choice ∙ ranks_left _ _ _ fine ∙ rw (read_nothing list_named [] new.ranks h) refl
+      pub refusal_of_lists : fields_refusal kind p ≡ None → (e : LineError) → IsRefusal (new_refusal new) e → IsRefusal (draft_refusal kind new p) e
+      refusal_of_lists fine OutOfMemory h = tt
+      refusal_of_lists fine (Fault what) h = behind_choice ∙ ranks_left _ _ _ fine ∙ h
 
-      module _ (group : List ℤ) (fine : fields_refusal kind p ≡ None) (at_ranks : read_at list_named [] new.ranks ≡ Some group) where
-        pub refusal_of_graph : graph_in new ≡ None → draft_refusal kind new p ≡ Some BadList
-        refusal_of_graph h = behind_choice ∙ ranks_left _ _ _ fine ∙ rw (read_says list_named [] new.ranks group at_ranks, h) refl
+      pub draft_accepted : fields_refusal kind p ≡ None → new_refusal new ≡ None → draft_refusal kind new p ≡ None
+      draft_accepted fine h = behind_choice ∙ ranks_left _ _ _ fine ∙ h
 
-        pub draft_accepted : (graph : Option GraphView) → graph_in new ≡ Some graph → draft_refusal kind new p ≡ None
-        draft_accepted graph h = behind_choice ∙ ranks_left _ _ _ fine ∙ rw (read_says list_named [] new.ranks group at_ranks, h) refl
+-- The ranks and the graph of a new communicator
+module _ (new : NewSyntax) where
+  pub refusal_of_ranks : read_at list_named [] new.ranks ≡ None → new_refusal new ≡ Some BadList
+  refusal_of_ranks h = rw (read_nothing list_named [] new.ranks h) refl
+
+  module _ (group : List ℤ) (at_ranks : read_at list_named [] new.ranks ≡ Some group) where
+    pub refusal_of_graph : graph_in new ≡ None → new_refusal new ≡ Some BadList
+    refusal_of_graph h = rw (read_says list_named [] new.ranks group at_ranks, h) refl
+
+    pub new_accepted : (graph : Option GraphView) → graph_in new ≡ Some graph → new_refusal new ≡ None
+    new_accepted graph h = rw (read_says list_named [] new.ranks group at_ranks, h) refl

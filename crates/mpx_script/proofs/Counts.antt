@@ -1,13 +1,11 @@
 -- Counts that are refused, by what was read of them.
-use Rattle.std.proofs.Common.{◌≡◌, ℕ, Bool, not, is_some, true, false, List, [], ℤ, Option, Some, None, refl, sym, ap, ◌∙◌}
+use Rattle.std.proofs.Common.{◌≡◌, ℕ, not, is_some, List, [], ℤ, Option, Some, None, refl, sym, ap, ◌∙◌}
 use Rattle.std.specs.Prelude.{is_none}
 use Rattle.mpx_script.specs.Syntax.{CallSyntax}
 use Rattle.mpx_kind.specs.declared.kinds.Fields.{Fields}
 use Rattle.mpx_kind.specs.declared.kinds.Number.{Number}
-use Rattle.mpx_script.specs.declared.faults.ScriptFault.{ScriptFault}
-use Rattle.mpx_script.specs.declared.faults.ScriptFault.TheVariants.{BadNumber, BadList}
 use Rattle.mpx_script.specs.Fields.{counts_named}
-use Rattle.mpx_script.specs.Refusals.{are_strange, has_strange_count, has_strange_list}
+use Rattle.mpx_script.specs.Refusals.{are_strange}
 use Rattle.mpx_script.specs.Sentences.{faulty_counts, counts_refusal, read_at}
 
 -- what is strange is read as none

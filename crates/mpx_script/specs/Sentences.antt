@@ -88,7 +88,11 @@ fields_refusal kind call = first_holding (
     ∷ (BadList, has_strange_list (fields_of kind) call)
     ∷ [])
 
--- and with them those that it says of a new communicator
+-- what the ranks and the graph are refused for that a call says of a new communicator
+abbrev pub new_refusal : NewSyntax → Option ScriptFault
+new_refusal new = first_holding ((BadList, has_strange_new_list new) ∷ [])
+
+-- and all that it says of a new communicator with its fields
 abbrev pub draft_refusal : Kind → NewSyntax → CallSyntax → Option ScriptFault
 draft_refusal kind new call = first_holding (
     (BadNumber, has_strange_choice new || has_strange_number (fields_of kind) call)

@@ -7,8 +7,9 @@ ghost use Rattle.mpx_post.specs.Kinds.{family_of};
 ghost use Rattle.mpx_script.specs.Words.{words};
 ghost use Rattle.mpx_script.specs.Grammar.{call_with};
 ghost use Rattle.mpx_script.specs.Fields.{is_number, is_one, list_named, counts_named, operation_named, type_named, colour_named};
+ghost use Rattle.mpx_script.specs.Graphs.{graph_in};
 ghost use Rattle.mpx_script.specs.Meanings.{said, call_draft_in, draft_in};
-ghost use Rattle.mpx_script.specs.Sentences.{faulty_counts, IsRefusal, counts_refusal, draft_refusal, fields_refusal, read_at};
+ghost use Rattle.mpx_script.specs.Sentences.{faulty_counts, IsRefusal, counts_refusal, draft_refusal, fields_refusal, new_refusal, read_at};
 
 use crate::faults::{LineError, ScriptFault};
 use crate::fields::{colour_named, is_one, list_named, operation_named, type_named};
@@ -17,7 +18,7 @@ use crate::graphs::graph_in;
 use crate::syntax::{CallSyntax, NewSyntax};
 use crate::words::first_word;
 use mpx_num::{Numbers, Op, Ty, parse_number};
-use mpx_post::{Draft, Fields, Kind, Mode, Number};
+use mpx_post::{Draft, DraftedGraph, Fields, Kind, Mode, Number};
 use std::alloc::{AllocError, Global};
 
 /// The number of a word, 0 where there is none, or None where the word is no number.
@@ -116,15 +117,20 @@ fn counts_fault(fields: Fields, no_scounts: bool, no_rcounts: bool) -> Option<Sc
 fn operation_at(word: Option<&[u8]>) -> Op
     ensures { result ≡ said operation_named Op.Sum (option_copied word.entry) }
 {
-    word.and_then(|word| operation_named(word))
-        .unwrap_or(Op::Sum)
+    match word {
+        Some(word) => operation_named(word).unwrap_or(Op::Sum),
+        None => Op::Sum,
+    }
 }
 
 // The type of a word, `i8` where there is none.
 fn type_at(word: Option<&[u8]>) -> Ty
     ensures { result ≡ said type_named Ty.I8 (option_copied word.entry) }
 {
-    word.and_then(|word| type_named(word)).unwrap_or(Ty::I8)
+    match word {
+        Some(word) => type_named(word).unwrap_or(Ty::I8),
+        None => Ty::I8,
+    }
 }
 
 // The numbers that a line's words stand for, or None where a word is no number.
@@ -212,7 +218,7 @@ fn plain_draft(
 }
 
 /// The draft of a call by its words.
-#[tactic(auto, using(crate::proofs::Accepted::refusal_of_colour, crate::proofs::Accepted::refusal_of_key, crate::proofs::Accepted::refusal_of_fields, crate::proofs::Accepted::refusal_of_ranks, crate::proofs::Accepted::refusal_of_graph, crate::proofs::Accepted::draft_accepted))]
+#[tactic(auto, using(crate::proofs::Accepted::refusal_of_colour, crate::proofs::Accepted::refusal_of_key, crate::proofs::Accepted::refusal_of_fields))]
 pub fn draft_in(
     alloc: Global,
     kind: Kind,
@@ -234,17 +240,41 @@ pub fn draft_in(
         Ok(draft) => draft,
         Err(e) => return Err(e),
     };
+    match new_parts(alloc, new) {
+        Ok(parts) => Ok(Draft {
+            colour,
+            key,
+            group: parts.group,
+            graph: parts.graph,
+            ..draft
+        }),
+        Err(e) => {
+            drop(draft);
+            Err(e)
+        }
+    }
+}
+
+// What a call says of a new communicator in lists.
+#[derive(Drop)]
+struct NewParts {
+    group: Numbers,
+    graph: Option<DraftedGraph>,
+}
+
+// The ranks and the graph that the words of a call say.
+#[tactic(auto, using(crate::proofs::Accepted::refusal_of_ranks, crate::proofs::Accepted::refusal_of_graph, crate::proofs::Accepted::new_accepted))]
+fn new_parts(alloc: Global, new: &NewSyntax<'_>) -> Result<NewParts, LineError>
+    ensures accepted { OnOk result (new_refusal new.now ≡ None) }
+    ensures group { IfOk result (λ parts. read_at list_named [] new.now.ranks ≡ Some parts.group) }
+    ensures graph { IfOk result (λ parts. graph_in new.now ≡ Some parts.graph) }
+    ensures refused { IfErr result (IsRefusal (new_refusal new.now)) }
+{
     let Some(group) = list_at(alloc, new.ranks)? else {
         return Err(LineError::Fault(ScriptFault::BadList));
     };
     let Some(graph) = graph_in(alloc, new)? else {
         return Err(LineError::Fault(ScriptFault::BadList));
     };
-    Ok(Draft {
-        colour,
-        key,
-        group,
-        graph,
-        ..draft
-    })
+    Ok(NewParts { group, graph })
 }

@@ -1,23 +1,16 @@
 // The graph that the words of a call say.
-ghost use Rattle.std.specs.Prelude.{◌≡◌, ◌==◌, ◌≤◌, length, IfOk};
-ghost use Rattle.std.specs.List.{list_any, position_or_len};
+ghost use Rattle.std.specs.Prelude.{◌≡◌, ◌==◌, IfOk};
+ghost use Rattle.std.specs.List.{list_any};
 ghost use Rattle.std.specs.Option.{option_map};
 ghost use Rattle.mpx_post.specs.Rows.{all_of};
 ghost use Rattle.mpx_script.specs.Graphs.{edge_named, edges_graph, entries_in, graph_in, has_no_entries, is_weighted, neighbour_named, neighbours_graph, parted, weighed};
 
 use crate::syntax::NewSyntax;
+use crate::words::front_len;
 use join_core::OutOfMemory;
 use mpx_num::parse_number;
 use mpx_post::{DraftedEdge, DraftedGraph, DraftedNeighbour};
 use std::alloc::{AllocError, Global};
-
-/// How many bytes there are before the first such one.
-fn front_len(byte: u8, word: &[u8]) -> usize
-    ensures len { result ≡ position_or_len (λ b. b == byte) word.now }
-    ensures within { result ≤ length word.now }
-{
-    word.iter().take_while(|other| **other != byte).count()
-}
 
 /// What stands before the first such byte, and what behind it.
 fn parted(byte: u8, word: &[u8]) -> Option<(&[u8], &[u8])>
@@ -80,7 +73,7 @@ fn has_no_entries(word: &[u8]) -> bool
 fn has_colon(word: &[u8]) -> bool
     ensures { result ≡ list_any (λ byte. byte == 58) word.now }
 {
-    word.iter().any(|byte| *byte == b':')
+    word.contains(&b':')
 }
 
 /// Whether the list has weights.

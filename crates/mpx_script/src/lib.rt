@@ -6,7 +6,7 @@
 //! statements), `specs/Syntax.antt` (their places), `specs/Fields.antt` and `specs/Graphs.antt` (what words mean), what a line is
 //! refused for in `specs/Refusals.antt` and what it says in `specs/Meanings.antt`; which names are bound in `specs/Naming.antt`, and
 //! what a whole text is read as in `specs/Reading.antt`. [`statement_lines`] tells which
-//! lines give a rank its statements (`specs/LinesGiven.antt`), and [`words_of_line`] which words stand in one.
+//! lines give a rank its statements (`specs/LinesGiven.antt`), and [`words_of_line`] and [`later_words_of_line`] which words stand in one.
 //!
 //! The statements themselves are those of `mpx_statement`, whose public items are handed on here. What a script's ranks print
 //! is the evaluation of `mpx_evaluation`, on which the reader doesn't stand.
@@ -27,7 +27,7 @@ mod syntax;
 mod words;
 
 pub use faults::{ReadScriptError, ScriptError, ScriptFault};
-pub use lines_given::{statement_lines, words_of_line};
+pub use lines_given::{later_words_of_line, statement_lines, words_of_line};
 pub use mpx_statement::{Posting, Question, RankList, Side, Statement, Word, WordList};
 pub use reader::read_script;
 pub use script::Script;

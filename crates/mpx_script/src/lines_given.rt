@@ -78,6 +78,19 @@ pub fn words_of_line(text: &[u8], number: u32) -> (Option<&[u8]>, Option<&[u8]>)
     (second, third)
 }
 
+/// The fourth and the fifth word of the line with this number, from 1 on: of a `create_group` its tag and its ranks.
+pub fn later_words_of_line(text: &[u8], number: u32) -> (Option<&[u8]>, Option<&[u8]>)
+    ensures fourth { option_copied result.0 ≡ slice_get (words_at text.now number) 3 }
+    ensures fifth { option_copied result.1 ≡ slice_get (words_at text.now number) 4 }
+{
+    let (_, rest) = first_word(line_with_number(text, number));
+    let (_, rest) = first_word(rest);
+    let (_, rest) = first_word(rest);
+    let (fourth, rest) = first_word(rest);
+    let (fifth, _) = first_word(rest);
+    (fourth, fifth)
+}
+
 // The line with this number, or nothing where there is none.
 fn line_with_number(text: &[u8], number: u32) -> &[u8]
     ensures { words result.now ≡ words_at text.now number }

@@ -40,7 +40,10 @@ fn requests(statement: &Statement) -> &[Word]
 fn is_misnamed(word: Option<&Word>) -> bool
     ensures { result ≡ list_any (λ word. not (is_name word)) (option_to_list (option_copied word.entry)) }
 {
-    word.is_some_and(|word| !is_name(word.as_bytes()))
+    match word {
+        Some(word) => !is_name(word.as_bytes()),
+        None => false,
+    }
 }
 
 // Whether one of the words is no name.
@@ -67,7 +70,10 @@ fn misnames(statement: &Statement) -> bool
 fn is_unbound(script: &Script, rank: u8, word: Option<&Word>) -> bool
     ensures { result ≡ list_any (λ word. not (is_bound (names_at script.now.statements rank).communicators word)) (option_to_list (option_copied word.entry)) }
 {
-    word.is_some_and(|word| !script.has_communicator(rank, word.as_bytes()))
+    match word {
+        Some(word) => !script.has_communicator(rank, word.as_bytes()),
+        None => false,
+    }
 }
 
 // Whether the rank hasn't bound one of the words to a request.
@@ -95,9 +101,13 @@ fn is_taken(script: &Script, rank: u8, word: Option<&Word>) -> bool
     ensures { result ≡ list_any (λ word. is_bound (names_at script.now.statements rank).communicators word
         || is_bound (names_at script.now.statements rank).requests word) (option_to_list (option_copied word.entry)) }
 {
-    word.is_some_and(|word| {
-        script.has_communicator(rank, word.as_bytes()) || script.has_request(rank, word.as_bytes())
-    })
+    match word {
+        Some(word) => {
+            let word = word.as_bytes();
+            script.has_communicator(rank, word) || script.has_request(rank, word)
+        }
+        None => false,
+    }
 }
 
 // Whether the rank has bound a name already that the statement binds.

@@ -1,9 +1,10 @@
 // The words of a further line by their places: its label, its statement, and what stands behind that.
-ghost use Rattle.std.specs.Prelude.{◌≡◌, ◌==◌, ◌+◌, ◌-◌, ◌<◌, ◌≤◌, ℕ, ◌&&◌, ◌⊎◌, true, false, not, None, Some, IfOk, IfErr, nat_le, nat_lt, is_none, length};
+ghost use Rattle.std.specs.Prelude.{◌≡◌, ◌==◌, ◌+◌, ◌-◌, ◌<◌, ◌≤◌, ℕ, ◌&&◌, ◌⊎◌, true, false, not, None, Some, IfOk, IfErr, nat_le, nat_lt, is_none, is_some, length};
 ghost use Rattle.std.specs.Option.{option_copied};
 ghost use Rattle.mpx_script.specs.Words.{words};
 ghost use Rattle.mpx_script.specs.Syntax.{ask_in, directive_in, form_in, label_in, new_in, call_in, ranks_meant, statements_in};
-ghost use Rattle.mpx_script.specs.Refusals.{is_past, lacks, has_unknown_word, has_wrong_new_words, has_wrong_count, has_wrong_end, has_wrong_question};
+ghost use Rattle.mpx_script.specs.Fields.{is_arrow, operation_named, type_named};
+ghost use Rattle.mpx_script.specs.Refusals.{fails, is_past, lacks, has_unknown_word, has_wrong_new_words, has_wrong_count, has_wrong_end, has_wrong_question};
 ghost use Rattle.mpx_script.specs.Meanings.{is_meant};
 ghost use Rattle.mpx_script.specs.Naming.{ranks_labelled};
 ghost use Rattle.std.specs.List.{range_with_len};
@@ -158,7 +159,7 @@ impl NewSyntax<'_> {
     pub fn has_wrong_words(&self, shape: Shape) -> bool
         ensures { result ≡ has_wrong_new_words shape self.now }
     {
-        lacks(shape.target, self.target) || self.arrow.is_some_and(|word| !is_arrow(word))
+        lacks(shape.target, self.target) || is_no_arrow(self.arrow)
     }
 }
 
@@ -225,11 +226,7 @@ impl CallSyntax<'_> {
     pub fn has_unknown_word(&self) -> bool
         ensures { result ≡ has_unknown_word self.now }
     {
-        let operation = self
-            .operation
-            .is_some_and(|word| operation_named(word).is_none());
-        let ty = self.ty.is_some_and(|word| type_named(word).is_none());
-        operation || ty
+        is_no_operation(self.operation) || is_no_type(self.ty)
     }
 
     /// Whether words are missing, or there are more than the call has fields.
@@ -248,7 +245,7 @@ impl CallSyntax<'_> {
     pub fn has_wrong_end(&self, mode: Mode) -> bool
         ensures { result ≡ has_wrong_end mode self.now }
     {
-        lacks(is_nonblocking(mode), self.arrow) || self.arrow.is_some_and(|word| !is_arrow(word))
+        lacks(is_nonblocking(mode), self.arrow) || is_no_arrow(self.arrow)
     }
 }
 
@@ -302,6 +299,36 @@ impl AskSyntax<'_> {
             || lacks(asked.has_second(), self.second)
             || lacks(asked.has_ranks(), self.ranks)
             || has_words(self.behind)
+    }
+}
+
+// Whether the word is there and is no `->`.
+fn is_no_arrow(word: Option<&[u8]>) -> bool
+    ensures { result ≡ fails is_arrow (option_copied word.entry) }
+{
+    match word {
+        Some(word) => !is_arrow(word),
+        None => false,
+    }
+}
+
+// Whether the word is there and is no operation.
+fn is_no_operation(word: Option<&[u8]>) -> bool
+    ensures { result ≡ fails (λ word. is_some (operation_named word)) (option_copied word.entry) }
+{
+    match word {
+        Some(word) => operation_named(word).is_none(),
+        None => false,
+    }
+}
+
+// Whether the word is there and is no type.
+fn is_no_type(word: Option<&[u8]>) -> bool
+    ensures { result ≡ fails (λ word. is_some (type_named word)) (option_copied word.entry) }
+{
+    match word {
+        Some(word) => type_named(word).is_none(),
+        None => false,
     }
 }
 

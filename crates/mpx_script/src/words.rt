@@ -6,12 +6,12 @@ ghost use Rattle.std.specs.Str.Lines.{lines, strip_carriage_return};
 ghost use Rattle.mpx_script.specs.Words.{is_ascii, is_blank, words, counts};
 ghost use Rattle.mpx_script.specs.Syntax.{last_word, next_word, words_after, words_before};
 
-/// How many bytes there are before the first newline.
-fn line_len(text: &[u8]) -> usize
-    ensures len { result ≡ position_or_len (λ byte. byte == 10) text.now }
+/// How many bytes there are before the first such one.
+pub fn front_len(byte: u8, text: &[u8]) -> usize
+    ensures len { result ≡ position_or_len (λ b. b == byte) text.now }
     ensures within { result ≤ length text.now }
 {
-    text.iter().take_while(|byte| **byte != b'\n').count()
+    text.iter().take_while(|other| **other != byte).count()
 }
 
 /// A line without the one carriage return at its end.
@@ -30,7 +30,7 @@ pub fn first_line(text: &[u8]) -> (&[u8], &[u8])
     ensures lines { lines text.now ≡ result.0.now ∷ lines result.1.now }
     ensures shorter { length result.1.now < length text.now }
 {
-    let (line, rest) = text.split_at(line_len(text));
+    let (line, rest) = text.split_at(front_len(b'\n', text));
     match rest.split_first() {
         Some((_, after)) => (without_return(line), after),
         None => (line, rest),

@@ -1,6 +1,6 @@
 -- Docked and moored ports.
-use Rattle.std.proofs.Common.{◌≡◌, ◌≢◌, ℕ, ◌+◌, List, [], ◌∷◌, ◌++◌, length, take, Some, Result, Ok, Err, true, slice_get, refl, sym, ap, ◌∙◌, subst, arith, length-append, ⊎_elim, append_assoc}
-use Rattle.std.specs.Prelude.{ℤ, IfOk, OnOk, OnErr}
+use Rattle.std.proofs.Common.{◌≡◌, ◌≢◌, ℕ, ◌+◌, List, [], ◌∷◌, ◌++◌, length, take, Some, Result, Ok, Err, true, slice_get, refl, sym, ap, ◌∙◌, subst, arith, inl, inr, length-append, ⊎_elim, append_assoc}
+use Rattle.std.specs.Prelude.{ℤ, Option, None, IfNone, IfOk, IfSome, OnOk, OnErr}
 use Rattle.std.proofs.lemmas.List.{append-nil}
 use Rattle.join_core.specs.declared.memory.OutOfMemory.{OutOfMemory}
 use mathlib.Core.List.{IsPrefix}
@@ -12,47 +12,55 @@ use Rattle.mpx_post.specs.declared.draft.Draft.{Draft}
 use Rattle.mpx_post.specs.declared.draft.PostError.{PostError}
 use Rattle.mpx_post.specs.Drafts.{at, checked}
 use Rattle.mpx_board.specs.Boards.{told}
-use Rattle.mpx_board.specs.declared.board.Board.{Board}
-use Rattle.mpx_value.specs.Histories.{Made, birth_of, posts_on}
+use Rattle.mpx_value.specs.Histories.{Made, posts_on}
 use Rattle.mpx_node.specs.declared.finished.Finished.{Finished}
 use Rattle.mpx_node.specs.Nodes.{NodeView, Posts, checked_on, posted_on, results_on}
 use Rattle.mpx_world.specs.Worlds.{ProcessView, makes}
 use Rattle.mpx_bus.specs.declared.act.Act.{Act}
 use Rattle.mpx_bus.specs.declared.act.Act.TheVariants as A
 use Rattle.mpx_bus.specs.declared.act.Setup.{Setup}
-use Rattle.mpx_bus.specs.Acts.{at_start, process_at}
+use Rattle.mpx_bus.specs.Acts.{at_start, node_at, process_at}
 use Rattle.mpx_bus.specs.Rule.{IsPlanned, Stood, planned_posts, world_of}
 use Rattle.mpx_bus.specs.Berths.{Berth, Goes, GoesOn, HasListed, IsNew, IsSamePort, KeepsPlan, node_in, process_in}
 use Rattle.mpx_bus.specs.declared.port.Push.{Push}
 use Rattle.mpx_bus.specs.declared.port.Push.TheVariants as P
 use Rattle.mpx_bus.specs.declared.port.Pop.{Pop}
 use Rattle.mpx_bus.specs.declared.port.Pop.TheVariants as O
-use Rattle.mpx_bus.specs.Answers.{Lists, PopsOne, PushesLast, PushesNext, Stopped, WantsList}
+use Rattle.mpx_bus.specs.Answers.{Lists, PopsOne, PushesLast, PushesNext, Stopped}
+use Rattle.mpx_post.proofs.Lists.{slice_get-append}
+use Rattle.mpx_world.proofs.Lists.{slice_get-push, slice_get-push_cases}
 use Rattle.mpx_bus.proofs.Journals.{after-append}
-use Rattle.mpx_bus.proofs.Ports.{new_stood}
+use Rattle.mpx_bus.proofs.Ports.{kept_after, new_stood}
 use Rattle.mpx_bus.proofs.Goes.{NoPosts, goes_itself, goes_then, made_more, two_acts}
-use Rattle.mpx_shared.specs.Docks.{IsDocked, IsMoored, IsNext, MakesNoPost, made_in, next_call, plan_history}
+use Rattle.mpx_shared.specs.Docks.{AreAllSince, HasGoneOn, IsDocked, IsListed, IsMoored, IsNext, MakesNoPost, made_at, made_in, next_call, planned_birth, with_context}
 use Rattle.mpx_shared.specs.Laws.{IsBirth, IsFinished}
 use Rattle.mpx_shared.specs.Tickets.{GathersOne, PostsThen}
 use Rattle.mpx_shared.specs.declared.ticket.Ticket.{Ticket}
-use Rattle.mpx_shared.proofs.Plans.{plan_births, prefix_next, prefix_take, ranks_of}
-use Rattle.mpx_shared.proofs.Standing.{checked_parts, own_beside, stood_birth, stood_good, stood_value}
+use Rattle.mpx_shared.proofs.Plans.{plan_births, prefix_itself, prefix_next, prefix_take, prefix_then, ranks_of}
+use Rattle.mpx_shared.proofs.Standing.{checked_parts, own_beside, stood_birth, stood_good, stood_value, within}
 
 -- NO POSTS
 
-pub no_post_itself : (a b : Berth) → b ≡ a → MakesNoPost a b
-no_post_itself a b e = record { goes = goes_itself a b e; made = ap made_in e }
+abbrev pub no_post_itself : (a b : Berth) → b ≡ a → MakesNoPost a b
+no_post_itself a b e = record { goes = goes_itself a b e; acts = []; journal = ap (λ (x : Berth). x.journal) e ∙ sym (append-nil a.journal); made = ap made_in e }
 
-pub no_post_then : (a b c : Berth) → MakesNoPost a b → MakesNoPost b c → MakesNoPost a c
-no_post_then a b c g h = record { goes = goes_then a b c g.goes h.goes; made = h.made ∙ g.made }
+abbrev pub no_post_then : (a b c : Berth) → MakesNoPost a b → MakesNoPost b c → MakesNoPost a c
+no_post_then a b c g h = record {
+  goes = goes_then a b c g.goes h.goes;
+  acts = g.acts ++ h.acts;
+  journal = h.journal ∙ ap (λ js. js ++ h.acts) g.journal ∙ append_assoc a.journal g.acts h.acts;
+  made = h.made ∙ g.made;
+}
 
 -- the same port has done these too
-made_same : (a b : Berth) → IsSamePort a b → (journal : List Act) → b.journal ≡ journal → process_in b ≡ process_at a.setup a.me journal
+pub made_same : (a b : Berth) → IsSamePort a b → (journal : List Act) → b.journal ≡ journal → process_in b ≡ process_at a.setup a.me journal
 made_same a b same journal is = λ i. process_at (same.setup i) (same.me i) (is i)
 
-pub no_post_by : (a b : Berth) (more : List Act) → GoesOn a b → b.journal ≡ a.journal ++ more → NoPosts more → MakesNoPost a b
+abbrev pub no_post_by : (a b : Berth) (more : List Act) → GoesOn a b → b.journal ≡ a.journal ++ more → NoPosts more → MakesNoPost a b
 no_post_by a b more goes is none = record {
   goes = goes;
+  acts = more;
+  journal = is;
   made = ap (λ (v : ProcessView). v.made) (made_same a b goes.same (a.journal ++ more) is) ∙ made_more a.setup a.me a.journal more none;
 }
 
@@ -74,11 +82,11 @@ no_post_pop (O.OutOfMemory frame) a b goes p =
     p
 
 -- a list that is there, or a new one
-listed_by : (a mid : Berth) → Lists a mid → (more : List Act) × (NoPosts more × (mid.journal ≡ a.journal ++ more))
-listed_by a mid l =
+listed_by : (limit : ℕ) (a mid : Berth) → Lists limit a mid → (more : List Act) × (NoPosts more × (mid.journal ≡ a.journal ++ more))
+listed_by limit a mid l =
     ⊎_elim
     (λ (e : (a.kept ≢ []) × (mid ≡ a)). ([], (tt, ap (λ (x : Berth). x.journal) e.1 ∙ sym (append-nil a.journal))))
-    (λ (e : (a.kept ≡ []) × HasListed a mid). (A.Acknowledged e.1.said ∷ [], ((tt, tt), e.1.journal)))
+    (λ (e : (a.kept ≡ []) × HasListed limit a mid). (A.Acknowledged e.1.said ∷ [], ((tt, tt), e.1.journal)))
     l
 
 no_posts_both : (early late : List Act) → NoPosts early → NoPosts late → NoPosts (early ++ late)
@@ -90,33 +98,83 @@ no_post_last bytes P.Pushed a mid b more goes none is p =
     no_post_by a b (more ++ A.Pushed bytes ∷ []) goes (p ∙ ap (λ (j : List Act). j ++ A.Pushed bytes ∷ []) is ∙ append_assoc a.journal more (A.Pushed bytes ∷ [])) (no_posts_both more (A.Pushed bytes ∷ []) none (tt, tt))
 no_post_last bytes (P.Full frame) a mid b more goes none is p = no_post_by a b more goes (p.1.0 ∙ is) none
 
-pub no_post_put : (r : Result Push OutOfMemory) (a b : Berth) → GoesOn a b → IfOk r (λ push. PushesNext push a b) → OnErr r (WantsList a b) → MakesNoPost a b
-no_post_put (Ok push) a b goes next err =
-    let l = listed_by a next.listed next.lists in
+pub no_post_put : (limit : ℕ) (r : Result Push OutOfMemory) (a b : Berth) → GoesOn a b → IfOk r (λ push. PushesNext limit push a b) → OnErr r (b ≡ a) → MakesNoPost a b
+no_post_put limit (Ok push) a b goes next err =
+    let l = listed_by limit a next.listed next.lists in
     no_post_last next.bytes push a next.listed b l.0 goes l.1.0 l.1.1 next.pushes
-no_post_put (Err e) a b goes next err =
-    ⊎_elim
-    (λ (same : b ≡ a). no_post_itself a b same)
-    (λ (w : (said : Board) × ((b.journal ≡ a.journal ++ A.Acknowledged said ∷ []) × (b.kept ≡ []))). no_post_by a b (A.Acknowledged w.0 ∷ []) goes w.1.0 (tt, tt))
-    err
+no_post_put limit (Err e) a b goes next err = no_post_itself a b err
+
+-- SINCE THE LOCK
+
+gone_on_more : {setup : Setup} {me : ℕ} {opening : List Act} (a b : Berth) (more : List Act) → HasGoneOn setup me opening a → IsSamePort a b → b.journal ≡ a.journal ++ more → IsPrefix (made_in a) (made_in b) → HasGoneOn setup me opening b
+gone_on_more {setup} {me} {opening} a b more g same grows made = record {
+  since = g.since ++ more;
+  journal = grows ∙ ap (λ (js : List Act). js ++ more) g.journal ∙ append_assoc opening g.since more;
+  posts = prefix_then (made_at setup me opening) (made_in a) (made_in b) g.posts made;
+  results = λ name call f e.
+      subst (λ (v : ProcessView). slice_get (results_on v.node name) call ≡ Some f) (sym (made_same a b same (a.journal ++ more) grows ∙ after-append a.journal more (at_start a.setup a.me)))
+      ((kept_after more (process_in a)).results_kept name call f (g.results name call f e));
+}
+
+listed_more : (name : Name) (contexts : List Name) (new : Option Name) → IsListed name contexts → IsListed name (with_context contexts new)
+listed_more name contexts None (inl e) = inl e
+listed_more name contexts None (inr there) = inr there
+listed_more name contexts (Some context) (inl e) = inl e
+listed_more name contexts (Some context) (inr there) = inr (there.0, slice_get-append contexts (context ∷ []) there.0 name there.1)
+
+-- a context that is new or was listed
+listed_new : (name : Name) (contexts : List Name) (new : Option Name) → IfSome new (λ context. context ≡ name) → IfNone new (IsListed name contexts) → IsListed name (with_context contexts new)
+listed_new name contexts None some none = none
+listed_new name contexts (Some context) some none = inr (length contexts, slice_get-push contexts context ∙ ap Some some)
+
+all_since_more : (setup : Setup) (me : ℕ) (opening : List Act) (contexts : List Name) (a b : Berth) (m : Made) (new : Option Name) → AreAllSince setup me opening a contexts → made_in b ≡ made_in a ++ m ∷ [] → IsListed m.name (with_context contexts new)
+    → AreAllSince setup me opening b (with_context contexts new)
+all_since_more setup me opening contexts a b m new all made here k x low there =
+    slice_get-push_cases (λ (y : Made) i. IsListed y.name (with_context contexts new)) (made_in a) m k x (sym (ap (λ ms. slice_get ms k) made) ∙ there)
+    (λ old. listed_more x.name contexts new (all k x low old))
+    (λ same last. subst (λ (y : Made). IsListed y.name (with_context contexts new)) same here)
 
 -- MOORED PORTS
 
-pub moored_later : (table : TableId) (setup : Setup) (me before total : ℕ) (a b : Berth) → IsMoored table setup me before a total → MakesNoPost a b → IsMoored table setup me before b total
-moored_later table setup me before total a b m n = record {
+-- a port that is put under a lock
+pub moored_new : {table : TableId} {setup : Setup} {me : ℕ} {opening : List Act} {before total : ℕ} (contexts : List Name) (b : Berth) → IsDocked table setup me b → b.journal ≡ opening → length (made_in b) ≡ before → total ≡ 0 → IsMoored table setup me opening before b total contexts
+moored_new {table} {setup} {me} {opening} {before} {total} contexts b d is counted none =
+    let same : made_at setup me opening ≡ made_in b = λ i. made_at (sym d.setup_is i) (sym d.me_is i) (sym is i) in
+    record {
+      table_is = d.table_is;
+      setup_is = d.setup_is;
+      me_is = d.me_is;
+      planned = d.planned;
+      counted = omega (arith, counted, none);
+      gone_on = record {
+        since = [];
+        journal = is ∙ sym (append-nil opening);
+        posts = prefix_itself (made_at setup me opening) (made_in b) (sym same);
+        results = λ name call f e. sym (λ i. slice_get (results_on (node_at (sym d.setup_is i) (sym d.me_is i) (sym is i)) name) call) ∙ e;
+      };
+      listed = λ k m low there. absurd (let l = within (made_in b) k m there in let long = ap length same in omega (arith, l, low, long));
+    }
+
+pub moored_later : {table : TableId} {setup : Setup} {me : ℕ} {opening : List Act} {before total : ℕ} {contexts : List Name} (a b : Berth) → IsMoored table setup me opening before a total contexts → MakesNoPost a b
+    → IsMoored table setup me opening before b total contexts
+moored_later a b m n = record {
   table_is = n.goes.same.table ∙ m.table_is;
   setup_is = n.goes.same.setup ∙ m.setup_is;
   me_is = n.goes.same.me ∙ m.me_is;
   planned = n.goes.plan m.planned;
   counted = ap length n.made ∙ m.counted;
+  gone_on = gone_on_more a b n.acts m.gone_on n.goes.same n.journal (prefix_itself (made_in a) (made_in b) n.made);
+  listed = λ k x low there. m.listed k x low (sym (ap (λ ms. slice_get ms k) n.made) ∙ there);
 }
 
-pub docked_of : (table : TableId) (setup : Setup) (me before total : ℕ) (b : Berth) → IsMoored table setup me before b total → (KeepsPlan b → Stood b.setup b.me b.journal) → IsDocked table setup me b
-docked_of table setup me before total b m stood = record { table_is = m.table_is; setup_is = m.setup_is; me_is = m.me_is; planned = m.planned; stood = stood m.planned }
+pub docked_of : {table : TableId} {setup : Setup} {me : ℕ} {opening : List Act} {before total : ℕ} {contexts : List Name} (b : Berth) → IsMoored table setup me opening before b total contexts → (KeepsPlan b → Stood b.setup b.me b.journal)
+    → IsDocked table setup me b
+docked_of b m stood = record { table_is = m.table_is; setup_is = m.setup_is; me_is = m.me_is; planned = m.planned; stood = stood m.planned }
 
 -- the node of a moored port is that of its process
-pub moored_me : (table : TableId) (setup : Setup) (me before total : ℕ) (b : Berth) → IsMoored table setup me before b total → (KeepsPlan b → Stood b.setup b.me b.journal) → (node_in b).me ≡ me
-moored_me table setup me before total b m stood = (stood_good b.setup b.me b.journal (stood m.planned)).me_is ∙ m.me_is
+pub moored_me : {table : TableId} {setup : Setup} {me : ℕ} {opening : List Act} {before total : ℕ} {contexts : List Name} (b : Berth) → IsMoored table setup me opening before b total contexts → (KeepsPlan b → Stood b.setup b.me b.journal)
+    → (node_in b).me ≡ me
+moored_me b m stood = (stood_good b.setup b.me b.journal (stood m.planned)).me_is ∙ m.me_is
 
 -- a post that is made, by the call of its ticket
 pub posts_as : (name : Name) (r : Result Given PostError) (given : Given) (call call' : ℕ) (old new : NodeView) → r ≡ Ok given → Posts name r (Ok call) old new → call' ≡ posted_on old name → Posts name r (Ok call') old new
@@ -128,15 +186,17 @@ pub stays : (a b : Berth) → b ≡ a → Goes b a
 stays a b is = subst (λ (x : Berth). Goes x a) (sym is) (record { same = record { table = refl; pass = refl; setup = refl; me = refl }; keeps = λ bytes may. may })
 
 -- a draft that was refused
-pub refused_then : (table : TableId) (setup : Setup) (me before total amount : ℕ) (a : Berth) (node : NodeView) (name : Name) (draft : Draft) (refusal : PostError) (r : Result Ticket PostError) → IsMoored table setup me before a total
-    → (KeepsPlan a → Stood a.setup a.me a.journal) → amount ≡ total → node ≡ node_in a → Posts name (checked_on node name draft) (Err refusal) node node → r ≡ Err refusal → PostsThen table setup me (before + amount) name draft r
-refused_then table setup me before total amount a node name draft refusal r m stood whole here refused is =
-    subst (PostsThen table setup me (before + amount) name draft) (sym is)
+pub refused_then : {table : TableId} {setup : Setup} {me : ℕ} {opening : List Act} {before total : ℕ} {contexts : List Name} (amount : ℕ) (a : Berth) (node : NodeView) (name : Name) (draft : Draft) (refusal : PostError) (r : Result Ticket PostError)
+    → IsMoored table setup me opening before a total contexts → (KeepsPlan a → Stood a.setup a.me a.journal) → amount ≡ total → node ≡ node_in a → Posts name (checked_on node name draft) (Err refusal) node node → r ≡ Err refusal
+    → PostsThen table setup me opening (before + amount) name draft r
+refused_then {table} {setup} {me} {opening} {before} amount a node name draft refusal r m stood whole here refused is =
+    subst (PostsThen table setup me opening (before + amount) name draft) (sym is)
     (record {
       before = a;
       after = a;
-      docked_before = docked_of table setup me before total a m stood;
-      docked_after = docked_of table setup me before total a m stood;
+      docked_before = docked_of a m stood;
+      docked_after = docked_of a m stood;
+      gone_on = m.gone_on;
       counted = omega (arith, m.counted, whole);
       posts = subst (λ (n : NodeView). Posts name (checked_on n name draft) (Err refusal) n n) here refused;
       ticket = tt;
@@ -161,7 +221,7 @@ next_made setup me journal count name draft given s plan counted next is planned
     let v = process_at setup me journal in
     let good = stood_good setup me journal s in
     let parts = checked_parts (v.node.opened name) (told (v.node.board.contexts name).birth) v.node.me name draft given is in
-    let born : birth_of (plan_history setup) setup.ranks name ≡ Some parts.birth = plan_births setup (world_of setup s.happenings) planned s.planned (ranks_of setup s.happenings) name parts.birth (stood_birth setup me journal s name parts.birth parts.born) in
+    let born : planned_birth setup name ≡ Some parts.birth = plan_births setup (world_of setup s.happenings) planned s.planned (ranks_of setup s.happenings) name parts.birth (stood_birth setup me journal s name parts.birth parts.born) in
     let first : v.made ≡ take count (planned_posts setup me) = prefix_take v.made (planned_posts setup me) (plan planned) ∙ ap (λ n. take n (planned_posts setup me)) counted in
     let call : posted_on v.node name ≡ next_call setup me count name = good.counted name ∙ ap (λ ms. length (posts_on name ms)) first in
     next planned parts.birth given born (subst (λ (x : ℕ × ℕ). checked parts.birth x.0 (at name x.1) draft ≡ Ok given) (λ i. (good.me_is i, call i)) parts.checks)
@@ -173,22 +233,26 @@ planned_more setup me journal name draft given is plan next planned =
     subst (λ (ms : List Made). IsPrefix ms (planned_posts setup me)) (sym (made_posted setup me journal name draft given is)) (prefix_next v.made (planned_posts setup me) (record { name = name; given = given }) (plan planned) (next planned))
 
 -- a moored port that makes its next post
-pub moored_posts : (table : TableId) (setup : Setup) (me before total amount : ℕ) (name : Name) (draft : Draft) (given : Given) (a b : Berth) (total' : ℕ) → IsMoored table setup me before a total → (KeepsPlan a → Stood a.setup a.me a.journal)
-    → amount ≡ total → total' ≡ total + 1 → IsNext setup me (before + amount) name draft → checked_on (node_in a) name draft ≡ Ok given
-    → IsSamePort a b → b.journal ≡ a.journal ++ A.Posted name draft ∷ [] → IsMoored table setup me before b total'
-moored_posts table setup me before total amount name draft given a b total' m stood whole more next is same grows =
+pub moored_posts : {table : TableId} {setup : Setup} {me : ℕ} {opening : List Act} {before total : ℕ} {contexts : List Name} (amount : ℕ) (name : Name) (draft : Draft) (given : Given) (new : Option Name) (a b : Berth) (total' : ℕ) (contexts' : List Name)
+    → IsMoored table setup me opening before a total contexts → (KeepsPlan a → Stood a.setup a.me a.journal) → amount ≡ total → total' ≡ total + 1 → IsNext setup me (before + amount) name draft → checked_on (node_in a) name draft ≡ Ok given
+    → IfSome new (λ context. context ≡ name) → IfNone new (IsListed name contexts) → contexts' ≡ with_context contexts new → IsSamePort a b → b.journal ≡ a.journal ++ A.Posted name draft ∷ []
+    → IsMoored table setup me opening before b total' contexts'
+moored_posts {table} {setup} {me} {opening} {before} {total} {contexts} amount name draft given new a b total' contexts' m stood whole more next is some none listed same grows =
     let count : length (made_in a) ≡ before + amount = omega (arith, m.counted, whole) in
     let next' : IsNext a.setup a.me (length (made_in a)) name draft = subst (λ (x : Setup × (ℕ × ℕ)). IsNext x.0 x.1.0 x.1.1 name draft) (λ i. (sym m.setup_is i, (sym m.me_is i, sym count i))) next in
     let plan : IsPlanned a.setup a.me (a.journal ++ A.Posted name draft ∷ []) =
     planned_more a.setup a.me a.journal name draft given is m.planned (next_made a.setup a.me a.journal (length (made_in a)) name draft given (stood m.planned) m.planned refl next' is) in
+    let post : Made = record { name = name; given = given } in
+    let made : made_in b ≡ made_in a ++ post ∷ [] =
+    ap (λ (v : ProcessView). v.made) (made_same a b same (a.journal ++ A.Posted name draft ∷ []) grows) ∙ made_posted a.setup a.me a.journal name draft given is in
     record {
       table_is = same.table ∙ m.table_is;
       setup_is = same.setup ∙ m.setup_is;
       me_is = same.me ∙ m.me_is;
       planned = subst (λ (x : Setup × (ℕ × List Act)). IsPlanned x.0 x.1.0 x.1.1) (λ i. (sym same.setup i, (sym same.me i, sym grows i))) plan;
-      counted = ap (λ (v : ProcessView). length v.made) (made_same a b same (a.journal ++ A.Posted name draft ∷ []) grows)
-          ∙ ap length (made_posted a.setup a.me a.journal name draft given is)
-          ∙ (let l = length-append (made_in a) (record { name = name; given = given } ∷ []) in omega (arith, l, m.counted, more));
+      counted = ap length made ∙ (let l = length-append (made_in a) (post ∷ []) in omega (arith, l, m.counted, more));
+      gone_on = gone_on_more a b (A.Posted name draft ∷ []) m.gone_on same grows (post ∷ [], sym made);
+      listed = subst (AreAllSince setup me opening b) (sym listed) (all_since_more setup me opening contexts a b post new m.listed made (listed_new name contexts new some none));
     }
 
 -- DOCKED PORTS

@@ -1,7 +1,8 @@
 -- What pulls and puts do.
-use Rattle.std.proofs.Common.{◌≡◌, ℕ, ◌+◌, Bool, true, false, List, [], ◌∷◌, ◌++◌, Option, None, Some, Result, Ok, Err, is_some, refl, sym, ap, ◌∙◌, append_assoc}
-use Rattle.std.specs.Prelude.{All, IfOk, OnOk, OnErr}
-use Rattle.std.proofs.lemmas.List.{append-nil}
+use Rattle.std.proofs.Common.{◌≡◌, ℕ, ◌+◌, Bool, true, false, ◌<◌, List, [], ◌∷◌, ◌++◌, length, Option, None, Some, Result, Ok, Err, inl, inr, is_some, slice_get, refl, sym, ap, ◌∙◌, subst, arith}
+use Rattle.std.specs.Prelude.{All, IfOk, OnOk, OnErr, nat_lt}
+use Rattle.std.proofs.lemmas.Bool.Decides.{nat_tests}
+use Rattle.std.proofs.lemmas.Option.{same_Some}
 use Rattle.std.proofs.lemmas.List.Elements.{All-append, All-cons, All-nil}
 use Rattle.join_core.specs.declared.memory.OutOfMemory.{OutOfMemory}
 use Rattle.atomic_table.specs.Seated.{TableId}
@@ -18,20 +19,21 @@ use Rattle.mpx_bus.specs.declared.act.Act.{Act}
 use Rattle.mpx_bus.specs.declared.act.Act.TheVariants as A
 use Rattle.mpx_bus.specs.declared.act.Setup.{Setup}
 use Rattle.mpx_bus.specs.declared.port.Push.{Push}
-use Rattle.mpx_bus.specs.Answers.{HarvestsOne, PushesNext, WantsList}
+use Rattle.mpx_bus.specs.Answers.{HarvestsOne, PushesNext}
 use Rattle.mpx_bus.specs.Berths.{Berth, GoesOn, KeepsPlan, node_in}
 use Rattle.mpx_bus.specs.Rule.{Stood}
 use Rattle.mpx_shared.specs.declared.ticket.Pull.{Pull}
 use Rattle.mpx_shared.specs.declared.ticket.Pull.TheVariants as L
-use Rattle.mpx_shared.specs.Docks.{IsMoored, MakesNoPost}
-use Rattle.mpx_shared.specs.Gossip.{HarvestsAndPrunes, HarvestsNext, IsHarvestOrPruning, Pulls, Puts, Settles, WantsResult, has_next}
+use Rattle.mpx_shared.specs.Docks.{IsListed, IsMoored, MakesNoPost}
+use Rattle.mpx_shared.specs.Gossip.{HarvestsAndPrunes, HarvestsNext, IsHarvestOrPruning, Prunes, Pulls, Puts, Settles, SettlesAll, SettlesEach, WantsResult, frame_limit, has_next}
 use Rattle.mpx_shared.specs.Turns.{PullsThen, PutsThen, Sufficed}
 use Rattle.mpx_shared.proofs.Docked.{docked_of, moored_later, no_post_by, no_post_itself, no_post_then}
+use Rattle.mpx_shared.proofs.Standing.{within}
 
 -- HARVESTS AND PRUNINGS
 
 pub nothing_done : (a b : Berth) → b ≡ a → HarvestsAndPrunes a b
-nothing_done a b e = record { no_post = no_post_itself a b e; acts = []; each = All-nil IsHarvestOrPruning; journal = ap (λ (x : Berth). x.journal) e ∙ sym (append-nil a.journal); kept = ap (λ (x : Berth). x.kept) e }
+nothing_done a b e = record { no_post = no_post_itself a b e; each = All-nil IsHarvestOrPruning; kept = ap (λ (x : Berth). x.kept) e }
 
 just_one : (a : Act) → IsHarvestOrPruning a → All IsHarvestOrPruning (a ∷ [])
 just_one a is = All-cons IsHarvestOrPruning a [] is (All-nil IsHarvestOrPruning)
@@ -39,18 +41,16 @@ just_one a is = All-cons IsHarvestOrPruning a [] is (All-nil IsHarvestOrPruning)
 pub done_then : (a b c : Berth) → HarvestsAndPrunes a b → HarvestsAndPrunes b c → HarvestsAndPrunes a c
 done_then a b c g h = record {
   no_post = no_post_then a b c g.no_post h.no_post;
-  acts = g.acts ++ h.acts;
-  each = All-append IsHarvestOrPruning g.acts h.acts g.each h.each;
-  journal = h.journal ∙ ap (λ js. js ++ h.acts) g.journal ∙ append_assoc a.journal g.acts h.acts;
+  each = All-append IsHarvestOrPruning g.no_post.acts h.no_post.acts g.each h.each;
   kept = h.kept ∙ g.kept;
 }
 
 pub prunes_one : (name : Name) (n : ℕ) (r : Result (Unit {0}) PruneError) (a b : Berth) → GoesOn a b → b.kept ≡ a.kept → OnOk r (b.journal ≡ a.journal ++ A.Pruned name n ∷ []) → OnErr r (b ≡ a) → HarvestsAndPrunes a b
-prunes_one name n (Ok u) a b goes kept ok err = record { no_post = no_post_by a b (A.Pruned name n ∷ []) goes ok (tt, tt); acts = A.Pruned name n ∷ []; each = just_one (A.Pruned name n) tt; journal = ok; kept = kept }
+prunes_one name n (Ok u) a b goes kept ok err = record { no_post = no_post_by a b (A.Pruned name n ∷ []) goes ok (tt, tt); each = just_one (A.Pruned name n) tt; kept = kept }
 prunes_one name n (Err e) a b goes kept ok err = nothing_done a b err
 
 pub harvests_one : (name : Name) (r : Result Harvest OutOfMemory) (a b : Berth) → GoesOn a b → b.kept ≡ a.kept → HarvestsOne name r a b → HarvestsAndPrunes a b
-harvests_one name (Ok (H.Done call)) a b goes kept h = record { no_post = no_post_by a b (A.Harvested name ∷ []) goes h (tt, tt); acts = A.Harvested name ∷ []; each = just_one (A.Harvested name) tt; journal = h; kept = kept }
+harvests_one name (Ok (H.Done call)) a b goes kept h = record { no_post = no_post_by a b (A.Harvested name ∷ []) goes h (tt, tt); each = just_one (A.Harvested name) tt; kept = kept }
 harvests_one name (Ok H.NotYet) a b goes kept h = nothing_done a b h
 harvests_one name (Ok H.NotOpened) a b goes kept h = nothing_done a b h
 harvests_one name (Err e) a b goes kept h = nothing_done a b h
@@ -119,16 +119,46 @@ harvesting_more name call had a b c i h n e = record {
 
 -- WHAT FOLLOWS A POP
 
-pub settles_by : (a b c d : Berth) → HarvestsAndPrunes a b → has_next b [] ≡ false → HarvestsAndPrunes b c → HarvestsAndPrunes c d → Settles a d
-settles_by a b c d first none prunes rest = record { harvested = b; harvests = first; none_left = none; then = done_then b c d prunes rest }
+pub settles_on : (name : Name) (a b c : Berth) → HarvestsAndPrunes a b → has_next b name ≡ false → Prunes name b c → Settles name a c
+settles_on name a b c first none prunes = record { harvested = b; before = first; none_left = none; pruned = c; prunes = prunes; after = nothing_done c c refl }
+
+pub settles_then : (name : Name) (a b c : Berth) → Settles name a b → HarvestsAndPrunes b c → Settles name a c
+settles_then name a b c s more = record { harvested = s.harvested; before = s.before; none_left = s.none_left; pruned = s.pruned; prunes = s.prunes; after = done_then s.pruned b c s.after more }
+
+pub settles_after : (name : Name) (a b c : Berth) → HarvestsAndPrunes a b → Settles name b c → Settles name a c
+settles_after name a b c first s = record { harvested = s.harvested; before = done_then a b s.harvested first s.before; none_left = s.none_left; pruned = s.pruned; prunes = s.prunes; after = s.after }
+
+settles_listed : (contexts : List Name) (a b c : Berth) → HarvestsAndPrunes a b → Settles [] a b → HarvestsAndPrunes b c → SettlesEach contexts b c → (name : Name) → IsListed name contexts → Settles name a c
+settles_listed contexts a b c does world more each name (inl e) = subst (λ n. Settles n a c) (sym e) (settles_then [] a b c world more)
+settles_listed contexts a b c does world more each name (inr there) = settles_after name a b c does (each there.0 name there.1)
+
+pub settles_all : (contexts : List Name) (a b c : Berth) (r : Result (Unit {0}) OutOfMemory) → HarvestsAndPrunes a b → Settles [] a b → HarvestsAndPrunes b c → OnOk r (SettlesEach contexts b c) → OnOk r (SettlesAll contexts a c)
+settles_all contexts a b c (Ok u) does world more each = record { each = settles_listed contexts a b c does world more each }
+settles_all contexts a b c (Err e) does world more each = tt
+
+-- so far it has settled the first so many of these contexts
+pub record HasSettled (contexts : List Name) (count : ℕ) (old new : Berth) : Type 0 where
+  pub done : HarvestsAndPrunes old new
+  pub each : (i : ℕ) (name : Name) → i < count → slice_get contexts i ≡ Some name → Settles name old new
+
+pub settled_none : (contexts : List Name) (a : Berth) → HasSettled contexts 0 a a
+settled_none contexts a = record { done = nothing_done a a refl; each = λ i name l there. absurd (omega (arith, l)) }
+
+pub settled_more : (contexts : List Name) (count : ℕ) (name : Name) (a b c : Berth) → HasSettled contexts count a b → slice_get contexts count ≡ Some name → HarvestsAndPrunes b c → Settles name b c → HasSettled contexts (count + 1) a c
+settled_more contexts count name a b c s here done next = record { done = done_then a b c s.done done; each = λ i other l there. by_place i other there (nat_lt i count) refl l } where
+  by_place : (i : ℕ) (other : Name) → slice_get contexts i ≡ Some other → (low : Bool) → nat_lt i count ≡ low → i < count + 1 → Settles other a c
+  by_place i other there true t l = settles_then other a b c (s.each i other (grind (arith, nat_tests, t)) there) done
+  by_place i other there false t l =
+      let last : i ≡ count = grind (arith, nat_tests, t, l) in
+      let same : name ≡ other = same_Some name other (sym here ∙ ap (slice_get contexts) (sym last) ∙ there) in
+      settles_after other a b c s.done (subst (λ n. Settles n b c) same next)
+
+pub settled_each : (contexts : List Name) (a b : Berth) → HasSettled contexts (length contexts) a b → SettlesEach contexts a b
+settled_each contexts a b s i name there = s.each i name (within contexts i name there) there
 
 pub wants_later : (a b c : Berth) (r : Result (Unit {0}) OutOfMemory) → HarvestsAndPrunes a b → OnErr r (WantsResult b c) → OnErr r (WantsResult a c)
 wants_later a b c (Ok u) h w = tt
 wants_later a b c (Err e) h w = record { harvests = done_then a b c h w.harvests; name = w.name; next = w.next }
-
-pub on_ok : {T E P : Type 0} (r : Result T E) → P → OnOk r P
-on_ok (Ok x) p = p
-on_ok (Err e) p = tt
 
 -- TURNS
 
@@ -139,27 +169,31 @@ sufficed_by (L.OutOfMemory lost) not = not lost refl
 
 -- UNDER THE LOCK
 
-module _ (table : TableId) (setup : Setup) (me before total : ℕ) (a b : Berth) (m : IsMoored table setup me before a total) (first : KeepsPlan a → Stood a.setup a.me a.journal) (last : KeepsPlan b → Stood b.setup b.me b.journal) (n : MakesNoPost a b) where
-  pub pulls_then : (pull : Pull) → Pulls pull a b → PullsThen table setup me pull
+module _ {table : TableId} {setup : Setup} {me : ℕ} {opening : List Act} {before total : ℕ} {contexts : List Name} (a b : Berth) (m : IsMoored table setup me opening before a total contexts) (first : KeepsPlan a → Stood a.setup a.me a.journal) (last : KeepsPlan b → Stood b.setup b.me b.journal) (n : MakesNoPost a b) where
+  pub pulls_then : (pull : Pull) → Pulls pull contexts a b → PullsThen table setup me opening pull
   pulls_then pull pulls = record {
     before = a;
     after = b;
-    docked_before = docked_of table setup me before total a m first;
-    docked_after = docked_of table setup me before total b (moored_later table setup me before total a b m n) last;
+    docked_before = docked_of a m first;
+    docked_after = docked_of b (moored_later a b m n) last;
+    gone_on = m.gone_on;
     no_post = n;
+    contexts = contexts;
+    listed = m.listed;
     pulls = pulls;
   }
 
-  pub puts_then : (put : Result Push OutOfMemory) → Puts put a b → PutsThen table setup me put
+  pub puts_then : (put : Result Push OutOfMemory) → Puts put a b → PutsThen table setup me opening put
   puts_then put puts = record {
     before = a;
     after = b;
-    docked_before = docked_of table setup me before total a m first;
-    docked_after = docked_of table setup me before total b (moored_later table setup me before total a b m n) last;
+    docked_before = docked_of a m first;
+    docked_after = docked_of b (moored_later a b m n) last;
+    gone_on = m.gone_on;
     no_post = n;
     puts = puts;
   }
 
-pub puts_as : (put : Result Push OutOfMemory) (a b : Berth) → IfOk put (λ push. PushesNext push a b) → OnErr put (WantsList a b) → OnErr put (a.kept ≡ []) → Puts put a b
+pub puts_as : (put : Result Push OutOfMemory) (a b : Berth) → IfOk put (λ push. PushesNext frame_limit push a b) → OnErr put (b ≡ a) → OnErr put (a.kept ≡ []) → Puts put a b
 puts_as (Ok push) a b next err used = next
 puts_as (Err e) a b next err used = (used, err)

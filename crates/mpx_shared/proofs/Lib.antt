@@ -2,4 +2,5 @@ pub mod Plans
 pub mod Standing
 pub mod Docked
 pub mod Gossiping
+pub mod Pruning
 pub mod Answering

@@ -1,5 +1,6 @@
 -- Histories that begin a plan.
-use Rattle.std.proofs.Common.{◌≡◌, ℕ, List, [], ◌∷◌, ◌++◌, length, take, Some, true, slice_get, refl, sym, ap, ◌∙◌, subst}
+use Rattle.std.proofs.Common.{◌≡◌, ℕ, List, [], ◌∷◌, ◌++◌, length, take, Some, true, slice_get, refl, sym, ap, ◌∙◌, subst, append_assoc}
+use Rattle.std.proofs.lemmas.List.{append-nil}
 use Rattle.std.specs.Option.{option_map}
 use mathlib.Core.List.{IsPrefix}
 use Rattle.mpx_name.specs.Name.{Name}
@@ -7,13 +8,14 @@ use Rattle.mpx_post.specs.Births.{BirthView}
 use Rattle.mpx_value.specs.Histories.{Grows, answer_with, birth_of, outcome_of, outcomes_by, posts_on, row_of, value_for}
 use Rattle.mpx_value.proofs.Growth.{birth-grows, posts_on-append, row-grows, then_some}
 use Rattle.mpx_node.specs.declared.finished.Finished.{Finished}
-use Rattle.mpx_world.specs.Worlds.{WorldView, Happening, births, history, start}
+use Rattle.mpx_world.specs.Worlds.{WorldView, Happening, births, history}
 use Rattle.mpx_world.specs.Soundness.{IsValue}
 use Rattle.mpx_post.proofs.Lists.{slice_get-append}
 use Rattle.mpx_world.proofs.Later.{later_goes_on}
 use Rattle.mpx_bus.specs.declared.act.Setup.{Setup}
+use Rattle.mpx_bus.specs.Acts.{start_of}
 use Rattle.mpx_bus.specs.Rule.{BeginsPlan, world_of}
-use Rattle.mpx_shared.specs.Docks.{plan_history}
+use Rattle.mpx_shared.specs.Docks.{plan_history, planned_birth}
 use Rattle.mpx_shared.specs.Laws.{IsBirth, IsFinished, IsPlannedResult}
 
 -- LISTS
@@ -29,6 +31,12 @@ take_first : {A : Type 0} (xs more : List A) → take (length xs) (xs ++ more) �
 take_first [] more = refl
 take_first (x ∷ xs) more = ap (λ zs. x ∷ zs) (take_first xs more)
 
+pub prefix_itself : {A : Type 0} (xs ys : List A) → ys ≡ xs → IsPrefix xs ys
+prefix_itself xs ys e = ([], append-nil xs ∙ sym e)
+
+pub prefix_then : {A : Type 0} (xs ys zs : List A) → IsPrefix xs ys → IsPrefix ys zs → IsPrefix xs zs
+prefix_then xs ys zs p q = (p.0 ++ q.0, sym (append_assoc xs p.0 q.0) ∙ ap (λ list. list ++ q.0) p.1 ∙ q.1)
+
 -- a beginning is the first so many
 pub prefix_take : {A : Type 0} (xs ys : List A) → IsPrefix xs ys → xs ≡ take (length xs) ys
 prefix_take xs ys p = sym (ap (take (length xs)) (sym p.1) ∙ take_first xs p.0)
@@ -37,7 +45,7 @@ prefix_take xs ys p = sym (ap (take (length xs)) (sym p.1) ∙ take_first xs p.0
 
 -- the ranks of a world by what can happen
 pub ranks_of : (setup : Setup) (hs : List Happening) → (world_of setup hs).ranks ≡ setup.ranks
-ranks_of setup hs = sym ((later_goes_on hs (start setup.ranks setup.size)).ranks)
+ranks_of setup hs = sym ((later_goes_on hs (start_of setup)).ranks)
 
 module _ (setup : Setup) (w : WorldView) (planned : setup.planned ≡ true) (begins : BeginsPlan setup w) where
   pub plan_grows : Grows (history w) (plan_history setup)
@@ -47,7 +55,7 @@ module _ (setup : Setup) (w : WorldView) (planned : setup.planned ≡ true) (beg
       ∙ ap (λ xs. slice_get xs k) (posts_on-append name ((w.each p).made) b.0)
       ∙ slice_get-append (posts_on name ((w.each p).made)) (posts_on name b.0) k given e
 
-  pub plan_births : w.ranks ≡ setup.ranks → (name : Name) (birth : BirthView) → births w name ≡ Some birth → birth_of (plan_history setup) setup.ranks name ≡ Some birth
+  pub plan_births : w.ranks ≡ setup.ranks → (name : Name) (birth : BirthView) → births w name ≡ Some birth → planned_birth setup name ≡ Some birth
   plan_births ranks name birth e = birth-grows (history w) (plan_history setup) setup.ranks plan_grows name birth (subst (λ n. birth_of (history w) n name ≡ Some birth) ranks e)
 
   pub plan_result : w.ranks ≡ setup.ranks → (me : ℕ) (name : Name) (call : ℕ) (f : Finished) → IsValue w me name call f → IsPlannedResult setup me name call f
@@ -62,8 +70,8 @@ module _ (setup : Setup) (w : WorldView) (planned : setup.planned ≡ true) (beg
         mine = plan_grows name call me f.mine v.mine;
       }
 
-pub planned_result : (setup : Setup) (me : ℕ) (name : Name) (call : ℕ) (f : Finished) → setup.planned ≡ true → IsFinished setup me name call f → IsPlannedResult setup me name call f
-planned_result setup me name call f planned is = plan_result setup (world_of setup is.happenings) planned is.begins (ranks_of setup is.happenings) me name call f is.value
+pub result_is_planned : (setup : Setup) (me : ℕ) (name : Name) (call : ℕ) (f : Finished) → setup.planned ≡ true → IsFinished setup me name call f → IsPlannedResult setup me name call f
+result_is_planned setup me name call f planned is = plan_result setup (world_of setup is.happenings) planned is.begins (ranks_of setup is.happenings) me name call f is.value
 
-pub planned_birth : (setup : Setup) (name : Name) (birth : BirthView) → setup.planned ≡ true → IsBirth setup name birth → birth_of (plan_history setup) setup.ranks name ≡ Some birth
-planned_birth setup name birth planned is = plan_births setup (world_of setup is.happenings) planned is.begins (ranks_of setup is.happenings) name birth is.born
+pub birth_is_planned : (setup : Setup) (name : Name) (birth : BirthView) → setup.planned ≡ true → IsBirth setup name birth → planned_birth setup name ≡ Some birth
+birth_is_planned setup name birth planned is = plan_births setup (world_of setup is.happenings) planned is.begins (ranks_of setup is.happenings) name birth is.born

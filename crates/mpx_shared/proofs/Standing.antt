@@ -1,20 +1,22 @@
 -- What is so of a process that stands in a world that can be reached.
 use Rattle.std.proofs.Common.{◌≡◌, ℕ, zero, suc, ◌<◌, ◌≤◌, List, [], ◌∷◌, length, Option, None, Some, Ok, slice_get, refl, sym, ap, ◌∙◌, subst, arith}
-use Rattle.std.specs.Prelude.{IsTrue, is_some}
+use Rattle.std.specs.Prelude.{IsTrue, is_some, map}
+use Rattle.std.specs.Option.{option_map}
+use Rattle.std.proofs.lemmas.Option.{same_Some}
 use Rattle.join_core.specs.Flat.{FlatView, unknown, known, clash}
 use Rattle.mpx_name.specs.Name.{Name}
 use Rattle.mpx_post.specs.Posts.{Given}
 use Rattle.mpx_post.specs.Births.{BirthView}
 use Rattle.mpx_post.specs.declared.draft.Draft.{Draft}
 use Rattle.mpx_post.specs.Drafts.{at, checked}
-use Rattle.mpx_board.specs.Boards.{told}
+use Rattle.mpx_board.specs.Boards.{floor_on, minimum, told}
 use Rattle.mpx_value.specs.Histories.{posts_on}
 use Rattle.mpx_node.specs.declared.finished.Finished.{Finished}
-use Rattle.mpx_node.specs.Nodes.{OpenedView, checked_by, posted_by, results_on}
+use Rattle.mpx_node.specs.Nodes.{OpenedView, checked_by, front_on, posted_by, posted_on, results_on}
 use Rattle.mpx_world.specs.Worlds.{ProcessView, WorldView, births, history}
 use Rattle.mpx_world.specs.Soundness.{Agrees, IsMember, IsValue}
 use Rattle.mpx_world.proofs.Truth.{told_agrees}
-use Rattle.mpx_world.proofs.Steps.{Good, board_so}
+use Rattle.mpx_world.proofs.Steps.{Good, board_so, minimum_below}
 use Rattle.mpx_world.proofs.Retention.{retention}
 use Rattle.mpx_world.proofs.Opened.{are_members}
 use Rattle.mpx_world.proofs.Whole.{IsWell, well_by}
@@ -33,7 +35,7 @@ opened_where : (o : Option OpenedView) → 0 < posted_by o → IsTrue (is_some o
 opened_where None l = absurd (omega (arith, l))
 opened_where (Some o) l = refl
 
-within : {A : Type 0} (xs : List A) (k : ℕ) (x : A) → slice_get xs k ≡ Some x → k < length xs
+pub within : {A : Type 0} (xs : List A) (k : ℕ) (x : A) → slice_get xs k ≡ Some x → k < length xs
 within [] k x e = absurd (cc e)
 within (y ∷ ys) zero x e = omega arith
 within (y ∷ ys) (suc k) x e = let l = within ys k x e in omega (arith, l)
@@ -76,15 +78,31 @@ module _ (setup : Setup) (me : ℕ) (journal : List Act) (s : Stood setup me jou
   pub stood_birth : (name : Name) (birth : BirthView) → told ((node_at setup me journal).board.contexts name).birth ≡ Some birth → births (world_of setup s.happenings) name ≡ Some birth
   stood_birth name birth e = told_agrees ((node_at setup me journal).board.contexts name).birth (births w name) birth (((board_so w me (process_at setup me journal) stood_good).contexts_so name).birth_so) e
 
+  -- where it has posted it is a member
+  own_member : (name : Name) → 0 < posted_on (node_at setup me journal) name → IsMember (node_at setup me journal).board name me
+  own_member name l =
+      let opened : IsTrue (is_some ((node_at setup me journal).opened name)) = opened_where ((node_at setup me journal).opened name) l in
+      let member : IsMember ((w.each me).node.board) name me = are_members w well.holds well.members me name (subst (λ (u : ProcessView). IsTrue (is_some (u.node.opened name))) (sym s.stands) opened) in
+      subst (λ (u : ProcessView). IsMember u.node.board name me) s.stands member
+
+  -- and no floor passes its own front
+  pub floor_low : (name : Name) (floor : ℕ) → 0 < posted_on (node_at setup me journal) name → floor_on (node_at setup me journal).board name ≡ Some floor → floor ≤ front_on (node_at setup me journal) name
+  floor_low name floor l e =
+      let v = process_at setup me journal in
+      let fronts = (v.node.board.contexts name).fronts in
+      let b = own_member name l in
+      let least : floor ≡ minimum (map fronts b.birth.members) = same_Some floor _ (sym e ∙ ap (λ f. option_map (λ (birth : BirthView). minimum (map fronts birth.members)) (told f)) b.born) in
+      let below : minimum (map fronts b.birth.members) ≤ fronts me = minimum_below fronts b.birth.members b.rank me b.member in
+      let so : fronts me ≤ front_on v.node name = subst (λ (u : ProcessView). fronts me ≤ front_on u.node name) s.stands (((board_so w me v stood_good).contexts_so name).fronts_so me) in
+      omega (arith, least, below, so)
+
   -- an own post without a result is on the board
   own_kept : (name : Name) (call : ℕ) (x : Given) → slice_get (results_on (node_at setup me journal) name) call ≡ None → slice_get (posts_on name ((process_at setup me journal).made)) call ≡ Some x
       → told (((node_at setup me journal).board.contexts name).posts call me) ≡ Some x
   own_kept name call x none mine =
       let v = process_at setup me journal in
       let l : call < length (posts_on name v.made) = within (posts_on name v.made) call x mine in
-      let opened : IsTrue (is_some (v.node.opened name)) = opened_where (v.node.opened name) (omega (arith, l, stood_good.counted name)) in
-      let member : IsMember ((w.each me).node.board) name me = are_members w well.holds well.members me name (subst (λ (u : ProcessView). IsTrue (is_some (u.node.opened name))) (sym s.stands) opened) in
-      let b = subst (λ (u : ProcessView). IsMember u.node.board name me) s.stands member in
+      let b = own_member name (omega (arith, l, stood_good.counted name)) in
       let front : length (results_on ((w.each me).node) name) ≤ call = past (results_on ((w.each me).node) name) call (ap (λ (u : ProcessView). slice_get (results_on u.node name) call) s.stands ∙ none) in
       let kept = retention w well.holds well.stores name b.birth (stood_birth name b.birth (ap told b.born)) b.rank me b.member call me x front (stood_history name call ∙ mine) in
       ap (λ (u : ProcessView). told ((u.node.board.contexts name).posts call me)) (sym s.stands) ∙ ap told kept

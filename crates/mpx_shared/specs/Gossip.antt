@@ -1,18 +1,19 @@
 -- What a pull and a put do to a port.
-use Rattle.std.specs.Prelude.{◌≡◌, ◌+◌, All, Bool, true, false, List, [], ◌++◌, None, Some, Result, Ok, Err, is_some}
+use Rattle.std.specs.Prelude.{◌≡◌, ◌+◌, ◌≤◌, ℕ, All, Bool, true, false, List, [], None, Some, Result, Ok, Err, is_some, slice_get}
 use Rattle.join_core.specs.declared.memory.OutOfMemory.{OutOfMemory}
 use Rattle.mpx_name.specs.Name.{Name}
+use Rattle.mpx_board.specs.Boards.{floor_on}
 use Rattle.mpx_node.specs.Nodes.{front_on, next_result, posted_on}
 use Rattle.mpx_bus.specs.declared.act.Act.{Act}
 use Rattle.mpx_bus.specs.declared.act.Act.TheVariants as A
 use Rattle.mpx_bus.specs.declared.port.Pop.{Pop}
 use Rattle.mpx_bus.specs.declared.port.Pop.TheVariants as O
 use Rattle.mpx_bus.specs.declared.port.Push.{Push}
-use Rattle.mpx_bus.specs.Answers.{PopsOne, PushesNext, TakesIn, WantsList}
+use Rattle.mpx_bus.specs.Answers.{PopsOne, PushesNext, TakesIn}
 use Rattle.mpx_bus.specs.Berths.{Berth, node_in}
 use Rattle.mpx_shared.specs.declared.ticket.Pull.{Pull}
 use Rattle.mpx_shared.specs.declared.ticket.Pull.TheVariants as L
-use Rattle.mpx_shared.specs.Docks.{MakesNoPost}
+use Rattle.mpx_shared.specs.Docks.{IsListed, MakesNoPost}
 
 -- HARVESTS AND PRUNINGS
 
@@ -35,9 +36,7 @@ IsHarvestOrPruning (A.Popped bytes) = ⊥
 -- the port harvested and pruned, and did nothing else
 pub record HarvestsAndPrunes (old new : Berth) : Type 0 where
   pub no_post : MakesNoPost old new
-  pub acts : List Act
-  pub each : All IsHarvestOrPruning acts
-  pub journal : new.journal ≡ old.journal ++ acts
+  pub each : All IsHarvestOrPruning no_post.acts
   pub kept : new.kept ≡ old.kept
 
 -- the port stored the next result of the context, where there was one; it has posted as many calls there as before
@@ -46,12 +45,37 @@ pub record HarvestsNext (had : Bool) (name : Name) (old new : Berth) : Type 0 wh
   pub stored : had ≡ true → front_on (node_in new) name ≡ front_on (node_in old) name + 1
   pub none : had ≡ false → has_next new name ≡ false
 
--- the port harvested on the world until no further result could be had there; then it pruned, and harvested and pruned elsewhere
-pub record Settles (old new : Berth) : Type 0 where
+-- the posts of how many calls of the context the port has dropped
+abbrev pub dropped_on : Berth → Name → ℕ
+dropped_on port name = ((node_in port).board.contexts name).dropped
+
+-- all that every member of the context has harvested, as the first port's board tells it, the second has dropped
+abbrev pub DropsAll : Name → Berth → Berth → Type 0
+DropsAll name old new = (floor : ℕ) → floor_on (node_in old).board name ≡ Some floor → floor ≤ dropped_on new name
+
+-- the port dropped the posts of the context that every member has harvested; where it had dropped them all, nothing is done
+pub record Prunes (name : Name) (old new : Berth) : Type 0 where
+  pub does : HarvestsAndPrunes old new
+  pub drops : DropsAll name old new
+  pub none : DropsAll name old old → new ≡ old
+
+-- the port harvested on the context until no further result could be had there, and then dropped what every member has harvested;
+-- before and after that it harvested and pruned elsewhere
+pub record Settles (name : Name) (old new : Berth) : Type 0 where
   pub harvested : Berth
-  pub harvests : HarvestsAndPrunes old harvested
-  pub none_left : has_next harvested [] ≡ false
-  pub then : HarvestsAndPrunes harvested new
+  pub before : HarvestsAndPrunes old harvested
+  pub none_left : has_next harvested name ≡ false
+  pub pruned : Berth
+  pub prunes : Prunes name harvested pruned
+  pub after : HarvestsAndPrunes pruned new
+
+-- the port settled each of these contexts
+abbrev pub SettlesEach : List Name → Berth → Berth → Type 0
+SettlesEach contexts old new = (i : ℕ) (name : Name) → slice_get contexts i ≡ Some name → Settles name old new
+
+-- the port settled the world and each of these contexts
+pub record SettlesAll (contexts : List Name) (old new : Berth) : Type 0 where
+  pub each : (name : Name) → IsListed name contexts → Settles name old new
 
 -- the port harvested and pruned, until memory was wanting to store a result that could be had
 pub record WantsResult (old new : Berth) : Type 0 where
@@ -73,28 +97,32 @@ IsPullOf (O.OutOfMemory frame) L.Took = ⊥
 IsPullOf (O.OutOfMemory frame) L.Empty = ⊥
 IsPullOf (O.OutOfMemory frame) (L.OutOfMemory lost) = lost ≡ Some frame
 
--- what follows the pop: all is settled; or nothing follows, where memory was wanting for a frame's part; or memory is wanting for
--- a result
-abbrev pub SettlesAs : Pull → Berth → Berth → Type 0
-SettlesAs L.Took popped new = Settles popped new
-SettlesAs L.Empty popped new = Settles popped new
-SettlesAs (L.OutOfMemory (Some frame)) popped new = new ≡ popped
-SettlesAs (L.OutOfMemory None) popped new = WantsResult popped new
+-- what follows the pop: the world and these contexts are settled; or nothing follows, where memory was wanting for a frame's part;
+-- or memory is wanting for a result
+abbrev pub SettlesAs : Pull → List Name → Berth → Berth → Type 0
+SettlesAs L.Took contexts popped new = SettlesAll contexts popped new
+SettlesAs L.Empty contexts popped new = SettlesAll contexts popped new
+SettlesAs (L.OutOfMemory (Some frame)) contexts popped new = new ≡ popped
+SettlesAs (L.OutOfMemory None) contexts popped new = WantsResult popped new
 
--- the port popped a frame, where there was one, took in its part, and then harvested and pruned
-pub record Pulls (pull : Pull) (old new : Berth) : Type 0 where
+-- the port popped a frame, where there was one, took in its part, and then harvested and pruned on the world and on these contexts
+pub record Pulls (pull : Pull) (contexts : List Name) (old new : Berth) : Type 0 where
   pub pop : Pop
   pub popped : Berth
   pub pops : PopsOne pop old popped
   pub takes_in : TakesIn pop (node_in old) (node_in popped)
   pub kept : popped.kept ≡ old.kept
-  pub then : SettlesAs pull popped new
+  pub then : SettlesAs pull contexts popped new
   pub pull_is : IsPullOf pop pull
 
 -- PUTS
 
+-- the most bytes of a frame
+abbrev pub frame_limit : ℕ
+frame_limit = 1048576
+
 -- the port pushed the next frame of its list, or had it back from a full queue; or memory was wanting for a new list, since all
--- frames of the last one were sent
+-- frames of the last one were sent, and the port has done nothing
 abbrev pub Puts : Result Push OutOfMemory → Berth → Berth → Type 0
-Puts (Ok push) old new = PushesNext push old new
-Puts (Err e) old new = (old.kept ≡ []) × WantsList old new
+Puts (Ok push) old new = PushesNext frame_limit push old new
+Puts (Err e) old new = (old.kept ≡ []) × (new ≡ old)

@@ -10,12 +10,13 @@ use Rattle.mpx_board.specs.Boards.{told}
 use Rattle.mpx_value.specs.Histories.{posts_on}
 use Rattle.mpx_node.specs.Nodes.{NodeView, Opens, Posts, checked_on, gathers_on, posted_on, results_on}
 use Rattle.mpx_bus.specs.declared.act.Setup.{Setup}
+use Rattle.mpx_bus.specs.declared.act.Act.{Act}
 use Rattle.mpx_bus.specs.declared.act.Act.TheVariants as A
 use Rattle.mpx_bus.specs.Berths.{Berth, Goes, node_in}
 use Rattle.mpx_shared.specs.declared.ticket.Ticket.{Ticket}
 use Rattle.mpx_shared.specs.declared.ticket.Tested.{Tested}
 use Rattle.mpx_shared.specs.declared.ticket.Tested.TheVariants as T
-use Rattle.mpx_shared.specs.Docks.{IsDocked, MakesNoPost, made_in}
+use Rattle.mpx_shared.specs.Docks.{HasGoneOn, IsDocked, MakesNoPost, made_in}
 
 -- the number of the ticket's call, or the refusal
 abbrev pub call_of : Result Ticket PostError → Result ℕ PostError
@@ -36,11 +37,12 @@ PostsOne name draft (Ok ticket) old new = new.journal ≡ old.journal ++ A.Poste
 PostsOne name draft (Err refusal) old new = new ≡ old
 
 -- the port had made so many posts, and then made this one and did nothing else, or refused it
-pub record PostsThen (table : TableId) (setup : Setup) (me count : ℕ) (name : Name) (draft : Draft) (result : Result Ticket PostError) : Type 0 where
+pub record PostsThen (table : TableId) (setup : Setup) (me : ℕ) (opening : List Act) (count : ℕ) (name : Name) (draft : Draft) (result : Result Ticket PostError) : Type 0 where
   pub before : Berth
   pub after : Berth
   pub docked_before : IsDocked table setup me before
   pub docked_after : IsDocked table setup me after
+  pub gone_on : HasGoneOn setup me opening before
   pub counted : length (made_in before) ≡ count
   pub posts : Posts name (checked_on (node_in before) name draft) (call_of result) (node_in before) (node_in after)
   pub ticket : IsTicketOf name (checked_on (node_in before) name draft) result
@@ -60,9 +62,10 @@ IsAnswer port ticket T.NotYet = (own_post port ticket ≡ Some ticket.post) × (
 IsAnswer port ticket T.Strange = own_post port ticket ≢ Some ticket.post
 
 -- the port answered the ticket so
-pub record Answers (table : TableId) (setup : Setup) (me : ℕ) (ticket : Ticket) (tested : Tested) : Type 0 where
+pub record Answers (table : TableId) (setup : Setup) (me : ℕ) (opening : List Act) (ticket : Ticket) (tested : Tested) : Type 0 where
   pub port : Berth
   pub docked : IsDocked table setup me port
+  pub gone_on : HasGoneOn setup me opening port
   pub answer : IsAnswer port ticket tested
 
 -- the gathering stands in the journal as the one act of the call; a refusal leaves the port as it was
@@ -71,18 +74,20 @@ GathersOne parent tag ranks (Ok name) old new = new.journal ≡ old.journal ++ A
 GathersOne parent tag ranks (Err refusal) old new = new ≡ old
 
 -- the port opened the gathering and did nothing else, or refused it
-pub record OpensThen (table : TableId) (setup : Setup) (me : ℕ) (parent : Name) (tag : ℤ) (ranks : List ℤ) (result : Result Name PostError) : Type 0 where
+pub record OpensThen (table : TableId) (setup : Setup) (me : ℕ) (opening : List Act) (parent : Name) (tag : ℤ) (ranks : List ℤ) (result : Result Name PostError) : Type 0 where
   pub before : Berth
   pub after : Berth
   pub docked_before : IsDocked table setup me before
   pub docked_after : IsDocked table setup me after
+  pub gone_on : HasGoneOn setup me opening before
   pub opens : Opens parent (gathers_on (node_in before) parent tag ranks) result (node_in before) (node_in after)
   pub no_post : MakesNoPost before after
   pub acts : GathersOne parent tag ranks result before after
   pub kept : after.kept ≡ before.kept
 
 -- the port's board told how the communicator came to be, or didn't
-pub record TellsBirth (table : TableId) (setup : Setup) (me : ℕ) (name : Name) (birth : Option BirthView) : Type 0 where
+pub record TellsBirth (table : TableId) (setup : Setup) (me : ℕ) (opening : List Act) (name : Name) (birth : Option BirthView) : Type 0 where
   pub port : Berth
   pub docked : IsDocked table setup me port
+  pub gone_on : HasGoneOn setup me opening port
   pub told : told ((node_in port).board.contexts name).birth ≡ birth

@@ -2,10 +2,11 @@
 use std::marker::Brand;
 use std::sync::ledger::Ledger;
 
-/// Names one shared port: its ledger, its queue, what all agree on, its process, and how many posts it had made before.
+/// Names one shared port: its ledger, its queue, what all agree on, its process, and what that had done before.
 pub trait Dock: Ledger {
-    ghost use Rattle.std.specs.Prelude.{ℕ};
+    ghost use Rattle.std.specs.Prelude.{ℕ, List};
     ghost use Rattle.atomic_table.specs.Seated.{TableId};
+    ghost use Rattle.mpx_bus.specs.declared.act.Act.{Act};
     ghost use Rattle.mpx_bus.specs.declared.act.Setup.{Setup};
 
     /// All parts of its ledger.
@@ -17,11 +18,15 @@ pub trait Dock: Ledger {
 
     ghost me: { ℕ };
 
-    /// How many posts its port had made when it was put under the lock.
+    /// All that its port had done when it was put under the lock.
+    ghost opening: { List Act };
+
+    /// How many posts that were.
     ghost before: { ℕ };
 }
 
 impl Dock for Brand {
+    ghost use Rattle.std.specs.Prelude.{[]};
     ghost use Rattle.mpx_bus.specs.Views.{no_setup};
     ghost use Rattle.mpx_shared.specs.Docks.{no_table};
 
@@ -32,6 +37,8 @@ impl Dock for Brand {
     ghost setup = { no_setup };
 
     ghost me = { 0 };
+
+    ghost opening = { [] };
 
     ghost before = { 0 };
 }

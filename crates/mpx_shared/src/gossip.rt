@@ -1,9 +1,11 @@
 // What a pull does to a port: a pop with its take, then harvests, and prunings.
-ghost use Rattle.std.specs.Prelude.{◌≡◌, [], true, false, IfOk, OnOk, OnErr};
+ghost use Rattle.std.specs.Prelude.{◌≡◌, ◌<◌, ◌≤◌, true, false, IfOk, OnOk, OnErr};
+ghost use Rattle.mpx_node.specs.Nodes.{front_on, posted_on};
+ghost use Rattle.mpx_node.specs.Shown.{node_of};
 ghost use Rattle.mpx_bus.specs.Berths.{KeepsPlan};
 ghost use Rattle.mpx_bus.specs.Buses.{table_of};
 ghost use Rattle.mpx_shared.specs.Docks.{MakesNoPost};
-ghost use Rattle.mpx_shared.specs.Gossip.{HarvestsAndPrunes, HarvestsNext, Pulls, Settles, WantsResult, has_next};
+ghost use Rattle.mpx_shared.specs.Gossip.{HarvestsAndPrunes, HarvestsNext, Prunes, Pulls, Settles, SettlesAll, SettlesEach, WantsResult, has_next};
 
 use crate::ticket::Pull;
 use join_core::OutOfMemory;
@@ -11,21 +13,20 @@ use mpx_bus::{Bus, Pop, Port};
 use mpx_name::Name;
 use mpx_node::{Harvest, Node};
 use std::alloc::Global;
-use std::collections::BTreeSet;
 use std::sync::Wait;
 
-// Pops a frame and takes in its part; then harvests and prunes.
+// Pops a frame and takes in its part; then harvests and prunes on the world and these contexts.
 pub(crate) fn pull_on<R: Wait>(
     rt: &R,
     alloc: Global,
     bus: &Bus,
     port: &mut Port,
-    contexts: &BTreeSet<Name>,
+    contexts: &[Name],
 ) -> Pull
     requires queue { port.old.table ≡ table_of bus.now }
     requires plan { KeepsPlan port.old }
     ensures port { MakesNoPost port.old port.new }
-    ensures pulls { Pulls result port.old port.new }
+    ensures pulls { Pulls result contexts.now port.old port.new }
 {
     let took = match bus.pop(rt, alloc, port) {
         Pop::OutOfMemory(frame) => return Pull::OutOfMemory(Some(frame)),
@@ -40,19 +41,21 @@ pub(crate) fn pull_on<R: Wait>(
 
 // Stores the results of the world and of these contexts, until no further one can be had, and drops the posts that every member has
 // harvested, as far as the board knows.
-fn settle(alloc: Global, port: &mut Port, contexts: &BTreeSet<Name>) -> Result<(), OutOfMemory>
+fn settle(alloc: Global, port: &mut Port, contexts: &[Name]) -> Result<(), OutOfMemory>
+    requires plan { KeepsPlan port.old }
     ensures port { MakesNoPost port.old port.new }
-    ensures ok { OnOk result (Settles port.old port.new) }
+    ensures ok { OnOk result (SettlesAll contexts.now port.old port.new) }
     ensures err { OnErr result (WantsResult port.old port.new) }
 {
     let world = Name::world(alloc);
-    harvest_on(alloc, port, &world)?;
-    prune_on(port, &world);
-    settle_all(alloc, port, contexts)
+    settle_on(alloc, port, &world)?;
+    settle_each(alloc, port, contexts)
 }
 
-fn settle_all(alloc: Global, port: &mut Port, contexts: &BTreeSet<Name>) -> Result<(), OutOfMemory>
+fn settle_each(alloc: Global, port: &mut Port, contexts: &[Name]) -> Result<(), OutOfMemory>
+    requires plan { KeepsPlan port.old }
     ensures port { HarvestsAndPrunes port.old port.new }
+    ensures ok { OnOk result (SettlesEach contexts.now port.old port.new) }
     ensures err { OnErr result (WantsResult port.old port.new) }
 {
     for name in contexts {
@@ -62,7 +65,9 @@ fn settle_all(alloc: Global, port: &mut Port, contexts: &BTreeSet<Name>) -> Resu
 }
 
 fn settle_on(alloc: Global, port: &mut Port, name: &Name) -> Result<(), OutOfMemory>
+    requires plan { KeepsPlan port.old }
     ensures port { HarvestsAndPrunes port.old port.new }
+    ensures ok { OnOk result (Settles name.now port.old port.new) }
     ensures err { OnErr result (has_next port.new name.now ≡ true) }
 {
     harvest_on(alloc, port, name)?;
@@ -98,12 +103,16 @@ fn harvest_next(alloc: Global, port: &mut Port, name: &Name) -> Result<bool, Out
 }
 
 // Whether the process is a member whose own front the dropped front has reached, which no floor passes.
-fn has_none_to_drop(node: &Node, name: &Name, dropped: u32) -> bool {
+fn has_none_to_drop(node: &Node, name: &Name, dropped: u32) -> bool
+    ensures { result ≡ true → (0 < posted_on (node_of node.now) name.now) × (front_on (node_of node.now) name.now ≤ dropped) }
+{
     node.posted(name) > 0 && node.front(name) <= dropped
 }
 
+// Drops the posts of a context that every member has harvested, as far as the board knows.
 fn prune_on(port: &mut Port, name: &Name)
-    ensures { HarvestsAndPrunes port.old port.new }
+    requires plan { KeepsPlan port.old }
+    ensures { Prunes name.now port.old port.new }
 {
     let dropped = port.node().board().dropped(name);
     if has_none_to_drop(port.node(), name, dropped) {

@@ -4,13 +4,13 @@ ghost use Rattle.atomic_table.specs.Seated.{TableId};
 ghost use Rattle.mpx_name.specs.Name.{Name};
 ghost use Rattle.mpx_post.specs.Births.{BirthView};
 ghost use Rattle.mpx_board.specs.Boards.{told};
-ghost use Rattle.mpx_value.specs.Histories.{birth_of, posts_on};
+ghost use Rattle.mpx_value.specs.Histories.{posts_on};
 ghost use Rattle.mpx_node.specs.declared.finished.Finished.{Finished};
 ghost use Rattle.mpx_node.specs.Nodes.{results_on};
 ghost use Rattle.mpx_bus.specs.declared.act.Setup.{Setup};
 ghost use Rattle.mpx_bus.specs.Rule.{planned_posts};
 ghost use Rattle.mpx_bus.specs.Berths.{Berth, IsNew, node_in};
-ghost use Rattle.mpx_shared.specs.Docks.{IsDocked, made_in, plan_history};
+ghost use Rattle.mpx_shared.specs.Docks.{IsDocked, made_in, planned_birth};
 ghost use Rattle.mpx_shared.specs.Laws.{IsBirth, IsFinished, IsPlannedResult};
 
 /// Each result that a docked port holds is the value of a row, beside the port's own post, and each birth on its board is one, in a
@@ -25,7 +25,7 @@ pub fn docked_ports_hold_what_is_so()
     ensures births { (table : TableId) (setup : Setup) (me : ℕ) (port : Berth) (name : Name) (birth : BirthView) → IsDocked table setup me port
         → told ((node_in port).board.contexts name).birth ≡ Some birth → IsBirth setup name birth }
     ensures planned_births { (setup : Setup) (name : Name) (birth : BirthView) → setup.planned ≡ true
-        → IsBirth setup name birth → birth_of (plan_history setup) setup.ranks name ≡ Some birth }
+        → IsBirth setup name birth → planned_birth setup name ≡ Some birth }
     ensures planned_posts { (table : TableId) (setup : Setup) (me : ℕ) (port : Berth) → setup.planned ≡ true → IsDocked table setup me port
         → made_in port ≡ take (length (made_in port)) (planned_posts setup me) }
 {}

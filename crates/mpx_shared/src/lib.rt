@@ -3,6 +3,7 @@
 
 mod contexts;
 mod dock;
+mod fingerprint;
 mod gossip;
 mod laws;
 mod moored;

@@ -1,16 +1,18 @@
 // A port under its lock.
-ghost use Rattle.std.specs.Prelude.{◌≡◌, ◌+◌, ◌<◌, length, IfOk, OnOk, OnErr};
+ghost use Rattle.std.specs.Prelude.{◌≡◌, ◌+◌, ◌<◌, [], ◌∷◌, ◌++◌, length, IfOk, OnOk, OnErr};
 ghost use Rattle.mpx_node.specs.Nodes.{Opens, Posts, checked_on, gathers_on};
-ghost use Rattle.mpx_bus.specs.Answers.{PushesNext, WantsList};
+ghost use Rattle.mpx_bus.specs.declared.act.Act.TheVariants as A;
+ghost use Rattle.mpx_bus.specs.Answers.{PushesNext};
 ghost use Rattle.mpx_bus.specs.Berths.{Goes, node_in};
 ghost use Rattle.mpx_bus.specs.Buses.{table_of};
-ghost use Rattle.mpx_shared.specs.Docks.{IsDocked, IsNext, MakesNoPost, made_in};
-ghost use Rattle.mpx_shared.specs.Gossip.{Pulls};
+ghost use Rattle.mpx_shared.specs.Docks.{HasGoneOn, IsDocked, IsNext, MakesNoPost, made_in};
+ghost use Rattle.mpx_shared.specs.Gossip.{Pulls, frame_limit};
 ghost use Rattle.mpx_shared.specs.Tickets.{Answers, OpensThen, PostsThen, TellsBirth, call_of};
 ghost use Rattle.mpx_shared.specs.Turns.{PullsThen, PutsThen};
 
-use crate::contexts::keep;
+use crate::contexts::{add_context, new_context};
 use crate::dock::Dock;
+use crate::fingerprint::fingerprint;
 use crate::gossip::pull_on;
 use crate::ticket::{Pull, Tested, Ticket, ticket_for};
 use join_core::{Exact, OutOfMemory};
@@ -19,7 +21,6 @@ use mpx_group::Proc;
 use mpx_name::Name;
 use mpx_post::{Birth, Draft, PostError};
 use std::alloc::Global;
-use std::collections::BTreeSet;
 use std::marker::Model;
 use std::sync::Wait;
 use std::sync::ledger::{Book, Share};
@@ -27,39 +28,41 @@ use std::sync::ledger::{Book, Share};
 /// The most bytes of a frame.
 const LIMIT: usize = 1_048_576;
 
-/// A port under a lock, with the book of its posts and the contexts on which it has posted. To a contract it is the port, and how
-/// many posts it has made since it was put there.
+/// A port under a lock, with the book of its posts and the contexts on which it has posted. To a contract it is the port, how many
+/// posts it has made since it was put there, and on which contexts below the world.
 #[derive(Drop)]
 pub struct Moored<L: Dock> {
     port: Port,
     me: Proc,
-    contexts: BTreeSet<Name>,
+    contexts: Vec<Name>,
     book: Book<L>,
 }
 
 impl<L: Dock> Model for Moored<L> {
-    ghost use Rattle.std.specs.Prelude.{◌≡◌, ℕ};
+    ghost use Rattle.std.specs.Prelude.{◌≡◌, ℕ, List};
+    ghost use Rattle.mpx_name.specs.Name.{Name as NameView};
     ghost use Rattle.mpx_bus.specs.Berths.{Berth};
     ghost use Rattle.mpx_shared.specs.Docks.{IsMoored};
 
-    ghost Value = { Berth × ℕ };
+    ghost Value = { Berth × (ℕ × List NameView) };
 
-    ghost view = { λ m. (m.port, m.book.total) };
+    ghost view = { λ m. (m.port, (m.book.total, m.contexts.items)) };
 
-    ghost invariant = { λ m. (m.me ≡ L.me) × IsMoored L.table L.setup L.me L.before m.port m.book.total };
+    ghost invariant = { λ m. (m.me ≡ L.me) × IsMoored L.table L.setup L.me L.opening L.before m.port m.book.total m.contexts.items };
 }
 
 impl<L: Dock> Moored<L> {
     pub(crate) fn new(alloc: Global, port: Port, me: Proc, book: Book<L>) -> Moored<L>
         requires port { IsDocked L.table L.setup L.me port }
         requires me { me ≡ L.me }
+        requires opening { port.journal ≡ L.opening }
         requires count { length (made_in port) ≡ L.before }
         requires book { book.total ≡ 0 }
     {
         Moored {
             port,
             me,
-            contexts: BTreeSet::new(alloc),
+            contexts: Vec::new(alloc),
             book,
         }
     }
@@ -79,15 +82,15 @@ impl<L: Dock> Moored<L> {
         ensures err { OnErr result ((share.new.amount ≡ share.old.amount) × (self.new ≡ self.old)) }
         ensures port { Goes self.old.0 self.new.0 }
         ensures node { Posts name.now (checked_on (node_in self.old.0) name.now draft) (call_of result) (node_in self.old.0) (node_in self.new.0) }
-        ensures then { PostsThen L.table L.setup L.me (L.before + share.old.amount) name.now draft result }
+        ensures then { PostsThen L.table L.setup L.me L.opening (L.before + share.old.amount) name.now draft result }
     {
         self.book.audit(share);
         let ticket = ticket_for(alloc, self.port.node(), self.me, name, &draft)?;
-        if keep(&mut self.contexts, alloc, name).is_err() {
+        let Ok(context) = new_context(&mut self.contexts, alloc, name) else {
             return Err(PostError::OutOfMemory);
-        }
-        let _call = self.port.post(alloc, name, draft)?;
-        self.book.add(share, 1);
+        };
+        let _call = post_counted(alloc, &mut self.port, &mut self.book, share, name, draft)?;
+        add_context(&mut self.contexts, context);
         // so that the proof knows that the port stands where its journal says
         let _node = self.port.node();
         Ok(ticket)
@@ -95,7 +98,7 @@ impl<L: Dock> Moored<L> {
 
     /// What the port answers a ticket.
     pub fn test(&self, alloc: Global, ticket: &Ticket) -> Result<Tested, OutOfMemory>
-        ensures { IfOk result (λ tested. Answers L.table L.setup L.me ticket.now tested) }
+        ensures { IfOk result (λ tested. Answers L.table L.setup L.me L.opening ticket.now tested) }
     {
         let node = self.port.node();
         if let Some(finished) = node.result(&ticket.name, ticket.call) {
@@ -124,7 +127,7 @@ impl<L: Dock> Moored<L> {
         ensures port { MakesNoPost self.old.0 self.new.0 }
         ensures err { OnErr result (self.new ≡ self.old) }
         ensures node { Opens parent.now (gathers_on (node_in self.old.0) parent.now tag ranks.now) result (node_in self.old.0) (node_in self.new.0) }
-        ensures then { OpensThen L.table L.setup L.me parent.now tag ranks.now result }
+        ensures then { OpensThen L.table L.setup L.me L.opening parent.now tag ranks.now result }
     {
         // so that the proof knows that the port stands where its journal says, before and after
         let _before = self.port.node();
@@ -135,7 +138,7 @@ impl<L: Dock> Moored<L> {
 
     /// How a communicator came to be, where the port's board tells it.
     pub fn birth(&self, alloc: Global, name: &Name) -> Result<Option<Birth>, OutOfMemory>
-        ensures { IfOk result (λ birth. TellsBirth L.table L.setup L.me name.now birth) }
+        ensures { IfOk result (λ birth. TellsBirth L.table L.setup L.me L.opening name.now birth) }
     {
         match self.port.node().board().birth(name) {
             None => Ok(None),
@@ -147,12 +150,12 @@ impl<L: Dock> Moored<L> {
     pub fn pull<R: Wait>(&mut self, rt: &R, alloc: Global, bus: &Bus) -> Pull
         requires queue { table_of bus.now ≡ L.table }
         ensures port { MakesNoPost self.old.0 self.new.0 }
-        ensures pulls { Pulls result self.old.0 self.new.0 }
-        ensures then { PullsThen L.table L.setup L.me result }
+        ensures pulls { Pulls result self.old.1.1 self.old.0 self.new.0 }
+        ensures then { PullsThen L.table L.setup L.me L.opening result }
     {
         // so that the proof knows that the port stands where its journal says, before and after
         let _before = self.port.node();
-        let pull = pull_on(rt, alloc, bus, &mut self.port, &self.contexts);
+        let pull = pull_on(rt, alloc, bus, &mut self.port, self.contexts.as_slice());
         let _after = self.port.node();
         pull
     }
@@ -161,9 +164,9 @@ impl<L: Dock> Moored<L> {
     pub fn put<R: Wait>(&mut self, rt: &R, alloc: Global, bus: &Bus) -> Result<Push, OutOfMemory>
         requires queue { table_of bus.now ≡ L.table }
         ensures port { MakesNoPost self.old.0 self.new.0 }
-        ensures next { IfOk result (λ push. PushesNext push self.old.0 self.new.0) }
-        ensures err { OnErr result (WantsList self.old.0 self.new.0) }
-        ensures then { PutsThen L.table L.setup L.me result }
+        ensures next { IfOk result (λ push. PushesNext frame_limit push self.old.0 self.new.0) }
+        ensures err { OnErr result (self.new ≡ self.old) }
+        ensures then { PutsThen L.table L.setup L.me L.opening result }
     {
         // so that the proof knows that the port stands where its journal says, before and after
         let _before = self.port.node();
@@ -172,10 +175,16 @@ impl<L: Dock> Moored<L> {
         put
     }
 
+    /// What the port's board says, in one number.
+    pub fn fingerprint(&self) -> u64 {
+        fingerprint(self.port.node().board())
+    }
+
     /// The port, which has made as many posts as the share says.
     pub fn open(self, share: &mut Share<L>) -> Port
         requires { share.old.parts ≡ L.parts }
         ensures docked { IsDocked L.table L.setup L.me result }
+        ensures gone_on { HasGoneOn L.setup L.me L.opening result }
         ensures posts { length (made_in result) ≡ L.before + share.old.amount }
     {
         let Moored {
@@ -189,4 +198,28 @@ impl<L: Dock> Moored<L> {
         let _node = port.node();
         port
     }
+}
+
+// Makes the post, and counts it.
+fn post_counted<L: Dock>(
+    alloc: Global,
+    port: &mut Port,
+    book: &mut Book<L>,
+    share: &mut Share<L>,
+    name: &Name,
+    draft: Draft,
+) -> Result<u32, PostError>
+    requires some { 0 < share.old.parts }
+    ensures port { Goes port.old port.new }
+    ensures kept { port.new.kept ≡ port.old.kept }
+    ensures parts { share.new.parts ≡ share.old.parts }
+    ensures ok { OnOk result (port.new.journal ≡ port.old.journal ++ A.Posted name.now draft ∷ []) }
+    ensures counted { OnOk result ((book.new.total ≡ book.old.total + 1) × (share.new.amount ≡ share.old.amount + 1)) }
+    ensures err { OnErr result (port.new ≡ port.old) }
+    ensures uncounted { OnErr result ((book.new.total ≡ book.old.total) × (share.new.amount ≡ share.old.amount)) }
+    ensures node { Posts name.now (checked_on (node_in port.old) name.now draft) result (node_in port.old) (node_in port.new) }
+{
+    let call = port.post(alloc, name, draft)?;
+    book.add(share, 1);
+    Ok(call)
 }

@@ -1,7 +1,7 @@
 // A port that threads share.
 ghost use Rattle.std.specs.Prelude.{◌≡◌, ◌+◌, ◌<◌, length, IfOk, OnOk, OnErr};
 ghost use Rattle.mpx_bus.specs.Buses.{table_of};
-ghost use Rattle.mpx_shared.specs.Docks.{IsDocked, IsNext, made_in};
+ghost use Rattle.mpx_shared.specs.Docks.{HasGoneOn, IsDocked, IsNext, made_in};
 ghost use Rattle.mpx_shared.specs.Tickets.{Answers, OpensThen, PostsThen, TellsBirth};
 ghost use Rattle.mpx_shared.specs.Turns.{PullsThen, PutsThen, TurnsThen};
 
@@ -38,6 +38,7 @@ impl<L: Dock> SharedPort<L> {
         requires ledger { (blank.name ≡ L.name) × ((blank.parts ≡ L.parts) × (L.all ≡ L.parts)) }
         requires port { IsDocked L.table L.setup L.me port }
         requires me { me ≡ L.me }
+        requires opening { port.journal ≡ L.opening }
         requires count { length (made_in port) ≡ L.before }
         ensures { result.1.share.amount ≡ 0 }
     {
@@ -59,7 +60,7 @@ impl<L: Dock> SharedPort<L> {
         requires next { IsNext L.setup L.me (L.before + poster.old.share.amount) name.now draft }
         ensures ok { OnOk result (poster.new.share.amount ≡ poster.old.share.amount + 1) }
         ensures err { OnErr result (poster.new.share.amount ≡ poster.old.share.amount) }
-        ensures then { PostsThen L.table L.setup L.me (L.before + poster.old.share.amount) name.now draft result }
+        ensures then { PostsThen L.table L.setup L.me L.opening (L.before + poster.old.share.amount) name.now draft result }
     {
         self.moored
             .lock(rt)
@@ -73,7 +74,7 @@ impl<L: Dock> SharedPort<L> {
         alloc: Global,
         ticket: &Ticket,
     ) -> Result<Tested, OutOfMemory>
-        ensures { IfOk result (λ tested. Answers L.table L.setup L.me ticket.now tested) }
+        ensures { IfOk result (λ tested. Answers L.table L.setup L.me L.opening ticket.now tested) }
     {
         self.moored.lock(rt).test(alloc, ticket)
     }
@@ -87,7 +88,7 @@ impl<L: Dock> SharedPort<L> {
         tag: i128,
         ranks: &[i128],
     ) -> Result<Name, PostError>
-        ensures { OpensThen L.table L.setup L.me parent.now tag ranks.now result }
+        ensures { OpensThen L.table L.setup L.me L.opening parent.now tag ranks.now result }
     {
         self.moored
             .lock(rt)
@@ -101,7 +102,7 @@ impl<L: Dock> SharedPort<L> {
         alloc: Global,
         name: &Name,
     ) -> Result<Option<Birth>, OutOfMemory>
-        ensures { IfOk result (λ birth. TellsBirth L.table L.setup L.me name.now birth) }
+        ensures { IfOk result (λ birth. TellsBirth L.table L.setup L.me L.opening name.now birth) }
     {
         self.moored.lock(rt).birth(alloc, name)
     }
@@ -109,7 +110,7 @@ impl<L: Dock> SharedPort<L> {
     /// Pops a frame and takes in its part; then stores the results that can be had, and drops what every member has harvested.
     pub fn pull<R: Wait>(&self, rt: &R, alloc: Global, bus: &Bus) -> Pull
         requires queue { table_of bus.now ≡ L.table }
-        ensures { PullsThen L.table L.setup L.me result }
+        ensures { PullsThen L.table L.setup L.me L.opening result }
     {
         self.moored.lock(rt).pull(rt, alloc, bus)
     }
@@ -117,9 +118,15 @@ impl<L: Dock> SharedPort<L> {
     /// Pushes the next frame of what others may lack.
     pub fn put<R: Wait>(&self, rt: &R, alloc: Global, bus: &Bus) -> Result<Push, OutOfMemory>
         requires queue { table_of bus.now ≡ L.table }
-        ensures { PutsThen L.table L.setup L.me result }
+        ensures { PutsThen L.table L.setup L.me L.opening result }
     {
         self.moored.lock(rt).put(rt, alloc, bus)
+    }
+
+    /// What the port's board says, in one number: where it stays the same, the board almost surely says nothing new, and where two
+    /// ports have the same, their boards say the same.
+    pub fn fingerprint<R: Wait>(&self, rt: &R) -> u64 {
+        self.moored.lock(rt).fingerprint()
     }
 
     /// So many times a pull and a put, each time with a yield to other threads behind: a thread that went on would meet its own frames
@@ -132,7 +139,7 @@ impl<L: Dock> SharedPort<L> {
         turns: u32,
     ) -> Result<(), OutOfMemory>
         requires queue { table_of bus.now ≡ L.table }
-        ensures { TurnsThen L.table L.setup L.me turns result }
+        ensures { TurnsThen L.table L.setup L.me L.opening turns result }
     {
         for _turn in 0..turns {
             if let Pull::OutOfMemory(_) = self.pull(rt, alloc, bus) {
@@ -144,10 +151,11 @@ impl<L: Dock> SharedPort<L> {
         Ok(())
     }
 
-    /// The port. It has made as many posts as the poster says.
+    /// The port. It has made as many posts as the poster says, and goes on from what it was when it was put under the lock.
     pub fn into_port(self, poster: Poster<L>) -> Port
         requires ledger { L.all ≡ L.parts }
         ensures docked { IsDocked L.table L.setup L.me result }
+        ensures gone_on { HasGoneOn L.setup L.me L.opening result }
         ensures posts { length (made_in result) ≡ L.before + poster.share.amount }
     {
         let SharedPort { moored } = self;

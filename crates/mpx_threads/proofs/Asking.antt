@@ -1,13 +1,13 @@
 -- What a shared port answers a ticket, by the plan.
-use Rattle.std.proofs.Common.{◌≡◌, ℕ, List, true, Option, Some, None, refl, sym, ap, ◌∙◌, subst}
-use Rattle.std.specs.Prelude.{slice_get}
+use Rattle.std.proofs.Common.{◌≡◌, ℕ, List, true, Option, Some, None, sym, ◌∙◌, subst}
 use Rattle.atomic_table.specs.Seated.{TableId}
 use Rattle.mpx_name.specs.Name.{Name}
 use Rattle.mpx_post.specs.Births.{BirthView}
 use Rattle.mpx_value.specs.declared.outcomes.Outcome.{Outcome}
 use Rattle.mpx_value.specs.declared.outcomes.Outcome.TheVariants.{NewComm}
-use Rattle.mpx_value.specs.Histories.{Answer, answer_with, born_by}
+use Rattle.mpx_value.specs.Histories.{answer_with, born_by}
 use Rattle.mpx_node.specs.declared.finished.Finished.{Finished}
+use Rattle.mpx_bus.specs.declared.act.Act.{Act}
 use Rattle.mpx_bus.specs.declared.act.Setup.{Setup}
 use Rattle.mpx_shared.specs.declared.ticket.Ticket.{Ticket}
 use Rattle.mpx_shared.specs.declared.ticket.Tested.{Tested}
@@ -17,20 +17,18 @@ use Rattle.mpx_shared.specs.Tickets.{Answers, TellsBirth}
 use Rattle.mpx_shared.proofs.Docked.{docked_birth, docked_result}
 use Rattle.mpx_shared.proofs.Plans as P
 use Rattle.mpx_rank.specs.Answered.{answer_of}
-use Rattle.mpx_rank.specs.declared.answered.Answered.{Answered}
-use Rattle.mpx_threads.specs.Plans.{planned_results}
 use Rattle.mpx_threads.specs.Told.{planned_birth}
 
 module _ (table : TableId) (setup : Setup) (me : ℕ) (planned : setup.planned ≡ true) where
   -- a result is the plan's
-  pub done_so : (ticket : Ticket) (tested : Tested) (f : Finished) → Answers table setup me ticket tested → tested ≡ Done f → IsPlannedResult setup me ticket.name ticket.call f
-  done_so ticket tested f answers e =
-      let a = subst (Answers table setup me ticket) e answers in
-      P.planned_result setup me ticket.name ticket.call f planned (docked_result table setup me a.port ticket.name ticket.call f a.docked a.answer.0)
+  pub done_so : {opening : List Act} (ticket : Ticket) (tested : Tested) (f : Finished) → Answers table setup me opening ticket tested → tested ≡ Done f → IsPlannedResult setup me ticket.name ticket.call f
+  done_so {opening} ticket tested f answers e =
+      let a = subst (Answers table setup me opening ticket) e answers in
+      P.result_is_planned setup me ticket.name ticket.call f planned (docked_result table setup me a.port ticket.name ticket.call f a.docked a.answer.0)
 
   -- and so is a birth
-  pub born_so : (name : Name) (birth : BirthView) → TellsBirth table setup me name (Some birth) → planned_birth setup name ≡ Some birth
-  born_so name birth tells = P.planned_birth setup name birth planned (docked_birth table setup me tells.port name birth tells.docked tells.told)
+  pub born_so : {opening : List Act} (name : Name) (birth : BirthView) → TellsBirth table setup me opening name (Some birth) → planned_birth setup name ≡ Some birth
+  born_so name birth tells = P.birth_is_planned setup name birth planned (docked_birth table setup me tells.port name birth tells.docked tells.told)
 
 -- a communicator that was born so
 pub comm_so : (setup : Setup) (outcome : Outcome) (new : Name) (size rank : ℕ) (birth : BirthView) → outcome ≡ NewComm new size rank → planned_birth setup new ≡ Some birth → answer_of (record { outcome = outcome; born = Some birth }) ≡ answer_with (planned_birth setup) outcome

@@ -1,37 +1,32 @@
 -- A rank whose desk is a thread's comes where its script leads by the plan's posts.
-use Rattle.std.proofs.Common.{◌≡◌, ℕ, zero, suc, ◌+◌, ◌<◌, Bool, true, false, cond, List, [], ◌∷◌, ◌++◌, codes, map, take, Option, Some, None, refl, sym, ap, ◌∙◌, subst, arith}
-use Rattle.std.specs.Prelude.{slice_get, bytes_eq, is_some, ◌||◌, Result, Ok, Err, if◌then◌else◌}
+use Rattle.std.proofs.Common.{◌≡◌, ℕ, zero, suc, ◌+◌, Bool, true, false, cond, List, [], ◌∷◌, ◌++◌, codes, take, Option, Some, None, refl, sym, ap, ◌∙◌, subst, arith}
+use Rattle.std.specs.Prelude.{slice_get, bytes_eq, is_some, ◌||◌, Ok, if◌then◌else◌}
 use Rattle.std.specs.Option.{option_map}
 use Rattle.mpx_name.specs.Name.{Name}
-use Rattle.mpx_post.specs.declared.draft.PostError.{PostError}
-use Rattle.mpx_post.specs.declared.draft.PostError.TheVariants.{OutOfMemory}
-use Rattle.mpx_post.specs.Births.{BirthView}
-use Rattle.mpx_value.specs.declared.outcomes.Outcome.{Outcome}
-use Rattle.mpx_value.specs.Histories.{Answer, Made, Results, birth_of}
+use Rattle.mpx_value.specs.Histories.{Answer, Made, Results}
 use Rattle.mpx_statement.specs.declared.statement.Posting.{Posting}
 use Rattle.mpx_statement.specs.declared.statement.Statement.{Statement}
 use Rattle.mpx_statement.specs.declared.statement.Statement.TheVariants.{Post}
 use Rattle.mpx_statement.specs.Statements.{bound_to, posted_on, started_as}
 use Rattle.mpx_statement.specs.Lookups.{named}
-use Rattle.mpx_evaluation.specs.Ranks.{Bound, Communicator, Do, Local, Todo, Told, attempt, communicator_of, doing, done, next_call, step}
-use Rattle.mpx_evaluation.specs.Evaluation.{bound_at_start, history, known, start, statements_of, world_of, IsPrefixOf}
+use Rattle.mpx_evaluation.specs.Ranks.{Communicator, Do, Local, attempt, communicator_of, doing, done, next_call, step}
+use Rattle.mpx_evaluation.specs.Evaluation.{known, start, statements_of, world_of, IsPrefixOf}
 use Rattle.mpx_evaluation.specs.Going.{Goes, stays, moves}
 use Rattle.mpx_evaluation.specs.Standing.{WaitView, has_statements, todo_of}
-use Rattle.mpx_evaluation.specs.Transcripts.{line_text}
 use Rattle.mpx_evaluation.specs.Reports.{is_left}
 use Rattle.mpx_evaluation.proofs.Going.{goes-adds, goes-there}
 use Rattle.mpx_evaluation.proofs.Steps.{posted, started, step_posts, step_starts}
 use Rattle.mpx_bus.specs.declared.act.Setup.{Setup}
 use Rattle.mpx_bus.specs.Rule.{planned_posts}
 use Rattle.mpx_rank.specs.Carriers.{IsWithin, Terms, outcomes_of}
-use Rattle.mpx_rank.specs.Moves.{GoesOn, MayGo, MayTry, Ran, RankView, bound_first, communicator_in, is_waiting}
+use Rattle.mpx_rank.specs.Moves.{GoesOn, MayGo, RankView, bound_first, communicator_in, is_waiting}
 use Rattle.mpx_rank.specs.Places.{CommunicatorView, Stands, attempt_by, bound_as}
-use Rattle.mpx_rank.proofs.Stepping.{Came, GoesBy, IsOn, StaysTold, TellsLines, goes_on_goes, ran_goes}
+use Rattle.mpx_rank.proofs.Stepping.{Came, GoesBy, StaysTold, goes_on_goes, ran_goes}
 use Rattle.mpx_rank.proofs.Words.{attempt_same, bound_there, communicator_same}
 use Rattle.mpx_script.specs.ScriptView.{ScriptView}
 use Rattle.mpx_threads.specs.declared.told.ToldCall.{ToldCall}
 use Rattle.mpx_threads.specs.Plans.{Plans, planned_results}
-use Rattle.mpx_threads.specs.Told.{DeskView, HearsMore, MayPost, Tried, first_posts, is_among, planned_birth, thread_terms, told_more, told_of}
+use Rattle.mpx_threads.specs.Told.{DeskView, MayPost, first_posts, is_among, thread_terms, told_more, told_of}
 use Rattle.mpx_threads.specs.Work.{HasCome}
 use Rattle.mpx_threads.proofs.Plans.{births_are, planned_is, posts_are, results_are}
 

@@ -1,44 +1,38 @@
 -- What a rank was told its port holds, at the end.
-use Rattle.std.proofs.Common.{◌≡◌, ℕ, zero, suc, ◌+◌, ◌<◌, ◌==◌, Bool, true, false, cond, List, [], ◌∷◌, length, map, take, get_or, Option, Some, None, refl, sym, ap, ◌∙◌, subst, arith, inl}
+use Rattle.std.proofs.Common.{◌≡◌, ℕ, suc, ◌==◌, Bool, true, false, cond, List, [], ◌∷◌, length, get_or, Option, Some, None, refl, sym, ap, ◌∙◌, subst, arith, inl}
 use Rattle.std.specs.Prelude.{slice_get, is_some, IsTrue, not, ◌&&◌, ◌||◌}
 use Rattle.std.specs.Option.{option_map}
 use Rattle.std.proofs.lemmas.Bool.Decides.{Decides-eqb, nat_tests}
 use Rattle.std.proofs.lemmas.Option.{same_Some}
 use Rattle.atomic_table.specs.Seated.{TableId}
-use Rattle.join_core.specs.Flat.{known as known_flat}
 use Rattle.mpx_name.specs.Name.{Name, same_name}
-use Rattle.mpx_post.specs.Births.{BirthView}
 use Rattle.mpx_board.specs.Boards.{told}
 use Rattle.mpx_value.specs.declared.outcomes.Outcome.{Outcome}
 use Rattle.mpx_value.specs.declared.outcomes.Outcome.TheVariants.{Nothing, Absent, Items, NewComm, Null, Fault}
-use Rattle.mpx_value.specs.Histories.{Answer, Made, Results, Within, answer_with, born_by, birth_of, posts_on}
+use Rattle.mpx_value.specs.Histories.{Answer, Results, Within, answer_with, posts_on}
 use Rattle.mpx_node.specs.declared.finished.Finished.{Finished}
 use Rattle.mpx_node.specs.Nodes.{NodeView, results_on}
 use Rattle.mpx_world.specs.Worlds.{ProcessView}
-use Rattle.mpx_world.specs.Soundness.{IsCommunicator}
 use Rattle.mpx_world.proofs.Lists.{names_same}
 use Rattle.mpx_world.proofs.Whole.{IsWell, well_by}
 use Rattle.mpx_world.proofs.Opened.{are_communicators}
 use Rattle.mpx_bus.specs.declared.act.Setup.{Setup}
-use Rattle.mpx_bus.specs.Rule.{planned_posts}
-use Rattle.mpx_bus.specs.Berths.{Berth, node_in, process_in}
+use Rattle.mpx_bus.specs.Berths.{Berth, node_in}
 use Rattle.mpx_bus.specs.Rule.{world_of}
-use Rattle.mpx_shared.specs.Docks.{IsDocked, made_in, plan_history}
-use Rattle.mpx_shared.specs.Laws.{IsPlannedResult}
+use Rattle.mpx_shared.specs.Docks.{IsDocked, made_in}
 use Rattle.mpx_shared.proofs.Docked.{docked_birth, docked_mine, docked_posts, docked_result}
 use Rattle.mpx_shared.proofs.Plans as P
 use Rattle.mpx_statement.specs.declared.statement.Statement.{Statement}
-use Rattle.mpx_evaluation.specs.Ranks.{Line, Local, Told, doing}
+use Rattle.mpx_evaluation.specs.Ranks.{Told, doing}
 use Rattle.mpx_evaluation.specs.Standing.{has_statements}
 use Rattle.mpx_evaluation.specs.Evaluation.{IsPrefixOf, bound_at_start, known, start, statements_of}
 use Rattle.mpx_evaluation.specs.Going.{Goes, stays}
 use Rattle.mpx_evaluation.specs.Told.{CarriesOut, none}
-use Rattle.mpx_evaluation.specs.Transcripts.{line_text}
 use Rattle.mpx_evaluation.specs.Reports.{is_left}
 use Rattle.mpx_evaluation.proofs.Fronts.{prefix_itself}
 use Rattle.mpx_evaluation.proofs.Going.{goes-carries_out}
 use Rattle.mpx_evaluation.proofs.Tells.{mapped_some}
-use Rattle.mpx_system.specs.Systems.{IsResultOf, TellsResults, node_births, node_tells}
+use Rattle.mpx_system.specs.Systems.{node_births, node_tells}
 use Rattle.mpx_script.specs.ScriptView.{ScriptView}
 use Rattle.mpx_threads.specs.declared.told.ToldCall.{ToldCall}
 use Rattle.mpx_threads.specs.Plans.{Plans, planned_results}
@@ -89,7 +83,7 @@ told_among known ts name call answer e = by_test (is_among ts name call) e where
 module _ (table : TableId) (setup : Setup) (me : ℕ) (port : Berth) (docked : IsDocked table setup me port) (planned : setup.planned ≡ true) where
   -- a result is what the plan's posts give
   result_is : (name : Name) (call : ℕ) (f : Finished) → slice_get (results_on (node_in port) name) call ≡ Some f → planned_results setup me name call ≡ Some (answer_with (planned_birth setup) f.outcome)
-  result_is name call f e = (P.planned_result setup me name call f planned (docked_result table setup me port name call f docked e)).result
+  result_is name call f e = (P.result_is_planned setup me name call f planned (docked_result table setup me port name call f docked e)).result
 
   -- the board knows each communicator that a result names
   names_known : (name : Name) (call : ℕ) (f : Finished) → slice_get (results_on (node_in port) name) call ≡ Some f → (new : Name) (size rank : ℕ) → f.outcome ≡ NewComm new size rank → node_births (node_in port) new ≡ planned_birth setup new
@@ -99,7 +93,7 @@ module _ (table : TableId) (setup : Setup) (me : ℕ) (port : Berth) (docked : I
       let there : slice_get (results_on ((world_of port.setup stood.happenings).each port.me).node name) call ≡ Some f = ap (λ (v : ProcessView). slice_get (results_on v.node name) call) stood.stands ∙ e in
       let c = are_communicators (world_of port.setup stood.happenings) well.holds well.members port.me name call f there new size rank given in
       let born : told ((node_in port).board.contexts new).birth ≡ Some c.birth = ap (λ (v : ProcessView). told (v.node.board.contexts new).birth) (sym stood.stands) ∙ ap told c.born in
-      born ∙ sym (P.planned_birth setup new c.birth planned (docked_birth table setup me port new c.birth docked born))
+      born ∙ sym (P.birth_is_planned setup new c.birth planned (docked_birth table setup me port new c.birth docked born))
 
   same_answer : (name : Name) (call : ℕ) (f : Finished) → slice_get (results_on (node_in port) name) call ≡ Some f → (outcome : Outcome) → f.outcome ≡ outcome → answer_with (node_births (node_in port)) outcome ≡ answer_with (planned_birth setup) outcome
   same_answer name call f e Nothing g = refl

@@ -1,4 +1,5 @@
 pub mod Plans
+pub mod Looking
 pub mod Less
 pub mod Coming
 pub mod Holding

@@ -1,12 +1,10 @@
 -- What the plan of a run has to do with the evaluation of its script.
-use Rattle.std.proofs.Common.{◌≡◌, ℕ, zero, suc, ◌+◌, ◌<◌, ◌≤◌, ◌⊎◌, List, [], ◌∷◌, ◌++◌, length, map, take, get_or, true, Some, refl, sym, ap, ◌∙◌, subst, inl, inr, arith, length-append}
-use Rattle.std.specs.Prelude.{slice_get, unwrap_or}
+use Rattle.std.proofs.Common.{◌≡◌, ℕ, zero, suc, ◌<◌, ◌≤◌, ◌⊎◌, List, [], ◌∷◌, ◌++◌, length, map, take, get_or, true, refl, sym, ap, ◌∙◌, subst, inl, inr, arith, length-append}
+use Rattle.std.specs.Prelude.{unwrap_or}
 use Rattle.std.proofs.Math.Nat.{eq-or-lt_of_le}
 use Rattle.std.proofs.lemmas.Option.{slice_get_past}
 use Rattle.mpx_name.specs.Name.{Name}
-use Rattle.mpx_post.specs.Posts.{Given}
-use Rattle.mpx_post.specs.Births.{BirthView}
-use Rattle.mpx_value.specs.Histories.{Made, History, Results, birth_of, history_of, results_of}
+use Rattle.mpx_value.specs.Histories.{Made, Results, birth_of, history_of, results_of}
 use Rattle.mpx_bus.specs.declared.act.Setup.{Setup}
 use Rattle.mpx_bus.specs.Rule.{made_of, planned_posts}
 use Rattle.mpx_shared.specs.Docks.{plan_history}
@@ -14,7 +12,7 @@ use Rattle.mpx_statement.specs.declared.statement.Statement.{Statement}
 use Rattle.mpx_statement.specs.declared.statement.Statement.TheVariants.{Post}
 use Rattle.mpx_script.specs.ScriptView.{ScriptView}
 use Rattle.mpx_evaluation.specs.Ranks.{Bindings, Line, Local, Requests}
-use Rattle.mpx_evaluation.specs.Evaluation.{IsEvaluation, State, bound_at_start, history, known, statements_of}
+use Rattle.mpx_evaluation.specs.Evaluation.{State, bound_at_start, history, known, statements_of}
 use Rattle.mpx_evaluation.specs.Told.{CarriesOut, Passes, accepted, asked, none, refused, started, waited}
 use Rattle.mpx_evaluation.proofs.Ends.{eval_of}
 use Rattle.mpx_evaluation.proofs.Tells.{each-carries_out}

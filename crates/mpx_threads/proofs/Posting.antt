@@ -1,5 +1,5 @@
 -- What a post on a shared port comes to, by the plan.
-use Rattle.std.proofs.Common.{◌≡◌, ℕ, ℤ, ◌+◌, ◌⊎◌, List, [], ◌∷◌, length, take, true, Option, Some, None, refl, sym, ap, ◌∙◌, subst, inl, inr}
+use Rattle.std.proofs.Common.{◌≡◌, ℕ, ℤ, ◌+◌, ◌⊎◌, List, length, true, Option, Some, None, refl, sym, ap, ◌∙◌, subst, inl, inr}
 use Rattle.std.specs.Prelude.{slice_get, option_and_then, Result, Ok, Err}
 use Rattle.std.proofs.lemmas.Option.{same_Some}
 use Rattle.atomic_table.specs.Seated.{TableId}
@@ -10,13 +10,13 @@ use Rattle.mpx_post.specs.Drafts.{at, checked}
 use Rattle.mpx_post.specs.Gatherings.{GatheringView, gathering}
 use Rattle.mpx_post.specs.declared.draft.Draft.{Draft}
 use Rattle.mpx_post.specs.declared.draft.PostError.{PostError}
-use Rattle.mpx_post.specs.declared.draft.PostError.TheVariants.{NotMember, OutOfMemory}
+use Rattle.mpx_post.specs.declared.draft.PostError.TheVariants.{NotMember}
 use Rattle.mpx_board.specs.Boards.{told}
-use Rattle.mpx_value.specs.Histories.{Made, birth_of, gathered, posts_on}
-use Rattle.mpx_node.specs.Nodes.{NodeView, OpenedView, Opens, Posts, checked_by, checked_on, gathering_name, gathers_by, gathers_on, posted_by, posted_on}
-use Rattle.mpx_world.specs.Worlds.{ProcessView}
+use Rattle.mpx_value.specs.Histories.{Made, gathered, posts_on}
+use Rattle.mpx_node.specs.Nodes.{OpenedView, Opens, Posts, checked_by, checked_on, gathering_name, gathers_by, gathers_on, posted_by, posted_on}
 use Rattle.mpx_value.proofs.Histories.{gathered_there}
 use Rattle.mpx_world.proofs.Steps.{Good}
+use Rattle.mpx_bus.specs.declared.act.Act.{Act}
 use Rattle.mpx_bus.specs.declared.act.Setup.{Setup}
 use Rattle.mpx_bus.specs.Rule.{planned_posts, world_of}
 use Rattle.mpx_bus.specs.Berths.{Berth, node_in, process_in}
@@ -24,8 +24,8 @@ use Rattle.mpx_statement.specs.declared.statement.Posting.{Posting}
 use Rattle.mpx_statement.specs.Statements.{Gathers, draft_of, gathers_of}
 use Rattle.mpx_evaluation.specs.Ranks.{attempt_in, made_on, next_call, post_gathered, post_on}
 use Rattle.mpx_shared.specs.declared.ticket.Ticket.{Ticket}
-use Rattle.mpx_shared.specs.Docks.{IsDocked, IsNext, made_in, plan_history}
-use Rattle.mpx_shared.specs.Tickets.{OpensThen, PostsThen, call_of}
+use Rattle.mpx_shared.specs.Docks.{IsDocked, IsNext, made_in}
+use Rattle.mpx_shared.specs.Tickets.{OpensThen, PostsThen}
 use Rattle.mpx_shared.proofs.Docked.{docked_birth, docked_posts}
 use Rattle.mpx_shared.proofs.Plans as P
 use Rattle.mpx_shared.proofs.Standing.{stood_good}
@@ -59,7 +59,7 @@ module _ (table : TableId) (setup : Setup) (me : ℕ) (planned : setup.planned �
     node_me = good.me_is ∙ docked.me_is
 
     birth_told : (name : Name) (x : BirthView) → told ((node_in port).board.contexts name).birth ≡ Some x → planned_birth setup name ≡ Some x
-    birth_told name x e = P.planned_birth setup name x planned (docked_birth table setup me port name x docked e)
+    birth_told name x e = P.birth_is_planned setup name x planned (docked_birth table setup me port name x docked e)
 
     birth_same : (name : Name) (birth : BirthView) → planned_birth setup name ≡ Some birth → (x : BirthView) → told ((node_in port).board.contexts name).birth ≡ Some x → x ≡ birth
     birth_same name birth born x e = same_Some x birth (sym (birth_told name x e) ∙ born)
@@ -88,7 +88,7 @@ module _ (table : TableId) (setup : Setup) (me : ℕ) (planned : setup.planned �
     abbrev outcome : Result Made PostError
     outcome = post_on me (first_posts setup me count) draft name birth
 
-    pub posted_so : (ticket : Ticket) → PostsThen table setup me count name draft (Ok ticket) → (old new : ℕ) → new ≡ old + 1 → Tried (first_posts setup me count) outcome (Ok (Some (ticket.name, ticket.call))) old new
+    pub posted_so : {opening : List Act} (ticket : Ticket) → PostsThen table setup me opening count name draft (Ok ticket) → (old new : ℕ) → new ≡ old + 1 → Tried (first_posts setup me count) outcome (Ok (Some (ticket.name, ticket.call))) old new
     posted_so ticket then old new more = by_check (checked_port then.before then.docked_before count then.counted name draft birth born) where
       by_check : (checked_on (node_in then.before) name draft ≡ Err NotMember) ⊎ (checked_on (node_in then.before) name draft ≡ checked birth me (at name (next_call name (first_posts setup me count))) draft) → Tried (first_posts setup me count) outcome (Ok (Some (ticket.name, ticket.call))) old new
       by_check (inl shut) = let is = then.ticket.1 in cc (shut, is)
@@ -96,7 +96,7 @@ module _ (table : TableId) (setup : Setup) (me : ℕ) (planned : setup.planned �
           let posts = subst (λ x. Posts name x (Ok ticket.call) (node_in then.before) (node_in then.after)) then.ticket.1 then.posts in
           (record { name = name; given = ticket.post }, ap (made_on name) (sym e ∙ then.ticket.1), then.ticket.0, posts.0 ∙ posted_count then.before then.docked_before count then.counted name, more)
 
-    pub refused_so : (refusal : PostError) → (refusal ≡ NotMember → ⊥) → PostsThen table setup me count name draft (Err refusal) → (old new : ℕ) → new ≡ old → Tried (first_posts setup me count) outcome (Err refusal) old new
+    pub refused_so : {opening : List Act} (refusal : PostError) → (refusal ≡ NotMember → ⊥) → PostsThen table setup me opening count name draft (Err refusal) → (old new : ℕ) → new ≡ old → Tried (first_posts setup me count) outcome (Err refusal) old new
     refused_so refusal member then old new same other = (by_answer (checked_on (node_in then.before) name draft) refl then.posts, same) where
       by_check : (checked_on (node_in then.before) name draft ≡ Err NotMember) ⊎ (checked_on (node_in then.before) name draft ≡ checked birth me (at name (next_call name (first_posts setup me count))) draft) → checked_on (node_in then.before) name draft ≡ Err refusal → outcome ≡ Err refusal
       by_check (inl shut) e = absurd (member (let same : refusal ≡ NotMember = cc (shut, e) in same))
@@ -128,7 +128,7 @@ module _ (table : TableId) (setup : Setup) (me : ℕ) (planned : setup.planned �
       pub name_is : name ≡ gathering_name parent gathering_view
       pub born_below : planned_birth setup name ≡ Some (of_members gathering_view.members)
 
-    opened_so : (name : Name) → OpensThen table setup me parent tag ranks (Ok name) → IsOpened name
+    opened_so : {opening : List Act} (name : Name) → OpensThen table setup me opening parent tag ranks (Ok name) → IsOpened name
     opened_so name then = by_answer (gathers_on (node_in then.before) parent tag ranks) refl then.opens where
       by_gathers : (g : GatheringView) (birth : BirthView) → planned_birth setup parent ≡ Some birth → name ≡ gathering_name parent g → gathers_on (node_in then.before) parent tag ranks ≡ Ok g
           → (gathers_on (node_in then.before) parent tag ranks ≡ Err NotMember) ⊎ (gathers_on (node_in then.before) parent tag ranks ≡ gathering birth me (length parent) tag ranks) → IsOpened name
@@ -152,7 +152,7 @@ module _ (table : TableId) (setup : Setup) (me : ℕ) (planned : setup.planned �
           by_gathers g known.0 born opens.0 e (gathers_port then.before then.docked_before parent tag ranks known.0 born)
 
     -- the post there is the plan's next
-    pub next_below : (name : Name) → OpensThen table setup me parent tag ranks (Ok name) → IsNextGathered setup me count parent tag ranks draft → IsNext setup me count name draft
+    pub next_below : {opening : List Act} (name : Name) → OpensThen table setup me opening parent tag ranks (Ok name) → IsNextGathered setup me count parent tag ranks draft → IsNext setup me count name draft
     next_below name then next plan birth given born checks =
         let o = opened_so name then in
         let members = of_members o.gathering_view.members in
@@ -162,7 +162,7 @@ module _ (table : TableId) (setup : Setup) (me : ℕ) (planned : setup.planned �
         next o.birth (record { name = name; given = given }) o.born (ap (post_gathered me (first_posts setup me count) draft parent) o.gathers ∙ there)
 
     -- and what comes of it
-    pub comes_below : (name : Name) → OpensThen table setup me parent tag ranks (Ok name) → (result : Result (Option (Name × ℕ)) PostError) (old new : ℕ)
+    pub comes_below : {opening : List Act} (name : Name) → OpensThen table setup me opening parent tag ranks (Ok name) → (result : Result (Option (Name × ℕ)) PostError) (old new : ℕ)
         → ComesTo setup name (λ birth. post_on me (first_posts setup me count) draft name birth) (first_posts setup me count) result old new
         → ComesTo setup parent (λ birth. post_gathered me (first_posts setup me count) draft parent (gathering birth me (length parent) tag ranks)) (first_posts setup me count) result old new
     comes_below name then result old new comes birth born =
@@ -174,7 +174,7 @@ module _ (table : TableId) (setup : Setup) (me : ℕ) (planned : setup.planned �
         ap (λ n. post_on me (first_posts setup me count) draft n members) o.name_is ∙ ap (post_gathered me (first_posts setup me count) draft parent) (sym gathers) in
         subst (λ x. Tried (first_posts setup me count) x result old new) is (comes members o.born_below)
 
-    pub gathering_refused : (refusal : PostError) → (refusal ≡ NotMember → ⊥) → OpensThen table setup me parent tag ranks (Err refusal) → (old new : ℕ) → new ≡ old
+    pub gathering_refused : {opening : List Act} (refusal : PostError) → (refusal ≡ NotMember → ⊥) → OpensThen table setup me opening parent tag ranks (Err refusal) → (old new : ℕ) → new ≡ old
         → ComesTo setup parent (λ birth. post_gathered me (first_posts setup me count) draft parent (gathering birth me (length parent) tag ranks)) (first_posts setup me count) (Err refusal) old new
     gathering_refused refusal member then old new same birth born other = (by_answer (gathers_on (node_in then.before) parent tag ranks) refl then.opens, same) where
       by_gathers : (gathers_on (node_in then.before) parent tag ranks ≡ Err NotMember) ⊎ (gathers_on (node_in then.before) parent tag ranks ≡ gathering birth me (length parent) tag ranks) → gathers_on (node_in then.before) parent tag ranks ≡ Err refusal

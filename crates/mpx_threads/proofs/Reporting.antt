@@ -1,5 +1,5 @@
 -- What all processes of a run come to together.
-use Rattle.std.proofs.Common.{◌≡◌, ℕ, ◌+◌, ◌<◌, ◌≤◌, ◌⊎◌, Bool, true, List, [], ◌∷◌, length, map, take, Option, Some, None, refl, sym, ap, ◌∙◌, subst, inl, inr, arith}
+use Rattle.std.proofs.Common.{◌≡◌, ℕ, ◌<◌, ◌≤◌, ◌⊎◌, List, [], length, map, take, Some, sym, ap, ◌∙◌, subst, inl, inr, arith}
 use Rattle.std.specs.Prelude.{slice_get}
 use Rattle.std.proofs.lemmas.List.{length-map}
 use Rattle.std.proofs.lemmas.Option.{same_Some}
@@ -19,7 +19,7 @@ use Rattle.mpx_evaluation.proofs.Going.{goes-adds, goes-whole}
 use Rattle.mpx_system.specs.Runs.{AreWhole, Begin}
 use Rattle.mpx_system.proofs.Results.{length_taken, mapped_at, nothing_left, prefix_map, some_at, taken_at, which_has, which_same}
 use Rattle.mpx_threads.specs.declared.worker.Worked.{Worked}
-use Rattle.mpx_threads.specs.Plans.{Plans, setup_by}
+use Rattle.mpx_threads.specs.Plans.{setup_by}
 use Rattle.mpx_threads.specs.Runs.{IsDone, IsThreadRun}
 use Rattle.mpx_threads.specs.Work.{AreWorked, HasWorked, lines_in, waits_at}
 use Rattle.mpx_threads.proofs.Plans.{lt_or_ge}

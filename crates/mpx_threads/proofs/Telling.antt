@@ -1,22 +1,15 @@
 -- What a rank was told of its calls, as one more is told.
-use Rattle.std.proofs.Common.{◌≡◌, ℕ, zero, suc, ◌+◌, ◌==◌, take, Bool, true, false, cond, List, [], ◌∷◌, ◌++◌, Option, Some, None, refl, sym, ap, ◌∙◌, subst, inl, inr}
-use Rattle.std.specs.Prelude.{slice_get, is_some, IsTrue, ◌||◌, ◌&&◌, string_bytes}
+use Rattle.std.proofs.Common.{◌≡◌, ℕ, zero, suc, ◌==◌, take, Bool, true, false, cond, List, [], ◌∷◌, ◌++◌, Some, None, refl, ap, ◌∙◌, subst, inl, inr}
+use Rattle.std.specs.Prelude.{slice_get, ◌||◌, ◌&&◌}
 use Rattle.std.proofs.lemmas.Option.{same_Some}
 use Rattle.std.proofs.lemmas.Bool.Decides.{Decides-eqb}
 use Rattle.mpx_name.specs.Name.{Name, same_name}
 use Rattle.mpx_world.proofs.Lists.{name_itself}
-use Rattle.mpx_post.specs.Births.{BirthView}
-use Rattle.mpx_value.specs.declared.outcomes.Outcome.{Outcome}
-use Rattle.mpx_value.specs.Histories.{Answer, Results, answer_with}
-use Rattle.mpx_node.specs.Nodes.{NodeView, results_on}
-use Rattle.mpx_evaluation.specs.Ranks.{bound_by}
-use Rattle.mpx_evaluation.specs.Transcripts.{outcome_text}
+use Rattle.mpx_value.specs.Histories.{Answer, Results}
 use Rattle.mpx_evaluation.proofs.Fronts.{slice_get-parts}
-use Rattle.mpx_rank.specs.Places.{CommunicatorView, bound_as}
-use Rattle.mpx_threads.specs.declared.desk.Said.{Said}
 use Rattle.mpx_threads.specs.declared.told.ToldCall.{ToldCall}
 use Rattle.mpx_rank.specs.Answered.{answer_of}
-use Rattle.mpx_threads.specs.Told.{AllHeld, AreSo, Tells, is_among, is_at, told_of}
+use Rattle.mpx_threads.specs.Told.{AreSo, is_among, is_at, told_of}
 
 -- one more is so
 pub so_more : (known : Results) (ts : List ToldCall) (t : ToldCall) → AreSo known ts → known t.name t.call ≡ Some (answer_of t.answered) → AreSo known (ts ++ t ∷ [])

@@ -2,11 +2,11 @@
 use Rattle.std.specs.Prelude.{◌≡◌, ℕ, zero, suc, ◌+◌, true, List, [], ◌∷◌, ◌++◌, length, map}
 use Rattle.mpx_name.specs.Name.{Name}
 use Rattle.mpx_post.specs.Posts.{Given}
-use Rattle.mpx_value.specs.Histories.{Made, Results, results_of}
+use Rattle.mpx_value.specs.Histories.{Made}
 use Rattle.mpx_bus.specs.declared.act.Setup.{Setup}
 use Rattle.mpx_script.specs.ScriptView.{ScriptView}
 use Rattle.mpx_evaluation.specs.Evaluation.{State, IsEvaluation}
-use Rattle.mpx_shared.specs.Docks.{plan_history}
+pub use Rattle.mpx_shared.specs.Docks.{planned_results}
 
 -- a post, as a plan has it
 abbrev pub as_planned : Made → Name × Given
@@ -27,10 +27,6 @@ pub record Plans (script : ScriptView) (relays : ℕ) (setup : Setup) : Type 0 w
   pub end : State
   pub evaluation : IsEvaluation script.statements script.ranks end
   pub setup_is : setup ≡ setup_by script.ranks relays end
-
--- what the plan's posts give a process
-abbrev pub planned_results : Setup → (me : ℕ) → Results
-planned_results setup me = results_of (plan_history setup) setup.ranks me
 
 -- the plan is the posts of the script's evaluation, by so many relays or so many
 abbrev pub IsPlanned : ScriptView → Setup → Type 0

@@ -8,7 +8,7 @@ use Rattle.mpx_post.specs.Gatherings.{gathering}
 use Rattle.mpx_post.specs.declared.draft.Draft.{Draft}
 use Rattle.mpx_post.specs.declared.draft.PostError.{PostError}
 use Rattle.mpx_post.specs.declared.draft.PostError.TheVariants.{OutOfMemory}
-use Rattle.mpx_value.specs.Histories.{Answer, Made, Results, birth_of}
+use Rattle.mpx_value.specs.Histories.{Answer, Made, Results}
 use Rattle.mpx_statement.specs.declared.statement.Posting.{Posting}
 use Rattle.mpx_statement.specs.Statements.{draft_of, gathers_of}
 use Rattle.mpx_evaluation.specs.Ranks.{attempt_in, bound_by, next_call, post_gathered, post_on}
@@ -18,7 +18,7 @@ use Rattle.mpx_node.specs.Nodes.{NodeView, results_on}
 use Rattle.mpx_bus.specs.declared.act.Setup.{Setup}
 use Rattle.mpx_bus.specs.Rule.{planned_posts}
 use Rattle.mpx_shared.specs.declared.ticket.Ticket.{Ticket}
-use Rattle.mpx_shared.specs.Docks.{plan_history}
+pub use Rattle.mpx_shared.specs.Docks.{planned_birth}
 use Rattle.mpx_rank.specs.Answered.{answer_of}
 use Rattle.mpx_rank.specs.Carriers.{IsWithin, Terms, outcomes_of, placed}
 use Rattle.mpx_rank.specs.Places.{CommunicatorView, attempt_by, bound_as}
@@ -64,12 +64,8 @@ first_posts setup me count = take count (planned_posts setup me)
 -- the statement may be posted: its communicator came to be as the plan's posts say, and where it comes to a post, that is the plan's next
 pub record MayPost (setup : Setup) (me count : ℕ) (posting : Posting) (on : Option CommunicatorView) : Type 0 where
   pub planned : setup.planned ≡ true
-  pub born : (c : CommunicatorView) → on ≡ Some c → birth_of (plan_history setup) setup.ranks c.0 ≡ Some c.1
+  pub born : (c : CommunicatorView) → on ≡ Some c → planned_birth setup c.0 ≡ Some c.1
   pub next : (m : Made) → attempt_by me (first_posts setup me count) posting on ≡ Ok m → slice_get (planned_posts setup me) count ≡ Some m
-
--- how a communicator comes to be by the plan's posts
-abbrev pub planned_birth : Setup → Name → Option BirthView
-planned_birth setup name = birth_of (plan_history setup) setup.ranks name
 
 -- where the post on a gathering of these ranks below the context comes to a post, by the plan, that is the plan's next
 abbrev pub IsNextGathered : Setup → (me count : ℕ) → (parent : Name) → (tag : ℤ) → (ranks : List ℤ) → Draft → Type 0

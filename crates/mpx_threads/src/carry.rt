@@ -4,8 +4,8 @@ ghost use Rattle.mpx_threads.specs.Plans.{IsPlanned};
 ghost use Rattle.mpx_threads.specs.Work.{HasCome};
 
 use crate::desk::ThreadDesk;
+use crate::looks::Looks;
 use crate::told::Told;
-use crate::watch::Signal;
 use join_core::OutOfMemory;
 use mpx_group::Proc;
 use mpx_name::Name;
@@ -32,8 +32,7 @@ pub(crate) fn carry_out<L: Dock, R: Wait>(
     script: &Script,
     me: Proc,
     port: &SharedPort<L>,
-    signal: &Signal,
-    looks: u64,
+    looks: &Looks<'_>,
     poster: Poster<L>,
 ) -> Result<Carried<L>, OutOfMemory>
     requires ledger { (L.all ≡ L.parts) × (0 < L.parts) }
@@ -44,7 +43,7 @@ pub(crate) fn carry_out<L: Dock, R: Wait>(
 {
     let world = (Name::world(alloc), Birth::world(alloc, script.ranks())?);
     let mut rank = Rank::new(alloc, me, Some(world), script.statements(me.number()))?;
-    let mut desk = ThreadDesk::new(alloc, rt, port, signal, looks, poster);
+    let mut desk = ThreadDesk::new(alloc, rt, port, looks, poster);
     rank.go_on(alloc, &mut desk)?;
     let waits = rank.is_waiting();
     let lines = rank.into_lines();

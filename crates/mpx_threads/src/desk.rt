@@ -1,15 +1,15 @@
 //! The desk of a rank in a thread: it carries the rank's posts over a port that the rank shares with its gossip.
-ghost use Rattle.std.specs.Prelude.{◌≡◌, ◌+◌, ◌<◌, ◌↔◌, [], IfOk, IfSome, IsTrue, OnOk, Some, true};
-ghost use Rattle.mpx_value.specs.Histories.{answer_with, birth_of};
+ghost use Rattle.std.specs.Prelude.{◌≡◌, ◌+◌, ◌<◌, [], IfOk, IfSome, OnOk, Some, true};
+ghost use Rattle.mpx_value.specs.Histories.{answer_with};
 ghost use Rattle.mpx_statement.specs.Statements.{draft_of};
 ghost use Rattle.mpx_rank.specs.Answered.{answer_of};
-ghost use Rattle.mpx_shared.specs.Docks.{IsNext, plan_history};
+ghost use Rattle.mpx_shared.specs.Docks.{IsNext, planned_birth};
 ghost use Rattle.mpx_shared.specs.Laws.{IsPlannedResult};
 ghost use Rattle.mpx_threads.specs.Plans.{planned_results};
 ghost use Rattle.mpx_threads.specs.Told.{HearsMore, IsNextGathered, IsNextIn, PostsAs, Tells, on_context, on_either, on_gathering, place_of};
 
+use crate::looks::Looks;
 use crate::told::Told;
-use crate::watch::Signal;
 use join_core::{Exact, OutOfMemory};
 use mpx_evaluation::line;
 use mpx_group::Proc;
@@ -31,13 +31,13 @@ struct Said {
     given: Option<(Name, Birth)>,
 }
 
-/// What carries a rank's posts: the port that it shares with its gossip, what that tells it, its right to post, and what it was told.
+/// What carries a rank's posts: the port that it shares with its gossip, how it looks for what comes, its right to post, and what it was
+/// told.
 #[derive(Drop)]
 pub(crate) struct ThreadDesk<'a, L: Dock, R: Wait> {
     rt: &'a R,
     port: &'a SharedPort<L>,
-    signal: &'a Signal,
-    looks: u64,
+    looks: &'a Looks<'a>,
     poster: Poster<L>,
     told: Told<L>,
 }
@@ -54,13 +54,12 @@ impl<'a, L: Dock, R: Wait> Model for ThreadDesk<'a, L, R> {
 }
 
 impl<'a, L: Dock, R: Wait> ThreadDesk<'a, L, R> {
-    /// A desk that has posted nothing and was told nothing. It looks so many times for a result.
+    /// A desk that has posted nothing and was told nothing.
     pub(crate) fn new(
         alloc: Global,
         rt: &'a R,
         port: &'a SharedPort<L>,
-        signal: &'a Signal,
-        looks: u64,
+        looks: &'a Looks<'a>,
         poster: Poster<L>,
     ) -> ThreadDesk<'a, L, R>
         requires { L.setup.planned ≡ true }
@@ -69,7 +68,6 @@ impl<'a, L: Dock, R: Wait> ThreadDesk<'a, L, R> {
         ThreadDesk {
             rt,
             port,
-            signal,
             looks,
             poster,
             told: Told::new(alloc),
@@ -83,7 +81,6 @@ impl<'a, L: Dock, R: Wait> ThreadDesk<'a, L, R> {
         let ThreadDesk {
             rt: _,
             port: _,
-            signal: _,
             looks: _,
             poster,
             told,
@@ -91,27 +88,24 @@ impl<'a, L: Dock, R: Wait> ThreadDesk<'a, L, R> {
         (told, poster)
     }
 
-    // Looks for the result of a call, until it is there, or there is nothing more to come, or it has looked often enough.
-    fn look(&self, alloc: Global, ticket: &Ticket) -> Result<Option<Finished>, OutOfMemory>
-        ensures { IfOk result (λ found. IfSome found (λ finished. IsPlannedResult L.setup L.me ticket.now.name ticket.now.call finished)) }
+    // What came of a call, once that can be had: until then it looks. A communicator has to be known with how it came to be.
+    fn answer(&self, alloc: Global, ticket: &Ticket) -> Result<Option<Answered>, OutOfMemory>
+        ensures { IfOk result (λ found. IfSome found (λ answered. planned_results L.setup L.me ticket.now.name ticket.now.call ≡ Some (answer_of answered))) }
     {
-        for _look in 0..self.looks {
-            let ended = self.signal.has_ended();
-            match self.port.test(self.rt, alloc, ticket)? {
-                Tested::Done(finished) => return Ok(Some(finished)),
-                Tested::Strange => return Ok(None),
-                Tested::NotYet => {}
+        for _look in 0..self.looks.count {
+            let look = self.looks.begin();
+            if let Some(answered) = self.answer_now(alloc, ticket)? {
+                return Ok(Some(answered));
             }
-            if ended {
+            if !self.looks.goes_on(self.rt, look) {
                 return Ok(None);
             }
-            self.signal.park(self.rt);
         }
         Ok(None)
     }
 
-    // What came of a call, where that can be had. A communicator has to be known with how it came to be.
-    fn answer(&self, alloc: Global, ticket: &Ticket) -> Result<Option<Answered>, OutOfMemory>
+    // The same, where it can be had now.
+    fn answer_now(&self, alloc: Global, ticket: &Ticket) -> Result<Option<Answered>, OutOfMemory>
         ensures { IfOk result (λ found. IfSome found (λ answered. planned_results L.setup L.me ticket.now.name ticket.now.call ≡ Some (answer_of answered))) }
     {
         let Some(finished) = self.look(alloc, ticket)? else {
@@ -122,9 +116,20 @@ impl<'a, L: Dock, R: Wait> ThreadDesk<'a, L, R> {
         self.with_birth(alloc, outcome)
     }
 
+    // The result of a call, where it is there now.
+    fn look(&self, alloc: Global, ticket: &Ticket) -> Result<Option<Finished>, OutOfMemory>
+        ensures { IfOk result (λ found. IfSome found (λ finished. IsPlannedResult L.setup L.me ticket.now.name ticket.now.call finished)) }
+    {
+        match self.port.test(self.rt, alloc, ticket)? {
+            Tested::Done(finished) => Ok(Some(finished)),
+            Tested::NotYet => Ok(None),
+            Tested::Strange => Ok(None),
+        }
+    }
+
     // The outcome, with the birth of the communicator that it names.
     fn with_birth(&self, alloc: Global, outcome: Outcome) -> Result<Option<Answered>, OutOfMemory>
-        ensures { IfOk result (λ found. IfSome found (λ answered. answer_of answered ≡ answer_with (birth_of (plan_history L.setup) L.setup.ranks) outcome)) }
+        ensures { IfOk result (λ found. IfSome found (λ answered. answer_of answered ≡ answer_with (planned_birth L.setup) outcome)) }
     {
         let born = match &outcome {
             Outcome::NewComm { name, .. } => {
@@ -197,10 +202,11 @@ impl<'a, L: Dock, R: Wait> Carrier for ThreadDesk<'a, L, R> {
         let ThreadDesk {
             rt,
             port,
+            looks,
             poster,
             ..
         } = self;
-        attempt(*rt, alloc, *port, poster, &on.0, posting)
+        attempt(*rt, alloc, *port, *looks, poster, &on.0, posting)
     }
 
     fn is_told(&mut self, alloc: Global, _me: Proc, call: &Ticket) -> Result<bool, OutOfMemory> {
@@ -231,8 +237,40 @@ impl<'a, L: Dock, R: Wait> Carrier for ThreadDesk<'a, L, R> {
     ghost stays_told = { stays_told L.setup L.me };
 }
 
-// What a statement comes to on a context: a post there, or on a gathering of its members.
+// What a statement comes to on a context, once it isn't refused since the board doesn't know yet that the rank is a member: until then it
+// looks.
 fn attempt<L: Dock, R: Wait>(
+    rt: &R,
+    alloc: Global,
+    port: &SharedPort<L>,
+    looks: &Looks<'_>,
+    poster: &mut Poster<L>,
+    name: &Name,
+    posting: &Posting,
+) -> Result<Option<Ticket>, PostError>
+    requires ledger { (L.all ≡ L.parts) × (0 < L.parts) }
+    requires planned { L.setup.planned ≡ true }
+    requires next { IsNextIn L.setup L.me (L.before + poster.old.share.amount) name.now posting.now }
+    ensures { PostsAs L.setup L.me L.before name.now (on_either L.me posting.now name.now) result poster.old.share.amount poster.new.share.amount }
+{
+    for _look in 0..looks.count {
+        let look = looks.begin();
+        match attempt_now(rt, alloc, port, poster, name, posting)? {
+            Some(ticket) => {
+                looks.has_posted();
+                return Ok(Some(ticket));
+            }
+            None => {}
+        }
+        if !looks.goes_on(rt, look) {
+            return Ok(None);
+        }
+    }
+    Ok(None)
+}
+
+// A post there, or on a gathering of its members.
+fn attempt_now<L: Dock, R: Wait>(
     rt: &R,
     alloc: Global,
     port: &SharedPort<L>,
@@ -283,7 +321,7 @@ fn post_on<L: Dock, R: Wait>(
     match port.post(rt, alloc, poster, name, draft) {
         Ok(ticket) => Ok(Some(ticket)),
         Err(refusal) => {
-            if is_no_member(refusal) {
+            if refusal.is_no_member() {
                 return Ok(None);
             }
             Err(refusal)
@@ -310,7 +348,7 @@ fn gather_and_post<L: Dock, R: Wait>(
     match port.open_gathering(rt, alloc, parent, tag, ranks) {
         Ok(name) => post_on(rt, alloc, port, poster, &name, posting),
         Err(refusal) => {
-            if is_no_member(refusal) {
+            if refusal.is_no_member() {
                 return Ok(None);
             }
             Err(refusal)
@@ -335,27 +373,4 @@ fn post_gathered<L: Dock, R: Wait>(
     ensures { PostsAs L.setup L.me L.before parent.now (on_gathering L.me posting.now parent.now tag.now ranks.now) result poster.old.share.amount poster.new.share.amount }
 {
     gather_and_post(rt, alloc, port, poster, parent, *tag, ranks, posting)
-}
-
-// Whether a post is refused since the process isn't a member, as far as its board knows.
-fn is_no_member(refusal: PostError) -> bool
-    ensures { IsTrue result ↔ (refusal ≡ PostError.NotMember) }
-{
-    match refusal {
-        PostError::NotMember => true,
-        PostError::OutOfMemory => false,
-        PostError::RootOutOfRange => false,
-        PostError::OpNotForType => false,
-        PostError::CountsLength => false,
-        PostError::ItemsLength => false,
-        PostError::ItemOutOfRange => false,
-        PostError::TooManyItems => false,
-        PostError::NoTopology => false,
-        PostError::CallsUsedUp => false,
-        PostError::DepthUsedUp => false,
-        PostError::BadGroup => false,
-        PostError::BadEdge => false,
-        PostError::TooManyEdges => false,
-        PostError::BadTag => false,
-    }
 }

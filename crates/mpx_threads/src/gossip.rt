@@ -3,6 +3,7 @@ ghost use Rattle.std.specs.Prelude.{◌≡◌, IfOk};
 ghost use Rattle.mpx_bus.specs.Buses.{table_of};
 ghost use Rattle.mpx_threads.specs.Gates.{GivesUpAt, GivesUpWithin};
 
+use crate::calm::Calm;
 use crate::gate::{Gate, Pass, Step};
 use crate::watch::{Signal, Watch};
 use join_core::OutOfMemory;
@@ -11,7 +12,6 @@ use mpx_group::Proc;
 use mpx_shared::{Dock, Pull, SharedPort};
 use std::alloc::Global;
 use std::sync::Wait;
-use std::thread::yield_now;
 
 /// What all processes of a run have in common: the queue, the gate, what their threads tell each other, how many ranks there are, and
 /// how many turns each process makes at most.
@@ -34,8 +34,8 @@ pub(crate) enum GossipEnd {
     GaveUp,
 }
 
-/// Gossips until nobody needs it more, the gate gives up, memory is wanting, or all turns are made. It tells the rank at its end, and the
-/// run to stop where it ended for the gate or for memory.
+/// Gossips until nobody needs it more or can hear anything new, the gate gives up, memory is wanting, or all turns are made. It tells the
+/// rank at its end, and the run to stop where it ended for the gate or for memory.
 pub(crate) fn gossip<L: Dock, G: Gate, R: Wait>(
     rt: &R,
     alloc: Global,
@@ -49,7 +49,7 @@ pub(crate) fn gossip<L: Dock, G: Gate, R: Wait>(
 {
     let gossiped = make_turns(rt, alloc, bench, me, port, signal);
     match gossiped {
-        Ok(GossipEnd::Over) => {}
+        Ok(GossipEnd::Over) => bench.watch.gossip_ends(me),
         Ok(GossipEnd::GaveUp) => bench.watch.stop(),
         Err(OutOfMemory) => bench.watch.stop(),
     }
@@ -68,6 +68,7 @@ fn make_turns<L: Dock, G: Gate, R: Wait>(
     requires { table_of bench.now.bus.now ≡ L.table }
     ensures { IfOk result (λ end. end ≡ GossipEnd.GaveUp → GivesUpWithin (G.gives_up bench.now.gate.now) me bench.now.turns) }
 {
+    let mut calm = Calm::new(port.fingerprint(rt));
     for nth in 0..bench.turns {
         if bench.watch.is_over(bench.ranks) {
             return Ok(GossipEnd::Over);
@@ -76,12 +77,13 @@ fn make_turns<L: Dock, G: Gate, R: Wait>(
             Pass::Go => {}
             Pass::GiveUp => return Ok(GossipEnd::GaveUp),
         }
+        calm.note(bench.watch, me, port.fingerprint(rt));
+        calm.rest(rt, signal, me);
     }
     Ok(GossipEnd::Over)
 }
 
-// A frame out, and one in, as far as the gate lets them pass; then the other threads have their turn, since a thread that goes on meets
-// its own frames in the queue.
+// A frame out, and one in, as far as the gate lets them pass.
 fn turn<L: Dock, G: Gate, R: Wait>(
     rt: &R,
     alloc: Global,
@@ -110,7 +112,6 @@ fn turn<L: Dock, G: Gate, R: Wait>(
         Pass::GiveUp => return Ok(Pass::GiveUp),
     }
     let _ = port.put(rt, alloc, bench.bus)?;
-    yield_now();
     Ok(Pass::Go)
 }
 

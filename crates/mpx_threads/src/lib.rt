@@ -7,10 +7,12 @@
 #![tactic(auto)]
 
 mod at_once;
+mod calm;
 mod carry;
 mod desk;
 mod gate;
 mod gossip;
+mod looks;
 mod processes;
 mod run;
 mod task;

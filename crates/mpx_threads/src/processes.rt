@@ -23,6 +23,26 @@ pub(crate) fn work_all<G: Gate + Sync, R: Threads + Wait + Sync>(
     alloc: Global,
     bus: &Bus,
     gate: &G,
+    script: &Script,
+    options: &Options,
+    jobs: Vec<Job>,
+) -> Result<Vec<Worked>, OutOfMemory>
+    requires ready { (setup : Setup) × AreReady script.now options.now.relays setup (table_of bus.now) jobs.items }
+    requires few { script.now.ranks + options.now.relays ≤ 64 }
+    ensures worked { IfOk result (λ worked. (setup : Setup) × AreWorked script.now options.now.relays setup (table_of bus.now) worked.items) }
+    ensures gate { IfOk result (λ worked. AreGivenUpBy (G.gives_up gate.now) options.now.turns worked.items) }
+{
+    let ranks = script.ranks();
+    let watch = Watch::new(alloc, ranks, ranks + options.relays)?;
+    work_each(rt, alloc, bus, gate, &watch, script, options, jobs)
+}
+
+// The same, where their threads see this.
+fn work_each<G: Gate + Sync, R: Threads + Wait + Sync>(
+    rt: &R,
+    alloc: Global,
+    bus: &Bus,
+    gate: &G,
     watch: &Watch,
     script: &Script,
     options: &Options,

@@ -15,7 +15,6 @@ ghost use Rattle.mpx_threads.specs.Work.{AreJobs, AreReady, gossip_at, lines_in,
 use crate::gate::Gate;
 use crate::gossip::GossipEnd;
 use crate::processes::work_all;
-use crate::watch::Watch;
 use crate::worker::{Job, Worked};
 use join_core::OutOfMemory;
 use mpx_bus::{Bus, Named, Port};
@@ -63,8 +62,8 @@ impl From<OutOfMemory> for ThreadsError {
 
 /// Runs a script's ranks, and relays, in threads of this program, over one queue of frames: each rank has one that carries out its
 /// statements and one that gossips, each relay one that gossips. A turn of a gossip takes a frame out of the queue and puts one in; each
-/// process makes at most `options.turns` of them, and none once all ranks have ended. The gate is asked before each step. The seed and
-/// the loss aren't used. It may wait.
+/// process makes at most `options.turns` of them, and none once all ranks have ended, or nobody can hear anything new. The gate is asked
+/// before each step. The seed and the loss aren't used. It may wait.
 ///
 /// # Errors
 /// `OutOfMemory` where memory was wanting in some thread, or the system refused one; `GateGaveUp` where the gate gave up at some
@@ -83,8 +82,7 @@ pub fn run_threads<G: Gate + Sync, R: Threads + Wait + Sync>(
     ensures whole { IfOk result (λ run. (evaluation : State) → IsEvaluationOf script.now evaluation → AreWhole (transcripts_of run.report) run.report.waiting.items evaluation) }
 {
     let (bus, jobs) = planned_bus(alloc, script, options.relays)?;
-    let watch = Watch::new();
-    let worked = work_all(rt, alloc, &bus, gate, &watch, script, options, jobs)?;
+    let worked = work_all(rt, alloc, &bus, gate, script, options, jobs)?;
     if has_given_up(worked.as_slice()) {
         return Err(ThreadsError::GateGaveUp);
     }

@@ -1,29 +1,121 @@
 //! What threads of a run tell each other beside the bus: of none of it anything is claimed.
+//!
+//! A run ends at rest, once nobody can hear anything new. Each event that changes a port raises a common number, `news`, once it has
+//! happened. A gossip that has made so many turns in a row under the same news tells that number, and the fingerprint of what its board
+//! says, which it took after it had read the number; a rank tells the number that it had read before its last look that found nothing.
+//! Where all of them have told the number that stands now, and the same fingerprint, all boards say the same. So no frame under way says
+//! anything new, and no rank has a result that it hasn't seen.
+use join_core::OutOfMemory;
+use mpx_group::Proc;
+use std::alloc::Global;
 use std::sync::Wait;
 use std::sync::atomic::{AtomicBool, AtomicU64, Ordering};
 use std::thread::Parker;
+use std::time::Duration;
 
-/// What all threads see: how many ranks have ended, and whether the run is to stop.
+// Told of the news by who has ended.
+const ENDED: u64 = u64::MAX;
+
+/// What all threads see: how many ranks have ended, whether the run is to stop, and what each process tells of itself.
 #[derive(Drop)]
 pub(crate) struct Watch {
     ended: AtomicU64,
     stopped: AtomicBool,
+    news: AtomicU64,
+    processes: Vec<Quiet>,
 }
 
-impl Watch {
-    pub(crate) fn new() -> Watch {
-        Watch {
-            ended: AtomicU64::new(0),
-            stopped: AtomicBool::new(false),
+// How quiet it is about a process: the news under which its gossip has made so many turns, with what its board said then, and the news
+// under which its rank has looked and found nothing.
+#[derive(Drop)]
+struct Quiet {
+    still: AtomicU64,
+    print: AtomicU64,
+    looked: AtomicU64,
+}
+
+impl Quiet {
+    fn new(looked: u64) -> Quiet {
+        Quiet {
+            still: AtomicU64::new(0),
+            print: AtomicU64::new(0),
+            looked: AtomicU64::new(looked),
         }
     }
 
-    /// One more rank goes no further.
-    pub(crate) fn rank_ends(&self) {
+    // A gossip that has ended counts once the queue has lost the frames that it had put in.
+    fn is_at_rest(&self, news: u64, print: u64, for_long: bool) -> bool {
+        let looked = self.looked.load(Ordering::SeqCst);
+        let still = self.still.load(Ordering::SeqCst);
+        let has_looked = looked == news || looked == ENDED;
+        let is_still = still == news && self.print.load(Ordering::SeqCst) == print;
+        has_looked && (is_still || for_long && still == ENDED)
+    }
+}
+
+impl Watch {
+    /// So many processes, of which the first are ranks.
+    pub(crate) fn new(alloc: Global, ranks: u8, processes: u8) -> Result<Watch, OutOfMemory> {
+        let mut told = Vec::new(alloc);
+        for process in 0..processes {
+            told.push(Quiet::new(if process < ranks { 0 } else { ENDED }))?;
+        }
+        Ok(Watch {
+            ended: AtomicU64::new(0),
+            stopped: AtomicBool::new(false),
+            news: AtomicU64::new(1),
+            processes: told,
+        })
+    }
+
+    /// The number of the last event that changed a port.
+    pub(crate) fn news(&self) -> u64 {
+        self.news.load(Ordering::SeqCst)
+    }
+
+    /// Something has changed a port.
+    pub(crate) fn tell_news(&self) {
+        self.news.fetch_add(1, Ordering::SeqCst);
+    }
+
+    /// The rank of this process had read this number when it looked and found nothing.
+    pub(crate) fn has_looked(&self, me: Proc, news: u64) {
+        if let Some(told) = self.processes.get(usize::from(me.number())) {
+            told.looked.store(news, Ordering::SeqCst);
+        }
+    }
+
+    /// The gossip of this process has made so many turns in a row under this number, and its board says this.
+    pub(crate) fn is_still(&self, me: Proc, news: u64, print: u64) {
+        if let Some(told) = self.processes.get(usize::from(me.number())) {
+            told.print.store(print, Ordering::SeqCst);
+            told.still.store(news, Ordering::SeqCst);
+        }
+    }
+
+    /// The gossip of this process has made all its turns.
+    pub(crate) fn gossip_ends(&self, me: Proc) {
+        self.is_still(me, ENDED, 0);
+        self.tell_news();
+    }
+
+    /// The rank of this process goes no further.
+    pub(crate) fn rank_ends(&self, me: Proc) {
+        self.has_looked(me, ENDED);
         self.ended.fetch_add(1, Ordering::SeqCst);
     }
 
-    /// The run is to stop: memory was wanting, or the gate gave up.
+    /// Whether nobody can hear anything new, as far as all have told under this number.
+    pub(crate) fn is_at_rest(&self, news: u64, print: u64, for_long: bool) -> bool {
+        for told in &self.processes {
+            if !told.is_at_rest(news, print, for_long) {
+                return false;
+            }
+        }
+        self.news() == news
+    }
+
+    /// The run is to stop: memory was wanting, the gate gave up, or nobody can hear anything new.
     pub(crate) fn stop(&self) {
         self.stopped.store(true, Ordering::SeqCst);
     }
@@ -34,30 +126,33 @@ impl Watch {
     }
 }
 
-/// What the gossip of one process tells its rank: that there may be something new, and that there will be nothing more.
+/// What the two threads of one process tell each other: the gossip, that there may be something new, and that there will be nothing
+/// more; the rank, that it has posted.
 #[derive(Drop)]
 pub(crate) struct Signal {
-    parker: Parker,
+    rank: Parker,
+    gossip: Parker,
     ended: AtomicBool,
 }
 
 impl Signal {
     pub(crate) fn new() -> Signal {
         Signal {
-            parker: Parker::new(),
+            rank: Parker::new(),
+            gossip: Parker::new(),
             ended: AtomicBool::new(false),
         }
     }
 
     /// There may be something new.
     pub(crate) fn tell(&self) {
-        self.parker.unpark();
+        self.rank.unpark();
     }
 
     /// There is nothing more to come.
     pub(crate) fn end(&self) {
         self.ended.store(true, Ordering::SeqCst);
-        self.parker.unpark();
+        self.rank.unpark();
     }
 
     pub(crate) fn has_ended(&self) -> bool {
@@ -66,6 +161,16 @@ impl Signal {
 
     /// Sleeps until there may be something new. Only while the gossip hasn't ended will it be woken.
     pub(crate) fn park<R: Wait>(&self, rt: &R) {
-        self.parker.park(rt);
+        self.rank.park(rt);
+    }
+
+    /// The rank has posted.
+    pub(crate) fn hurry(&self) {
+        self.gossip.unpark();
+    }
+
+    /// The gossip sleeps so long, or until the rank posts.
+    pub(crate) fn wait<R: Wait>(&self, rt: &R, micros: u64) {
+        self.gossip.park_timeout(rt, Duration::from_micros(micros));
     }
 }

@@ -10,6 +10,7 @@ use crate::at_once::both;
 use crate::carry::{Carried, carry_out};
 use crate::gate::Gate;
 use crate::gossip::{Bench, GossipEnd, gossip};
+use crate::looks::Looks;
 use crate::task::Task;
 use crate::told::Told;
 use crate::watch::Signal;
@@ -75,6 +76,7 @@ fn work_as_rank<L: Dock + Send + Sync, G: Gate + Sync, R: Threads + Wait + Sync>
     requires ledger { (blank.name ≡ L.name) × ((blank.parts ≡ L.parts) × ((L.all ≡ L.parts) × (0 < L.parts))) }
     requires me { (me ≡ L.me) × (me < script.now.ranks) }
     requires port { IsDocked L.table L.setup L.me port }
+    requires opening { port.journal ≡ L.opening }
     requires new { (L.before ≡ 0) × (length (made_in port) ≡ 0) }
     requires queue { table_of bench.now.bus.now ≡ L.table }
     requires plan { Plans script.now bench.now.relays L.setup }
@@ -226,12 +228,17 @@ fn carry<L: Dock, G: Gate, R: Wait>(
     requires plan { Plans script.now bench.now.relays L.setup }
     ensures { IfOk result (λ carried. HasCome script.now L.setup me carried.told carried.poster.share.amount (map string_bytes carried.lines.items) carried.waits) }
 {
-    let looks = u64::from(bench.turns) + 2;
-    let carried = carry_out(rt, alloc, script, me, port, signal, looks, poster);
+    let looks = Looks {
+        watch: bench.watch,
+        signal,
+        me,
+        count: u64::from(bench.turns) + 2,
+    };
+    let carried = carry_out(rt, alloc, script, me, port, &looks, poster);
     if carried.is_err() {
         bench.watch.stop();
     }
-    bench.watch.rank_ends();
+    bench.watch.rank_ends(me);
     carried
 }
 
@@ -283,6 +290,7 @@ fn work_as_relay<L: Dock, G: Gate, R: Wait>(
     requires ledger { (blank.name ≡ L.name) × ((blank.parts ≡ L.parts) × (L.all ≡ L.parts)) }
     requires me { me ≡ L.me }
     requires port { IsDocked L.table L.setup L.me port }
+    requires opening { port.journal ≡ L.opening }
     requires new { (L.before ≡ 0) × (length (made_in port) ≡ 0) }
     requires queue { table_of bench.now.bus.now ≡ L.table }
     ensures docked { IfOk result (λ worked. IsDocked L.table L.setup L.me worked.port) }

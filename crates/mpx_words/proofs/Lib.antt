@@ -1,4 +1,3 @@
 pub mod WordLemmas
-pub mod AdviceLemmas
 pub mod Refusals
 pub mod Rows

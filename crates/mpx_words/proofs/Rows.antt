@@ -1,5 +1,5 @@
 -- Which refusals some words get, and for which jobs some ask, computed.
-use Rattle.std.proofs.Common.{◌≡◌, true, [], ◌∷◌, Some, None, codes, refl}
+use Rattle.std.proofs.Common.{◌≡◌, true, false, [], ◌∷◌, Some, None, codes, refl}
 use Rattle.clap.specs.declared.error.kind.ErrorKind.TheVariants.{DisplayHelp, DisplayVersion, DisplayHelpOnMissingArgumentOrSubcommand, InvalidSubcommand, UnknownArgument, InvalidValue, TooManyValues}
 use Rattle.clap.specs.Faults.{walk_fault, defaults_fault}
 use Rattle.clap.specs.Walk.{walked}
@@ -64,3 +64,12 @@ threads_is_no_number = refl
 
 threads_of_an_evaluation : job_in (codes "gossipmpi" ∷ codes "eval" ∷ codes "--threads" ∷ []) ≡ None
 threads_of_an_evaluation = refl
+
+number_in_the_same_word : job_in (codes "gossipmpi" ∷ codes "run" ∷ codes "--seed=7" ∷ codes "--loss" ∷ codes "40" ∷ codes "--turns=9" ∷ [])
+    ≡ Some (record { command = Run; options = record { threads = false; seed = 7; loss = 40; relays = 0; turns = 9 } })
+unfolding number_of magnitude
+number_in_the_same_word = refl
+
+nothing_in_the_same_word : job_in (codes "gossipmpi" ∷ codes "run" ∷ codes "--seed=" ∷ []) ≡ None
+unfolding number_of magnitude
+nothing_in_the_same_word = refl

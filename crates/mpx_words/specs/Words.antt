@@ -1,5 +1,5 @@
 -- The words of a call, and the job that they ask for.
-use Rattle.std.specs.Prelude.{Bool, true, false, ℕ, ℤ, pos, negsuc, ◌&&◌, List, [], ◌∷◌, Option, Some, None, codes, bytes_eq, nat_le, option_and_then, if◌then◌else◌}
+use Rattle.std.specs.Prelude.{Bool, true, false, ℕ, ℤ, pos, negsuc, ◌&&◌, ◌||◌, List, [], ◌∷◌, Option, Some, None, codes, bytes_eq, drop, length, nat_le, option_and_then, take, if◌then◌else◌}
 use Rattle.std.specs.Option.{option_map}
 use Rattle.mpx_num.specs.Text.{number_of}
 use Rattle.mpx_job.specs.declared.Command.{Command}
@@ -37,12 +37,40 @@ with_option o option value =
     if bytes_eq option (codes "--turns") then option_map (λ n. record o { turns = n }) (number_within 1 10000000 value) else
     None
 
--- these options with those that the words give: `--threads` alone, each other one followed by its number
+-- OPTIONS IN ONE WORD
+
+abbrev pub begins_with : Text → (start : Text) → Bool
+begins_with word start = bytes_eq start (take (length start) word)
+
+-- an option with its number behind `=`
+abbrev pub is_joined : Text → Bool
+is_joined word = begins_with word (codes "--seed=") || (begins_with word (codes "--loss=") || (begins_with word (codes "--relays=") || begins_with word (codes "--turns=")))
+
+-- these options with that one
+abbrev pub with_joined : Options → Text → Option Options
+with_joined o word =
+    if begins_with word (codes "--seed=") then with_option o (codes "--seed") (drop 7 word) else
+    if begins_with word (codes "--loss=") then with_option o (codes "--loss") (drop 7 word) else
+    if begins_with word (codes "--relays=") then with_option o (codes "--relays") (drop 9 word) else
+    if begins_with word (codes "--turns=") then with_option o (codes "--turns") (drop 8 word) else
+    None
+
+-- an option that is whole in one word: the one that stands alone, or one with its number behind `=`
+abbrev pub is_whole : Text → Bool
+is_whole word = is_threads word || is_joined word
+
+-- these options with that one
+abbrev pub with_whole : Options → Text → Option Options
+with_whole o word = if is_threads word then Some (with_threads o) else with_joined o word
+
+-- OPTIONS
+
+-- these options with those that the words give: `--threads` alone, each other one with its number behind `=` or as the next word
 abbrev pub options_in : Options → List Text → Option Options
 options_in o [] = Some o
-options_in o (option ∷ []) = if is_threads option then Some (with_threads o) else None
+options_in o (option ∷ []) = with_whole o option
 options_in o (option ∷ value ∷ rest) =
-    if is_threads option then options_in (with_threads o) (value ∷ rest) else
+    if is_whole option then option_and_then (λ p. options_in p (value ∷ rest)) (with_whole o option) else
     option_and_then (λ p. options_in p rest) (with_option o option value)
 
 -- a command that has no options
@@ -63,18 +91,22 @@ job_in (name ∷ command ∷ rest) =
 -- WHAT IS SAID OF WORDS THAT ASK FOR NO JOB
 
 abbrev pub no_pair : Text
-no_pair = codes "each option but --threads is followed by its number, as a word of its own"
+no_pair = codes "each option but --threads is followed by its number"
 
 abbrev pub stands_alone : Text
 stands_alone = codes "this command stands alone"
 
+-- an option of this name, with or without its number in the same word
+abbrev pub is_of : Text → (name joined : Text) → Bool
+is_of option name joined = bytes_eq option name || begins_with option joined
+
 -- what an option is followed by
 abbrev pub limits_of : Text → Text
 limits_of option =
-    if bytes_eq option (codes "--seed") then codes "--seed is followed by a number from 0 to 18446744073709551615" else
-    if bytes_eq option (codes "--loss") then codes "--loss is followed by a number from 0 to 100" else
-    if bytes_eq option (codes "--relays") then codes "--relays is followed by a number from 0 to 63" else
-    if bytes_eq option (codes "--turns") then codes "--turns is followed by a number from 1 to 10000000" else
+    if is_of option (codes "--seed") (codes "--seed=") then codes "--seed is followed by a number from 0 to 18446744073709551615" else
+    if is_of option (codes "--loss") (codes "--loss=") then codes "--loss is followed by a number from 0 to 100" else
+    if is_of option (codes "--relays") (codes "--relays=") then codes "--relays is followed by a number from 0 to 63" else
+    if is_of option (codes "--turns") (codes "--turns=") then codes "--turns is followed by a number from 1 to 10000000" else
     no_pair
 
 -- that of an option which gives none, else what is said of the rest
@@ -85,9 +117,9 @@ or_more (Some options) option more = more
 -- what is wrong with the first of these options that gives none
 abbrev pub complaint : List Text → Text
 complaint [] = no_pair
-complaint (option ∷ []) = no_pair
+complaint (option ∷ []) = if is_whole option then or_more (with_whole usual option) option no_pair else no_pair
 complaint (option ∷ value ∷ rest) =
-    if is_threads option then complaint (value ∷ rest) else
+    if is_whole option then or_more (with_whole usual option) option (complaint (value ∷ rest)) else
     or_more (with_option usual option value) option (complaint rest)
 
 -- what is said of the words

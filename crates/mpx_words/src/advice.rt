@@ -1,23 +1,31 @@
-//! What is said of words that name a file, though a script is read from the standard input alone.
+//! What is said of words that name a file, though a script is read from the standard input alone, or a number of ranks, though the
+//! script tells it.
 ghost use Rattle.std.specs.Prelude.{◌≡◌, IfOk, false, map, option_map, string_bytes};
-ghost use Rattle.mpx_words.specs.Advice.{advice, advice_of, awaits_behind, file_in, first_plain, is_joined, is_option, is_plain, plain_word, shown, surplus_word, told_instead};
+ghost use Rattle.std.specs.Option.{option_copied};
+ghost use Rattle.mpx_words.specs.Advice.{advice, advice_first, advice_of, asks_ranks, awaits_behind, file_advice, first_surplus, is_file, is_option, is_plain, is_run, ranks_advice, shown, stands_alone, surplus, surplus_behind, told_instead};
 
-use crate::command::is_threads;
+use crate::command::is_whole;
 use clap::error::ErrorKind;
+use mpx_num::parse_number;
 use std::alloc::{AllocError, Global};
 
-/// What is said of words of which one names a file behind a command and its options: how the file is handed in. None is said of
-/// other words.
+/// What is said of words of which one names a file, or a number of ranks, behind a command and its options or in a command's place:
+/// how the file is handed in, or where the number stands. None is said of other words.
 pub fn advice_of(alloc: Global, words: &[String]) -> Result<Option<String>, AllocError>
     ensures { IfOk result (λ said. option_map string_bytes said ≡ advice_of (map string_bytes words.now)) }
 {
     match words {
         [] => Ok(None),
         [_] => Ok(None),
-        [_, command, rest @ ..] => match file_in(command.as_bytes(), rest) {
-            Some(file) => Ok(Some(advice(alloc, command.as_str(), file)?)),
-            None => Ok(None),
-        },
+        [_, command, rest @ ..] => {
+            if is_run(command.as_bytes()) {
+                return advice_behind(alloc, command.as_str(), surplus_behind(rest));
+            }
+            if stands_alone(command.as_bytes()) {
+                return advice_behind(alloc, command.as_str(), surplus(rest));
+            }
+            advice_first(alloc, command.as_str())
+        }
     }
 }
 
@@ -31,13 +39,55 @@ pub(crate) fn told_instead(
 {
     match kind {
         ErrorKind::UnknownArgument => advice_of(alloc, words),
+        ErrorKind::InvalidSubcommand => advice_of(alloc, words),
         _ => Ok(None),
     }
 }
 
+// What is said of a word that is no part of an option, if there is one.
+fn advice_behind(
+    alloc: Global,
+    command: &str,
+    word: Option<&str>,
+) -> Result<Option<String>, AllocError>
+    ensures { IfOk result (λ said. option_map string_bytes said ≡ option_map (advice command.now) (option_copied word.entry)) }
+{
+    match word {
+        Some(word) => Ok(Some(advice(alloc, command, word)?)),
+        None => Ok(None),
+    }
+}
+
+// What is said of such a word.
+fn advice(alloc: Global, command: &str, word: &str) -> Result<String, AllocError>
+    ensures { IfOk result (λ said. string_bytes said ≡ advice command.now word.now) }
+{
+    if asks_ranks(word.as_bytes()) || parse_number(word.as_bytes()).is_some() {
+        String::from_str(alloc, RANKS)
+    } else {
+        file_advice(alloc, command, word)
+    }
+}
+
+const RANKS: &str =
+    "the script's first line says how many ranks there are, as in 'ranks 4'; --threads stands alone";
+
+// What is said where a command is awaited.
+fn advice_first(alloc: Global, word: &str) -> Result<Option<String>, AllocError>
+    ensures { IfOk result (λ said. option_map string_bytes said ≡ advice_first word.now) }
+{
+    if asks_ranks(word.as_bytes()) {
+        return Ok(Some(String::from_str(alloc, RANKS)?));
+    }
+    if is_file(word.as_bytes()) {
+        return Ok(Some(file_advice(alloc, "run", word)?));
+    }
+    Ok(None)
+}
+
 // How the file is handed in to the command.
-fn advice(alloc: Global, command: &str, file: &str) -> Result<String, AllocError>
-    ensures { IfOk result (λ said. string_bytes said ≡ advice command.now file.now) }
+fn file_advice(alloc: Global, command: &str, file: &str) -> Result<String, AllocError>
+    ensures { IfOk result (λ said. string_bytes said ≡ file_advice command.now file.now) }
 {
     let mut said = String::from_str(
         alloc,
@@ -48,19 +98,6 @@ fn advice(alloc: Global, command: &str, file: &str) -> Result<String, AllocError
     said.push_str(shown(file))?;
     said.push_str("'")?;
     Ok(said)
-}
-
-// The file that the words behind a command name.
-fn file_in<'a>(command: &[u8], words: &'a [String]) -> Option<&'a str>
-    ensures { option_map (λ file. file.now) result ≡ file_in command.now (map string_bytes words.now) }
-{
-    if command == b"run".as_slice() {
-        return surplus_word(words);
-    }
-    if command == b"eval".as_slice() || command == b"check".as_slice() {
-        return plain_word(words);
-    }
-    None
 }
 
 // A file's name as it is shown.
@@ -74,15 +111,15 @@ fn shown(file: &str) -> &str
     }
 }
 
-// The plain word behind the options of `run`.
-fn surplus_word(words: &[String]) -> Option<&str>
-    ensures { option_map (λ word. word.now) result ≡ surplus_word false (map string_bytes words.now) }
+// The word behind the options of `run` that is no part of one.
+fn surplus_behind(words: &[String]) -> Option<&str>
+    ensures { option_map (λ word. word.now) result ≡ surplus_behind false (map string_bytes words.now) }
 {
     let mut awaits = false;
     let mut rest = words;
     while let [word, more @ ..] = rest {
         let Some(next) = awaits_behind(awaits, word.as_bytes()) else {
-            return plain_word(rest);
+            return surplus(rest);
         };
         awaits = next;
         rest = more;
@@ -100,37 +137,33 @@ fn awaits_behind(awaits: bool, word: &[u8]) -> Option<bool>
     if is_option(word) {
         return Some(true);
     }
-    if is_threads(word) || is_joined(word) {
-        Some(false)
-    } else {
-        None
-    }
+    if is_whole(word) { Some(false) } else { None }
 }
 
-// The first word, or the one behind `--`, if it is plain.
-fn plain_word(words: &[String]) -> Option<&str>
-    ensures { option_map (λ word. word.now) result ≡ plain_word (map string_bytes words.now) }
+// The first word, or the one behind `--`, if it is plain or says how many ranks there are.
+fn surplus(words: &[String]) -> Option<&str>
+    ensures { option_map (λ word. word.now) result ≡ surplus (map string_bytes words.now) }
 {
     match words {
         [] => None,
         [word, rest @ ..] => {
             if word.as_bytes() == b"--".as_slice() {
-                first_plain(rest)
+                first_surplus(rest)
             } else {
-                first_plain(words)
+                first_surplus(words)
             }
         }
     }
 }
 
-// The first word, if it is plain.
-fn first_plain(words: &[String]) -> Option<&str>
-    ensures { option_map (λ word. word.now) result ≡ first_plain (map string_bytes words.now) }
+// The first word, if it is such a one.
+fn first_surplus(words: &[String]) -> Option<&str>
+    ensures { option_map (λ word. word.now) result ≡ first_surplus (map string_bytes words.now) }
 {
     match words {
         [] => None,
         [word, ..] => {
-            if is_plain(word.as_bytes()) {
+            if is_plain(word.as_bytes()) || asks_ranks(word.as_bytes()) {
                 Some(word.as_str())
             } else {
                 None
@@ -146,6 +179,13 @@ fn is_plain(word: &[u8]) -> bool
     word == b"-".as_slice() || !word.starts_with(b"-")
 }
 
+// Whether the word says how many ranks there are, where other programs start a run.
+fn asks_ranks(word: &[u8]) -> bool
+    ensures { result ≡ asks_ranks word.now }
+{
+    word == b"-n".as_slice() || word == b"-np".as_slice()
+}
+
 // Whether the word is an option whose number is the next word.
 fn is_option(word: &[u8]) -> bool
     ensures { result ≡ is_option word.now }
@@ -156,12 +196,23 @@ fn is_option(word: &[u8]) -> bool
         || word == b"--turns".as_slice()
 }
 
-// Whether the word is an option with its number.
-fn is_joined(word: &[u8]) -> bool
-    ensures { result ≡ is_joined word.now }
+// Whether the word is the command that has options.
+fn is_run(command: &[u8]) -> bool
+    ensures { result ≡ is_run command.now }
 {
-    word.starts_with(b"--seed=")
-        || word.starts_with(b"--loss=")
-        || word.starts_with(b"--relays=")
-        || word.starts_with(b"--turns=")
+    command == b"run".as_slice()
+}
+
+// Whether the word is a command that has none.
+fn stands_alone(command: &[u8]) -> bool
+    ensures { result ≡ stands_alone command.now }
+{
+    command == b"eval".as_slice() || command == b"check".as_slice()
+}
+
+// Whether the word has a dot or a slash.
+fn is_file(word: &[u8]) -> bool
+    ensures { result ≡ is_file word.now }
+{
+    is_plain(word) && (word.contains(&b'.') || word.contains(&b'/'))
 }

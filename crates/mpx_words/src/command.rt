@@ -1,8 +1,8 @@
 //! The words of a call, and the job that they ask for.
-ghost use Rattle.std.specs.Prelude.{◌≡◌, ◌≤◌, ◌⊎◌, IfErr, IfOk, IfSome, None, Some, length, map, string_bytes};
+ghost use Rattle.std.specs.Prelude.{◌≡◌, ◌≤◌, ◌⊎◌, IfErr, IfOk, IfSome, None, Some, drop, length, map, string_bytes};
 ghost use Rattle.clap.specs.Words.{HasKind, kind_of};
 ghost use Rattle.mpx_words.specs.Usage.{refusal_kinds};
-ghost use Rattle.mpx_words.specs.Words.{alone, complaint, complaint_of, job_in, limits_of, is_threads, number_within, options_in, usual, with_option, with_threads};
+ghost use Rattle.mpx_words.specs.Words.{alone, complaint, complaint_of, is_joined, is_of, is_threads, is_whole, job_in, limits_of, number_within, options_in, usual, with_joined, with_option, with_threads, with_whole};
 
 use crate::advice::told_instead;
 use crate::program::{named, program};
@@ -14,8 +14,8 @@ use std::alloc::{AllocError, Global};
 
 /// The job that `words` ask for, of which the first is the program's own name and the second the command's: `run` with
 /// `--threads`, `--seed N` (any u64, else 1), `--loss P` (0 to 100, else 0), `--relays N` (0 to 63, else 0) and `--turns N` (1 to
-/// 10,000,000, else 100,000), or `eval` or `check` alone. Of an option that is given twice the last counts. A refusal has clap's
-/// text, or is want of memory.
+/// 10,000,000, else 100,000), or `eval` or `check` alone. `--seed=N` is `--seed N`, and so of each option with a number. Of an
+/// option that is given twice the last counts. A refusal has clap's text, or is want of memory.
 pub fn job_of(alloc: Global, words: &[String]) -> Result<Job, Error>
     ensures ok { IfOk result (λ job. job_in (map string_bytes words.now) ≡ Some job) }
     ensures err { IfErr result (λ e. job_in (map string_bytes words.now) ≡ None) }
@@ -79,15 +79,15 @@ fn usual() -> Options
     }
 }
 
-// These options with those that the words give: `--threads` alone, each other one followed by its number.
+// These options with those that the words give: `--threads` alone, each other one with its number behind `=` or as the next word.
 fn options_in(options: Options, words: &[String]) -> Option<Options>
     ensures { result ≡ options_in options (map string_bytes words.now) }
 {
     let mut read = options;
     let mut rest = words;
     while let [option, behind @ ..] = rest {
-        if is_threads(option.as_bytes()) {
-            read = with_threads(read);
+        if is_whole(option.as_bytes()) {
+            read = with_whole(read, option.as_bytes())?;
             rest = behind;
             continue;
         }
@@ -100,8 +100,26 @@ fn options_in(options: Options, words: &[String]) -> Option<Options>
     Some(read)
 }
 
+// Whether the word is an option that is whole in one word.
+pub(crate) fn is_whole(word: &[u8]) -> bool
+    ensures { result ≡ is_whole word.now }
+{
+    is_threads(word) || is_joined(word)
+}
+
+// These options with that one.
+fn with_whole(options: Options, word: &[u8]) -> Option<Options>
+    ensures { result ≡ with_whole options word.now }
+{
+    if is_threads(word) {
+        Some(with_threads(options))
+    } else {
+        with_joined(options, word)
+    }
+}
+
 // Whether the word is the option that stands alone.
-pub(crate) fn is_threads(word: &[u8]) -> bool
+fn is_threads(word: &[u8]) -> bool
     ensures { result ≡ is_threads word.now }
 {
     word == b"--threads".as_slice()
@@ -115,6 +133,42 @@ fn with_threads(options: Options) -> Options
         threads: true,
         ..options
     }
+}
+
+// Whether the word is an option with its number behind `=`.
+fn is_joined(word: &[u8]) -> bool
+    ensures { result ≡ is_joined word.now }
+{
+    word.starts_with(b"--seed=")
+        || word.starts_with(b"--loss=")
+        || word.starts_with(b"--relays=")
+        || word.starts_with(b"--turns=")
+}
+
+// These options with that one.
+fn with_joined(options: Options, word: &[u8]) -> Option<Options>
+    ensures { result ≡ with_joined options word.now }
+{
+    if word.starts_with(b"--seed=") {
+        return with_option(options, b"--seed", behind(word, 7));
+    }
+    if word.starts_with(b"--loss=") {
+        return with_option(options, b"--loss", behind(word, 7));
+    }
+    if word.starts_with(b"--relays=") {
+        return with_option(options, b"--relays", behind(word, 9));
+    }
+    if word.starts_with(b"--turns=") {
+        return with_option(options, b"--turns", behind(word, 8));
+    }
+    None
+}
+
+// What stands behind so many bytes.
+fn behind(word: &[u8], count: usize) -> &[u8]
+    ensures { result.now ≡ drop count word.now }
+{
+    word.get(count..).unwrap_or(&[])
 }
 
 // These options with one more that has a number.
@@ -203,7 +257,10 @@ fn complaint(words: &[String]) -> &'static str
 {
     let mut rest = words;
     while let [option, behind @ ..] = rest {
-        if is_threads(option.as_bytes()) {
+        if is_whole(option.as_bytes()) {
+            let Some(_) = with_whole(usual(), option.as_bytes()) else {
+                return limits_of(option.as_bytes());
+            };
             rest = behind;
             continue;
         }
@@ -218,22 +275,29 @@ fn complaint(words: &[String]) -> &'static str
     NO_PAIR
 }
 
-const NO_PAIR: &str = "each option but --threads is followed by its number, as a word of its own";
+const NO_PAIR: &str = "each option but --threads is followed by its number";
+
+// Whether the word is an option of this name, with or without its number behind `=`.
+fn is_of(option: &[u8], name: &[u8], joined: &[u8]) -> bool
+    ensures { result ≡ is_of option.now name.now joined.now }
+{
+    option == name || option.starts_with(joined)
+}
 
 // What an option is followed by.
 fn limits_of(option: &[u8]) -> &'static str
     ensures { result.now ≡ limits_of option.now }
 {
-    if option == b"--seed".as_slice() {
+    if is_of(option, b"--seed", b"--seed=") {
         return "--seed is followed by a number from 0 to 18446744073709551615";
     }
-    if option == b"--loss".as_slice() {
+    if is_of(option, b"--loss", b"--loss=") {
         return "--loss is followed by a number from 0 to 100";
     }
-    if option == b"--relays".as_slice() {
+    if is_of(option, b"--relays", b"--relays=") {
         return "--relays is followed by a number from 0 to 63";
     }
-    if option == b"--turns".as_slice() {
+    if is_of(option, b"--turns", b"--turns=") {
         return "--turns is followed by a number from 1 to 10000000";
     }
     NO_PAIR

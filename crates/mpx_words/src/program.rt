@@ -72,18 +72,19 @@ fn run_in_threads<'a>(alloc: Global) -> Result<Command<'a>, AllocError>
         "Run the script on the standard input (gossipmpi run < SCRIPT) and print what each rank gets",
     )
     .after_help(
-        "Each option but --threads is followed by its number as a word of its own: --seed 7, not --seed=7",
+        "Each option but --threads is followed by its number: --seed 7, or --seed=7. The script says how many ranks there are.",
     )
     .arg(flag(alloc, "threads", THREADS))
 }
 
 const THREADS: &str =
-    "Run each rank and relay on threads of its own, over one queue of frames; --seed and --loss are not used then";
+    "Run each rank and relay on threads of its own, over one queue of frames: --seed and --loss are read, and not used";
 
 const SEED: &str =
-    "What loss, order and receivers are drawn from, 0 to 18446744073709551615 [default: 1]";
+    "What loss, order and receivers are drawn from, 0 to 18446744073709551615; not used with --threads [default: 1]";
 
-const LOSS: &str = "How many frames of a hundred are lost, 0 to 100 [default: 0]";
+const LOSS: &str =
+    "How many frames of a hundred are lost, 0 to 100; not used with --threads [default: 0]";
 
 const RELAYS: &str = "How many processes only carry frames, 0 to 63 [default: 0]";
 

@@ -1,5 +1,5 @@
 //! What is so of nodes of one's own, between which parts of boards are carried, as calls that a contract can name: they do nothing.
-ghost use Rattle.std.specs.Prelude.{◌≡◌, All, List, [], ◌∷◌, map, ℕ, ℤ, OnErr, OnOk, Result, is_some};
+ghost use Rattle.std.specs.Prelude.{◌≡◌, All, List, [], ◌∷◌, map, slice_get, Some, ℕ, ℤ, OnErr, OnOk, Result, is_some};
 ghost use Rattle.join_core.specs.declared.memory.OutOfMemory.{OutOfMemory};
 ghost use Rattle.mpx_name.specs.Name.{Name};
 ghost use Rattle.mpx_post.specs.declared.draft.Draft.{Draft};
@@ -14,6 +14,7 @@ ghost use Rattle.mpx_node.specs.Deltas.{SaysWhatItHas};
 ghost use Rattle.mpx_node.specs.Harvests.{Harvests};
 ghost use Rattle.mpx_node.specs.Nodes.{NodeView, Opens, Posts, StopsTaking, checked_on, gathers_on, learn, next_result};
 ghost use Rattle.mpx_world.specs.Soundness.{Agree, AgreeAcross, AreCommunicators, AreLeast, AreMembers, ArePermanent, Retains, Sound};
+ghost use Rattle.mpx_world.specs.Enough.{AnswerDoneUpTo, IsEnough, was_in};
 ghost use Rattle.mpx_world.specs.Networks.{AllAgree, AreAmong, AreKept, AreNew, Gives, GoesOn, HasPruned, IsNetwork, IsStep, IsTake, Network, network_of, new_network, world_in};
 
 /// Nodes that were just made, each at the place of its number and all for the same numbers of ranks and processes, are a network in
@@ -50,8 +51,10 @@ pub fn networks_go_on()
 
 /// The world of a network is sound, every two of its processes agree, also where one is seen earlier than the other, each board is the
 /// least above what its process learned, each process is in the contexts that it opened, completed results are permanent, and own
-/// posts are retained. Of the nodes themselves: every two agree, on births, posts and rows, and on results of one call, which
-/// are what one row gives the two, also an earlier node with a later one; and later nodes have what they had finished.
+/// posts are retained. Of the nodes themselves: all that each other member's board told at one moment after its post of a call is
+/// enough for a node's harvests up to that call, one part of each ([`one_part_of_each_is_enough`](crate::one_part_of_each_is_enough));
+/// every two agree, on births, posts and rows, and on results of one call, which are what one row gives the two, also an earlier
+/// node with a later one; and later nodes have what they had finished.
 pub fn networks_are_sound()
     ensures sound { (n : Network) → IsNetwork n → Sound (world_in n) }
     ensures agree { (n : Network) → IsNetwork n → (p q : ℕ) → Agree (world_in n) p q }
@@ -63,6 +66,8 @@ pub fn networks_are_sound()
     ensures permanent { (n : Network) (nodes : List NodeView) (parts : List Look) → IsNetwork n → (on : GoesOn n nodes parts)
         → ArePermanent (world_in n) (world_in (network_of on)) }
     ensures retained { (n : Network) → IsNetwork n → Retains (world_in n) }
+    ensures enough { (n : Network) → IsNetwork n → (p : ℕ) (node : NodeView) → slice_get n.nodes p ≡ Some node
+        → (name : Name) (k : ℕ) → IsEnough (was_in n) node name k → AnswerDoneUpTo node name k }
     ensures nodes { (n : Network) → IsNetwork n → AllAgree (world_in n) n.nodes n.nodes }
     ensures later_nodes { (n : Network) (nodes : List NodeView) (parts : List Look) → IsNetwork n → GoesOn n nodes parts
         → AllAgree (world_in n) n.nodes nodes }

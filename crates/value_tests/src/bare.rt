@@ -1,4 +1,4 @@
-//! Posts of drafts without a communicator: what they tell, and each reason for none.
+//! Posts of drafts without a communicator: what they tell, and how long their lists may be.
 use crate::making::{blocks, create, split};
 use crate::told::{Told, has_created, has_split, is_told, kind_alone, reduced};
 use mpx_num::{Op, Ty};
@@ -95,39 +95,6 @@ fn has_part(alloc: Global, drafted: &Drafted<'_>) -> bool {
     }
 }
 
-#[test]
-fn parts_of_graphs(rt: HostRuntime) {
-    let edge = graph(Kind::DistGraph, true, &[(63, 0, 2147483647)]);
-    let neighbours = just(Kind::DistGraphAdjacent);
-    assert!(rt; has_part(rt.alloc(), &edge) & has_part(rt.alloc(), &neighbours));
-}
-
-#[test]
-fn no_posts(rt: HostRuntime) {
-    let table = [
-        reduce(64, Op::Sum, Ty::I32, &[1]),
-        reduce(-1, Op::Sum, Ty::I32, &[1]),
-        reduce(0, Op::Maxloc, Ty::I32, &[1]),
-        reduce(0, Op::Maxloc, Ty::TwoInt, &[1]),
-        reduce(0, Op::Sum, Ty::I8, &[128]),
-        blocks(Kind::Alltoallv, &[4097], &[0], &[]),
-        blocks(Kind::Alltoallv, &[-1], &[0], &[]),
-        blocks(Kind::Alltoallv, &[0], &[4097], &[]),
-        blocks(Kind::Alltoallv, &[0], &[-1], &[]),
-        split(Some(-1), 0),
-        split(Some(2147483648), 0),
-        split(None, 2147483648),
-        create(&[64]),
-        create(&[5, 5]),
-        graph(Kind::DistGraph, true, &[(0, 64, 0)]),
-        graph(Kind::DistGraph, true, &[(0, 0, -1)]),
-        graph(Kind::DistGraphAdjacent, true, &[]),
-    ];
-    for (i, drafted) in table.iter().enumerate() {
-        assert!(rt; has_post(rt.alloc(), drafted) == Some(false), "row {i}");
-    }
-}
-
 fn zeros(alloc: Global, length: usize) -> Result<Vec<i128>, AllocError> {
     vec![in alloc; 0; length]
 }
@@ -156,7 +123,10 @@ fn has_long(
 }
 
 #[test]
-fn long_lists(rt: HostRuntime) -> Result<(), Fail> {
+fn parts_of_graphs_and_long_lists(rt: HostRuntime) -> Result<(), Fail> {
+    let edge = graph(Kind::DistGraph, true, &[(63, 0, 2147483647)]);
+    let neighbours = just(Kind::DistGraphAdjacent);
+    assert!(rt; has_part(rt.alloc(), &edge) & has_part(rt.alloc(), &neighbours));
     for (scounts, rcounts, items, wanted) in [
         (65535, 65535, 4096, true),
         (65536, 65535, 4096, false),
@@ -164,20 +134,6 @@ fn long_lists(rt: HostRuntime) -> Result<(), Fail> {
         (65535, 65535, 4097, false),
     ] {
         assert!(rt; has_long(rt.alloc(), scounts, rcounts, items)? == Some(wanted));
-    }
-    Ok(())
-}
-
-// Whether so many edges have a post, where there is memory.
-fn has_edges(alloc: Global, count: usize) -> Result<Option<bool>, AllocError> {
-    let edges = vec![in alloc; (0, 1, 2); count]?;
-    Ok(has_post(alloc, &graph(Kind::DistGraph, true, &edges)))
-}
-
-#[test]
-fn many_edges(rt: HostRuntime) -> Result<(), Fail> {
-    for (count, wanted) in [(512, true), (513, false)] {
-        assert!(rt; has_edges(rt.alloc(), count)? == Some(wanted));
     }
     Ok(())
 }

@@ -1,12 +1,11 @@
 //! Topologies and births of parts from outside: which are made, and each reason why others aren't.
-use crate::making::{blocks, in_world, processes};
+use crate::making::processes;
 use join_core::Exact;
 use mpx_birth::{Birth, Neighbour, Neighbours, Topology};
 use mpx_graph::{NeighbourCounts, counts};
-use mpx_post::{Kind, PostError};
 use std::alloc::{AllocError, Global};
 use std::test::Fail;
-use test_drafts::{check, proc};
+use test_drafts::proc;
 
 // The neighbours of one rank, as ranks and weights.
 type Beside = (&'static [(u8, u32)], &'static [(u8, u32)]);
@@ -54,15 +53,6 @@ const TOPOLOGIES: &[(bool, &[Beside], bool)] = &[
     (true, &[(&[(0, 2147483648)], &[(0, 0)])], false),
 ];
 
-#[test]
-fn topologies_of_what_both_ends_tell(rt: HostRuntime) -> Result<(), Fail> {
-    for (i, row) in TOPOLOGIES.iter().enumerate() {
-        let (weighted, ranks, wanted) = *row;
-        assert!(rt; is_made(rt.alloc(), weighted, ranks)? == wanted, "row {i}");
-    }
-    Ok(())
-}
-
 fn is_looped(made: &Topology) -> bool {
     let counted = NeighbourCounts {
         indegree: 2,
@@ -82,42 +72,12 @@ fn makes_loops(alloc: Global) -> Result<bool, Fail> {
 }
 
 #[test]
-fn neighbours_are_counted(rt: HostRuntime) -> Result<(), Fail> {
+fn topologies_of_what_both_ends_tell(rt: HostRuntime) -> Result<(), Fail> {
+    for (i, row) in TOPOLOGIES.iter().enumerate() {
+        let (weighted, ranks, wanted) = *row;
+        assert!(rt; is_made(rt.alloc(), weighted, ranks)? == wanted, "row {i}");
+    }
     assert!(rt; makes_loops(rt.alloc())?);
-    Ok(())
-}
-
-// A rank with so many loops.
-fn looped(alloc: Global, rank: u8, times: usize) -> Result<Neighbours, Fail> {
-    let mut near = Neighbours::none(alloc);
-    let itself = Neighbour { rank, weight: 0 };
-    for _time in 0..times {
-        near.add_source(itself)?;
-        near.add_destination(itself)?;
-    }
-    Ok(near)
-}
-
-// Whether so many ranks, each with so many loops, make a topology.
-fn are_loops_made(alloc: Global, ranks: usize, times: usize) -> Result<bool, Fail> {
-    let mut list = Vec::new(alloc);
-    for rank in 0..ranks {
-        list.push(looped(alloc, (rank % 64) as u8, times)?)?;
-    }
-    Ok(Topology::new(alloc, false, list)?.is_some())
-}
-
-#[test]
-fn limits_of_topologies(rt: HostRuntime) -> Result<(), Fail> {
-    for (ranks, times, wanted) in [
-        (64, 512, true),
-        (1, 32768, true),
-        (1, 32769, false),
-        (64, 513, false),
-        (65, 0, false),
-    ] {
-        assert!(rt; are_loops_made(rt.alloc(), ranks, times)? == wanted);
-    }
     Ok(())
 }
 
@@ -149,64 +109,6 @@ const BIRTHS: &[(&[u8], &[Beside], bool)] = &[
     (&[4, 0], &[(&[], &[])], false),
 ];
 
-#[test]
-fn births_of_members_and_topologies(rt: HostRuntime) -> Result<(), Fail> {
-    for (i, row) in BIRTHS.iter().enumerate() {
-        let (numbers, ranks, wanted) = *row;
-        assert!(rt; is_born(rt.alloc(), numbers, ranks)? == wanted, "row {i}");
-    }
-    Ok(())
-}
-
-fn first(alloc: Global, count: u8) -> Result<Vec<u8>, AllocError> {
-    let mut numbers = Vec::new(alloc);
-    for number in 0..count {
-        numbers.push(number)?;
-    }
-    Ok(numbers)
-}
-
-fn is_born_of_first(alloc: Global, count: u8) -> Result<bool, Fail> {
-    let numbers = first(alloc, count)?;
-    is_born(alloc, &numbers, &[])
-}
-
-// Of 65 processes one stands there twice.
-#[test]
-fn most_members(rt: HostRuntime) -> Result<(), Fail> {
-    let most = is_born_of_first(rt.alloc(), 64)?;
-    assert!(rt; most & !is_born_of_first(rt.alloc(), 65)?);
-    Ok(())
-}
-
-// Why process 63 may not send blocks of two sizes in a call whose blocks have one.
-fn refusal(alloc: Global, birth: &Birth) -> Option<PostError> {
-    let drafted = blocks(Kind::NeighborAlltoall, &[1, 1], &[1], &[]);
-    check(alloc, birth, proc(63), &in_world(0), &drafted).err()
-}
-
-// Whether the birth is that of the processes 63 and 5, with an edge from the one to the other.
-fn is_of_two(alloc: Global, birth: &Birth) -> bool {
-    (birth.members().len() == 2)
-        && (birth.rank_of(proc(5)) == Some(1))
-        && birth.indegree(1) == 1
-        && birth.outdegree(1) == 0
-        && refusal(alloc, birth) == Some(PostError::CountsLength)
-}
-
-fn bears_two(alloc: Global) -> Result<bool, Fail> {
-    match born(alloc, &[63, 5], EDGE)? {
-        None => Ok(false),
-        Some(birth) => Ok(is_of_two(alloc, &birth)),
-    }
-}
-
-#[test]
-fn a_birth_of_two(rt: HostRuntime) -> Result<(), Fail> {
-    assert!(rt; bears_two(rt.alloc())?);
-    Ok(())
-}
-
 fn is_copied(alloc: Global, birth: &Birth) -> bool {
     match birth.copy(alloc) {
         Ok(copied) => copied.same(birth),
@@ -229,9 +131,18 @@ fn is_of_three(alloc: Global, birth: &Birth) -> Result<bool, Fail> {
     Ok(same & (ranks == (Some(2), None)) & !is_world(alloc, birth, 2)?)
 }
 
+// The same, where there is memory.
+fn bears_three(alloc: Global) -> Result<bool, Fail> {
+    let world = Birth::world(alloc, 3)?;
+    is_of_three(alloc, &world)
+}
+
 #[test]
-fn births_are_the_same(rt: HostRuntime) -> Result<(), Fail> {
-    let world = Birth::world(rt.alloc(), 3)?;
-    assert!(rt; is_of_three(rt.alloc(), &world)?);
+fn births_of_members_and_topologies(rt: HostRuntime) -> Result<(), Fail> {
+    for (i, row) in BIRTHS.iter().enumerate() {
+        let (numbers, ranks, wanted) = *row;
+        assert!(rt; is_born(rt.alloc(), numbers, ranks)? == wanted, "row {i}");
+    }
+    assert!(rt; bears_three(rt.alloc())?);
     Ok(())
 }

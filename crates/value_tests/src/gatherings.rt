@@ -1,6 +1,5 @@
 //! Gatherings: their members in the order given, and two refusals that no script shows.
 use crate::making::processes;
-use mpx_group::Proc;
 use mpx_post::{Birth, Gathering, PostError};
 use std::alloc::Global;
 use std::test::Fail;
@@ -41,45 +40,23 @@ fn refusal(
     }
 }
 
-fn has_born(alloc: Global, gathering: &Gathering, members: &[Proc]) -> bool {
+// Whether it has the tag and the members 7, 2 and 0, of whom it is born.
+fn is_of_three(alloc: Global, gathering: &Gathering) -> bool {
+    let wanted = [proc(7), proc(2), proc(0)];
+    let told = (gathering.tag() == 32767) & (gathering.members().members() == wanted.as_slice());
     match gathering.birth(alloc) {
-        Ok(birth) => birth.members() == members,
-        Err(_) => false,
-    }
-}
-
-// Whether the process with this number opens the gathering of these members so.
-fn gathers(
-    alloc: Global,
-    number: u8,
-    depth: usize,
-    tag: u16,
-    ranks: &[i128],
-    members: &[Proc],
-) -> bool {
-    match opened(alloc, number, depth, i128::from(tag), ranks) {
-        Ok(gathering) => {
-            (gathering.tag() == tag)
-                & (gathering.members().members() == members)
-                & (usize::from(gathering.members().size()) == members.len())
-                & has_born(alloc, &gathering, members)
-        }
+        Ok(birth) => told & (birth.members() == wanted.as_slice()),
         Err(_) => false,
     }
 }
 
 #[test]
-fn members_in_the_order_given(rt: HostRuntime) {
+fn members_in_the_order_given(rt: HostRuntime) -> Result<(), Fail> {
     let alloc = rt.alloc();
-    let wanted: [Proc; 3] = [proc(7), proc(2), proc(0)];
-    let three = gathers(alloc, 2, 7, 32767, &[2, 1, 3], &wanted);
-    let one = gathers(alloc, 5, 0, 0, &[0], &[proc(5)]);
-    assert!(rt; three & one);
-}
-
-#[test]
-fn strangers_and_long_lists(rt: HostRuntime) -> Result<(), Fail> {
-    let alloc = rt.alloc();
+    match opened(alloc, 2, 7, 32767, &[2, 1, 3]) {
+        Ok(gathering) => assert!(rt; is_of_three(alloc, &gathering)),
+        Err(_) => Err("refused")?,
+    }
     let ranks = vec![in alloc; 1; 100000]?;
     let stranger = refusal(alloc, 1, 8, 32768, &[4]) == Some(PostError::NotMember);
     let long = refusal(alloc, 2, 0, 0, &ranks) == Some(PostError::BadGroup);

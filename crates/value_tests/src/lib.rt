@@ -11,6 +11,8 @@ mod children;
 #[cfg(test)]
 mod gatherings;
 #[cfg(test)]
+mod graphs;
+#[cfg(test)]
 mod making;
 #[cfg(test)]
 mod misfits;
@@ -18,8 +20,6 @@ mod misfits;
 mod numbers;
 #[cfg(test)]
 mod pairs;
-#[cfg(test)]
-mod posts;
 #[cfg(test)]
 mod refusals;
 #[cfg(test)]

@@ -8,7 +8,11 @@ use std::test::Fail;
 use test_drafts::{Drafted, Edges, check, just};
 
 // What ranks 0 and 1 of a world post.
-fn posts_on(alloc: Global, world: &Birth, calls: &[Drafted<'_>]) -> Result<Vec<Post>, PostError> {
+pub fn posts_on(
+    alloc: Global,
+    world: &Birth,
+    calls: &[Drafted<'_>],
+) -> Result<Vec<Post>, PostError> {
     let mut posts = Vec::new(alloc);
     for (me, drafted) in world.members().iter().zip(calls) {
         add_post(&mut posts, check(alloc, world, *me, &in_world(0), drafted))?;
@@ -16,18 +20,18 @@ fn posts_on(alloc: Global, world: &Birth, calls: &[Drafted<'_>]) -> Result<Vec<P
     Ok(posts)
 }
 
-// The verdict of the row of these posts.
-fn verdict_of(alloc: Global, world: &Birth, posts: &[Post]) -> Result<Verdict, Fail> {
+// The row of these posts.
+pub fn row_of<'a>(alloc: Global, posts: &'a [Post]) -> Result<Row<'a>, Fail> {
     let row = lent(alloc, posts)?;
     if row.is_empty() || row.len() > 64 {
         Err("no row")?;
     }
-    Ok(verdict(world, &Row::new(row)))
+    Ok(Row::new(row))
 }
 
 fn verdict_on(alloc: Global, world: &Birth, calls: &[Drafted<'_>]) -> Result<Verdict, Fail> {
     let posts = posts_on(alloc, world, calls)?;
-    verdict_of(alloc, world, &posts)
+    Ok(verdict(world, &row_of(alloc, &posts)?))
 }
 
 // Whether the verdict of what the first ranks of a world of three post is that the amounts of this rank differ.

@@ -49,8 +49,9 @@ fn check_refusals(
 
 // Of several reasons the first in their order is told: who is no member, then what the draft says, then its place.
 #[test]
-fn strangers_and_calls_used_up(rt: HostRuntime) {
-    use PostError::{CallsUsedUp, ItemsLength, NoTopology, NotMember};
+fn strangers_calls_used_up_and_contexts(rt: HostRuntime) {
+    use PostError::{BadGroup, CallsUsedUp, DepthUsedUp, ItemsLength, NoTopology, NotMember};
+    let (plain, gathering) = (on(0, 1, false), on(0, 1, true));
     let at = in_world(0);
     let (last, past) = (in_world(4294967294), in_world(4294967295));
     let along_edges = blocks(Kind::NeighborAlltoallv, &[1], &[], &[7]);
@@ -75,19 +76,7 @@ fn strangers_and_calls_used_up(rt: HostRuntime) {
                 just(Kind::Dup),
                 Some(CallsUsedUp),
             ),
-        ],
-    );
-}
-
-// On a gathering `create_group` alone is called, and nowhere else.
-#[test]
-fn calls_have_their_contexts(rt: HostRuntime) {
-    use PostError::{BadGroup, DepthUsedUp};
-    let (plain, gathering) = (on(0, 1, false), on(0, 1, true));
-    check_refusals(
-        &rt,
-        rt.alloc(),
-        &[
+            // on a gathering `create_group` alone is called, and nowhere else
             (0, plain, just(Kind::CreateGroup), Some(BadGroup)),
             (0, gathering, just(Kind::CreateGroup), None),
             (0, gathering, just(Kind::Barrier), Some(BadGroup)),

@@ -1,5 +1,6 @@
 -- What the program writes, and its exit status.
-use Rattle.std.specs.Prelude.{◌≡◌, ℕ, Bool, true, false, not, ◌==◌, List, [], ◌++◌, codes, length, IfSome, Option, Result, Ok, Err}
+use Rattle.std.specs.Prelude.{◌≡◌, ℕ, Bool, true, false, not, ◌==◌, List, [], ◌++◌, codes, length, IfSome, Option, Some, None, Result, Ok, Err, string_bytes}
+use Rattle.std.specs.Fmt.{decimal}
 use Rattle.std.specs.Io.KnownBytes.{Appends}
 use Rattle.mpx_eval.specs.Complaints.{ComplaintView}
 use Rattle.mpx_eval.specs.Findings.{AreFindings}
@@ -7,6 +8,8 @@ use Rattle.mpx_eval.specs.Waiting.{WaitingView}
 use Rattle.mpx_script.specs.Faults.{error_text}
 use Rattle.mpx_script.specs.Reading.{reading}
 use Rattle.mpx_script.specs.ScriptView.{ScriptView}
+use Rattle.mpx_script.specs.declared.faults.ScriptError.{ScriptError}
+use Rattle.waits.specs.declared.blame.Blamed.{Blamed}
 use Rattle.waits.specs.declared.program.Fault.{Fault}
 use Rattle.waits.specs.declared.program.Fault.TheVariants.{Script, Memory, Read, Write}
 use Rattle.waits.specs.Told.{all_told}
@@ -26,7 +29,7 @@ pub record Told (text : List ℕ) (old new : Option (List ℕ)) (waits : Bool) :
 -- written, unless the writer failed
 abbrev pub Answers : (text : List ℕ) (old new : Option (List ℕ)) → Result Bool Fault → Type 0
 Answers text old new (Ok waits) = Told text old new waits
-Answers text old new (Err (Script refusal)) = (reading text ≡ Err refusal) × (new ≡ old)
+Answers text old new (Err (Script refusal word)) = (reading text ≡ Err refusal) × (new ≡ old)
 Answers text old new (Err Memory) = new ≡ old
 Answers text old new (Err Read) = new ≡ old
 Answers text old new (Err Write) = Unit {0}
@@ -34,7 +37,7 @@ Answers text old new (Err Write) = Unit {0}
 -- no fault of the reader, nor want of memory, has kept it from the text
 abbrev pub is_read : Result Bool Fault → Bool
 is_read (Ok waits) = true
-is_read (Err (Script refusal)) = true
+is_read (Err (Script refusal word)) = true
 is_read (Err Memory) = false
 is_read (Err Read) = false
 is_read (Err Write) = true
@@ -49,15 +52,27 @@ pub record Tells (there old new : Option (List ℕ)) (answer : Result Bool Fault
 abbrev pub status : Result Bool Fault → ℕ
 status (Ok false) = 0
 status (Ok true) = 3
-status (Err (Script refusal)) = 2
+status (Err (Script refusal word)) = 2
 status (Err Memory) = 4
 status (Err Read) = 5
 status (Err Write) = 5
 
+-- a refusal, and the word that is to blame; which one that is isn't claimed
+abbrev pub blamed_text : ScriptError → Blamed → List ℕ
+blamed_text refusal blamed = error_text refusal ++ codes " (word " ++ decimal blamed.place ++ codes ": " ++ string_bytes blamed.word ++ codes ")\n"
+
+-- that refusal, or want of memory
+abbrev pub IsRefusal : ScriptError → Fault → Type 0
+IsRefusal refusal (Script told word) = told ≡ refusal
+IsRefusal refusal Memory = Unit {0}
+IsRefusal refusal Read = ⊥
+IsRefusal refusal Write = ⊥
+
 -- what the standard error is told
 abbrev pub message : Result Bool Fault → List ℕ
 message (Ok waits) = []
-message (Err (Script refusal)) = error_text refusal ++ codes "\n"
+message (Err (Script refusal None)) = error_text refusal ++ codes "\n"
+message (Err (Script refusal (Some blamed))) = blamed_text refusal blamed
 message (Err Memory) = codes "out of memory\n"
 message (Err Read) = codes "read fault\n"
 message (Err Write) = codes "write fault\n"

@@ -1,5 +1,5 @@
 -- The lines that tell who waits, and which calls were refused or are faults.
-use Rattle.std.specs.Prelude.{ℕ, ◌==◌, List, [], ◌∷◌, ◌++◌, codes, cond, map, slice_get, slice_index_or, Option, Some, None, unwrap_or}
+use Rattle.std.specs.Prelude.{ℕ, ◌+◌, ◌==◌, Bool, true, false, ◌&&◌, List, [], ◌∷◌, ◌++◌, bytes_eq, codes, cond, if◌then◌else◌, map, slice_get, slice_index_or, Option, Some, None, unwrap_or}
 use Rattle.std.specs.Fmt.{decimal}
 use Rattle.std.specs.List.{flat_map}
 use Rattle.mpx_eval.specs.Complaints.{ComplaintView, started_at}
@@ -19,13 +19,23 @@ place_of text w = (w.rank, line_at (lines_given w.rank text) w.statement)
 
 -- WHO WAITS
 
--- the second word of a line
-abbrev pub second_word : (text : List ℕ) (line : ℕ) → List ℕ
-second_word text line = unwrap_or (slice_get (words_at text line) 1) []
+-- the word with this place in a line, from 0 on
+abbrev pub word_in : (text : List ℕ) (line place : ℕ) → List ℕ
+word_in text line place = unwrap_or (slice_get (words_at text line) place) []
 
--- the second and the third one: of a call its own word and its communicator's
+-- of a call its own word
+abbrev pub second_word : (text : List ℕ) (line : ℕ) → List ℕ
+second_word text line = word_in text line 1
+
+-- what tells calls of this word on one communicator apart: of `create_group` the tag and the ranks
+abbrev pub apart_words : (text : List ℕ) (line : ℕ) → List ℕ
+apart_words text line =
+    if bytes_eq (second_word text line) (codes "create_group") then codes " " ++ word_in text line 3 ++ codes " " ++ word_in text line 4 else
+    []
+
+-- a call's own word, its communicator's, and those
 abbrev pub call_words : (text : List ℕ) (line : ℕ) → List ℕ
-call_words text line = second_word text line ++ codes " " ++ unwrap_or (slice_get (words_at text line) 2) []
+call_words text line = second_word text line ++ codes " " ++ word_in text line 2 ++ apart_words text line
 
 -- a request that is waited for at a line, and the call that stands in the line in which it is started
 abbrev pub request_text : (text : List ℕ) (line : ℕ) (request : List ℕ) (started : ℕ) → List ℕ
@@ -36,18 +46,50 @@ abbrev pub what_text : (text : List ℕ) → List Statement → (numbers : List 
 what_text text statements numbers line None = call_words text line
 what_text text statements numbers line (Some request) = request_text text line request (line_at numbers (started_at statements request))
 
--- where a rank stands: at the line at which it waits, or at its end
-abbrev pub standing_text : (places : List (ℕ × ℕ)) → (rank : ℕ) → List ℕ
-standing_text [] rank = codes "finished"
-standing_text (place ∷ places) rank = cond (place.0 == rank) (codes "line " ++ decimal place.1) (standing_text places rank)
+-- where a rank stands: the line at which it waits, or none where it is at its end
+abbrev pub standing : (places : List (ℕ × ℕ)) → (rank : ℕ) → Option ℕ
+standing [] rank = None
+standing (place ∷ places) rank = cond (place.0 == rank) (Some place.1) (standing places rank)
+
+abbrev pub standing_text : Option ℕ → List ℕ
+standing_text None = codes "finished"
+standing_text (Some line) = codes "line " ++ decimal line
+
+-- ranks, and where they stand
+abbrev pub placed_text : (ranks : List ℕ) → Option ℕ → List ℕ
+placed_text ranks place = ranks ++ codes " (" ++ standing_text place ++ codes ")"
 
 abbrev pub member_text : (places : List (ℕ × ℕ)) → (member : ℕ) → List ℕ
-member_text places member = decimal member ++ codes " (" ++ standing_text places member ++ codes ")"
+member_text places member = placed_text (decimal member) (standing places member)
+
+-- members in a row that stand at one place, from the first to the last
+abbrev pub row_text : (places : List (ℕ × ℕ)) → (first last : ℕ) → List ℕ
+row_text places first last =
+    if first == last then member_text places last else
+    if first + 1 == last then member_text places first ++ codes ", " ++ member_text places last else
+    placed_text (decimal first ++ codes " to " ++ decimal last) (standing places last)
+
+abbrev pub is_same_place : Option ℕ → Option ℕ → Bool
+is_same_place None None = true
+is_same_place None (Some line) = false
+is_same_place (Some line) None = false
+is_same_place (Some one) (Some other) = one == other
+
+-- a member is the next rank, and stands where that one does
+abbrev pub follows : (places : List (ℕ × ℕ)) → (last member : ℕ) → Bool
+follows places last member = (last + 1 == member) && is_same_place (standing places last) (standing places member)
+
+-- members, of which those from the first to the last are in a row so far
+abbrev pub rows_text : (places : List (ℕ × ℕ)) → (first last : ℕ) → List ℕ → List ℕ
+rows_text places first last [] = row_text places first last
+rows_text places first last (member ∷ more) =
+    if follows places last member then rows_text places first member more else
+    row_text places first last ++ codes ", " ++ rows_text places member member more
 
 -- members with commas between
 abbrev pub members_text : (places : List (ℕ × ℕ)) → List ℕ → List ℕ
 members_text places [] = []
-members_text places (member ∷ more) = member_text places member ++ flat_map (λ other. codes ", " ++ member_text places other) more
+members_text places (member ∷ more) = rows_text places member member more
 
 -- how a line begins that tells of a rank at a line
 abbrev pub start_text : (rank line : ℕ) → List ℕ

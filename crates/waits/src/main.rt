@@ -3,20 +3,37 @@
 //! a fault, its rank, its line, and what the transcript says of it.
 #![tactic(auto)]
 
+mod blame;
 mod complaints;
+mod members;
 mod numbers;
 mod places;
 mod program;
-#[cfg(test)]
-mod tests;
 mod told;
 
 use program::{status_of, tell_waits, write_message};
-use std::io;
+use std::io::Write;
 use std::process::ExitCode;
+use std::{env, io};
 
-/// What fails on the standard error is let go: the status stands.
+/// Whether the call has words behind the program's name.
+fn has_words(rt: &HostRuntime) -> bool {
+    match env::args(rt) {
+        Ok(mut args) => args.nth(1).is_some(),
+        Err(_) => true,
+    }
+}
+
+/// Words are refused, with status 1: a script is read from the standard input alone. What fails on the standard error is let go: the
+/// status stands.
 fn main(rt: HostRuntime) -> ExitCode {
+    if has_words(&rt) {
+        let _told = writeln!(
+            rt.stderr(),
+            "waits takes no words: it reads a script from the standard input, as in 'waits < my.job'"
+        );
+        return ExitCode::from(1);
+    }
     let answer = tell_waits(rt.alloc(), &mut rt.reader(), &mut io::writer(&rt));
     let _told = write_message(&answer, &mut rt.stderr());
     ExitCode::from(status_of(&answer))

@@ -1,8 +1,9 @@
 //! From a reader to a writer, and how that ends.
 ghost use Rattle.std.specs.Prelude.{◌≡◌, OnOk};
 ghost use Rattle.std.specs.Io.KnownBytes.{Appends};
-ghost use Rattle.waits.specs.Program.{Answers, Tells, message, status};
+ghost use Rattle.waits.specs.Program.{Answers, IsRefusal, Tells, blamed_text, message, status};
 
+use crate::blame::{Blamed, word_to_blame};
 use crate::told::all_told;
 use mpx_eval::examine;
 use mpx_script::{ReadScriptError, ScriptError, read_script};
@@ -13,8 +14,8 @@ use std::io::{Read, Write};
 /// Why nothing is told, or not all.
 #[derive(Drop)]
 pub enum Fault {
-    /// The script is refused.
-    Script(ScriptError),
+    /// The script is refused, for one word of the line where that can be told.
+    Script(ScriptError, Option<Blamed>),
     Memory,
     /// The reader failed.
     Read,
@@ -46,7 +47,7 @@ fn tell_text<W: Write>(alloc: Global, text: &[u8], writer: &mut W) -> Result<boo
 {
     let script = match read_script(alloc, text) {
         Ok(script) => script,
-        Err(ReadScriptError::Refused(refusal)) => return Err(Fault::Script(refusal)),
+        Err(ReadScriptError::Refused(refusal)) => return Err(refused(alloc, text, refusal)),
         Err(ReadScriptError::OutOfMemory) => return Err(Fault::Memory),
     };
     let Ok(found) = examine(alloc, &script) else {
@@ -58,6 +59,16 @@ fn tell_text<W: Write>(alloc: Global, text: &[u8], writer: &mut W) -> Result<boo
     match write_whole(writer, &told) {
         Ok(()) => Ok(!found.waiting.is_empty()),
         Err(_) => Err(Fault::Write),
+    }
+}
+
+// The script is refused; which word is to blame is told where memory is there to find out.
+fn refused(alloc: Global, text: &[u8], refusal: ScriptError) -> Fault
+    ensures { IsRefusal refusal result }
+{
+    match word_to_blame(alloc, text, refusal) {
+        Ok(word) => Fault::Script(refusal, word),
+        Err(_) => Fault::Memory,
     }
 }
 
@@ -76,21 +87,31 @@ pub fn status_of(answer: &Result<bool, Fault>) -> u8
     match answer {
         Ok(false) => 0,
         Ok(true) => 3,
-        Err(Fault::Script(_)) => 2,
+        Err(Fault::Script(_, _)) => 2,
         Err(Fault::Memory) => 4,
         Err(Fault::Read | Fault::Write) => 5,
     }
 }
 
-/// Writes what the standard error is told: the refusal or the fault, as one line.
+/// Writes what the standard error is told: the refusal or the fault, as one line, behind which the word stands that is to blame.
 pub fn write_message<W: Write>(answer: &Result<bool, Fault>, writer: &mut W) -> io::Result<()>
     ensures { OnOk result (Appends (W.contents writer.old) (W.contents writer.new) (message answer.now)) }
 {
     match answer {
         Ok(_) => Ok(()),
-        Err(Fault::Script(refusal)) => writeln!(writer, "{refusal}"),
+        Err(Fault::Script(refusal, None)) => writeln!(writer, "{refusal}"),
+        Err(Fault::Script(refusal, Some(blamed))) => write_blamed(refusal, blamed, writer),
         Err(Fault::Memory) => writer.write_all(b"out of memory\n"),
         Err(Fault::Read) => writer.write_all(b"read fault\n"),
         Err(Fault::Write) => writer.write_all(b"write fault\n"),
     }
+}
+
+// The refusal, and behind it the word that is to blame, with its place.
+fn write_blamed<W: Write>(refusal: &ScriptError, blamed: &Blamed, writer: &mut W) -> io::Result<()>
+    ensures { OnOk result (Appends (W.contents writer.old) (W.contents writer.new) (blamed_text refusal.now blamed.now)) }
+{
+    let place = blamed.place;
+    let word = blamed.word.as_str();
+    writeln!(writer, "{refusal} (word {place}: {word})")
 }

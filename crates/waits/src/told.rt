@@ -1,15 +1,16 @@
 //! The text of the lines that tell who waits, and of all lines.
-ghost use Rattle.std.specs.Prelude.{◌≡◌, ◌++◌, IfOk, OnOk, map};
+ghost use Rattle.std.specs.Prelude.{◌≡◌, ◌++◌, IfOk, OnOk, bytes_eq, codes, map};
 ghost use Rattle.std.specs.Option.{option_copied};
 ghost use Rattle.mpx_eval.specs.Found.{complaint_view, missing_view, waiting_view};
-ghost use Rattle.waits.specs.Told.{all_told, call_text, call_words, end_text, member_text, members_text, rank_text, request_text, second_word, standing_text, start_text, waiting_told, what_text};
+ghost use Rattle.waits.specs.Told.{all_told, apart_words, call_text, call_words, end_text, rank_text, request_text, second_word, start_text, waiting_told, what_text, word_in};
 
 use crate::complaints::push_complaints;
+use crate::members::push_members;
 use crate::numbers::push_decimal;
 use crate::places::{line_at, places_of};
 use join_core::OutOfMemory;
 use mpx_eval::{Findings, MissingCall, WaitingRank, started_at};
-use mpx_script::{Script, Statement, Word, statement_lines, words_of_line};
+use mpx_script::{Script, Statement, Word, later_words_of_line, statement_lines, words_of_line};
 use std::alloc::Global;
 
 /// A line for each call that is missing, and behind these one for each call that was refused or is a fault.
@@ -177,7 +178,7 @@ fn second_word(text: &[u8], line: u32) -> &[u8]
     words_of_line(text, line).0.unwrap_or(&[])
 }
 
-// Adds the words of a line's call and of its communicator.
+// Adds the words of a line's call and of its communicator, and what tells it apart from others of its word.
 fn push_words(text: &[u8], line: u32, told: &mut Vec<u8>) -> Result<(), OutOfMemory>
     ensures { OnOk result (told.new.items ≡ told.old.items ++ call_words text.now line) }
 {
@@ -185,60 +186,34 @@ fn push_words(text: &[u8], line: u32, told: &mut Vec<u8>) -> Result<(), OutOfMem
     told.extend_from_slice(second.unwrap_or(&[]))?;
     told.extend_from_slice(b" ")?;
     told.extend_from_slice(third.unwrap_or(&[]))?;
-    Ok(())
+    push_apart(text, line, told)
 }
 
-// Adds members with commas between.
-fn push_members(
-    alloc: Global,
-    places: &[(u8, u32)],
-    members: &[u8],
-    told: &mut Vec<u8>,
-) -> Result<(), OutOfMemory>
-    ensures { OnOk result (told.new.items ≡ told.old.items ++ members_text places.now members.now) }
+// Adds what tells calls of one word on one communicator apart: of `create_group` the tag and the ranks.
+fn push_apart(text: &[u8], line: u32, told: &mut Vec<u8>) -> Result<(), OutOfMemory>
+    ensures { OnOk result (told.new.items ≡ told.old.items ++ apart_words text.now line) }
 {
-    let Some((first, more)) = members.split_first() else {
-        return Ok(());
-    };
-    push_member(alloc, places, *first, told)?;
-    for member in more {
-        told.extend_from_slice(b", ")?;
-        push_member(alloc, places, *member, told)?;
+    if is_gathered(second_word(text, line)) {
+        return push_later(text, line, told);
     }
     Ok(())
 }
 
-// Adds a member, and where it stands.
-fn push_member(
-    alloc: Global,
-    places: &[(u8, u32)],
-    member: u8,
-    told: &mut Vec<u8>,
-) -> Result<(), OutOfMemory>
-    ensures { OnOk result (told.new.items ≡ told.old.items ++ member_text places.now member) }
+// Whether a call's own word says that it is told apart so.
+fn is_gathered(word: &[u8]) -> bool
+    ensures { result ≡ bytes_eq word.now (codes "create_group") }
 {
-    push_decimal(alloc, told, u32::from(member))?;
-    told.extend_from_slice(b" (")?;
-    push_standing(alloc, places, member, told)?;
-    told.extend_from_slice(b")")?;
-    Ok(())
+    word == b"create_group".as_slice()
 }
 
-// Adds the line at which a rank waits, or that it has finished.
-fn push_standing(
-    alloc: Global,
-    places: &[(u8, u32)],
-    rank: u8,
-    told: &mut Vec<u8>,
-) -> Result<(), OutOfMemory>
-    ensures { OnOk result (told.new.items ≡ told.old.items ++ standing_text places.now rank) }
+// Adds the fourth and the fifth word of a line.
+fn push_later(text: &[u8], line: u32, told: &mut Vec<u8>) -> Result<(), OutOfMemory>
+    ensures { OnOk result (told.new.items ≡ told.old.items ++ (codes " " ++ word_in text.now line 3 ++ codes " " ++ word_in text.now line 4)) }
 {
-    for (waiting, line) in places {
-        if *waiting == rank {
-            told.extend_from_slice(b"line ")?;
-            return push_decimal(alloc, told, *line);
-        }
-    }
-    told.extend_from_slice(b"finished")?;
+    let (tag, ranks) = later_words_of_line(text, line);
+    told.extend_from_slice(b" ")?;
+    told.extend_from_slice(tag.unwrap_or(&[]))?;
+    told.extend_from_slice(b" ")?;
+    told.extend_from_slice(ranks.unwrap_or(&[]))?;
     Ok(())
 }

@@ -1,7 +1,7 @@
 use Rattle.mpx_node.specs.Nodes.{NodeView, gathers_on, learn}
 use Rattle.mpx_comm.specs.Keeps.{Keeps}
 use Rattle.mpx_comm.specs.Later.{Later}
-use Rattle.mpx_comm.proofs.Steps.{later_gathers, later_harvest, later_learns}
+use Rattle.mpx_comm.proofs.Steps.{later_gathers, later_harvest, later_learns, later_stops}
 use Rattle.mpx_comm.proofs.laws.calls_keep_posts_and_results.Goals as goal
 
 keeps : (old now : NodeView) → Later old now → Keeps old now
@@ -21,6 +21,9 @@ returns-clause-harvests c old now name answer h = keeps old now (later_harvest o
 
 pub returns-clause-boards : goal.returns-clause-boards
 returns-clause-boards c old part = keeps old (learn part old) (later_learns part old)
+
+pub returns-clause-stopped : goal.returns-clause-stopped
+returns-clause-stopped c old now part h = keeps old now (later_stops part old now h)
 
 pub returns-clause-chain : goal.returns-clause-chain
 returns-clause-chain c old between now x y = record { stored = λ n k f e. y.stored n k f (x.stored n k f e); own = λ n k g o. y.own n k g (x.own n k g o) }

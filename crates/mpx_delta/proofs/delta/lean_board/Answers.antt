@@ -14,6 +14,6 @@ from_tidy-lean-requires c = lean_tidy (view_of_acks c.args.digest.now) (parts_of
 
 pub returns-in-Ok : goal.returns-in-Ok
 returns-in-Ok c =
-    c.replace_acks.ensures
+    c.with_acks.ensures
     ∙ ap (λ (v : PartsView). record (look_of v) { acks = (look c.args.said).acks }) c.from_tidy-lean.ensures
     ∙ lean_said (view_of_acks c.args.digest.now) (parts_of c.args.board.now) _ _ (look c.args.said) (c.in-Ok.ensures ∙ ap (λ v. keep (lean_context (view_of_acks c.args.digest.now)) v.0) c.pair.ensures.value)

@@ -1,7 +1,6 @@
 -- Refused by what was read of the counts.
-use Rattle.std.proofs.Common.{rules, ◌≡◌, ◌∙◌, [], Option, Some, sym}
+use Rattle.std.proofs.Common.{rules, ◌≡◌, ◌∙◌, [], Some, sym}
 use Rattle.std.specs.Prelude.{is_none}
-use Rattle.mpx_script.specs.declared.faults.ScriptFault.{ScriptFault}
 use Rattle.mpx_script.specs.Fields.{counts_named}
 use Rattle.mpx_script.specs.Sentences.{faulty_counts, read_at}
 use Rattle.mpx_script.proofs.Counts.{same_fault}

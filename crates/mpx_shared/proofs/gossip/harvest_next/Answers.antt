@@ -11,3 +11,12 @@ pub returns-in-Done-clause-next : goal.returns-in-Done-clause-next
 returns-in-Done-clause-next c =
     subst (λ (h : Harvest). HarvestsNext (is_done h) c.args.name.now c.args.port.now c.harvest.new.self) c.in-Done.is
     (next_harvested _ c.args.name.now c.args.port.now c.harvest.new.self c.in_ok-harvest.ensures.journal c.in_ok-harvest.ensures.node)
+
+pub returns-in_err-harvest-clause-port : goal.returns-in_err-harvest-clause-port
+returns-in_err-harvest-clause-port c = harvests_one c.args.name.now c.harvest.result c.args.port.now c.harvest.new.self c.harvest.ensures.port c.harvest.ensures.still.1 c.harvest.ensures.journal
+
+pub returns-in-NotYet-clause-port : goal.returns-in-NotYet-clause-port
+returns-in-NotYet-clause-port c = harvests_one c.args.name.now c.harvest.result c.args.port.now c.harvest.new.self c.harvest.ensures.port c.harvest.ensures.still.1 c.harvest.ensures.journal
+
+pub returns-in-NotOpened-clause-port : goal.returns-in-NotOpened-clause-port
+returns-in-NotOpened-clause-port c = harvests_one c.args.name.now c.harvest.result c.args.port.now c.harvest.new.self c.harvest.ensures.port c.harvest.ensures.still.1 c.harvest.ensures.journal

@@ -1,21 +1,21 @@
-use Rattle.std.proofs.Common.{◌≡◌, false, subst}
+use Rattle.std.proofs.Common.{subst}
 use Rattle.mpx_name.specs.Name.{Name}
-use Rattle.mpx_shared.specs.Gossip.{has_next}
-use Rattle.mpx_shared.proofs.Gossiping.{done_then, on_ok, settles_by, wants_later}
+use Rattle.mpx_shared.specs.Gossip.{Settles}
+use Rattle.mpx_shared.proofs.Gossiping.{done_then, settles_all, wants_later}
 use Rattle.mpx_shared.proofs.gossip.settle.Goals as goal
+
+pub settle_each-requires : goal.settle_each-requires
+settle_each-requires c = record { plan = c.settle_on.ensures.port.no_post.goes.plan c.requires.plan }
 
 pub returns-clause-port : goal.returns-clause-port
 returns-clause-port c =
-    let begun = done_then c.args.port.now c.harvest_on.new.port c.prune_on.new.port c.harvest_on.ensures.port c.prune_on.ensures in
-    let all = done_then c.args.port.now c.prune_on.new.port c.settle_all.new.port begun c.settle_all.ensures.port in
+    let all = done_then c.args.port.now c.settle_on.new.port c.settle_each.new.port c.settle_on.ensures.port c.settle_each.ensures.port in
     all.no_post
 
 pub returns-clause-ok : goal.returns-clause-ok
 returns-clause-ok c =
-    let none = subst (λ (n : Name). has_next c.harvest_on.new.port n ≡ false) c.world-world.ensures c.in_ok-harvest_on.ensures.ok in
-    on_ok c.settle_all.result (settles_by c.args.port.now c.harvest_on.new.port c.prune_on.new.port c.settle_all.new.port c.harvest_on.ensures.port none c.prune_on.ensures c.settle_all.ensures.port)
+    let world = subst (λ (n : Name). Settles n c.args.port.now c.settle_on.new.port) c.world-world.ensures c.in_ok-settle_on.ensures.ok in
+    settles_all c.args.contexts.now c.args.port.now c.settle_on.new.port c.settle_each.new.port c.settle_each.result c.settle_on.ensures.port world c.settle_each.ensures.port c.settle_each.ensures.ok
 
 pub returns-clause-err : goal.returns-clause-err
-returns-clause-err c =
-    let begun = done_then c.args.port.now c.harvest_on.new.port c.prune_on.new.port c.harvest_on.ensures.port c.prune_on.ensures in
-    wants_later c.args.port.now c.prune_on.new.port c.settle_all.new.port c.settle_all.result begun c.settle_all.ensures.err
+returns-clause-err c = wants_later c.args.port.now c.settle_on.new.port c.settle_each.new.port c.settle_each.result c.settle_on.ensures.port c.settle_each.ensures.err

@@ -1,4 +1,4 @@
-use Rattle.mpx_shared.proofs.Plans.{planned_birth, planned_result}
+use Rattle.mpx_shared.proofs.Plans.{birth_is_planned, result_is_planned}
 use Rattle.mpx_shared.proofs.Docked.{docked_birth, docked_mine, docked_posts, docked_result}
 use Rattle.mpx_shared.proofs.laws.docked_ports_hold_what_is_so.Goals as goal
 
@@ -9,13 +9,13 @@ pub returns-clause-mine : goal.returns-clause-mine
 returns-clause-mine c = docked_mine
 
 pub returns-clause-planned_results : goal.returns-clause-planned_results
-returns-clause-planned_results c = planned_result
+returns-clause-planned_results c = result_is_planned
 
 pub returns-clause-births : goal.returns-clause-births
 returns-clause-births c = docked_birth
 
 pub returns-clause-planned_births : goal.returns-clause-planned_births
-returns-clause-planned_births c = planned_birth
+returns-clause-planned_births c = birth_is_planned
 
 pub returns-clause-planned_posts : goal.returns-clause-planned_posts
 returns-clause-planned_posts c = docked_posts

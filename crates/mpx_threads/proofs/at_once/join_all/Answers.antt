@@ -1,4 +1,4 @@
-use Rattle.std.proofs.Common.{◌≡◌, ◌∷◌, ◌++◌, [], subst, sym}
+use Rattle.std.proofs.Common.{◌∷◌, ◌++◌, [], subst, sym}
 use Rattle.mpx_threads.specs.Tasks.{AllGive, tasks_of}
 use Rattle.mpx_threads.proofs.Tasks.{one_more_gives}
 use Rattle.mpx_threads.proofs.at_once.join_all.Goals as goal

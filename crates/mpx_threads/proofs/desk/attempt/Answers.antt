@@ -1,28 +1,32 @@
-use Rattle.std.proofs.Common.{◌≡◌, ◌+◌, None, Some, ap, rules, subst, sym}
-use Rattle.mpx_statement.specs.Statements.{Gathers, draft_of, gathers_of}
-use Rattle.mpx_threads.specs.Told.{IsNextGathered}
-use Rattle.mpx_threads.proofs.Posting.{next_gathered, next_posted}
+use Rattle.std.proofs.Common.{Some, subst}
+use Rattle.std.specs.Prelude.{Ok}
+use Rattle.mpx_threads.specs.Told.{PostsAs, on_either}
+use Rattle.mpx_threads.proofs.Looking.{tries_still, unposted_still}
 use Rattle.mpx_threads.proofs.desk.attempt.Goals as goal
 
-pub post_gathered-requires-clause-next : goal.post_gathered-requires-clause-next
-post_gathered-requires-clause-next g c =
+pub returns-in-Some : goal.returns-in-Some
+returns-in-Some g c =
     let d = g.L.Dock in
-    let count = d.before + c.args.poster.now.share.amount in
-    let asked : Gathers = record { tag = c.in-CreateGroup.tag; ranks = c.in-CreateGroup.ranks } in
-    subst (λ r. IsNextGathered d.setup d.me count c.args.name.now c.in-CreateGroup.tag r (draft_of c.args.posting.now)) (sym c.as_slice.ensures)
-    (next_gathered d.table d.setup d.me c.requires.planned count c.args.name.now c.args.posting.now asked (ap gathers_of c.in-CreateGroup.is) c.requires.next)
+    let outcome = on_either d.me c.args.posting.now c.args.name.now in
+    let now = c.loop-look.poster.share.amount in
+    let new = c.attempt_now.new.poster.share.amount in
+    tries_still d.setup d.me d.before c.args.name.now c.args.poster.now.share.amount now c.loop-look.invariant outcome (Ok (Some c.in-Some.ticket)) new
+    (subst (λ o. PostsAs d.setup d.me d.before c.args.name.now outcome (Ok o) now new) c.in-Some.is c.in_ok-ticket.ensures)
 
-pub post_on-requires-clause-next : goal.post_on-requires-clause-next
-post_on-requires-clause-next g c =
+pub returns-then-not-goes_on : goal.returns-then-not-goes_on
+returns-then-not-goes_on g c =
     let d = g.L.Dock in
-    next_posted d.table d.setup d.me c.requires.planned (d.before + c.args.poster.now.share.amount) c.args.name.now c.args.posting.now (ap gathers_of c.in-Call.is) c.requires.next
+    let outcome = on_either d.me c.args.posting.now c.args.name.now in
+    let now = c.loop-look.poster.share.amount in
+    let new = c.attempt_now.new.poster.share.amount in
+    unposted_still d.setup d.me d.before c.args.name.now c.args.poster.now.share.amount now c.loop-look.invariant outcome new
+    (subst (λ o. PostsAs d.setup d.me d.before c.args.name.now outcome (Ok o) now new) c.in-None.is c.in_ok-ticket.ensures)
 
-pub post_on-requires-in-Start-clause-next : goal.post_on-requires-in-Start-clause-next
-post_on-requires-in-Start-clause-next g c =
+pub loop-look-preserved : goal.loop-look-preserved
+loop-look-preserved g c =
     let d = g.L.Dock in
-    next_posted d.table d.setup d.me c.requires.planned (d.before + c.args.poster.now.share.amount) c.args.name.now c.args.posting.now (ap gathers_of c.in-Start.is) c.requires.next
-
-pub post_on-requires-in-New-clause-next : goal.post_on-requires-in-New-clause-next
-post_on-requires-in-New-clause-next g c =
-    let d = g.L.Dock in
-    next_posted d.table d.setup d.me c.requires.planned (d.before + c.args.poster.now.share.amount) c.args.name.now c.args.posting.now (ap gathers_of c.in-New.is) c.requires.next
+    let outcome = on_either d.me c.args.posting.now c.args.name.now in
+    let now = c.loop-look.poster.share.amount in
+    let new = c.attempt_now.new.poster.share.amount in
+    unposted_still d.setup d.me d.before c.args.name.now c.args.poster.now.share.amount now c.loop-look.invariant outcome new
+    (subst (λ o. PostsAs d.setup d.me d.before c.args.name.now outcome (Ok o) now new) c.in-None.is c.in_ok-ticket.ensures)

@@ -1,4 +1,4 @@
-use Rattle.std.proofs.Common.{◌≡◌, ◌∙◌, length, map, refl, string_bytes, subst, sym}
+use Rattle.std.proofs.Common.{◌∙◌, length, map, refl, string_bytes, subst, sym}
 use Rattle.std.specs.Prelude.{not}
 use Rattle.mpx_shared.specs.Docks.{made_in}
 use Rattle.mpx_threads.specs.Told.{AllHeld}

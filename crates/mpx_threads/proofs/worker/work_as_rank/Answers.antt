@@ -1,4 +1,4 @@
-use Rattle.std.proofs.Common.{◌≡◌, ◌+◌, arith, length, map, string_bytes, subst}
+use Rattle.std.proofs.Common.{◌≡◌, arith, length, map, string_bytes, subst}
 use Rattle.mpx_shared.specs.Docks.{made_in}
 use Rattle.mpx_threads.specs.Work.{HasCome}
 use Rattle.mpx_threads.proofs.worker.work_as_rank.Goals as goal

@@ -4,6 +4,7 @@ use Rattle.mpx_world.proofs.Reached.{all_agree, are_least, are_permanent}
 use Rattle.mpx_world.proofs.Opened.{are_members, are_communicators}
 use Rattle.mpx_world.proofs.Retention.{retention}
 use Rattle.mpx_world.proofs.Going.{well, across, later_on, all_nodes_agree, later_nodes_agree, results_kept}
+use Rattle.mpx_world.proofs.Answering.{enough_in}
 use Rattle.mpx_world.proofs.networks.networks_are_sound.Goals as goal
 
 pub returns-clause-sound : goal.returns-clause-sound
@@ -29,6 +30,9 @@ returns-clause-permanent c n nodes parts s on = are_permanent (world_in n) (worl
 
 pub returns-clause-retained : goal.returns-clause-retained
 returns-clause-retained c n s = let x = well n s in retention (world_in n) x.holds x.stores
+
+pub returns-clause-enough : goal.returns-clause-enough
+returns-clause-enough c = enough_in
 
 pub returns-clause-nodes : goal.returns-clause-nodes
 returns-clause-nodes c = all_nodes_agree

@@ -1,17 +1,20 @@
-use Rattle.std.proofs.Common.{ℕ, subst}
+use Rattle.std.proofs.Common.{ℕ, List, subst}
+use Rattle.mpx_name.specs.Name.{Name}
 use Rattle.mpx_bus.specs.Berths.{Berth}
 use Rattle.mpx_shared.specs.Docks.{MakesNoPost}
+use Rattle.mpx_shared.specs.Gossip.{Pulls}
 use Rattle.mpx_shared.proofs.Docked.{moored_later}
 use Rattle.mpx_shared.proofs.Gossiping.{pulls_then}
 use Rattle.mpx_shared.proofs.moored.Moored.pull.Goals as goal
 
 pub invariant_of-self : goal.invariant_of-self
 invariant_of-self g c =
-    (c.self.invariant.0, moored_later g.L.Dock.table g.L.Dock.setup g.L.Dock.me g.L.Dock.before c.self.inside.book.total c.self.inside.port c.pull_on-pull.new.port c.self.invariant.1 c.pull_on-pull.ensures.port)
+    (c.self.invariant.0, moored_later c.self.inside.port c.pull_on-pull.new.port c.self.invariant.1 c.pull_on-pull.ensures.port)
 
 pub returns-clause-port : goal.returns-clause-port
-returns-clause-port g c = subst (λ (x : Berth × ℕ). MakesNoPost x.0 c.pull_on-pull.new.port) c.self.view_is c.pull_on-pull.ensures.port
+returns-clause-port g c = subst (λ (x : Berth × (ℕ × List Name)). MakesNoPost x.0 c.pull_on-pull.new.port) c.self.view_is c.pull_on-pull.ensures.port
 
 pub returns-clause-then : goal.returns-clause-then
 returns-clause-then g c =
-    pulls_then g.L.Dock.table g.L.Dock.setup g.L.Dock.me g.L.Dock.before c.self.inside.book.total c.self.inside.port c.pull_on-pull.new.port c.self.invariant.1 c.node-before.ensures.stood c.node-after.ensures.stood c.pull_on-pull.ensures.port c.pull_on-pull.result c.pull_on-pull.ensures.pulls
+    pulls_then c.self.inside.port c.pull_on-pull.new.port c.self.invariant.1 c.node-before.ensures.stood c.node-after.ensures.stood c.pull_on-pull.ensures.port c.pull_on-pull.result
+    (subst (λ xs. Pulls c.pull_on-pull.result xs c.self.inside.port c.pull_on-pull.new.port) c.as_slice.ensures.value c.pull_on-pull.ensures.pulls)

@@ -1,24 +1,22 @@
-use Rattle.std.proofs.Common.{ℕ, OnErr, subst}
+use Rattle.std.proofs.Common.{ℕ, List, subst}
+use Rattle.mpx_name.specs.Name.{Name}
 use Rattle.mpx_bus.specs.Berths.{Berth}
-use Rattle.mpx_bus.specs.Answers.{WantsList}
 use Rattle.mpx_shared.specs.Docks.{MakesNoPost}
+use Rattle.mpx_shared.specs.Gossip.{frame_limit}
 use Rattle.mpx_shared.proofs.Docked.{moored_later, no_post_put}
 use Rattle.mpx_shared.proofs.Gossiping.{puts_as, puts_then}
 use Rattle.mpx_shared.proofs.moored.Moored.put.Goals as goal
 
 pub invariant_of-self : goal.invariant_of-self
 invariant_of-self g c =
-    (c.self.invariant.0, moored_later g.L.Dock.table g.L.Dock.setup g.L.Dock.me g.L.Dock.before c.self.inside.book.total c.self.inside.port c.push_own-put.new.port c.self.invariant.1 (no_post_put c.push_own-put.result c.self.inside.port c.push_own-put.new.port c.push_own-put.ensures.port c.push_own-put.ensures.next c.push_own-put.ensures.err))
+    (c.self.invariant.0, moored_later c.self.inside.port c.push_own-put.new.port c.self.invariant.1 (no_post_put frame_limit c.push_own-put.result c.self.inside.port c.push_own-put.new.port c.push_own-put.ensures.port c.push_own-put.ensures.next c.push_own-put.ensures.err))
 
 pub returns-clause-port : goal.returns-clause-port
 returns-clause-port g c =
-    subst (λ (x : Berth × ℕ). MakesNoPost x.0 c.push_own-put.new.port) c.self.view_is (no_post_put c.push_own-put.result c.self.inside.port c.push_own-put.new.port c.push_own-put.ensures.port c.push_own-put.ensures.next c.push_own-put.ensures.err)
-
-pub returns-clause-err : goal.returns-clause-err
-returns-clause-err g c = subst (λ (x : Berth × ℕ). OnErr c.push_own-put.result (WantsList x.0 c.push_own-put.new.port)) c.self.view_is c.push_own-put.ensures.err
+    subst (λ (x : Berth × (ℕ × List Name)). MakesNoPost x.0 c.push_own-put.new.port) c.self.view_is (no_post_put frame_limit c.push_own-put.result c.self.inside.port c.push_own-put.new.port c.push_own-put.ensures.port c.push_own-put.ensures.next c.push_own-put.ensures.err)
 
 pub returns-clause-then : goal.returns-clause-then
 returns-clause-then g c =
-    puts_then g.L.Dock.table g.L.Dock.setup g.L.Dock.me g.L.Dock.before c.self.inside.book.total c.self.inside.port c.push_own-put.new.port c.self.invariant.1 c.node-before.ensures.stood c.node-after.ensures.stood
-    (no_post_put c.push_own-put.result c.self.inside.port c.push_own-put.new.port c.push_own-put.ensures.port c.push_own-put.ensures.next c.push_own-put.ensures.err) c.push_own-put.result
+    puts_then c.self.inside.port c.push_own-put.new.port c.self.invariant.1 c.node-before.ensures.stood c.node-after.ensures.stood
+    (no_post_put frame_limit c.push_own-put.result c.self.inside.port c.push_own-put.new.port c.push_own-put.ensures.port c.push_own-put.ensures.next c.push_own-put.ensures.err) c.push_own-put.result
     (puts_as c.push_own-put.result c.self.inside.port c.push_own-put.new.port c.push_own-put.ensures.next c.push_own-put.ensures.err c.push_own-put.ensures.memory)

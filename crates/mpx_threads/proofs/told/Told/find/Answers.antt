@@ -1,4 +1,4 @@
-use Rattle.std.proofs.Common.{◌≡◌, ◌∙◌, ◌+◌, suc, Some, ap, arith, false, subst, sym, take}
+use Rattle.std.proofs.Common.{◌≡◌, ◌∙◌, ◌+◌, suc, Some, arith, false, subst, sym, take}
 use Rattle.std.specs.Prelude.{slice_get}
 use Rattle.mpx_world.proofs.Lists.{names_same}
 use Rattle.mpx_threads.specs.Plans.{planned_results}

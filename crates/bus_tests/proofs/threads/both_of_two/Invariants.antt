@@ -1,6 +1,0 @@
-use Rattle.std.proofs.Common.{false, []}
-use Rattle.bus_tests.proofs.threads.both_of_two.Given as goal
-
--- so many ranks, and no plan
-abbrev pub ghosts-new : goal.ghosts-new
-ghosts-new g a = record { setup = record { ranks = 2; size = 2; planned = false; plan = [] } }

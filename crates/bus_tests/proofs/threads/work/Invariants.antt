@@ -1,5 +1,0 @@
-use Rattle.mpx_bus.specs.Berths.{IsSamePort}
-use Rattle.bus_tests.proofs.threads.work.Given as goal
-
-abbrev pub invariant-loop : goal.invariant-loop
-invariant-loop g l = IsSamePort l.fn.port l.port

@@ -1,0 +1,10 @@
+use Rattle.std.proofs.Common.{refl}
+use Rattle.mpx_board.specs.Views.{view_of_acks, view_of_all_acks}
+use Rattle.mpx_board.proofs.Acknowledging.{all_stored, row_stored}
+use Rattle.mpx_board.proofs.acks.raised_by.Goals as goal
+
+pub returns-in_ok-put-in-None : goal.returns-in_ok-put-in-None
+returns-in_ok-put-in-None c = all_stored c.args.process (view_of_acks c.args.said.now) (view_of_all_acks c.args.acks.now) _ _ _ c.in-None.ensures c.in_ok-all-in-None.ensures c.in_ok-copied_names-in-None.ensures c.in_ok-put-in-None.ensures.ok
+
+pub returns-in_ok-row-in-Some : goal.returns-in_ok-row-in-Some
+returns-in_ok-row-in-Some c = row_stored c.args.process (view_of_acks c.args.said.now) (view_of_all_acks c.args.acks.now) _ _ _ c.in-Some.ensures c.in_ok-row-in-Some.ensures refl

@@ -1,0 +1,19 @@
+-- What a process may store of what it has, and what others then lack of its board.
+use Rattle.std.specs.Prelude.{◌≡◌, ◌≤◌, ℕ, List, All, map}
+use Rattle.mpx_board.specs.declared.acks.Raised.{Raised}
+use Rattle.mpx_board.specs.declared.board.Board.{Board}
+use Rattle.mpx_board.specs.Boards.{Look, join_all}
+use Rattle.mpx_board.specs.Looks.{look, parts_of}
+use Rattle.mpx_board.specs.Raised.{Raises}
+use Rattle.mpx_format.specs.Encoding.{length_told}
+use Rattle.mpx_parts.specs.Facts.{OnlyFactsOf}
+use Rattle.mpx_delta.specs.Digests.{Acknowledges, common_on, without}
+
+-- the board `after` is the one on which the process has said what it has; the parts are those of that board, without the posts that all have
+pub record IsLacking (me processes limit : ℕ) (board : Look) (said : Raised) (parts : List Board) : Type 0 where
+  pub after : Look
+  pub raises : Raises said board after
+  pub own : Acknowledges me board after
+  pub facts : All (λ part. OnlyFactsOf (look part) after) parts
+  pub fit : All (λ part. length_told (parts_of part) ≤ limit) parts
+  pub join : join_all (map look parts) ≡ without (common_on processes after) after

@@ -1,0 +1,78 @@
+// Frames to boards.
+ghost use Rattle.std.specs.Prelude.{◌≡◌, IfOk, IfErr, Ok};
+ghost use Rattle.mpx_board.specs.Parts.{PartsView};
+ghost use Rattle.mpx_board.specs.Looks.{parts_of};
+ghost use Rattle.mpx_format.specs.Format.{Gives, mark_at};
+ghost use Rattle.mpx_format.specs.Contexts.{frame};
+ghost use Rattle.mpx_format.specs.Decoding.{Spells, Decodes, Refuses, decoded};
+
+use join_core::Exact;
+use mpx_board::{Board, Parts};
+use mpx_decode::read_parts;
+use mpx_format::{Fault, ReadError, SHORT, WireError, placed};
+use std::alloc::Global;
+
+// This byte; else the fault.
+fn read_mark(wrong: Fault, mark: u8, bytes: &[u8]) -> Result<&[u8], ReadError>
+    ensures { Gives (λ x. x.now) result (mark_at wrong mark bytes.now) }
+{
+    match bytes {
+        [] => Err(SHORT),
+        [b, rest @ ..] => {
+            if *b == mark {
+                Ok(rest)
+            } else {
+                Err(ReadError::Fault(wrong))
+            }
+        }
+    }
+}
+
+#[tactic(auto, unfolding(mpx_format::specs::Contexts::frame))]
+fn read_frame(alloc: Global, bytes: &[u8]) -> Result<(Parts, &[u8]), ReadError>
+    ensures { Gives (λ x. (⟦<Parts as Exact>⟧.view x.0, x.1.now)) result (frame.read bytes.now) }
+{
+    let rest = read_mark(Fault::BadMagic, 0x4d, bytes)?;
+    let rest = read_mark(Fault::BadMagic, 0x50, rest)?;
+    let rest = read_mark(Fault::BadMagic, 0x58, rest)?;
+    let rest = read_mark(Fault::BadMagic, 0x47, rest)?;
+    let rest = read_mark(Fault::BadVersion, 1, rest)?;
+    read_parts(alloc, rest)
+}
+
+// The most bytes of a frame.
+const MOST_BYTES: usize = 1_048_576;
+
+#[tactic(auto, unfolding(mpx_format::specs::Decoding::decoded))]
+fn parts_of(alloc: Global, bytes: &[u8]) -> Result<Parts, WireError>
+    ensures ok { IfOk result (λ parts. decoded bytes.now ≡ Ok (⟦<Parts as Exact>⟧.view parts)) }
+    ensures err { IfErr result (λ e. Refuses e (decoded bytes.now)) }
+{
+    if bytes.len() > MOST_BYTES {
+        return Err(WireError::TooLong);
+    }
+    match read_frame(alloc, bytes) {
+        Ok((parts, rest)) => {
+            if rest.is_empty() {
+                Ok(parts)
+            } else {
+                Err(placed(bytes.len(), Fault::NotCanonical(rest.len())))
+            }
+        }
+        Err(ReadError::OutOfMemory) => Err(WireError::OutOfMemory),
+        Err(ReadError::Fault(fault)) => Err(placed(bytes.len(), fault)),
+    }
+}
+
+/// The board that the bytes spell.
+pub fn decode(alloc: Global, bytes: &[u8]) -> Result<Board, WireError>
+    // What is decoded is spelled so, each byte of it.
+    ensures found { IfOk result (λ board. Spells bytes.now (parts_of board)) }
+    // What is spelled so is decoded, unless memory runs out.
+    ensures only { (v : PartsView) → Spells bytes.now v → Decodes result (Ok v) }
+    // Which field is refused, and with what.
+    ensures exact { Decodes result (decoded bytes.now) }
+{
+    let parts = parts_of(alloc, bytes)?;
+    Ok(Board::from_tidy(parts))
+}

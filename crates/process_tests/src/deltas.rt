@@ -1,0 +1,177 @@
+//! What the digest of a board says, what all processes acknowledge, and what deltas leave out.
+use crate::board_rows::{Step, board_of};
+use crate::long_boards::long_board;
+use join_core::{Exact, OutOfMemory};
+use mpx_board::Board;
+use mpx_delta::{Digest, common, delta_for, digest_of};
+use mpx_group::Proc;
+use mpx_name::Name;
+use mpx_node::Node;
+use mpx_post::Kind;
+use std::alloc::Global;
+use std::process::Abort;
+use std::test::Fail;
+use test_drafts::{draft, just, proc};
+
+// The number of process 0 on the context of all.
+fn number_of(alloc: Global, digest: &Digest) -> Option<u32> {
+    let Some(numbers) = digest.get(&Name::world(alloc)) else {
+        return None;
+    };
+    match numbers.get(&proc(0)) {
+        None => None,
+        Some(number) => Some(number.0),
+    }
+}
+
+// Calls 0, 1 and 3 of process 0.
+const WITH_A_GAP: &[Step] = &[
+    Step::Members(3),
+    Step::Adds(0, 0, &[1], Ok(())),
+    Step::Adds(1, 0, &[2], Ok(())),
+    Step::Adds(3, 0, &[3], Ok(())),
+];
+
+fn stops_at_a_gap(rt: &impl Abort, alloc: Global) -> Result<bool, Fail> {
+    let board = board_of(rt, alloc, "with a gap", WITH_A_GAP)?;
+    Ok(number_of(alloc, &digest_of(alloc, &board)?) == Some(2))
+}
+
+// What is common to three processes that acknowledge so many calls of process 0.
+fn common_of(alloc: Global, acks: &[(u8, u32)]) -> Result<Option<u32>, Fail> {
+    let mut board = Board::new(alloc);
+    let world = Name::world(alloc);
+    for (by, number) in acks {
+        board.raise_ack(alloc, proc(*by), &world, proc(0), *number)?;
+    }
+    Ok(number_of(alloc, &common(alloc, &board, 3)?))
+}
+
+const TWO_CALLS: &[Step] = &[
+    Step::Members(2),
+    Step::Front(1, 1),
+    Step::Acknowledges(1, 0, 2),
+    Step::Adds(0, 0, &[1], Ok(())),
+    Step::Adds(1, 0, &[2], Ok(())),
+];
+
+const SECOND_CALL: &[Step] = &[
+    Step::Members(2),
+    Step::Front(1, 1),
+    Step::Acknowledges(1, 0, 2),
+    Step::Adds(1, 0, &[2], Ok(())),
+];
+
+const FIRST_CALL: &[Step] = &[Step::Members(2), Step::Adds(0, 0, &[1], Ok(()))];
+
+// Whether the board without the posts of the digest is this one, in one part.
+fn is_delta(alloc: Global, board: &Board, digest: &Digest, wanted: &Board) -> Result<bool, Fail> {
+    let made = delta_for(alloc, board, digest, 524_288)?;
+    Ok(made.len() == 1 && made.iter().all(|part| part.same(wanted)))
+}
+
+fn digest_by(rt: &impl Abort, alloc: Global, steps: &[Step]) -> Result<Digest, Fail> {
+    let known = board_of(rt, alloc, "known", steps)?;
+    Ok(digest_of(alloc, &known)?)
+}
+
+// A delta leaves out the posts of the digest.
+fn leaves_out(rt: &impl Abort, alloc: Global) -> Result<bool, Fail> {
+    let digest = digest_by(rt, alloc, FIRST_CALL)?;
+    let board = board_of(rt, alloc, "whole", TWO_CALLS)?;
+    let wanted = board_of(rt, alloc, "wanted", SECOND_CALL)?;
+    is_delta(alloc, &board, &digest, &wanted)
+}
+
+// The board has no frame, and without the posts that it has itself it is one part.
+fn is_one_part(alloc: Global, board: &Board) -> Result<bool, Fail> {
+    let digest = digest_of(alloc, board)?;
+    let whole = delta_for(alloc, board, &Digest::new(alloc), 1_048_576)?;
+    let lean = delta_for(alloc, board, &digest, 1_048_576)?;
+    Ok(whole.len() > 1 && lean.len() == 1)
+}
+
+// A board of 33 long posts.
+fn has_a_short_delta(alloc: Global) -> Result<bool, Fail> {
+    let board = long_board(alloc, 33)?;
+    is_one_part(alloc, &board)
+}
+
+// Process 1 acknowledges what the board has, which is two calls of process 0.
+fn raises(alloc: Global, board: &mut Board) -> Result<bool, Fail> {
+    let digest = digest_of(alloc, board)?;
+    board.raise_acks(alloc, proc(1), &digest)?;
+    board.raise_ack(alloc, proc(0), &Name::world(alloc), proc(0), 1)?;
+    let alone = board.only_acks(alloc)?;
+    let told = number_of(alloc, &common(alloc, &alone, 2)?);
+    Ok(told == Some(1) && alone.birth(&Name::world(alloc)).is_none())
+}
+
+fn are_raised(rt: &impl Abort, alloc: Global) -> Result<bool, Fail> {
+    let mut board = board_of(rt, alloc, "with a gap", WITH_A_GAP)?;
+    let told = raises(alloc, &mut board);
+    drop(board);
+    told
+}
+
+#[test]
+fn digests_and_deltas(rt: HostRuntime) -> Result<(), Fail> {
+    let alloc = rt.alloc();
+    assert!(rt; stops_at_a_gap(&rt, alloc)?);
+    assert_eq!(rt; common_of(alloc, &[(0, 3), (1, 2)])?, None);
+    assert_eq!(rt; common_of(alloc, &[(0, 3), (1, 2), (2, 2)])?, Some(2));
+    assert!(rt; leaves_out(&rt, alloc)?);
+    assert!(rt; has_a_short_delta(alloc)?);
+    assert!(rt; are_raised(&rt, alloc)?);
+    Ok(())
+}
+
+// The one takes all boards of the other's deltas. How many of these have the post of process 0.
+fn takes(alloc: Global, one: &mut Node, other: &mut Node) -> Result<usize, OutOfMemory> {
+    let world = Name::world(alloc);
+    let made = other.deltas(alloc, 524_288)?;
+    let mut with_post: usize = 0;
+    for part in made.iter() {
+        one.take(alloc, part)?;
+        if part.holds(&world, 0, proc(0)).is_some() {
+            with_post = with_post.wrapping_add(1);
+        }
+    }
+    Ok(with_post)
+}
+
+fn posts_a_barrier(alloc: Global, node: &mut Node) -> Result<(), Fail> {
+    let draft = draft(alloc, &just(Kind::Barrier))?;
+    node.post(alloc, &Name::world(alloc), draft)?;
+    Ok(())
+}
+
+// A post that both have is in no delta any more, and stays on the board.
+fn tell_each_other(
+    rt: &impl Abort,
+    alloc: Global,
+    left: &mut Node,
+    right: &mut Node,
+) -> Result<(), Fail> {
+    posts_a_barrier(alloc, left)?;
+    assert_eq!(rt; takes(alloc, right, left)?, 1);
+    // from here on never again
+    for _ in 0..100 {
+        assert_eq!(rt; takes(alloc, left, right)?, 0);
+        assert_eq!(rt; takes(alloc, right, left)?, 0);
+    }
+    let world = Name::world(alloc);
+    assert!(rt; left.board().holds(&world, 0, proc(0)).is_some());
+    Ok(())
+}
+
+#[test]
+fn what_both_acknowledge_is_not_sent_again(rt: HostRuntime) -> Result<(), Fail> {
+    let alloc = rt.alloc();
+    let mut left = Node::new(alloc, Proc::new(0), 2, 2)?;
+    let mut right = Node::new(alloc, Proc::new(1), 2, 2)?;
+    let told = tell_each_other(&rt, alloc, &mut left, &mut right);
+    drop(left);
+    drop(right);
+    told
+}

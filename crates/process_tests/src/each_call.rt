@@ -1,0 +1,310 @@
+// Each call by its name, blocking and nonblocking, by the only rank of a communicator that has an edge to itself.
+use crate::desks::{desk_of, made, numbers, waited};
+use mpx_comm::{CallError, Comm, Desk, Request};
+use mpx_node::{Finished, Node};
+use mpx_num::{Numbers, Op, Ty};
+use mpx_post::{DraftedEdge, DraftedNeighbour, Kind, PostError};
+use mpx_value::Outcome;
+use std::alloc::Global;
+use std::process::Abort;
+use std::test::Fail;
+
+const SEVEN: &[i128] = &[7];
+
+// The kinds that are given one list, the items.
+const OF_ITEMS: [Kind; 12] = [
+    Kind::Bcast,
+    Kind::Gather,
+    Kind::Scatter,
+    Kind::Allgather,
+    Kind::Alltoall,
+    Kind::Reduce,
+    Kind::Allreduce,
+    Kind::ReduceScatterBlock,
+    Kind::Scan,
+    Kind::Exscan,
+    Kind::NeighborAllgather,
+    Kind::NeighborAlltoall,
+];
+
+// The kinds that are also given one list of counts.
+const OF_COUNTS: [Kind; 5] = [
+    Kind::Gatherv,
+    Kind::Scatterv,
+    Kind::Allgatherv,
+    Kind::ReduceScatter,
+    Kind::NeighborAllgatherv,
+];
+
+// The kinds that are given two lists of counts.
+const OF_BOTH_COUNTS: [Kind; 2] = [Kind::Alltoallv, Kind::NeighborAlltoallv];
+
+fn call_of_items(
+    alloc: Global,
+    desk: &mut Desk<Node>,
+    comm: &Comm,
+    kind: Kind,
+    items: Numbers,
+) -> Result<Finished, CallError> {
+    match kind {
+        Kind::Bcast => desk.bcast(alloc, comm, 0, Ty::I64, 1, items, 0),
+        Kind::Gather => desk.gather(alloc, comm, 0, Ty::I64, items, 0),
+        Kind::Scatter => desk.scatter(alloc, comm, 0, Ty::I64, 1, items, 0),
+        Kind::Allgather => desk.allgather(alloc, comm, Ty::U8, items, 0),
+        Kind::Alltoall => desk.alltoall(alloc, comm, Ty::U8, 1, items, 0),
+        Kind::Reduce => desk.reduce(alloc, comm, 0, Op::Sum, Ty::I64, items, 0),
+        Kind::Allreduce => desk.allreduce(alloc, comm, Op::Sum, Ty::I64, items, 0),
+        Kind::ReduceScatterBlock => {
+            desk.reduce_scatter_block(alloc, comm, Op::Sum, Ty::I64, 1, items, 0)
+        }
+        Kind::Scan => desk.scan(alloc, comm, Op::Sum, Ty::I64, items, 0),
+        Kind::Exscan => desk.exscan(alloc, comm, Op::Sum, Ty::I64, items, 0),
+        Kind::NeighborAllgather => desk.neighbor_allgather(alloc, comm, Ty::I8, 1, items, 0),
+        Kind::NeighborAlltoall => desk.neighbor_alltoall(alloc, comm, Ty::I8, 1, 1, items, 0),
+        _ => Err(CallError::Refused(PostError::NotMember)),
+    }
+}
+
+fn start_of_items(
+    alloc: Global,
+    desk: &mut Desk<Node>,
+    comm: &Comm,
+    kind: Kind,
+    items: Numbers,
+) -> Result<Request, PostError> {
+    match kind {
+        Kind::Bcast => desk.ibcast(alloc, comm, 0, Ty::I64, 1, items),
+        Kind::Gather => desk.igather(alloc, comm, 0, Ty::I64, items),
+        Kind::Scatter => desk.iscatter(alloc, comm, 0, Ty::I64, 1, items),
+        Kind::Allgather => desk.iallgather(alloc, comm, Ty::U8, items),
+        Kind::Alltoall => desk.ialltoall(alloc, comm, Ty::U8, 1, items),
+        Kind::Reduce => desk.ireduce(alloc, comm, 0, Op::Sum, Ty::I64, items),
+        Kind::Allreduce => desk.iallreduce(alloc, comm, Op::Sum, Ty::I64, items),
+        Kind::ReduceScatterBlock => {
+            desk.ireduce_scatter_block(alloc, comm, Op::Sum, Ty::I64, 1, items)
+        }
+        Kind::Scan => desk.iscan(alloc, comm, Op::Sum, Ty::I64, items),
+        Kind::Exscan => desk.iexscan(alloc, comm, Op::Sum, Ty::I64, items),
+        Kind::NeighborAllgather => desk.ineighbor_allgather(alloc, comm, Ty::I8, 1, items),
+        Kind::NeighborAlltoall => desk.ineighbor_alltoall(alloc, comm, Ty::I8, 1, 1, items),
+        _ => Err(PostError::NotMember),
+    }
+}
+
+fn call_of_counts(
+    alloc: Global,
+    desk: &mut Desk<Node>,
+    comm: &Comm,
+    kind: Kind,
+    counts: Numbers,
+    items: Numbers,
+) -> Result<Finished, CallError> {
+    match kind {
+        Kind::Gatherv => desk.gatherv(alloc, comm, 0, Ty::I64, counts, items, 0),
+        Kind::Scatterv => desk.scatterv(alloc, comm, 0, Ty::I64, counts, 1, items, 0),
+        Kind::Allgatherv => desk.allgatherv(alloc, comm, Ty::U8, counts, items, 0),
+        Kind::ReduceScatter => {
+            desk.reduce_scatter(alloc, comm, Op::Sum, Ty::I64, counts, items, 0)
+        }
+        Kind::NeighborAllgatherv => {
+            desk.neighbor_allgatherv(alloc, comm, Ty::I8, counts, items, 0)
+        }
+        _ => Err(CallError::Refused(PostError::NotMember)),
+    }
+}
+
+fn start_of_counts(
+    alloc: Global,
+    desk: &mut Desk<Node>,
+    comm: &Comm,
+    kind: Kind,
+    counts: Numbers,
+    items: Numbers,
+) -> Result<Request, PostError> {
+    match kind {
+        Kind::Gatherv => desk.igatherv(alloc, comm, 0, Ty::I64, counts, items),
+        Kind::Scatterv => desk.iscatterv(alloc, comm, 0, Ty::I64, counts, 1, items),
+        Kind::Allgatherv => desk.iallgatherv(alloc, comm, Ty::U8, counts, items),
+        Kind::ReduceScatter => {
+            desk.ireduce_scatter(alloc, comm, Op::Sum, Ty::I64, counts, items)
+        }
+        Kind::NeighborAllgatherv => {
+            desk.ineighbor_allgatherv(alloc, comm, Ty::I8, counts, items)
+        }
+        _ => Err(PostError::NotMember),
+    }
+}
+
+fn call_of_both_counts(
+    alloc: Global,
+    desk: &mut Desk<Node>,
+    comm: &Comm,
+    kind: Kind,
+    counts: (Numbers, Numbers),
+    items: Numbers,
+) -> Result<Finished, CallError> {
+    let (scounts, rcounts) = counts;
+    match kind {
+        Kind::Alltoallv => desk.alltoallv(alloc, comm, Ty::U8, scounts, rcounts, items, 0),
+        _ => desk.neighbor_alltoallv(alloc, comm, Ty::I8, scounts, rcounts, items, 0),
+    }
+}
+
+fn start_of_both_counts(
+    alloc: Global,
+    desk: &mut Desk<Node>,
+    comm: &Comm,
+    kind: Kind,
+    counts: (Numbers, Numbers),
+    items: Numbers,
+) -> Result<Request, PostError> {
+    let (scounts, rcounts) = counts;
+    match kind {
+        Kind::Alltoallv => desk.ialltoallv(alloc, comm, Ty::U8, scounts, rcounts, items),
+        _ => desk.ineighbor_alltoallv(alloc, comm, Ty::I8, scounts, rcounts, items),
+    }
+}
+
+// Whether the call gives just the item; a barrier gives nothing, and nothing is below rank 0.
+fn is_right(kind: Kind, finished: &Finished) -> bool {
+    match &finished.outcome {
+        Outcome::Items(items) => items.nums() == SEVEN,
+        Outcome::Nothing => kind == Kind::Barrier,
+        Outcome::Absent => kind == Kind::Exscan,
+        _ => false,
+    }
+}
+
+fn gives(kind: Kind, answer: Result<Finished, CallError>) -> bool {
+    match answer {
+        Ok(finished) => is_right(kind, &finished),
+        Err(_) => false,
+    }
+}
+
+// Whether the request does, without a turn.
+fn gives_later(
+    alloc: Global,
+    desk: &mut Desk<Node>,
+    kind: Kind,
+    answer: Result<Request, PostError>,
+) -> bool {
+    let Ok(request) = answer else {
+        return false;
+    };
+    match desk.wait(alloc, request, 0) {
+        Ok(finished) => is_right(kind, &finished),
+        Err(_) => false,
+    }
+}
+
+// The call and its nonblocking form.
+fn calls_of_items(
+    alloc: Global,
+    desk: &mut Desk<Node>,
+    comm: &Comm,
+    kind: Kind,
+) -> Result<bool, Fail> {
+    let items = numbers(alloc, SEVEN)?;
+    let called = gives(kind, call_of_items(alloc, desk, comm, kind, items));
+    let items = numbers(alloc, SEVEN)?;
+    let answer = start_of_items(alloc, desk, comm, kind, items);
+    Ok(gives_later(alloc, desk, kind, answer) && called)
+}
+
+fn calls_of_counts(
+    alloc: Global,
+    desk: &mut Desk<Node>,
+    comm: &Comm,
+    kind: Kind,
+) -> Result<bool, Fail> {
+    let (counts, items) = (numbers(alloc, &[1])?, numbers(alloc, SEVEN)?);
+    let called = gives(kind, call_of_counts(alloc, desk, comm, kind, counts, items));
+    let (counts, items) = (numbers(alloc, &[1])?, numbers(alloc, SEVEN)?);
+    let answer = start_of_counts(alloc, desk, comm, kind, counts, items);
+    Ok(gives_later(alloc, desk, kind, answer) && called)
+}
+
+fn calls_of_both_counts(
+    alloc: Global,
+    desk: &mut Desk<Node>,
+    comm: &Comm,
+    kind: Kind,
+) -> Result<bool, Fail> {
+    let (counts, items) = (ones(alloc)?, numbers(alloc, SEVEN)?);
+    let called = gives(
+        kind,
+        call_of_both_counts(alloc, desk, comm, kind, counts, items),
+    );
+    let (counts, items) = (ones(alloc)?, numbers(alloc, SEVEN)?);
+    let answer = start_of_both_counts(alloc, desk, comm, kind, counts, items);
+    Ok(gives_later(alloc, desk, kind, answer) && called)
+}
+
+fn ones(alloc: Global) -> Result<(Numbers, Numbers), Fail> {
+    Ok((numbers(alloc, &[1])?, numbers(alloc, &[1])?))
+}
+
+fn barriers(alloc: Global, desk: &mut Desk<Node>, comm: &Comm) -> bool {
+    let called = gives(Kind::Barrier, desk.barrier(alloc, comm, 0));
+    let answer = desk.ibarrier(alloc, comm);
+    gives_later(alloc, desk, Kind::Barrier, answer) && called
+}
+
+// By any edges.
+fn of_edges(alloc: Global, desk: &mut Desk<Node>, comm: &Comm) -> Result<Comm, Fail> {
+    let edge = DraftedEdge {
+        source: 0,
+        destination: 0,
+        weight: 0,
+    };
+    let edges = vec![in alloc; edge]?;
+    let finished = waited(desk.dist_graph(alloc, comm, false, edges, 0))?;
+    made(alloc, finished)
+}
+
+// By the own neighbours.
+fn of_neighbours(alloc: Global, desk: &mut Desk<Node>, comm: &Comm) -> Result<Comm, Fail> {
+    let near = DraftedNeighbour { rank: 0, weight: 4 };
+    let (sources, destinations) = (vec![in alloc; near]?, vec![in alloc; near]?);
+    let answer = desk.dist_graph_adjacent(alloc, comm, true, sources, destinations, 0);
+    made(alloc, waited(answer)?)
+}
+
+fn with_edges(alloc: Global, desk: &mut Desk<Node>) -> Result<Comm, Fail> {
+    let general = of_edges(alloc, desk, &Comm::world(alloc, 1, 0))?;
+    of_neighbours(alloc, desk, &general)
+}
+
+fn all_calls(
+    rt: &impl Abort,
+    alloc: Global,
+    desk: &mut Desk<Node>,
+    comm: &Comm,
+) -> Result<(), Fail> {
+    assert!(rt; barriers(alloc, desk, comm));
+    for kind in OF_ITEMS {
+        assert!(rt; calls_of_items(alloc, desk, comm, kind)?, "{kind:?}");
+    }
+    for kind in OF_COUNTS {
+        assert!(rt; calls_of_counts(alloc, desk, comm, kind)?, "{kind:?}");
+    }
+    for kind in OF_BOTH_COUNTS {
+        assert!(rt; calls_of_both_counts(alloc, desk, comm, kind)?, "{kind:?}");
+    }
+    Ok(())
+}
+
+fn calls(rt: &impl Abort, alloc: Global, desk: &mut Desk<Node>) -> Result<(), Fail> {
+    let comm = with_edges(alloc, desk)?;
+    all_calls(rt, alloc, desk, &comm)
+}
+
+#[test]
+fn calls_by_name(rt: HostRuntime) -> Result<(), Fail> {
+    let alloc = rt.alloc();
+    let mut desk = desk_of(alloc, 0, 1)?;
+    let answer = calls(&rt, alloc, &mut desk);
+    drop(desk);
+    answer
+}

@@ -1,0 +1,163 @@
+//! Posts on a communicator that come before its birth.
+use crate::contexts::{On, WORLD, name_of};
+use crate::looks::{Look, is_seen};
+use crate::world_acts::{Act, Told};
+use crate::world_rows::{Row, go_on};
+use join_core::Exact;
+use mpx_board::{Board, PruneError};
+use mpx_group::Proc;
+use mpx_name::Name;
+use mpx_node::{Harvest, Node};
+use mpx_post::{Kind, PostError};
+use mpx_world::World;
+use std::alloc::Global;
+use std::process::Abort;
+use std::test::Fail;
+use test_drafts::{draft, just, proc};
+
+const CHILD: On = On::Below(1);
+
+// Three ranks dup the world, and two of them harvest that and dup the child.
+const AHEAD: &[Row] = &[
+    Row::Does(0, Act::Dup(WORLD), Told::Posted(0)),
+    Row::Does(1, Act::Dup(WORLD), Told::Posted(0)),
+    Row::Does(2, Act::Dup(WORLD), Told::Posted(0)),
+    Row::Does(0, Act::Send, Told::Sent(0)),
+    Row::Does(1, Act::Send, Told::Sent(1)),
+    Row::Does(2, Act::Send, Told::Sent(2)),
+    Row::Does(0, Act::Take(1), Told::Taken),
+    Row::Does(0, Act::Take(2), Told::Taken),
+    Row::Does(1, Act::Take(0), Told::Taken),
+    Row::Does(1, Act::Take(2), Told::Taken),
+    Row::Does(0, Act::Harvest(WORLD), Told::Harvested(0)),
+    Row::Sees(0, WORLD, Look::Made(0, CHILD, 3, 0)),
+    Row::Sees(0, CHILD, Look::Born),
+    Row::Does(0, Act::Harvest(CHILD), Told::NotYet),
+    Row::Does(0, Act::Dup(CHILD), Told::Posted(0)),
+    Row::Does(1, Act::Harvest(WORLD), Told::Harvested(0)),
+    Row::Sees(1, WORLD, Look::Made(0, CHILD, 3, 1)),
+    Row::Sees(1, CHILD, Look::Born),
+    Row::Does(1, Act::Harvest(CHILD), Told::NotYet),
+    Row::Does(1, Act::Dup(CHILD), Told::Posted(0)),
+];
+
+// Adds to the board the process's post on the child, and nothing else that its own board tells.
+fn add_early(
+    alloc: Global,
+    posts: &mut Board,
+    world: &World,
+    child: &Name,
+    process: u8,
+) -> Result<(), Fail> {
+    let by = proc(process);
+    let board = world.node(by).ok_or("no node")?.board();
+    let post = board.holds(child, 0, by).ok_or("no post")?;
+    Ok(posts.add_post(alloc, child, 0, by, post.copy(alloc)?)?)
+}
+
+// The posts on the child of ranks 0 and 1.
+fn take_early(alloc: Global, node: &mut Node, world: &World, child: &Name) -> Result<(), Fail> {
+    let mut posts = Board::new(alloc);
+    add_early(alloc, &mut posts, world, child, 0)?;
+    add_early(alloc, &mut posts, world, child, 1)?;
+    Ok(node.take(alloc, &posts)?)
+}
+
+// All that ranks 0 and 1 tell.
+fn take_both(alloc: Global, node: &mut Node, world: &World) -> Result<(), Fail> {
+    for process in [0, 1] {
+        let other = world.node(proc(process)).ok_or("no node")?;
+        node.take(alloc, other.board())?;
+    }
+    Ok(())
+}
+
+fn dup(alloc: Global, node: &mut Node, name: &Name) -> Result<u32, PostError> {
+    match draft(alloc, &just(Kind::Dup)) {
+        Ok(draft) => node.post(alloc, name, draft),
+        Err(_) => Err(PostError::OutOfMemory),
+    }
+}
+
+fn sees(rt: &impl Abort, alloc: Global, node: &Node, on: On, looks: &[Look]) -> Result<(), Fail> {
+    let name = name_of(alloc, on)?;
+    for (at, look) in looks.iter().enumerate() {
+        assert!(rt; is_seen(alloc, node, &name, *look)?, "at {at}");
+    }
+    Ok(())
+}
+
+// Neither birth nor front is told of the child, only posts on it by ranks 0 and 1.
+fn has_posts_alone(
+    rt: &impl Abort,
+    alloc: Global,
+    node: &mut Node,
+    child: &Name,
+) -> Result<(), Fail> {
+    sees(
+        rt,
+        alloc,
+        node,
+        CHILD,
+        &[Look::Holds(0, 0), Look::Holds(0, 1), Look::Unborn],
+    )?;
+    assert_eq!(rt; node.harvest(alloc, child), Ok(Harvest::NotOpened));
+    assert_eq!(rt; node.prune(child, 0), Err(PruneError::NoBirth));
+    Ok(())
+}
+
+// Once the birth is known, the posts on the child count with the own one.
+fn goes_on_below(
+    rt: &impl Abort,
+    alloc: Global,
+    node: &mut Node,
+    child: &Name,
+) -> Result<(), Fail> {
+    assert_eq!(rt;
+        node.harvest(alloc, &Name::world(alloc)),
+        Ok(Harvest::Done(0))
+    );
+    sees(rt, alloc, node, WORLD, &[Look::Made(0, CHILD, 3, 2)])?;
+    assert_eq!(rt; node.harvest(alloc, child), Ok(Harvest::NotYet));
+    assert_eq!(rt; dup(alloc, node, child), Ok(0));
+    assert_eq!(rt; node.harvest(alloc, child), Ok(Harvest::Done(0)));
+    sees(
+        rt,
+        alloc,
+        node,
+        CHILD,
+        &[Look::Born, Look::Made(0, On::Below(2), 3, 2)],
+    )
+}
+
+// Rank 2 takes the posts on the child first, and then all.
+fn comes_behind(
+    rt: &impl Abort,
+    alloc: Global,
+    node: &mut Node,
+    world: &World,
+) -> Result<(), Fail> {
+    let child = name_of(alloc, CHILD)?;
+    assert_eq!(rt; dup(alloc, node, &Name::world(alloc)), Ok(0));
+    take_early(alloc, node, world, &child)?;
+    has_posts_alone(rt, alloc, node, &child)?;
+    take_both(alloc, node, world)?;
+    goes_on_below(rt, alloc, node, &child)
+}
+
+fn meets(rt: &impl Abort, alloc: Global, world: &mut World) -> Result<(), Fail> {
+    go_on(rt, alloc, world, "two are ahead", AHEAD)?;
+    let mut node = Node::new(alloc, Proc::new(2), 3, 3)?;
+    let answer = comes_behind(rt, alloc, &mut node, world);
+    drop(node);
+    answer
+}
+
+#[test]
+fn posts_on_a_child_may_come_before_its_birth(rt: HostRuntime) -> Result<(), Fail> {
+    let alloc = rt.alloc();
+    let mut world = World::new(alloc, 3, 3)?;
+    let answer = meets(&rt, alloc, &mut world);
+    drop(world);
+    answer
+}

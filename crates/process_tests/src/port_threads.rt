@@ -1,0 +1,72 @@
+//! Two ports, in a thread each.
+ghost use Rattle.std.specs.Prelude.{◌≡◌, false};
+ghost use Rattle.mpx_bus.specs.Berths.{IsSamePort};
+ghost use Rattle.mpx_bus.specs.Buses.{table_of};
+
+use crate::fleets::two_ports;
+use crate::ports::{LIMIT, posts};
+use mpx_bus::{Bus, Port};
+use mpx_name::Name;
+use mpx_node::Harvest;
+use std::alloc::Global;
+use std::sync::Wait;
+use std::test::Fail;
+use std::thread::{Threads, join, yield_now};
+
+// Pushes, pops and harvests until the sum is done, and pushes once more, so that the other gets on.
+fn work<R: Wait>(rt: &R, alloc: Global, bus: &Bus, mut port: Port, turns: u32) -> Port
+    requires queue { port.table ≡ table_of bus.now }
+    requires plan { port.setup.planned ≡ false }
+    ensures { IsSamePort port result }
+{
+    let world = Name::world(alloc);
+    for _ in 0..turns {
+        let _ = bus.push_own(rt, alloc, &mut port, LIMIT);
+        let _ = bus.pop(rt, alloc, &mut port);
+        if let Ok(Harvest::Done(_)) = port.harvest(alloc, &world) {
+            let _ = bus.push_own(rt, alloc, &mut port, LIMIT);
+            return port;
+        }
+        yield_now();
+    }
+    port
+}
+
+// Two ports run in a thread each, and then meet. How many instances both have finished.
+fn run_two<R: Threads + Wait + Sync>(
+    rt: &R,
+    alloc: Global,
+    bus: &Bus,
+    mut first: Port,
+    mut second: Port,
+) -> Result<u64, Fail>
+    requires first { (first.table ≡ table_of bus.now) × (first.setup.planned ≡ false) }
+    requires second { (second.table ≡ table_of bus.now) × (second.setup.planned ≡ false) }
+    requires setup { second.setup ≡ first.setup }
+{
+    posts(alloc, &mut first, 1)?;
+    posts(alloc, &mut second, 2)?;
+    let (first, second) = join(
+        rt,
+        move || -> Port
+            requires { (first.table ≡ table_of bus.now) × (first.setup.planned ≡ false) }
+            ensures { IsSamePort first result }
+        { work(rt, alloc, bus, first, 100_000) },
+        move || -> Port
+            requires { (second.table ≡ table_of bus.now) × (second.setup.planned ≡ false) }
+            ensures { IsSamePort second result }
+        { work(rt, alloc, bus, second, 100_000) },
+    );
+    Ok(bus.meet(first, second).both)
+}
+
+fn both_of_two<R: Threads + Wait + Sync>(rt: &R, alloc: Global) -> Result<u64, Fail> {
+    let (bus, first, second) = two_ports(alloc, 4)?;
+    run_two(rt, alloc, &bus, first, second)
+}
+
+#[test]
+fn two_threads_have_one_sum(rt: HostRuntime) -> Result<(), Fail> {
+    assert_eq!(rt; both_of_two(&rt, rt.alloc())?, 1);
+    Ok(())
+}

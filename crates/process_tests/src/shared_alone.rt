@@ -1,0 +1,125 @@
+//! The only port of a bus of one frame.
+ghost use Rattle.std.specs.Prelude.{◌≡◌, ◌<◌, false, length};
+ghost use Rattle.mpx_bus.specs.Buses.{table_of};
+ghost use Rattle.mpx_shared.specs.Docks.{IsDocked, made_in};
+
+use crate::fleets::one_port;
+use crate::shared_ports::{Shared, post, share};
+use mpx_bus::{Bus, Port, Push};
+use mpx_name::Name;
+use mpx_node::Finished;
+use mpx_post::Kind;
+use mpx_shared::{Dock, Poster, Pull, SharedPort, Tested};
+use mpx_value::Outcome;
+use std::alloc::Global;
+use std::marker::Brand;
+use std::sync::Wait;
+use std::sync::ledger::Blank;
+use std::test::Fail;
+use test_drafts::{draft, just};
+
+// What is told: of frames, of a gathering, and of births.
+type AllTold = (bool, bool, bool);
+
+// Whether the port's board tells how the communicator came to be.
+fn is_born<L: Dock, R: Wait>(
+    rt: &R,
+    alloc: Global,
+    port: &SharedPort<L>,
+    name: &Name,
+) -> Result<bool, Fail> {
+    Ok(port.birth(rt, alloc, name)?.is_some())
+}
+
+// The world is born, and so is the gathering; a communicator that no call has made isn't.
+fn births<L: Dock, R: Wait>(
+    rt: &R,
+    alloc: Global,
+    port: &SharedPort<L>,
+    gathering: &Name,
+) -> Result<bool, Fail> {
+    let world = Name::world(alloc);
+    let unknown = world.child(alloc, 0, 0)?;
+    let born = is_born(rt, alloc, port, &world)? && is_born(rt, alloc, port, gathering)?;
+    Ok(born && !is_born(rt, alloc, port, &unknown)?)
+}
+
+// The queue is empty, and then full after one frame, which the port takes itself.
+fn frames<L: Dock, R: Wait>(
+    rt: &R,
+    alloc: Global,
+    bus: &Bus,
+    port: &SharedPort<L>,
+) -> Result<bool, Fail>
+    requires { table_of bus.now ≡ L.table }
+{
+    let empty = matches!(port.pull(rt, alloc, bus), Pull::Empty);
+    let pushed = matches!(port.put(rt, alloc, bus)?, Push::Pushed);
+    let full = matches!(port.put(rt, alloc, bus)?, Push::Full(_));
+    let took = matches!(port.pull(rt, alloc, bus), Pull::Took);
+    Ok(empty && pushed && full && took)
+}
+
+// Whether it gave a communicator of the rank alone.
+fn is_alone(finished: &Finished) -> bool {
+    match &finished.outcome {
+        Outcome::NewComm {
+            name: _,
+            size,
+            rank,
+        } => *size == 1 && *rank == 0,
+        _ => false,
+    }
+}
+
+// A post on the gathering, which the port has opened, makes a communicator once the port has looked.
+fn gathers<L: Dock, R: Wait>(
+    rt: &R,
+    alloc: Global,
+    bus: &Bus,
+    port: &SharedPort<L>,
+    poster: &mut Poster<L>,
+    gathering: &Name,
+) -> Result<bool, Fail>
+    requires ledger { (L.all ≡ L.parts) × (0 < L.parts) }
+    requires bus { (L.setup.planned ≡ false) × (table_of bus.now ≡ L.table) }
+{
+    let drafted = draft(alloc, &just(Kind::CreateGroup))?;
+    let ticket = post(rt, alloc, port, poster, gathering, drafted)?;
+    port.pull(rt, alloc, bus);
+    match port.test(rt, alloc, &ticket)? {
+        Tested::Done(finished) => Ok(is_alone(&finished)),
+        _ => Ok(false),
+    }
+}
+
+// All that is told of a new port.
+fn all_told<L: Dock, R: Wait>(
+    rt: &R,
+    alloc: Global,
+    bus: &Bus,
+    port: Port,
+    blank: Blank,
+) -> Result<AllTold, Fail>
+    requires ledger { (blank.name ≡ L.name) × ((blank.parts ≡ L.parts) × ((L.all ≡ L.parts) × (0 < L.parts))) }
+    requires port { (0 ≡ L.me) × (IsDocked L.table L.setup L.me port × ((port.journal ≡ L.opening) × (length (made_in port) ≡ L.before))) }
+    requires bus { (L.setup.planned ≡ false) × (table_of bus.now ≡ L.table) }
+{
+    let Shared { port, mut poster } = share::<L>(alloc, port, 0, blank);
+    let framed = frames(rt, alloc, bus, &port)?;
+    let gathering = port.open_gathering(rt, alloc, &Name::world(alloc), 3, &[0])?;
+    let gathered = gathers(rt, alloc, bus, &port, &mut poster, &gathering)?;
+    Ok((framed, gathered, births(rt, alloc, &port, &gathering)?))
+}
+
+// The same of the only port of a bus with room for one frame.
+fn alone<R: Wait>(rt: &R, alloc: Global) -> Result<AllTold, Fail> {
+    let (bus, port) = one_port(alloc, 1)?;
+    all_told::<Brand, R>(rt, alloc, &bus, port, Blank::new(1))
+}
+
+#[test]
+fn a_port_alone(rt: HostRuntime) -> Result<(), Fail> {
+    assert_eq!(rt; alone(&rt, rt.alloc())?, (true, true, true));
+    Ok(())
+}

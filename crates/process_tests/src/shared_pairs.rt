@@ -1,0 +1,141 @@
+//! Two shared ports at one bus.
+ghost use Rattle.std.specs.Prelude.{◌≡◌, ◌<◌, false, length};
+ghost use Rattle.mpx_bus.specs.Buses.{table_of};
+ghost use Rattle.mpx_shared.specs.Docks.{IsDocked, made_in};
+
+use crate::fleets::two_ports;
+use crate::ports::sum_in;
+use crate::shared_ports::{Shared, post, share};
+use join_core::Exact;
+use mpx_bus::{Bus, Port};
+use mpx_name::Name;
+use mpx_node::Finished;
+use mpx_shared::{Dock, SharedPort, Tested, Ticket};
+use std::alloc::Global;
+use std::marker::Brand;
+use std::sync::Wait;
+use std::sync::ledger::Blank;
+use std::test::Fail;
+use test_drafts::a_sum;
+
+// The number that the port posted itself.
+fn mine_in(finished: &Finished) -> Option<i128> {
+    finished.mine.items()?.nums().first().copied()
+}
+
+// What the ticket's call gave, where that is told: the own number, and the sum.
+fn told<L: Dock, R: Wait>(
+    rt: &R,
+    alloc: Global,
+    port: &SharedPort<L>,
+    ticket: &Ticket,
+) -> Result<Option<(i128, i128)>, Fail> {
+    let Tested::Done(finished) = port.test(rt, alloc, ticket)? else {
+        return Ok(None);
+    };
+    if !finished.mine.same(&ticket.post) {
+        return Err(Fail::from("another post"));
+    }
+    Ok(mine_in(&finished).zip(sum_in(&finished)))
+}
+
+// Whether the port has no such post as the ticket's.
+fn is_strange<L: Dock, R: Wait>(
+    rt: &R,
+    alloc: Global,
+    port: &SharedPort<L>,
+    ticket: &Ticket,
+) -> Result<bool, Fail> {
+    Ok(matches!(port.test(rt, alloc, ticket)?, Tested::Strange))
+}
+
+// Both gossip in turn, until both are told the sum beside their own number.
+fn gossip_on<M: Dock, N: Dock, R: Wait>(
+    rt: &R,
+    alloc: Global,
+    bus: &Bus,
+    first: (&SharedPort<M>, &Ticket),
+    second: (&SharedPort<N>, &Ticket),
+) -> Result<bool, Fail>
+    requires first { table_of bus.now ≡ M.table }
+    requires second { table_of bus.now ≡ N.table }
+{
+    for _ in 0..20 {
+        first.0.gossip(rt, alloc, bus, 10)?;
+        second.0.gossip(rt, alloc, bus, 10)?;
+        let one = told(rt, alloc, first.0, first.1)?;
+        let two = told(rt, alloc, second.0, second.1)?;
+        if one.is_some() && two.is_some() {
+            return Ok(one == Some((7, 15)) && two == Some((8, 15)));
+        }
+    }
+    Ok(false)
+}
+
+// The port posts its number to the next sum of all.
+fn post_sum<L: Dock, R: Wait>(
+    rt: &R,
+    alloc: Global,
+    shared: &mut Shared<L>,
+    number: i128,
+) -> Result<Ticket, Fail>
+    requires ledger { (L.all ≡ L.parts) × (0 < L.parts) }
+    requires plan { L.setup.planned ≡ false }
+{
+    let (world, drafted) = (Name::world(alloc), a_sum(alloc, number)?);
+    Ok(post(rt, alloc, &shared.port, &mut shared.poster, &world, drafted)?)
+}
+
+// Both post a number. Whether the first port's ticket is strange to the second, before and after its own post, and whether both
+// are told the sum.
+fn sum_up<M: Dock, N: Dock, R: Wait>(
+    rt: &R,
+    alloc: Global,
+    bus: &Bus,
+    mut first: Shared<M>,
+    mut second: Shared<N>,
+) -> Result<(bool, bool), Fail>
+    requires first { ((M.all ≡ M.parts) × (0 < M.parts)) × ((M.setup.planned ≡ false) × (table_of bus.now ≡ M.table)) }
+    requires second { ((N.all ≡ N.parts) × (0 < N.parts)) × ((N.setup.planned ≡ false) × (table_of bus.now ≡ N.table)) }
+{
+    let one = post_sum(rt, alloc, &mut first, 7)?;
+    let unposted = is_strange(rt, alloc, &second.port, &one)?;
+    let two = post_sum(rt, alloc, &mut second, 8)?;
+    let posted = is_strange(rt, alloc, &second.port, &one)?;
+    let summed = gossip_on(rt, alloc, bus, (&first.port, &one), (&second.port, &two))?;
+    Ok((unposted && posted, summed))
+}
+
+// The same of two new ports.
+fn share_two<M: Dock, N: Dock, R: Wait>(
+    rt: &R,
+    alloc: Global,
+    bus: &Bus,
+    first: (Port, Blank),
+    second: (Port, Blank),
+) -> Result<(bool, bool), Fail>
+    requires first_ledger { (first.1.name ≡ M.name) × ((first.1.parts ≡ M.parts) × ((M.all ≡ M.parts) × (0 < M.parts))) }
+    requires first_port { (0 ≡ M.me) × (IsDocked M.table M.setup M.me first.0 × ((first.0.journal ≡ M.opening) × (length (made_in first.0) ≡ M.before))) }
+    requires first_bus { (M.setup.planned ≡ false) × (table_of bus.now ≡ M.table) }
+    requires second_ledger { (second.1.name ≡ N.name) × ((second.1.parts ≡ N.parts) × ((N.all ≡ N.parts) × (0 < N.parts))) }
+    requires second_port { (1 ≡ N.me) × (IsDocked N.table N.setup N.me second.0 × ((second.0.journal ≡ N.opening) × (length (made_in second.0) ≡ N.before))) }
+    requires second_bus { (N.setup.planned ≡ false) × (table_of bus.now ≡ N.table) }
+{
+    let first = share::<M>(alloc, first.0, 0, first.1);
+    let second = share::<N>(alloc, second.0, 1, second.1);
+    sum_up(rt, alloc, bus, first, second)
+}
+
+// Whether a ticket is strange to the other port, and whether both are told the sum.
+fn meet<R: Wait>(rt: &R, alloc: Global) -> Result<(bool, bool), Fail> {
+    let (bus, first, second) = two_ports(alloc, 16)?;
+    let first = (first, Blank::new(1));
+    let second = (second, Blank::new(1));
+    share_two::<Brand, Brand, R>(rt, alloc, &bus, first, second)
+}
+
+#[test]
+fn two_shared_ports_have_one_sum(rt: HostRuntime) -> Result<(), Fail> {
+    assert_eq!(rt; meet(&rt, rt.alloc())?, (true, true));
+    Ok(())
+}

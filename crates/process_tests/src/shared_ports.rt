@@ -1,0 +1,46 @@
+// Shared ports, and what the tests post.
+ghost use Rattle.std.specs.Prelude.{◌≡◌, ◌<◌, false, length};
+ghost use Rattle.mpx_shared.specs.Docks.{IsDocked, made_in};
+
+use mpx_bus::Port;
+use mpx_group::Proc;
+use mpx_name::Name;
+use mpx_post::{Draft, PostError};
+use mpx_shared::{Dock, Poster, SharedPort, Ticket};
+use std::alloc::Global;
+use std::sync::Wait;
+use std::sync::ledger::Blank;
+
+/// A shared port, and the right to post on it.
+#[derive(Drop)]
+pub struct Shared<L: Dock> {
+    pub port: SharedPort<L>,
+    pub poster: Poster<L>,
+}
+
+/// Puts the new port of this process under a lock.
+pub fn share<L: Dock>(alloc: Global, port: Port, me: u8, blank: Blank) -> Shared<L>
+    requires ledger { (blank.name ≡ L.name) × ((blank.parts ≡ L.parts) × (L.all ≡ L.parts)) }
+    requires me { (me < 64) × (me ≡ L.me) }
+    requires port { IsDocked L.table L.setup L.me port }
+    requires opening { port.journal ≡ L.opening }
+    requires count { length (made_in port) ≡ L.before }
+{
+    let (port, poster) = SharedPort::<L>::new(alloc, port, Proc::new(me), blank);
+    Shared { port, poster }
+}
+
+/// Makes the port's next post on the context.
+pub fn post<L: Dock, R: Wait>(
+    rt: &R,
+    alloc: Global,
+    port: &SharedPort<L>,
+    poster: &mut Poster<L>,
+    name: &Name,
+    draft: Draft,
+) -> Result<Ticket, PostError>
+    requires ledger { (L.all ≡ L.parts) × (0 < L.parts) }
+    requires plan { L.setup.planned ≡ false }
+{
+    port.post(rt, alloc, poster, name, draft)
+}

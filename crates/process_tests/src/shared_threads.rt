@@ -1,0 +1,107 @@
+//! One thread posts, while another gossips.
+ghost use Rattle.std.specs.Prelude.{◌≡◌, ◌<◌, false, length};
+ghost use Rattle.mpx_bus.specs.Buses.{table_of};
+ghost use Rattle.mpx_shared.specs.Docks.{IsDocked, made_in};
+
+use crate::fleets::one_port;
+use crate::shared_ports::{Shared, post, share};
+use mpx_bus::{Bus, Port};
+use mpx_name::Name;
+use mpx_post::{Kind, PostError};
+use mpx_shared::{Dock, Poster, SharedPort};
+use std::alloc::Global;
+use std::marker::Brand;
+use std::sync::Wait;
+use std::sync::ledger::Blank;
+use std::test::Fail;
+use std::thread::{Threads, join};
+use test_drafts::{draft, just};
+
+fn post_barrier<L: Dock, R: Wait>(
+    rt: &R,
+    alloc: Global,
+    port: &SharedPort<L>,
+    poster: &mut Poster<L>,
+) -> Result<(), PostError>
+    requires ledger { (L.all ≡ L.parts) × (0 < L.parts) }
+    requires plan { L.setup.planned ≡ false }
+{
+    let Ok(draft) = draft(alloc, &just(Kind::Barrier)) else {
+        return Err(PostError::OutOfMemory);
+    };
+    let _ticket = post(rt, alloc, port, poster, &Name::world(alloc), draft)?;
+    Ok(())
+}
+
+// Posts so many barriers, and ends at the first refusal.
+fn post_barriers<L: Dock, R: Wait>(
+    rt: &R,
+    alloc: Global,
+    port: &SharedPort<L>,
+    mut poster: Poster<L>,
+    count: u32,
+) -> Poster<L>
+    requires ledger { (L.all ≡ L.parts) × (0 < L.parts) }
+    requires plan { L.setup.planned ≡ false }
+{
+    for _ in 0..count {
+        if post_barrier(rt, alloc, port, &mut poster).is_err() {
+            return poster;
+        }
+    }
+    poster
+}
+
+// Both at once. Whether no memory was wanting for the gossip.
+fn post_and_gossip<L: Dock + Send + Sync, R: Threads + Wait + Sync>(
+    rt: &R,
+    alloc: Global,
+    bus: &Bus,
+    port: &SharedPort<L>,
+    poster: Poster<L>,
+) -> (Poster<L>, bool)
+    requires ledger { (L.all ≡ L.parts) × (0 < L.parts) }
+    requires plan { L.setup.planned ≡ false }
+    requires queue { table_of bus.now ≡ L.table }
+{
+    join(
+        rt,
+        move || -> Poster<L>
+            requires { ((L.all ≡ L.parts) × (0 < L.parts)) × (L.setup.planned ≡ false) }
+        { post_barriers(rt, alloc, port, poster, 1_000) },
+        || -> bool
+            requires { table_of bus.now ≡ L.table }
+        { port.gossip(rt, alloc, bus, 1_000).is_ok() },
+    )
+}
+
+// How many posts the port's node has made on the world.
+fn work<L: Dock + Send + Sync, R: Threads + Wait + Sync>(
+    rt: &R,
+    alloc: Global,
+    bus: &Bus,
+    port: Port,
+    blank: Blank,
+) -> Result<u32, Fail>
+    requires ledger { (blank.name ≡ L.name) × ((blank.parts ≡ L.parts) × ((L.all ≡ L.parts) × (0 < L.parts))) }
+    requires port { (0 ≡ L.me) × (IsDocked L.table L.setup L.me port × ((port.journal ≡ L.opening) × (length (made_in port) ≡ L.before))) }
+    requires bus { (L.setup.planned ≡ false) × (table_of bus.now ≡ L.table) }
+{
+    let Shared { port, poster } = share::<L>(alloc, port, 0, blank);
+    let (poster, gossiped) = post_and_gossip(rt, alloc, bus, &port, poster);
+    if !gossiped {
+        return Err(Fail::from("out of memory"));
+    }
+    Ok(port.into_port(poster).node().posted(&Name::world(alloc)))
+}
+
+fn posted<R: Threads + Wait + Sync>(rt: &R, alloc: Global) -> Result<u32, Fail> {
+    let (bus, port) = one_port(alloc, 16)?;
+    work::<Brand, R>(rt, alloc, &bus, port, Blank::new(1))
+}
+
+#[test]
+fn one_thread_posts_beside_gossip(rt: HostRuntime) -> Result<(), Fail> {
+    assert_eq!(rt; posted(&rt, rt.alloc())?, 1_000);
+    Ok(())
+}

@@ -1,0 +1,253 @@
+//! Frames that no process sent, but that spell a board: nodes take them as they take all boards. A post of such a frame clashes with the
+//! process's own, which is never harvested then; a birth that such a frame makes a clash refuses posts; calls that it tells dropped, or
+//! harvested, are; and what it tells acknowledged is left out of what is told on.
+use crate::contexts::sum_of;
+use crate::frames::FRAME;
+use crate::looks::{Look, is_seen};
+use mpx_board::PruneError;
+use mpx_group::Proc;
+use mpx_name::Name;
+use mpx_node::{Harvest, Node};
+use mpx_post::PostError;
+use mpx_wire::decode;
+use std::alloc::Global;
+use std::process::Abort;
+use std::test::Fail;
+use test_drafts::{draft, proc};
+
+// On world, where all is that is said below: of call 0 the post of process 1, a sum of the one item 2 of type i64.
+const POST_OF_RANK_1: &[u8] = &[
+    0x4d, 0x50, 0x58, 0x47, 1, 0, 1, 0, 0, 0, 0, 0, 0, 0, 0, 0, 0, 1, 0, 0, 0, 0, 1, 1, 1, 11, 0,
+    3, 4, 0, 1, 0, 0, 0, 0, 0, 0, 0, 2, 0,
+];
+
+// Of call 0 the post of process 0, a sum of the one item 1 of type i64.
+const POST_OF_RANK_0: &[u8] = &[
+    0x4d, 0x50, 0x58, 0x47, 1, 0, 1, 0, 0, 0, 0, 0, 0, 0, 0, 0, 0, 1, 0, 0, 0, 0, 1, 0, 1, 11, 0,
+    3, 4, 0, 1, 0, 0, 0, 0, 0, 0, 0, 1, 0,
+];
+
+// Members 0, 1 and 2, without a topology.
+const THREE_MEMBERS: &[u8] = &[
+    0x4d, 0x50, 0x58, 0x47, 1, 0, 1, 0, 1, 3, 0, 1, 2, 0, 0, 0, 0, 0, 0, 0, 0, 0, 0, 0,
+];
+
+// Two births were told.
+const TWO_BIRTHS: &[u8] = &[
+    0x4d, 0x50, 0x58, 0x47, 1, 0, 1, 0, 2, 0, 0, 0, 0, 0, 0, 0, 0, 0, 0,
+];
+
+// Calls below 2 are dropped.
+const DROPPED: &[u8] = &[
+    0x4d, 0x50, 0x58, 0x47, 1, 0, 1, 0, 0, 0, 0, 0, 0, 2, 0, 0, 0, 0, 0,
+];
+
+// Processes 0 and 1 have harvested seven calls each.
+const FRONTS: &[u8] = &[
+    0x4d, 0x50, 0x58, 0x47, 1, 0, 1, 0, 0, 2, 0, 0, 0, 0, 7, 1, 0, 0, 0, 7, 0, 0, 0, 0, 0, 0, 0, 0,
+    0,
+];
+
+// Process 1 has as many calls of process 0 as there may be.
+const ACKNOWLEDGED: &[u8] = &[
+    0x4d, 0x50, 0x58, 0x47, 1, 0, 0, 1, 1, 0, 1, 0, 1, 0, 255, 255, 255, 255,
+];
+
+// What comes to the node of rank 0 of two, and what is seen of it.
+#[derive(Clone, Copy)]
+enum Step {
+    // The board of this frame.
+    Takes(&'static [u8]),
+    // It gives this number to a sum by both.
+    Posts(i128, Result<u32, PostError>),
+    // It opens the gathering of itself.
+    Opens(Result<(), PostError>),
+    Harvests(Harvest),
+    Prunes(u32, Result<(), PruneError>),
+    // Whether what others may lack has its first post.
+    Tells(bool),
+    Sees(Look),
+}
+
+const CLASHES: &[Step] = &[
+    Step::Takes(FRAME),
+    Step::Sees(Look::Holds(0, 0)),
+    Step::Posts(1, Ok(0)),
+    Step::Sees(Look::Lacks(0, 0)),
+    Step::Takes(POST_OF_RANK_1),
+    Step::Sees(Look::Holds(0, 1)),
+    Step::Harvests(Harvest::NotYet),
+    Step::Takes(FRAME),
+    Step::Takes(POST_OF_RANK_0),
+    Step::Sees(Look::Lacks(0, 0)),
+    Step::Posts(2, Ok(1)),
+    Step::Sees(Look::Holds(1, 0)),
+    Step::Harvests(Harvest::NotYet),
+    Step::Sees(Look::Posted(2)),
+    Step::Sees(Look::OnePart),
+];
+
+const CLASHES_LATER: &[Step] = &[
+    Step::Posts(1, Ok(0)),
+    Step::Takes(POST_OF_RANK_1),
+    Step::Takes(FRAME),
+    Step::Sees(Look::Lacks(0, 0)),
+    Step::Harvests(Harvest::NotYet),
+];
+
+// A frame that tells the post before it is made.
+const AGREES: &[Step] = &[
+    Step::Takes(POST_OF_RANK_0),
+    Step::Sees(Look::Posted(0)),
+    Step::Takes(POST_OF_RANK_1),
+    Step::Harvests(Harvest::NotYet),
+    Step::Posts(1, Ok(0)),
+    Step::Harvests(Harvest::Done(0)),
+    Step::Sees(Look::Sum(0, 3)),
+];
+
+const OTHER_BIRTH: &[Step] = &[
+    Step::Posts(1, Ok(0)),
+    Step::Takes(POST_OF_RANK_1),
+    Step::Takes(THREE_MEMBERS),
+    Step::Sees(Look::Unborn),
+    Step::Posts(2, Err(PostError::NotMember)),
+    Step::Opens(Err(PostError::NotMember)),
+    Step::Harvests(Harvest::NotYet),
+    Step::Prunes(0, Err(PruneError::NoBirth)),
+    Step::Sees(Look::Posted(1)),
+    Step::Sees(Look::Holds(0, 0)),
+    Step::Sees(Look::OnePart),
+];
+
+const BORN_TWICE: &[Step] = &[
+    Step::Opens(Ok(())),
+    Step::Takes(TWO_BIRTHS),
+    Step::Sees(Look::Unborn),
+    Step::Posts(1, Err(PostError::NotMember)),
+    Step::Opens(Err(PostError::NotMember)),
+    Step::Sees(Look::Posted(0)),
+];
+
+// Posts below the dropped front are made, and are not on the board; those from it on are.
+const DROPPED_EARLY: &[Step] = &[
+    Step::Posts(1, Ok(0)),
+    Step::Takes(DROPPED),
+    Step::Sees(Look::Lacks(0, 0)),
+    Step::Takes(POST_OF_RANK_1),
+    Step::Sees(Look::Lacks(0, 1)),
+    Step::Posts(2, Ok(1)),
+    Step::Sees(Look::Lacks(1, 0)),
+    Step::Posts(3, Ok(2)),
+    Step::Sees(Look::Holds(2, 0)),
+    Step::Harvests(Harvest::NotYet),
+    Step::Prunes(0, Ok(())),
+    Step::Prunes(1, Err(PruneError::AboveFloor(0))),
+];
+
+const HARVESTED_EARLY: &[Step] = &[
+    Step::Posts(1, Ok(0)),
+    Step::Takes(FRONTS),
+    Step::Prunes(8, Err(PruneError::AboveFloor(7))),
+    Step::Prunes(7, Ok(())),
+    Step::Sees(Look::Lacks(0, 0)),
+    Step::Posts(2, Ok(1)),
+    Step::Sees(Look::Lacks(1, 0)),
+    Step::Harvests(Harvest::NotYet),
+];
+
+// What all say that they have is left out of what is told on, though one says too much; the board keeps it, and so does the whole part.
+const ACKNOWLEDGED_EARLY: &[Step] = &[
+    Step::Posts(1, Ok(0)),
+    Step::Tells(true),
+    Step::Takes(ACKNOWLEDGED),
+    Step::Tells(false),
+    Step::Sees(Look::Holds(0, 0)),
+    Step::Sees(Look::OnePart),
+    Step::Takes(POST_OF_RANK_1),
+    Step::Harvests(Harvest::Done(0)),
+    Step::Sees(Look::Sum(0, 3)),
+];
+
+const NODES: [(&str, &[Step]); 8] = [
+    ("another post before the own one", CLASHES),
+    ("another post after the own one", CLASHES_LATER),
+    ("the own post before it is made", AGREES),
+    ("another birth", OTHER_BIRTH),
+    ("two births", BORN_TWICE),
+    ("a dropped front", DROPPED_EARLY),
+    ("fronts", HARVESTED_EARLY),
+    ("acknowledgements", ACKNOWLEDGED_EARLY),
+];
+
+fn takes(alloc: Global, node: &mut Node, frame: &[u8]) -> Result<bool, Fail> {
+    let part = decode(alloc, frame)?;
+    node.take(alloc, &part)?;
+    Ok(true)
+}
+
+fn posts(
+    alloc: Global,
+    node: &mut Node,
+    world: &Name,
+    number: i128,
+) -> Result<Result<u32, PostError>, Fail> {
+    let draft = draft(alloc, &sum_of(&[number]))?;
+    Ok(node.post(alloc, world, draft))
+}
+
+fn opens(alloc: Global, node: &mut Node, world: &Name) -> Result<(), PostError> {
+    node.open_gathering(alloc, world, 9, &[0])?;
+    Ok(())
+}
+
+fn tells(alloc: Global, node: &mut Node, world: &Name) -> Result<bool, Fail> {
+    let parts = node.deltas(alloc, 524_288)?;
+    Ok(
+        parts
+            .iter()
+            .any(|part| part.holds(world, 0, proc(0)).is_some()),
+    )
+}
+
+// Does what the step says, and answers whether it comes out so.
+fn is_so(alloc: Global, node: &mut Node, world: &Name, step: Step) -> Result<bool, Fail> {
+    match step {
+        Step::Takes(frame) => takes(alloc, node, frame),
+        Step::Posts(number, told) => Ok(posts(alloc, node, world, number)? == told),
+        Step::Opens(told) => Ok(opens(alloc, node, world) == told),
+        Step::Harvests(told) => Ok(node.harvest(alloc, world)? == told),
+        Step::Prunes(number, told) => Ok(node.prune(world, number) == told),
+        Step::Tells(told) => Ok(tells(alloc, node, world)? == told),
+        Step::Sees(look) => is_seen(alloc, node, world, look),
+    }
+}
+
+fn go_on(
+    rt: &impl Abort,
+    alloc: Global,
+    node: &mut Node,
+    shown: &str,
+    steps: &[Step],
+) -> Result<(), Fail> {
+    let world = Name::world(alloc);
+    for (at, step) in steps.iter().enumerate() {
+        assert!(rt; is_so(alloc, node, &world, *step)?, "{shown}: step {at}");
+    }
+    Ok(())
+}
+
+fn run(rt: &impl Abort, alloc: Global, shown: &str, steps: &[Step]) -> Result<(), Fail> {
+    let mut node = Node::new(alloc, Proc::new(0), 2, 2)?;
+    let answer = go_on(rt, alloc, &mut node, shown, steps);
+    drop(node);
+    answer
+}
+
+#[test]
+fn nodes_take_frames_that_no_process_sent(rt: HostRuntime) -> Result<(), Fail> {
+    for (shown, steps) in NODES {
+        run(&rt, rt.alloc(), shown, steps)?;
+    }
+    Ok(())
+}

@@ -1,0 +1,138 @@
+//! What processes of a world do, and what they are told.
+use crate::contexts::{On, WORLD, name_of, sum_of};
+use mpx_board::PruneError;
+use mpx_group::Proc;
+use mpx_name::Name;
+use mpx_num::Numbers;
+use mpx_post::{Kind, PostError};
+use mpx_world::{Cut, Event, Names, Reply, World};
+use std::alloc::Global;
+use std::test::Fail;
+use test_drafts::{Drafted, draft, just, proc};
+
+// What a process does, on the context of all where it names none.
+#[derive(Clone, Copy)]
+pub enum Act {
+    // It gives this number to a sum by all.
+    Post(i128),
+    Barrier,
+    Dup(On),
+    // It posts a call by the first two members of the gathering.
+    CreateGroup,
+    Harvest(On),
+    Prune(u32),
+    // It sends its whole board.
+    Send,
+    // It sends what it knows of no context.
+    SendNothing,
+    Take(usize),
+    // It opens the gathering of these two ranks below this context, with this tag.
+    Gather(On, i128, [i128; 2]),
+}
+
+// What it is told.
+#[derive(Clone, Copy)]
+pub enum Told {
+    Posted(u32),
+    PostRefused(PostError),
+    Harvested(u32),
+    NotYet,
+    NotOpened,
+    Opened(On),
+    Pruned,
+    PruneRefused(PruneError),
+    Sent(usize),
+    Taken,
+    NoSuchProcess,
+    NoSuchPart,
+}
+
+// What the process drafts.
+fn posts(alloc: Global, proc: Proc, on: On, drafted: &Drafted<'_>) -> Result<Event, Fail> {
+    Ok(Event::Post {
+        proc,
+        name: name_of(alloc, on)?,
+        draft: draft(alloc, drafted)?,
+    })
+}
+
+fn creates_group(alloc: Global, proc: Proc) -> Result<Event, Fail> {
+    let drafted = Drafted {
+        group: &[0, 1],
+        ..just(Kind::CreateGroup)
+    };
+    posts(alloc, proc, On::Gathering, &drafted)
+}
+
+fn gathers(alloc: Global, proc: Proc, on: On, tag: i128, ranks: &[i128]) -> Result<Event, Fail> {
+    Ok(Event::Gather {
+        proc,
+        parent: name_of(alloc, on)?,
+        tag,
+        ranks: Numbers::new(alloc, Vec::from_slice(alloc, ranks)?)?,
+    })
+}
+
+pub fn event(alloc: Global, number: u8, act: Act) -> Result<Event, Fail> {
+    let proc = proc(number);
+    match act {
+        Act::Post(item) => posts(alloc, proc, WORLD, &sum_of(&[item])),
+        Act::Barrier => posts(alloc, proc, WORLD, &just(Kind::Barrier)),
+        Act::Dup(on) => posts(alloc, proc, on, &just(Kind::Dup)),
+        Act::CreateGroup => creates_group(alloc, proc),
+        Act::Harvest(on) => {
+            let name = name_of(alloc, on)?;
+            Ok(Event::Harvest { proc, name })
+        }
+        Act::Prune(number) => {
+            let name = Name::world(alloc);
+            Ok(Event::Prune { proc, name, number })
+        }
+        Act::Send => {
+            let cut = Cut::Whole;
+            Ok(Event::Send { proc, cut })
+        }
+        Act::SendNothing => {
+            let cut = Cut::Names(Names::new(Vec::new(alloc)));
+            Ok(Event::Send { proc, cut })
+        }
+        Act::Take(part) => Ok(Event::Take { proc, part }),
+        Act::Gather(on, tag, ranks) => gathers(alloc, proc, on, tag, &ranks),
+    }
+}
+
+fn reply_of(alloc: Global, told: Told) -> Result<Reply, Fail> {
+    match told {
+        Told::Posted(call) => Ok(Reply::Posted(call)),
+        Told::PostRefused(refusal) => Ok(Reply::PostRefused(refusal)),
+        Told::Harvested(call) => Ok(Reply::Harvested(call)),
+        Told::NotYet => Ok(Reply::NotYet),
+        Told::NotOpened => Ok(Reply::NotOpened),
+        Told::Opened(on) => Ok(Reply::Opened(name_of(alloc, on)?)),
+        Told::Pruned => Ok(Reply::Pruned),
+        Told::PruneRefused(refusal) => Ok(Reply::PruneRefused(refusal)),
+        Told::Sent(part) => Ok(Reply::Sent(part)),
+        Told::Taken => Ok(Reply::Taken),
+        Told::NoSuchProcess => Ok(Reply::NoSuchProcess),
+        Told::NoSuchPart => Ok(Reply::NoSuchPart),
+    }
+}
+
+// What the process is told when it does this.
+fn reply(alloc: Global, world: &mut World, number: u8, act: Act) -> Result<Reply, Fail> {
+    let events = vec![in alloc; event(alloc, number, act)?]?;
+    let mut replies = world.run(alloc, &events)?;
+    Ok(replies.pop().ok_or("no reply")?)
+}
+
+// Whether it is told that.
+pub fn is_told(
+    alloc: Global,
+    world: &mut World,
+    number: u8,
+    act: Act,
+    told: Told,
+) -> Result<bool, Fail> {
+    let wanted = reply_of(alloc, told)?;
+    Ok(reply(alloc, world, number, act)? == wanted)
+}

@@ -1,0 +1,77 @@
+//! Rows of what processes of a world do and what is then seen.
+use crate::contexts::{On, name_of};
+use crate::looks::{Look, is_seen};
+use crate::world_acts::{Act, Told, is_told};
+use join_core::Exact;
+use mpx_world::World;
+use std::alloc::Global;
+use std::process::Abort;
+use std::test::Fail;
+use test_drafts::proc;
+
+#[derive(Clone, Copy)]
+pub enum Row {
+    // The process does this and is told that.
+    Does(u8, Act, Told),
+    // This is seen of it on the context.
+    Sees(u8, On, Look),
+    // The two have the same board.
+    Same(u8, u8),
+    // There is no such process.
+    Nobody(u8),
+}
+
+fn sees(alloc: Global, world: &World, number: u8, on: On, look: Look) -> Result<bool, Fail> {
+    let node = world.node(proc(number)).ok_or("no node")?;
+    let name = name_of(alloc, on)?;
+    is_seen(alloc, node, &name, look)
+}
+
+fn have_the_same(world: &World, one: u8, other: u8) -> bool {
+    match (world.node(proc(one)), world.node(proc(other))) {
+        (Some(one), Some(other)) => one.board().same(other.board()),
+        _ => false,
+    }
+}
+
+// Does what the row says, and answers whether it comes out so.
+fn is_so(alloc: Global, world: &mut World, row: Row) -> Result<bool, Fail> {
+    match row {
+        Row::Does(number, act, told) => is_told(alloc, world, number, act, told),
+        Row::Sees(number, on, look) => sees(alloc, world, number, on, look),
+        Row::Same(one, other) => Ok(have_the_same(world, one, other)),
+        Row::Nobody(number) => Ok(world.node(proc(number)).is_none()),
+    }
+}
+
+// It all comes out so on the world.
+pub fn go_on(
+    rt: &impl Abort,
+    alloc: Global,
+    world: &mut World,
+    shown: &str,
+    rows: &[Row],
+) -> Result<(), Fail> {
+    for (at, row) in rows.iter().enumerate() {
+        assert!(rt; is_so(alloc, world, *row)?, "{shown}: row {at}");
+    }
+    Ok(())
+}
+
+// The same on a new world of so many ranks and processes.
+pub fn run(
+    rt: &impl Abort,
+    alloc: Global,
+    shown: &str,
+    ranks: u8,
+    processes: u8,
+    rows: &[Row],
+) -> Result<(), Fail> {
+    if ranks == 0 || ranks > processes || processes > 64 {
+        return Err(Fail::from("no world"));
+    }
+    let mut world = World::new(alloc, ranks, processes)?;
+    let answer = go_on(rt, alloc, &mut world, shown, rows);
+    drop(world);
+    answer
+}

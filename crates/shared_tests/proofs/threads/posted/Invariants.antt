@@ -1,8 +1,0 @@
-use Rattle.shared_tests.proofs.threads.posted.Given as goal
-
--- the port's own queue and setup
-abbrev pub ghosts-work-L-Dock : goal.ghosts-work-L-Dock
-ghosts-work-L-Dock g a = record { all = 1; table = a.port.table; setup = a.port.setup; me = 0; before = 0 }
-
-abbrev pub ghosts-work-L-Ledger : goal.ghosts-work-L-Ledger
-ghosts-work-L-Ledger g a = record { name = a.blank.name; parts = 1 }

@@ -1,0 +1,6 @@
+use Rattle.std.proofs.Common.{◌≡◌, drop}
+use Rattle.waits.specs.Told.{standing}
+use Rattle.waits.proofs.members.standing.Given as goal
+
+abbrev pub invariant-loop-waiting : goal.invariant-loop-waiting
+invariant-loop-waiting l = standing (drop l.waiting-index l.places) l.rank ≡ standing l.places l.rank
