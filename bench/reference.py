@@ -2,7 +2,7 @@
 """A second opinion on gossipmpi: reads and evaluates a job script, without sharing any code with the program.
 
 It refuses what the program refuses, with the same line on the standard error and exit status 2, by the grammar and the order
-of refusals in docs/MODEL.md, limits of bytes and of statements included. It evaluates the calls by MPI 4.1's text, for all 26
+of refusals in docs/MODEL.md, limits of bytes and of statements included. It evaluates the calls by MPI 4.1's text, for all 27
 kinds, 9 types and 12 operations, blocking and nonblocking, on every communicator, with the refusals of posts and the faults of
 rows, and tells which ranks wait (exit status 3). It knows nothing of usage, want of memory, and readers or writers that fail.
 
@@ -25,7 +25,7 @@ PLACES = {  # the words behind the communicator; the last is any number of items
     "allgatherv": "ty rcounts items", "alltoall": "ty count items", "alltoallv": "ty scounts rcounts items",
     "reduce": "root op ty items", "allreduce": "op ty items", "reduce_scatter_block": "op ty count items",
     "reduce_scatter": "op ty rcounts items", "scan": "op ty items", "exscan": "op ty items",
-    "dup": "arrow target", "split": "colour key arrow target", "create": "list arrow target",
+    "free": [], "dup": "arrow target", "split": "colour key arrow target", "create": "list arrow target",
     "create_group": "tag list arrow target", "dist_graph": "edges arrow target",
     "dist_graph_adjacent": "sources destinations arrow target",
     "neighbor_allgather": "ty count items", "neighbor_allgatherv": "ty rcounts items",
@@ -35,8 +35,9 @@ LOCAL = ["sources", "destinations", "compare", "translate"]
 WAITS = ["wait", "waitall"]
 NEAR = ["neighbor_allgather", "neighbor_allgatherv", "neighbor_alltoall", "neighbor_alltoallv"]
 MAKERS = ["dup", "split", "create", "create_group", "dist_graph", "dist_graph_adjacent"]
+FREES = ["free"]
 PLACES = {k: (v.split() if v else []) for k, v in PLACES.items()}
-BOTH = [k for k in PLACES if k not in MAKERS + LOCAL]  # `i` before the name, `-> REQUEST` at the end: nonblocking
+BOTH = [k for k in PLACES if k not in MAKERS + FREES + LOCAL]  # `i` before the name, `-> REQUEST` at the end: nonblocking
 
 
 def wrap(ty, x):
@@ -342,7 +343,7 @@ def fault(row, graph):
     for i, c in enumerate(row):
         one = lambda j: row[j]["rcounts"][0]
         bad = {
-            "barrier": lambda: False,
+            "barrier": lambda: False, "free": lambda: False,
             "bcast": lambda: one(i) != one(0), "alltoall": lambda: one(i) != one(0),
             "reduce_scatter_block": lambda: one(i) != one(0), "scatter": lambda: one(i) != one(r),
             "gather": lambda: size[i] != size[r], "gatherv": lambda: size[i] != row[r]["rcounts"][i],
@@ -409,7 +410,7 @@ def value(row, me, graph):
             acc = [combine(first["op"], first["ty"], a, b) for a, b in zip(acc, xs)]
         return acc
     joined = [x for xs in given for x in xs]
-    if k == "barrier":
+    if k in ("barrier", "free"):
         return None
     if k == "bcast":
         return given[r]
@@ -466,13 +467,19 @@ def evaluate(todo):
     bound = [{"world": ((), list(range(n)), None)} for _ in range(n)]
     place, waits, requests = [0] * n, [None] * n, [{} for _ in range(n)]
 
+    def is_closed(p, name):
+        """Whether the rank has posted a free there, whatever became of that call."""
+        return any(call["kind"] in FREES for call in posts.get((name, p), []))
+
     def ask(p, call, context):
         """Why the question is refused, or None where its answer is printed."""
-        name, members, graph = context
+        name, members, graph = other, theirs, _ = context
         if call["kind"] in ("compare", "translate"):
             if bound[p][call["other"]] is None:
                 return "NotMember"
             other, theirs, _ = bound[p][call["other"]]
+        if is_closed(p, name) or is_closed(p, other):
+            return "Closed"
         if call["kind"] == "compare":
             same = "congruent" if members == theirs else "similar" if set(members) == set(theirs) else "unequal"
             out[p].append("ident" if name == other else same)
@@ -498,6 +505,8 @@ def evaluate(todo):
         name, members, graph = context
         if call["kind"] in LOCAL:
             return ask(p, call, context)
+        if is_closed(p, name):
+            return "Closed"
         if call["kind"] == "create_group":
             why = gathering_refusal(call, len(members), members.index(p), len(name))
             if why:
@@ -723,6 +732,7 @@ def random_script(seed):
     words = {"world": [(list(range(n)), None)]}  # about which processes share a communicator under each word, with its graph
     makes = rng.choice([0.0, 0.1, 0.3, 0.6])
     starts = rng.choice([0.0, 0.0, 0.3, 0.8])  # how many calls don't block
+    frees = rng.choice([0.0, 0.0, 0.1, 0.3])  # how often a communicator is freed, which is used later all the same
     opened = [[] for _ in range(n)]
     for number in range(rng.randint(1, 12)):
         word = rng.choice(list(words))
@@ -730,7 +740,9 @@ def random_script(seed):
         for members, graph in words[word]:
             if rng.random() < 0.2:
                 out.append("%d: %s" % (rng.choice(members), " ".join(random_question(rng, words, word, len(members), wild))))
-            if rng.random() < makes:
+            if rng.random() < frees * (0.2 if word == "world" else 1):
+                out += ["%d: free %s" % (p, word) for p in members if rng.random() < 1 - 0.1 * wild]
+            elif rng.random() < makes:
                 lines, made = random_making(rng, members, graph, wild)
                 words.setdefault(target, [])
                 words[target] += made
@@ -762,7 +774,7 @@ NUMBERS = ["", "-", "x", "+1", "1.5", "1,2", "1,", "-0", "007", "i32", "->", "1\
            "-9223372036854775808", "-9223372036854775809", "--1", "1_0"]
 LISTS = ["-", "-w", "0>1", "0>1:2", "0>1:2,1>0", "1:2,0", "0>1>2", "0>", ">1", "0>1:", "1:", "1:2:3", "0 >1", "1,,2", "1,x", ",", "1,", ",1", "--", "1,-1", "0,00", "1", "x", "1,18446744073709551616", "1,\x0b2"]
 NAMES = ["c0", "c1", "c9", "world", "undefined", "->", "Zz", "worlds", "a_1", "_a", "a" * 32, "a" * 33, "1a", "null", "world\r", "World", "w-1", "world:", "r0_1", "r1_2"]
-OTHERS = ["neighbor_alltoall", "neighbor_allgatherv", "sources", "destinations", "isources", "ineighbor_alltoall", "dup", "split", "create", "create_group", "dist_graph", "dist_graph_adjacent", "idup", "undefined", "i33", "f64", "i32", "sum", "avg", "maxloc", "barrier", "ibcast", "iwait", "wait", "waitall", "compare", "translate", "icompare", "ibarrier", "iallreduce", "Barrier", "ranks", "scan", "gatherv"]
+OTHERS = ["neighbor_alltoall", "neighbor_allgatherv", "sources", "destinations", "isources", "ineighbor_alltoall", "dup", "split", "create", "create_group", "dist_graph", "dist_graph_adjacent", "idup", "undefined", "i33", "f64", "i32", "sum", "avg", "maxloc", "barrier", "ibcast", "iwait", "wait", "waitall", "compare", "translate", "icompare", "ibarrier", "iallreduce", "Barrier", "ranks", "scan", "gatherv", "free", "ifree"]
 LABELS = ["*:", "9:", "-1:", "00:", "-0:", "0", "0:barrier", ":", "+0:", "99999999999999999999:", "#", "\xe9", "0::", "*"]
 LINES = ["0: wait", "0: waitall", "0: wait world", "0: wait Q", "0: ibarrier world", "0: ibarrier world ->", "0: ibarrier world 1 -> q", "*: ibarrier world -> q", "0: compare world", "0: compare world world world", "0: translate world world 0,null", "0: translate world world null,x", "", "# a", "#", "\t# \xff", "\r", "ranks 1", "0:", "*:", "9:", "x: y", "\x0b", "0: barrier", "0: barrier world 1", "0: barrier world "]
 OPENINGS = ["", "ranks", "ranks 0", "ranks 65", "ranks 64", "ranks -1", "ranks 2 3", "ranks x", "Ranks 2", "\tranks  3 ", "ranks 3\r"]

@@ -1,6 +1,7 @@
 #!/usr/bin/env python3
-"""A second opinion on frames: whether bytes spell a board, and else which field is the first that is wrong, by the table and the rules of
-docs/MODEL.md, "Frames". It shares no code with the program `frame_text`, whose answers it gives.
+"""A second opinion on frames of both versions: whether bytes spell a board, and else which field is the first that is wrong, by the table
+and the rules of docs/MODEL.md, "Frames". It shares no code with the program `frame_text`, whose answers it gives: of a board the frame
+of version 2.
 
     spelling.py < LINES                what is told of each line of hexadecimal digits
     spelling.py random MANY [SEED]     prints so many frames, the second half of them damaged
@@ -19,8 +20,9 @@ MOST, NAMES, ITEMS, EDGES, NEIGHBOURS = 1048576, 4096, 4096, 512, 32768
 CALL, COLOUR, TAG = 2 ** 32 - 2, 2 ** 31 - 1, 2 ** 15 - 1
 # of each kind the fields of its posts: root, operation, type, counts sent and received, items, key, group, edges, own neighbours
 FIELDS = ["", "RTCI", "RTI", "RTCI", "RTCI", "RTSCI", "TI", "TCI", "TCI", "TSCI", "ROTI", "OTI", "OTCI", "OTCI", "OTI", "OTI",
-          "", "K", "G", "", "E", "A", "TCI", "TCI", "TSCI", "TSCI"]
-MAKERS = range(16, 22)
+          "", "K", "G", "", "E", "A", "TCI", "TCI", "TSCI", "TSCI", ""]
+KINDS = {1: 26, 2: 27}
+ONLY_BLOCKING = [*range(16, 22), 26]
 WIDTHS = [0, 1, 2, 4, 8, 1, 2, 4, 8, 8]
 BATCH = 20000
 
@@ -31,7 +33,8 @@ class Wrong(Exception):
 
 class Reader:
     def __init__(self, data):
-        self.data, self.at = data, 0
+        # of version 1, the places behind the names of contexts, where version 2 says that they are live
+        self.data, self.at, self.version, self.behind_names = data, 0, 2, []
 
     def bytes(self, size):
         end = self.at + size
@@ -119,8 +122,8 @@ class Reader:
         self.rising(count, self.process, lambda _: self.some(4))
 
     def post(self):
-        kind = self.number(1, 25)
-        self.number(1, 0 if kind in MAKERS else 1)
+        kind = self.number(1, KINDS[self.version] - 1)
+        self.number(1, 0 if kind in ONLY_BLOCKING else 1)
         op = ty = None
         for field in FIELDS[kind]:
             if field == "R":
@@ -162,6 +165,10 @@ class Reader:
         self.rising(self.some(1), self.process, self.told)
 
     def context(self, at):
+        if self.version == 1:
+            self.behind_names.append(self.at)
+        elif self.number(1, 1) == 1:
+            return
         birth, fronts = self.birth(), self.number(1)
         self.numbers(fronts)
         dropped, calls = self.number(4), self.number(4)
@@ -176,7 +183,8 @@ class Reader:
         for byte in b"MPXG":
             if self.bytes(1)[0] != byte:
                 raise Wrong("BadMagic")
-        if self.number(1) != 1:
+        self.version = self.number(1)
+        if self.version not in KINDS:
             raise Wrong("BadVersion")
         self.rising(self.number(2, NAMES), self.name, self.context)
         self.rising(self.number(1), self.process, self.acknowledged)
@@ -184,15 +192,27 @@ class Reader:
             raise Wrong("NotCanonical(%d)" % self.at)
 
 
+def in_version_2(read):
+    """The frame of version 2 of the board that was read."""
+    if read.version == 2:
+        return read.data
+    out, last = b"MPXG\x02", 5
+    for place in read.behind_names:
+        out, last = out + read.data[last:place] + b"\x00", place
+    return out + read.data[last:]
+
+
 def told_of(data):
-    """What the program tells of the bytes: the frame of the board that they spell is these bytes."""
+    """What the program tells of the bytes."""
     if len(data) > MOST:
         return "TooLong"
+    read = Reader(data)
     try:
-        Reader(data).frame()
+        read.frame()
     except Wrong as wrong:
         return str(wrong)
-    return "ok " + data.hex()
+    written = in_version_2(read)
+    return "ok " + ("TooLong" if len(written) > MOST else written.hex())
 
 
 def told_of_line(line):
@@ -205,7 +225,7 @@ class Maker:
     """Frames, each field of which is drawn. So many of them are wrong, as a share of 1."""
 
     def __init__(self, rng, wrong):
-        self.rng, self.wrong, self.out = rng, wrong, bytearray()
+        self.rng, self.wrong, self.out, self.version = rng, wrong, bytearray(), rng.choice([1, 2, 2])
 
     def slips(self):
         return self.rng.random() < self.wrong
@@ -315,9 +335,9 @@ class Maker:
                     self.neighbour(weighted, self.rng.randrange(64))
 
     def post(self):
-        kind = self.number(1, 25, small=False)
-        self.number(1, 0 if kind in MAKERS else 1)
-        fields = FIELDS[kind] if kind < 26 else ""
+        kind = self.number(1, KINDS[self.version] - 1, small=False)
+        self.number(1, 0 if kind in ONLY_BLOCKING else 1)
+        fields = FIELDS[kind] if kind < len(FIELDS) else ""
         op = self.rng.randint(1, 12) if "O" in fields else None
         ty = self.rng.randint(1, 8) if op is None or op <= 10 or self.slips() else 9
         for field in fields:
@@ -343,6 +363,8 @@ class Maker:
 
     def context(self, steps):
         self.name(steps)
+        if self.version == 2 and self.number(1, 1, small=False) == 1:
+            return
         self.birth()
         processes = self.keys(63) if self.rng.random() < 0.5 else []
         self.put(1, len(processes))
@@ -364,7 +386,7 @@ class Maker:
             self.numbers(processes)
 
     def frame(self):
-        self.out = bytearray(b"MPXG\x01")
+        self.out = bytearray(b"MPXG") + bytes([self.rng.choice([0, 3, 255]) if self.slips() else self.version])
         names = self.names(self.rng.choice([0, 1, 1, 1, 2, 3]))
         self.put(2, len(names))
         for steps in names:

@@ -8,6 +8,7 @@ use Rattle.hex.specs.declared.error.FromHexError.{FromHexError}
 use Rattle.mpx_board.specs.Parts.{PartsView}
 use Rattle.mpx_format.specs.declared.faults.WireError.{WireError}
 use Rattle.mpx_format.specs.declared.faults.WireError.TheVariants as E
+use Rattle.mpx_format.specs.declared.versions.Version.TheVariants.{Two}
 use Rattle.mpx_format.specs.Contexts.{frame}
 use Rattle.mpx_format.specs.Decoding.{decoded}
 use Rattle.mpx_format.specs.Encoding.{is_too_long}
@@ -25,9 +26,9 @@ lines_after line (b ∷ text) = cond (b == 10) (line ∷ lines_after [] text) (l
 abbrev pub lines : List ℕ → List (List ℕ)
 lines text = lines_after [] text
 
--- what is told of a board: the hexadecimal digits of its frame
+-- what is told of a board: the hexadecimal digits of its frame in version 2, whichever version it was read in
 abbrev pub board_told : PartsView → List ℕ
-board_told v = cond (is_too_long v) (codes "ok TooLong") (codes "ok " ++ encode_lower (frame.spelling v))
+board_told v = cond (is_too_long v) (codes "ok TooLong") (codes "ok " ++ encode_lower (frame.spelling (Two, v)))
 
 -- why bytes spell no board
 abbrev pub refusal_told : WireError → List ℕ

@@ -1,6 +1,7 @@
-//! The program `frame_text`: reads frames as hexadecimal lines on the standard input and prints, for each, `ok` and the bytes
-//! of the board's frame, or why the bytes spell none. With a number N as the only word it tells instead in how many microseconds
-//! the frame on the standard input is copied, read and written N times: `bench/frames` runs it so.
+//! The program `frame_text`: reads frames, of version 1 or 2, as hexadecimal lines on the standard input and prints, for each,
+//! `ok` and the bytes of the board's frame of version 2, or why the bytes spell none. With a number N as the only word it
+//! tells instead in how many microseconds the frame on the standard input is copied, read and written N times: `bench/frames`
+//! runs it so.
 #![tactic(auto)]
 
 mod lines;

@@ -1,5 +1,6 @@
 //! What a row asks for: a call of the program, with streams as they mostly are or with such as fail, or what no call shows.
 use crate::begins::begins;
+use crate::dead::dead;
 use crate::gates::{Both, Counting};
 use crate::lines::{number_of, word_at, words_of};
 use crate::statements::{last_statement, sizes, statements};
@@ -37,6 +38,8 @@ pub fn told<T: Threads + Wait + Sync>(
         both_asked(rt, alloc, script)
     } else if word == b"begins".as_slice() {
         begins(rt, alloc, line, script)
+    } else if word == b"dead".as_slice() {
+        dead(alloc, line, script)
     } else if word == b"no-text".as_slice() {
         no_text(alloc)
     } else if word == b"memory".as_slice() {

@@ -9,6 +9,7 @@
 
 mod begins;
 mod calls;
+mod dead;
 mod gates;
 mod lines;
 mod more_runs;

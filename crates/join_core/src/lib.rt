@@ -4,7 +4,8 @@
 //! whatever order and however often they took them. Read in this order: [`Exact`] (equality and
 //! copies), [`Join`] (the order, the join and deltas), [`Key`], then the joins [`Max`], [`Flat`] and
 //! [`Pair`]. What all of them keep is said by the calls [`same_laws`], [`join_laws`], [`leq_laws`],
-//! [`joined_laws`], [`delta_laws`] and [`join_in_laws`].
+//! [`joined_laws`], [`delta_laws`] and [`join_in_laws`]; of those whose deltas tell nothing where all is
+//! known ([`EmptyDelta`]) also [`empty_delta_laws`].
 #![tactic(auto)]
 
 mod flats;
@@ -15,8 +16,10 @@ mod pairs;
 mod values;
 
 pub use flats::Flat;
-pub use laws::{delta_laws, join_in_laws, join_laws, joined_laws, leq_laws, same_laws};
+pub use laws::{
+    delta_laws, empty_delta_laws, join_in_laws, join_laws, joined_laws, leq_laws, same_laws,
+};
 pub use memory::OutOfMemory;
 pub use numbers::Max;
 pub use pairs::Pair;
-pub use values::{Exact, Join, Key};
+pub use values::{EmptyDelta, Exact, Join, Key};

@@ -2,7 +2,6 @@ pub mod Optional
 pub mod Entries
 pub mod Keyed
 pub mod Seen
-pub mod Memory
 pub mod Place
 pub mod Trunc
 pub mod TruncSeen
@@ -12,4 +11,7 @@ pub mod KeyedLaws
 pub mod Cut
 pub mod TruncLaws
 pub mod Between
+pub mod Lift
+pub mod LiftSeen
+pub mod LiftLaws
 pub mod NestLaws

@@ -5,14 +5,14 @@ ghost use Rattle.std.specs.Option.{option_map, option_copied};
 ghost use Rattle.join_nest.specs.Between.{keyed_between};
 ghost use Rattle.join_nest.specs.NestLaws.{keyed_between_laws};
 ghost use Rattle.join_nest.specs.Keyed.{keyed_equal, keyed_joining, replaced};
-ghost use Rattle.join_nest.specs.KeyedLaws.{keyed_equality, keyed_laws};
+ghost use Rattle.join_nest.specs.KeyedLaws.{keyed_deltas, keyed_equality, keyed_laws};
 ghost use Rattle.join_nest.specs.Seen.{keyed_view, seen};
 
 use crate::entries::{
     all_below, join_entries, lacking, lookup, merged, push_copies, put_entry, replace_entry,
     same_entries,
 };
-use join_core::{Exact, Join, Key, OutOfMemory};
+use join_core::{EmptyDelta, Exact, Join, Key, OutOfMemory};
 use std::alloc::Global;
 
 /// A finite map, joined key by key: an absent key is below each entry.
@@ -70,9 +70,11 @@ impl<K: Key, J: Join> Join for Keyed<K, J> {
     ghost between_laws = { keyed_between_laws K.total K.exact_order J.laws J.between_laws };
 }
 
-impl<K: Key, J: Exact> Keyed<K, J> {
-    ghost use Rattle.join_nest.specs.Memory.{memory_of};
+impl<K: Key, J: Join> EmptyDelta for Keyed<K, J> {
+    ghost empty_deltas = { keyed_deltas K.total J.joining };
+}
 
+impl<K: Key, J: Exact> Keyed<K, J> {
     /// The map with no entry.
     pub fn new(alloc: Global) -> Keyed<K, J>
         ensures { ⟦<Keyed<K, J> as Exact>⟧.view result ≡ empty }
@@ -126,13 +128,6 @@ impl<K: Key, J: Exact> Keyed<K, J> {
         ensures err { OnErr result (⟦<Keyed<K, J> as Exact>⟧.view self.new ≡ ⟦<Keyed<K, J> as Exact>⟧.view self.old) }
     {
         put_entry(&mut self.entries, key, value)
-    }
-
-    /// What its memory comes from.
-    pub fn allocator(&self) -> Global
-        ensures { result ≡ memory_of self.now }
-    {
-        *self.entries.allocator()
     }
 
     /// Puts the value in place of the one at the key, which it gives back. A key without an entry stays so, and the answer

@@ -7,4 +7,6 @@ mod joins;
 #[cfg(test)]
 mod laws;
 #[cfg(test)]
+mod lifts;
+#[cfg(test)]
 mod nested;

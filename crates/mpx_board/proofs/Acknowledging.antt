@@ -16,9 +16,9 @@ use Rattle.mpx_board.specs.Raised.{Raises, Nothing, stored, view_of_raised}
 use Rattle.mpx_board.specs.declared.acks.Raised.{Raised}
 use Rattle.mpx_board.proofs.Facts.{join_is_least}
 use Rattle.mpx_board.proofs.Order.{same_look}
-use Rattle.mpx_board.specs.Parts.{OfNames, OfProcesses, AcksView, EntryView, PartsView, acks_joining}
+use Rattle.mpx_board.specs.Parts.{OfNames, OfProcesses, AcksView, LiftedView, PartsView, acks_joining}
 use Rattle.mpx_board.specs.Contexts.{or_zero, or_nothing, number_in, numbers_of, ack_in, look_of}
-use Rattle.mpx_board.specs.Tidy.{is_bare, is_tidy_numbers, are_tidy_numbers, is_tidy_acks, are_tidy_acks, are_tidy_entries, is_tidy_entry, is_tidy}
+use Rattle.mpx_board.specs.Tidy.{is_bare, is_tidy_numbers, are_tidy_numbers, is_tidy_acks, are_tidy_acks, are_tidy_entries, is_tidy_lifted, is_tidy}
 use Rattle.mpx_board.proofs.Entries.{all_empty, bare_gets, entries_get, get_entries}
 use Rattle.mpx_board.proofs.Looking.{ack_join}
 use Rattle.mpx_board.proofs.Setting.{set_by_insert}
@@ -142,16 +142,16 @@ module _ (process : ℕ) (said : AcksView) where
 
 -- ACKNOWLEDGEMENTS ALONE, AND IN PLACE OF OTHERS
 
-pub look_alone : (first : OfNames EntryView) (second : OfProcesses AcksView) (a : PartsView) → first ≡ no_entry → second ≡ a.1 → look_of (first, second) ≡ record empty { acks = (look_of a).acks }
+pub look_alone : (first : OfNames LiftedView) (second : OfProcesses AcksView) (a : PartsView) → first ≡ no_entry → second ≡ a.1 → look_of (first, second) ≡ record empty { acks = (look_of a).acks }
 unfolding look_of
 look_alone first second a none is i = record {
   contexts = λ n. (ap (λ m. or_nothing (get m n)) none ∙ ap or_nothing (get-empty name_cmp n)) i;
   acks = λ q n p. ack_in n p (get (is i) q);
 }
 
-pub alone_tidy : (first : OfNames EntryView) (second : OfProcesses AcksView) (a : PartsView) → first ≡ no_entry → second ≡ a.1 → is_tidy a ≡ true → is_tidy (first, second) ≡ true
+pub alone_tidy : (first : OfNames LiftedView) (second : OfProcesses AcksView) (a : PartsView) → first ≡ no_entry → second ≡ a.1 → is_tidy a ≡ true → is_tidy (first, second) ≡ true
 alone_tidy first second a none is tidy = both_true (are_tidy_entries first) (are_tidy_acks second)
-    (ap are_tidy_entries none ∙ all_empty name_total name_exact (λ n e. is_tidy_entry e))
+    (ap are_tidy_entries none ∙ all_empty name_total name_exact (λ n e. is_tidy_lifted e))
     (ap are_tidy_acks is ∙ second_true (are_tidy_entries a.0) (are_tidy_acks a.1) tidy)
 
 pub look_replaced : (a b : PartsView) → look_of (a.0, b.1) ≡ record (look_of a) { acks = (look_of b).acks }

@@ -5,7 +5,8 @@ use Rattle.std.specs.declared.cmp.Ordering.{Ordering}
 use Rattle.std.specs.FinMap.{FinMap, entries, len}
 use Rattle.join_core.specs.Flat.{FlatView, unknown, known, clash}
 use Rattle.mpx_post.specs.Drafts.{most_calls}
-use Rattle.mpx_board.specs.Parts.{CallView, EntryView, AcksView, PartsView, OfProcesses, OfNames}
+use Rattle.join_nest.specs.Lift.{live, dead}
+use Rattle.mpx_board.specs.Parts.{CallView, EntryView, LiftedView, AcksView, PartsView, OfProcesses, OfNames}
 
 abbrev pub is_unknown : {A : Type 0} → FlatView A → Bool
 is_unknown unknown = true
@@ -36,6 +37,11 @@ is_tidy_call k posts = nat_lt k most_calls && are_tidy_posts posts
 abbrev pub says_nothing : EntryView → Bool
 says_nothing e = is_unknown e.0 && (is_bare e.1.0 && (not (nat_lt 0 e.1.1.dropped) && is_bare e.1.1.calls))
 
+-- the same of a context that may be dead, which is never nothing
+abbrev pub is_silent : LiftedView → Bool
+is_silent (live e) = says_nothing e
+is_silent dead = false
+
 -- none of its fronts and calls says nothing
 abbrev pub is_neat_entry : EntryView → Bool
 is_neat_entry e = has_no_zero e.1.0 && all_entries is_tidy_call e.1.1.calls
@@ -44,8 +50,13 @@ is_neat_entry e = has_no_zero e.1.0 && all_entries is_tidy_call e.1.1.calls
 abbrev pub is_tidy_entry : EntryView → Bool
 is_tidy_entry e = not (says_nothing e) && is_neat_entry e
 
-abbrev pub are_tidy_entries : OfNames EntryView → Bool
-are_tidy_entries m = all_entries (λ name e. is_tidy_entry e) m
+-- a live entry that is tidy, or a dead one, which is never empty
+abbrev pub is_tidy_lifted : LiftedView → Bool
+is_tidy_lifted (live e) = is_tidy_entry e
+is_tidy_lifted dead = true
+
+abbrev pub are_tidy_entries : OfNames LiftedView → Bool
+are_tidy_entries m = all_entries (λ name e. is_tidy_lifted e) m
 
 abbrev pub is_tidy_numbers : OfProcesses ℕ → Bool
 is_tidy_numbers m = not (is_bare m) && has_no_zero m

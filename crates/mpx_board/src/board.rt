@@ -4,32 +4,32 @@ ghost use Rattle.std.specs.FinMap.{get, insert};
 ghost use Rattle.std.specs.Option.{option_copied, option_map};
 ghost use Rattle.join_core.specs.Flat.{known as knows};
 ghost use Rattle.mpx_board.specs.declared.errors.AddPostError.TheVariants as A;
-ghost use Rattle.mpx_board.specs.Boards.{IsBelow, IsBetween, Look, empty, join, join_all, only, own_acks, floor_on, Born, Front, Held, Dropped, Acknowledged};
-ghost use Rattle.mpx_board.specs.Changes.{is_posted, pruned, cut_to};
-ghost use Rattle.mpx_board.specs.Contexts.{numbers_of};
+ghost use Rattle.mpx_board.specs.Boards.{IsBelow, IsBetween, Look, empty, join, join_all, only, own_acks, Born, Front, Held, Dropped, Dead, Acknowledged};
+ghost use Rattle.mpx_board.specs.Changes.{is_posted, killed, pruned_on, cut_to};
+ghost use Rattle.mpx_board.specs.Contexts.{live_of, numbers_of};
 ghost use Rattle.mpx_post.specs.Drafts.{most_calls};
 ghost use Rattle.mpx_board.specs.Raised.{Raises};
 ghost use Rattle.mpx_board.specs.Tidy.{are_tidy_numbers, is_tidy};
-ghost use Rattle.mpx_board.specs.Views.{view_of_acks, view_of_entries, view_of_entry, view_of_parts};
+ghost use Rattle.mpx_board.specs.Views.{view_of_acks, view_of_entries, view_of_entry, view_of_lifted, view_of_parts};
 
 use crate::acks::{Raised, one_ack, raised_by};
 use crate::copies::copied_acks;
-use crate::errors::{AddPostError, PruneError};
-use crate::fact::{Fact, drop_posts, tell};
+use crate::errors::{AddPostError, KillError, PruneError};
+use crate::fact::{Fact, bury, drop_posts, tell};
 use crate::joins::{
     copied_entries, delta_of_acks, delta_of_entries, join_parts_in, joined_acks, joined_entries,
     leq_acks, leq_entries, same_acks, same_entries,
 };
-use crate::nested::{Acks, Entry, Parts, is_tidy_board};
+use crate::nested::{Acks, Entry, Lifted, Parts, is_tidy_board};
 use join_core::{Exact, Join, OutOfMemory, Pair};
-use join_nest::Keyed;
+use join_nest::{Keyed, Lift};
 use mpx_group::Proc;
 use mpx_name::Name;
 use mpx_post::{Birth, Post};
 use std::alloc::Global;
 
 /// What a process knows of all contexts: births, how many calls each process has harvested, and the posts of calls at or
-/// above a dropped front; and what each process says that it has of the posts of others.
+/// above a dropped front, or that a context is dead; and what each process says that it has of the posts of others.
 ///
 /// No part of a board says nothing: there is no empty entry, no unknown post, and no number 0. So two boards that know
 /// the same are equal.
@@ -322,13 +322,16 @@ impl Board {
     }
 
     /// Drops the posts of calls below the number, which is at most the floor: what every member has harvested nobody
-    /// needs. At or below the dropped front it changes nothing. It takes no memory.
+    /// needs. At or below the dropped front it changes nothing, and on a dead context neither. It takes no memory.
     pub fn prune(&mut self, name: &Name, number: u32) -> Result<(), PruneError>
-        ensures answer { result ≡ pruned (floor_on (look self.old) name.now) number }
+        ensures answer { result ≡ pruned_on (look self.old) name.now number }
         ensures ok { OnOk result (look self.new ≡ join (look self.old) (only (Dropped name.now number))) }
         ensures dropped { number ≤ ((look self.old).contexts name.now).dropped → look self.new ≡ look self.old }
         ensures err { OnErr result (look self.new ≡ look self.old) }
     {
+        if self.is_dead(name) {
+            return Ok(());
+        }
         match self.floor(name) {
             None => return Err(PruneError::NoBirth),
             Some(floor) => {
@@ -341,14 +344,33 @@ impl Board {
         Ok(())
     }
 
+    /// Joins to the board that the context is dead: it was freed, and all that was known of it is gone for good. A context
+    /// that is dead already stays so. It takes no memory.
+    pub fn kill(&mut self, name: &Name) -> Result<(), KillError>
+        ensures answer { result ≡ killed ((look self.old).contexts name.now) }
+        ensures ok { OnOk result (look self.new ≡ join (look self.old) (only (Dead name.now))) }
+        ensures dead { ((look self.old).contexts name.now).dead ≡ true → look self.new ≡ look self.old }
+        ensures err { OnErr result (look self.new ≡ look self.old) }
+    {
+        if self.is_dead(name) {
+            return Ok(());
+        }
+        match self.birth(name) {
+            None => return Err(KillError::NoBirth),
+            Some(_) => {}
+        }
+        bury(&mut self.inside.first, name);
+        Ok(())
+    }
+
     /// What is known of these contexts, and nothing else; acknowledgements are left out.
     pub fn cut(&self, alloc: Global, names: &[Name]) -> Result<Board, OutOfMemory>
         ensures { IfOk result (λ made. look made ≡ cut_to names.now (look self.now)) }
     {
         let mut first = Keyed::new(alloc);
         for name in names {
-            if let Some(entry) = self.entry(name) {
-                put_copy(alloc, &mut first, name, entry)?;
+            if let Some(known) = self.lifted(name) {
+                put_copy(alloc, &mut first, name, known)?;
             }
         }
         Ok(Board {
@@ -371,21 +393,41 @@ impl Board {
     }
 
     // What is known of the context with this name. Whoever looks into the map itself pays for its nested types.
-    pub(crate) fn entry(&self, name: &Name) -> Option<&Entry>
-        ensures { option_map view_of_entry (option_copied result) ≡ get (parts_of self.now).0 name.now }
+    pub(crate) fn lifted(&self, name: &Name) -> Option<&Lifted>
+        ensures { option_map view_of_lifted (option_copied result) ≡ get (parts_of self.now).0 name.now }
     {
         self.inside.first.get(name)
     }
+
+    // The same, where the context is live.
+    pub(crate) fn entry(&self, name: &Name) -> Option<&Entry>
+        ensures { option_map view_of_entry (option_copied result) ≡ live_of (get (parts_of self.now).0 name.now) }
+    {
+        match self.lifted(name) {
+            None => None,
+            Some(known) => live(known),
+        }
+    }
 }
 
-// Puts a copy of the entry under a copy of the name.
+// The entry, where it is live.
+fn live(known: &Lifted) -> Option<&Entry>
+    ensures { option_map view_of_entry (option_copied result) ≡ live_of (Some (view_of_lifted known.now)) }
+{
+    match known {
+        Lift::Live(entry) => Some(entry),
+        Lift::Dead => None,
+    }
+}
+
+// Puts a copy of what is known under a copy of the name.
 fn put_copy(
     alloc: Global,
-    entries: &mut Keyed<Name, Entry>,
+    entries: &mut Keyed<Name, Lifted>,
     name: &Name,
-    entry: &Entry,
+    known: &Lifted,
 ) -> Result<(), OutOfMemory>
-    ensures { OnOk result (view_of_entries entries.new ≡ insert (view_of_entries entries.old) name.now (view_of_entry entry.now)) }
+    ensures { OnOk result (view_of_entries entries.new ≡ insert (view_of_entries entries.old) name.now (view_of_lifted known.now)) }
 {
-    entries.put(name.copy(alloc)?, entry.copy(alloc)?)
+    entries.put(name.copy(alloc)?, known.copy(alloc)?)
 }

@@ -8,7 +8,7 @@ use thiserror::Error;
 /// Why a post was not added.
 #[derive(Clone, Copy, Debug, PartialEq, Eq, Error)]
 pub enum AddPostError {
-    /// The process's post of that call is told already, or is dropped.
+    /// The process's post of that call is told already, or is dropped, or the context is dead.
     #[error("AlreadyPosted")]
     AlreadyPosted,
     #[error("OutOfMemory")]
@@ -32,4 +32,12 @@ pub enum PruneError {
     /// Not all members have harvested so many calls; so many they have.
     #[error("AboveFloor({0})")]
     AboveFloor(u32),
+}
+
+/// Why a context wasn't marked as dead.
+#[derive(Clone, Copy, Debug, PartialEq, Eq, Error)]
+pub enum KillError {
+    /// The birth of the context isn't known, so neither are its members.
+    #[error("NoBirth")]
+    NoBirth,
 }

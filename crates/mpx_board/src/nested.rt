@@ -7,14 +7,14 @@ ghost use Rattle.join_core.specs.Flat.{FlatView};
 ghost use Rattle.join_core.specs.FlatSeen.{flat_view};
 ghost use Rattle.join_nest.specs.Seen.{seen};
 ghost use Rattle.mpx_post.specs.Posts.{Given};
-ghost use Rattle.mpx_board.specs.Parts.{AcksView, EntryView, OfProcesses};
+ghost use Rattle.mpx_board.specs.Parts.{AcksView, LiftedView, OfProcesses};
 ghost use Rattle.mpx_board.specs.Boards.{nothing, told};
 ghost use Rattle.mpx_board.specs.Contexts.{context_of, or_zero};
-ghost use Rattle.mpx_board.specs.Tidy.{all_entries, are_tidy_posts, has_no_zero, is_neat_entry, is_tidy, is_tidy_acks, is_tidy_call, is_tidy_entry, is_tidy_numbers, is_unknown, says_nothing};
-ghost use Rattle.mpx_board.specs.Views.{view_of_acks, view_of_call, view_of_calls, view_of_entry, view_of_numbers, view_of_parts};
+ghost use Rattle.mpx_board.specs.Tidy.{all_entries, are_tidy_posts, has_no_zero, is_neat_entry, is_silent, is_tidy, is_tidy_acks, is_tidy_call, is_tidy_entry, is_tidy_lifted, is_tidy_numbers, is_unknown, says_nothing};
+ghost use Rattle.mpx_board.specs.Views.{view_of_acks, view_of_call, view_of_calls, view_of_entry, view_of_lifted, view_of_numbers, view_of_parts};
 
 use join_core::{Exact, Flat, Max, Pair};
-use join_nest::{Keyed, Trunc};
+use join_nest::{Keyed, Lift, Trunc};
 use mpx_group::Proc;
 use mpx_name::Name;
 use mpx_post::{Birth, Post};
@@ -26,15 +26,18 @@ pub type VersionVector = Keyed<Proc, Max>;
 /// The posts of one call, by process.
 pub type Call = Keyed<Proc, Flat<Post>>;
 
-/// What is known of one context: its birth, how many calls each process has harvested, and the posts by call, at or
+/// What is known of one live context: its birth, how many calls each process has harvested, and the posts by call, at or
 /// above the dropped front.
 pub type Entry = Pair<Flat<Birth>, Pair<VersionVector, Trunc<Call>>>;
+
+/// The same, or that the context is dead, and then nothing else.
+pub type Lifted = Lift<Entry>;
 
 /// What one process says that it has: by context and member, how many calls it holds in order or has dropped.
 pub type Acks = Keyed<Name, VersionVector>;
 
 /// What stands inside a board: what is known of each context, and what each process says that it has.
-pub type Parts = Pair<Keyed<Name, Entry>, Keyed<Proc, Acks>>;
+pub type Parts = Pair<Keyed<Name, Lifted>, Keyed<Proc, Acks>>;
 
 // Nothing about a context.
 pub fn new_entry(alloc: Global) -> Entry
@@ -99,18 +102,28 @@ fn all_tidy<K, J: Tidy>(entries: &[(K, J)]) -> bool
     entries.iter().all(|e| e.1.is_tidy())
 }
 
-impl Tidy for Entry {
-    ghost Shown = { EntryView };
+// Dead is never empty.
+impl Tidy for Lifted {
+    ghost Shown = { LiftedView };
 
-    ghost shown = { view_of_entry };
+    ghost shown = { view_of_lifted };
 
-    ghost tidy = { is_tidy_entry };
+    ghost tidy = { is_tidy_lifted };
 
     fn is_tidy(&self) -> bool {
-        says_something(self)
-            && has_no_zero(&self.second.first)
-            && are_tidy_calls(&self.second.second)
+        match self {
+            Lift::Live(entry) => is_tidy_entry(entry),
+            Lift::Dead => true,
+        }
     }
+}
+
+fn is_tidy_entry(entry: &Entry) -> bool
+    ensures { result ≡ is_tidy_entry (view_of_entry entry.now) }
+{
+    says_something(entry)
+        && has_no_zero(&entry.second.first)
+        && are_tidy_calls(&entry.second.second)
 }
 
 /// Whether the entry says something of its context.
@@ -122,6 +135,16 @@ pub fn says_something(entry: &Entry) -> bool
         || !entry.second.first.is_empty()
         || posts.dropped() != 0
         || !posts.entries().is_empty()
+}
+
+/// Whether something is said of the context: that it is dead, or what a live entry says.
+pub fn is_said(known: &Lifted) -> bool
+    ensures { result ≡ not (is_silent (view_of_lifted known.now)) }
+{
+    match known {
+        Lift::Live(entry) => says_something(entry),
+        Lift::Dead => true,
+    }
 }
 
 /// Whether something is told, the value or a clash.

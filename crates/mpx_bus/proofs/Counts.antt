@@ -1,5 +1,5 @@
 -- The contexts on which two processes have both finished calls.
-use Rattle.std.proofs.Common.{◌≡◌, ℕ, zero, suc, ◌<◌, ◌≤◌, ◌^◌, ◌-◌, min, Bool, true, false, cond, List, [], ◌∷◌, length, map, take, sum, Some, refl, sym, ap, ◌∙◌, subst, arith}
+use Rattle.std.proofs.Common.{◌≡◌, ℕ, zero, suc, ◌<◌, ◌≤◌, ◌⊎◌, ◌^◌, ◌-◌, min, Bool, true, false, cond, List, [], ◌∷◌, length, map, take, sum, None, Some, inl, inr, refl, sym, ap, ◌∙◌, subst, arith}
 use Rattle.std.specs.Prelude.{slice_get}
 use Rattle.std.specs.FinMap.{get-entries, entries}
 use Rattle.std.specs.FinMap.Entries.{find, is_sorted, below_all}
@@ -12,12 +12,12 @@ use Rattle.std.proofs.lemmas.Option.{same_Some}
 use Rattle.mpx_name.specs.Name.{Name}
 use Rattle.mpx_name.specs.Order.{name_cmp, name_total, name_exact}
 use Rattle.join_nest.specs.Seen.{seen}
-use Rattle.mpx_board.specs.Boards.{Look}
+use Rattle.mpx_board.specs.Boards.{Context, Look}
 use Rattle.mpx_board.specs.Contexts.{look_of, or_nothing}
-use Rattle.mpx_board.specs.Parts.{EntryView, PartsView}
+use Rattle.mpx_board.specs.Parts.{LiftedView, PartsView}
 use Rattle.mpx_node.specs.Nodes.{NodeView, front_on}
 use Rattle.mpx_world.proofs.Lists.{both_true}
-use Rattle.mpx_bus.specs.Finished.{finished_by_both, AreApart, HaveFinished}
+use Rattle.mpx_bus.specs.Finished.{finished_by_both, AreApart, HaveFinished, TellsFronts}
 
 module _ {V : Type 0} where
   abbrev pub keys : List (Name × V) → List Name
@@ -45,12 +45,20 @@ is_tied Greater e = cc e
 none_below : (n : ℕ) → n < 0 → ⊥
 none_below n lt = omega (arith, lt)
 
--- a context of which something is known has an entry
-pub key_found : (name : Name) (es : List (Name × EntryView)) (p : ℕ) → 0 < (or_nothing (find name_cmp name es)).fronts p → (i : ℕ) × (slice_get (keys es) i ≡ Some name)
-key_found name [] p lt = absurd (none_below 0 lt)
-key_found name (x ∷ es) p lt = by (eq_by_cmp name_cmp name x.0) refl lt (λ l. key_found name es p l) where
-  by : (b : Bool) → eq_by_cmp name_cmp name x.0 ≡ b → 0 < (or_nothing (cond b (Some x.1) (find name_cmp name es))).fronts p
-      → (0 < (or_nothing (find name_cmp name es)).fronts p → (i : ℕ) × (slice_get (keys es) i ≡ Some name)) → (i : ℕ) × (slice_get (keys (x ∷ es)) i ≡ Some name)
+-- something is told of the context: calls that the process has harvested, or that it is dead
+abbrev pub IsSaid : Context → (process : ℕ) → Type 0
+IsSaid c p = (c.dead ≡ true) ⊎ (0 < c.fronts p)
+
+none_said : (p : ℕ) (A : Type 0) → IsSaid (or_nothing None) p → A
+none_said p A (inl dead) = cc dead
+none_said p A (inr lt) = absurd (none_below 0 lt)
+
+-- such a context has an entry
+pub key_found : (name : Name) (es : List (Name × LiftedView)) (p : ℕ) → IsSaid (or_nothing (find name_cmp name es)) p → (i : ℕ) × (slice_get (keys es) i ≡ Some name)
+key_found name [] p said = none_said p ((i : ℕ) × (slice_get (keys {V = LiftedView} []) i ≡ Some name)) said
+key_found name (x ∷ es) p said = by (eq_by_cmp name_cmp name x.0) refl said (λ l. key_found name es p l) where
+  by : (b : Bool) → eq_by_cmp name_cmp name x.0 ≡ b → IsSaid (or_nothing (cond b (Some x.1) (find name_cmp name es))) p
+      → (IsSaid (or_nothing (find name_cmp name es)) p → (i : ℕ) × (slice_get (keys es) i ≡ Some name)) → (i : ℕ) × (slice_get (keys (x ∷ es)) i ≡ Some name)
   by true t l rest = (zero, ap Some (sym (name_exact name x.0 (is_tied (name_cmp name x.0) t))))
   by false t l rest = let r = rest l in (suc r.0, r.1)
 
@@ -58,24 +66,28 @@ keys_seen : {V W : Type 0} (view : V → W) (es : List (Name × V)) → keys (se
 keys_seen view [] = refl
 keys_seen view (e ∷ es) = ap (λ ks. e.0 ∷ ks) (keys_seen view es)
 
-fronts_in : (parts : PartsView) (name : Name) (p : ℕ) → ((look_of parts).contexts name).fronts p ≡ (or_nothing (find name_cmp name (entries parts.0))).fronts p
+said_in : (parts : PartsView) (name : Name) → (look_of parts).contexts name ≡ or_nothing (find name_cmp name (entries parts.0))
 unfolding look_of
-fronts_in parts name p = ap (λ o. (or_nothing o).fronts p) (get-entries parts.0 name)
+said_in parts name = ap or_nothing (get-entries parts.0 name)
 
 less_is_some : (k l n : ℕ) → 0 < min k l → k ≤ n → 0 < n
 less_is_some k l n lt le = omega (arith, lt, le)
 
+some_said : (c : Context) (p k l : ℕ) → 0 < min k l → (c.dead ≡ true) ⊎ (k ≤ c.fronts p) → IsSaid c p
+some_said c p k l lt (inl dead) = inl dead
+some_said c p k l lt (inr le) = inr (less_is_some k l (c.fronts p) lt le)
+
 -- the count over all contexts of which the first's board knows
-pub have_finished : {V : Type 0} (view : V → EntryView) (a b : NodeView) (parts : PartsView) (es : List (Name × V)) (count : ℕ) → a.board ≡ look_of parts → seen view es ≡ entries parts.0 → is_sorted name_cmp es ≡ true
-    → ((name : Name) → front_on a name ≤ (a.board.contexts name).fronts a.me) → count ≡ min (2 ^ 64 - 1) (sum (map (finished_by_both a b) (keys es))) → HaveFinished a b count
+pub have_finished : {V : Type 0} (view : V → LiftedView) (a b : NodeView) (parts : PartsView) (es : List (Name × V)) (count : ℕ) → a.board ≡ look_of parts → seen view es ≡ entries parts.0 → is_sorted name_cmp es ≡ true
+    → TellsFronts a → count ≡ min (2 ^ 64 - 1) (sum (map (finished_by_both a b) (keys es))) → HaveFinished a b count
 have_finished view a b parts es count board is rises tells counted = record {
   names = keys es;
   apart = keys_apart es rises;
   whole = λ name lt.
-      let told : 0 < (a.board.contexts name).fronts a.me = less_is_some (front_on a name) (front_on b name) ((a.board.contexts name).fronts a.me) lt (tells name) in
-      let same : (a.board.contexts name).fronts a.me ≡ (or_nothing (find name_cmp name (seen view es))).fronts a.me =
-      ap (λ (x : Look). (x.contexts name).fronts a.me) board ∙ fronts_in parts name a.me ∙ ap (λ xs. (or_nothing (find name_cmp name xs)).fronts a.me) (sym is) in
-      let found = key_found name (seen view es) a.me (subst (λ n. 0 < n) same told) in
+      let said : IsSaid (a.board.contexts name) a.me = some_said (a.board.contexts name) a.me (front_on a name) (front_on b name) lt (tells name) in
+      let same : a.board.contexts name ≡ or_nothing (find name_cmp name (seen view es)) =
+      ap (λ (x : Look). x.contexts name) board ∙ said_in parts name ∙ ap (λ xs. or_nothing (find name_cmp name xs)) (sym is) in
+      let found = key_found name (seen view es) a.me (subst (λ (c : Context). IsSaid c a.me) same said) in
       (found.0, ap (λ ks. slice_get ks found.0) (sym (keys_seen view es)) ∙ found.1);
   counted = counted;
 }

@@ -2,8 +2,7 @@
 use Rattle.std.proofs.Common.{◌≡◌, ℕ, List, [], ◌∷◌, ◌++◌, Some, None, Option, Result, Ok, Err, OnErr, refl, sym, ap, ◌∙◌, subst, append_assoc}
 use mathlib.Core.List.{IsPrefix}
 use Rattle.mpx_name.specs.Name.{Name}
-use Rattle.mpx_board.specs.Boards.{floor_on}
-use Rattle.mpx_board.specs.Changes.{pruned}
+use Rattle.mpx_board.specs.Changes.{pruned_on}
 use Rattle.mpx_value.specs.Histories.{Made}
 use Rattle.mpx_node.specs.declared.finished.Finished.{Finished}
 use Rattle.mpx_node.specs.Nodes.{next_result, gathers_on}
@@ -42,7 +41,7 @@ made_act : (a : Act) (v : ProcessView) → IsNoPost a → (act_on a v).made ≡ 
 made_act (A.Posted name draft) v none = absurd none
 made_act (A.Harvested name) v none = made_stores name (next_result v.node name) v
 made_act (A.Gathered parent tag ranks) v none = made_opens parent (gathers_on v.node parent tag ranks) v
-made_act (A.Pruned name n) v none = made_drops name n (pruned (floor_on v.node.board name) n) v
+made_act (A.Pruned name n) v none = made_drops name n (pruned_on v.node.board name n) v
 made_act (A.Took bytes) v none = refl
 made_act (A.StoppedTaking bytes left) v none = refl
 made_act (A.Acknowledged board) v none = refl

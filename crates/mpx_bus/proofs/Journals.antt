@@ -95,7 +95,7 @@ ahead_itself setup p journal = record { locals = []; whole = sym (append-nil jou
 -- PARTS
 
 pub part_is : (parts : List Look) (bytes : List ℕ) (s : IsSent parts bytes) → part_of bytes ≡ look_of s.view
-part_is parts bytes s = ap shown (decoded_again bytes s.view s.spells)
+part_is parts bytes s = ap shown (decoded_again s.spells.0 bytes s.view s.spells.1)
 
 pub sent_later : (parts more : List Look) (bytes : List ℕ) → IsSent parts bytes → IsSent (parts ++ more) bytes
 sent_later parts more bytes s = record { view = s.view; spells = s.spells; place = s.place; sent = slice_get-append parts more s.place (look_of s.view) s.sent }
@@ -210,7 +210,7 @@ onward_sends setup hs p v parts part seen o =
     let e : world_of setup (o.all ++ Sends p part ∷ []) ≡ happens w (Sends p part) = goes_on-append o.all (Sends p part ∷ []) (start_of setup) in
     record {
       all = o.all ++ Sends p part ∷ [];
-      may = may_append o.all (Sends p part ∷ []) (start_of setup) o.may ((λ f has. subst (λ (x : ProcessView). IsSeen x f) (sym o.here) (seen f has)), tt);
+      may = may_append o.all (Sends p part ∷ []) (start_of setup) o.may ((λ f has. inl (subst (λ (x : ProcessView). IsSeen x f) (sym o.here) (seen f has))), tt);
       here = ap (λ (u : WorldView). u.each p) e ∙ o.here;
       others = λ q ne. ap (λ (u : WorldView). u.each q) e ∙ o.others q ne;
       parts_are = ap (λ (u : WorldView). u.parts) e ∙ ap (λ xs. xs ++ part ∷ []) o.parts_are;

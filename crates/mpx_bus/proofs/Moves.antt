@@ -239,4 +239,4 @@ pops pass v journal is ahead plan bytes items views h at =
     (λ (last : A.Popped bytes ≡ A.Popped b). subst (IsSent (W.parts ++ [])) (same_popped bytes b last) (sent_later W.parts [] bytes was)) (did_now journal (A.Popped b) (A.Popped bytes) d))
     (still_planned h.setup s.me journal new same plan')
     (λ k b e. pushed_set views pass v w b at keeps (h.frames (suc k) b e)) in
-    (w, all.0, (refl, subst (λ (u : Setup). Stood u s.me new) (sym setup) all.1, ap is_ok (decoded_again bytes was.view was.spells)))
+    (w, all.0, (refl, subst (λ (u : Setup). Stood u s.me new) (sym setup) all.1, ap is_ok (decoded_again was.spells.0 bytes was.view was.spells.1)))

@@ -14,22 +14,23 @@ use Rattle.mpx_post.specs.declared.draft.PostError.{PostError}
 use Rattle.mpx_board.specs.declared.acks.Raised.{Raised}
 use Rattle.mpx_board.specs.declared.board.Board.{Board}
 use Rattle.mpx_board.specs.declared.errors.PruneError.{PruneError}
-use Rattle.mpx_board.specs.Boards.{Look, Born, Dropped, Has, Stands, IsBetween, nothing, join, join_contexts, join_all, only, own_acks, floor_on}
-use Rattle.mpx_board.specs.Changes.{pruned}
+use Rattle.mpx_board.specs.Boards.{Look, Born, Has, Stands, IsBetween, empty, nothing, join, join_contexts, join_all, own_acks}
+use Rattle.mpx_board.specs.Changes.{pruned_on}
 use Rattle.mpx_board.specs.Contexts.{look_of}
 use Rattle.mpx_board.specs.Looks.{look, parts_of}
 use Rattle.mpx_board.specs.Parts.{PartsView}
-use Rattle.mpx_format.specs.Decoding.{Spells}
+use Rattle.mpx_format.specs.Decoding.{IsSpelled}
+use Rattle.mpx_format.specs.declared.versions.Version.TheVariants.{Two}
 use Rattle.mpx_parts.specs.Facts.{OnlyFactsOf}
 use Rattle.mpx_delta.specs.Digests.{HasUpTo, Numbers}
 use Rattle.mpx_node.specs.declared.finished.Finished.{Finished}
 use Rattle.mpx_node.specs.declared.node.Harvest.TheVariants as H
 use Rattle.mpx_node.specs.Harvests.{Harvests}
 use Rattle.mpx_node.specs.Deltas.{LacksOn, SaysWhatItHas, lacking_on}
-use Rattle.mpx_node.specs.Nodes.{NodeView, Posts, Opens, StopsTaking, checked_on, next_result, gathers_on, start_node, learn}
-use Rattle.mpx_world.specs.Worlds.{ProcessView, makes, stores, opens_gathering, drops, in_board}
+use Rattle.mpx_node.specs.Nodes.{NodeView, Posts, Opens, StopsTaking, checked_on, next_result, gathers_on, start_node, learn, learn_some, prune_part}
+use Rattle.mpx_world.specs.Worlds.{ProcessView, makes, stores, opens_gathering, drops, takes, in_board}
 use Rattle.mpx_world.proofs.Lists.{itself, same_number, name_itself, slice_get-push, take-all, join_all-push}
-use Rattle.mpx_world.proofs.Kept.{Kept, kept_itself, kept_makes, kept_stores, kept_opens, kept_drops, kept_learns, kept_then}
+use Rattle.mpx_world.proofs.Kept.{Kept, kept_itself, kept_makes, kept_stores, kept_opens, kept_drops, kept_learns, kept_then, taken_node}
 use Rattle.mpx_world.proofs.Covering.{digest_had}
 use Rattle.mpx_world.proofs.Whole.{well_by}
 use Rattle.mpx_bus.specs.declared.act.Act.{Act}
@@ -67,15 +68,19 @@ joined_opens : (parent : Name) (r : Result GatheringView PostError) (v : Process
 joined_opens parent (Ok g) v e = grown v _ e
 joined_opens parent (Err refusal) v e = e
 
+joined_takes : (part : Option Look) (v : ProcessView) → IsJoined v → IsJoined (takes part v)
+joined_takes None v e = e
+joined_takes (Some part) v e = grown v part e
+
 joined_drops : (name : Name) (n : ℕ) (r : Result (Unit {0}) PruneError) (v : ProcessView) → IsJoined v → IsJoined (drops name n r v)
-joined_drops name n (Ok u) v e = grown v _ e
+joined_drops name n (Ok u) v e = joined_takes (prune_part v.node name n) v e
 joined_drops name n (Err refusal) v e = e
 
 joined_act : (a : Act) (v : ProcessView) → IsJoined v → IsJoined (act_on a v)
 joined_act (A.Posted name draft) v e = joined_makes name (checked_on v.node name draft) v e
 joined_act (A.Harvested name) v e = joined_stores name (next_result v.node name) v e
 joined_act (A.Gathered parent tag ranks) v e = joined_opens parent (gathers_on v.node parent tag ranks) v e
-joined_act (A.Pruned name n) v e = joined_drops name n (pruned (floor_on v.node.board name) n) v e
+joined_act (A.Pruned name n) v e = joined_drops name n (pruned_on v.node.board name n) v e
 joined_act (A.Took bytes) v e = grown v (part_of bytes) e
 joined_act (A.StoppedTaking bytes left) v e = grown v (look left) e
 joined_act (A.Acknowledged board) v e = grown v (own_acks v.node.me (said_on board v)) e
@@ -90,7 +95,7 @@ joined_at : (setup : Setup) (p : ℕ) (acts : List Act) → IsJoined (process_at
 joined_at setup p acts = joined_after acts (at_start setup p) ((well_by setup.ranks setup.size [] tt).holds.processes p).joined
 
 -- a process may send a part that has only facts of its board
-pub sends_part : (setup : Setup) (p : ℕ) (journal : List Act) (bytes : List ℕ) (view : PartsView) → Spells bytes view → OnlyFactsOf (look_of view) (node_at setup p journal).board → MayPush setup p journal bytes
+pub sends_part : (setup : Setup) (p : ℕ) (journal : List Act) (bytes : List ℕ) (view : PartsView) → IsSpelled bytes view → OnlyFactsOf (look_of view) (node_at setup p journal).board → MayPush setup p journal bytes
 sends_part setup p journal bytes view spells only =
     let v : ProcessView = process_at setup p journal in
     inl (record {
@@ -105,7 +110,7 @@ kept_act : (a : Act) (v : ProcessView) → Kept v (act_on a v)
 kept_act (A.Posted name draft) v = kept_makes name (checked_on v.node name draft) v
 kept_act (A.Harvested name) v = kept_stores name (next_result v.node name) v
 kept_act (A.Gathered parent tag ranks) v = kept_opens parent (gathers_on v.node parent tag ranks) v
-kept_act (A.Pruned name n) v = kept_drops name n (pruned (floor_on v.node.board name) n) v
+kept_act (A.Pruned name n) v = kept_drops name n (pruned_on v.node.board name n) v
 kept_act (A.Took bytes) v = kept_learns (part_of bytes) v
 kept_act (A.StoppedTaking bytes left) v = kept_learns (look left) v
 kept_act (A.Acknowledged board) v = kept_learns (own_acks v.node.me (said_on board v)) v
@@ -125,9 +130,13 @@ born_at setup p acts = (kept_after acts (at_start setup p)).board_kept (Born [] 
 -- so a list of deltas isn't empty
 pub deltas_some : (setup : Setup) (p : ℕ) (acts : List Act) (frames : List (List ℕ)) → join_all (map part_of frames) ≡ lacking_on (node_at setup p acts) → frames ≡ [] → ⊥
 deltas_some setup p acts frames joined none =
-    let unborn : unknown ≡ ((node_at setup p acts).board.contexts []).birth = ap (λ (b : Look). (b.contexts []).birth) (sym (ap (λ xs. join_all (map part_of xs)) none) ∙ joined) in
-    let f : false ≡ true = subst (λ x. flat_leq same_birth (known (opening_birth setup)) x ≡ true) (sym unborn) (born_at setup p acts) in
-    absurd (cc f)
+    let nothing_told : empty ≡ lacking_on (node_at setup p acts) = sym (ap (λ xs. join_all (map part_of xs)) none) ∙ joined in
+    let unborn : unknown ≡ ((node_at setup p acts).board.contexts []).birth = ap (λ (b : Look). (b.contexts []).birth) nothing_told in
+    let alive : false ≡ ((node_at setup p acts).board.contexts []).dead = ap (λ (b : Look). (b.contexts []).dead) nothing_told in
+    ⊎_elim
+    (λ (dead : ((node_at setup p acts).board.contexts []).dead ≡ true). let f : false ≡ true = alive ∙ dead in absurd (cc f))
+    (λ (told : flat_leq same_birth (known (opening_birth setup)) ((node_at setup p acts).board.contexts []).birth ≡ true). let f : false ≡ true = subst (λ x. flat_leq same_birth (known (opening_birth setup)) x ≡ true) (sym unborn) told in absurd (cc f))
+    (born_at setup p acts)
 
 -- STEPS ON THE QUEUE
 
@@ -270,9 +279,9 @@ pub gather_same : (parent : Name) (tag : ℤ) (ranks : List ℤ) (e : PostError)
 gather_same parent tag ranks e node now p = opens_same parent (gathers_on node parent tag ranks) e node now p
 
 -- a pruning is one of the process
-pub prune_does : (name : Name) (n : ℕ) (u : Unit {0}) (v : ProcessView) (node now : NodeView) → node ≡ v.node → Ok u ≡ pruned (floor_on node.board name) n → now ≡ learn (only (Dropped name n)) node → now ≡ (act_on (A.Pruned name n) v).node
+pub prune_does : (name : Name) (n : ℕ) (u : Unit {0}) (v : ProcessView) (node now : NodeView) → node ≡ v.node → Ok u ≡ pruned_on node.board name n → now ≡ learn_some (prune_part node name n) node → now ≡ (act_on (A.Pruned name n) v).node
 prune_does name n u v node now is answer does =
-    does ∙ ap (learn (only (Dropped name n))) is ∙ ap (λ r. (drops name n r v).node) (answer ∙ ap (λ (x : NodeView). pruned (floor_on x.board name) n) is)
+    does ∙ ap (λ (x : NodeView). learn_some (prune_part x name n) x) is ∙ sym (taken_node (prune_part v.node name n) v) ∙ ap (λ r. (drops name n r v).node) (answer ∙ ap (λ (x : NodeView). pruned_on x.board name n) is)
 
 -- WHAT A PROCESS SAYS THAT IT HAS
 
@@ -337,7 +346,7 @@ spelled_may : (setup : Setup) (p : ℕ) (journal : List Act) (frames : List (Lis
 spelled_may setup p journal [] boards s all k bytes e = absurd (cc)
 spelled_may setup p journal (x ∷ frames) [] s all k bytes e = absurd s
 spelled_may setup p journal (x ∷ frames) (board ∷ boards) s all zero bytes e =
-    subst (MayPush setup p journal) (one_of x bytes 0 e) (sends_part setup p journal x (parts_of board) s.0 (All-head (λ b. OnlyFactsOf (look b) (node_at setup p journal).board) board boards all))
+    subst (MayPush setup p journal) (one_of x bytes 0 e) (sends_part setup p journal x (parts_of board) (Two, s.0) (All-head (λ b. OnlyFactsOf (look b) (node_at setup p journal).board) board boards all))
 spelled_may setup p journal (x ∷ frames) (board ∷ boards) s all (suc k) bytes e =
     spelled_may setup p journal frames boards s.1 (All-tail (λ b. OnlyFactsOf (look b) (node_at setup p journal).board) board boards all) k bytes e
 

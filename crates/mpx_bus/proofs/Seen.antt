@@ -7,12 +7,12 @@ use Rattle.mpx_post.specs.Posts.{Given}
 use Rattle.mpx_post.specs.Gatherings.{GatheringView}
 use Rattle.mpx_post.specs.declared.draft.PostError.{PostError}
 use Rattle.mpx_board.specs.declared.errors.PruneError.{PruneError}
-use Rattle.mpx_board.specs.Boards.{Look, Fact, Has, Dropped, only, own_acks, join_all, floor_on}
+use Rattle.mpx_board.specs.Boards.{Look, Fact, Has, own_acks, join_all}
 use Rattle.mpx_board.specs.Looks.{look}
-use Rattle.mpx_board.specs.Changes.{pruned}
+use Rattle.mpx_board.specs.Changes.{pruned_on}
 use Rattle.mpx_node.specs.declared.finished.Finished.{Finished}
-use Rattle.mpx_node.specs.Nodes.{harvest_part, gathering_fact, checked_on, next_result, gathers_on}
-use Rattle.mpx_world.specs.Worlds.{ProcessView, makes, made_next, stores, opens_gathering, drops, post_fact, IsSeen, in_board, in_part}
+use Rattle.mpx_node.specs.Nodes.{harvest_part, gathering_fact, checked_on, next_result, gathers_on, prune_part}
+use Rattle.mpx_world.specs.Worlds.{ProcessView, makes, made_next, stores, opens_gathering, drops, takes, post_fact, IsSeen, in_board, in_part}
 use Rattle.mpx_post.proofs.Lists.{slice_get-append}
 use Rattle.mpx_bus.specs.declared.act.Act.{Act}
 use Rattle.mpx_bus.specs.declared.act.Act.TheVariants as A
@@ -40,15 +40,19 @@ grows_opens : (parent : Name) (r : Result GatheringView PostError) (v : ProcessV
 grows_opens parent (Ok g) v = record { more = gathering_fact parent g ∷ []; is = refl }
 grows_opens parent (Err refusal) v = no_growth v
 
+grows_takes : (part : Option Look) (v : ProcessView) → Grows v (takes part v)
+grows_takes None v = no_growth v
+grows_takes (Some part) v = record { more = part ∷ []; is = refl }
+
 grows_drops : (name : Name) (n : ℕ) (r : Result (Unit {0}) PruneError) (v : ProcessView) → Grows v (drops name n r v)
-grows_drops name n (Ok u) v = record { more = only (Dropped name n) ∷ []; is = refl }
+grows_drops name n (Ok u) v = grows_takes (prune_part v.node name n) v
 grows_drops name n (Err refusal) v = no_growth v
 
 grows_act : (a : Act) (v : ProcessView) → Grows v (act_on a v)
 grows_act (A.Posted name draft) v = grows_makes name (checked_on v.node name draft) v
 grows_act (A.Harvested name) v = grows_stores name (next_result v.node name) v
 grows_act (A.Gathered parent tag ranks) v = grows_opens parent (gathers_on v.node parent tag ranks) v
-grows_act (A.Pruned name n) v = grows_drops name n (pruned (floor_on v.node.board name) n) v
+grows_act (A.Pruned name n) v = grows_drops name n (pruned_on v.node.board name n) v
 grows_act (A.Took bytes) v = record { more = part_of bytes ∷ []; is = refl }
 grows_act (A.StoppedTaking bytes left) v = record { more = look left ∷ []; is = refl }
 grows_act (A.Acknowledged board) v = record { more = own_acks v.node.me (said_on board v) ∷ []; is = refl }

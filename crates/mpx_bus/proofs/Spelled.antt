@@ -9,14 +9,15 @@ use Rattle.mpx_board.specs.Looks.{look, parts_of}
 use Rattle.mpx_board.specs.Parts.{PartsView}
 use Rattle.mpx_format.specs.Contexts.{frame}
 use Rattle.mpx_format.specs.Decoding.{Spells, most_bytes}
+use Rattle.mpx_format.specs.declared.versions.Version.TheVariants.{Two}
 use Rattle.mpx_format.specs.Encoding.{is_too_long, length_told}
 use Rattle.mpx_format.proofs.Decoded.{decoded_again}
 use Rattle.mpx_parts.specs.Facts.{OnlyFactsOf}
 use Rattle.mpx_bus.specs.Frames.{shown, part_of, AreSpelled}
 
-pub spelled_push : (frames : List (List ℕ)) (boards : List Board) (i : ℕ) (bytes : List ℕ) (board : Board) → slice_get boards i ≡ Some board → Spells bytes (parts_of board) → AreSpelled frames (take i boards) → AreSpelled (frames ++ bytes ∷ []) (take (suc i) boards)
+pub spelled_push : (frames : List (List ℕ)) (boards : List Board) (i : ℕ) (bytes : List ℕ) (board : Board) → slice_get boards i ≡ Some board → Spells Two bytes (parts_of board) → AreSpelled frames (take i boards) → AreSpelled (frames ++ bytes ∷ []) (take (suc i) boards)
 spelled_push frames [] i bytes board e s h = cc e
-spelled_push [] (b ∷ bs) zero bytes board e s h = (subst (λ x. Spells bytes (parts_of x)) (sym (same_Some b board e)) s, tt)
+spelled_push [] (b ∷ bs) zero bytes board e s h = (subst (λ x. Spells Two bytes (parts_of x)) (sym (same_Some b board e)) s, tt)
 spelled_push (f ∷ fs) (b ∷ bs) zero bytes board e s h = absurd h
 spelled_push [] (b ∷ bs) (suc i) bytes board e s h = absurd h
 spelled_push (f ∷ fs) (b ∷ bs) (suc i) bytes board e s h = (h.0, spelled_push fs bs i bytes board e s h.1)
@@ -26,7 +27,7 @@ pub spelled_parts : (frames : List (List ℕ)) (boards : List Board) → AreSpel
 spelled_parts [] [] s = refl
 spelled_parts [] (board ∷ boards) s = absurd s
 spelled_parts (bytes ∷ frames) [] s = absurd s
-spelled_parts (bytes ∷ frames) (board ∷ boards) s = λ i. ap shown (decoded_again bytes (parts_of board) s.0) i ∷ spelled_parts frames boards s.1 i
+spelled_parts (bytes ∷ frames) (board ∷ boards) s = λ i. ap shown (decoded_again Two bytes (parts_of board) s.0) i ∷ spelled_parts frames boards s.1 i
 
 pub spelled_facts : (b : Look) (frames : List (List ℕ)) (boards : List Board) → AreSpelled frames boards → All (λ board. OnlyFactsOf (look board) b) boards → All (λ bytes. OnlyFactsOf (part_of bytes) b) frames
 spelled_facts b [] [] s all = All-nil (λ bytes. OnlyFactsOf (part_of bytes) b)
@@ -34,7 +35,7 @@ spelled_facts b [] (board ∷ boards) s all = absurd s
 spelled_facts b (bytes ∷ frames) [] s all = absurd s
 spelled_facts b (bytes ∷ frames) (board ∷ boards) s all =
     All-cons (λ xs. OnlyFactsOf (part_of xs) b) bytes frames
-    (subst (λ x. OnlyFactsOf x b) (sym (ap shown (decoded_again bytes (parts_of board) s.0))) (All-head (λ x. OnlyFactsOf (look x) b) board boards all))
+    (subst (λ x. OnlyFactsOf x b) (sym (ap shown (decoded_again Two bytes (parts_of board) s.0))) (All-head (λ x. OnlyFactsOf (look x) b) board boards all))
     (spelled_facts b frames boards s.1 (All-tail (λ x. OnlyFactsOf (look x) b) board boards all))
 
 -- THEIR LENGTHS
@@ -43,9 +44,9 @@ told_above : (long : Bool) (n : ℕ) → n ≤ most_bytes → n ≤ cond long (s
 told_above true n few = omega (arith, few)
 told_above false n few = omega arith
 
-length_above : (bytes : List ℕ) (v : PartsView) → Spells bytes v → length bytes ≤ length_told v
+length_above : (bytes : List ℕ) (v : PartsView) → Spells Two bytes v → length bytes ≤ length_told v
 length_above bytes v s =
-    subst (λ xs. length xs ≤ length_told v) (sym s.bytes_are) (told_above (is_too_long v) (length (frame.spelling v)) (subst (λ xs. length xs ≤ most_bytes) s.bytes_are s.few))
+    subst (λ xs. length xs ≤ length_told v) (sym s.bytes_are) (told_above (is_too_long v) (length (frame.spelling (Two, v))) (subst (λ xs. length xs ≤ most_bytes) s.bytes_are s.few))
 
 within : (a b limit : ℕ) → a ≤ b → b ≤ limit → a ≤ limit
 within a b limit l m = omega (arith, l, m)

@@ -6,7 +6,7 @@ use Rattle.mpx_board.specs.Boards.{Fact, Has, IsBetween}
 use Rattle.mpx_board.specs.Looks.{look}
 use Rattle.mpx_board.specs.Contexts.{look_of}
 use Rattle.mpx_board.specs.Parts.{PartsView}
-use Rattle.mpx_format.specs.Decoding.{Spells}
+use Rattle.mpx_format.specs.Decoding.{IsSpelled}
 use Rattle.mpx_delta.specs.Digests.{Numbers, HasUpTo}
 use Rattle.mpx_node.specs.Nodes.{NodeView}
 use Rattle.mpx_world.specs.Worlds.{ProcessView, WorldView, posts, harvests, gathers, prunes, learns, acknowledges, start, IsSeen}
@@ -86,7 +86,7 @@ pub record IsAhead (setup : Setup) (process : ℕ) (published journal : List Act
 -- the process may send the part that these bytes spell: it has seen each fact of it
 pub record MaySend (setup : Setup) (process : ℕ) (journal : List Act) (bytes : List ℕ) : Type 0 where
   pub view : PartsView
-  pub spells : Spells bytes view
+  pub spells : IsSpelled bytes view
   pub seen : (f : Fact) → Has (look_of view) f → IsSeen (process_at setup process journal) f
 
 -- it may push these bytes: it may send the part, or it popped a frame of these bytes

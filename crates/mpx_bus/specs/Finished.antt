@@ -1,11 +1,12 @@
 -- Which instances two processes have both finished.
-use Rattle.std.specs.Prelude.{◌≡◌, ℕ, ◌<◌, ◌≤◌, ◌^◌, ◌-◌, min, List, [], ◌∷◌, map, Some, slice_get, sum}
+use Rattle.std.specs.Prelude.{◌≡◌, ◌⊎◌, ℕ, ◌<◌, ◌≤◌, ◌^◌, ◌-◌, min, List, [], ◌∷◌, map, Some, slice_get, sum}
 use Rattle.mpx_name.specs.Name.{Name}
+use Rattle.mpx_board.specs.Boards.{IsGone}
 use Rattle.mpx_node.specs.Nodes.{NodeView, front_on}
 
--- the board tells how many calls the process has harvested
+-- the board tells how many calls of each context the process has harvested, or that the context is dead
 abbrev pub TellsFronts : NodeView → Type 0
-TellsFronts node = (name : Name) → front_on node name ≤ (node.board.contexts name).fronts node.me
+TellsFronts node = (name : Name) → IsGone node.board name ⊎ (front_on node name ≤ (node.board.contexts name).fronts node.me)
 
 -- how many calls of a context both have finished: the first so many
 abbrev pub finished_by_both : NodeView → NodeView → Name → ℕ

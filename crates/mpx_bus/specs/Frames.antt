@@ -4,6 +4,7 @@ use Rattle.mpx_board.specs.declared.board.Board.{Board}
 use Rattle.mpx_board.specs.Boards.{Look}
 use Rattle.mpx_board.specs.Looks.{parts_of}
 use Rattle.mpx_format.specs.Decoding.{Spells, decoded}
+use Rattle.mpx_format.specs.declared.versions.Version.TheVariants.{Two}
 pub use Rattle.mpx_format.specs.Decoding.{shown}
 
 -- the part that these bytes spell
@@ -15,4 +16,4 @@ abbrev pub AreSpelled : List (List ℕ) → List Board → Type 0
 AreSpelled [] [] = Unit {0}
 AreSpelled [] (board ∷ boards) = ⊥
 AreSpelled (bytes ∷ frames) [] = ⊥
-AreSpelled (bytes ∷ frames) (board ∷ boards) = Spells bytes (parts_of board) × AreSpelled frames boards
+AreSpelled (bytes ∷ frames) (board ∷ boards) = Spells Two bytes (parts_of board) × AreSpelled frames boards

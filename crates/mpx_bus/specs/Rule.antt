@@ -8,7 +8,7 @@ use Rattle.mpx_post.specs.Posts.{Given}
 use Rattle.mpx_board.specs.Boards.{Look}
 use Rattle.mpx_board.specs.Contexts.{look_of}
 use Rattle.mpx_board.specs.Parts.{PartsView}
-use Rattle.mpx_format.specs.Decoding.{Spells}
+use Rattle.mpx_format.specs.Decoding.{IsSpelled}
 use Rattle.mpx_value.specs.Histories.{Made}
 use Rattle.mpx_world.specs.Worlds.{WorldView, Happening, MayGoOn, goes_on}
 use Rattle.mpx_bus.specs.declared.act.Act.{Act}
@@ -25,7 +25,7 @@ Seating = ℕ → Option (ℕ × ℕ)
 -- the bytes spell a part that was sent
 pub record IsSent (parts : List Look) (bytes : List ℕ) : Type 0 where
   pub view : PartsView
-  pub spells : Spells bytes view
+  pub spells : IsSpelled bytes view
   pub place : ℕ
   pub sent : slice_get parts place ≡ Some (look_of view)
 

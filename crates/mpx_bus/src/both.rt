@@ -5,7 +5,7 @@ ghost use Rattle.mpx_bus.specs.Finished.{HaveFinished, TellsFronts};
 use mpx_node::Node;
 
 // How many instances both processes have finished, or the greatest number where there are more: a context on which a process
-// has finished calls is one of which its board knows, since the board tells its front.
+// has finished calls is one of which its board knows, since the board tells its front, or that the context is dead.
 pub(crate) fn both_finished(first: &Node, second: &Node) -> u64
     requires { TellsFronts (node_of first.now) }
     ensures { HaveFinished (node_of first.now) (node_of second.now) result }

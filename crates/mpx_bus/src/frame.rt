@@ -2,6 +2,7 @@
 ghost use Rattle.std.specs.Prelude.{◌≡◌, ◌≤◌, All, map, is_ok, IfOk, IfNone, IfSome, IsTrue, true};
 ghost use Rattle.mpx_board.specs.Looks.{look, parts_of};
 ghost use Rattle.mpx_format.specs.Decoding.{Spells, decoded};
+ghost use Rattle.mpx_format.specs.declared.versions.Version.TheVariants.{Two};
 ghost use Rattle.mpx_format.specs.Encoding.{is_too_long, length_told};
 ghost use Rattle.mpx_bus.specs.Frames.{part_of};
 ghost use Rattle.mpx_bus.specs.Frames.{AreSpelled};
@@ -81,7 +82,7 @@ pub(crate) fn frames_of(alloc: Global, boards: &[Board]) -> Result<Vec<Frame>, O
 
 // A frame of the board, where its bytes aren't too many.
 fn framed(alloc: Global, board: &Board) -> Result<Option<Frame>, OutOfMemory>
-    ensures whole { IfOk result (λ made. IfSome made (λ frame. Spells frame (parts_of board.now))) }
+    ensures whole { IfOk result (λ made. IfSome made (λ frame. Spells Two frame (parts_of board.now))) }
     ensures too_long { IfOk result (λ made. IfNone made (is_too_long (parts_of board.now) ≡ true)) }
 {
     match encode(alloc, board) {

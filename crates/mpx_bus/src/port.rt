@@ -1,8 +1,7 @@
 // The queue that all ports share, and a port's calls.
 ghost use Rattle.std.specs.Prelude.{◌≡◌, ◌≢◌, ℕ, List, is_some, ◌<◌, ◌≤◌, ◌++◌, ◌∷◌, [], Err, IfOk, IfErr, OnOk, OnErr};
 ghost use Rattle.crossbeam_queue.specs.Passes.{view, IsPassOf};
-ghost use Rattle.mpx_board.specs.Boards.{floor_on};
-ghost use Rattle.mpx_board.specs.Changes.{pruned};
+ghost use Rattle.mpx_board.specs.Changes.{pruned_on};
 ghost use Rattle.mpx_node.specs.Nodes.{Opens, Posts, checked_on, gathers_on, next_result};
 ghost use Rattle.mpx_node.specs.Harvests.{Harvests};
 ghost use Rattle.mpx_node.specs.Shown.{node_of};
@@ -349,7 +348,7 @@ impl Port {
     pub fn prune(&mut self, name: &Name, number: u32) -> Result<(), PruneError>
         ensures port { GoesOn self.old self.new }
         ensures still { (self.new.published ≡ self.old.published) × (self.new.kept ≡ self.old.kept) }
-        ensures answer { result ≡ pruned (floor_on (node_in self.old).board name.now) number }
+        ensures answer { result ≡ pruned_on (node_in self.old).board name.now number }
         ensures ok { OnOk result (self.new.journal ≡ self.old.journal ++ A.Pruned name.now number ∷ []) }
         ensures err { OnErr result (self.new ≡ self.old) }
     {

@@ -11,15 +11,16 @@ use Rattle.mpx_post.specs.Posts.{Given}
 use Rattle.mpx_post.specs.Births.{BirthView}
 use Rattle.mpx_post.specs.declared.draft.Draft.{Draft}
 use Rattle.mpx_post.specs.declared.draft.PostError.{PostError}
+use Rattle.mpx_post.specs.declared.draft.PostError.TheVariants as R
 use Rattle.mpx_post.specs.declared.draft.At.{At}
 use Rattle.mpx_post.specs.Kinds.{kind_of}
 use Rattle.mpx_post.specs.Seats.{lacks_topology}
-use Rattle.mpx_post.specs.Drafts.{at, checked, checked_at, drafted_seat, first_that_holds, given_by, refusal_of, refusals, stray_refusals, unless}
+use Rattle.mpx_post.specs.Drafts.{at, checked, checked_as, checked_at, drafted_seat, first_that_holds, given_by, refusal_of, refusals, stray_refusals, unless}
 use Rattle.mpx_post.specs.Births.{rank_in}
 use Rattle.join_core.specs.Flat.{known, unknown}
 use Rattle.mpx_name.specs.Name.{Name, same_name}
 use Rattle.mpx_board.specs.Boards.{Look, Held, only, nothing, told}
-use Rattle.mpx_node.specs.Nodes.{NodeView, OpenedView, posted_on, posted_by, Posts, post_at, checked_on, checked_by, results_on, results_by, front_on}
+use Rattle.mpx_node.specs.Nodes.{NodeView, OpenedView, posted_on, posted_by, Posts, post_at, posts_more, checked_on, checked_by, checked_there, results_on, results_by, front_on}
 use Rattle.mpx_comm.specs.declared.request.Request.{Request}
 use Rattle.mpx_comm.specs.Requests.{same_request, close, close_all, ArePosted, result_of, AreResults, WerePending, HasPosted, next_call, IsRefusal, Asks, AwaitsOne, GivesUpOne, Waits, PostsAnd, Calls}
 use Rattle.mpx_comm.specs.declared.answers.WaitError.TheVariants as W
@@ -94,26 +95,23 @@ pub is_made : (name : Name) (call : ℕ) (old new : NodeView) (r : Result Given 
 is_made name call old new (Err e) h = cc (h.0)
 is_made name call old new (Ok given) h = record { given = given; checked = refl; last = h.0; made = h.1 }
 
-abbrev more : OpenedView → OpenedView
-more o = record o { posted = o.posted + 1 }
+no_fewer : (given : Given) (b : Bool) (o : Option OpenedView) → posted_by o ≤ posted_by (cond b (option_map (posts_more given) o) o)
+no_fewer given true None = omega arith
+no_fewer given true (Some o) = omega arith
+no_fewer given false o = omega arith
 
-no_fewer : (b : Bool) (o : Option OpenedView) → posted_by o ≤ posted_by (cond b (option_map more o) o)
-no_fewer true None = omega arith
-no_fewer true (Some o) = omega arith
-no_fewer false o = omega arith
-
-one_more : (o : Option OpenedView) (birth : Option BirthView) (me : ℕ) (name : Name) (draft : Draft) (given : Given) → checked_by o birth me name draft ≡ Ok given → posted_by (option_map more o) ≡ posted_by o + 1
+one_more : (o : Option OpenedView) (birth : Option BirthView) (me : ℕ) (name : Name) (draft : Draft) (given : Given) → checked_by o birth me name draft ≡ Ok given → posted_by (option_map (posts_more given) o) ≡ posted_by o + 1
 one_more None birth me name draft given e = cc e
 one_more (Some o) birth me name draft given e = refl
 
 pub posted_added : (old new : NodeView) (draft : Draft) (rs after : List Request) (q : Request) → ArePosted old rs → IsMade q.name q.call old new (checked_on old q.name draft) → after ≡ rs ++ q ∷ [] → ArePosted new after
 posted_added old new draft rs after q all made e i r f = by_place (get_either rs q i r (ap (λ xs. slice_get xs i) (sym e) ∙ f)) where
   grown : (n : Name) → posted_on old n ≤ posted_on new n
-  grown n = subst (λ x. posted_on old n ≤ posted_on x n) (sym made.made) (no_fewer (same_name n q.name) (old.opened n))
+  grown n = subst (λ x. posted_on old n ≤ posted_on x n) (sym made.made) (no_fewer made.given (same_name n q.name) (old.opened n))
 
   next : posted_on new q.name ≡ posted_on old q.name + 1
   next = ap (λ x. posted_on x q.name) made.made
-      ∙ ap (λ b. posted_by (cond b (option_map more (old.opened q.name)) (old.opened q.name))) (name_equality.reflexive q.name)
+      ∙ ap (λ b. posted_by (cond b (option_map (posts_more made.given) (old.opened q.name)) (old.opened q.name))) (name_equality.reflexive q.name)
       ∙ one_more (old.opened q.name) (told (old.board.contexts q.name).birth) old.me q.name draft made.given made.checked
 
   by_place : (slice_get rs i ≡ Some r) ⊎ ((i ≡ length rs) × (q ≡ r)) → r.call < posted_on new r.name
@@ -137,19 +135,29 @@ given_drafted birth me at draft given e = by_rank (rank_in me birth.members) e w
   by_test true x y f = drafted x (given_by draft) given f
   by_test false x y f = drafted y (given_by draft) given f
 
+  by_closed : (rank : ℕ) (b : Bool) → (let x : Result Given PostError = cond b (Err R.Closed) (checked_as rank birth at draft) in x) ≡ Ok given → given ≡ given_by draft
+  by_closed rank true f = cc f
+  by_closed rank false f = by_test (lacks_topology birth.topology (kind_of draft.call)) (first_that_holds (stray_refusals draft)) (first_that_holds (refusals (drafted_seat birth rank draft) at draft)) f
+
   by_rank : (o : Option ℕ) → checked_at o birth at draft ≡ Ok given → given ≡ given_by draft
   by_rank None f = cc f
-  by_rank (Some rank) f = by_test (lacks_topology birth.topology (kind_of draft.call)) (first_that_holds (stray_refusals draft)) (first_that_holds (refusals (drafted_seat birth rank draft) at draft)) f
+  by_rank (Some rank) f = by_closed rank at.closed f
+
+given_there : (posted : ℕ) (birth : Option BirthView) (me : ℕ) (name : Name) (draft : Draft) (given : Given) → checked_there posted birth me name draft ≡ Ok given → given ≡ given_by draft
+given_there posted None me name draft given e = cc e
+given_there posted (Some birth) me name draft given e = given_drafted birth me (at name posted false) draft given e
 
 given_is : (o : Option OpenedView) (birth : Option BirthView) (me : ℕ) (name : Name) (draft : Draft) (given : Given) → checked_by o birth me name draft ≡ Ok given → given ≡ given_by draft
 given_is None birth me name draft given e = cc e
-given_is (Some o) None me name draft given e = cc e
-given_is (Some o) (Some birth) me name draft given e = given_drafted birth me (at name o.posted) draft given e
+given_is (Some o) birth me name draft given e = by_freed o.freed e where
+  by_freed : (b : Bool) → (let x : Result Given PostError = cond b (Err R.Closed) (checked_there o.posted birth me name draft) in x) ≡ Ok given → given ≡ given_by draft
+  by_freed true f = cc f
+  by_freed false f = given_there o.posted birth me name draft given f
 
-results_stay : (b : Bool) (o : Option OpenedView) → results_by (cond b (option_map more o) o) ≡ results_by o
-results_stay true None = refl
-results_stay true (Some o) = refl
-results_stay false o = refl
+results_stay : (given : Given) (b : Bool) (o : Option OpenedView) → results_by (cond b (option_map (posts_more given) o) o) ≡ results_by o
+results_stay given true None = refl
+results_stay given true (Some o) = refl
+results_stay given false o = refl
 
 module _ (old : NodeView) (name : Name) (given : Given) where
   abbrev posting : NodeView
@@ -165,14 +173,14 @@ module _ (old : NodeView) (name : Name) (given : Given) where
   kept_by : (n : Name) (call : ℕ) (g : Given) → IsOwn old n call g → IsOwn posting n call g
   kept_by n call g o = record {
     held = held_joined (old.board.contexts n) (fact.contexts n) call old.me g o.held;
-    mine = λ f e. o.mine f (ap (λ rs. slice_get rs call) (sym (results_stay (same_name n name) (old.opened n))) ∙ e);
+    mine = λ f e. o.mine f (ap (λ rs. slice_get rs call) (sym (results_stay given (same_name n name) (old.opened n))) ∙ e);
   }
 
   own_by : front_on old name ≤ posted_on old name → IsOwn posting name (posted_on old name) given
   own_by bounded = record {
     held = held_added (old.board.contexts name) (fact.contexts name) (posted_on old name) old.me given told_here;
     mine = λ f e.
-        let there : slice_get (results_on old name) (posted_on old name) ≡ Some f = ap (λ rs. slice_get rs (posted_on old name)) (sym (results_stay (same_name name name) (old.opened name))) ∙ e in
+        let there : slice_get (results_on old name) (posted_on old name) ≡ Some f = ap (λ rs. slice_get rs (posted_on old name)) (sym (results_stay given (same_name name name) (old.opened name))) ∙ e in
         let less : posted_on old name < length (results_on old name) = slice_get_within (results_on old name) (posted_on old name) f there in
         absurd (omega (arith, less, bounded));
   }
@@ -183,13 +191,10 @@ module _ (old : NodeView) (name : Name) (given : Given) where
       record {
         accepted = e ∙ ap Ok is;
         own = subst (λ g. IsOwn posting name (posted_on old name) g) is (own_by bounded);
-        posted = λ n. posted_same n;
-        stored = λ n k f h. ap (λ rs. slice_get rs k) (results_stay (same_name n name) (old.opened n)) ∙ h;
+        posted = λ n. ap (λ g. posted_on (post_at name g old) n) is;
+        stored = λ n k f h. ap (λ rs. slice_get rs k) (results_stay given (same_name n name) (old.opened n)) ∙ h;
         kept = kept_by;
       }
-    where
-      posted_same : (n : Name) → posted_on posting n ≡ posted_on (post_at name (given_by draft) old) n
-      posted_same n = refl
 
 -- what was posted stays so
 pub posted_then : (name : Name) (draft : Draft) (old mid last : NodeView) → HasPosted name draft old mid → Later mid last → HasPosted name draft old last

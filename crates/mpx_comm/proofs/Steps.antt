@@ -1,6 +1,6 @@
 -- The steps of a node, and what stays over them.
 use Rattle.std.proofs.Common.{◌≡◌, ℕ, zero, suc, ◌+◌, ◌-◌, ◌<◌, ◌≤◌, max, Bool, true, false, cond, List, [], ◌∷◌, ◌++◌, length, Option, Some, None, ◌⊎◌, inl, inr, refl, sym, ap, ◌∙◌, subst, arith, is_some}
-use Rattle.std.specs.Prelude.{Result, Ok, Err, OnOk, OnErr, IfErr, slice_get, nat_le, nat_lt}
+use Rattle.std.specs.Prelude.{◌||◌, Result, Ok, Err, OnOk, OnErr, IfErr, slice_get, nat_le, nat_lt}
 use Rattle.std.specs.Option.{option_map}
 use Rattle.std.proofs.lemmas.Bool.Decides.{nat_tests}
 use Rattle.std.proofs.lemmas.Option.{same_Some, option_and_then_some, slice_get_cases}
@@ -15,14 +15,14 @@ use Rattle.mpx_post.specs.Gatherings.{GatheringView}
 use Rattle.mpx_post.specs.declared.draft.PostError.{PostError}
 use Rattle.mpx_post.specs.Equality.{same_given, given_equality}
 use Rattle.mpx_name.specs.Name.{Name, same_name}
-use Rattle.mpx_board.specs.Boards.{Context, Look, join_contexts, told}
+use Rattle.mpx_board.specs.Boards.{Context, Look, gone, join_contexts, join_live, told}
 use Rattle.mpx_value.specs.declared.outcomes.Outcome.{Outcome}
 use Rattle.mpx_node.specs.declared.finished.Finished.{Finished}
 use Rattle.mpx_node.specs.declared.node.Harvest.{Harvest}
 use Rattle.mpx_node.specs.declared.node.Harvest.TheVariants.{Done, NotYet, NotOpened}
 use Rattle.mpx_node.specs.Harvests.{Harvests}
 use Rattle.mpx_node.specs.Deltas.{SaysWhatItHas}
-use Rattle.mpx_node.specs.Nodes.{own_acks, NodeView, OpenedView, posted_by, results_on, results_by, front_on, next_result, next_of, result_of, outcome_on, learn, StopsTaking, add_result, children_on, or_new, opens, stores_on, is_new_to, harvest_part, Opens, gathering_fact, gathering_name, open_gathering_node}
+use Rattle.mpx_node.specs.Nodes.{own_acks, NodeView, OpenedView, posted_by, results_on, results_by, front_on, next_result, next_of, result_of, outcome_on, learn, learn_some, StopsTaking, add_result, children_on, or_new, opens, stores_on, is_new_to, harvest_part, Opens, gathering_fact, gathering_name, open_gathering_node}
 use Rattle.mpx_comm.specs.Later.{result_at, IsHeld, IsOwn, Later, IsPending, WasPending}
 use Rattle.mpx_board.proofs.Facts.{posts_bound, posts_order}
 
@@ -55,15 +55,47 @@ pending_now a b name call l p = record { moment = b; after = l; before = later_n
 
 -- WHAT IS HELD
 
+-- nothing is held of a dead context
+held_gone : (k p : ℕ) (given : Given) → IsHeld gone k p given
+held_gone k p given = record { held = λ alive l. cc alive; lost = λ x. refl }
+
+none_below : (m k : ℕ) (v : FlatView Given) → k < m → cond (nat_le m k) v unknown ≡ unknown
+none_below m k v l = let no : nat_le m k ≡ false = grind (arith, nat_tests) in ap (λ b. cond b v unknown) no
+
+not_above : (m k : ℕ) → nat_le m k ≡ false → m ≤ k → ⊥
+not_above m k e l = grind (arith, nat_tests)
+
+kept_above : (m k : ℕ) (given : Given) (v : FlatView Given) → m ≤ k → flat_leq same_given (known given) v ≡ true → flat_leq same_given (known given) (cond (nat_le m k) v unknown) ≡ true
+kept_above m k given v l h = by_test (nat_le m k) refl where
+  by_test : (b : Bool) → nat_le m k ≡ b → flat_leq same_given (known given) (cond b v unknown) ≡ true
+  by_test true e = h
+  by_test false e = absurd (not_above m k e l)
+
+-- a live context holds a post that stands in the two that are joined
+held_live : (c d : Context) (k p : ℕ) (given : Given) → (max c.dropped d.dropped ≤ k → flat_leq same_given (known given) (flat_join same_given (c.posts k p) (d.posts k p)) ≡ true) → IsHeld (join_live c d) k p given
+held_live c d k p given above = record { held = λ alive l. kept_above (max c.dropped d.dropped) k given (flat_join same_given (c.posts k p) (d.posts k p)) l (above l); lost = lost } where
+  lost : (false ≡ true) ⊎ (k < max c.dropped d.dropped) → cond (nat_le (max c.dropped d.dropped) k) (flat_join same_given (c.posts k p) (d.posts k p)) unknown ≡ unknown
+  lost (inl dead) = cc dead
+  lost (inr l) = none_below (max c.dropped d.dropped) k (flat_join same_given (c.posts k p) (d.posts k p)) l
+
+-- so does the join, where both may be dead
+held_either : (c d : Context) (k p : ℕ) (given : Given) → ((c.dead || d.dead) ≡ false → IsHeld (join_live c d) k p given) → Answer (c.dead || d.dead) → IsHeld (join_contexts c d) k p given
+held_either c d k p given live (yes t) = subst (λ x. IsHeld x k p given) (sym (ap (λ b. cond b gone (join_live c d)) t)) (held_gone k p given)
+held_either c d k p given live (no n) = subst (λ x. IsHeld x k p given) (sym (ap (λ b. cond b gone (join_live c d)) n)) (live n)
+
+first_live : (a b : Bool) → (a || b) ≡ false → a ≡ false
+first_live true b n = n
+first_live false b n = refl
+
+first_front : (a b k : ℕ) → max a b ≤ k → a ≤ k
+first_front a b k l = omega (arith, l)
+
 -- a post that is held is held by each join
 pub held_joined : (c d : Context) (k p : ℕ) (given : Given) → IsHeld c k p given → IsHeld (join_contexts c d) k p given
-held_joined c d k p given h = record {
-  held = λ l. by_test (nat_le (max c.dropped d.dropped) k) refl l;
-  gone = λ l. let no : nat_le (max c.dropped d.dropped) k ≡ false = grind (arith, nat_tests) in ap (λ b. cond b (flat_join same_given (c.posts k p) (d.posts k p)) unknown) no;
-} where
-  by_test : (b : Bool) → nat_le (max c.dropped d.dropped) k ≡ b → max c.dropped d.dropped ≤ k → flat_leq same_given (known given) (cond b (flat_join same_given (c.posts k p) (d.posts k p)) unknown) ≡ true
-  by_test true e l = posts_order.transitive (known given) (c.posts k p) (flat_join same_given (c.posts k p) (d.posts k p)) (h.held (omega arith)) (posts_bound.above_first (c.posts k p) (d.posts k p))
-  by_test false e l = absurd (grind (arith, nat_tests))
+held_joined c d k p given h =
+    held_either c d k p given
+    (λ n. held_live c d k p given (λ l. posts_order.transitive (known given) (c.posts k p) (flat_join same_given (c.posts k p) (d.posts k p)) (h.held (first_live c.dead d.dead n) (first_front c.dropped d.dropped k l)) (posts_bound.above_first (c.posts k p) (d.posts k p))))
+    (answer (c.dead || d.dead))
 
 told_held : (v : FlatView Given) (given m : Given) → flat_leq same_given (known given) v ≡ true → told v ≡ Some m → m ≡ given
 told_held unknown given m l e = cc e
@@ -72,10 +104,17 @@ told_held clash given m l e = cc e
 
 -- what is told there is the own post
 told_own : (c : Context) (k p : ℕ) (given m : Given) → IsHeld c k p given → told (c.posts k p) ≡ Some m → m ≡ given
-told_own c k p given m h e = by_test (answer (nat_le c.dropped k)) where
-  by_test : Answer (nat_le c.dropped k) → m ≡ given
-  by_test (yes t) = told_held (c.posts k p) given m (h.held (grind (arith, nat_tests))) e
-  by_test (no f) = let gone : c.posts k p ≡ unknown = h.gone (grind (arith, nat_tests)) in cc (ap told gone, e)
+told_own c k p given m h e = by_dead (answer c.dead) where
+  none : (c.dead ≡ true) ⊎ (k < c.dropped) → m ≡ given
+  none x = let lost : c.posts k p ≡ unknown = h.lost x in cc (ap told lost, e)
+
+  by_front : c.dead ≡ false → Answer (nat_le c.dropped k) → m ≡ given
+  by_front alive (yes t) = told_held (c.posts k p) given m (h.held alive (grind (arith, nat_tests))) e
+  by_front alive (no f) = none (inr (grind (arith, nat_tests)))
+
+  by_dead : Answer c.dead → m ≡ given
+  by_dead (yes t) = none (inl t)
+  by_dead (no f) = by_front f (answer (nat_le c.dropped k))
 
 -- A BOARD COMES
 
@@ -252,13 +291,10 @@ less_left old new name call k h is e done =
 
 -- what is told is held
 pub held_added : (c d : Context) (k p : ℕ) (given : Given) → d.posts k p ≡ known given → IsHeld (join_contexts c d) k p given
-held_added c d k p given e = record {
-  held = λ l. by_test (nat_le (max c.dropped d.dropped) k) refl l;
-  gone = λ l. let no : nat_le (max c.dropped d.dropped) k ≡ false = grind (arith, nat_tests) in ap (λ b. cond b (flat_join same_given (c.posts k p) (d.posts k p)) unknown) no;
-} where
-  by_test : (b : Bool) → nat_le (max c.dropped d.dropped) k ≡ b → max c.dropped d.dropped ≤ k → flat_leq same_given (known given) (cond b (flat_join same_given (c.posts k p) (d.posts k p)) unknown) ≡ true
-  by_test true t l = subst (λ v. flat_leq same_given v (flat_join same_given (c.posts k p) (d.posts k p)) ≡ true) e (posts_bound.above_second (c.posts k p) (d.posts k p))
-  by_test false t l = absurd (grind (arith, nat_tests))
+held_added c d k p given e =
+    held_either c d k p given
+    (λ n. held_live c d k p given (λ l. subst (λ v. flat_leq same_given v (flat_join same_given (c.posts k p) (d.posts k p)) ≡ true) e (posts_bound.above_second (c.posts k p) (d.posts k p))))
+    (answer (c.dead || d.dead))
 
 -- a part is taken, or its take stops on the way
 pub later_takes : {E : Type 0} (r : Result (Unit {0}) E) (part : Look) (old new : NodeView) → OnOk r (new ≡ learn part old) → OnErr r (StopsTaking part old new) → Later old new
@@ -270,7 +306,12 @@ pub later_says : {T E : Type 0} (r : Result T E) (old new : NodeView) → OnOk r
 later_says (Ok x) old new ok err = subst (Later old) (sym ok.learnt) (later_learns (own_acks old.me ok.numbers) old)
 later_says (Err e) old new ok err = later_same old new err
 
--- it drops what all members have harvested, or that is refused
-pub later_prunes : {E : Type 0} (r : Result (Unit {0}) E) (part : Look) (old new : NodeView) → OnOk r (new ≡ learn part old) → OnErr r (new ≡ old) → Later old new
-later_prunes (Ok u) part old new ok err = subst (Later old) (sym ok) (later_learns part old)
+-- a board comes to it, or none
+later_learns_some : (part : Option Look) (old : NodeView) → Later old (learn_some part old)
+later_learns_some None old = later_none old
+later_learns_some (Some part) old = later_learns part old
+
+-- it drops what all members have harvested, or says that the context is dead; or that is refused
+pub later_prunes : {E : Type 0} (r : Result (Unit {0}) E) (part : Option Look) (old new : NodeView) → OnOk r (new ≡ learn_some part old) → OnErr r (new ≡ old) → Later old new
+later_prunes (Ok u) part old new ok err = subst (Later old) (sym ok) (later_learns_some part old)
 later_prunes (Err e) part old new ok err = later_same old new err

@@ -1,5 +1,5 @@
 -- What stays of a node as time passes without posts of its own.
-use Rattle.std.specs.Prelude.{◌≡◌, ℕ, ◌<◌, ◌≤◌, ◌⊎◌, IsTrue, is_some, true, Option, Some, None, slice_get}
+use Rattle.std.specs.Prelude.{◌≡◌, ℕ, ◌<◌, ◌≤◌, ◌⊎◌, IsTrue, is_some, true, false, Option, Some, None, slice_get}
 use Rattle.join_core.specs.Flat.{known, unknown, flat_leq}
 use Rattle.mpx_name.specs.Name.{Name}
 use Rattle.mpx_post.specs.Posts.{Given}
@@ -12,10 +12,10 @@ use Rattle.mpx_node.specs.Nodes.{NodeView, posted_on, results_on, next_result}
 abbrev pub result_at : NodeView → Name → (call : ℕ) → Option Finished
 result_at node name call = slice_get (results_on node name) call
 
--- the process's post of the call is there, or something else was told beside it, or it is dropped
+-- the process's post of the call is there, or something else was told beside it; or it is dropped, or gone with a dead context
 pub record IsHeld (context : Context) (call process : ℕ) (given : Given) : Type 0 where
-  pub held : context.dropped ≤ call → flat_leq same_given (known given) (context.posts call process) ≡ true
-  pub gone : call < context.dropped → context.posts call process ≡ unknown
+  pub held : context.dead ≡ false → context.dropped ≤ call → flat_leq same_given (known given) (context.posts call process) ≡ true
+  pub lost : (context.dead ≡ true) ⊎ (call < context.dropped) → context.posts call process ≡ unknown
 
 -- what the process posted as this call is this, and so its result says
 pub record IsOwn (node : NodeView) (name : Name) (call : ℕ) (given : Given) : Type 0 where

@@ -1,4 +1,4 @@
--- The drafts of the calls, one row each (MPI 4.1, sections 6.3 to 6.12, 7.4.2, 8.5.4 and 8.6).
+-- The drafts of the calls, one row each (MPI 4.1, sections 6.3 to 6.12, 7.4.2, 7.4.3, 8.5.4 and 8.6).
 use Rattle.std.specs.Prelude.{ℤ, pos, Bool, List, [], ◌∷◌, Option, Some, None}
 use Rattle.mpx_num.specs.declared.types.Ty.{Ty}
 use Rattle.mpx_num.specs.declared.types.Ty.TheVariants.{I8}
@@ -97,6 +97,11 @@ dist_graph weighted edges = of_graph N.DistGraph (record { weighted = weighted; 
 
 abbrev pub dist_graph_adjacent : (weighted : Bool) → (sources destinations : List DraftedNeighbour) → Draft
 dist_graph_adjacent weighted sources destinations = of_graph N.DistGraphAdjacent (record { weighted = weighted; edges = []; sources = sources; destinations = destinations })
+
+-- THE END OF A COMMUNICATOR
+
+abbrev pub free : Draft
+free = plain C.Free
 
 -- ALONG THE EDGES OF A GRAPH
 

@@ -1,13 +1,13 @@
 // A desk over a node alone, whose user carries the boards.
 ghost use Rattle.std.specs.Prelude.{◌≡◌, ◌≤◌, All, IfOk, OnOk, OnErr, map};
-ghost use Rattle.mpx_board.specs.Boards.{IsBelow, join_all, only, floor_on, Dropped};
-ghost use Rattle.mpx_board.specs.Changes.{pruned};
+ghost use Rattle.mpx_board.specs.Boards.{IsBelow, join_all};
+ghost use Rattle.mpx_board.specs.Changes.{pruned_on};
 ghost use Rattle.mpx_board.specs.Looks.{look, parts_of};
 ghost use Rattle.mpx_format.specs.Encoding.{length_told};
 ghost use Rattle.mpx_parts.specs.Facts.{OnlyFactsOf};
 ghost use Rattle.mpx_node.specs.Bounded.{node_bounded};
 ghost use Rattle.mpx_node.specs.Deltas.{SaysWhatItHas, lacking_on};
-ghost use Rattle.mpx_node.specs.Nodes.{StopsTaking, learn};
+ghost use Rattle.mpx_node.specs.Nodes.{StopsTaking, learn, learn_some, prune_part};
 ghost use Rattle.mpx_comm.specs.Harvested.{HarvestsNext};
 
 use crate::desk::Desk;
@@ -89,10 +89,11 @@ impl Desk<Node> {
         self.host.harvest(alloc, name)
     }
 
-    /// Drops the posts of calls below the number on a context, which is at most the floor. It takes no memory.
+    /// Drops the posts of calls below the number on a context, which is at most the floor; past a free that every member has
+    /// harvested the context is dead, as [`Node::prune`] says. It takes no memory.
     pub fn prune(&mut self, name: &Name, number: u32) -> Result<(), PruneError>
-        ensures answer { result ≡ pruned (floor_on (node_of self.old.host).board name.now) number }
-        ensures ok { OnOk result (node_of self.new.host ≡ learn (only (Dropped name.now number)) (node_of self.old.host)) }
+        ensures answer { result ≡ pruned_on (node_of self.old.host).board name.now number }
+        ensures ok { OnOk result (node_of self.new.host ≡ learn_some (prune_part (node_of self.old.host) name.now number) (node_of self.old.host)) }
         ensures err { OnErr result (node_of self.new.host ≡ node_of self.old.host) }
         ensures requests { self.new.requests.keys ≡ self.old.requests.keys }
     {

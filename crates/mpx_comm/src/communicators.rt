@@ -1,4 +1,4 @@
-// The calls that make communicators, which all block. Each is a draft that is posted and waited for.
+// The calls that make communicators and the one that frees them, which all block. Each is a draft that is posted and waited for.
 ghost use Rattle.std.specs.Prelude.{◌≡◌, Some};
 ghost use Rattle.mpx_comm.specs.Desks.{DeskAsksGathered, DeskCalls, DeskCallsGathered};
 ghost use Rattle.mpx_comm.specs.Lines as line;
@@ -125,6 +125,15 @@ impl<H: Host> Desk<H> {
     {
         let new = NewCommunicator::DistGraphAdjacent;
         let draft = lines::of_graph(new, weighted, Vec::new(alloc), sources, destinations);
+        self.call_on(alloc, &comm.name, draft, turns)
+    }
+
+    /// `MPI_COMM_FREE` (MPI 4.1 section 7.4.3): the member posts nothing more on the communicator, whatever comes of this call;
+    /// from its post on each other one is refused as [`PostError::Closed`]. What is open there can still be waited for.
+    pub fn free(&mut self, alloc: Global, comm: &Comm, turns: u64) -> Result<Finished, CallError>
+        ensures { DeskCalls H.node H.turned H.turn_refused comm.now.name line.free turns result self.old self.new }
+    {
+        let draft = lines::free();
         self.call_on(alloc, &comm.name, draft, turns)
     }
 }

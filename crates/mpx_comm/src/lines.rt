@@ -267,3 +267,11 @@ pub fn of_graph(
     draft.graph = Some(graph);
     draft
 }
+
+// The end of a communicator.
+
+pub fn free() -> Draft
+    ensures { result ≡ line.free }
+{
+    plain(Call::Free)
+}

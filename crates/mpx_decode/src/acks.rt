@@ -15,7 +15,7 @@ use crate::numbers::read_u8;
 use join_core::Max;
 use join_nest::Keyed;
 use mpx_board::{Acks, VersionVector};
-use mpx_format::ReadError;
+use mpx_format::{ReadError, Version};
 use mpx_group::Proc;
 use mpx_name::Name;
 use std::alloc::Global;
@@ -42,7 +42,7 @@ impl WireValue for Max {
 
     ghost seen = { λ m. m.0 };
 
-    ghost format = { some_calls };
+    ghost format = { λ version. some_calls };
 
     ghost says = { λ v. true };
 
@@ -50,7 +50,7 @@ impl WireValue for Max {
         true
     }
 
-    fn read(_alloc: Global, bytes: &[u8]) -> Result<(Max, &[u8]), ReadError> {
+    fn read(_version: Version, _alloc: Global, bytes: &[u8]) -> Result<(Max, &[u8]), ReadError> {
         let (number, rest) = read_some_calls(bytes)?;
         Ok((Max(number), rest))
     }
@@ -61,7 +61,7 @@ impl WireValue for VersionVector {
 
     ghost seen = { λ m. keyed_view nat_cmp (λ n. n.0) m.entries.items };
 
-    ghost format = { numbers };
+    ghost format = { λ version. numbers };
 
     ghost says = { λ v. true };
 
@@ -70,9 +70,13 @@ impl WireValue for VersionVector {
     }
 
     #[tactic(auto, unfolding(mpx_format::specs::Fields::numbers))]
-    fn read(alloc: Global, bytes: &[u8]) -> Result<(VersionVector, &[u8]), ReadError> {
+    fn read(
+        version: Version,
+        alloc: Global,
+        bytes: &[u8],
+    ) -> Result<(VersionVector, &[u8]), ReadError> {
         let (count, rest) = read_some_byte(bytes)?;
-        let (entries, rest) = read_entries(alloc, &None, count as usize, rest)?;
+        let (entries, rest) = read_entries(version, alloc, &None, count as usize, rest)?;
         Ok((Keyed::from_rising(entries), rest))
     }
 }
@@ -82,7 +86,7 @@ impl WireValue for Acks {
 
     ghost seen = { λ a. keyed_view name_cmp (λ m. keyed_view nat_cmp (λ n. n.0) m.entries.items) a.entries.items };
 
-    ghost format = { acks };
+    ghost format = { λ version. acks };
 
     ghost says = { λ v. true };
 
@@ -91,18 +95,22 @@ impl WireValue for Acks {
     }
 
     #[tactic(auto, unfolding(mpx_format::specs::Fields::acks))]
-    fn read(alloc: Global, bytes: &[u8]) -> Result<(Acks, &[u8]), ReadError> {
+    fn read(version: Version, alloc: Global, bytes: &[u8]) -> Result<(Acks, &[u8]), ReadError> {
         let (count, rest) = read_some_names(bytes)?;
-        let (entries, rest) = read_entries(alloc, &None, count as usize, rest)?;
+        let (entries, rest) = read_entries(version, alloc, &None, count as usize, rest)?;
         Ok((Keyed::from_rising(entries), rest))
     }
 }
 
 #[tactic(auto, unfolding(mpx_format::specs::Fields::all_acks))]
-pub fn read_all_acks(alloc: Global, bytes: &[u8]) -> Result<(Keyed<Proc, Acks>, &[u8]), ReadError>
+pub fn read_all_acks(
+    version: Version,
+    alloc: Global,
+    bytes: &[u8],
+) -> Result<(Keyed<Proc, Acks>, &[u8]), ReadError>
     ensures { Gives (λ x. (view_of_all_acks x.0, x.1.now)) result (all_acks.read bytes.now) }
 {
     let (count, rest) = read_u8(bytes)?;
-    let (entries, rest) = read_entries(alloc, &None, count as usize, rest)?;
+    let (entries, rest) = read_entries(version, alloc, &None, count as usize, rest)?;
     Ok((Keyed::from_rising(entries), rest))
 }

@@ -10,7 +10,7 @@ use crate::lists::read_list;
 use crate::names::read_members;
 use crate::neighbours::EachNear;
 use crate::numbers::read_u8;
-use mpx_format::{ReadError, out_of_limits};
+use mpx_format::{ReadError, Version, out_of_limits};
 use mpx_post::{Birth, Neighbours, Topology};
 use std::alloc::Global;
 
@@ -74,7 +74,7 @@ impl WireValue for Birth {
 
     ghost seen = { λ b. b };
 
-    ghost format = { birth };
+    ghost format = { λ version. birth };
 
     ghost says = { λ v. true };
 
@@ -83,7 +83,7 @@ impl WireValue for Birth {
     }
 
     #[tactic(auto, unfolding(mpx_format::specs::Births::birth))]
-    fn read(alloc: Global, bytes: &[u8]) -> Result<(Birth, &[u8]), ReadError> {
+    fn read(_version: Version, alloc: Global, bytes: &[u8]) -> Result<(Birth, &[u8]), ReadError> {
         let (members, rest) = read_members(alloc, bytes)?;
         let (topology, rest) = read_topology(members.len(), alloc, rest)?;
         Ok((Birth::from_parts(alloc, members, topology)?, rest))

@@ -1,29 +1,56 @@
-// The codes of kinds, modes, operations and types, and bytes that say yes or no.
-ghost use Rattle.std.specs.Prelude.{◌≡◌, ◌<◌, nat_lt, IfOk, is_some, true};
+// The codes of versions, kinds, modes, operations and types, and bytes that say yes or no.
+ghost use Rattle.std.specs.Prelude.{◌≡◌, ◌<◌, ◌≤◌, nat_lt, IfOk, is_some, true};
 ghost use Rattle.std.specs.Option.{option_map_or};
 ghost use Rattle.mpx_num.specs.Operations.{fits};
 ghost use Rattle.mpx_kind.specs.Kinds.{family_of, may_be};
 ghost use Rattle.mpx_format.specs.Format.{Gives};
 ghost use Rattle.mpx_format.specs.Fields.{process};
-ghost use Rattle.mpx_format.specs.Codes.{flag, item_type, kind, mode, operation, when};
+ghost use Rattle.mpx_format.specs.Codes.{flag, item_type, kind, kinds_in, mode, operation, version_byte, when};
 ghost use Rattle.mpx_kind.specs.Codes.{kind_at};
 ghost use Rattle.mpx_num.specs.Codes.{operation_at, type_at};
 ghost use Rattle.mpx_format.specs.Posts.{type_for};
 
 use crate::fields::read_process;
 use crate::numbers::read_u8;
-use mpx_format::{ReadError, out_of_limits};
+use mpx_format::{Fault, ReadError, Version, out_of_limits};
 use mpx_num::{Op, Ty, op_fits};
 use mpx_post::{Family, Kind, Mode};
 
-// KINDS AND MODES
+// VERSIONS
 
-#[tactic(auto, unfolding(mpx_format::specs::Codes::kind))]
-pub fn read_kind(bytes: &[u8]) -> Result<(Kind, &[u8]), ReadError>
-    ensures { Gives (λ x. (x.0, x.1.now)) result (kind.read bytes.now) }
+/// The version at the front of these bytes, which stand behind the magic of a frame.
+pub fn read_version(bytes: &[u8]) -> Result<(Version, &[u8]), ReadError>
+    ensures { Gives (λ x. (x.0, x.1.now)) result (version_byte.read bytes.now) }
 {
     let (code, rest) = read_u8(bytes)?;
-    if code < 26 {
+    if code == 1 {
+        Ok((Version::One, rest))
+    } else if code == 2 {
+        Ok((Version::Two, rest))
+    } else {
+        Err(ReadError::Fault(Fault::BadVersion))
+    }
+}
+
+// KINDS AND MODES
+
+// How many kinds the version spells.
+fn kinds_in(version: Version) -> u8
+    ensures value { result ≡ kinds_in version }
+    ensures few { result ≤ 27 }
+{
+    match version {
+        Version::One => 26,
+        Version::Two => 27,
+    }
+}
+
+#[tactic(auto, unfolding(mpx_format::specs::Codes::kind))]
+pub fn read_kind(version: Version, bytes: &[u8]) -> Result<(Kind, &[u8]), ReadError>
+    ensures { Gives (λ x. (x.0, x.1.now)) result ((kind version).read bytes.now) }
+{
+    let (code, rest) = read_u8(bytes)?;
+    if code < kinds_in(version) {
         Ok((kind_at(code), rest))
     } else {
         Err(out_of_limits(bytes))
@@ -31,7 +58,7 @@ pub fn read_kind(bytes: &[u8]) -> Result<(Kind, &[u8]), ReadError>
 }
 
 fn kind_at(code: u8) -> Kind
-    requires { code < 26 }
+    requires { code < 27 }
     ensures { result ≡ kind_at code }
 {
     match code {
@@ -61,6 +88,7 @@ fn kind_at(code: u8) -> Kind
         23 => Kind::NeighborAllgatherv,
         24 => Kind::NeighborAlltoall,
         25 => Kind::NeighborAlltoallv,
+        26 => Kind::Free,
         _ => unreachable!(),
     }
 }
@@ -89,6 +117,7 @@ fn may_be_nonblocking(kind: Kind) -> bool
         Family::Reduction(_) => true,
         Family::NewCommunicator(_) => false,
         Family::Neighbourhood(_) => true,
+        Family::Free => false,
     }
 }
 

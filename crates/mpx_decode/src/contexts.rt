@@ -3,11 +3,11 @@ ghost use Rattle.std.specs.Prelude.{◌≡◌, true};
 ghost use Rattle.join_core.specs.Flat.{FlatView};
 ghost use Rattle.join_core.specs.FlatSeen.{flat_view};
 ghost use Rattle.mpx_post.specs.Posts.{Given};
-ghost use Rattle.mpx_board.specs.Parts.{CallView, EntryView, PartsView, ProgressView};
+ghost use Rattle.mpx_board.specs.Parts.{CallView, LiftedView, PartsView, ProgressView};
 ghost use Rattle.join_nest.specs.Trunc.{TruncView};
-ghost use Rattle.mpx_board.specs.Tidy.{says_nothing};
+ghost use Rattle.mpx_board.specs.Tidy.{is_silent};
 ghost use Rattle.mpx_format.specs.Format.{Gives};
-ghost use Rattle.mpx_format.specs.Contexts.{told, posted, call_posts, held, progress, context, parts, says_something};
+ghost use Rattle.mpx_format.specs.Contexts.{told, posted, call_posts, held, progress, context, lift_form, lifted, parts, says_something};
 ghost use Rattle.mpx_format.specs.Fields.{fronts, call};
 
 use crate::acks::read_all_acks;
@@ -15,21 +15,25 @@ use crate::entries::{WireKey, WireValue, read_entries};
 use crate::fields::{read_call, read_name_count, read_some_byte};
 use crate::numbers::{read_u8, read_u32};
 use join_core::{Exact, Flat, Pair};
-use join_nest::{Keyed, Trunc};
-use mpx_board::{Call, Entry, Parts, VersionVector, is_told, says_something};
-use mpx_format::{ReadError, out_of_limits};
+use join_nest::{Keyed, Lift, Trunc};
+use mpx_board::{Call, Entry, Lifted, Parts, VersionVector, is_said, is_told};
+use mpx_format::{ReadError, Version, out_of_limits};
 use mpx_post::{Birth, Post};
 use std::alloc::Global;
 
 // A value that is told once.
-fn read_told<T: WireValue>(alloc: Global, bytes: &[u8]) -> Result<(Flat<T>, &[u8]), ReadError>
-    ensures { Gives (λ x. (flat_view T.seen x.0, x.1.now)) result ((told T.format).read bytes.now) }
+fn read_told<T: WireValue>(
+    version: Version,
+    alloc: Global,
+    bytes: &[u8],
+) -> Result<(Flat<T>, &[u8]), ReadError>
+    ensures { Gives (λ x. (flat_view T.seen x.0, x.1.now)) result ((told (T.format version)).read bytes.now) }
 {
     let (form, rest) = read_u8(bytes)?;
     if form == 0 {
         Ok((Flat::Unknown, rest))
     } else if form == 1 {
-        let (value, rest) = T::read(alloc, rest)?;
+        let (value, rest) = T::read(version, alloc, rest)?;
         Ok((Flat::Known(value), rest))
     } else if form == 2 {
         Ok((Flat::Clash, rest))
@@ -52,8 +56,12 @@ impl WireValue for Flat<Post> {
     }
 
     #[tactic(auto, unfolding(mpx_format::specs::Contexts::posted))]
-    fn read(alloc: Global, bytes: &[u8]) -> Result<(Flat<Post>, &[u8]), ReadError> {
-        let (posted, rest): (Flat<Post>, &[u8]) = read_told(alloc, bytes)?;
+    fn read(
+        version: Version,
+        alloc: Global,
+        bytes: &[u8],
+    ) -> Result<(Flat<Post>, &[u8]), ReadError> {
+        let (posted, rest): (Flat<Post>, &[u8]) = read_told(version, alloc, bytes)?;
         if is_told(&posted) {
             Ok((posted, rest))
         } else {
@@ -76,19 +84,23 @@ impl WireValue for Call {
     }
 
     #[tactic(auto, unfolding(mpx_format::specs::Contexts::call_posts))]
-    fn read(alloc: Global, bytes: &[u8]) -> Result<(Call, &[u8]), ReadError> {
+    fn read(version: Version, alloc: Global, bytes: &[u8]) -> Result<(Call, &[u8]), ReadError> {
         let (count, rest) = read_some_byte(bytes)?;
-        let (entries, rest) = read_entries(alloc, &None, count as usize, rest)?;
+        let (entries, rest) = read_entries(version, alloc, &None, count as usize, rest)?;
         Ok((Keyed::from_rising(entries), rest))
     }
 }
 
 #[tactic(auto, unfolding(mpx_format::specs::Fields::fronts))]
-fn read_fronts(alloc: Global, bytes: &[u8]) -> Result<(VersionVector, &[u8]), ReadError>
+fn read_fronts(
+    version: Version,
+    alloc: Global,
+    bytes: &[u8],
+) -> Result<(VersionVector, &[u8]), ReadError>
     ensures { Gives (λ x. (⟦<VersionVector as Exact>⟧.view x.0, x.1.now)) result (fronts.read bytes.now) }
 {
     let (count, rest) = read_u8(bytes)?;
-    let (entries, rest) = read_entries(alloc, &None, count as usize, rest)?;
+    let (entries, rest) = read_entries(version, alloc, &None, count as usize, rest)?;
     Ok((Keyed::from_rising(entries), rest))
 }
 
@@ -102,55 +114,93 @@ impl WireKey for u32 {
 
 // The dropped front, and the calls at or above it.
 #[tactic(auto, unfolding(mpx_format::specs::Contexts::held, mpx_format::specs::Contexts::calls))]
-fn read_held(alloc: Global, bytes: &[u8]) -> Result<(Trunc<Call>, &[u8]), ReadError>
-    ensures { Gives (λ x. (⟦<Trunc<Call> as Exact>⟧.view x.0, x.1.now)) result (held.read bytes.now) }
+fn read_held(
+    version: Version,
+    alloc: Global,
+    bytes: &[u8],
+) -> Result<(Trunc<Call>, &[u8]), ReadError>
+    ensures { Gives (λ x. (⟦<Trunc<Call> as Exact>⟧.view x.0, x.1.now)) result ((held version).read bytes.now) }
 {
     let (dropped, rest) = read_u32(bytes)?;
     let (count, rest) = read_u32(rest)?;
-    let (calls, rest) = read_entries(alloc, &Some(dropped), count as usize, rest)?;
+    let (calls, rest) = read_entries(version, alloc, &Some(dropped), count as usize, rest)?;
     Ok((Trunc::from_rising(dropped, calls), rest))
 }
 
-impl WireValue for Entry {
-    ghost Seen = { EntryView };
+// A live context.
+#[tactic(auto, unfolding(mpx_format::specs::Contexts::context, mpx_format::specs::Contexts::progress))]
+fn read_context(version: Version, alloc: Global, bytes: &[u8]) -> Result<(Entry, &[u8]), ReadError>
+    ensures { Gives (λ x. (⟦<Entry as Exact>⟧.view x.0, x.1.now)) result ((context version).read bytes.now) }
+{
+    let (birth, rest): (Flat<Birth>, &[u8]) = read_told(version, alloc, bytes)?;
+    let (fronts, rest) = read_fronts(version, alloc, rest)?;
+    let (posts, rest) = read_held(version, alloc, rest)?;
+    let second = Pair {
+        first: fronts,
+        second: posts,
+    };
+    Ok((
+        Pair {
+            first: birth,
+            second,
+        },
+        rest,
+    ))
+}
 
-    ghost seen = { ⟦<Entry as Exact>⟧.view };
+// The same, as a context that may be dead and isn't.
+fn read_live(version: Version, alloc: Global, bytes: &[u8]) -> Result<(Lifted, &[u8]), ReadError>
+    ensures { Gives (λ x. (⟦<Lifted as Exact>⟧.view x.0, x.1.now)) result ((lift_form (context version) 0).read bytes.now) }
+{
+    let (entry, rest) = read_context(version, alloc, bytes)?;
+    Ok((Lift::Live(entry), rest))
+}
 
-    ghost format = { context };
+// A byte of version 2 tells whether the context is dead.
+impl WireValue for Lifted {
+    ghost Seen = { LiftedView };
+
+    ghost seen = { ⟦<Lifted as Exact>⟧.view };
+
+    ghost format = { lifted };
 
     ghost says = { says_something };
 
     fn says_something(&self) -> bool {
-        says_something(self)
+        is_said(self)
     }
 
-    #[tactic(auto, unfolding(mpx_format::specs::Contexts::context, mpx_format::specs::Contexts::progress))]
-    fn read(alloc: Global, bytes: &[u8]) -> Result<(Entry, &[u8]), ReadError> {
-        let (birth, rest): (Flat<Birth>, &[u8]) = read_told(alloc, bytes)?;
-        let (fronts, rest) = read_fronts(alloc, rest)?;
-        let (posts, rest) = read_held(alloc, rest)?;
-        let second = Pair {
-            first: fronts,
-            second: posts,
-        };
-        Ok((
-            Pair {
-                first: birth,
-                second,
-            },
-            rest,
-        ))
+    #[tactic(auto, unfolding(mpx_format::specs::Contexts::lifted))]
+    fn read(version: Version, alloc: Global, bytes: &[u8]) -> Result<(Lifted, &[u8]), ReadError> {
+        match version {
+            Version::One => read_live(version, alloc, bytes),
+            Version::Two => {
+                let (form, rest) = read_u8(bytes)?;
+                if form == 0 {
+                    read_live(version, alloc, rest)
+                } else if form == 1 {
+                    Ok((Lift::Dead, rest))
+                } else {
+                    Err(out_of_limits(bytes))
+                }
+            }
+        }
     }
 }
 
+/// The parts of a board, as the version spells them, at the front of these bytes, and the bytes after them.
 #[tactic(auto, unfolding(mpx_format::specs::Contexts::parts))]
-pub fn read_parts(alloc: Global, bytes: &[u8]) -> Result<(Parts, &[u8]), ReadError>
-    ensures { Gives (λ x. (⟦<Parts as Exact>⟧.view x.0, x.1.now)) result (parts.read bytes.now) }
+pub fn read_parts(
+    version: Version,
+    alloc: Global,
+    bytes: &[u8],
+) -> Result<(Parts, &[u8]), ReadError>
+    ensures { Gives (λ x. (⟦<Parts as Exact>⟧.view x.0, x.1.now)) result ((parts version).read bytes.now) }
 {
     let (count, rest) = read_name_count(bytes)?;
-    let (entries, rest) = read_entries(alloc, &None, count as usize, rest)?;
+    let (entries, rest) = read_entries(version, alloc, &None, count as usize, rest)?;
     let contexts = Keyed::from_rising(entries);
-    let (acks, rest) = read_all_acks(alloc, rest)?;
+    let (acks, rest) = read_all_acks(version, alloc, rest)?;
     Ok((
         Pair {
             first: contexts,

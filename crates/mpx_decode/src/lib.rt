@@ -1,4 +1,4 @@
-//! What stands in frames, read: [`read_parts`], and below it a reader for each field. Which bytes spell what, and which refusal
+//! What stands in frames, read: [`read_version`] and [`read_parts`], and below it a reader for each field. Which bytes spell what, and which refusal
 //! other bytes get, is said in `mpx_format`; whole frames are read in `mpx_wire`.
 #![tactic(auto)]
 
@@ -17,4 +17,5 @@ mod neighbours;
 mod numbers;
 mod posts;
 
+pub use codes::read_version;
 pub use contexts::read_parts;

@@ -7,7 +7,7 @@ use crate::codes::{read_kind, read_mode, read_op, read_root, read_type};
 use crate::counts::{read_counts, read_items_for};
 use crate::entries::WireValue;
 use crate::making::read_making;
-use mpx_format::ReadError;
+use mpx_format::{ReadError, Version};
 use mpx_post::Post;
 use std::alloc::Global;
 
@@ -25,8 +25,8 @@ impl WireValue for Post {
     }
 
     #[tactic(auto, unfolding(mpx_format::specs::Posts::post))]
-    fn read(alloc: Global, bytes: &[u8]) -> Result<(Post, &[u8]), ReadError> {
-        let (kind, rest) = read_kind(bytes)?;
+    fn read(version: Version, alloc: Global, bytes: &[u8]) -> Result<(Post, &[u8]), ReadError> {
+        let (kind, rest) = read_kind(version, bytes)?;
         let (mode, rest) = read_mode(kind, rest)?;
         let fields = kind.fields();
         let sent = fields.scounts.is_had();

@@ -9,10 +9,11 @@ use Rattle.std.specs.declared.cmp.Ordering.TheVariants.{Less, Equal, Greater}
 use Rattle.std.specs.Ordering.{eq_by_cmp, nat_cmp}
 use Rattle.std.specs.Cmp.{nat_cmp_total, unsigned_tied}
 use Rattle.std.specs.FinMap.Entries.{below_all}
-use Rattle.std.specs.FinMap.{find, is_sorted, entries, entries_sorted, get, get-entries, get-from_sorted, nat_cmp-IsAntisymmetric}
+use Rattle.std.specs.FinMap.{empty as no_entry, find, is_sorted, entries, entries_sorted, get, get-empty, get-entries, get-from_sorted, nat_cmp-IsAntisymmetric}
 use Rattle.join_core.specs.Cases.{yes, no, answer, first, second, first_true, second_true, is_tied}
 use Rattle.join_core.specs.Flat.{FlatView, unknown, known, clash}
 use Rattle.join_nest.specs.EntriesLaws.{below_less, below_tied, find_below, find_first}
+use Rattle.join_nest.specs.Lift.{live, dead}
 use Rattle.join_nest.specs.TruncLaws.{get_dropped}
 use Rattle.mpx_birth.specs.Orders.{upto}
 use Rattle.mpx_name.specs.Name.{Name}
@@ -21,12 +22,12 @@ use Rattle.mpx_post.specs.Births.{BirthView}
 use Rattle.mpx_board.specs.Boards.{told}
 use Rattle.mpx_board.specs.Changes.{is_posted}
 use Rattle.mpx_board.specs.Contexts.{or_zero, post_in, context_of, or_nothing, number_in, numbers_of, look_of}
-use Rattle.mpx_board.specs.Parts.{OfProcesses, CallView, EntryView, PartsView}
+use Rattle.mpx_board.specs.Parts.{OfProcesses, CallView, EntryView, LiftedView, PartsView}
 use Rattle.mpx_board.specs.Tidy.{is_unknown, has_no_zero, is_tidy_numbers, are_tidy_numbers}
-use Rattle.mpx_board.proofs.Entries.{get_entries}
+use Rattle.mpx_board.proofs.Entries.{all_empty, get_entries}
 use Rattle.mpx_delta.specs.Digests.{IsDigest, IsFirstGap, IsListed, member, posted}
 use Rattle.mpx_delta.specs.Keep.{kept, unless_bare}
-use Rattle.mpx_delta.specs.Reach.{digest_number, digest_numbers, digest_parts, has_posted, is_listed, is_member_of, is_told_of, numbered, reach, unless_zero}
+use Rattle.mpx_delta.specs.Reach.{digest_lifted, digest_number, digest_numbers, digest_parts, has_posted, is_listed, is_member_of, is_told_of, numbered, reach, unless_zero}
 use Rattle.mpx_delta.proofs.Kept.{find_kept, get_keep, sorted_kept}
 use Rattle.mpx_delta.proofs.Lesser.{bare_number, unless_bare_tidy}
 use Rattle.mpx_delta.proofs.Reaching.{one_more}
@@ -268,16 +269,21 @@ lt_true p n lt = grind (arith, nat_tests)
 true_lt : (p n : ℕ) → nat_lt p n ≡ true → p < n
 true_lt p n t = grind (arith, nat_tests)
 
-listed_in : (o : Option EntryView) (p : ℕ) → p < 64 → IsListed (or_nothing o) p → IsFirstGap (λ k. is_posted (or_nothing o) k p) (number_in p (option_and_then (λ e. unless_bare (digest_numbers e)) o))
+listed_in : (o : Option LiftedView) (p : ℕ) → p < 64 → IsListed (or_nothing o) p → IsFirstGap (λ k. is_posted (or_nothing o) k p) (number_in p (option_and_then (λ l. unless_bare (digest_lifted l)) o))
 listed_in None p lt (member birth rank is at) = cc is
 listed_in None p lt (posted k some) = absurd (some refl)
-listed_in (Some e) p lt listed = subst (λ n. IsFirstGap (λ k. is_posted (context_of e) k p) n)
+listed_in (Some dead) p lt (member birth rank is at) = cc is
+listed_in (Some dead) p lt (posted k some) = absurd (some refl)
+listed_in (Some (live e)) p lt listed = subst (λ n. IsFirstGap (λ k. is_posted (context_of e) k p) n)
     (sym (digest_at e p ∙ ap (λ b. cond b (digest_number e p) 0) (lt_true p 64 lt) ∙ ap (λ b. cond b (reach p e.1.1.dropped (entries e.1.1.calls)) 0) (to_listed e p listed)))
     (first_gap p e)
 
-others_in : (o : Option EntryView) (p : ℕ) → 0 < number_in p (option_and_then (λ e. unless_bare (digest_numbers e)) o) → (p < 64) × IsListed (or_nothing o) p
+others_in : (o : Option LiftedView) (p : ℕ) → 0 < number_in p (option_and_then (λ l. unless_bare (digest_lifted l)) o) → (p < 64) × IsListed (or_nothing o) p
 others_in None p more = absurd (omega (arith, more))
-others_in (Some e) p more =
+others_in (Some dead) p more =
+    let none : 0 < 0 = subst (λ n. 0 < n) (bare_number no_entry p ∙ ap or_zero (get-empty nat_cmp p)) more in
+    absurd (omega (arith, none))
+others_in (Some (live e)) p more =
     let some : 0 < cond (nat_lt p 64) (digest_number e p) 0 = subst (λ n. 0 < n) (digest_at e p) more in
     elim (answer (nat_lt p 64)) [
       | no f ↦ let none : 0 < 0 = subst (λ b. 0 < cond b (digest_number e p) 0) f some in absurd (omega (arith, none))
@@ -289,8 +295,8 @@ others_in (Some e) p more =
       ]
     ]
 
-get_digest : (v : PartsView) (name : Name) → get (digest_parts v) name ≡ option_and_then (λ e. unless_bare (digest_numbers e)) (get v.0 name)
-get_digest v name = get_keep name_cmp (λ name e. unless_bare (digest_numbers e)) name_total name_exact v.0 name
+get_digest : (v : PartsView) (name : Name) → get (digest_parts v) name ≡ option_and_then (λ l. unless_bare (digest_lifted l)) (get v.0 name)
+get_digest v name = get_keep name_cmp (λ name l. unless_bare (digest_lifted l)) name_total name_exact v.0 name
 
 pub digest_is : (v : PartsView) → IsDigest (numbers_of (digest_parts v)) (look_of v)
 unfolding look_of
@@ -310,8 +316,12 @@ numbers_some e = get_entries nat_cmp_total nat_cmp-IsAntisymmetric (λ p n. nat_
   some_number p n true is = above_zero (digest_number e p) n (nat_lt 0 (digest_number e p)) refl is
   some_number p n false is = cc is
 
+lifted_some : (l : LiftedView) → has_no_zero (digest_lifted l) ≡ true
+lifted_some (live e) = numbers_some e
+lifted_some dead = all_empty nat_cmp_total nat_cmp-IsAntisymmetric (λ p n. nat_lt 0 n)
+
 pub digest_tidy : (v : PartsView) → are_tidy_numbers (digest_parts v) ≡ true
 digest_tidy v = get_entries name_total name_exact (λ name n. is_tidy_numbers n) (digest_parts v) (λ name n is. tidy_in (get v.0 name) n (sym (get_digest v name) ∙ is)) where
-  tidy_in : (o : Option EntryView) (n : OfProcesses ℕ) → option_and_then (λ e. unless_bare (digest_numbers e)) o ≡ Some n → is_tidy_numbers n ≡ true
+  tidy_in : (o : Option LiftedView) (n : OfProcesses ℕ) → option_and_then (λ l. unless_bare (digest_lifted l)) o ≡ Some n → is_tidy_numbers n ≡ true
   tidy_in None n is = cc is
-  tidy_in (Some e) n is = unless_bare_tidy (digest_numbers e) n (numbers_some e) is
+  tidy_in (Some l) n is = unless_bare_tidy (digest_lifted l) n (lifted_some l) is

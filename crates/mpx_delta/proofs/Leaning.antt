@@ -11,16 +11,17 @@ use Rattle.join_core.specs.Flat.{FlatView, unknown, known, clash}
 use Rattle.join_core.specs.Cases.{yes, no, answer, both, first, second, both_true, first_true, second_true}
 use Rattle.join_nest.specs.Entries.{with_key}
 use Rattle.join_nest.specs.Cut.{is_from, get_cut}
+use Rattle.join_nest.specs.Lift.{live, dead}
 use Rattle.join_nest.specs.TruncLaws.{get_dropped, same_trunc}
 use Rattle.join_nest.specs.Trunc.{TruncView, trunc_of}
 use Rattle.mpx_name.specs.Name.{Name}
 use Rattle.mpx_name.specs.Order.{name_cmp, name_total, name_exact}
 use Rattle.mpx_post.specs.Posts.{Given}
-use Rattle.mpx_board.specs.Boards.{Look, nothing, Fact, Born, Held, Front, Dropped, Acknowledged, Has}
+use Rattle.mpx_board.specs.Boards.{Look, nothing, gone, Fact, Born, Held, Front, Dropped, Dead, Acknowledged, Has}
 use Rattle.mpx_board.specs.Contexts.{or_zero, or_unknown, post_in, context_of, or_nothing, number_in, look_of}
 use Rattle.mpx_post.specs.Drafts.{most_calls}
-use Rattle.mpx_board.specs.Parts.{OfNames, OfProcesses, CallView, EntryView, AcksView, PartsView}
-use Rattle.mpx_board.specs.Tidy.{is_bare, is_unknown, all_entries, has_no_zero, are_tidy_posts, is_tidy_call, says_nothing, is_neat_entry, is_tidy_entry, are_tidy_entries, is_tidy_acks, are_tidy_acks, is_tidy}
+use Rattle.mpx_board.specs.Parts.{OfNames, OfProcesses, CallView, EntryView, LiftedView, AcksView, PartsView}
+use Rattle.mpx_board.specs.Tidy.{is_bare, is_unknown, all_entries, has_no_zero, are_tidy_posts, is_tidy_call, says_nothing, is_silent, is_neat_entry, is_tidy_lifted, are_tidy_entries, is_tidy_acks, are_tidy_acks, is_tidy}
 use Rattle.mpx_board.proofs.Entries.{all_empty, bare_gets, entries_get, get_entries}
 use Rattle.mpx_delta.specs.Keep.{kept, keep, unless_bare}
 use Rattle.mpx_delta.specs.Digests.{Numbers, number_at, numbers_of, without, without_posts}
@@ -65,10 +66,13 @@ module _ (numbers : ℕ → ℕ) where
   lean_posts e k p = ap (post_in p) (get_lean_calls e.1.1 k) ∙ one_call k p (get e.1.1.calls k)
 
   lean_is : (e : EntryView) → context_of (lean_entry numbers e) ≡ without_posts numbers (context_of e)
-  lean_is e i = record { birth = e.0; fronts = (context_of e).fronts; dropped = e.1.1.dropped; posts = λ k p. lean_posts e k p i }
+  lean_is e i = record { birth = e.0; fronts = (context_of e).fronts; dropped = e.1.1.dropped; posts = λ k p. lean_posts e k p i; dead = false }
 
   nothing_is : nothing ≡ without_posts numbers nothing
-  nothing_is i = record { birth = unknown; fronts = λ p. 0; dropped = 0; posts = λ k p. one_post k p None i }
+  nothing_is i = record { birth = unknown; fronts = λ p. 0; dropped = 0; posts = λ k p. one_post k p None i; dead = false }
+
+  gone_is : gone ≡ without_posts numbers gone
+  gone_is i = record { birth = unknown; fronts = λ p. 0; dropped = 0; posts = λ k p. one_post k p None i; dead = true }
 
 -- CONTEXTS
 
@@ -94,21 +98,23 @@ silent_is e h =
       fronts = λ p. or_zero (sym (bare_gets nat_cmp_total nat_cmp-IsAntisymmetric e.1.0 fronts p) i);
       dropped = sym (zero_is e.1.1.dropped dropped) i;
       posts = λ k p. post_in p (sym (bare_gets nat_cmp_total nat_cmp-IsAntisymmetric e.1.1.calls calls k) i);
+      dead = false;
     }
 
-silent : (e : EntryView) → or_nothing (unless_silent e) ≡ context_of e
+silent : (e : EntryView) → or_nothing (unless_silent (live e)) ≡ context_of e
 silent e = elim (answer (says_nothing e)) [
-  | yes t ↦ ap (λ b. or_nothing (cond b None (Some e))) t ∙ silent_is e t
-  | no f ↦ ap (λ b. or_nothing (cond b None (Some e))) f
+  | yes t ↦ ap (λ b. or_nothing (cond b None (Some (live e)))) t ∙ silent_is e t
+  | no f ↦ ap (λ b. or_nothing (cond b None (Some (live e)))) f
 ]
 
 module _ (d : AcksView) where
-  one_context : (name : Name) (o : Option EntryView) → or_nothing (option_and_then (lean_context d name) o) ≡ without_posts (numbers_of d name) (or_nothing o)
+  one_context : (name : Name) (o : Option LiftedView) → or_nothing (option_and_then (lean_context d name) o) ≡ without_posts (numbers_of d name) (or_nothing o)
   one_context name None = nothing_is (numbers_of d name)
-  one_context name (Some e) = silent (lean_entry (numbers_of d name) e) ∙ lean_is (numbers_of d name) e
+  one_context name (Some (live e)) = silent (lean_entry (numbers_of d name) e) ∙ lean_is (numbers_of d name) e
+  one_context name (Some dead) = gone_is (numbers_of d name)
 
   -- with the acknowledgements of another
-  pub lean_said : (v : PartsView) (first : OfNames EntryView) (none : OfProcesses AcksView) (said : Look) → first ≡ keep (lean_context d) v.0 → record (look_of (first, none)) { acks = said.acks } ≡ without (numbers_of d) (record (look_of v) { acks = said.acks })
+  pub lean_said : (v : PartsView) (first : OfNames LiftedView) (none : OfProcesses AcksView) (said : Look) → first ≡ keep (lean_context d) v.0 → record (look_of (first, none)) { acks = said.acks } ≡ without (numbers_of d) (record (look_of v) { acks = said.acks })
   unfolding look_of
   lean_said v first none said is i = record {
     contexts = λ name. (ap (λ m. or_nothing (get m name)) is ∙ ap or_nothing (get_keep name_cmp (lean_context d) name_total name_exact v.0 name) ∙ one_context name (get v.0 name)) i;
@@ -147,26 +153,27 @@ module _ (numbers : ℕ → ℕ) where
       call_tidy k (get t.calls k) m (sym (get_lean_calls numbers t k) ∙ is) (λ c at. entries_get nat_cmp_total nat_cmp-IsAntisymmetric is_tidy_call t.calls h k c at))
 
 module _ (d : AcksView) where
-  entry_tidy : (name : Name) (o : Option EntryView) (e : EntryView) → option_and_then (lean_context d name) o ≡ Some e → ((x : EntryView) → o ≡ Some x → is_tidy_entry x ≡ true) → is_tidy_entry e ≡ true
-  entry_tidy name None e h tidy = cc
-  entry_tidy name (Some x) e h tidy =
-      let neat : is_neat_entry x ≡ true = second_true (not (says_nothing x)) (is_neat_entry x) (tidy x refl) in
+  lifted_tidy : (name : Name) (o : Option LiftedView) (l : LiftedView) → option_and_then (lean_context d name) o ≡ Some l → ((x : LiftedView) → o ≡ Some x → is_tidy_lifted x ≡ true) → is_tidy_lifted l ≡ true
+  lifted_tidy name None l h tidy = cc
+  lifted_tidy name (Some dead) l h tidy = subst (λ y. is_tidy_lifted y ≡ true) (same_Some dead l h) refl
+  lifted_tidy name (Some (live x)) l h tidy =
+      let neat : is_neat_entry x ≡ true = second_true (not (says_nothing x)) (is_neat_entry x) (tidy (live x) refl) in
       let lean : EntryView = lean_entry (numbers_of d name) x in
       elim (answer (says_nothing lean)) [
-        | yes t ↦ let none : None ≡ Some e = sym (ap (λ b. cond b None (Some lean)) t) ∙ h in cc
+        | yes t ↦ let none : None ≡ Some l = sym (ap (λ b. cond b None (Some (live lean))) t) ∙ h in cc
         | no f ↦
-            let same : Some lean ≡ Some e = sym (ap (λ b. cond b None (Some lean)) f) ∙ h in
-            subst (λ y. is_tidy_entry y ≡ true) (same_Some lean e same)
+            let same : Some (live lean) ≡ Some l = sym (ap (λ b. cond b None (Some (live lean))) f) ∙ h in
+            subst (λ y. is_tidy_lifted y ≡ true) (same_Some (live lean) l same)
             (both_true (not (says_nothing lean)) (is_neat_entry lean) (ap not f)
             (both_true (has_no_zero x.1.0) (all_entries is_tidy_call lean.1.1.calls) (first_true (has_no_zero x.1.0) (all_entries is_tidy_call x.1.1.calls) neat) (calls_tidy (numbers_of d name) x.1.1 (second_true (has_no_zero x.1.0) (all_entries is_tidy_call x.1.1.calls) neat))))
       ]
 
-  pub lean_tidy : (v : PartsView) (first : OfNames EntryView) (none : OfProcesses AcksView) → is_tidy v ≡ true → first ≡ keep (lean_context d) v.0 → none ≡ no_entry → is_tidy (first, none) ≡ true
+  pub lean_tidy : (v : PartsView) (first : OfNames LiftedView) (none : OfProcesses AcksView) → is_tidy v ≡ true → first ≡ keep (lean_context d) v.0 → none ≡ no_entry → is_tidy (first, none) ≡ true
   lean_tidy v first none tidy is bare =
       both_true (are_tidy_entries first) (are_tidy_acks none)
-      (ap are_tidy_entries is ∙ get_entries name_total name_exact (λ name e. is_tidy_entry e) (keep (lean_context d) v.0) (λ name e at.
-      entry_tidy name (get v.0 name) e (sym (get_keep name_cmp (lean_context d) name_total name_exact v.0 name) ∙ at)
-      (λ x was. entries_get name_total name_exact (λ name e. is_tidy_entry e) v.0 (first_true (are_tidy_entries v.0) (are_tidy_acks v.1) tidy) name x was)))
+      (ap are_tidy_entries is ∙ get_entries name_total name_exact (λ name l. is_tidy_lifted l) (keep (lean_context d) v.0) (λ name l at.
+      lifted_tidy name (get v.0 name) l (sym (get_keep name_cmp (lean_context d) name_total name_exact v.0 name) ∙ at)
+      (λ x was. entries_get name_total name_exact (λ name l. is_tidy_lifted l) v.0 (first_true (are_tidy_entries v.0) (are_tidy_acks v.1) tidy) name x was)))
       (ap are_tidy_acks bare ∙ all_empty nat_cmp_total nat_cmp-IsAntisymmetric (λ p a. is_tidy_acks a))
 
 -- FACTS
@@ -181,18 +188,19 @@ without_only d b (Born name v) h = h
 without_only d b (Held name k p v) h = (h.0, lean_post_has (nat_lt k (d name p)) v ((b.contexts name).posts k p) h.0 h.1)
 without_only d b (Front name p n) h = h
 without_only d b (Dropped name n) h = h
+without_only d b (Dead name) h = h
 without_only d b (Acknowledged q name p n) h = h
 
 -- ENTRIES OF LOOPS
 
-pub says_some : (e made : EntryView) → made ≡ e → true ≡ not (says_nothing made) → unless_silent e ≡ Some made
-says_some e made is t = ap (λ x. unless_silent x) (sym is) ∙ said (says_nothing made) t where
+pub says_some : (l made : LiftedView) → made ≡ l → true ≡ not (is_silent made) → unless_silent l ≡ Some made
+says_some l made is t = ap (λ x. unless_silent x) (sym is) ∙ said (is_silent made) t where
   said : (b : Bool) → true ≡ not b → cond b None (Some made) ≡ Some made
   said true t = cc
   said false t = refl
 
-pub says_none : (e made : EntryView) → made ≡ e → false ≡ not (says_nothing made) → unless_silent e ≡ None
-says_none e made is t = ap (λ x. unless_silent x) (sym is) ∙ said (says_nothing made) t where
+pub says_none : (l made : LiftedView) → made ≡ l → false ≡ not (is_silent made) → unless_silent l ≡ None
+says_none l made is t = ap (λ x. unless_silent x) (sym is) ∙ said (is_silent made) t where
   said : (b : Bool) → false ≡ not b → cond b None (Some made) ≡ None
   said true t = refl
   said false t = cc

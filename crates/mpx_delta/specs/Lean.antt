@@ -1,11 +1,12 @@
 -- A board without posts, by the maps that it is made of.
 use Rattle.std.specs.Prelude.{ℕ, Option, Some, None, cond, nat_lt}
 use Rattle.join_core.specs.Flat.{FlatView}
+use Rattle.join_nest.specs.Lift.{live, dead}
 use Rattle.join_nest.specs.Trunc.{TruncView, trunc_of}
 use Rattle.mpx_name.specs.Name.{Name}
 use Rattle.mpx_post.specs.Posts.{Given}
-use Rattle.mpx_board.specs.Parts.{AcksView, CallView, EntryView}
-use Rattle.mpx_board.specs.Tidy.{says_nothing}
+use Rattle.mpx_board.specs.Parts.{AcksView, CallView, EntryView, LiftedView}
+use Rattle.mpx_board.specs.Tidy.{is_silent}
 use Rattle.mpx_delta.specs.Keep.{keep, unless_bare}
 use Rattle.mpx_delta.specs.Digests.{numbers_of}
 
@@ -22,9 +23,14 @@ lean_calls numbers t = trunc_of t.dropped (keep (lean_call numbers) t.calls)
 abbrev pub lean_entry : (ℕ → ℕ) → EntryView → EntryView
 lean_entry numbers e = (e.0, (e.1.0, lean_calls numbers e.1.1))
 
--- what still says something
-abbrev pub unless_silent : EntryView → Option EntryView
-unless_silent e = cond (says_nothing e) None (Some e)
+-- a dead context has no posts
+abbrev pub lean_lifted : (ℕ → ℕ) → LiftedView → LiftedView
+lean_lifted numbers (live e) = live (lean_entry numbers e)
+lean_lifted numbers dead = dead
 
-abbrev pub lean_context : AcksView → Name → EntryView → Option EntryView
-lean_context d name e = unless_silent (lean_entry (numbers_of d name) e)
+-- what still says something
+abbrev pub unless_silent : LiftedView → Option LiftedView
+unless_silent l = cond (is_silent l) None (Some l)
+
+abbrev pub lean_context : AcksView → Name → LiftedView → Option LiftedView
+lean_context d name l = unless_silent (lean_lifted (numbers_of d name) l)

@@ -1,12 +1,13 @@
 -- How many calls of a process an entry has in order, by the maps that it is made of.
 use Rattle.std.specs.Prelude.{◌≡◌, ℕ, ◌+◌, ◌<◌, ◌&&◌, ◌||◌, Bool, false, not, nat_eq, nat_lt, cond, List, [], ◌∷◌, get_or, Option, Some, None}
 use Rattle.std.specs.List.{list_any}
-use Rattle.std.specs.FinMap.{entries, from_sorted}
+use Rattle.std.specs.FinMap.{empty, entries, from_sorted}
+use Rattle.join_nest.specs.Lift.{live, dead}
 use Rattle.mpx_group.specs.Group.{has}
 use Rattle.mpx_post.specs.Births.{BirthView, upto}
 use Rattle.mpx_board.specs.Boards.{told}
 use Rattle.mpx_board.specs.Contexts.{post_in}
-use Rattle.mpx_board.specs.Parts.{OfProcesses, AcksView, CallView, EntryView, PartsView}
+use Rattle.mpx_board.specs.Parts.{OfProcesses, AcksView, CallView, EntryView, LiftedView, PartsView}
 use Rattle.mpx_board.specs.Tidy.{is_unknown}
 use Rattle.mpx_delta.specs.Keep.{kept, keep, unless_bare}
 
@@ -48,8 +49,13 @@ numbered n = numbers_with (upto n)
 abbrev pub digest_numbers : EntryView → OfProcesses ℕ
 digest_numbers e = from_sorted (kept (λ p u. unless_zero (digest_number e p)) (numbered 64))
 
+-- nobody is listed in a dead context
+abbrev pub digest_lifted : LiftedView → OfProcesses ℕ
+digest_lifted (live e) = digest_numbers e
+digest_lifted dead = empty
+
 abbrev pub digest_parts : PartsView → AcksView
-digest_parts v = keep (λ name e. unless_bare (digest_numbers e)) v.0
+digest_parts v = keep (λ name l. unless_bare (digest_lifted l)) v.0
 
 -- of each process below 64 the answer
 abbrev pub AreMarks : (ℕ → Bool) → List Bool → Type 0

@@ -2,24 +2,25 @@
 ghost use Rattle.std.specs.Prelude.{◌≡◌, ◌≤◌, All, map, IfOk};
 ghost use Rattle.mpx_board.specs.Boards.{Look, join, join_all};
 ghost use Rattle.mpx_board.specs.Looks.{look, parts_of};
-ghost use Rattle.mpx_board.specs.Views.{view_of_acks, view_of_call, view_of_calls, view_of_entries, view_of_entry, view_of_numbers};
+ghost use Rattle.mpx_board.specs.Views.{view_of_acks, view_of_call, view_of_calls, view_of_entries, view_of_entry, view_of_lifted, view_of_numbers};
 ghost use Rattle.mpx_format.specs.Encoding.{length_told};
 ghost use Rattle.mpx_parts.specs.Facts.{OnlyFactsOf};
 ghost use Rattle.mpx_delta.specs.Digests.{Covers, number_at, numbers_of, without};
 ghost use Rattle.mpx_delta.specs.Keep.{keep};
-ghost use Rattle.mpx_delta.specs.Lean.{lean_call, lean_calls, lean_context, lean_entry, lean_post};
+ghost use Rattle.mpx_delta.specs.Lean.{lean_call, lean_calls, lean_context, lean_entry, lean_lifted, lean_post};
 
 use crate::digest::Digest;
 use join_core::{Exact, OutOfMemory, Pair};
-use join_nest::{Keyed, Trunc};
-use mpx_board::{Board, Call, Entry, VersionVector, says_something};
+use join_nest::{Keyed, Lift, Trunc};
+use mpx_board::{Board, Call, Entry, Lifted, VersionVector, is_said};
 use mpx_group::Proc;
 use mpx_name::Name;
 use mpx_parts::parts;
 use std::alloc::Global;
 
 /// The board without the posts below the digest, in parts, each of which has only facts of the board and a frame of at
-/// most so many bytes: they serve each board in which those posts stand as the whole would.
+/// most so many bytes: they serve each board in which those posts stand as the whole would. They tell of each dead context
+/// that it is dead.
 pub fn delta_for(
     alloc: Global,
     board: &Board,
@@ -64,22 +65,37 @@ pub fn lean_board(
 // The contexts without those posts.
 fn lean_contexts(
     alloc: Global,
-    contexts: &Keyed<Name, Entry>,
+    contexts: &Keyed<Name, Lifted>,
     digest: &Digest,
-) -> Result<Keyed<Name, Entry>, OutOfMemory>
+) -> Result<Keyed<Name, Lifted>, OutOfMemory>
     ensures { IfOk result (λ made. view_of_entries made ≡ keep (lean_context (view_of_acks digest.now)) (view_of_entries contexts.now)) }
 {
     let mut made = Vec::new(alloc);
-    for (name, entry) in contexts.entries() {
-        let lean = lean_context(alloc, name, entry, digest)?;
-        if says_something(&lean) {
+    for (name, known) in contexts.entries() {
+        let lean = lean_lifted(alloc, name, known, digest)?;
+        if is_said(&lean) {
             made.push((name.copy(alloc)?, lean))?;
         }
     }
     Ok(Keyed::from_rising(made))
 }
 
-// What is known of the context with this name, without those posts.
+// What is known of the context with this name, without those posts; a dead one has none.
+fn lean_lifted(
+    alloc: Global,
+    name: &Name,
+    known: &Lifted,
+    digest: &Digest,
+) -> Result<Lifted, OutOfMemory>
+    ensures { IfOk result (λ made. view_of_lifted made ≡ lean_lifted (numbers_of (view_of_acks digest.now) name.now) (view_of_lifted known.now)) }
+{
+    match known {
+        Lift::Live(entry) => Ok(Lift::Live(lean_context(alloc, name, entry, digest)?)),
+        Lift::Dead => Ok(Lift::Dead),
+    }
+}
+
+// The same of a live one.
 fn lean_context(
     alloc: Global,
     name: &Name,

@@ -4,15 +4,15 @@ ghost use Rattle.std.specs.FinMap.{entries};
 ghost use Rattle.join_core.specs.FlatSeen.{flat_view};
 ghost use Rattle.mpx_board.specs.Boards.{told};
 ghost use Rattle.mpx_board.specs.Looks.{look, parts_of};
-ghost use Rattle.mpx_board.specs.Tidy.{all_entries, are_tidy_numbers, is_tidy_call};
-ghost use Rattle.mpx_board.specs.Views.{view_of_acks, view_of_call, view_of_calls, view_of_entry, view_of_numbers};
+ghost use Rattle.mpx_board.specs.Tidy.{all_entries, are_tidy_numbers, is_tidy_call, is_tidy_lifted};
+ghost use Rattle.mpx_board.specs.Views.{view_of_acks, view_of_call, view_of_calls, view_of_entry, view_of_lifted, view_of_numbers};
 ghost use Rattle.mpx_group.specs.Group.{has};
 ghost use Rattle.mpx_delta.specs.Digests.{IsDigest, numbers_of};
-ghost use Rattle.mpx_delta.specs.Reach.{AreMarks, digest_number, digest_numbers, has_posted, is_member_of, is_told_of, reach};
+ghost use Rattle.mpx_delta.specs.Reach.{AreMarks, digest_lifted, digest_number, digest_numbers, has_posted, is_member_of, is_told_of, reach};
 
 use join_core::{Exact, Flat, Max, OutOfMemory};
-use join_nest::{Keyed, Trunc};
-use mpx_board::{Board, Call, Entry, VersionVector};
+use join_nest::{Keyed, Lift, Trunc};
+use mpx_board::{Board, Call, Entry, Lifted, VersionVector};
 use mpx_group::Proc;
 use mpx_name::Name;
 use mpx_post::Birth;
@@ -21,15 +21,15 @@ use std::alloc::Global;
 /// For each context, and each process of it, a number of calls; a 0 isn't kept.
 pub type Digest = Keyed<Name, VersionVector>;
 
-/// For each context, and each process that is a member or has a post there, how many of its calls are told or dropped,
-/// in order up to the first gap.
+/// For each live context, and each process that is a member or has a post there, how many of its calls are told or dropped,
+/// in order up to the first gap. Dead contexts are left out.
 pub fn digest_of(alloc: Global, board: &Board) -> Result<Digest, OutOfMemory>
     ensures digest { IfOk result (λ made. IsDigest (numbers_of (view_of_acks made)) (look board.now)) }
     ensures tidy { IfOk result (λ made. IsTrue (are_tidy_numbers (view_of_acks made))) }
 {
     let mut made = Vec::new(alloc);
-    for (name, entry) in board.pair().first.entries() {
-        let numbers = entry_digest(alloc, entry)?;
+    for (name, known) in board.pair().first.entries() {
+        let numbers = lifted_digest(alloc, known)?;
         if !numbers.is_empty() {
             made.push((name.copy(alloc)?, numbers))?;
         }
@@ -38,6 +38,17 @@ pub fn digest_of(alloc: Global, board: &Board) -> Result<Digest, OutOfMemory>
 }
 
 // The same of one context.
+fn lifted_digest(alloc: Global, known: &Lifted) -> Result<VersionVector, OutOfMemory>
+    requires { is_tidy_lifted (view_of_lifted known.now) ≡ true }
+    ensures { IfOk result (λ made. view_of_numbers made ≡ digest_lifted (view_of_lifted known.now)) }
+{
+    match known {
+        Lift::Live(entry) => entry_digest(alloc, entry),
+        Lift::Dead => Ok(Keyed::new(alloc)),
+    }
+}
+
+// And of a live one.
 fn entry_digest(alloc: Global, entry: &Entry) -> Result<VersionVector, OutOfMemory>
     requires { all_entries is_tidy_call (view_of_entry entry.now).1.1.calls ≡ true }
     ensures { IfOk result (λ made. view_of_numbers made ≡ digest_numbers (view_of_entry entry.now)) }

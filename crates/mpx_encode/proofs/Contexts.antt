@@ -11,6 +11,7 @@ use Rattle.join_nest.specs.Trunc.{TruncView}
 use Rattle.join_nest.specs.Cut.{is_from}
 use Rattle.mpx_board.specs.Parts.{CallView, EntryView}
 use Rattle.mpx_post.specs.Posts.{Given}
+use Rattle.mpx_format.specs.declared.versions.Version.TheVariants.{Two}
 use Rattle.mpx_format.specs.Format.{Format, many_fit}
 use Rattle.mpx_format.specs.Rising.{entry, always}
 use Rattle.mpx_format.specs.Fields.{call, name_count, some_names, fronts}
@@ -27,19 +28,19 @@ all_left (Some n) q = q
 
 -- TOLD ONCE
 
-pub posted_known_fits : (p : Given) → post.fits p ≡ true → posted.fits (known p) ≡ true
+pub posted_known_fits : (p : Given) → (post Two).fits p ≡ true → (posted Two).fits (known p) ≡ true
 unfolding posted
 posted_known_fits p h = both_true _ _ h refl
 
-pub posted_known : (p : Given) → posted.fits (known p) ≡ true → post.fits p ≡ true
+pub posted_known : (p : Given) → (posted Two).fits (known p) ≡ true → (post Two).fits p ≡ true
 unfolding posted
-posted_known p h = first_true (post.fits p) true h
+posted_known p h = first_true ((post Two).fits p) true h
 
-pub posted_spelled : (p : Given) → posted.spelling (known p) ≡ (1 ∷ []) ++ post.spelling p
+pub posted_spelled : (p : Given) → (posted Two).spelling (known p) ≡ (1 ∷ []) ++ (post Two).spelling p
 unfolding posted
 posted_spelled p = refl
 
-pub length-posted : (p : Given) → length (posted.spelling (known p)) ≡ 1 + length (post.spelling p)
+pub length-posted : (p : Given) → length ((posted Two).spelling (known p)) ≡ 1 + length ((post Two).spelling p)
 unfolding posted
 length-posted p = omega arith
 
@@ -49,65 +50,65 @@ below_last : (k : ℕ) → call.fits k ≡ true → nat_lt k (2 ^ 32 - 1) ≡ tr
 unfolding call
 below_last k h = second_true (nat_lt k (256 ^ 4)) (nat_lt k (2 ^ 32 - 1)) h
 
-pub held_spelled : (t : TruncView CallView) → held.spelling t ≡ (to_be_bytes w32 t.dropped ++ to_be_bytes w32 (length (entries t.calls))) ++ entries_spelled call call_posts (entries t.calls)
+pub held_spelled : (t : TruncView CallView) → (held Two).spelling t ≡ (to_be_bytes w32 t.dropped ++ to_be_bytes w32 (length (entries t.calls))) ++ entries_spelled call (call_posts Two) (entries t.calls)
 unfolding held calls
-held_spelled t = ap (λ l. (to_be_bytes w32 t.dropped ++ to_be_bytes w32 (length (entries t.calls))) ++ l) (entries_alike nat_cmp (Some t.dropped) call call_posts always (entries t.calls))
+held_spelled t = ap (λ l. (to_be_bytes w32 t.dropped ++ to_be_bytes w32 (length (entries t.calls))) ++ l) (entries_alike nat_cmp (Some t.dropped) call (call_posts Two) always (entries t.calls))
 
-pub held_length : (t : TruncView CallView) → length (held.spelling t) ≡ 8 + length (entries_spelled call call_posts (entries t.calls))
-held_length t = ap length (held_spelled t) ∙ length-append (to_be_bytes w32 t.dropped ++ to_be_bytes w32 (length (entries t.calls))) (entries_spelled call call_posts (entries t.calls))
+pub held_length : (t : TruncView CallView) → length ((held Two).spelling t) ≡ 8 + length (entries_spelled call (call_posts Two) (entries t.calls))
+held_length t = ap length (held_spelled t) ∙ length-append (to_be_bytes w32 t.dropped ++ to_be_bytes w32 (length (entries t.calls))) (entries_spelled call (call_posts Two) (entries t.calls))
 
 from_test : (b : Bool) → T b → b ≡ true
 from_test true t = refl
 from_test false t = absurd t
 
-pub held_fits : (t : TruncView CallView) → t.dropped < 2 ^ 32 → is_sorted nat_cmp (entries t.calls) ≡ true → both_pass call.fits call_posts.fits (entries t.calls) ≡ true → held.fits t ≡ true
+pub held_fits : (t : TruncView CallView) → t.dropped < 2 ^ 32 → is_sorted nat_cmp (entries t.calls) ≡ true → both_pass call.fits (call_posts Two).fits (entries t.calls) ≡ true → (held Two).fits t ≡ true
 unfolding held calls
 held_fits t few s pass =
     let es = entries t.calls in
-    let short : length es ≤ 2 ^ 32 - 1 = sorted_few (2 ^ 32 - 1) es s (keys_below call.fits (λ k. nat_lt k (2 ^ 32 - 1)) call_posts.fits below_last es pass) in
+    let short : length es ≤ 2 ^ 32 - 1 = sorted_few (2 ^ 32 - 1) es s (keys_below call.fits (λ k. nat_lt k (2 ^ 32 - 1)) (call_posts Two).fits below_last es pass) in
     both_true _ _ (lt-ltb t.dropped (256 ^ 4) (omega (arith, few)))
-    (both_true _ _ (lt-ltb (length es) (256 ^ 4) (omega (arith, short))) (entries_fit nat_cmp (Some t.dropped) call call_posts always [] es (rising_from t.dropped es s (from_test (is_from t.dropped es) t.above)) pass (always_says es)))
+    (both_true _ _ (lt-ltb (length es) (256 ^ 4) (omega (arith, short))) (entries_fit nat_cmp (Some t.dropped) call (call_posts Two) always [] es (rising_from t.dropped es s (from_test (is_from t.dropped es) t.above)) pass (always_says es)))
 
-calls_fit : (t : TruncView CallView) → held.fits t ≡ true → (calls t.dropped).fits (entries t.calls) ≡ true
+calls_fit : (t : TruncView CallView) → (held Two).fits t ≡ true → (calls Two t.dropped).fits (entries t.calls) ≡ true
 unfolding held
-calls_fit t h = second_true (nat_lt t.dropped (256 ^ 4)) ((calls t.dropped).fits (entries t.calls)) h
+calls_fit t h = second_true (nat_lt t.dropped (256 ^ 4)) ((calls Two t.dropped).fits (entries t.calls)) h
 
-few_calls : (dropped : ℕ) (es : List (ℕ × CallView)) → (calls dropped).fits es ≡ true → length es < 256 ^ 4
+few_calls : (dropped : ℕ) (es : List (ℕ × CallView)) → (calls Two dropped).fits es ≡ true → length es < 256 ^ 4
 unfolding calls
-few_calls dropped es h = ltb-true (length es) (256 ^ 4) (first_true (nat_lt (length es) (256 ^ 4)) (many_fit (entry nat_cmp (Some dropped) call call_posts always) (length es) [] es) h)
+few_calls dropped es h = ltb-true (length es) (256 ^ 4) (first_true (nat_lt (length es) (256 ^ 4)) (many_fit (entry nat_cmp (Some dropped) call (call_posts Two) always) (length es) [] es) h)
 
-pub held_below : (t : TruncView CallView) → held.fits t ≡ true → length (entries t.calls) < 256 ^ 4
+pub held_below : (t : TruncView CallView) → (held Two).fits t ≡ true → length (entries t.calls) < 256 ^ 4
 held_below t h = few_calls t.dropped (entries t.calls) (calls_fit t h)
 
-calls_pass : (dropped : ℕ) (es : List (ℕ × CallView)) → (calls dropped).fits es ≡ true → both_pass call.fits call_posts.fits es ≡ true
+calls_pass : (dropped : ℕ) (es : List (ℕ × CallView)) → (calls Two dropped).fits es ≡ true → both_pass call.fits (call_posts Two).fits es ≡ true
 unfolding calls
 calls_pass dropped es h =
-    entries_pass nat_cmp (Some dropped) call call_posts always (length es) es (second_true (nat_lt (length es) (256 ^ 4)) (many_fit (entry nat_cmp (Some dropped) call call_posts always) (length es) [] es) h)
+    entries_pass nat_cmp (Some dropped) call (call_posts Two) always (length es) es (second_true (nat_lt (length es) (256 ^ 4)) (many_fit (entry nat_cmp (Some dropped) call (call_posts Two) always) (length es) [] es) h)
 
-pub held_pass : (t : TruncView CallView) → held.fits t ≡ true → both_pass call.fits call_posts.fits (entries t.calls) ≡ true
+pub held_pass : (t : TruncView CallView) → (held Two).fits t ≡ true → both_pass call.fits (call_posts Two).fits (entries t.calls) ≡ true
 held_pass t h = calls_pass t.dropped (entries t.calls) (calls_fit t h)
 
 -- CONTEXTS
 
-pub context_spelled : (e : EntryView) → context.spelling e ≡ ((told birth).spelling e.0 ++ fronts.spelling e.1.0) ++ held.spelling e.1.1
+pub context_spelled : (e : EntryView) → (context Two).spelling e ≡ ((told birth).spelling e.0 ++ fronts.spelling e.1.0) ++ (held Two).spelling e.1.1
 unfolding context progress
-context_spelled e = sym (append_assoc ((told birth).spelling e.0) (fronts.spelling e.1.0) (held.spelling e.1.1))
+context_spelled e = sym (append_assoc ((told birth).spelling e.0) (fronts.spelling e.1.0) ((held Two).spelling e.1.1))
 
-pub context_fits : (e : EntryView) → (told birth).fits e.0 ≡ true → fronts.fits e.1.0 ≡ true → held.fits e.1.1 ≡ true → context.fits e ≡ true
+pub context_fits : (e : EntryView) → (told birth).fits e.0 ≡ true → fronts.fits e.1.0 ≡ true → (held Two).fits e.1.1 ≡ true → (context Two).fits e ≡ true
 unfolding context progress
 context_fits e b f h = both_true _ _ b (both_true _ _ f h)
 
-pub context_birth : (e : EntryView) → context.fits e ≡ true → (told birth).fits e.0 ≡ true
+pub context_birth : (e : EntryView) → (context Two).fits e ≡ true → (told birth).fits e.0 ≡ true
 unfolding context progress
-context_birth e h = first_true ((told birth).fits e.0) (fronts.fits e.1.0 && held.fits e.1.1) h
+context_birth e h = first_true ((told birth).fits e.0) (fronts.fits e.1.0 && (held Two).fits e.1.1) h
 
-pub context_fronts : (e : EntryView) → context.fits e ≡ true → fronts.fits e.1.0 ≡ true
+pub context_fronts : (e : EntryView) → (context Two).fits e ≡ true → fronts.fits e.1.0 ≡ true
 unfolding context progress
-context_fronts e h = first_true (fronts.fits e.1.0) (held.fits e.1.1) (second_true ((told birth).fits e.0) (fronts.fits e.1.0 && held.fits e.1.1) h)
+context_fronts e h = first_true (fronts.fits e.1.0) ((held Two).fits e.1.1) (second_true ((told birth).fits e.0) (fronts.fits e.1.0 && (held Two).fits e.1.1) h)
 
-pub context_held : (e : EntryView) → context.fits e ≡ true → held.fits e.1.1 ≡ true
+pub context_held : (e : EntryView) → (context Two).fits e ≡ true → (held Two).fits e.1.1 ≡ true
 unfolding context progress
-context_held e h = second_true (fronts.fits e.1.0) (held.fits e.1.1) (second_true ((told birth).fits e.0) (fronts.fits e.1.0 && held.fits e.1.1) h)
+context_held e h = second_true (fronts.fits e.1.0) ((held Two).fits e.1.1) (second_true ((told birth).fits e.0) (fronts.fits e.1.0 && (held Two).fits e.1.1) h)
 
 -- NAMES
 

@@ -21,6 +21,7 @@ use Rattle.mpx_post.specs.declared.making.Making.{Making}
 use Rattle.mpx_post.specs.declared.making.Making.TheVariants.{Split, Group}
 use Rattle.mpx_post.specs.Graphs.{EdgesView, NeighboursView, most_edges}
 use Rattle.mpx_post.specs.Posts.{Given, makes_of}
+use Rattle.mpx_format.specs.declared.versions.Version.TheVariants.{Two}
 use Rattle.mpx_format.specs.Format.{Format, many_fit}
 use Rattle.mpx_format.specs.Fields.{process, member, colour}
 use Rattle.mpx_format.specs.Codes.{code_of_mode, kind, mode, operation, item_type, flag, when}
@@ -184,15 +185,15 @@ module _ (g : Given) where
   abbrev pub making_part : List ℕ
   making_part = (making_for (fields_of g.kind).makes).spelling g.making
 
-  pub post_spelled : post.spelling g ≡ (code_of_kind g.kind ∷ []) ++ ((code_of_mode g.mode ∷ []) ++ (root_part ++ (operation_part ++ (type_part ++ (sent_part ++ (received_part ++ (items_part ++ making_part)))))))
+  pub post_spelled : (post Two).spelling g ≡ (code_of_kind g.kind ∷ []) ++ ((code_of_mode g.mode ∷ []) ++ (root_part ++ (operation_part ++ (type_part ++ (sent_part ++ (received_part ++ (items_part ++ making_part)))))))
   unfolding post kind mode
   post_spelled = refl
 
   -- the same from the left
-  pub post_in_turn : post.spelling g ≡ ((((((((code_of_kind g.kind ∷ []) ++ code_of_mode g.mode ∷ []) ++ root_part) ++ operation_part) ++ type_part) ++ sent_part) ++ received_part) ++ items_part) ++ making_part
+  pub post_in_turn : (post Two).spelling g ≡ ((((((((code_of_kind g.kind ∷ []) ++ code_of_mode g.mode ∷ []) ++ root_part) ++ operation_part) ++ type_part) ++ sent_part) ++ received_part) ++ items_part) ++ making_part
   post_in_turn = post_spelled ∙ sym (regrouped (code_of_kind g.kind ∷ []) (code_of_mode g.mode ∷ []) root_part operation_part type_part sent_part received_part items_part making_part)
 
-  pub length-post : length (post.spelling g) ≡ 2 + (length root_part + length operation_part) + (length type_part + length items_part) + (length sent_part + length received_part) + length making_part
+  pub length-post : length ((post Two).spelling g) ≡ 2 + (length root_part + length operation_part) + (length type_part + length items_part) + (length sent_part + length received_part) + length making_part
   length-post =
       ap length post_spelled ∙ omega (
         arith,
@@ -204,12 +205,12 @@ module _ (g : Given) where
         length-append items_part making_part,
       )
 
-pub post_making : (g : Given) → post.fits g ≡ true → (making_for (fields_of g.kind).makes).fits g.making ≡ true
+pub post_making : (g : Given) → (post Two).fits g ≡ true → (making_for (fields_of g.kind).makes).fits g.making ≡ true
 unfolding post
 post_making g h =
     let fields = fields_of g.kind in
     let t = option_map (λ (i : ItemList). i.ty) g.items in
-    let a = kind.fits g.kind in
+    let a = (kind Two).fits g.kind in
     let b = (mode g.kind).fits g.mode in
     let r = (when fields.root process).fits g.root in
     let o = (when fields.op operation).fits g.op in

@@ -5,6 +5,7 @@ ghost use Rattle.std.specs.FinMap.{len};
 ghost use Rattle.mpx_board.specs.Looks.{parts_of};
 ghost use Rattle.mpx_board.specs.Tidy.{all_entries, is_tidy};
 ghost use Rattle.mpx_board.specs.Views.{view_of_parts};
+ghost use Rattle.mpx_format.specs.declared.versions.Version.TheVariants.{Two};
 ghost use Rattle.mpx_format.specs.Contexts.{frame};
 ghost use Rattle.mpx_format.specs.Decoding.{Spells, most_bytes};
 ghost use Rattle.mpx_format.specs.Encoding.{has_many_names, most_names, is_too_long, length_told};
@@ -68,14 +69,14 @@ fn has_many_names(parts: &Parts) -> bool
     !has_few_acks(parts)
 }
 
-/// The frame of the board: `MPXG`, the version 1, what is known of each context by its name, and what each process
-/// acknowledges, all numbers with the highest byte first. It takes memory once, for all its bytes.
+/// The frame of the board: `MPXG`, the version 2, what is known of each context by its name, or that it is dead, and what
+/// each process acknowledges, all numbers with the highest byte first. It takes memory once, for all its bytes.
 ///
 /// # Errors
 /// `TooLong` where the frame would be over 1,048,576 bytes or a list in it over 4,096 names, `OutOfMemory` where memory is
 /// refused.
 pub fn encode(alloc: Global, board: &Board) -> Result<Vec<u8>, EncodeError>
-    ensures spelled { IfOk result (λ bytes. Spells bytes.items (parts_of board.now)) }
+    ensures spelled { IfOk result (λ bytes. Spells Two bytes.items (parts_of board.now)) }
     ensures too_long { IsErrOf result EncodeError.TooLong ↔ (is_too_long (parts_of board.now) ≡ true) }
 {
     let parts = board.pair();
@@ -92,9 +93,9 @@ pub fn encode(alloc: Global, board: &Board) -> Result<Vec<u8>, EncodeError>
 // What the frame of these parts leaves of the bytes that a frame may have, where it isn't too long.
 fn frame_room(parts: &Parts) -> Option<usize>
     requires { is_tidy (view_of_parts parts.now) ≡ true }
-    ensures value { result ≡ cond (is_too_long (view_of_parts parts.now)) None (Some (most_bytes - length (frame.spelling (view_of_parts parts.now)))) }
-    ensures fits { IfSome result (λ left. frame.fits (view_of_parts parts.now) ≡ true) }
-    ensures few { IfSome result (λ left. length (frame.spelling (view_of_parts parts.now)) + left ≡ most_bytes) }
+    ensures value { result ≡ cond (is_too_long (view_of_parts parts.now)) None (Some (most_bytes - length (frame.spelling (Two, view_of_parts parts.now)))) }
+    ensures fits { IfSome result (λ left. frame.fits (Two, view_of_parts parts.now) ≡ true) }
+    ensures few { IfSome result (λ left. length (frame.spelling (Two, view_of_parts parts.now)) + left ≡ most_bytes) }
 {
     if has_many_names(parts) {
         return None;

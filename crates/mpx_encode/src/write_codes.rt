@@ -37,6 +37,7 @@ pub fn code_of_kind(kind: Kind) -> u8
         Kind::NeighborAllgatherv => 23,
         Kind::NeighborAlltoall => 24,
         Kind::NeighborAlltoallv => 25,
+        Kind::Free => 26,
     }
 }
 

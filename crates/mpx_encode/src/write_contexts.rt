@@ -1,15 +1,16 @@
 // What frames say of contexts, and whole frames.
-ghost use Rattle.std.specs.Prelude.{◌≡◌, ◌≤◌, ◌++◌, ◌&&◌, false, not, true, IfSome, OnOk, length, nat_le};
+ghost use Rattle.std.specs.Prelude.{◌≡◌, ◌≤◌, ◌+◌, ◌++◌, ◌&&◌, false, not, true, IfSome, OnOk, length, nat_le};
 ghost use Rattle.std.specs.FinMap.{len};
 ghost use Rattle.join_core.specs.Flat.{FlatView};
 ghost use Rattle.join_core.specs.FlatSeen.{flat_view};
-ghost use Rattle.mpx_board.specs.Parts.{AcksView, CallView, EntryView, OfProcesses, PartsView};
-ghost use Rattle.mpx_board.specs.Tidy.{all_entries, are_tidy_acks, are_tidy_posts, is_tidy, is_tidy_acks, is_tidy_call, is_tidy_entry, is_unknown};
-ghost use Rattle.mpx_board.specs.Views.{view_of_acks, view_of_call, view_of_calls, view_of_entry, view_of_parts};
+ghost use Rattle.mpx_board.specs.Parts.{AcksView, CallView, LiftedView, OfProcesses, PartsView};
+ghost use Rattle.mpx_board.specs.Tidy.{all_entries, are_tidy_acks, are_tidy_posts, is_tidy, is_tidy_acks, is_tidy_call, is_tidy_entry, is_tidy_lifted, is_unknown};
+ghost use Rattle.mpx_board.specs.Views.{view_of_acks, view_of_call, view_of_calls, view_of_entry, view_of_lifted, view_of_parts};
 ghost use Rattle.mpx_post.specs.Births.{BirthView};
 ghost use Rattle.mpx_post.specs.Posts.{Given};
+ghost use Rattle.mpx_format.specs.declared.versions.Version.TheVariants.{Two};
 ghost use Rattle.mpx_format.specs.Births.{birth as birth_format};
-ghost use Rattle.mpx_format.specs.Contexts.{call_posts, context, frame, held as held_format, parts as parts_format, posted, told as told_format};
+ghost use Rattle.mpx_format.specs.Contexts.{call_posts, context, frame, held as held_format, lifted, parts as parts_format, posted, told as told_format};
 ghost use Rattle.mpx_format.specs.Encoding.{has_many_names, most_names};
 ghost use Rattle.mpx_format.specs.Fields.{acks as acks_format};
 ghost use Rattle.mpx_encode.specs.Room.{room_left};
@@ -21,8 +22,8 @@ use crate::write_maps::{room_after_fronts, write_fronts};
 use crate::write_numbers::{write_u8, write_u16, write_u32};
 use crate::write_posts::{post_len, write_post};
 use join_core::{Flat, OutOfMemory};
-use join_nest::Trunc;
-use mpx_board::{Acks, Call, Entry, Parts};
+use join_nest::{Lift, Trunc};
+use mpx_board::{Acks, Call, Entry, Lifted, Parts};
 use mpx_post::{Birth, Post};
 
 impl WriteValue for Flat<Post> {
@@ -30,7 +31,7 @@ impl WriteValue for Flat<Post> {
 
     ghost seen = { flat_view (λ p. p) };
 
-    ghost format = { posted };
+    ghost format = { posted Two };
 
     ghost ready = { λ p. not (is_unknown p) };
 
@@ -85,7 +86,7 @@ impl WriteValue for Call {
 
     ghost seen = { view_of_call };
 
-    ghost format = { call_posts };
+    ghost format = { call_posts Two };
 
     ghost ready = { are_tidy_posts };
 
@@ -103,16 +104,16 @@ impl WriteValue for Call {
 // What is left of so much room behind the dropped front and the calls at or above it.
 fn room_after_held(held: &Trunc<Call>, room: usize) -> Option<usize>
     requires { all_entries is_tidy_call (view_of_calls held.now).calls ≡ true }
-    ensures value { result ≡ room_left (length (held_format.spelling (view_of_calls held.now))) room }
-    ensures fits { IfSome result (λ left. held_format.fits (view_of_calls held.now) ≡ true) }
+    ensures value { result ≡ room_left (length ((held_format Two).spelling (view_of_calls held.now))) room }
+    ensures fits { IfSome result (λ left. (held_format Two).fits (view_of_calls held.now) ≡ true) }
 {
     let _dropped = held.dropped();
     room_after_counted(8, held.entries(), room)
 }
 
 fn write_held(held: &Trunc<Call>, out: &mut Vec<u8>) -> Result<(), OutOfMemory>
-    requires { held_format.fits (view_of_calls held.now) ≡ true }
-    ensures { OnOk result (out.new.items ≡ out.old.items ++ held_format.spelling (view_of_calls held.now)) }
+    requires { (held_format Two).fits (view_of_calls held.now) ≡ true }
+    ensures { OnOk result (out.new.items ≡ out.old.items ++ (held_format Two).spelling (view_of_calls held.now)) }
 {
     let entries = held.entries();
     write_u32(held.dropped(), out)?;
@@ -120,25 +121,63 @@ fn write_held(held: &Trunc<Call>, out: &mut Vec<u8>) -> Result<(), OutOfMemory>
     write_entries(entries, out)
 }
 
-impl WriteValue for Entry {
-    ghost Seen = { EntryView };
+// What is left of so much room behind what is known of a live context.
+fn room_after_context(entry: &Entry, room: usize) -> Option<usize>
+    requires { is_tidy_entry (view_of_entry entry.now) ≡ true }
+    ensures value { result ≡ room_left (length ((context Two).spelling (view_of_entry entry.now))) room }
+    ensures fits { IfSome result (λ left. (context Two).fits (view_of_entry entry.now) ≡ true) }
+{
+    let behind_birth = room_after_birth(&entry.first, room)?;
+    let behind_fronts = room_after_fronts(&entry.second.first, behind_birth)?;
+    room_after_held(&entry.second.second, behind_fronts)
+}
 
-    ghost seen = { view_of_entry };
+fn write_context(entry: &Entry, out: &mut Vec<u8>) -> Result<(), OutOfMemory>
+    requires { (context Two).fits (view_of_entry entry.now) ≡ true }
+    ensures { OnOk result (out.new.items ≡ out.old.items ++ (context Two).spelling (view_of_entry entry.now)) }
+{
+    write_told_birth(&entry.first, out)?;
+    write_fronts(&entry.second.first, out)?;
+    write_held(&entry.second.second, out)
+}
 
-    ghost format = { context };
+// What is left of so much room behind the byte of a live context, and what is known of it.
+#[tactic(auto, using(crate::proofs::Rooms::rooms))]
+fn room_after_live(entry: &Entry, room: usize) -> Option<usize>
+    requires { is_tidy_entry (view_of_entry entry.now) ≡ true }
+    ensures value { result ≡ room_left (1 + length ((context Two).spelling (view_of_entry entry.now))) room }
+    ensures fits { IfSome result (λ left. (context Two).fits (view_of_entry entry.now) ≡ true) }
+{
+    let left = room_left(1, room)?;
+    room_after_context(entry, left)
+}
 
-    ghost ready = { is_tidy_entry };
+impl WriteValue for Lifted {
+    ghost Seen = { LiftedView };
 
+    ghost seen = { view_of_lifted };
+
+    ghost format = { lifted Two };
+
+    ghost ready = { is_tidy_lifted };
+
+    #[tactic(auto, unfolding(mpx_format::specs::Contexts::lifted))]
     fn room_after(&self, room: usize) -> Option<usize> {
-        let behind_birth = room_after_birth(&self.first, room)?;
-        let behind_fronts = room_after_fronts(&self.second.first, behind_birth)?;
-        room_after_held(&self.second.second, behind_fronts)
+        match self {
+            Lift::Live(entry) => room_after_live(entry, room),
+            Lift::Dead => room_left(1, room),
+        }
     }
 
+    #[tactic(auto, unfolding(mpx_format::specs::Contexts::lifted))]
     fn write(&self, out: &mut Vec<u8>) -> Result<(), OutOfMemory> {
-        write_told_birth(&self.first, out)?;
-        write_fronts(&self.second.first, out)?;
-        write_held(&self.second.second, out)
+        match self {
+            Lift::Live(entry) => {
+                write_u8(0, out)?;
+                write_context(entry, out)
+            }
+            Lift::Dead => write_u8(1, out),
+        }
     }
 }
 
@@ -166,8 +205,8 @@ impl WriteValue for Acks {
 pub fn room_after_frame(parts: &Parts, room: usize) -> Option<usize>
     requires tidy { is_tidy (view_of_parts parts.now) ≡ true }
     requires few { has_many_names (view_of_parts parts.now) ≡ false }
-    ensures value { result ≡ room_left (length (frame.spelling (view_of_parts parts.now))) room }
-    ensures fits { IfSome result (λ left. frame.fits (view_of_parts parts.now) ≡ true) }
+    ensures value { result ≡ room_left (length (frame.spelling (Two, view_of_parts parts.now))) room }
+    ensures fits { IfSome result (λ left. frame.fits (Two, view_of_parts parts.now) ≡ true) }
 {
     let names = parts.first.entries();
     let processes = parts.second.entries();
@@ -177,12 +216,12 @@ pub fn room_after_frame(parts: &Parts, room: usize) -> Option<usize>
 
 // Writes the frame of these parts at the end.
 pub fn write_frame(parts: &Parts, out: &mut Vec<u8>) -> Result<(), OutOfMemory>
-    requires { frame.fits (view_of_parts parts.now) ≡ true }
-    ensures { OnOk result (out.new.items ≡ out.old.items ++ frame.spelling (view_of_parts parts.now)) }
+    requires { frame.fits (Two, view_of_parts parts.now) ≡ true }
+    ensures { OnOk result (out.new.items ≡ out.old.items ++ frame.spelling (Two, view_of_parts parts.now)) }
 {
     let names = parts.first.entries();
     let processes = parts.second.entries();
-    out.extend_from_slice(b"MPXG\x01")?;
+    out.extend_from_slice(b"MPXG\x02")?;
     write_u16(names.len() as u16, out)?;
     write_entries(names, out)?;
     write_u8(processes.len() as u8, out)?;

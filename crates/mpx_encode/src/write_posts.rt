@@ -3,6 +3,7 @@ ghost use Rattle.std.specs.Prelude.{◌≡◌, ◌≤◌, ◌+◌, ◌*◌, ◌+
 ghost use Rattle.std.specs.List.{flat_map};
 ghost use Rattle.mpx_post.specs.Kinds.{fields_of, is_had};
 ghost use Rattle.mpx_post.specs.Posts.{most_counts};
+ghost use Rattle.mpx_format.specs.declared.versions.Version.TheVariants.{Two};
 ghost use Rattle.mpx_format.specs.Fields.{process};
 ghost use Rattle.mpx_format.specs.Codes.{operation, when};
 ghost use Rattle.mpx_format.specs.Posts.{count as count_format, counts as counts_format, counts_if, items_spelled, post as post_format, type_spelled};
@@ -115,9 +116,9 @@ fn operation_len(given: &Post) -> usize
 
 // How many bytes the post takes.
 pub fn post_len(given: &Post) -> usize
-    ensures value { result ≡ length (post_format.spelling given.now) }
+    ensures value { result ≡ length ((post_format Two).spelling given.now) }
     ensures small { result ≤ 400000 }
-    ensures fits { post_format.fits given.now ≡ true }
+    ensures fits { (post_format Two).fits given.now ≡ true }
 {
     // so that the proof knows its limits
     given.limits();
@@ -130,8 +131,8 @@ pub fn post_len(given: &Post) -> usize
 
 // Writes the post at the end.
 pub fn write_post(given: &Post, out: &mut Vec<u8>) -> Result<(), OutOfMemory>
-    requires { post_format.fits given.now ≡ true }
-    ensures { OnOk result (out.new.items ≡ out.old.items ++ post_format.spelling given.now) }
+    requires { (post_format Two).fits given.now ≡ true }
+    ensures { OnOk result (out.new.items ≡ out.old.items ++ (post_format Two).spelling given.now) }
 {
     let fields = given.kind().fields();
     write_u8(code_of_kind(given.kind()), out)?;

@@ -2,7 +2,7 @@
 use Rattle.std.proofs.Common.{◌≡◌, ℕ, ◌==◌, Bool, true, false, cond, List, [], ◌∷◌, ◌++◌, Option, Some, None, refl, sym, ap, ◌∙◌, subst}
 use Rattle.std.specs.Prelude.{is_some, Ok}
 use Rattle.std.proofs.lemmas.Bool.Decides.{Decides-eqb}
-use Rattle.mpx_value.specs.Histories.{Made, Results}
+use Rattle.mpx_value.specs.Histories.{Made, Results, has_freed}
 use Rattle.mpx_statement.specs.declared.statement.Posting.{Posting}
 use Rattle.mpx_statement.specs.declared.statement.Statement.{Statement}
 use Rattle.mpx_statement.specs.declared.statement.Statement.TheVariants.{Wait}
@@ -23,6 +23,7 @@ use Rattle.mpx_eval.specs.Carrying.{table_terms}
 use Rattle.mpx_eval.specs.Places.{After, Before, IsBornSo, TableRank, posted_by}
 use Rattle.mpx_eval.specs.Tables.{Posted, Shows, Table, Tries, answer_on, table_of, with_made}
 use Rattle.mpx_eval.proofs.Outcomes.{results_same}
+use Rattle.mpx_eval.proofs.Tables.{freed_shown}
 
 -- a rank without a move stays
 pub move_stays : (ranks : ℕ) (s : State) (p : ℕ) → step (known ranks s p) (s p) ≡ None → (q : ℕ) → move ranks s p q ≡ s q
@@ -97,7 +98,8 @@ module _ (ranks p : ℕ) (s : State) (r : TableRank) (c : Held) (b : Before rank
     hears = λ d e is h. h ∙ is;
     tells = λ d is name call outcome told. ap (λ (k : Results). outcomes_of k name call) (known_now d is) ∙ told;
     gives = λ d is name call to given. (given.0, ap (λ (k : Results). k name call) (known_now d is) ∙ given.1, given.2);
-    knows = λ d is communicator. refl;
+    closes = λ d is communicator. freed_shown ranks (table_of d) (posted_by s) (subst (λ x. Shows ranks (table_of x) (posted_by s)) (sym is) b.shows) r.me communicator.0 ∙ ap (has_freed communicator.0) made_is;
+    knows = λ d is communicator going. refl;
     quiet = λ d is t steps same. quietly d t same (subst (λ x. Shows ranks (table_of x) (posted_by s)) (sym is) b.shows);
     posts = λ d e is posting rest next on there name call tried.
         let shows = subst (λ x. Shows ranks (table_of x) (posted_by s)) (sym is) b.shows in

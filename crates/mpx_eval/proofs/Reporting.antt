@@ -54,6 +54,7 @@ are_in_start script ranks rs t count s none = record {
   shows = record {
     born = λ name c e. cc (e, none name);
     posts = λ name c e. cc (e, none name);
+    strangers = λ name c e. cc (e, none name);
     none = λ name e process. refl;
   };
   quiet = start_quiet script ranks (omega (arith, count));

@@ -1,6 +1,8 @@
 -- A table with a context more, and with a post more.
 use Rattle.std.proofs.Common.{◌≡◌, ℕ, zero, suc, ◌<◌, ◌==◌, Bool, true, false, cond, List, [], ◌∷◌, ◌++◌, length, map, set, get_or, Option, Some, None, refl, sym, ap, ◌∙◌, subst, arith}
 use Rattle.std.specs.Prelude.{Result, Ok, Err, is_some, IsSome, slice_get}
+use Rattle.std.specs.List.{list_any}
+use Rattle.std.specs.Option.{option_map_or}
 use Rattle.std.specs.BTreeMap.{BTreeMap, get, get_by, is_at, Updates, WritesThrough}
 use Rattle.std.specs.Ordering.{is_eq, ordering_reverse}
 use Rattle.std.specs.declared.cmp.Ordering.{Ordering}
@@ -17,14 +19,15 @@ use Rattle.mpx_name.specs.Name.{Name, same_name}
 use Rattle.mpx_name.specs.Order.{name_cmp, name_total, name_exact, name_equality}
 use Rattle.mpx_post.specs.declared.draft.Draft.{Draft}
 use Rattle.mpx_post.specs.declared.draft.PostError.{PostError}
+use Rattle.mpx_post.specs.declared.draft.PostError.TheVariants.{NotMember}
 use Rattle.mpx_post.specs.Births.{BirthView, rank_in}
 use Rattle.mpx_post.specs.Drafts.{at, checked}
-use Rattle.mpx_post.specs.Posts.{Given}
-use Rattle.mpx_value.specs.Histories.{Grows, Made, birth_of, history_of, posts_on}
+use Rattle.mpx_post.specs.Posts.{Given, is_free}
+use Rattle.mpx_value.specs.Histories.{Grows, Made, birth_of, has_freed, history_of, posts_on}
 use Rattle.mpx_value.proofs.Growth.{birth-grows, posts_on-append}
 use Rattle.mpx_evaluation.specs.Ranks.{made_on, next_call, post_on}
-use Rattle.mpx_eval.specs.Contexts.{ContextView, Posts, added_at, checked_there, count_in, fresh, posts_at, with_post}
-use Rattle.mpx_eval.specs.Tables.{Posted, PostsOn, Shows, Table, Tries, opened, or_fresh, with_made}
+use Rattle.mpx_eval.specs.Contexts.{ContextView, Posts, added_at, checked_there, count_in, freed_in, fresh, posts_at, with_post}
+use Rattle.mpx_eval.specs.Tables.{Posted, PostsOn, Shows, Table, Tries, freed_on, opened, or_fresh, with_made}
 use Rattle.mpx_eval.proofs.Contexts.{checked_stranger}
 use Rattle.mpx_post.proofs.Lists.{slice_get-append}
 
@@ -103,6 +106,19 @@ set_column f g me y new same (m ∷ ms) distinct (suc i) l here =
       by_test true e t none = let is : m ≡ me = (Decides-eqb m me).0 e in cc (ap (has ms) is, t, none)
       by_test false e t none = e
 
+-- what stands in the place of a member is that member's
+at_member : (f : ℕ → List Given) (members : List ℕ) (me i : ℕ) → rank_in me members ≡ Some i → get_or (map f members) i [] ≡ f me
+at_member f members me i e =
+    let at_place = position-Some (λ q. q == me) members i 0 e in
+    get_or-map f members i 0 [] at_place.0 ∙ ap f ((Decides-eqb (get_or members i 0) me).0 at_place.1)
+
+-- who is no member is none of them
+not_member : (members : List ℕ) (me process i : ℕ) → rank_in me members ≡ Some i → rank_in process members ≡ None → (process == me) ≡ false
+not_member members me process i member outside = by_test (process == me) refl where
+  by_test : (b : Bool) → (process == me) ≡ b → (process == me) ≡ false
+  by_test true e = let is : process ≡ me = (Decides-eqb process me).0 e in cc (ap (λ q. rank_in q members) is, outside, member)
+  by_test false e = e
+
 -- POSTS
 
 with_made-here : (me : ℕ) (m : Made) (made : Posted) → with_made me m made me ≡ made me ++ m ∷ []
@@ -139,6 +155,19 @@ posts_elsewhere me m made name f q = by_test (q == me) where
 
 -- WHAT A TABLE SHOWS
 
+-- whether a process has freed a context
+pub freed_shown : (ranks : ℕ) (t : Table) (made : Posted) → Shows ranks t made → (me : ℕ) (name : Name) → freed_on t me name ≡ has_freed name (made me)
+freed_shown ranks t made s me name = by_context (t name) refl where
+  by_context : (o : Option ContextView) → t name ≡ o → option_map_or (λ (c : ContextView). freed_in c me) o false ≡ has_freed name (made me)
+  by_context None e = ap (list_any is_free) (sym (s.none name e me))
+  by_context (Some c) e = by_rank (rank_in me c.birth.members) refl where
+    by_rank : (r : Option ℕ) → rank_in me c.birth.members ≡ r → freed_in c me ≡ has_freed name (made me)
+    by_rank None f = ap (λ r. list_any is_free (posts_at c.posts r)) f ∙ ap (list_any is_free) (sym (s.strangers name c e me f))
+    by_rank (Some i) f =
+        ap (λ r. list_any is_free (posts_at c.posts r)) f
+        ∙ ap (λ ps. list_any is_free (get_or ps i [])) (s.posts name c e)
+        ∙ ap (list_any is_free) (at_member (λ member. posts_on name (made member)) c.birth.members me i f)
+
 module _ (ranks : ℕ) (t : Table) (made : Posted) (s : Shows ranks t made) (name : Name) (birth : BirthView) (born : birth_of (history_of made) ranks name ≡ Some birth) where
   -- what is there came to be so
   birth_is : (or_fresh birth (t name)).birth ≡ birth
@@ -157,6 +186,13 @@ module _ (ranks : ℕ) (t : Table) (made : Posted) (s : Shows ranks t made) (nam
     by_context None e = empty birth.members (s.none name e)
     by_context (Some c) e = s.posts name c e ∙ ap (λ (b : BirthView). map (λ member. posts_on name (made member)) b.members) (same_Some c.birth birth (sym (s.born name c e) ∙ born))
 
+  -- of those who are no members there are none
+  strangers_are : (process : ℕ) → rank_in process (or_fresh birth (t name)).birth.members ≡ None → posts_on name (made process) ≡ []
+  strangers_are process outside = by_context (t name) refl outside where
+    by_context : (o : Option ContextView) → t name ≡ o → rank_in process (or_fresh birth o).birth.members ≡ None → posts_on name (made process) ≡ []
+    by_context None e f = s.none name e process
+    by_context (Some c) e f = s.strangers name c e process f
+
   -- a context more
   pub opened_shows : (u : Table) → ((q : Name) → u q ≡ opened name birth t q) → Shows ranks u made
   opened_shows u is = record {
@@ -170,6 +206,11 @@ module _ (ranks : ℕ) (t : Table) (made : Posted) (s : Shows ranks t made) (nam
         (subst (λ (x : ContextView). x.posts ≡ map (λ member. posts_on name (made member)) x.birth.members) there
         (posts_are ∙ ap (λ (b : BirthView). map (λ member. posts_on name (made member)) b.members) (sym birth_is))))
         (λ c e. s.posts q c e) c (sym (is q) ∙ e);
+    strangers = λ q c e. by_name q (λ x. (c : ContextView) → x ≡ Some c → (process : ℕ) → rank_in process c.birth.members ≡ None → posts_on q (made process) ≡ [])
+        (λ same c e process outside.
+        let there : or_fresh birth (t name) ≡ c = same_Some _ c (ap (λ n. Some (or_fresh birth (t n))) (sym same) ∙ e) in
+        subst (λ n. posts_on n (made process) ≡ []) (sym same) (strangers_are process (ap (λ (x : ContextView). rank_in process x.birth.members) there ∙ outside)))
+        (λ c e. s.strangers q c e) c (sym (is q) ∙ e);
     none = λ q e. by_name q (λ x. x ≡ None → (process : ℕ) → posts_on q (made process) ≡ []) (λ same e. cc e) (λ e. s.none q e) (sym (is q) ∙ e);
   } where
     by_name : (q : Name) (P : Option ContextView → Type 0) → (q ≡ name → P (Some (or_fresh birth (t q)))) → P (t q) → P (opened name birth t q)
@@ -180,18 +221,20 @@ module _ (ranks : ℕ) (t : Table) (made : Posted) (s : Shows ranks t made) (nam
 
   -- how many posts a member has made there
   counted : (me i : ℕ) → rank_in me birth.members ≡ Some i → posts_at (or_fresh birth (t name)).posts (Some i) ≡ posts_on name (made me)
-  counted me i e =
-      let at_place = position-Some (λ q. q == me) birth.members i 0 e in
-      ap (λ ps. get_or ps i []) posts_are
-      ∙ get_or-map (λ member. posts_on name (made member)) birth.members i 0 [] at_place.0
-      ∙ ap (λ q. posts_on name (made q)) ((Decides-eqb (get_or birth.members i 0) me).0 at_place.1)
+  counted me i e = ap (λ ps. get_or ps i []) posts_are ∙ at_member (λ member. posts_on name (made member)) birth.members me i e
 
   -- a draft comes there to what it comes to after these posts
-  pub checked_same : (me : ℕ) (draft : Draft) → checked_there (or_fresh birth (t name)) me name draft ≡ checked birth me (at name (next_call name (made me))) draft
-  checked_same me draft = ap (λ (b : BirthView). checked b me (at name (length (posts_at (or_fresh birth (t name)).posts (rank_in me b.members)))) draft) birth_is ∙ by_rank (rank_in me birth.members) refl where
-    by_rank : (o : Option ℕ) → rank_in me birth.members ≡ o → checked birth me (at name (length (posts_at (or_fresh birth (t name)).posts (rank_in me birth.members)))) draft ≡ checked birth me (at name (next_call name (made me))) draft
-    by_rank None e = checked_stranger birth me (at name (length (posts_at (or_fresh birth (t name)).posts (rank_in me birth.members)))) draft e ∙ sym (checked_stranger birth me (at name (next_call name (made me))) draft e)
-    by_rank (Some i) e = ap (λ k. checked birth me (at name k) draft) (ap (λ o. length (posts_at (or_fresh birth (t name)).posts o)) e ∙ ap length (counted me i e))
+  abbrev behind : (me : ℕ) (draft : Draft) → BirthView → List Given → Result Given PostError
+  behind me draft b posts = checked b me (at name (length posts) (list_any is_free posts)) draft
+
+  stranger : (me : ℕ) (draft : Draft) (posts : List Given) → rank_in me birth.members ≡ None → behind me draft birth posts ≡ Err NotMember
+  stranger me draft posts e = checked_stranger birth me (at name (length posts) (list_any is_free posts)) draft e
+
+  pub checked_same : (me : ℕ) (draft : Draft) → checked_there (or_fresh birth (t name)) me name draft ≡ checked birth me (at name (next_call name (made me)) (has_freed name (made me))) draft
+  checked_same me draft = ap (λ (b : BirthView). behind me draft b (posts_at (or_fresh birth (t name)).posts (rank_in me b.members))) birth_is ∙ by_rank (rank_in me birth.members) refl where
+    by_rank : (o : Option ℕ) → rank_in me birth.members ≡ o → behind me draft birth (posts_at (or_fresh birth (t name)).posts (rank_in me birth.members)) ≡ behind me draft birth (posts_on name (made me))
+    by_rank None e = stranger me draft (posts_at (or_fresh birth (t name)).posts (rank_in me birth.members)) e ∙ sym (stranger me draft (posts_on name (made me)) e)
+    by_rank (Some i) e = ap (behind me draft birth) (ap (posts_at (or_fresh birth (t name)).posts) e ∙ counted me i e)
 
   -- a post more of a member
   posted_shows : (me i : ℕ) (given : Given) → rank_in me birth.members ≡ Some i → has_twice birth.members ≡ false → (u : Table) → ((q : Name) → u q ≡ cond (same_name q name) (Some (with_post (or_fresh birth (t name)) me given)) (opened name birth t q)) → Shows ranks u (with_made me (record { name = name; given = given }) made)
@@ -219,6 +262,12 @@ module _ (ranks : ℕ) (t : Table) (made : Posted) (s : Shows ranks t made) (nam
             (subst (λ (y : ContextView). y.posts ≡ map (λ member. posts_on name (new member)) y.birth.members) (same_Some (with_post c me given) x e)
             (written ∙ ap (λ (b : BirthView). map (λ member. posts_on name (new member)) b.members) (sym birth_is))))
             (λ other x e. s1.posts q x e ∙ λ j. map (λ member. sym (posts_elsewhere me m made q other member) j) x.birth.members) x (sym (is q) ∙ e);
+        strangers = λ q x e. by_name q (λ o. (x : ContextView) → o ≡ Some x → (process : ℕ) → rank_in process x.birth.members ≡ None → posts_on q (new process) ≡ [])
+            (λ same x e process outside.
+            let none_of_them : rank_in process c.birth.members ≡ None = ap (λ (y : ContextView). rank_in process y.birth.members) (same_Some (with_post c me given) x e) ∙ outside in
+            subst (λ n. posts_on n (new process) ≡ []) (sym same)
+            (ap (posts_on name) (with_made-other me m made process (not_member c.birth.members me process i ranked none_of_them)) ∙ strangers_are process none_of_them))
+            (λ other x e process outside. posts_elsewhere me m made q other process ∙ s1.strangers q x e process outside) x (sym (is q) ∙ e);
         none = λ q e. by_name q (λ o. o ≡ None → (process : ℕ) → posts_on q (new process) ≡ []) (λ same e. cc e) (λ other e process. posts_elsewhere me m made q other process ∙ s1.none q e process) (sym (is q) ∙ e);
       } where
         by_name : (q : Name) (P : Option ContextView → Type 0) → (q ≡ name → P (Some (with_post (or_fresh birth (t name)) me given))) → (same_name q name ≡ false → P (opened name birth t q)) → P (cond (same_name q name) (Some (with_post (or_fresh birth (t name)) me given)) (opened name birth t q))
@@ -231,7 +280,7 @@ module _ (ranks : ℕ) (t : Table) (made : Posted) (s : Shows ranks t made) (nam
   member_of : (me : ℕ) (draft : Draft) (given : Given) → checked_there (or_fresh birth (t name)) me name draft ≡ Ok given → (i : ℕ) × (rank_in me birth.members ≡ Some i)
   member_of me draft given e = by_rank (rank_in me birth.members) refl where
     by_rank : (o : Option ℕ) → rank_in me birth.members ≡ o → (i : ℕ) × (rank_in me birth.members ≡ Some i)
-    by_rank None f = cc (sym (checked_same me draft) ∙ e, checked_stranger birth me (at name (next_call name (made me))) draft f)
+    by_rank None f = cc (sym (checked_same me draft) ∙ e, stranger me draft (posts_on name (made me)) f)
     by_rank (Some i) f = (i, f)
 
   -- a draft is tried

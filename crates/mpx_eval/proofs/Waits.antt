@@ -26,9 +26,10 @@ use Rattle.mpx_evaluation.specs.Reports.{is_left, which}
 use Rattle.mpx_evaluation.specs.Told.{CarriesOut, Passes, accepted, asked as told_at_once, none, refused, started, waited}
 use Rattle.mpx_evaluation.proofs.Standing.{closed_word, named_behind, named_without, named_without_all}
 use Rattle.mpx_evaluation.proofs.Tells.{each-carries_out}
+use Rattle.mpx_eval.specs.declared.missing.MissingMember.{MissingMember}
 use Rattle.mpx_eval.specs.Contexts.{ContextView}
 use Rattle.mpx_eval.specs.Found.{calls_found, found_at, found_call, found_calls}
-use Rattle.mpx_eval.specs.Lacking.{lacking, missing_there}
+use Rattle.mpx_eval.specs.Lacking.{lacking, missing_by, missing_there}
 use Rattle.mpx_rank.specs.Shown.{requests_of}
 use Rattle.mpx_rank.proofs.Moving.{todo_length}
 use Rattle.mpx_eval.specs.Carrying.{at_place}
@@ -163,12 +164,15 @@ has_posted r first xs s (inr h) i a e = by_index i (sym (ap (λ todo. slice_get 
 
 -- THE MEMBERS
 
-lacking_of : (f : ℕ → List Given) (members : List ℕ) (call : ℕ) → lacking members (map f members) call ≡ filter (λ q. nat_le (length (f q)) call) members
+abbrev member_by : (ℕ → List Given) → ℕ → MissingMember
+member_by f q = missing_by q (f q)
+
+lacking_of : (f : ℕ → List Given) (members : List ℕ) (call : ℕ) → lacking members (map f members) call ≡ map (member_by f) (filter (λ q. nat_le (length (f q)) call) members)
 lacking_of f [] call = refl
-lacking_of f (m ∷ members) call = by_test (nat_le (length (f m)) call) (lacking_of f members call) where
-  by_test : {xs ys : List ℕ} (b : Bool) → xs ≡ ys → cond b (m ∷ []) [] ++ xs ≡ cond b (m ∷ ys) ys
-  by_test true e = ap (λ zs. m ∷ zs) e
-  by_test false e = e
+lacking_of f (m ∷ members) call = by_test (nat_le (length (f m)) call) (lacking members (map f members) call) (filter (λ q. nat_le (length (f q)) call) members) (lacking_of f members call) where
+  by_test : (b : Bool) (xs : List MissingMember) (ys : List ℕ) → xs ≡ map (member_by f) ys → cond b (member_by f m ∷ []) [] ++ xs ≡ map (member_by f) (cond b (m ∷ ys) ys)
+  by_test true xs ys e = ap (λ zs. member_by f m ∷ zs) e
+  by_test false xs ys e = e
 
 -- THE CALLS
 

@@ -9,7 +9,7 @@ use Rattle.mpx_rank.specs.declared.rank.Rank.{Rank}
 use Rattle.mpx_rank.specs.Shown.{rank_of}
 use Rattle.mpx_rank.specs.Places.{CommunicatorView, attempt_by, bound_as}
 use Rattle.mpx_eval.specs.Places.{IsBornSo, TableRank}
-use Rattle.mpx_eval.specs.Tables.{Posted, Shows, Tries, answer_on, table_of}
+use Rattle.mpx_eval.specs.Tables.{Posted, Shows, Tries, answer_on, freed_on, table_of}
 use Rattle.mpx_eval.specs.declared.table.Table.{Table}
 
 -- the context and the number of a call
@@ -21,12 +21,13 @@ abbrev pub shown : Rank Table CommunicatorView (Name × ℕ) → TableRank
 shown rank = rank_of at_place rank
 
 -- a call's outcome, once all members have posted to it, and the communicator that it gave; of a communicator how it came to be
--- is known; a post is tried as the posts that the table shows allow; and nothing is heard of others but by the table
+-- is known, and whether a rank has freed it; a post is tried as the posts that the table shows allow; and nothing is heard of others but by the table
 abbrev pub table_terms : Terms Table CommunicatorView
 table_terms = record {
   tells = λ t me. outcomes_of (answer_on (table_of t) me);
   gives = λ t me name call to. (answer : Answer) × (answer_on (table_of t) me name call ≡ Some answer) × (bound_as to ≡ bound_by answer.outcome answer.born);
   knows = λ t communicator. Some communicator;
+  closes = λ t me communicator. freed_on (table_of t) me communicator.0;
   may = λ t me posting on. Unit {0};
   tries = λ t me posting on result u. AtOnce (λ answer. (ranks : ℕ) (made : Posted) → Shows ranks (table_of t) made → IsBornSo ranks made on → Tries ranks made me (attempt_by me (made me) posting on) answer (table_of u)) result;
   hears = λ t u. u ≡ t;

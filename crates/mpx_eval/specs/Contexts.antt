@@ -1,5 +1,6 @@
 -- What is known of a context: how it came to be, and what each of its members has posted.
-use Rattle.std.specs.Prelude.{◌≡◌, ℕ, cond, List, [], ◌∷◌, ◌++◌, length, map, slice_get, slice_index_or, slice_set, Option, Some, None, option_and_then, Result, Ok, Err}
+use Rattle.std.specs.Prelude.{◌≡◌, ℕ, Bool, cond, List, [], ◌∷◌, ◌++◌, length, map, slice_get, slice_index_or, slice_set, Option, Some, None, option_and_then, Result, Ok, Err}
+use Rattle.std.specs.List.{list_any}
 use Rattle.std.specs.Option.{option_map}
 use Rattle.mpx_name.specs.Name.{Name, same_name}
 use Rattle.mpx_post.specs.declared.draft.Draft.{Draft}
@@ -7,7 +8,7 @@ use Rattle.mpx_post.specs.declared.draft.PostError.{PostError}
 use Rattle.mpx_post.specs.declared.draft.PostError.TheVariants.{OutOfMemory}
 use Rattle.mpx_post.specs.Births.{BirthView, rank_in}
 use Rattle.mpx_post.specs.Drafts.{at, checked}
-use Rattle.mpx_post.specs.Posts.{Given}
+use Rattle.mpx_post.specs.Posts.{Given, is_free}
 use Rattle.mpx_post.specs.Rows.{RowView, all_of}
 use Rattle.mpx_value.specs.Children.{children, named_children}
 use Rattle.mpx_value.specs.Histories.{Answer, answer_with, value_for}
@@ -30,6 +31,10 @@ posts_at posts (Some rank) = slice_index_or posts rank []
 abbrev pub count_in : ContextView → (me : ℕ) → ℕ
 count_in c me = length (posts_at c.posts (rank_in me c.birth.members))
 
+-- whether a process has posted a free there
+abbrev pub freed_in : ContextView → (me : ℕ) → Bool
+freed_in c me = list_any is_free (posts_at c.posts (rank_in me c.birth.members))
+
 -- with one post more of the member with this rank
 abbrev pub added_at : List (List Given) → (rank : Option ℕ) → Given → List (List Given)
 added_at posts None given = posts
@@ -40,7 +45,7 @@ with_post c me given = record { birth = c.birth; posts = added_at c.posts (rank_
 
 -- what a draft of a process comes to as its next post on the context of this name
 abbrev pub checked_there : ContextView → (me : ℕ) → Name → Draft → Result Given PostError
-checked_there c me name draft = checked c.birth me (at name (count_in c me)) draft
+checked_there c me name draft = checked c.birth me (at name (count_in c me) (freed_in c me)) draft
 
 -- it is posted and its number told, or it is refused, or memory was wanting
 abbrev pub Posts : (me : ℕ) → Name → Draft → Result ℕ PostError → (old new : ContextView) → Type 0

@@ -1,17 +1,18 @@
 -- The contexts on which somebody has posted, and which posts they show.
-use Rattle.std.specs.Prelude.{◌≡◌, ℕ, ◌==◌, cond, false, List, [], ◌∷◌, ◌++◌, map, Option, Some, None, option_and_then, Result, Ok, Err}
+use Rattle.std.specs.Prelude.{◌≡◌, ℕ, ◌==◌, Bool, cond, false, List, [], ◌∷◌, ◌++◌, map, Option, Some, None, option_and_then, Result, Ok, Err}
 use Rattle.std.specs.BTreeMap.{get}
+use Rattle.std.specs.Option.{option_map_or}
 use Rattle.mpx_group.specs.Group.{has_twice}
 use Rattle.mpx_name.specs.Name.{Name, same_name}
 use Rattle.mpx_name.specs.Order.{name_cmp}
 use Rattle.mpx_post.specs.declared.draft.Draft.{Draft}
 use Rattle.mpx_post.specs.declared.draft.PostError.{PostError}
 use Rattle.mpx_post.specs.declared.draft.PostError.TheVariants.{OutOfMemory}
-use Rattle.mpx_post.specs.Births.{BirthView}
+use Rattle.mpx_post.specs.Births.{BirthView, rank_in}
 use Rattle.mpx_post.specs.Posts.{Given}
 use Rattle.mpx_value.specs.Histories.{Answer, Made, birth_of, history_of, posts_on}
 use Rattle.mpx_evaluation.specs.Ranks.{next_call, post_on}
-use Rattle.mpx_eval.specs.Contexts.{ContextView, answer_in, checked_there, count_in, fresh, with_post}
+use Rattle.mpx_eval.specs.Contexts.{ContextView, answer_in, checked_there, count_in, freed_in, fresh, with_post}
 use Rattle.mpx_eval.specs.declared.table.Table.{Table as Held}
 
 -- the context of each name, where somebody has posted on it
@@ -25,10 +26,12 @@ table_of t name = get name_cmp t.contexts name
 abbrev pub Posted : Type 0
 Posted = (process : ℕ) → List Made
 
--- the table shows these posts: of a context how it came to be and the posts of its members, and there are none on others
+-- the table shows these posts: of a context how it came to be and the posts of its members, and there are none of others or on
+-- others
 pub record Shows (ranks : ℕ) (t : Table) (made : Posted) : Type 0 where
   pub born : (name : Name) (c : ContextView) → t name ≡ Some c → birth_of (history_of made) ranks name ≡ Some c.birth
   pub posts : (name : Name) (c : ContextView) → t name ≡ Some c → c.posts ≡ map (λ member. posts_on name (made member)) c.birth.members
+  pub strangers : (name : Name) (c : ContextView) → t name ≡ Some c → (process : ℕ) → rank_in process c.birth.members ≡ None → posts_on name (made process) ≡ []
   pub none : (name : Name) → t name ≡ None → (process : ℕ) → posts_on name (made process) ≡ []
 
 -- with one post more of a process
@@ -57,6 +60,10 @@ Tries ranks made me r (Err refusal) new = (refusal ≡ OutOfMemory → ⊥) → 
 abbrev pub TriesOn : (me : ℕ) → Draft → Name → BirthView → Result (Name × ℕ) PostError → (old new : Table) → Type 0
 TriesOn me draft name birth result old new = (ranks : ℕ) (made : Posted) → Shows ranks old made → birth_of (history_of made) ranks name ≡ Some birth
     → Tries ranks made me (post_on me (made me) draft name birth) result new
+
+-- whether a process has posted a free on a context
+abbrev pub freed_on : Table → (me : ℕ) → Name → Bool
+freed_on t me name = option_map_or (λ (c : ContextView). freed_in c me) (t name) false
 
 -- what a call gives a process, where its row is whole
 abbrev pub answer_on : Table → (me : ℕ) → Name → (call : ℕ) → Option Answer

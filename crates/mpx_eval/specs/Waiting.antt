@@ -3,7 +3,7 @@ use Rattle.std.specs.Prelude.{ℕ, ◌-◌, Bool, nat_le, is_none, List, [], ◌
 use Rattle.std.specs.List.{filter}
 use Rattle.mpx_name.specs.Name.{Name}
 use Rattle.mpx_post.specs.Births.{BirthView}
-use Rattle.mpx_value.specs.Histories.{Results, birth_of, posts_on}
+use Rattle.mpx_value.specs.Histories.{Results, birth_of, has_freed, posts_on}
 use Rattle.mpx_statement.specs.declared.statement.Statement.{Statement}
 use Rattle.mpx_statement.specs.declared.statement.Statement.TheVariants.{Post, Wait, Ask}
 use Rattle.mpx_statement.specs.Lookups.{named}
@@ -11,14 +11,15 @@ use Rattle.mpx_evaluation.specs.Ranks.{Todo, Do, Await, Local, Next, End, Asks}
 use Rattle.mpx_evaluation.specs.Standing.{closed}
 use Rattle.mpx_evaluation.specs.Evaluation.{State, history, known, statements_of}
 use Rattle.mpx_evaluation.specs.Reports.{waiting_in}
+use Rattle.mpx_eval.specs.declared.missing.MissingMember.{MissingMember}
 
 -- a call whose answer is missing: the word of its request, where it is waited for by one, its context, its number there, and
--- the members of the context that have not posted to it
+-- the members of the context that have not posted to it, some of which have freed it
 pub record MissingCallView : Type 0 where
   pub request : Option (List ℕ)
   pub name : Name
   pub call : ℕ
-  pub missing : List ℕ
+  pub missing : List MissingMember
 
 -- a rank that waits, the place of the statement at which it does among its statements, and the calls whose answers are missing
 pub record WaitingView : Type 0 where
@@ -67,12 +68,16 @@ calls_of (Asks calls act) = calls
 abbrev pub lacks_post : State → Name → (call process : ℕ) → Bool
 lacks_post s name call q = nat_le (length (posts_on name (s q).made)) call
 
-abbrev pub missing_of : State → Name → (call : ℕ) → Option BirthView → List ℕ
+-- a process, and whether it has freed the context
+abbrev pub missing_member : State → Name → (process : ℕ) → MissingMember
+missing_member s name q = record { rank = q; closed = has_freed name (s q).made }
+
+abbrev pub missing_of : State → Name → (call : ℕ) → Option BirthView → List MissingMember
 missing_of s name call None = []
-missing_of s name call (Some birth) = filter (lacks_post s name call) birth.members
+missing_of s name call (Some birth) = map (missing_member s name) (filter (lacks_post s name call) birth.members)
 
 -- the members of a call's context that have not posted to it
-abbrev pub missing_to : (ranks : ℕ) → State → Name → (call : ℕ) → List ℕ
+abbrev pub missing_to : (ranks : ℕ) → State → Name → (call : ℕ) → List MissingMember
 missing_to ranks s name call = missing_of s name call (birth_of (history s) ranks name)
 
 abbrev pub missing_call : (ranks : ℕ) → State → Asked → MissingCallView

@@ -64,6 +64,11 @@ impl Carrier for Table {
         Some((name, birth))
     }
 
+    fn is_closed(&mut self, me: Proc, communicator: &(Name, Birth)) -> bool {
+        let (name, _birth) = communicator;
+        self.has_freed(me, name)
+    }
+
     ghost hears_nothing = { λ t. refl };
 
     ghost hears_more = { hears_no_more };

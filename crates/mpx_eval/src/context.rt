@@ -1,15 +1,18 @@
 // What is posted on a context, and what its calls give.
 ghost use Rattle.std.specs.Prelude.{◌≡◌, ◌<◌, ◌≤◌, ◌++◌, ◌∷◌, [], IfOk, IfSome, OnOk, false, length, is_some};
 ghost use Rattle.std.specs.Prelude.{slice_get};
+ghost use Rattle.std.specs.List.{list_any};
 ghost use Rattle.std.specs.Option.{option_copied, option_map};
 ghost use Rattle.mpx_group.specs.Group.{has_twice};
 ghost use Rattle.mpx_name.specs.Name.{Name as NameView};
 ghost use Rattle.mpx_post.specs.Drafts.{most_calls};
+ghost use Rattle.mpx_post.specs.Posts.{is_free};
 ghost use Rattle.mpx_value.specs.Children.{children, named_children};
 ghost use Rattle.mpx_value.specs.Histories.{born_by};
 ghost use Rattle.mpx_eval.specs.Contexts.{births_by, found};
 ghost use Rattle.mpx_rank.specs.Answered.{answer_of};
 
+use crate::missing::MissingMember;
 use join_core::{Exact, OutOfMemory};
 use mpx_group::Proc;
 use mpx_name::Name;
@@ -19,22 +22,24 @@ use mpx_value::{Outcome, children, outcome};
 use std::alloc::Global;
 use std::marker::Model;
 
-// The posts of one member, in their order.
+// The posts of one member, in their order, and whether one of them is a free.
 #[derive(Drop)]
 struct Column {
     posts: Vec<Post>,
+    freed: bool,
 }
 
 impl Model for Column {
-    ghost use Rattle.std.specs.Prelude.{List, ◌≤◌, length};
+    ghost use Rattle.std.specs.Prelude.{List, ◌≡◌, ◌≤◌, length};
+    ghost use Rattle.std.specs.List.{list_any};
     ghost use Rattle.mpx_post.specs.Drafts.{most_calls};
-    ghost use Rattle.mpx_post.specs.Posts.{Given};
+    ghost use Rattle.mpx_post.specs.Posts.{Given, is_free};
 
     ghost Value = { List Given };
 
     ghost view = { λ c. c.posts.items };
 
-    ghost invariant = { λ c. length c.posts.items ≤ most_calls };
+    ghost invariant = { λ c. (length c.posts.items ≤ most_calls) × (c.freed ≡ list_any is_free c.posts.items) };
 }
 
 impl Column {
@@ -43,6 +48,7 @@ impl Column {
     {
         Column {
             posts: Vec::new(alloc),
+            freed: false,
         }
     }
 
@@ -53,6 +59,13 @@ impl Column {
         self.posts.len() as u32
     }
 
+    // Whether one of them is a free.
+    fn has_freed(&self) -> bool
+        ensures { result ≡ list_any is_free self.now }
+    {
+        self.freed
+    }
+
     // The post of the call with this number.
     fn get(&self, call: u32) -> Option<&Post>
         ensures value { option_copied result ≡ slice_get self.now call }
@@ -61,11 +74,14 @@ impl Column {
         self.posts.get(call as usize)
     }
 
+    #[tactic(auto, using(crate::proofs::Contexts::freed_more))]
     fn push(&mut self, post: Post) -> Result<(), OutOfMemory>
         requires { length self.old < most_calls }
         ensures { OnOk result (self.new ≡ self.old ++ post ∷ []) }
     {
+        let freed = self.freed | post.is_free();
         self.posts.push(post)?;
+        self.freed = freed;
         Ok(())
     }
 }
@@ -89,7 +105,7 @@ impl Model for Context {
 }
 
 impl Context {
-    ghost use Rattle.mpx_eval.specs.Contexts.{Posts, answer_in, fresh, row_in};
+    ghost use Rattle.mpx_eval.specs.Contexts.{Posts, answer_in, freed_in, fresh, row_in};
     ghost use Rattle.mpx_eval.specs.Lacking.{lacking};
 
     /// Before any post.
@@ -130,11 +146,23 @@ impl Context {
         };
         let rank = usize::from(rank);
         let call = self.columns[rank].count();
-        let post = draft.check_call(alloc, &self.birth, me, name, call)?;
+        let closed = self.columns[rank].has_freed();
+        let post = draft.check_call(alloc, &self.birth, me, name, call, closed)?;
         if self.columns[rank].push(post).is_err() {
             return Err(PostError::OutOfMemory);
         }
         Ok(call)
+    }
+
+    /// Whether a process has posted a free.
+    pub(crate) fn has_freed(&self, me: Proc) -> bool
+        ensures { result ≡ freed_in self.now me }
+    {
+        let Some(rank) = self.birth.rank_of(me) else {
+            return false;
+        };
+        let rank = usize::from(rank);
+        self.columns[rank].has_freed()
     }
 
     /// Whether all members have posted to a call, of which the process is one.
@@ -145,14 +173,22 @@ impl Context {
     }
 
     /// The members that have not posted to a call.
-    pub(crate) fn missing(&self, alloc: Global, call: u32) -> Result<Vec<u8>, OutOfMemory>
+    pub(crate) fn missing(
+        &self,
+        alloc: Global,
+        call: u32,
+    ) -> Result<Vec<MissingMember>, OutOfMemory>
         ensures { IfOk result (λ missing. missing.items ≡ lacking self.now.birth.members self.now.posts call) }
     {
         let members = self.birth.members();
         let mut missing = Vec::new(alloc);
         for i in 0..members.len() {
             let lacks = self.columns[i].count() <= call;
-            push_where(&mut missing, members[i].number(), lacks)?;
+            let member = MissingMember {
+                rank: members[i].number(),
+                closed: self.columns[i].has_freed(),
+            };
+            push_where(&mut missing, member, lacks)?;
         }
         Ok(missing)
     }

@@ -7,7 +7,7 @@
 //! a rank stands in its statements in `specs/Places.antt`.
 //!
 //! [`examine`] tells of the ranks that wait at its end at which statement each does, for which calls, and whose posts to
-//! them are missing (`who_waits.rt`, `missing.rt`); what that is stands in `specs/Waiting.antt`. And it tells which lines say
+//! them are missing, also since they have freed the context (`who_waits.rt`, `missing.rt`); what that is stands in `specs/Waiting.antt`. And it tells which lines say
 //! that a call was refused or is a fault, and at which statement each of these calls is made (`complaints.rt`); what that is
 //! stands in `specs/Complaints.antt`.
 #![tactic(auto)]
@@ -26,5 +26,5 @@ mod who_waits;
 pub use complaints::{Complaint, started_at};
 pub use evaluation::eval;
 pub use findings::{Findings, examine};
-pub use missing::MissingCall;
+pub use missing::{MissingCall, MissingMember};
 pub use who_waits::{WaitingRank, waits_are_for_what_the_next_move_asks};

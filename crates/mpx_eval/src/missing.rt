@@ -18,6 +18,15 @@ use mpx_statement::{Statement, Word};
 use std::alloc::Global;
 use std::collections::BTreeMap;
 
+/// A member of a context that has not posted to a call.
+#[derive(Clone, Copy, Debug, PartialEq, Eq)]
+pub struct MissingMember {
+    /// Its rank in the script.
+    pub rank: u8,
+    /// Whether it has posted a free there, behind which it posts no more.
+    pub closed: bool,
+}
+
 /// A call whose outcome a rank waits for.
 #[derive(Debug, Drop)]
 pub struct MissingCall {
@@ -27,8 +36,8 @@ pub struct MissingCall {
     pub name: Name,
     /// The number of the call in its context, from 0 on.
     pub call: u32,
-    /// The members of the context, by their ranks in the script, that have not posted to it.
-    pub missing: Vec<u8>,
+    /// The members of the context that have not posted to it.
+    pub missing: Vec<MissingMember>,
 }
 
 /// The calls that the next move of a rank asks for, and whose answers are missing.

@@ -4,7 +4,7 @@ ghost use Rattle.std.specs.Option.{option_copied};
 ghost use Rattle.mpx_post.specs.Births.{of_members};
 ghost use Rattle.mpx_post.specs.Gatherings.{ChecksGathering, gathering};
 ghost use Rattle.mpx_evaluation.specs.Ranks.{post_gathered};
-ghost use Rattle.mpx_value.specs.Histories.{birth_of, history_of};
+ghost use Rattle.mpx_value.specs.Histories.{birth_of, has_freed, history_of};
 ghost use Rattle.mpx_rank.specs.Places.{attempt_by};
 ghost use Rattle.mpx_eval.specs.Places.{IsBornSo, gathering_name};
 ghost use Rattle.mpx_eval.specs.Tables.{Posted, Shows, Tries, TriesOn, table_of};
@@ -77,9 +77,10 @@ fn post_gathered(
     draft: Draft,
 ) -> Result<(Name, u32), PostError>
     ensures { (count : ℕ) (made : Posted) → Shows count (table_of table.old) made → birth_of (history_of made) count parent.now ≡ Some birth.now
-        → Tries count made me (post_gathered me (made me) draft parent.now (gathering birth.now me (length parent.now) tag.now ranks.now)) result (table_of table.new) }
+        → Tries count made me (post_gathered me (made me) draft parent.now (gathering birth.now me (length parent.now) (has_freed parent.now (made me)) tag.now ranks.now)) result (table_of table.new) }
 {
-    match gathered(alloc, birth, me, parent, tag, ranks) {
+    let closed = table.has_freed(me, parent);
+    match gathered(alloc, birth, me, parent, closed, tag, ranks) {
         Ok(gathering) => post_below(alloc, table, me, parent, &gathering, draft),
         Err(refusal) => {
             drop(draft);
@@ -88,18 +89,19 @@ fn post_gathered(
     }
 }
 
-// The gathering of members of a context with these ranks.
+// The gathering of members of a context with these ranks, where the process has posted a free or not.
 fn gathered(
     alloc: Global,
     birth: &Birth,
     me: Proc,
     parent: &Name,
+    closed: bool,
     tag: &i128,
     ranks: &[i128],
 ) -> Result<Gathering, PostError>
-    ensures { ChecksGathering (gathering birth.now me (length parent.now) tag.now ranks.now) result }
+    ensures { ChecksGathering (gathering birth.now me (length parent.now) closed tag.now ranks.now) result }
 {
-    Gathering::check(alloc, birth, me, parent.depth(), *tag, ranks)
+    Gathering::check(alloc, birth, me, parent.depth(), closed, *tag, ranks)
 }
 
 // A post on this gathering below a context.

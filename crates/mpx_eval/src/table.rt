@@ -5,9 +5,10 @@ ghost use Rattle.mpx_name.specs.Name.{Name as NameView};
 ghost use Rattle.mpx_rank.specs.Answered.{answer_of};
 ghost use Rattle.mpx_eval.specs.Contexts.{ContextView};
 ghost use Rattle.mpx_eval.specs.Lacking.{missing_there};
-ghost use Rattle.mpx_eval.specs.Tables.{PostsOn, TriesOn, answer_on, opened, table_of};
+ghost use Rattle.mpx_eval.specs.Tables.{PostsOn, TriesOn, answer_on, freed_on, opened, table_of};
 
 use crate::context::Context;
+use crate::missing::MissingMember;
 use join_core::{Exact, OutOfMemory};
 use mpx_group::Proc;
 use mpx_name::Name;
@@ -86,13 +87,23 @@ impl Table {
         }
     }
 
+    /// Whether a process has posted a free on a context.
+    pub(crate) fn has_freed(&self, me: Proc, name: &Name) -> bool
+        ensures { result ≡ freed_on (table_of self.now) me name.now }
+    {
+        match self.contexts.get(name) {
+            Some(context) => context.has_freed(me),
+            None => false,
+        }
+    }
+
     /// The members of a context that have not posted to a call.
     pub(crate) fn missing(
         &self,
         alloc: Global,
         name: &Name,
         call: u32,
-    ) -> Result<Vec<u8>, OutOfMemory>
+    ) -> Result<Vec<MissingMember>, OutOfMemory>
         ensures { IfOk result (λ missing. missing.items ≡ missing_there (table_of self.now name.now) call) }
     {
         match self.contexts.get(name) {

@@ -12,7 +12,7 @@ use Rattle.mpx_kind.specs.declared.kinds.Exchange.TheVariants as E
 use Rattle.mpx_kind.specs.declared.kinds.Mode.TheVariants.{Nonblocking}
 use Rattle.mpx_group.specs.declared.ranks.Rank.TheVariants.{At, ProcNull, Undefined}
 use Rattle.mpx_name.specs.declared.steps.Step.TheVariants.{Child, Gathering}
-use Rattle.mpx_post.specs.declared.draft.PostError.TheVariants.{NoTopology, NotMember, RootOutOfRange, ItemOutOfRange}
+use Rattle.mpx_post.specs.declared.draft.PostError.TheVariants.{Closed, NoTopology, NotMember, RootOutOfRange, ItemOutOfRange}
 use Rattle.mpx_post.specs.Drafts.{checked}
 use Rattle.mpx_post.specs.Gatherings.{gathering}
 use Rattle.mpx_post.specs.Kinds.{blocking}
@@ -56,6 +56,10 @@ ibcast items request = Post (Start (codes "world") (record { call = C.Exchange E
 -- a copy of the world, for `copy`
 abbrev copy : Statement
 copy = Post (New (codes "world") (record { call = blocking K.Dup; root = pos 0; op = Sum; ty = I64; scounts = []; rcounts = []; items = []; colour = None; key = pos 0; group = []; graph = None }) (codes "copy"))
+
+-- the end of a communicator
+abbrev free : (on : List ℕ) → Statement
+free on = Post (Call on (record { call = C.Free; root = pos 0; op = Sum; ty = I64; scounts = []; rcounts = []; items = []; colour = None; key = pos 0; group = []; graph = None }))
 
 -- ranks 0 and 2 of the world, for `ends`
 abbrev ends : Statement
@@ -124,6 +128,12 @@ record Examples : Type 0 where
   -- of three ranks the first and the last are ranks 0 and 1 of their own communicator
   translated : lines_of_first (0 ∷ 2 ∷ 0 ∷ 0 ∷ 0 ∷ []) (ends ∷ Ask (Translate (codes "world") (codes "ends") (Some (pos 0) ∷ Some (pos 1) ∷ Some (pos 2) ∷ None ∷ [])) ∷ Ask (Translate (codes "world") (codes "ends") (Some (pos 3) ∷ [])) ∷ []) (ends ∷ [])
       ≡ Told (Gathering 0 (0 ∷ 2 ∷ []) ∷ []) 0 (O.NewComm (Child 0 0 ∷ Gathering 0 (0 ∷ 2 ∷ []) ∷ []) 2 0) ∷ Translated (At 0 ∷ Undefined ∷ At 1 ∷ ProcNull ∷ []) ∷ StrayRank ∷ []
+  -- behind its free a communicator is closed to the rank, and others aren't
+  freed : lines_alone (0 ∷ 0 ∷ 0 ∷ 0 ∷ 0 ∷ 0 ∷ 0 ∷ 0 ∷ 0 ∷ []) (copy ∷ free (codes "copy") ∷ free (codes "copy") ∷ Ask (Compare (codes "world") (codes "copy")) ∷ Ask (Compare (codes "none") (codes "copy")) ∷ barrier ∷ [])
+      ≡ Told [] 0 (O.NewComm (Child 0 0 ∷ []) 1 0) ∷ Told (Child 0 0 ∷ []) 0 O.Nothing ∷ Refused Closed ∷ Refused Closed ∷ Refused NotMember ∷ Told [] 1 O.Nothing ∷ []
+  -- it is so too where the calls didn't match, and who posted no free goes on
+  freed_alone : lines_after (0 ∷ 1 ∷ 0 ∷ 1 ∷ 0 ∷ 1 ∷ 1 ∷ []) (free (codes "world") ∷ barrier ∷ []) (barrier ∷ barrier ∷ [])
+      ≡ (tells_fault 0 F.Kind 1 ∷ Refused Closed ∷ []) ∷ (tells_fault 0 F.Kind 1 ∷ []) ∷ []
   -- as text
   ranks : line_text (Translated (At 0 ∷ Undefined ∷ At 1 ∷ ProcNull ∷ [])) ≡ codes "0 undefined 1 null"
 
@@ -145,5 +155,7 @@ examples = record {
   twice = refl;
   compared = refl;
   translated = refl;
+  freed = refl;
+  freed_alone = refl;
   ranks = refl;
 }

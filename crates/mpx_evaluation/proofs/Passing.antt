@@ -19,7 +19,9 @@ use Rattle.mpx_statement.specs.declared.statement.Question.TheVariants.{Neighbou
 use Rattle.mpx_statement.specs.declared.statement.Statement.TheVariants.{Post, Wait, Ask}
 use Rattle.mpx_statement.specs.Statements.{bound_to, started_as}
 use Rattle.mpx_statement.specs.Lookups.{named}
-use Rattle.mpx_evaluation.specs.Ranks.{Bindings, NullCommunicator, Line, Told, Refused, Requests, Local, answered, answered_by, answers, awaited_by, awaited_then, birth_in, communicator_of, comparison_told, line_then, neighbours_in, rank_asked, told_by, told_to, translated_told, translation_in, attempt, bind, bound_by, done, doing, next_call, step, waited_lines, without, without_all}
+use Rattle.mpx_evaluation.specs.declared.asking.Found.{Found}
+use Rattle.mpx_evaluation.specs.declared.asking.Found.TheVariants as W
+use Rattle.mpx_evaluation.specs.Ranks.{Bindings, NullCommunicator, Line, Told, Refused, Requests, Local, answered, answered_by, answers, awaited_by, awaited_then, comparison_in, found_of, line_of, line_of_two, line_then, neighbours_in, rank_asked, told_by, told_to, translated_told, translation_in, attempt, bind, bound_by, done, doing, next_call, step, waited_lines, without, without_all}
 use Rattle.mpx_evaluation.specs.Told.{Passes, none, accepted, started as opened, refused, waited as passed_by, asked, IsWaiting, CarriesOut}
 use Rattle.mpx_evaluation.proofs.Fronts.{slice_get-parts}
 use Rattle.mpx_evaluation.proofs.Steps.{heard, posted, started, told_at_once, turned_down, waited, step_asks, step_ends, step_hears, step_passes, step_stays, step_waits, step_posts, step_starts, step_refused}
@@ -65,28 +67,34 @@ module _ (name : Name) (call : ℕ) (outcome : Outcome) where
   near_to side birth None e = cc e
   near_to side birth (Some rank) e = near_by side birth.topology rank e
 
-  neighbours_no_call : (me : ℕ) (side : Side) (birth : Option BirthView) → neighbours_in me side birth ≡ Told name call outcome → ⊥
-  neighbours_no_call me side None e = cc e
-  neighbours_no_call me side (Some birth) e = near_to side birth (rank_in me birth.members) e
+  one_no_call : {A : Type 0} (tell : A → Line) → ((c : A) → tell c ≡ Told name call outcome → ⊥) → (found : Found A) → line_of tell found ≡ Told name call outcome → ⊥
+  one_no_call tell never W.Null e = cc e
+  one_no_call tell never W.Freed e = cc e
+  one_no_call tell never (W.Open c) e = never c e
 
-  comparison_no_call : (c d : Option (Name × BirthView)) → comparison_told c d ≡ Told name call outcome → ⊥
-  comparison_no_call None d e = cc e
-  comparison_no_call (Some c) None e = cc e
-  comparison_no_call (Some c) (Some d) e = cc e
+  two_no_call : {A : Type 0} (tell : A → A → Line) → ((c d : A) → tell c d ≡ Told name call outcome → ⊥) → (first second : Found A) → line_of_two tell first second ≡ Told name call outcome → ⊥
+  two_no_call tell never W.Null second e = cc e
+  two_no_call tell never W.Freed W.Null e = cc e
+  two_no_call tell never W.Freed W.Freed e = cc e
+  two_no_call tell never W.Freed (W.Open d) e = cc e
+  two_no_call tell never (W.Open c) W.Null e = cc e
+  two_no_call tell never (W.Open c) W.Freed e = cc e
+  two_no_call tell never (W.Open c) (W.Open d) e = never c d e
+
+  comparison_no_call : (c d : Name × BirthView) → comparison_in c d ≡ Told name call outcome → ⊥
+  comparison_no_call c d e = cc e
 
   ranks_no_call : (from to : List ℕ) (ranks : Option (List Rank)) → translated_told from to ranks ≡ Told name call outcome → ⊥
   ranks_no_call from to None e = cc e
   ranks_no_call from to (Some ranks) e = cc e
 
-  translation_no_call : (ranks : List (Option ℤ)) (from to : Option BirthView) → translation_in ranks from to ≡ Told name call outcome → ⊥
-  translation_no_call ranks None to e = cc e
-  translation_no_call ranks (Some from) None e = cc e
-  translation_no_call ranks (Some from) (Some to) e = ranks_no_call from.members to.members (all_of (rank_asked (length from.members)) ranks) e
+  translation_no_call : (ranks : List (Option ℤ)) (from to : Name × BirthView) → translation_in ranks from to ≡ Told name call outcome → ⊥
+  translation_no_call ranks from to e = ranks_no_call from.1.members to.1.members (all_of (rank_asked (length from.1.members)) ranks) e
 
-  pub answer_no_call : (me : ℕ) (communicator : List ℕ → Option (Name × BirthView)) (question : Question) → answered_by me communicator question ≡ Told name call outcome → ⊥
-  answer_no_call me communicator (Neighbours on side) = neighbours_no_call me side (birth_in (communicator on))
-  answer_no_call me communicator (Compare first second) = comparison_no_call (communicator first) (communicator second)
-  answer_no_call me communicator (Translate from to ranks) = translation_no_call ranks (birth_in (communicator from)) (birth_in (communicator to))
+  pub answer_no_call : (me : ℕ) (found : List ℕ → Found (Name × BirthView)) (question : Question) → answered_by me found question ≡ Told name call outcome → ⊥
+  answer_no_call me found (Neighbours on side) = one_no_call (neighbours_in me side) (λ c e. near_to side c.1 (rank_in me c.1.members) e) (found on)
+  answer_no_call me found (Compare first second) = two_no_call comparison_in comparison_no_call (found first) (found second)
+  answer_no_call me found (Translate from to ranks) = two_no_call (translation_in ranks) (translation_no_call ranks) (found from) (found to)
 
 -- the lines of a wait tell the answers that it was given
 module _ (r : Results) (name : Name) (call : ℕ) (outcome : Outcome) where
@@ -120,7 +128,7 @@ module _ (r : Results) (name : Name) (call : ℕ) (outcome : Outcome) where
     | inl here ↦ waited-tell words requests told k i here
     | inr behind ↦ passes-tell p behind.0 behind.1
   ]
-  passes-tell {me} (asked {bound = bound} {question = question} p) zero e = absurd (answer_no_call name call outcome me (λ word. communicator_of (named bound word)) question (same_Some (answered me bound question) (Told name call outcome) e))
+  passes-tell {me} (asked {bound = bound} {earlier = earlier} {question = question} p) zero e = absurd (answer_no_call name call outcome me (λ word. found_of earlier (named bound word)) question (same_Some (answered me bound earlier question) (Told name call outcome) e))
   passes-tell (asked p) (suc i) e = passes-tell p i e
 
 -- RANKS
@@ -176,7 +184,7 @@ module _ (r : Results) (first : Bindings) (xs : List Statement) (s : Local) wher
 
     asking-steps : (question : Question) → passed ++ Ask question ∷ left ≡ xs → s.todo ≡ doing (Ask question ∷ left) → CarriesOut r first xs t
     asking-steps question all todo = stepped t (done s (told_at_once s question (doing left))) e (step_asks r s question (doing left) todo)
-        (one_more passed (Ask question) left all s.bound s.requests [] (answered s.me s.bound question ∷ []) (passes-append r s.me (asked none) passes refl))
+        (one_more passed (Ask question) left all s.bound s.requests [] (answered s.me s.bound s.made question ∷ []) (passes-append r s.me (asked none) passes refl))
 
   -- it goes on to its next statement
   ready-steps : (passed left : List Statement) → passed ++ left ≡ xs → s.todo ≡ doing left → Passes r s.me first [] [] passed s.bound s.requests s.made s.lines → (t : Local) → step r s ≡ Some t → CarriesOut r first xs t

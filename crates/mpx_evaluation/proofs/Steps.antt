@@ -33,7 +33,7 @@ waited s words rest told = record { bound = s.bound; requests = without_all word
 
 -- it is answered at once
 abbrev pub told_at_once : Local → Question → List Todo → Act
-told_at_once s question rest = record { bound = s.bound; requests = s.requests; todo = rest; made = []; lines = answered s.me s.bound question ∷ [] }
+told_at_once s question rest = record { bound = s.bound; requests = s.requests; todo = rest; made = []; lines = answered s.me s.bound s.made question ∷ [] }
 
 module _ (r : Results) (s : Local) where
   pub step_ends : s.todo ≡ [] → step r s ≡ None

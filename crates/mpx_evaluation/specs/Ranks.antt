@@ -1,5 +1,5 @@
 -- One rank of a script, as an automaton over the answers that it asks for.
-use Rattle.std.specs.Prelude.{ℕ, zero, suc, ◌+◌, Bool, true, false, not, List, [], ◌∷◌, ◌++◌, length, map, bytes_eq, Option, Some, None, option_and_then, Result, Ok, Err, ℤ}
+use Rattle.std.specs.Prelude.{ℕ, zero, suc, ◌+◌, Bool, true, false, cond, not, List, [], ◌∷◌, ◌++◌, length, map, bytes_eq, Option, Some, None, option_and_then, Result, Ok, Err, ℤ}
 use Rattle.std.specs.List.{filter}
 use Rattle.std.specs.Option.{option_map}
 use Rattle.mpx_group.specs.Group.{comparison_of}
@@ -13,7 +13,7 @@ use Rattle.mpx_name.specs.Name.{Name, same_name}
 use Rattle.mpx_post.specs.Posts.{Given}
 use Rattle.mpx_post.specs.declared.draft.Draft.{Draft}
 use Rattle.mpx_post.specs.declared.draft.PostError.{PostError}
-use Rattle.mpx_post.specs.declared.draft.PostError.TheVariants.{NoTopology, NotMember}
+use Rattle.mpx_post.specs.declared.draft.PostError.TheVariants.{Closed, NoTopology, NotMember}
 use Rattle.mpx_birth.specs.declared.edges.Neighbour.{Neighbour}
 use Rattle.mpx_post.specs.Births.{BirthView, of_members, rank_in}
 use Rattle.mpx_post.specs.Topologies.{TopologyView, destinations_at, sources_at}
@@ -22,7 +22,7 @@ use Rattle.mpx_post.specs.Gatherings.{GatheringView, gathering}
 use Rattle.mpx_post.specs.Rows.{all_of}
 use Rattle.mpx_value.specs.declared.outcomes.Outcome.{Outcome}
 use Rattle.mpx_value.specs.declared.outcomes.Outcome.TheVariants.{Nothing, Absent, Items, NewComm, Null, Fault}
-use Rattle.mpx_value.specs.Histories.{Made, posts_on, Answer, Results}
+use Rattle.mpx_value.specs.Histories.{Made, has_freed, posts_on, Answer, Results}
 use Rattle.mpx_statement.specs.declared.statement.Posting.{Posting}
 use Rattle.mpx_statement.specs.declared.statement.Side.{Side}
 use Rattle.mpx_statement.specs.declared.statement.Side.TheVariants.{Sources, Destinations}
@@ -30,6 +30,8 @@ use Rattle.mpx_statement.specs.declared.statement.Question.{Question}
 use Rattle.mpx_statement.specs.declared.statement.Question.TheVariants.{Neighbours, Compare, Translate}
 use Rattle.mpx_statement.specs.declared.statement.Statement.{Statement}
 use Rattle.mpx_statement.specs.declared.statement.Statement.TheVariants.{Post, Wait, Ask}
+use Rattle.mpx_evaluation.specs.declared.asking.Found.{Found}
+use Rattle.mpx_evaluation.specs.declared.asking.Found.TheVariants as W
 use Rattle.mpx_evaluation.specs.declared.asking.Relation.{Relation}
 use Rattle.mpx_evaluation.specs.declared.origin.Origin.{Origin}
 use Rattle.mpx_evaluation.specs.declared.asking.Relation.TheVariants.{Ident, Congruent, Similar, Unequal}
@@ -117,7 +119,7 @@ made_on name (Err refusal) = Err refusal
 
 -- what a draft comes to on a context with this birth: the next post there, or why there is none
 abbrev pub post_on : (me : ℕ) → List Made → Draft → Name → BirthView → Result Made PostError
-post_on me made draft name birth = made_on name (checked birth me (at name (next_call name made)) draft)
+post_on me made draft name birth = made_on name (checked birth me (at name (next_call name made) (has_freed name made)) draft)
 
 -- what it comes to on a gathering below a context, which may be refused itself
 abbrev pub post_gathered : (me : ℕ) → List Made → Draft → Name → Result GatheringView PostError → Result Made PostError
@@ -126,7 +128,7 @@ post_gathered me made draft parent (Err refusal) = Err refusal
 
 abbrev pub attempt_in : (me : ℕ) → List Made → Draft → Option Gathers → Name → BirthView → Result Made PostError
 attempt_in me made draft None name birth = post_on me made draft name birth
-attempt_in me made draft (Some g) name birth = post_gathered me made draft name (gathering birth me (length name) g.tag g.ranks)
+attempt_in me made draft (Some g) name birth = post_gathered me made draft name (gathering birth me (length name) (has_freed name made) g.tag g.ranks)
 
 -- what a statement that posts comes to on what its word is bound to: a post, or why there is none
 abbrev pub attempt_on : (me : ℕ) → List Made → Posting → Option Bound → Result Made PostError
@@ -159,16 +161,49 @@ communicator_of None = None
 communicator_of (Some NullCommunicator) = None
 communicator_of (Some (Communicator name birth)) = Some (name, birth)
 
-abbrev pub birth_in : Option (Name × BirthView) → Option BirthView
-birth_in communicator = option_map (λ c. c.1) communicator
+-- what a word stands for that is asked about, by whether the rank has posted a free there, and by what is known of its communicator
 
--- the line of a rank's neighbours in a communicator that came to be so
-abbrev pub neighbours_in : (me : ℕ) → Side → Option BirthView → Line
-neighbours_in me side None = Refused NotMember
-neighbours_in me side (Some birth) = told_to side birth (rank_in me birth.members)
+abbrev pub open_or_null : Option (Name × BirthView) → Found (Name × BirthView)
+open_or_null None = W.Null
+open_or_null (Some c) = W.Open c
 
-abbrev pub neighbours_told : (me : ℕ) → Side → Option (Name × BirthView) → Line
-neighbours_told me side communicator = neighbours_in me side (birth_in communicator)
+abbrev pub found_as : (freed : Bool) → Option (Name × BirthView) → Found (Name × BirthView)
+found_as freed known = cond freed W.Freed (open_or_null known)
+
+-- what it stands for by what it is bound to, after these posts
+abbrev pub found_of : List Made → Option Bound → Found (Name × BirthView)
+found_of made None = W.Null
+found_of made (Some NullCommunicator) = W.Null
+found_of made (Some (Communicator name birth)) = found_as (has_freed name made) (Some (name, birth))
+
+-- the same of something else that is known of it
+abbrev pub found_map : {A B : Type 0} → (A → B) → Found A → Found B
+found_map f W.Null = W.Null
+found_map f W.Freed = W.Freed
+found_map f (W.Open c) = W.Open (f c)
+
+-- the line that tells of one communicator, or why nothing is told: it is none, or the rank has freed it
+abbrev pub line_of : {A : Type 0} → (A → Line) → Found A → Line
+line_of tell W.Null = Refused NotMember
+line_of tell W.Freed = Refused Closed
+line_of tell (W.Open c) = tell c
+
+-- of two: one is none, or else one is freed
+abbrev pub line_of_two : {A : Type 0} → (A → A → Line) → (first second : Found A) → Line
+line_of_two tell W.Null second = Refused NotMember
+line_of_two tell W.Freed W.Null = Refused NotMember
+line_of_two tell W.Freed W.Freed = Refused Closed
+line_of_two tell W.Freed (W.Open d) = Refused Closed
+line_of_two tell (W.Open c) W.Null = Refused NotMember
+line_of_two tell (W.Open c) W.Freed = Refused Closed
+line_of_two tell (W.Open c) (W.Open d) = tell c d
+
+-- the line of a rank's neighbours in a communicator
+abbrev pub neighbours_in : (me : ℕ) → Side → Name × BirthView → Line
+neighbours_in me side c = told_to side c.1 (rank_in me c.1.members)
+
+abbrev pub neighbours_told : (me : ℕ) → Side → Found (Name × BirthView) → Line
+neighbours_told me side found = line_of (neighbours_in me side) found
 
 -- how two communicators compare: by their contexts, then by their groups (MPI 4.1, section 7.4.1)
 abbrev pub relation_of : (same_context : Bool) → Comparison → Relation
@@ -177,10 +212,11 @@ relation_of false G.Ident = Congruent
 relation_of false G.Similar = Similar
 relation_of false G.Unequal = Unequal
 
-abbrev pub comparison_told : (first second : Option (Name × BirthView)) → Line
-comparison_told None second = Refused NotMember
-comparison_told (Some c) None = Refused NotMember
-comparison_told (Some c) (Some d) = Compared (relation_of (same_name c.0 d.0) (comparison_of c.1.members d.1.members))
+abbrev pub comparison_in : (first second : Name × BirthView) → Line
+comparison_in c d = Compared (relation_of (same_name c.0 d.0) (comparison_of c.1.members d.1.members))
+
+abbrev pub comparison_told : (first second : Found (Name × BirthView)) → Line
+comparison_told first second = line_of_two comparison_in first second
 
 -- a rank of a communicator of this size, or none
 abbrev pub rank_asked : (size : ℕ) → Option ℤ → Option Rank
@@ -192,23 +228,21 @@ translated_told from to None = StrayRank
 translated_told from to (Some ranks) = Translated (map (translated from to) ranks)
 
 -- the ranks in the second communicator of the processes with these ranks in the first (MPI 4.1, section 7.3.1)
-abbrev pub translation_in : List (Option ℤ) → (from to : Option BirthView) → Line
-translation_in ranks None to = Refused NotMember
-translation_in ranks (Some from) None = Refused NotMember
-translation_in ranks (Some from) (Some to) = translated_told from.members to.members (all_of (rank_asked (length from.members)) ranks)
+abbrev pub translation_in : List (Option ℤ) → (from to : Name × BirthView) → Line
+translation_in ranks from to = translated_told from.1.members to.1.members (all_of (rank_asked (length from.1.members)) ranks)
 
-abbrev pub translation_told : List (Option ℤ) → (from to : Option (Name × BirthView)) → Line
-translation_told ranks from to = translation_in ranks (birth_in from) (birth_in to)
+abbrev pub translation_told : List (Option ℤ) → (from to : Found (Name × BirthView)) → Line
+translation_told ranks from to = line_of_two (translation_in ranks) from to
 
--- the line that answers a question, where words stand for these communicators
-abbrev pub answered_by : (me : ℕ) → (List ℕ → Option (Name × BirthView)) → Question → Line
-answered_by me communicator (Neighbours on side) = neighbours_told me side (communicator on)
-answered_by me communicator (Compare first second) = comparison_told (communicator first) (communicator second)
-answered_by me communicator (Translate from to ranks) = translation_told ranks (communicator from) (communicator to)
+-- the line that answers a question, where words stand for this
+abbrev pub answered_by : (me : ℕ) → (List ℕ → Found (Name × BirthView)) → Question → Line
+answered_by me found (Neighbours on side) = neighbours_told me side (found on)
+answered_by me found (Compare first second) = comparison_told (found first) (found second)
+answered_by me found (Translate from to ranks) = translation_told ranks (found from) (found to)
 
--- what a statement that asks prints at a rank with these bindings
-abbrev pub answered : (me : ℕ) → Bindings → Question → Line
-answered me bound question = answered_by me (λ word. communicator_of (named bound word)) question
+-- what a statement that asks prints at a rank with these bindings, after these posts
+abbrev pub answered : (me : ℕ) → Bindings → List Made → Question → Line
+answered me bound made question = answered_by me (λ word. found_of made (named bound word)) question
 
 -- WAITING
 
@@ -284,7 +318,7 @@ abbrev pub next_of : Local → List Todo → Next
 next_of s [] = End
 next_of s (Do (Post posting) ∷ rest) = posts_or_refuses s rest (bound_to posting) (started_as posting) (attempt s.me s.bound s.made posting)
 next_of s (Do (Wait words) ∷ rest) = Asks (awaited_by s.requests words) (λ told. record { bound = s.bound; requests = without_all words s.requests; todo = rest; made = []; lines = waited_lines s.requests words told })
-next_of s (Do (Ask question) ∷ rest) = at_once (record { bound = s.bound; requests = s.requests; todo = rest; made = []; lines = answered s.me s.bound question ∷ [] })
+next_of s (Do (Ask question) ∷ rest) = at_once (record { bound = s.bound; requests = s.requests; todo = rest; made = []; lines = answered s.me s.bound s.made question ∷ [] })
 next_of s (Await name call target ∷ rest) = awaits name call (λ (answer : Answer). record { bound = bind target (bound_by answer.outcome answer.born) s.bound; requests = s.requests; todo = rest; made = []; lines = Told name call answer.outcome ∷ [] })
 
 abbrev pub next : Local → Next

@@ -37,7 +37,7 @@ pub record IsMemberOf (ranks : ℕ) (s : State) (process : ℕ) (name : Name) (b
 -- that is refused the line of its refusal and no post. The word of a new communicator is bound to the one that the call gave,
 -- else to the null communicator. Of a wait: for each of its requests the line of the outcome of the call that the request
 -- stands for, or that it is idle; then none of them is open. Of a statement that asks: just its line, by what its words are
--- bound to then
+-- bound to then, and by which of that it has freed
 pub data Passes (known : Results) (me : ℕ) : (before : Bindings) (requests : Requests) (earlier : List Made) → List Statement → (after : Bindings) (left : Requests) (further : List Made) → List Line → Type 0 where
   none : {bound : Bindings} {requests : Requests} {earlier : List Made} → Passes known me bound requests earlier [] bound requests [] []
   accepted : {bound after : Bindings} {requests left : Requests} {earlier further : List Made} {posting : Posting} {rest : List Statement} {m : Made} {answer : Answer} {lines : List Line}
@@ -57,7 +57,7 @@ pub data Passes (known : Results) (me : ℕ) : (before : Bindings) (requests : R
       → Passes known me bound requests earlier (Wait words ∷ rest) after left further (waited_lines requests words told ++ lines)
   asked : {bound after : Bindings} {requests left : Requests} {earlier further : List Made} {question : Question} {rest : List Statement} {lines : List Line}
       → Passes known me bound requests earlier rest after left further lines
-      → Passes known me bound requests earlier (Ask question ∷ rest) after left further (answered me bound question ∷ lines)
+      → Passes known me bound requests earlier (Ask question ∷ rest) after left further (answered me bound earlier question ∷ lines)
 
 -- it started with the first bindings and no request, has passed the first of these statements and begun none of the others:
 -- it may stand at a wait

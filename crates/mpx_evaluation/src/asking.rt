@@ -1,8 +1,11 @@
 //! Questions that are answered at once: the text of their lines, by how communicators came to be.
 ghost use Rattle.std.specs.Prelude.{◌≡◌, IfOk, length, string_bytes};
-ghost use Rattle.std.specs.Option.{option_copied, option_map};
+ghost use Rattle.std.specs.Option.{option_map};
+ghost use Rattle.mpx_group.specs.Group.{comparison_of};
+ghost use Rattle.mpx_name.specs.Name.{same_name};
+ghost use Rattle.mpx_post.specs.Births.{rank_in};
 ghost use Rattle.mpx_post.specs.Rows.{all_of};
-ghost use Rattle.mpx_evaluation.specs.Ranks.{comparison_told, neighbours_at, neighbours_in, rank_asked, relation_of, translated_told, translation_in};
+ghost use Rattle.mpx_evaluation.specs.Ranks.{Compared, comparison_told, found_map, neighbours_at, neighbours_told, rank_asked, relation_of, told_to, translated_told, translation_told};
 ghost use Rattle.mpx_evaluation.specs.Transcripts.{line_text};
 
 use crate::transcript::{
@@ -29,19 +32,39 @@ pub enum Relation {
     Unequal,
 }
 
+/// What a word stands for that is asked about.
+#[derive(Clone, Copy, Debug, Drop)]
+pub enum Found<T> {
+    /// No communicator.
+    Null,
+    /// A communicator on which the rank has posted a free.
+    Freed,
+    /// A communicator, by what is known of it.
+    Open(T),
+}
+
 /// The line that tells process `me` its neighbours on one side in a communicator (`MPI_DIST_GRAPH_NEIGHBORS`, MPI 4.1 section
-/// 8.5.5): `refused NotMember` where there is none, or it is no member, and `refused NoTopology` where there is no graph.
+/// 8.5.5): `refused NotMember` where there is none, or it is no member, `refused Closed` where the process has freed it, and
+/// `refused NoTopology` where there is no graph.
 pub fn neighbours_answer(
     alloc: Global,
     me: Proc,
     side: Side,
-    communicator: Option<&Birth>,
+    communicator: Found<(&Name, &Birth)>,
 ) -> Result<String, OutOfMemory>
-    ensures { IfOk result (λ text. string_bytes text ≡ line_text (neighbours_in me side (option_copied communicator.entry))) }
+    ensures { IfOk result (λ text. string_bytes text ≡ line_text (neighbours_told me side (found_map (λ c. (c.0.now, c.1.now)) communicator.entry))) }
 {
-    let Some(birth) = communicator else {
-        return refused_line(alloc, PostError::NotMember);
-    };
+    match communicator {
+        Found::Null => refused_line(alloc, PostError::NotMember),
+        Found::Freed => refused_line(alloc, PostError::Closed),
+        Found::Open((_name, birth)) => own_neighbours(alloc, me, side, birth),
+    }
+}
+
+// The same in a communicator that came to be so.
+fn own_neighbours(alloc: Global, me: Proc, side: Side, birth: &Birth) -> Result<String, OutOfMemory>
+    ensures { IfOk result (λ text. string_bytes text ≡ line_text (told_to side birth.now (rank_in me birth.now.members))) }
+{
     let Some(rank) = birth.rank_of(me) else {
         return refused_line(alloc, PostError::NotMember);
     };
@@ -63,21 +86,43 @@ fn neighbours(topology: &Topology, rank: u8, side: Side) -> &[Neighbour]
 }
 
 /// The line that tells how two communicators compare, by their names and how they came to be (`MPI_COMM_COMPARE`, MPI 4.1
-/// section 7.4.1): `refused NotMember` where one is missing.
+/// section 7.4.1): `refused NotMember` where one is missing, and `refused Closed` where the process has freed one.
 pub fn comparison_answer(
     alloc: Global,
-    first: Option<(&Name, &Birth)>,
-    second: Option<(&Name, &Birth)>,
+    first: Found<(&Name, &Birth)>,
+    second: Found<(&Name, &Birth)>,
 ) -> Result<String, OutOfMemory>
     ensures { IfOk result (λ text. string_bytes text
-        ≡ line_text (comparison_told (option_map (λ c. (c.0.now, c.1.now)) first.entry) (option_map (λ c. (c.0.now, c.1.now)) second.entry))) }
+        ≡ line_text (comparison_told (found_map (λ c. (c.0.now, c.1.now)) first.entry) (found_map (λ c. (c.0.now, c.1.now)) second.entry))) }
 {
-    let Some((name, birth)) = first else {
-        return refused_line(alloc, PostError::NotMember);
-    };
-    let Some((other_name, other)) = second else {
-        return refused_line(alloc, PostError::NotMember);
-    };
+    match first {
+        Found::Null => refused_line(alloc, PostError::NotMember),
+        Found::Freed => match second {
+            Found::Null => refused_line(alloc, PostError::NotMember),
+            Found::Freed => refused_line(alloc, PostError::Closed),
+            Found::Open(_) => refused_line(alloc, PostError::Closed),
+        },
+        Found::Open((name, birth)) => match second {
+            Found::Null => refused_line(alloc, PostError::NotMember),
+            Found::Freed => refused_line(alloc, PostError::Closed),
+            Found::Open((other_name, other)) => {
+                comparison_line(alloc, name, birth, other_name, other)
+            }
+        },
+    }
+}
+
+// The same of two that have these names and came to be so.
+fn comparison_line(
+    alloc: Global,
+    name: &Name,
+    birth: &Birth,
+    other_name: &Name,
+    other: &Birth,
+) -> Result<String, OutOfMemory>
+    ensures { IfOk result (λ text. string_bytes text
+        ≡ line_text (Compared (relation_of (same_name name.now other_name.now) (comparison_of birth.now.members other.now.members)))) }
+{
     let groups = group_of(alloc, birth)?.compare(&group_of(alloc, other)?);
     relation_line(alloc, relation_by(name == other_name, groups))
 }
@@ -99,21 +144,41 @@ fn relation_by(same_context: bool, groups: Comparison) -> Relation
 /// The line that tells the ranks in the second communicator of the processes with these ranks in the first
 /// (`MPI_GROUP_TRANSLATE_RANKS`, MPI 4.1 section 7.3.1), with one space between them: `undefined` where the process is no
 /// member, `null` for None, which stands for `MPI_PROC_NULL`; `empty` where none are asked for. It is `refused NotMember` where
-/// a communicator is missing, and `refused RankOutOfRange` where a rank is none of the first one's.
+/// a communicator is missing, `refused Closed` where the process has freed one, and `refused RankOutOfRange` where a rank is
+/// none of the first one's.
 pub fn translation_answer(
     alloc: Global,
     ranks: &[Option<i128>],
-    from: Option<&Birth>,
-    to: Option<&Birth>,
+    from: Found<(&Name, &Birth)>,
+    to: Found<(&Name, &Birth)>,
 ) -> Result<String, OutOfMemory>
-    ensures { IfOk result (λ text. string_bytes text ≡ line_text (translation_in ranks.now (option_copied from.entry) (option_copied to.entry))) }
+    ensures { IfOk result (λ text. string_bytes text
+        ≡ line_text (translation_told ranks.now (found_map (λ c. (c.0.now, c.1.now)) from.entry) (found_map (λ c. (c.0.now, c.1.now)) to.entry))) }
 {
-    let Some(from) = from else {
-        return refused_line(alloc, PostError::NotMember);
-    };
-    let Some(to) = to else {
-        return refused_line(alloc, PostError::NotMember);
-    };
+    match from {
+        Found::Null => refused_line(alloc, PostError::NotMember),
+        Found::Freed => match to {
+            Found::Null => refused_line(alloc, PostError::NotMember),
+            Found::Freed => refused_line(alloc, PostError::Closed),
+            Found::Open(_) => refused_line(alloc, PostError::Closed),
+        },
+        Found::Open((_name, from)) => match to {
+            Found::Null => refused_line(alloc, PostError::NotMember),
+            Found::Freed => refused_line(alloc, PostError::Closed),
+            Found::Open((_name, to)) => translation_between(alloc, ranks, from, to),
+        },
+    }
+}
+
+// The same of two that came to be so.
+fn translation_between(
+    alloc: Global,
+    ranks: &[Option<i128>],
+    from: &Birth,
+    to: &Birth,
+) -> Result<String, OutOfMemory>
+    ensures { IfOk result (λ text. string_bytes text ≡ line_text (translated_told from.now.members to.now.members (all_of (rank_asked (length from.now.members)) ranks.now))) }
+{
     translation_line(alloc, ranks, &group_of(alloc, from)?, &group_of(alloc, to)?)
 }
 

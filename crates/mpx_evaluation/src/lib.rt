@@ -6,7 +6,7 @@
 //! and of one rank alone (`specs/Going.antt`) [`a_rank_goes_its_own_way`].
 //! [`line`], [`refused_line`], [`idle_line`] and [`neighbours_line`] write a line of a transcript
 //! (`specs/Transcripts.antt`), and so do [`neighbours_answer`], [`comparison_answer`] and [`translation_answer`] for
-//! a question. A [`Report`] has all lines, and an [`Origin`] tells which statement a line belongs to. Who carries out a rank's statements keeps what its words stand for in a map, into which
+//! a question about what a word is [`Found`] to stand for. A [`Report`] has all lines, and an [`Origin`] tells which statement a line belongs to. Who carries out a rank's statements keeps what its words stand for in a map, into which
 //! [`bind`] binds one (`specs/Standing.antt`).
 #![tactic(auto)]
 
@@ -19,7 +19,7 @@ mod report;
 mod told;
 mod transcript;
 
-pub use asking::{Relation, comparison_answer, neighbours_answer, translation_answer};
+pub use asking::{Found, Relation, comparison_answer, neighbours_answer, translation_answer};
 pub use bindings::bind;
 pub use evaluation::{
     evaluations_are_one, every_script_has_an_evaluation, whatever_is_reached_is_a_beginning,

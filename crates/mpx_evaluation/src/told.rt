@@ -20,7 +20,7 @@ pub fn lines_tell_the_values_of_all_posts()
 /// The line of a blocking call tells the outcome of that very call. A nonblocking call has no line: its request is open from
 /// then on. A wait has a line for each of its requests: the outcome of the very call that the open request stands for, or that
 /// the request is idle; then none of them is open. A statement that asks a question has no post, and its line answers it by
-/// the communicators that its words are bound to. The rank has made no other post, but for that of the blocking call whose
+/// the communicators that its words are bound to, of which the rank has freed some. The rank has made no other post, but for that of the blocking call whose
 /// outcome it waits for, and has no other line. One that has nothing left to do has passed all of its statements.
 ///
 /// `world` is bound to the communicator of all ranks. A word of a statement is bound to the communicator that its call gave,

@@ -6,7 +6,7 @@ use Rattle.mpx_num.specs.Operations.{fits}
 use Rattle.mpx_num.specs.Types.{item_len}
 use Rattle.mpx_num.specs.ItemList.{AreItems, is_whole}
 use Rattle.mpx_kind.specs.declared.kinds.Kind.{Kind}
-use Rattle.mpx_kind.specs.declared.kinds.Kind.TheVariants.{Barrier, Bcast, Gather, Gatherv, Scatter, Scatterv, Allgather, Allgatherv, Alltoall, Alltoallv, Reduce, Allreduce, ReduceScatterBlock, ReduceScatter, Scan, Exscan, Dup, Split, Create, CreateGroup, DistGraph, DistGraphAdjacent, NeighborAllgather, NeighborAllgatherv, NeighborAlltoall, NeighborAlltoallv}
+use Rattle.mpx_kind.specs.declared.kinds.Kind.TheVariants.{Barrier, Bcast, Gather, Gatherv, Scatter, Scatterv, Allgather, Allgatherv, Alltoall, Alltoallv, Reduce, Allreduce, ReduceScatterBlock, ReduceScatter, Scan, Exscan, Dup, Split, Create, CreateGroup, DistGraph, DistGraphAdjacent, NeighborAllgather, NeighborAllgatherv, NeighborAlltoall, NeighborAlltoallv, Free}
 use Rattle.mpx_kind.specs.declared.kinds.Family.TheVariants as F
 use Rattle.mpx_kind.specs.declared.kinds.Reduction.{Reduction}
 use Rattle.mpx_kind.specs.declared.kinds.Reduction.TheVariants as R
@@ -86,6 +86,7 @@ module _ (row : RowView) (rank : ℕ) (fine : IsFine row) (l : rank < length row
   as_many_by NeighborAllgatherv is e op w v = cc op
   as_many_by NeighborAlltoall is e op w v = cc op
   as_many_by NeighborAlltoallv is e op w v = cc op
+  as_many_by Free is e op w v = cc op
 
   -- each gives as many numbers as rank 0
   pub as_many : reduces row ≡ true → AreItems (type_of (first_of row)) (numbers_of (post_at row rank)) → AreItems (type_of (first_of row)) (numbers_of (first_of row)) → length (numbers_of (post_at row rank)) ≡ length (numbers_of (first_of row))
@@ -113,4 +114,5 @@ has_items Create op = cc op
 has_items CreateGroup op = cc op
 has_items DistGraph op = cc op
 has_items DistGraphAdjacent op = cc op
+has_items Free op = cc op
 has_items kind op = refl

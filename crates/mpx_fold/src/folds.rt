@@ -26,6 +26,7 @@ pub fn fold_value(alloc: Global, row: &Row<'_>, rank: u8) -> Result<Value, OutOf
         Family::Exchange(_) => Ok(Value::Nothing),
         Family::NewCommunicator(_) => Ok(Value::Nothing),
         Family::Neighbourhood(_) => Ok(Value::Nothing),
+        Family::Free => Ok(Value::Nothing),
     }
 }
 

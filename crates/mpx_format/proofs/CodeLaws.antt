@@ -1,22 +1,39 @@
 -- The laws of codes, and of values that may be missing.
 use Rattle.std.proofs.Common.{◌≡◌, ℕ, zero, suc, Bool, true, false, ◌&&◌, ltb, Option, Some, None, refl, sym, ap, ◌∙◌, arith}
-use Rattle.std.proofs.lemmas.Bool.{ltb-true, and_parts}
+use Rattle.std.proofs.lemmas.Bool.{ltb-true, lt-ltb, and_parts}
 use Rattle.mpx_num.specs.declared.types.Ty.{Ty}
 use Rattle.mpx_num.specs.declared.operations.Op.{Op}
 use Rattle.mpx_kind.specs.declared.kinds.Kind.{Kind}
 use Rattle.mpx_kind.specs.declared.kinds.Mode.{Mode}
 use Rattle.mpx_kind.specs.declared.kinds.Mode.TheVariants.{Blocking, Nonblocking}
+use Rattle.mpx_format.specs.declared.faults.Fault.TheVariants.{BadVersion}
+use Rattle.mpx_format.specs.declared.versions.Version.{Version}
+use Rattle.mpx_format.specs.declared.versions.Version.TheVariants.{One, Two}
 use Rattle.mpx_format.specs.Format.{Format, byte, out_of_limits}
 use Rattle.mpx_kind.specs.Codes.{code_of_kind, kind_at}
 use Rattle.mpx_kind.proofs.Codes.{kind_forth}
 use Rattle.mpx_num.specs.Codes.{code_of_operation, operation_at, code_of_type, type_at}
 use Rattle.mpx_num.proofs.Codes.{operation_forth, type_forth}
-use Rattle.mpx_format.specs.Codes.{kind, code_of_mode, mode_at, mode, operation, item_type, code_of_flag, flag_at, flag, of_none, missing, there, when}
+use Rattle.mpx_format.specs.Codes.{code_of_version, version_at, version_byte, kinds_in, kind, code_of_mode, mode_at, mode, operation, item_type, code_of_flag, flag_at, flag, of_none, missing, there, when}
 use Rattle.mpx_format.proofs.FormatLaws.{Exactly, byte_laws, nothing_laws, only_laws, through_laws, some_is}
+
+-- VERSIONS
+
+version_forth : (x : Version) → version_at (code_of_version x) ≡ x
+version_forth One = refl
+version_forth Two = refl
+
+version_back : (n : ℕ) → (ltb 0 n && ltb n 3) ≡ true → code_of_version (version_at n) ≡ n
+version_back zero t = absurd cc
+version_back (suc zero) t = refl
+version_back (suc (suc n)) t = omega (arith, ltb-true (suc (suc n)) 3 (and_parts (ltb 0 (suc (suc n))) (ltb (suc (suc n)) 3) t).1)
+
+pub version_laws : Exactly version_byte
+version_laws = through_laws version_at (λ x. Some (code_of_version x)) (only_laws (λ bytes. BadVersion) _ byte_laws) (λ n fits. ap Some (version_back n (and_parts (byte.fits n) (ltb 0 n && ltb n 3) fits).1)) (λ x n e. ap version_at (sym (some_is (code_of_version x) n e)) ∙ version_forth x)
 
 -- KINDS AND MODES
 
-kind_back : (n : ℕ) → ltb n 26 ≡ true → code_of_kind (kind_at n) ≡ n
+kind_back : (n : ℕ) → ltb n 27 ≡ true → code_of_kind (kind_at n) ≡ n
 kind_back zero t = refl
 kind_back (suc zero) t = refl
 kind_back (suc (suc zero)) t = refl
@@ -42,11 +59,16 @@ kind_back (suc (suc (suc (suc (suc (suc (suc (suc (suc (suc (suc (suc (suc (suc 
 kind_back (suc (suc (suc (suc (suc (suc (suc (suc (suc (suc (suc (suc (suc (suc (suc (suc (suc (suc (suc (suc (suc (suc zero)))))))))))))))))))))) t = refl
 kind_back (suc (suc (suc (suc (suc (suc (suc (suc (suc (suc (suc (suc (suc (suc (suc (suc (suc (suc (suc (suc (suc (suc (suc zero))))))))))))))))))))))) t = refl
 kind_back (suc (suc (suc (suc (suc (suc (suc (suc (suc (suc (suc (suc (suc (suc (suc (suc (suc (suc (suc (suc (suc (suc (suc (suc zero)))))))))))))))))))))))) t = refl
-kind_back (suc (suc (suc (suc (suc (suc (suc (suc (suc (suc (suc (suc (suc (suc (suc (suc (suc (suc (suc (suc (suc (suc (suc (suc (suc n))))))))))))))))))))))))) t = omega (arith, ltb-true (suc (suc (suc (suc (suc (suc (suc (suc (suc (suc (suc (suc (suc (suc (suc (suc (suc (suc (suc (suc (suc (suc (suc (suc (suc n))))))))))))))))))))))))) 26 t)
+kind_back (suc (suc (suc (suc (suc (suc (suc (suc (suc (suc (suc (suc (suc (suc (suc (suc (suc (suc (suc (suc (suc (suc (suc (suc (suc zero))))))))))))))))))))))))) t = refl
+kind_back (suc (suc (suc (suc (suc (suc (suc (suc (suc (suc (suc (suc (suc (suc (suc (suc (suc (suc (suc (suc (suc (suc (suc (suc (suc (suc n)))))))))))))))))))))))))) t = omega (arith, ltb-true (suc (suc (suc (suc (suc (suc (suc (suc (suc (suc (suc (suc (suc (suc (suc (suc (suc (suc (suc (suc (suc (suc (suc (suc (suc (suc n)))))))))))))))))))))))))) 27 t)
 
-pub kind_laws : Exactly kind
+in_some_version : (version : Version) (n : ℕ) → ltb n (kinds_in version) ≡ true → ltb n 27 ≡ true
+in_some_version One n t = lt-ltb n 27 (omega (arith, ltb-true n 26 t))
+in_some_version Two n t = t
+
+pub kind_laws : (version : Version) → Exactly (kind version)
 unfolding kind
-kind_laws = through_laws kind_at (λ x. Some (code_of_kind x)) (only_laws out_of_limits _ byte_laws) (λ n fits. ap Some (kind_back n (and_parts (byte.fits n) (ltb n 26) fits).1)) (λ x n e. ap kind_at (sym (some_is (code_of_kind x) n e)) ∙ kind_forth x)
+kind_laws version = through_laws kind_at (λ x. Some (code_of_kind x)) (only_laws out_of_limits _ byte_laws) (λ n fits. ap Some (kind_back n (in_some_version version n (and_parts (byte.fits n) (ltb n (kinds_in version)) fits).1))) (λ x n e. ap kind_at (sym (some_is (code_of_kind x) n e)) ∙ kind_forth x)
 
 mode_forth : (x : Mode) → mode_at (code_of_mode x) ≡ x
 mode_forth Blocking = refl

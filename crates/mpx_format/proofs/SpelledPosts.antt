@@ -1,4 +1,4 @@
--- Posts within the limits of their type have a spelling.
+-- Posts within the limits of their type have a spelling in version 2.
 use Rattle.std.proofs.Common.{◌≡◌, ℕ, ℤ, pos, negsuc, neg_ℤ, ◌≤ℤ◌, ◌+◌, ◌-◌, ◌*◌, ◌/◌, ◌^◌, ◌<◌, ◌≤◌, Bool, true, false, cond, ltb, List, [], length, Option, Some, None, refl, ap, subst, ◌∙◌, arith}
 use Rattle.std.specs.Prelude.{is_some, slice_index_or}
 use Rattle.std.specs.List.{All}
@@ -15,7 +15,7 @@ use Rattle.mpx_num.specs.declared.types.Ty.TheVariants.{I8, I16, I32, I64, U8, U
 use Rattle.mpx_num.specs.declared.operations.Op.{Op}
 use Rattle.mpx_num.specs.declared.operations.Op.TheVariants.{Max, Min, Sum, Prod, Land, Lor, Lxor, Band, Bor, Bxor, Maxloc, Minloc}
 use Rattle.mpx_kind.specs.declared.kinds.Kind.{Kind}
-use Rattle.mpx_kind.specs.declared.kinds.Kind.TheVariants.{Barrier, Bcast, Gather, Gatherv, Scatter, Scatterv, Allgather, Allgatherv, Alltoall, Alltoallv, Reduce, Allreduce, ReduceScatterBlock, ReduceScatter, Scan, Exscan, Dup, Split as SplitKind, Create, CreateGroup, DistGraph, DistGraphAdjacent, NeighborAllgather, NeighborAllgatherv, NeighborAlltoall, NeighborAlltoallv}
+use Rattle.mpx_kind.specs.declared.kinds.Kind.TheVariants.{Barrier, Bcast, Gather, Gatherv, Scatter, Scatterv, Allgather, Allgatherv, Alltoall, Alltoallv, Reduce, Allreduce, ReduceScatterBlock, ReduceScatter, Scan, Exscan, Dup, Split as SplitKind, Create, CreateGroup, DistGraph, DistGraphAdjacent, NeighborAllgather, NeighborAllgatherv, NeighborAlltoall, NeighborAlltoallv, Free}
 use Rattle.mpx_kind.specs.declared.kinds.Mode.{Mode}
 use Rattle.mpx_kind.specs.declared.kinds.Mode.TheVariants.{Blocking, Nonblocking}
 use Rattle.mpx_kind.specs.declared.kinds.Makes.{Makes}
@@ -28,6 +28,7 @@ use Rattle.mpx_post.specs.declared.making.Making.TheVariants.{Nothing, Split, Gr
 use Rattle.mpx_post.specs.Graphs.{EdgesView, NeighboursView, most_edges, IsWeight, IsEdge, IsNeighbour, AreEdges, AreNeighbours}
 use Rattle.mpx_post.specs.Ranks.{AreRanks}
 use Rattle.mpx_post.specs.Posts.{Given, most_items, most_counts, AreCounts, few_items, IsColour, makes_of, IsWithin, IsMaking, key_in, key_of, NoneUnless, are_items_of, IsPost}
+use Rattle.mpx_format.specs.declared.versions.Version.TheVariants.{Two}
 use Rattle.mpx_format.specs.Format.{Format, byte, number, fits_by, many_fit}
 use Rattle.mpx_format.specs.Fields.{process}
 use Rattle.mpx_format.specs.Codes.{kind, mode, operation, item_type, flag, when}
@@ -35,7 +36,7 @@ use Rattle.mpx_format.specs.Births.{neighbour}
 use Rattle.mpx_format.specs.Posts.{type_for, no_list, count, counts, counts_if, of_signed, integer, item_count, items, items_for, choice, split, ranks, group, edge, edge_count, edges, few_neighbours, own, making_for, nums_of, post}
 use Rattle.mpx_format.proofs.Spelled.{each_fit, process_fits, distinct_fit, colour_fits, weight_fits}
 
-kind_fits : (k : Kind) → kind.fits k ≡ true
+kind_fits : (k : Kind) → (kind Two).fits k ≡ true
 unfolding kind
 kind_fits Barrier = refl
 kind_fits Bcast = refl
@@ -63,6 +64,7 @@ kind_fits NeighborAllgather = refl
 kind_fits NeighborAllgatherv = refl
 kind_fits NeighborAlltoall = refl
 kind_fits NeighborAlltoallv = refl
+kind_fits Free = refl
 
 mode_fits : (k : Kind) (m : Mode) → may_be m (family_of k) ≡ true → (mode k).fits m ≡ true
 unfolding mode
@@ -233,7 +235,7 @@ making_fits makes m h key = subst (λ s. (making_for s).fits m ≡ true) h.sort 
 -- WHOLE POSTS
 
 -- what posts keep is all that a spelling asks for
-pub post_fits : (g : Given) → IsPost g → AreCounts g.scounts → AreCounts g.rcounts → are_items_of g.items → IsInRange I32 (key_of g) → post.fits g ≡ true
+pub post_fits : (g : Given) → IsPost g → AreCounts g.scounts → AreCounts g.rcounts → are_items_of g.items → IsInRange I32 (key_of g) → (post Two).fits g ≡ true
 unfolding post
 post_fits g h scounts rcounts whole key =
     let fields = fields_of g.kind in

@@ -1,4 +1,4 @@
--- The codes of kinds, modes, operations and types, and what may follow a byte that says which form a value has.
+-- The codes of versions, kinds, modes, operations and types, and what may follow a byte that says which form a value has.
 use Rattle.std.specs.Prelude.{ℕ, zero, suc, Bool, true, false, ◌&&◌, nat_lt, Option, Some, None}
 use Rattle.mpx_num.specs.declared.types.Ty.{Ty}
 use Rattle.mpx_num.specs.declared.operations.Op.{Op}
@@ -8,12 +8,35 @@ use Rattle.mpx_kind.specs.declared.kinds.Mode.TheVariants.{Blocking, Nonblocking
 use Rattle.mpx_kind.specs.Kinds.{family_of, may_be}
 use Rattle.mpx_kind.specs.Codes.{code_of_kind, kind_at}
 use Rattle.mpx_num.specs.Codes.{code_of_operation, operation_at, code_of_type, type_at}
+use Rattle.mpx_format.specs.declared.faults.Fault.TheVariants.{BadVersion}
+use Rattle.mpx_format.specs.declared.versions.Version.{Version}
+use Rattle.mpx_format.specs.declared.versions.Version.TheVariants.{One, Two}
 use Rattle.mpx_format.specs.Format.{Format, nothing, byte, only, through, out_of_limits}
+
+-- VERSIONS
+
+abbrev pub code_of_version : Version → ℕ
+code_of_version One = 1
+code_of_version Two = 2
+
+abbrev pub version_at : ℕ → Version
+version_at zero = One
+version_at (suc zero) = One
+version_at (suc (suc n)) = Two
+
+-- 1 or 2
+abbrev pub version_byte : Format Version
+version_byte = through version_at (λ v. Some (code_of_version v)) (only (λ bytes. BadVersion) (λ n. nat_lt 0 n && nat_lt n 3) byte)
 
 -- KINDS AND MODES
 
-unfoldable pub kind : Format Kind
-kind = through kind_at (λ k. Some (code_of_kind k)) (only out_of_limits (λ n. nat_lt n 26) byte)
+-- how many kinds a version spells: the last one, by which a communicator is freed, came with version 2
+abbrev pub kinds_in : Version → ℕ
+kinds_in One = 26
+kinds_in Two = 27
+
+unfoldable pub kind : Version → Format Kind
+kind version = through kind_at (λ k. Some (code_of_kind k)) (only out_of_limits (λ n. nat_lt n (kinds_in version)) byte)
 
 abbrev pub code_of_mode : Mode → ℕ
 code_of_mode Blocking = 0
@@ -23,7 +46,7 @@ abbrev pub mode_at : ℕ → Mode
 mode_at zero = Blocking
 mode_at (suc n) = Nonblocking
 
--- a mode of which calls of this kind may be: those that make communicators only block
+-- a mode of which calls of this kind may be: those that make communicators or free one only block
 unfoldable pub mode : Kind → Format Mode
 mode k = only out_of_limits (λ m. may_be m (family_of k)) (through mode_at (λ m. Some (code_of_mode m)) (only out_of_limits (λ n. nat_lt n 2) byte))
 

@@ -4,15 +4,19 @@ use Rattle.std.specs.Int.{w32}
 use Rattle.std.specs.Ordering.{nat_cmp}
 use Rattle.std.specs.FinMap.{entries, from_sorted}
 use Rattle.join_core.specs.Flat.{FlatView, unknown, known, clash}
+use Rattle.join_nest.specs.Lift.{LiftView, live, dead}
 use Rattle.join_nest.specs.Trunc.{TruncView, trunc_of}
 use Rattle.mpx_name.specs.Order.{name_cmp}
 use Rattle.mpx_post.specs.Posts.{Given}
-use Rattle.mpx_board.specs.Parts.{CallView, ProgressView, EntryView, PartsView}
-use Rattle.mpx_board.specs.Tidy.{is_unknown, says_nothing}
-use Rattle.mpx_format.specs.declared.faults.Fault.TheVariants.{BadMagic, BadVersion}
+use Rattle.mpx_board.specs.Parts.{CallView, ProgressView, EntryView, LiftedView, PartsView}
+use Rattle.mpx_board.specs.Tidy.{is_silent, is_unknown}
+use Rattle.mpx_format.specs.declared.faults.Fault.TheVariants.{BadMagic}
+use Rattle.mpx_format.specs.declared.versions.Version.{Version}
+use Rattle.mpx_format.specs.declared.versions.Version.TheVariants.{One, Two}
 use Rattle.mpx_format.specs.Format.{Format, nothing, mark, number, both, only, through, counted, tagged, out_of_limits}
 use Rattle.mpx_format.specs.Rising.{keyed, entry, always}
 use Rattle.mpx_format.specs.Fields.{process, call, name, name_count, some_byte, fronts, all_acks}
+use Rattle.mpx_format.specs.Codes.{version_byte}
 use Rattle.mpx_format.specs.Births.{birth}
 use Rattle.mpx_format.specs.Posts.{post}
 
@@ -48,17 +52,17 @@ abbrev pub told : {A : Type 0} → Format A → Format (FlatView A)
 told f = tagged (λ t. nat_lt t 3) code_of_flat (flat_form f)
 
 -- a post, or that two were told
-unfoldable pub posted : Format (FlatView Given)
-posted = only out_of_limits (λ p. not (is_unknown p)) (told post)
+unfoldable pub posted : Version → Format (FlatView Given)
+posted version = only out_of_limits (λ p. not (is_unknown p)) (told (post version))
 
 -- CONTEXTS
 
-unfoldable pub call_posts : Format CallView
-call_posts = keyed nat_cmp some_byte process posted always
+unfoldable pub call_posts : Version → Format CallView
+call_posts version = keyed nat_cmp some_byte process (posted version) always
 
 -- the calls at or above a front
-unfoldable pub calls : ℕ → Format (List (ℕ × CallView))
-calls dropped = counted (number w32) (entry nat_cmp (Some dropped) call call_posts always)
+unfoldable pub calls : Version → ℕ → Format (List (ℕ × CallView))
+calls version dropped = counted (number w32) (entry nat_cmp (Some dropped) call (call_posts version) always)
 
 abbrev pub trunc_from : ℕ × List (ℕ × CallView) → TruncView CallView
 trunc_from x = trunc_of x.0 (from_sorted x.1)
@@ -67,23 +71,48 @@ abbrev pub of_trunc : TruncView CallView → Option (ℕ × List (ℕ × CallVie
 of_trunc t = Some (t.dropped, entries t.calls)
 
 -- the dropped front, and the calls at or above it
-unfoldable pub held : Format (TruncView CallView)
-held = through trunc_from of_trunc (both (number w32) calls)
+unfoldable pub held : Version → Format (TruncView CallView)
+held version = through trunc_from of_trunc (both (number w32) (calls version))
 
-unfoldable pub progress : Format ProgressView
-progress = both fronts (λ f. held)
+unfoldable pub progress : Version → Format ProgressView
+progress version = both fronts (λ f. held version)
 
-unfoldable pub context : Format EntryView
-context = both (told birth) (λ b. progress)
+-- a live context
+unfoldable pub context : Version → Format EntryView
+context version = both (told birth) (λ b. progress version)
 
-abbrev pub says_something : EntryView → Bool
-says_something e = not (says_nothing e)
+-- LIVE OR DEAD
+
+abbrev pub code_of_lift : {A : Type 0} → LiftView A → ℕ
+code_of_lift (live a) = 0
+code_of_lift dead = 1
+
+abbrev pub of_live : {A : Type 0} → LiftView A → Option A
+of_live (live a) = Some a
+of_live dead = None
+
+abbrev pub of_dead : {A : Type 0} → LiftView A → Option (Unit {0})
+of_dead (live a) = None
+of_dead dead = Some tt
+
+-- a live value, or no bytes for a dead one
+abbrev pub lift_form : {A : Type 0} → Format A → ℕ → Format (LiftView A)
+lift_form f zero = through live of_live f
+lift_form f (suc n) = through (λ u. dead) of_dead nothing
+
+-- in version 1 each context is live; in version 2 stands 0 and a live one, or 1 for a dead one
+unfoldable pub lifted : Version → Format LiftedView
+lifted One = lift_form (context One) 0
+lifted Two = tagged (λ t. nat_lt t 2) code_of_lift (lift_form (context Two))
+
+abbrev pub says_something : LiftedView → Bool
+says_something l = not (is_silent l)
 
 -- FRAMES
 
-unfoldable pub parts : Format PartsView
-parts = both (keyed name_cmp name_count name context says_something) (λ c. all_acks)
+unfoldable pub parts : Version → Format PartsView
+parts version = both (keyed name_cmp name_count name (lifted version) says_something) (λ c. all_acks)
 
--- MPXG, the version, and the parts of a board
-unfoldable pub frame : Format PartsView
-frame = mark BadMagic 77 (mark BadMagic 80 (mark BadMagic 88 (mark BadMagic 71 (mark BadVersion 1 parts))))
+-- MPXG, the version, and the parts of a board as this version spells them
+unfoldable pub frame : Format (Version × PartsView)
+frame = mark BadMagic 77 (mark BadMagic 80 (mark BadMagic 88 (mark BadMagic 71 (both version_byte parts))))

@@ -9,17 +9,22 @@ use Rattle.mpx_format.specs.declared.faults.Fault.{Fault}
 use Rattle.mpx_format.specs.declared.faults.Fault.TheVariants as F
 use Rattle.mpx_format.specs.declared.faults.WireError.{WireError}
 use Rattle.mpx_format.specs.declared.faults.WireError.TheVariants as E
+use Rattle.mpx_format.specs.declared.versions.Version.{Version}
 use Rattle.mpx_format.specs.Format.{not_canonical}
 use Rattle.mpx_format.specs.Contexts.{frame}
 
 abbrev pub most_bytes : ℕ
 most_bytes = 1048576
 
--- THE GRAMMAR: the bytes are the one spelling of these parts of a board
-pub record Spells (bytes : List ℕ) (v : PartsView) : Type 0 where
-  pub fits : frame.fits v ≡ true
-  pub bytes_are : bytes ≡ frame.spelling v
+-- THE GRAMMAR: the bytes are the version's one spelling of these parts of a board
+pub record Spells (version : Version) (bytes : List ℕ) (v : PartsView) : Type 0 where
+  pub fits : frame.fits (version, v) ≡ true
+  pub bytes_are : bytes ≡ frame.spelling (version, v)
   pub few : length bytes ≤ most_bytes
+
+-- they are so in some version
+abbrev pub IsSpelled : List ℕ → PartsView → Type 0
+IsSpelled bytes v = (version : Version) × Spells version bytes v
 
 -- THE REFUSALS
 
@@ -31,9 +36,9 @@ placed n F.ShortFrame = E.ShortFrame
 placed n (F.OutOfLimits left) = E.OutOfLimits (n - left)
 placed n (F.NotCanonical left) = E.NotCanonical (n - left)
 
--- the value, where no bytes are left
-abbrev pub ended : ℕ → Result (PartsView × List ℕ) Fault → Result PartsView WireError
-ended n (Ok x) = cond (nat_eq (length x.1) 0) (Ok x.0) (Err (placed n (not_canonical x.1)))
+-- the parts, of whichever version, where no bytes are left
+abbrev pub ended : ℕ → Result ((Version × PartsView) × List ℕ) Fault → Result PartsView WireError
+ended n (Ok x) = cond (nat_eq (length x.1) 0) (Ok x.0.1) (Err (placed n (not_canonical x.1)))
 ended n (Err f) = Err (placed n f)
 
 -- the board of the bytes, or the first field that is wrong

@@ -19,6 +19,7 @@ use Rattle.mpx_post.specs.declared.making.Making.{Making}
 use Rattle.mpx_post.specs.declared.making.Making.TheVariants.{Nothing, Split, Group, Edges, Neighbours}
 use Rattle.mpx_post.specs.Graphs.{EdgesView, NeighboursView, most_edges}
 use Rattle.mpx_post.specs.Posts.{Given}
+use Rattle.mpx_format.specs.declared.versions.Version.{Version}
 use Rattle.mpx_format.specs.Format.{Format, nothing, byte, number, both, only, through, many, counted, tagged, out_of_limits}
 use Rattle.mpx_format.specs.Fields.{process, member, colour}
 use Rattle.mpx_format.specs.Codes.{kind, mode, operation, item_type, flag, missing, there, when}
@@ -217,8 +218,8 @@ abbrev pub fields_from : Given → PostFields
 fields_from g = (g.kind, (g.mode, (g.root, (g.op, (option_map (λ (i : ItemList). i.ty) g.items, (g.scounts, (g.rcounts, (nums_of g.items, g.making))))))))
 
 -- the fields that posts of the kind have, in their order
-unfoldable pub post : Format Given
-post = through given_from (λ g. Some (fields_from g))
-    (both kind (λ k. both (mode k) (λ m. both (when (fields_of k).root process) (λ r. both (when (fields_of k).op operation) (λ o.
+unfoldable pub post : Version → Format Given
+post version = through given_from (λ g. Some (fields_from g))
+    (both (kind version) (λ k. both (mode k) (λ m. both (when (fields_of k).root process) (λ r. both (when (fields_of k).op operation) (λ o.
     both (when (fields_of k).items (type_for o)) (λ t. both (counts_if (is_had (fields_of k).scounts)) (λ s. both (counts_if (is_had (fields_of k).rcounts)) (λ c.
     both (items_for t) (λ i. making_for (fields_of k).makes)))))))))

@@ -4,13 +4,17 @@
 //! the front with the bytes after it, or the first field that is wrong. The formats of frames are built of a few such forms:
 //! fields and names in `specs/Fields.antt`, births in `specs/Births.antt`, posts in `specs/Posts.antt`, whole boards in
 //! `specs/Contexts.antt`; `specs/Decoding.antt` says which bytes spell a board and how a refusal is placed. The code that
-//! reads them is `mpx_decode`, what writes them `mpx_encode`, and what is of both ways `mpx_wire`.
+//! reads them is `mpx_decode`, what writes them `mpx_encode`, and what is of both ways `mpx_wire`. There are two versions of
+//! frames ([`Version`]), which differ in what stands behind the name of a context and in the kinds of calls: the formats of whole
+//! contexts, and what these are built of, have the version as a parameter.
 #![tactic(auto)]
 
 mod faults;
 mod laws;
 mod rising;
+mod versions;
 
 pub use faults::{Fault, ReadError, SHORT, WireError, not_canonical, out_of_limits, placed};
 pub use laws::one_spelling;
 pub use rising::may_come;
+pub use versions::Version;

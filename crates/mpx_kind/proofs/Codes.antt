@@ -1,7 +1,7 @@
 -- Each kind is the one of its number.
 use Rattle.std.proofs.Common.{◌≡◌, refl}
 use Rattle.mpx_kind.specs.declared.kinds.Kind.{Kind}
-use Rattle.mpx_kind.specs.declared.kinds.Kind.TheVariants.{Barrier, Bcast, Gather, Gatherv, Scatter, Scatterv, Allgather, Allgatherv, Alltoall, Alltoallv, Reduce, Allreduce, ReduceScatterBlock, ReduceScatter, Scan, Exscan, Dup, Split, Create, CreateGroup, DistGraph, DistGraphAdjacent, NeighborAllgather, NeighborAllgatherv, NeighborAlltoall, NeighborAlltoallv}
+use Rattle.mpx_kind.specs.declared.kinds.Kind.TheVariants.{Barrier, Bcast, Gather, Gatherv, Scatter, Scatterv, Allgather, Allgatherv, Alltoall, Alltoallv, Reduce, Allreduce, ReduceScatterBlock, ReduceScatter, Scan, Exscan, Dup, Split, Create, CreateGroup, DistGraph, DistGraphAdjacent, NeighborAllgather, NeighborAllgatherv, NeighborAlltoall, NeighborAlltoallv, Free}
 use Rattle.mpx_kind.specs.Codes.{code_of_kind, kind_at}
 
 pub kind_forth : (x : Kind) → kind_at (code_of_kind x) ≡ x
@@ -31,3 +31,4 @@ kind_forth NeighborAllgather = refl
 kind_forth NeighborAllgatherv = refl
 kind_forth NeighborAlltoall = refl
 kind_forth NeighborAlltoallv = refl
+kind_forth Free = refl

@@ -1,7 +1,7 @@
 -- The kinds of calls: one row each of what its posts have, and one of its family (MPI 4.1, sections 6.3 to 6.12, 7.4, 8.5 and 8.6).
 use Rattle.std.specs.Prelude.{ℕ, Bool, true, false, cond}
 use Rattle.mpx_kind.specs.declared.kinds.Kind.{Kind}
-use Rattle.mpx_kind.specs.declared.kinds.Kind.TheVariants.{Barrier, Bcast, Gather, Gatherv, Scatter, Scatterv, Allgather, Allgatherv, Alltoall, Alltoallv, Reduce, Allreduce, ReduceScatterBlock, ReduceScatter, Scan, Exscan, Dup, Split, Create, CreateGroup, DistGraph, DistGraphAdjacent, NeighborAllgather, NeighborAllgatherv, NeighborAlltoall, NeighborAlltoallv}
+use Rattle.mpx_kind.specs.declared.kinds.Kind.TheVariants.{Barrier, Bcast, Gather, Gatherv, Scatter, Scatterv, Allgather, Allgatherv, Alltoall, Alltoallv, Reduce, Allreduce, ReduceScatterBlock, ReduceScatter, Scan, Exscan, Dup, Split, Create, CreateGroup, DistGraph, DistGraphAdjacent, NeighborAllgather, NeighborAllgatherv, NeighborAlltoall, NeighborAlltoallv, Free}
 use Rattle.mpx_kind.specs.declared.kinds.Family.{Family}
 use Rattle.mpx_kind.specs.declared.kinds.Family.TheVariants as F
 use Rattle.mpx_kind.specs.declared.kinds.Exchange.{Exchange}
@@ -81,6 +81,7 @@ fields_of NeighborAllgather = having false false true Zero One Any
 fields_of NeighborAllgatherv = having false false true Zero Indegree Any
 fields_of NeighborAlltoall = having false false true One One (Scounts Outdegree)
 fields_of NeighborAlltoallv = having false false true Outdegree Indegree (Scounts One)
+fields_of Free = having false false false Zero Zero Any
 
 -- the family of each kind, and which of the family's kinds it is
 abbrev pub family_of : Kind → Family
@@ -110,6 +111,7 @@ family_of NeighborAllgather = F.Neighbourhood H.Allgather
 family_of NeighborAllgatherv = F.Neighbourhood H.Allgatherv
 family_of NeighborAlltoall = F.Neighbourhood H.Alltoall
 family_of NeighborAlltoallv = F.Neighbourhood H.Alltoallv
+family_of Free = F.Free
 
 -- KINDS OF A FAMILY
 
@@ -154,19 +156,22 @@ kind_of (C.Exchange exchange mode) = exchange_kind exchange
 kind_of (C.Reduction reduction mode) = reduction_kind reduction
 kind_of (C.NewCommunicator new) = new_communicator_kind new
 kind_of (C.Neighbourhood exchange mode) = neighbourhood_kind exchange
+kind_of C.Free = Free
 
--- calls that make communicators only block
+-- calls that make communicators, and those that free them, only block
 abbrev pub mode_of : Call → Mode
 mode_of (C.Exchange exchange mode) = mode
 mode_of (C.Reduction reduction mode) = mode
 mode_of (C.NewCommunicator new) = Blocking
 mode_of (C.Neighbourhood exchange mode) = mode
+mode_of C.Free = Blocking
 
 abbrev blocking_in : Family → Call
 blocking_in (F.Exchange exchange) = C.Exchange exchange Blocking
 blocking_in (F.Reduction reduction) = C.Reduction reduction Blocking
 blocking_in (F.NewCommunicator new) = C.NewCommunicator new
 blocking_in (F.Neighbourhood exchange) = C.Neighbourhood exchange Blocking
+blocking_in F.Free = C.Free
 
 -- the blocking call of a kind
 abbrev pub blocking : Kind → Call
@@ -179,6 +184,7 @@ may_be Nonblocking (F.Exchange exchange) = true
 may_be Nonblocking (F.Reduction reduction) = true
 may_be Nonblocking (F.NewCommunicator new) = false
 may_be Nonblocking (F.Neighbourhood exchange) = true
+may_be Nonblocking F.Free = false
 
 -- whether calls of the family make communicators
 abbrev pub makes_communicators : Family → Bool
@@ -186,6 +192,7 @@ makes_communicators (F.Exchange exchange) = false
 makes_communicators (F.Reduction reduction) = false
 makes_communicators (F.NewCommunicator new) = true
 makes_communicators (F.Neighbourhood exchange) = false
+makes_communicators F.Free = false
 
 -- whether calls of the family go along the edges of a topology
 abbrev pub needs_topology : Family → Bool
@@ -193,6 +200,15 @@ needs_topology (F.Exchange exchange) = false
 needs_topology (F.Reduction reduction) = false
 needs_topology (F.NewCommunicator new) = false
 needs_topology (F.Neighbourhood exchange) = true
+needs_topology F.Free = false
+
+-- whether calls of the family free their communicator
+abbrev pub frees : Family → Bool
+frees (F.Exchange exchange) = false
+frees (F.Reduction reduction) = false
+frees (F.NewCommunicator new) = false
+frees (F.Neighbourhood exchange) = false
+frees F.Free = true
 
 -- whether calls of the family are made on gatherings, as those of create_group are, and no others
 abbrev pub is_gathered : Family → Bool
@@ -205,3 +221,4 @@ is_gathered (F.NewCommunicator N.CreateGroup) = true
 is_gathered (F.NewCommunicator N.DistGraph) = false
 is_gathered (F.NewCommunicator N.DistGraphAdjacent) = false
 is_gathered (F.Neighbourhood exchange) = false
+is_gathered F.Free = false

@@ -1,6 +1,6 @@
 // The kinds of calls: one table of their families, modes and fields.
 ghost use Rattle.std.specs.Prelude.{◌≡◌, ◌≤◌};
-ghost use Rattle.mpx_kind.specs.Kinds.{blocking, exchange_kind, family_of, fields_of, is_gathered, is_had, kind_of, makes_communicators, making, mode_of, needs_topology, neighbourhood_kind, new_communicator_kind, number_in, reduction_kind};
+ghost use Rattle.mpx_kind.specs.Kinds.{blocking, exchange_kind, family_of, fields_of, frees, is_gathered, is_had, kind_of, makes_communicators, making, may_be, mode_of, needs_topology, neighbourhood_kind, new_communicator_kind, number_in, reduction_kind};
 
 /// The kinds of calls (MPI 4.1 sections 6.3 to 6.12, 7.4, 8.5 and 8.6).
 #[derive(Clone, Copy, Debug, PartialEq, Eq)]
@@ -57,6 +57,8 @@ pub enum Kind {
     NeighborAlltoall,
     /// `MPI_NEIGHBOR_ALLTOALLV` (section 8.6.2).
     NeighborAlltoallv,
+    /// `MPI_COMM_FREE` (section 7.4.3).
+    Free,
 }
 
 /// The kinds that move items as they are (MPI 4.1 sections 6.3 to 6.8).
@@ -112,6 +114,8 @@ pub enum Family {
     Reduction(Reduction),
     NewCommunicator(NewCommunicator),
     Neighbourhood(Neighbourhood),
+    /// The one kind that frees a communicator.
+    Free,
 }
 
 /// Whether a call blocks. Blocking and nonblocking calls don't match (MPI 4.1 section 6.12).
@@ -121,13 +125,14 @@ pub enum Mode {
     Nonblocking,
 }
 
-/// A kind of call with its mode: calls that make communicators only block.
+/// A kind of call with its mode: calls that make communicators, and those that free them, only block.
 #[derive(Clone, Copy, Debug, PartialEq, Eq)]
 pub enum Call {
     Exchange(Exchange, Mode),
     Reduction(Reduction, Mode),
     NewCommunicator(NewCommunicator),
     Neighbourhood(Neighbourhood, Mode),
+    Free,
 }
 
 /// What a post says of the communicator that its call makes.
@@ -232,6 +237,7 @@ impl Kind {
             Kind::NeighborAllgatherv => Family::Neighbourhood(Neighbourhood::Allgatherv),
             Kind::NeighborAlltoall => Family::Neighbourhood(Neighbourhood::Alltoall),
             Kind::NeighborAlltoallv => Family::Neighbourhood(Neighbourhood::Alltoallv),
+            Kind::Free => Family::Free,
         }
     }
 
@@ -270,6 +276,20 @@ impl Kind {
             Kind::NeighborAlltoallv => {
                 having(false, false, true, Outdegree, Indegree, Scounts(One))
             }
+            Kind::Free => having(false, false, false, Zero, Zero, Any),
+        }
+    }
+
+    /// Whether there are nonblocking calls of it.
+    pub fn may_be_nonblocking(self) -> bool
+        ensures { result ≡ may_be Mode.Nonblocking (family_of self) }
+    {
+        match self.family() {
+            Family::Exchange(_) => true,
+            Family::Reduction(_) => true,
+            Family::NewCommunicator(_) => false,
+            Family::Neighbourhood(_) => true,
+            Family::Free => false,
         }
     }
 
@@ -282,6 +302,20 @@ impl Kind {
             Family::Reduction(_) => false,
             Family::NewCommunicator(_) => true,
             Family::Neighbourhood(_) => false,
+            Family::Free => false,
+        }
+    }
+
+    /// Whether its calls free their communicator.
+    pub fn frees(self) -> bool
+        ensures { result ≡ frees (family_of self) }
+    {
+        match self.family() {
+            Family::Exchange(_) => false,
+            Family::Reduction(_) => false,
+            Family::NewCommunicator(_) => false,
+            Family::Neighbourhood(_) => false,
+            Family::Free => true,
         }
     }
 
@@ -294,6 +328,7 @@ impl Kind {
             Family::Reduction(_) => false,
             Family::NewCommunicator(new) => new == NewCommunicator::CreateGroup,
             Family::Neighbourhood(_) => false,
+            Family::Free => false,
         }
     }
 
@@ -306,6 +341,7 @@ impl Kind {
             Family::Reduction(_) => false,
             Family::NewCommunicator(_) => false,
             Family::Neighbourhood(_) => true,
+            Family::Free => false,
         }
     }
 }
@@ -320,6 +356,7 @@ impl Call {
             Family::Reduction(reduction) => Call::Reduction(reduction, Mode::Blocking),
             Family::NewCommunicator(new) => Call::NewCommunicator(new),
             Family::Neighbourhood(exchange) => Call::Neighbourhood(exchange, Mode::Blocking),
+            Family::Free => Call::Free,
         }
     }
 
@@ -332,6 +369,7 @@ impl Call {
             Call::Reduction(reduction, _) => reduction.kind(),
             Call::NewCommunicator(new) => new.kind(),
             Call::Neighbourhood(exchange, _) => exchange.kind(),
+            Call::Free => Kind::Free,
         }
     }
 
@@ -344,6 +382,7 @@ impl Call {
             Call::Reduction(_, mode) => mode,
             Call::NewCommunicator(_) => Mode::Blocking,
             Call::Neighbourhood(_, mode) => mode,
+            Call::Free => Mode::Blocking,
         }
     }
 }

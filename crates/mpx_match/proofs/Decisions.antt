@@ -8,7 +8,7 @@ use Rattle.std.specs.Cmp.{booleans_Decides}
 use Rattle.std.proofs.lemmas.Bool.{cases_Bool, false_from_ne_true, false≢true}
 use Rattle.std.proofs.lemmas.Bool.Decides.{Decides-eqb}
 use Rattle.mpx_kind.specs.declared.kinds.Kind as K
-use Rattle.mpx_kind.specs.declared.kinds.Kind.TheVariants.{Barrier, Bcast, Gather, Gatherv, Scatter, Scatterv, Allgather, Allgatherv, Alltoall, Alltoallv, Reduce, Allreduce, ReduceScatterBlock, ReduceScatter, Scan, Exscan, Dup, Split, Create, CreateGroup, DistGraph, DistGraphAdjacent, NeighborAllgather, NeighborAllgatherv, NeighborAlltoall, NeighborAlltoallv}
+use Rattle.mpx_kind.specs.declared.kinds.Kind.TheVariants.{Barrier, Bcast, Gather, Gatherv, Scatter, Scatterv, Allgather, Allgatherv, Alltoall, Alltoallv, Reduce, Allreduce, ReduceScatterBlock, ReduceScatter, Scan, Exscan, Dup, Split, Create, CreateGroup, DistGraph, DistGraphAdjacent, NeighborAllgather, NeighborAllgatherv, NeighborAlltoall, NeighborAlltoallv, Free}
 use Rattle.mpx_post.specs.Posts.{Given, group_of}
 use Rattle.mpx_post.specs.Rows.{RowView}
 use Rattle.mpx_kind.specs.declared.kinds.Neighbourhood.{Neighbourhood}
@@ -116,6 +116,7 @@ amounts_decided topology NeighborAllgather row rank given = along_edges_decided 
 amounts_decided topology NeighborAllgatherv row rank given = along_edges_decided topology H.Allgatherv row rank given
 amounts_decided topology NeighborAlltoall row rank given = along_edges_decided topology H.Alltoall row rank given
 amounts_decided topology NeighborAlltoallv row rank given = along_edges_decided topology H.Alltoallv row rank given
+amounts_decided topology Free row rank given = record { holds = λ e. tt; fails = λ kept e. cc e }
 
 pub decided : (topology : Option TopologyView) (question : Question) (row : RowView) (rank : ℕ) → RefutesWhere (IsKept topology) (is_faulty topology question row rank (post_at row rank)) (Agrees topology question row rank)
 decided topology Fit row rank = anyway (not_same _ (same_test _))

@@ -4,7 +4,7 @@ use Rattle.std.specs.List.{list_any}
 use Rattle.std.specs.Bool.{beq}
 use lib.Pointwise.{pointwise}
 use Rattle.mpx_kind.specs.declared.kinds.Kind as K
-use Rattle.mpx_kind.specs.declared.kinds.Kind.TheVariants.{Barrier, Bcast, Gather, Gatherv, Scatter, Scatterv, Allgather, Allgatherv, Alltoall, Alltoallv, Reduce, Allreduce, ReduceScatterBlock, ReduceScatter, Scan, Exscan, Dup, Split, Create, CreateGroup, DistGraph, DistGraphAdjacent, NeighborAllgather, NeighborAllgatherv, NeighborAlltoall, NeighborAlltoallv}
+use Rattle.mpx_kind.specs.declared.kinds.Kind.TheVariants.{Barrier, Bcast, Gather, Gatherv, Scatter, Scatterv, Allgather, Allgatherv, Alltoall, Alltoallv, Reduce, Allreduce, ReduceScatterBlock, ReduceScatter, Scan, Exscan, Dup, Split, Create, CreateGroup, DistGraph, DistGraphAdjacent, NeighborAllgather, NeighborAllgatherv, NeighborAlltoall, NeighborAlltoallv, Free}
 use Rattle.mpx_birth.specs.Edges.{weights_of}
 use Rattle.mpx_post.specs.Posts.{Given, count_of, destinations_of, group_of, sources_of, weighted_of}
 use Rattle.mpx_post.specs.Equality.{same_kind, same_mode, same_root, same_operations, same_types}
@@ -72,6 +72,7 @@ amounts_differ topology NeighborAllgather row rank given = along_edges_differ H.
 amounts_differ topology NeighborAllgatherv row rank given = along_edges_differ H.Allgatherv topology row rank given
 amounts_differ topology NeighborAlltoall row rank given = along_edges_differ H.Alltoall topology row rank given
 amounts_differ topology NeighborAlltoallv row rank given = along_edges_differ H.Alltoallv topology row rank given
+amounts_differ topology Free row rank given = false
 
 -- the edges from this member to the other have other weights by the other's post
 abbrev pub edges_differ_at : ℕ → Given → (other : ℕ) → Given → Bool

@@ -15,7 +15,7 @@ pub(crate) fn amounts_differ(birth: &Birth, row: &Row<'_>, kind: Kind, rank: usi
     let root = root_of(row.post(0));
     match kind {
         Kind::Barrier | Kind::Dup | Kind::Split | Kind::Create | Kind::CreateGroup => false,
-        Kind::DistGraph | Kind::DistGraphAdjacent => false,
+        Kind::DistGraph | Kind::DistGraphAdjacent | Kind::Free => false,
         Kind::Bcast | Kind::Alltoall | Kind::ReduceScatterBlock => {
             received(row, rank, 0) != received(row, 0, 0)
         }

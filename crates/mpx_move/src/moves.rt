@@ -25,6 +25,7 @@ pub fn move_value(alloc: Global, row: &Row<'_>, rank: u8) -> Result<Value, OutOf
         Family::Reduction(_) => Ok(Value::Nothing),
         Family::NewCommunicator(_) => Ok(Value::Nothing),
         Family::Neighbourhood(_) => Ok(Value::Nothing),
+        Family::Free => Ok(Value::Nothing),
     }
 }
 

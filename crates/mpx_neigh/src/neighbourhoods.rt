@@ -34,6 +34,7 @@ pub fn neigh_value(
         (Some(_), Family::Exchange(_)) => Ok(Value::Nothing),
         (Some(_), Family::Reduction(_)) => Ok(Value::Nothing),
         (Some(_), Family::NewCommunicator(_)) => Ok(Value::Nothing),
+        (Some(_), Family::Free) => Ok(Value::Nothing),
     }
 }
 

@@ -15,6 +15,7 @@ use Rattle.mpx_post.specs.Posts.{Given}
 use Rattle.mpx_post.specs.declared.draft.PostError.{PostError}
 use Rattle.mpx_post.specs.declared.draft.PostError.TheVariants as R
 use Rattle.mpx_post.specs.Births.{BirthView}
+use Rattle.mpx_post.specs.declared.draft.Draft.{Draft}
 use Rattle.mpx_post.specs.Drafts.{Checks}
 use Rattle.mpx_name.specs.Name.{Name, same_name}
 use Rattle.mpx_board.specs.Boards.{Born, Front, only, join, join_contexts, empty, nothing}
@@ -22,7 +23,7 @@ use Rattle.mpx_node.specs.declared.opened.Opened.{Opened}
 use Rattle.mpx_node.specs.declared.node.Harvest.{Harvest}
 use Rattle.mpx_node.specs.declared.node.Harvest.TheVariants as H
 use Rattle.mpx_node.specs.declared.finished.Finished.{Finished}
-use Rattle.mpx_node.specs.Nodes.{NodeView, OpenedView, posted_on, front_on, post_at, Posts, next_of, next_result, add_result, children_on}
+use Rattle.mpx_node.specs.Nodes.{NodeView, OpenedView, checked_by, checked_there, posted_on, front_on, post_at, Posts, next_of, next_result, add_result, children_on}
 use Rattle.mpx_node.specs.Harvests.{Harvests, HarvestsOpened}
 use Rattle.mpx_node.specs.Opened.{opened_of, opened_by}
 
@@ -87,6 +88,17 @@ module _ (m n : BTreeMap Name Opened) (name : Name) (o w : Opened) (value : Some
 
 -- POSTS
 
+-- what a draft comes to on an opened context, behind an own free and before
+module _ (x : Option OpenedView) (o : OpenedView) (told birth : Option BirthView) (me : ℕ) (name : Name) (draft : Draft) (here : x ≡ Some o) where
+  asked : checked_by x told me name draft ≡ cond o.freed (Err R.Closed) (checked_there o.posted told me name draft)
+  asked = ap (λ y. checked_by y told me name draft) here
+
+  pub asked_closed : o.freed ≡ true → checked_by x told me name draft ≡ Err R.Closed
+  asked_closed freed = asked ∙ ap (λ b. let r : Result Given PostError = cond b (Err R.Closed) (checked_there o.posted told me name draft) in r) freed
+
+  pub asked_there : o.freed ≡ false → told ≡ birth → checked_by x told me name draft ≡ checked_there o.posted birth me name draft
+  asked_there unfreed same = asked ∙ ap (λ b. let r : Result Given PostError = cond b (Err R.Closed) (checked_there o.posted told me name draft) in r) unfreed ∙ ap (λ b. checked_there o.posted b me name draft) same
+
 module _ (name : Name) (old new : NodeView) where
   pub posts_refused : (r : Result Given PostError) (e : PostError) → r ≡ Err e → new ≡ old → Posts name r (Err e) old new
   posts_refused r e re same = subst (λ x. Posts name x (Err e) old new) (sym re) (refl, same)
@@ -119,12 +131,12 @@ module _ (name : Name) (old new : NodeView) (o : OpenedView) (has : old.opened n
 pub first_birth : (name : Name) (birth : BirthView) → join empty (only (Born name (known birth))) ≡ only (Born name (known birth))
 first_birth name birth i = record { contexts = λ n. at (same_name n name) i; acks = λ q n p. 0 } where
   at : (b : Bool) → join_contexts nothing (cond b (record nothing { birth = known birth }) nothing) ≡ cond b (record nothing { birth = known birth }) nothing
-  at true i = record { birth = known birth; fronts = λ p. 0; dropped = 0; posts = λ k p. same_either (nat_le 0 k) unknown i }
-  at false i = record { birth = unknown; fronts = λ p. 0; dropped = 0; posts = λ k p. same_either (nat_le 0 k) unknown i }
+  at true i = record { birth = known birth; fronts = λ p. 0; dropped = 0; posts = λ k p. same_either (nat_le 0 k) unknown i; dead = false }
+  at false i = record { birth = unknown; fronts = λ p. 0; dropped = 0; posts = λ k p. same_either (nat_le 0 k) unknown i; dead = false }
 
 -- it learns a front
 pub first_front : (name : Name) (process number : ℕ) → join empty (only (Front name process number)) ≡ only (Front name process number)
 first_front name process number i = record { contexts = λ n. at (same_name n name) i; acks = λ q n p. 0 } where
   at : (b : Bool) → join_contexts nothing (cond b (record nothing { fronts = λ q. cond (q == process) number 0 }) nothing) ≡ cond b (record nothing { fronts = λ q. cond (q == process) number 0 }) nothing
-  at true i = record { birth = unknown; fronts = λ q. zero-max (cond (q == process) number 0) i; dropped = 0; posts = λ k p. same_either (nat_le 0 k) unknown i }
-  at false i = record { birth = unknown; fronts = λ p. 0; dropped = 0; posts = λ k p. same_either (nat_le 0 k) unknown i }
+  at true i = record { birth = unknown; fronts = λ q. zero-max (cond (q == process) number 0) i; dropped = 0; posts = λ k p. same_either (nat_le 0 k) unknown i; dead = false }
+  at false i = record { birth = unknown; fronts = λ p. 0; dropped = 0; posts = λ k p. same_either (nat_le 0 k) unknown i; dead = false }

@@ -1,30 +1,33 @@
 -- One process, and its steps.
-use Rattle.std.specs.Prelude.{◌≡◌, ℕ, ◌+◌, ◌==◌, ◌&&◌, Bool, cond, nat_lt, List, [], ◌∷◌, ◌++◌, length, map, Option, Some, None, option_and_then, Result, Ok, Err, ℤ}
+use Rattle.std.specs.Prelude.{◌≡◌, ℕ, ◌+◌, ◌-◌, ◌==◌, ◌&&◌, ◌||◌, Bool, true, false, cond, nat_lt, nat_le, List, [], ◌∷◌, ◌++◌, length, map, slice_get, Option, Some, None, option_and_then, Result, Ok, Err, ℤ}
 use Rattle.std.specs.List.{list_any}
-use Rattle.std.specs.Option.{option_map}
+use Rattle.std.specs.Option.{option_map, option_map_or}
 use Rattle.join_core.specs.Flat.{known}
 use Rattle.mpx_group.specs.Group.{has}
 use Rattle.mpx_name.specs.Name.{Name, same_name}
-use Rattle.mpx_post.specs.Posts.{Given}
+use Rattle.mpx_post.specs.Posts.{Given, is_free}
 use Rattle.mpx_post.specs.declared.draft.Draft.{Draft}
 use Rattle.mpx_post.specs.declared.draft.PostError.{PostError}
-use Rattle.mpx_post.specs.declared.draft.PostError.TheVariants.{NotMember, OutOfMemory}
+use Rattle.mpx_post.specs.declared.draft.PostError.TheVariants.{NotMember, Closed, OutOfMemory}
 use Rattle.mpx_post.specs.Births.{BirthView, of_members, upto}
 use Rattle.mpx_post.specs.Drafts.{at, checked}
 use Rattle.mpx_post.specs.Gatherings.{GatheringView, gathering}
 pub use Rattle.mpx_board.specs.Boards.{own_acks}
-use Rattle.mpx_board.specs.Boards.{Look, IsBetween, join, join_all, only, told, row_on, Born, Held, Front}
+use Rattle.mpx_board.specs.Boards.{Look, IsBetween, join, join_all, only, told, row_on, Born, Held, Front, Dropped, Dead}
 use Rattle.mpx_delta.specs.Digests.{Numbers}
 use Rattle.mpx_node.specs.declared.finished.Finished.{Finished}
 use Rattle.mpx_value.specs.declared.outcomes.Outcome.{Outcome}
+use Rattle.mpx_value.specs.declared.outcomes.Outcome.TheVariants.{Nothing, Absent, Items, NewComm, Null, Fault}
 use Rattle.mpx_value.specs.Children.{children, named_children}
 use Rattle.mpx_value.specs.Histories.{value_for}
 pub use Rattle.mpx_value.specs.Histories.{gathering_name}
 
--- what a process has done on a context: how many calls it has posted, and the results of those that it has harvested
+-- what a process has done on a context: how many calls it has posted, the results of those that it has harvested, and whether
+-- it has posted a free
 pub record OpenedView : Type 0 where
   pub posted : ℕ
   pub results : List Finished
+  pub freed : Bool
 
 -- who it is, how many processes there are, its board, and what it has done on each context that it has opened
 pub record NodeView : Type 0 where
@@ -43,6 +46,10 @@ abbrev pub results_by : Option OpenedView → List Finished
 results_by None = []
 results_by (Some o) = o.results
 
+abbrev pub freed_by : Option OpenedView → Bool
+freed_by None = false
+freed_by (Some o) = o.freed
+
 -- how many calls it has posted on a context
 abbrev pub posted_on : NodeView → Name → ℕ
 posted_on node name = posted_by (node.opened name)
@@ -55,11 +62,19 @@ results_on node name = results_by (node.opened name)
 abbrev pub front_on : NodeView → Name → ℕ
 front_on node name = length (results_on node name)
 
+-- whether it has posted a free on a context
+abbrev pub freed_on : NodeView → Name → Bool
+freed_on node name = freed_by (node.opened name)
+
 -- STEPS
+
+-- a context that was just opened
+abbrev pub fresh : OpenedView
+fresh = record { posted = 0; results = []; freed = false }
 
 -- a rank has opened the world
 abbrev pub opened_at_start : (me ranks : ℕ) → Name → Option OpenedView
-opened_at_start me ranks name = cond (same_name name [] && nat_lt me ranks) (Some (record { posted = 0; results = [] })) None
+opened_at_start me ranks name = cond (same_name name [] && nat_lt me ranks) (Some fresh) None
 
 -- before any post: the world's birth is on its board
 abbrev pub start_node : (me ranks processes : ℕ) → NodeView
@@ -81,15 +96,23 @@ acknowledge numbers node = learn (own_acks node.me numbers) node
 abbrev pub does_on : Name → (OpenedView → OpenedView) → NodeView → NodeView
 does_on name f node = record node { opened = λ n. cond (same_name n name) (option_map f (node.opened n)) (node.opened n) }
 
+-- one more call is posted there
+abbrev pub posts_more : Given → OpenedView → OpenedView
+posts_more given o = record o { posted = o.posted + 1; freed = o.freed || is_free given }
+
 -- it makes its next post on a context
 abbrev pub post_at : Name → Given → NodeView → NodeView
-post_at name given node = learn (only (Held name (posted_on node name) node.me (known given))) (does_on name (λ o. record o { posted = o.posted + 1 }) node)
+post_at name given node = learn (only (Held name (posted_on node name) node.me (known given))) (does_on name (posts_more given) node)
 
--- what a draft comes to where the context is opened and its birth is known
+-- what a draft comes to as the call with this number, where the process has posted no free
+abbrev pub checked_there : (call : ℕ) → Option BirthView → ℕ → Name → Draft → Result Given PostError
+checked_there call None me name draft = Err NotMember
+checked_there call (Some birth) me name draft = checked birth me (at name call false) draft
+
+-- what it comes to: only where the context is opened, and behind an own free never, whether its birth is known or not
 abbrev pub checked_by : Option OpenedView → Option BirthView → ℕ → Name → Draft → Result Given PostError
 checked_by None birth me name draft = Err NotMember
-checked_by (Some o) None me name draft = Err NotMember
-checked_by (Some o) (Some birth) me name draft = checked birth me (at name o.posted) draft
+checked_by (Some o) birth me name draft = cond o.freed (Err Closed) (checked_there o.posted birth me name draft)
 
 abbrev pub checked_on : NodeView → Name → Draft → Result Given PostError
 checked_on node name draft = checked_by (node.opened name) (told (node.board.contexts name).birth) node.me name draft
@@ -135,7 +158,7 @@ abbrev pub is_new_to : (me : ℕ) → List (Name × BirthView) → Name → Bool
 is_new_to me made name = list_any (λ (x : Name × BirthView). same_name name x.0 && has x.1.members me) made
 
 abbrev pub or_new : Option OpenedView → OpenedView
-or_new None = record { posted = 0; results = [] }
+or_new None = fresh
 or_new (Some o) = o
 
 -- it opens contexts; what is opened stays as it is
@@ -158,13 +181,45 @@ harvest_part name made node = join_all (front_fact name node ∷ births_of made)
 abbrev pub add_result : Name → Finished → List (Name × BirthView) → NodeView → NodeView
 add_result name finished made node = opens (is_new_to node.me made) (learn (harvest_part name made node) (stores_on name finished node))
 
+-- PRUNING
+
+abbrev pub is_nothing : Outcome → Bool
+is_nothing Nothing = true
+is_nothing Absent = false
+is_nothing (Items items) = false
+is_nothing (NewComm name size rank) = false
+is_nothing Null = false
+is_nothing (Fault fault) = false
+
+-- the result of a free whose row is fine: a row that isn't would have given a fault
+abbrev pub is_fine_free : Finished → Bool
+is_fine_free r = is_free r.mine && is_nothing r.outcome
+
+-- the last of these results is one, and so many calls go past it: then nobody needs anything of the context any more
+abbrev pub is_past_free : List Finished → (number : ℕ) → Bool
+is_past_free results number = option_map_or is_fine_free (slice_get results (length results - 1)) false && nat_le (length results) number
+
+-- what a prune to this number tells where it may be: that the context is dead, where that is past its free, else that posts are
+-- dropped; and of a context that is dead already nothing
+abbrev pub prune_part : NodeView → Name → (number : ℕ) → Option Look
+prune_part node name number = cond (node.board.contexts name).dead None (Some (cond (is_past_free (results_on node name) number) (only (Dead name)) (only (Dropped name number))))
+
+-- a board comes to it, or none
+abbrev pub learn_some : Option Look → NodeView → NodeView
+learn_some None node = node
+learn_some (Some part) node = learn part node
+
 -- GATHERINGS
 
--- what the opening of a gathering comes to where its parent is opened and the parent's birth is known
+-- what the opening of a gathering comes to where the process has posted no free on its parent
+abbrev pub gathers_there : Option BirthView → (me : ℕ) → Name → (tag : ℤ) → List ℤ → Result GatheringView PostError
+gathers_there None me parent tag ranks = Err NotMember
+gathers_there (Some birth) me parent tag ranks = gathering birth me (length parent) false tag ranks
+
+-- what it comes to: only where the parent is opened, and behind an own free there never
 abbrev pub gathers_by : Option OpenedView → Option BirthView → (me : ℕ) → Name → (tag : ℤ) → List ℤ → Result GatheringView PostError
 gathers_by None birth me parent tag ranks = Err NotMember
-gathers_by (Some o) None me parent tag ranks = Err NotMember
-gathers_by (Some o) (Some birth) me parent tag ranks = gathering birth me (length parent) tag ranks
+gathers_by (Some o) birth me parent tag ranks = cond o.freed (Err Closed) (gathers_there birth me parent tag ranks)
 
 abbrev pub gathers_on : NodeView → (parent : Name) → (tag : ℤ) → (ranks : List ℤ) → Result GatheringView PostError
 gathers_on node parent tag ranks = gathers_by (node.opened parent) (told (node.board.contexts parent).birth) node.me parent tag ranks

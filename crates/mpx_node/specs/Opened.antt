@@ -8,9 +8,9 @@ use Rattle.mpx_node.specs.declared.finished.Finished.{Finished}
 use Rattle.mpx_node.specs.declared.opened.Opened.{Opened}
 use Rattle.mpx_node.specs.Nodes.{OpenedView, posted_by, results_by}
 
--- how many calls are posted, and the results of those that are harvested
+-- how many calls are posted, the results of those that are harvested, and whether a free is posted
 abbrev pub opened_of : Opened → OpenedView
-opened_of o = record { posted = o.posted; results = o.results.items }
+opened_of o = record { posted = o.posted; results = o.results.items; freed = o.freed }
 
 -- the same of each context that is opened
 abbrev pub opened_by : BTreeMap Name Opened → Name → Option OpenedView

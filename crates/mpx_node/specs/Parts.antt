@@ -2,6 +2,7 @@
 use Rattle.std.specs.Prelude.{ℕ, Bool, not, ◌&&◌, nat_le, length}
 use Rattle.mpx_board.specs.Parts.{PartsView}
 use Rattle.mpx_board.specs.Looks.{parts_of}
+use Rattle.mpx_format.specs.declared.versions.Version.TheVariants.{Two}
 use Rattle.mpx_format.specs.Contexts.{frame}
 use Rattle.mpx_format.specs.Encoding.{is_too_long}
 use Rattle.mpx_node.specs.declared.node.Node.{Node}
@@ -12,4 +13,4 @@ parts_on node = parts_of node.board
 
 -- it has a frame, of at most so many bytes
 abbrev pub fits_in : (limit : ℕ) → PartsView → Bool
-fits_in limit v = not (is_too_long v) && nat_le (length (frame.spelling v)) limit
+fits_in limit v = not (is_too_long v) && nat_le (length (frame.spelling (Two, v))) limit

@@ -16,6 +16,15 @@ pub struct Finished {
 }
 
 impl Finished {
+    ghost use Rattle.mpx_node.specs.Nodes.{is_fine_free, is_nothing};
+
+    /// Whether it is the result of a free whose row is fine: another row of a free gives a fault.
+    pub fn is_fine_free(&self) -> bool
+        ensures { result ≡ is_fine_free self.now }
+    {
+        self.mine.is_free() && self.gave_nothing()
+    }
+
     /// The same once more, whose items are shared.
     pub fn copy(&self, alloc: Global) -> Result<Finished, OutOfMemory>
         ensures { IfOk result (λ copied. copied ≡ self.now) }
@@ -24,5 +33,12 @@ impl Finished {
             mine: self.mine.copy(alloc)?,
             outcome: self.outcome.copy(alloc)?,
         })
+    }
+
+    // Whether the call gave nothing.
+    fn gave_nothing(&self) -> bool
+        ensures { result ≡ is_nothing self.now.outcome }
+    {
+        matches!(self.outcome, Outcome::Nothing)
     }
 }

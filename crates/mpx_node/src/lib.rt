@@ -8,6 +8,7 @@ mod node;
 mod opened;
 mod opening;
 mod part;
+mod pruning;
 mod results;
 mod starting;
 

@@ -2,8 +2,8 @@
 ghost use Rattle.std.specs.Prelude.{◌≡◌, ◌↔◌, ◌<◌, ◌≤◌, false, [], map, All, Some, None, OnOk, OnErr, IfOk, IsErrOf, IsTrue, slice_get, is_some};
 ghost use Rattle.std.specs.Option.{option_copied};
 ghost use Rattle.mpx_post.specs.Drafts.{most_calls, refusal_of};
-ghost use Rattle.mpx_board.specs.Boards.{IsBelow, join_all, only, floor_on, Dropped};
-ghost use Rattle.mpx_board.specs.Changes.{pruned};
+ghost use Rattle.mpx_board.specs.Boards.{IsBelow, join_all};
+ghost use Rattle.mpx_board.specs.Changes.{pruned_on};
 ghost use Rattle.mpx_board.specs.Looks.{look, parts_of};
 ghost use Rattle.mpx_format.specs.Encoding.{length_told};
 ghost use Rattle.mpx_parts.specs.Facts.{OnlyFactsOf};
@@ -12,6 +12,7 @@ use crate::finished::Finished;
 use crate::opened::Opened;
 use crate::opening::{open, store_and_open};
 use crate::part::{PartError, whole_part};
+use crate::pruning::bury;
 use crate::results::{children_on, finished, harvested_board, has_result};
 use crate::starting::{board_at_start, gathered_board, opened_at_start};
 use join_core::OutOfMemory;
@@ -47,7 +48,7 @@ pub enum Harvest {
 }
 
 impl Node {
-    ghost use Rattle.mpx_node.specs.Nodes.{Opens, Posts, StopsTaking, add_result, NodeView, start_node, learn, checked_on, children_on, gathering_name, gathers_on, next_result, open_gathering_node, posted_on, results_on, front_on};
+    ghost use Rattle.mpx_node.specs.Nodes.{Opens, Posts, StopsTaking, add_result, NodeView, start_node, learn, checked_on, children_on, gathering_name, gathers_on, next_result, open_gathering_node, posted_on, results_on, front_on, freed_on, is_past_free, learn_some, prune_part};
     ghost use Rattle.mpx_node.specs.Deltas.{LacksOn, SaysWhatItHas, Stores, lacking_on};
     ghost use Rattle.mpx_node.specs.Shown.{node_of};
     ghost use Rattle.mpx_node.specs.Opened.{HasUnfinished};
@@ -78,9 +79,9 @@ impl Node {
         }
     }
 
-    /// Posts the draft as the next call on a context and gives its number. A context that isn't opened here, or whose birth
-    /// isn't known, is refused as `NotMember`; then the refusals are those of [`Draft::check`], before anything else. An
-    /// `Err` changes nothing.
+    /// Posts the draft as the next call on a context and gives its number. A context that isn't opened here is refused as
+    /// `NotMember`, one on which the process has posted a free as `Closed`, and one whose birth isn't known as `NotMember`; then
+    /// the refusals are those of [`Draft::check`], before anything else. An `Err` changes nothing.
     pub fn post(&mut self, alloc: Global, name: &Name, draft: Draft) -> Result<u32, PostError>
         ensures { Posts name.now (checked_on (node_of self.old) name.now draft) result (node_of self.old) (node_of self.new) }
     {
@@ -88,15 +89,21 @@ impl Node {
             drop(draft);
             return Err(PostError::NotMember);
         };
+        if opened.freed {
+            drop(draft);
+            return Err(PostError::Closed);
+        }
         let Some(birth) = self.board.birth(name) else {
             drop(draft);
             return Err(PostError::NotMember);
         };
         let call = opened.posted;
-        let post = draft.check_call(alloc, birth, self.me, name, call)?;
+        let post = draft.check_call(alloc, birth, self.me, name, call, false)?;
+        let frees = post.is_free();
         match self.board.join_post(alloc, name, call, self.me, post) {
             Ok(()) => {
                 opened.posted = call + 1;
+                opened.freed = frees;
                 Ok(call)
             }
             Err(_) => Err(PostError::OutOfMemory),
@@ -110,10 +117,13 @@ impl Node {
         let Some(opened) = self.opened.get(name) else {
             return Some(PostError::NotMember);
         };
+        if opened.freed {
+            return Some(PostError::Closed);
+        }
         let Some(birth) = self.board.birth(name) else {
             return Some(PostError::NotMember);
         };
-        draft.refusal(birth, self.me, &At::on(name, opened.posted))
+        draft.refusal(birth, self.me, &At::on(name, opened.posted, false))
     }
 
     /// Stores the result of the next call on a context, raises the own front, tells how the communicators came to be that
@@ -145,8 +155,8 @@ impl Node {
 
     /// Opens the gathering with this tag of the members of the parent with these ranks, in this order, and gives its name
     /// (`MPI_COMM_CREATE_GROUP`, MPI 4.1 section 7.4.2). What is open already stays as it is. A parent that isn't opened
-    /// here, or whose birth isn't known, is refused as `NotMember`; then the refusals are those of [`Gathering::check`]. An
-    /// `Err` changes nothing.
+    /// here is refused as `NotMember`, one on which the process has posted a free as `Closed`, and one whose birth isn't known
+    /// as `NotMember`; then the refusals are those of [`Gathering::check`]. An `Err` changes nothing.
     pub fn open_gathering(
         &mut self,
         alloc: Global,
@@ -156,27 +166,49 @@ impl Node {
     ) -> Result<Name, PostError>
         ensures { Opens parent.now (gathers_on (node_of self.old) parent.now tag ranks.now) result (node_of self.old) (node_of self.new) }
     {
-        if !self.opened.contains_key(parent) {
+        let Some(opened) = self.opened.get(parent) else {
             return Err(PostError::NotMember);
+        };
+        if opened.freed {
+            return Err(PostError::Closed);
         }
         let Some(birth) = self.board.birth(parent) else {
             return Err(PostError::NotMember);
         };
         let depth = parent.depth();
-        let gathering = Gathering::check(alloc, birth, self.me, depth, tag, ranks)?;
+        let gathering = Gathering::check(alloc, birth, self.me, depth, false, tag, ranks)?;
         match self.gather(alloc, parent, &gathering) {
             Ok(name) => Ok(name),
             Err(_) => Err(PostError::OutOfMemory),
         }
     }
 
-    /// Drops the posts of calls below the number on a context, which is at most the floor. It takes no memory.
+    /// Drops the posts of calls below the number on a context, which is at most the floor. Where the number is past a free
+    /// whose row is fine and whose result the process has, the context is dead from then on; on a dead one it changes nothing.
+    /// It takes no memory.
     pub fn prune(&mut self, name: &Name, number: u32) -> Result<(), PruneError>
-        ensures answer { result ≡ pruned (floor_on (node_of self.old).board name.now) number }
-        ensures ok { OnOk result (node_of self.new ≡ learn (only (Dropped name.now number)) (node_of self.old)) }
+        ensures answer { result ≡ pruned_on (node_of self.old).board name.now number }
+        ensures ok { OnOk result (node_of self.new ≡ learn_some (prune_part (node_of self.old) name.now number) (node_of self.old)) }
         ensures err { OnErr result (node_of self.new ≡ node_of self.old) }
     {
+        if self.board.is_dead(name) {
+            return Ok(());
+        }
+        if self.is_past_free(name, number) {
+            return bury(&mut self.board, name, number);
+        }
         self.board.prune(name, number)
+    }
+
+    /// Whether the number goes past a free on a context whose row is fine and whose result the process has: then a prune to it
+    /// that is accepted leaves the context dead.
+    pub fn is_past_free(&self, name: &Name, number: u32) -> bool
+        ensures { result ≡ is_past_free (results_on (node_of self.now) name.now) number }
+    {
+        match self.opened.get(name) {
+            None => false,
+            Some(opened) => opened.is_past_free(number),
+        }
     }
 
     /// Joins a part to the board, in place: only what is new takes memory. An `Err` leaves a board between the old one and
@@ -216,6 +248,16 @@ impl Node {
         match self.opened.get(name) {
             None => 0,
             Some(opened) => opened.front(),
+        }
+    }
+
+    /// Whether the process has posted a free on a context.
+    pub fn has_freed(&self, name: &Name) -> bool
+        ensures { result ≡ freed_on (node_of self.now) name.now }
+    {
+        match self.opened.get(name) {
+            None => false,
+            Some(opened) => opened.freed,
         }
     }
 

@@ -31,6 +31,7 @@ use Rattle.mpx_post.specs.declared.making.Making.TheVariants.{Nothing, Split, Gr
 use Rattle.mpx_post.specs.Posts.{Given, IsPost, IsWithin, AreCounts, few_items, group_of, edges_of, sources_of, destinations_of, group_in, edges_in, sources_in, destinations_in}
 use Rattle.mpx_post.specs.Graphs.{AreEdges, AreNeighbours, most_edges}
 use Rattle.mpx_post.specs.Ranks.{AreRanks}
+use Rattle.mpx_format.specs.declared.versions.Version.TheVariants.{Two}
 use Rattle.mpx_format.specs.Format.{Format, nothing, byte, number, both, only, through, spelled_by, many, many_spelled, counted, tagged}
 use Rattle.mpx_format.specs.Fields.{process, member, member_count, members, call, colour, tag, child, gathering, step, step_count, steps, name}
 use Rattle.mpx_format.specs.Codes.{kind, mode, operation, item_type, flag, missing, there, when}
@@ -160,7 +161,7 @@ when_short true f n s (Some a) = s a
 when_short false f n s None = omega arith
 when_short false f n s (Some a) = omega arith
 
-kind_short : Short kind 1
+kind_short : Short (kind Two) 1
 unfolding kind
 kind_short k = omega arith
 
@@ -318,7 +319,7 @@ making_len M.Group m h = omega (arith, group_len m h)
 making_len M.Edges m h = edges_len m h
 making_len M.Neighbours m h = own_len m h
 
-pub post_len : (g : Given) → IsShortPost g → length (post.spelling g) ≤ 330766
+pub post_len : (g : Given) → IsShortPost g → length ((post Two).spelling g) ≤ 330766
 unfolding post
 post_len g h =
     let f = fields_of g.kind in
@@ -331,4 +332,4 @@ post_len g h =
     let from_op = joined_len ((when f.op operation).spelling g.op) _ 1 _ (when_short f.op operation 1 operation_short g.op) from_type in
     let from_root = joined_len ((when f.root process).spelling g.root) _ 1 _ (when_short f.root process 1 process_short g.root) from_op in
     let from_mode = joined_len ((mode g.kind).spelling g.mode) _ 1 _ (mode_short g.kind g.mode) from_root in
-    omega (arith, h.scounts, h.rcounts, joined_len (kind.spelling g.kind) _ 1 _ (kind_short g.kind) from_mode)
+    omega (arith, h.scounts, h.rcounts, joined_len ((kind Two).spelling g.kind) _ 1 _ (kind_short g.kind) from_mode)

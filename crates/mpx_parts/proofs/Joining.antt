@@ -1,15 +1,16 @@
 -- Boards put together: they still have only facts of the whole, and say all of it.
-use Rattle.std.proofs.Common.{◌≡◌, ◌≢◌, ◌≤◌, ◌<◌, ℕ, zero, suc, max, Bool, true, false, cond, List, [], ◌∷◌, ◌++◌, length, map, get_or, set, fold, refl, sym, ap, ◌∙◌, subst, arith}
+use Rattle.std.proofs.Common.{◌≡◌, ◌≢◌, ◌≤◌, ◌<◌, ◌⊎◌, inl, inr, ◌||◌, ℕ, zero, suc, max, Bool, true, false, cond, List, [], ◌∷◌, ◌++◌, length, map, get_or, set, fold, refl, sym, ap, ◌∙◌, subst, arith}
 use Rattle.std.specs.Prelude.{All, nat_le}
 use Rattle.std.proofs.lemmas.List.Elements.{All-nil, All-cons, All-head, All-tail, All-append}
 use Rattle.join_core.specs.Laws.{JoinLaws}
+use Rattle.join_core.specs.Cases.{yes, no, answer}
 use Rattle.join_core.specs.Flat.{FlatView, unknown, known, clash, flat_join, flat_joining}
 use Rattle.join_core.specs.FlatLaws.{flat_laws}
 use Rattle.join_core.proofs.Orders.{order_laws}
 use Rattle.mpx_post.specs.Posts.{Given}
 use Rattle.mpx_post.specs.Equality.{same_given, given_equality}
 use Rattle.mpx_post.specs.Births.{birth_equality}
-use Rattle.mpx_board.specs.Boards.{Look, Born, Held, Front, Dropped, Acknowledged, Has, Stands, IsBelow, join, join_all, empty}
+use Rattle.mpx_board.specs.Boards.{Context, Look, Born, Held, Front, Dropped, Dead, Acknowledged, Has, Stands, IsBelow, gone, join_live, join_contexts, join, join_all, empty}
 use Rattle.mpx_board.specs.Contexts.{look_of}
 use Rattle.mpx_board.specs.Looks.{look, parts_of}
 use Rattle.mpx_board.specs.Parts.{PartsView, parts_joining, parts_laws}
@@ -28,6 +29,9 @@ use Rattle.mpx_parts.proofs.Adding.{All-front, All-back}
 
 -- FACTS OF A JOIN
 
+not_zero : (n : ℕ) → 0 < n → 0 ≡ n → ⊥
+not_zero n some none = omega (arith, some, none)
+
 number_only : (a b w n : ℕ) → (0 < a → w ≡ a) → (0 < b → w ≡ b) → 0 < n → max a b ≡ n → w ≡ n
 number_only zero b w n x y some is = let same : b ≡ n = omega (arith, is) in y (omega (arith, same, some)) ∙ same
 number_only (suc a) zero w n x y some is = let same : suc a ≡ n = omega (arith, is) in x (omega arith) ∙ same
@@ -45,11 +49,43 @@ post_only : (t : Bool) (x y w v : FlatView Given) → (x ≢ unknown → w ≡ x
 post_only true x y w v f g told is = flat_only (flat_laws given_equality) x y w v f g told is
 post_only false x y w v f g told is = absurd (told (sym is))
 
+-- what a join tells of a context, other than that it is dead, is told of two live ones
+of_live : {X : Type 0} (read : Context → X) (x y : Context) (v : X) → (read gone ≡ v → ⊥) → read (join_contexts x y) ≡ v → read (join_live x y) ≡ v
+of_live read x y v untold is = elim (answer (x.dead || y.dead)) [
+  | yes t ↦ absurd (untold (sym (ap (λ b. read (cond b gone (join_live x y))) t) ∙ is))
+  | no n ↦ sym (ap (λ b. read (cond b gone (join_live x y))) n) ∙ is
+]
+
+-- one of the two is dead where their join is
+either_dead : (x y : Context) → (join_contexts x y).dead ≡ true → (x.dead ≡ true) ⊎ (y.dead ≡ true)
+either_dead x y is = elim (answer x.dead) [
+  | yes t ↦ inl t
+  | no n ↦ elim (answer y.dead) [
+    | yes t ↦ inr t
+    | no m ↦
+        let alive : false ≡ true = sym (ap (λ b. (cond (b || y.dead) gone (join_live x y)).dead) n ∙ ap (λ b. (cond b gone (join_live x y)).dead) m) ∙ is in
+        cc
+  ]
+]
+
+dead_only : (x y w : Context) → (x.dead ≡ true → w.dead ≡ true) → (y.dead ≡ true → w.dead ≡ true) → (x.dead ≡ true) ⊎ (y.dead ≡ true) → w.dead ≡ true
+dead_only x y w f g (inl t) = f t
+dead_only x y w f g (inr t) = g t
+
 pub join_only : (a b w : Look) → OnlyFactsOf a w → OnlyFactsOf b w → OnlyFactsOf (join a b) w
-join_only a b w x y (Born name v) has = (has.0, flat_only (flat_laws birth_equality) (a.contexts name).birth (b.contexts name).birth (w.contexts name).birth v (λ told. (x (Born name (a.contexts name).birth) (told, refl)).1) (λ told. (y (Born name (b.contexts name).birth) (told, refl)).1) has.0 has.1)
-join_only a b w x y (Held name k p v) has = (has.0, post_only (nat_le (max (a.contexts name).dropped (b.contexts name).dropped) k) ((a.contexts name).posts k p) ((b.contexts name).posts k p) ((w.contexts name).posts k p) v (λ told. (x (Held name k p ((a.contexts name).posts k p)) (told, refl)).1) (λ told. (y (Held name k p ((b.contexts name).posts k p)) (told, refl)).1) has.0 has.1)
-join_only a b w x y (Front name p n) has = (has.0, number_only ((a.contexts name).fronts p) ((b.contexts name).fronts p) ((w.contexts name).fronts p) n (λ some. (x (Front name p ((a.contexts name).fronts p)) (some, refl)).1) (λ some. (y (Front name p ((b.contexts name).fronts p)) (some, refl)).1) has.0 has.1)
-join_only a b w x y (Dropped name n) has = (has.0, number_only (a.contexts name).dropped (b.contexts name).dropped (w.contexts name).dropped n (λ some. (x (Dropped name (a.contexts name).dropped) (some, refl)).1) (λ some. (y (Dropped name (b.contexts name).dropped) (some, refl)).1) has.0 has.1)
+join_only a b w x y (Born name v) has =
+    let told : (join_live (a.contexts name) (b.contexts name)).birth ≡ v = of_live (λ c. c.birth) (a.contexts name) (b.contexts name) v (λ none. has.0 (sym none)) has.1 in
+    (has.0, flat_only (flat_laws birth_equality) (a.contexts name).birth (b.contexts name).birth (w.contexts name).birth v (λ told. (x (Born name (a.contexts name).birth) (told, refl)).1) (λ told. (y (Born name (b.contexts name).birth) (told, refl)).1) has.0 told)
+join_only a b w x y (Held name k p v) has =
+    let told : (join_live (a.contexts name) (b.contexts name)).posts k p ≡ v = of_live (λ c. c.posts k p) (a.contexts name) (b.contexts name) v (λ none. has.0 (sym none)) has.1 in
+    (has.0, post_only (nat_le (max (a.contexts name).dropped (b.contexts name).dropped) k) ((a.contexts name).posts k p) ((b.contexts name).posts k p) ((w.contexts name).posts k p) v (λ told. (x (Held name k p ((a.contexts name).posts k p)) (told, refl)).1) (λ told. (y (Held name k p ((b.contexts name).posts k p)) (told, refl)).1) has.0 told)
+join_only a b w x y (Front name p n) has =
+    let told : (join_live (a.contexts name) (b.contexts name)).fronts p ≡ n = of_live (λ c. c.fronts p) (a.contexts name) (b.contexts name) n (not_zero n has.0) has.1 in
+    (has.0, number_only ((a.contexts name).fronts p) ((b.contexts name).fronts p) ((w.contexts name).fronts p) n (λ some. (x (Front name p ((a.contexts name).fronts p)) (some, refl)).1) (λ some. (y (Front name p ((b.contexts name).fronts p)) (some, refl)).1) has.0 told)
+join_only a b w x y (Dropped name n) has =
+    let told : (join_live (a.contexts name) (b.contexts name)).dropped ≡ n = of_live (λ c. c.dropped) (a.contexts name) (b.contexts name) n (not_zero n has.0) has.1 in
+    (has.0, number_only (a.contexts name).dropped (b.contexts name).dropped (w.contexts name).dropped n (λ some. (x (Dropped name (a.contexts name).dropped) (some, refl)).1) (λ some. (y (Dropped name (b.contexts name).dropped) (some, refl)).1) has.0 told)
+join_only a b w x y (Dead name) has = dead_only (a.contexts name) (b.contexts name) (w.contexts name) (x (Dead name)) (y (Dead name)) (either_dead (a.contexts name) (b.contexts name) has)
 join_only a b w x y (Acknowledged q name p n) has = (has.0, number_only (a.acks q name p) (b.acks q name p) (w.acks q name p) n (λ some. (x (Acknowledged q name p (a.acks q name p)) (some, refl)).1) (λ some. (y (Acknowledged q name p (b.acks q name p)) (some, refl)).1) has.0 has.1)
 
 -- LISTS THAT SAY THE SAME

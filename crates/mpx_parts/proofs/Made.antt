@@ -12,6 +12,7 @@ use Rattle.std.proofs.lemmas.List.{nil_from_length}
 use Rattle.std.proofs.lemmas.Option.{same_Some}
 use Rattle.join_core.specs.Flat.{FlatView, unknown}
 use Rattle.join_core.specs.Cases.{both_true, first_true}
+use Rattle.join_nest.specs.Lift.{live}
 use Rattle.mpx_name.specs.Name.{Name}
 use Rattle.mpx_name.specs.Order.{name_cmp}
 use Rattle.mpx_post.specs.Drafts.{most_calls}
@@ -19,10 +20,10 @@ use Rattle.mpx_post.specs.Posts.{Given}
 use Rattle.mpx_board.specs.Boards.{Fact, Born, Held, Front, Dropped, Has, Stands}
 use Rattle.mpx_board.specs.Looks.{parts_of}
 use Rattle.mpx_board.specs.declared.board.Board.{Board}
-use Rattle.mpx_board.specs.Parts.{OfProcesses, CallView, EntryView, AcksView, PartsView}
-use Rattle.mpx_board.specs.Tidy.{is_unknown, is_bare, all_entries, has_no_zero, are_tidy_posts, is_tidy_call, says_nothing, is_neat_entry, is_tidy_entry, are_tidy_entries, is_tidy_numbers, is_tidy_acks, are_tidy_acks, is_tidy}
+use Rattle.mpx_board.specs.Parts.{OfProcesses, CallView, EntryView, LiftedView, AcksView, PartsView}
+use Rattle.mpx_board.specs.Tidy.{is_unknown, is_bare, all_entries, has_no_zero, are_tidy_posts, is_tidy_call, says_nothing, is_neat_entry, is_tidy_entry, is_tidy_lifted, are_tidy_entries, is_tidy_numbers, is_tidy_acks, are_tidy_acks, is_tidy}
 use Rattle.mpx_format.specs.Encoding.{length_told}
-use Rattle.mpx_parts.specs.Facts.{SaysPost, SaysCall, SaysHead, SaysEntry, SaysNumbers, SaysAcks, SaysParts}
+use Rattle.mpx_parts.specs.Facts.{SaysPost, SaysCall, SaysHead, SaysEntry, SaysLifted, SaysNumbers, SaysAcks, SaysParts}
 use Rattle.mpx_parts.specs.Pieces.{IsPiece, has_head, most_of_piece}
 use Rattle.mpx_parts.proofs.Saying.{all_said, said_all}
 
@@ -54,22 +55,22 @@ pub all_none : {X : Type 0} (p : X → Bool) (xs : List X) → xs ≡ [] → lis
 all_none p xs is = ap (list_all p) is
 
 -- one context, and no acknowledgement
-pub record IsContext (name : Name) (e : EntryView) (v : PartsView) : Type 0 where
-  pub context : entries v.0 ≡ (name, e) ∷ []
+pub record IsContext (name : Name) (l : LiftedView) (v : PartsView) : Type 0 where
+  pub context : entries v.0 ≡ (name, l) ∷ []
   pub acks : entries v.1 ≡ []
 
-pub is_context : (name : Name) (e : EntryView) (v : PartsView) → v ≡ (from_sorted ((name, e) ∷ []), empty) → IsContext name e v
-is_context name e v is = record { context = one_entry name_cmp v.0 name e (ap (λ x. x.0) is); acks = no_entry nat_cmp v.1 (ap (λ x. x.1) is) }
+pub is_context : (name : Name) (l : LiftedView) (v : PartsView) → v ≡ (from_sorted ((name, l) ∷ []), empty) → IsContext name l v
+is_context name l v is = record { context = one_entry name_cmp v.0 name l (ap (λ x. x.0) is); acks = no_entry nat_cmp v.1 (ap (λ x. x.1) is) }
 
-module _ (name : Name) (e : EntryView) (v : PartsView) (of : IsContext name e v) where
-  pub context_tidy : is_tidy_entry e ≡ true → is_tidy v ≡ true
-  context_tidy h = both_true (are_tidy_entries v.0) (are_tidy_acks v.1) (all_one (λ x. is_tidy_entry x.1) (name, e) (entries v.0) of.context h) (all_none (λ x. is_tidy_acks x.1) (entries v.1) of.acks)
+module _ (name : Name) (l : LiftedView) (v : PartsView) (of : IsContext name l v) where
+  pub context_tidy : is_tidy_lifted l ≡ true → is_tidy v ≡ true
+  context_tidy h = both_true (are_tidy_entries v.0) (are_tidy_acks v.1) (all_one (λ x. is_tidy_lifted x.1) (name, l) (entries v.0) of.context h) (all_none (λ x. is_tidy_acks x.1) (entries v.1) of.acks)
 
-  pub context_says : (P : Fact → Type 0) → SaysEntry P (name, e) → SaysParts P v
-  context_says P h = record { contexts = All-one (SaysEntry P) (name, e) (entries v.0) of.context h; acks = All-none (SaysAcks P) (entries v.1) of.acks }
+  pub context_says : (P : Fact → Type 0) → SaysLifted P (name, l) → SaysParts P v
+  context_says P h = record { contexts = All-one (SaysLifted P) (name, l) (entries v.0) of.context h; acks = All-none (SaysAcks P) (entries v.1) of.acks }
 
-  pub says_context : (P : Fact → Type 0) → SaysParts P v → SaysEntry P (name, e)
-  says_context P h = one-All (SaysEntry P) (name, e) (entries v.0) of.context h.contexts
+  pub says_context : (P : Fact → Type 0) → SaysParts P v → SaysLifted P (name, l)
+  says_context P h = one-All (SaysLifted P) (name, l) (entries v.0) of.context h.contexts
 
 -- a piece that says S
 pub is_piece : (S : (Fact → Type 0) → Type 0) (b : Board) → ((P : Fact → Type 0) → SaysParts P (parts_of b) → S P) → ((P : Fact → Type 0) → S P → SaysParts P (parts_of b)) → length_told (parts_of b) ≤ most_of_piece → IsPiece S b
@@ -199,14 +200,14 @@ is_numbers q name m n a v is of same = record {
 module _ (q : ℕ) (name : Name) (m : OfProcesses ℕ) (v : PartsView) (of : IsNumbers q name m v) where
   pub numbers_tidy : is_tidy_numbers m ≡ true → is_tidy v ≡ true
   numbers_tidy h =
-      both_true (are_tidy_entries v.0) (are_tidy_acks v.1) (all_none (λ x. is_tidy_entry x.1) (entries v.0) of.contexts)
+      both_true (are_tidy_entries v.0) (are_tidy_acks v.1) (all_none (λ x. is_tidy_lifted x.1) (entries v.0) of.contexts)
       (all_one (λ x. is_tidy_acks x.1) (q, of.acks) (entries v.1) of.process
       (both_true (not (is_bare of.acks)) (all_entries (λ name n. is_tidy_numbers n) of.acks) (not_bare (len of.acks) (len_one name_cmp of.acks (name, m) of.context))
       (all_one (λ x. is_tidy_numbers x.1) (name, m) (entries of.acks) of.context h)))
 
   pub numbers_say : (P : Fact → Type 0) → SaysNumbers P q (name, m) → SaysParts P v
   numbers_say P h = record {
-    contexts = All-none (SaysEntry P) (entries v.0) of.contexts;
+    contexts = All-none (SaysLifted P) (entries v.0) of.contexts;
     acks = All-one (SaysAcks P) (q, of.acks) (entries v.1) of.process (All-one (SaysNumbers P q) (name, m) (entries of.acks) of.context h);
   }
 
@@ -223,9 +224,9 @@ made_is None b Q x h is = absurd cc
 made_is (Some y) b Q x h is = subst Q (same_Some y x is) h
 
 -- one post as the board of its context
-pub post_of : (name : Name) (k p : ℕ) (w u : FlatView Given) (e : EntryView) (c : CallView) (v : PartsView) → v ≡ (from_sorted ((name, e) ∷ []), empty) → e.0 ≡ unknown → e.1.0 ≡ empty → e.1.1.dropped ≡ 0 → e.1.1.calls ≡ from_sorted ((k, c) ∷ []) → c ≡ from_sorted ((p, u) ∷ []) → u ≡ w → IsContext name e v × IsPosted k p w e
-post_of name k p w u e c v is birth fronts dropped calls posts same = (is_context name e v is, is_posted k p w u e c birth fronts dropped calls posts same)
+pub post_of : (name : Name) (k p : ℕ) (w u : FlatView Given) (e : EntryView) (c : CallView) (v : PartsView) → v ≡ (from_sorted ((name, live e) ∷ []), empty) → e.0 ≡ unknown → e.1.0 ≡ empty → e.1.1.dropped ≡ 0 → e.1.1.calls ≡ from_sorted ((k, c) ∷ []) → c ≡ from_sorted ((p, u) ∷ []) → u ≡ w → IsContext name (live e) v × IsPosted k p w e
+post_of name k p w u e c v is birth fronts dropped calls posts same = (is_context name (live e) v is, is_posted k p w u e c birth fronts dropped calls posts same)
 
 -- a head as the board of its context
-pub head_of : (name : Name) (e h : EntryView) (v : PartsView) → v ≡ (from_sorted ((name, h) ∷ []), empty) → h.0 ≡ e.0 → h.1.0 ≡ e.1.0 → h.1.1.dropped ≡ e.1.1.dropped → h.1.1.calls ≡ empty → IsContext name h v × IsHead e h
-head_of name e h v is birth fronts dropped calls = (is_context name h v is, is_head e h birth fronts dropped calls)
+pub head_of : (name : Name) (e h : EntryView) (v : PartsView) → v ≡ (from_sorted ((name, live h) ∷ []), empty) → h.0 ≡ e.0 → h.1.0 ≡ e.1.0 → h.1.1.dropped ≡ e.1.1.dropped → h.1.1.calls ≡ empty → IsContext name (live h) v × IsHead e h
+head_of name e h v is birth fronts dropped calls = (is_context name (live h) v is, is_head e h birth fronts dropped calls)

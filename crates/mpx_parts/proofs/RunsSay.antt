@@ -16,10 +16,10 @@ use Rattle.mpx_name.specs.Order.{name_cmp}
 use Rattle.mpx_board.specs.Boards.{Fact}
 use Rattle.mpx_board.specs.Looks.{parts_of}
 use Rattle.mpx_board.specs.declared.board.Board.{Board}
-use Rattle.mpx_board.specs.Parts.{OfProcesses, EntryView, AcksView, PartsView}
-use Rattle.mpx_board.specs.Tidy.{is_bare, is_tidy_entry, are_tidy_entries, is_tidy_numbers, are_tidy_numbers, is_tidy_acks, are_tidy_acks, is_tidy}
+use Rattle.mpx_board.specs.Parts.{OfProcesses, LiftedView, AcksView, PartsView}
+use Rattle.mpx_board.specs.Tidy.{is_bare, is_tidy_lifted, are_tidy_entries, is_tidy_numbers, are_tidy_numbers, is_tidy_acks, are_tidy_acks, is_tidy}
 use Rattle.mpx_format.specs.Encoding.{length_told}
-use Rattle.mpx_parts.specs.Facts.{SaysEntry, SaysNumbers, SaysAcks, SaysParts}
+use Rattle.mpx_parts.specs.Facts.{SaysLifted, SaysNumbers, SaysAcks, SaysParts}
 use Rattle.mpx_parts.specs.Pieces.{IsPiece, IsRun, most_of_piece}
 use Rattle.mpx_parts.proofs.Made.{no_entry, All-none, all_none, is_piece}
 
@@ -29,25 +29,25 @@ run_entries R view test es m run is = ap entries is ∙ entries_of R view es run
 
 -- CONTEXTS
 
-module _ {J : Type 0} (view : J → EntryView) (es : List (Name × J)) (run : IsRun name_cmp view (λ e. is_tidy_entry e.1) es) (v : PartsView) (is : v ≡ (from_sorted (seen view es), empty)) where
+module _ {J : Type 0} (view : J → LiftedView) (es : List (Name × J)) (run : IsRun name_cmp view (λ e. is_tidy_lifted e.1) es) (v : PartsView) (is : v ≡ (from_sorted (seen view es), empty)) where
   context_entries : entries v.0 ≡ seen view es
-  context_entries = run_entries name_cmp view (λ e. is_tidy_entry e.1) es v.0 run (ap (λ x. x.0) is)
+  context_entries = run_entries name_cmp view (λ e. is_tidy_lifted e.1) es v.0 run (ap (λ x. x.0) is)
 
   no_acks : entries v.1 ≡ []
   no_acks = no_entry nat_cmp v.1 (ap (λ x. x.1) is)
 
   pub contexts_tidy : is_tidy v ≡ true
-  contexts_tidy = both_true (are_tidy_entries v.0) (are_tidy_acks v.1) (ap (list_all (λ e. is_tidy_entry e.1)) context_entries ∙ run.pass) (all_none (λ e. is_tidy_acks e.1) (entries v.1) no_acks)
+  contexts_tidy = both_true (are_tidy_entries v.0) (are_tidy_acks v.1) (ap (list_all (λ e. is_tidy_lifted e.1)) context_entries ∙ run.pass) (all_none (λ e. is_tidy_acks e.1) (entries v.1) no_acks)
 
-  contexts_say : (P : Fact → Type 0) → All (SaysEntry P) (seen view es) → SaysParts P v
-  contexts_say P all = record { contexts = subst (All (SaysEntry P)) (sym context_entries) all; acks = All-none (SaysAcks P) (entries v.1) no_acks }
+  contexts_say : (P : Fact → Type 0) → All (SaysLifted P) (seen view es) → SaysParts P v
+  contexts_say P all = record { contexts = subst (All (SaysLifted P)) (sym context_entries) all; acks = All-none (SaysAcks P) (entries v.1) no_acks }
 
-  say_contexts : (P : Fact → Type 0) → SaysParts P v → All (SaysEntry P) (seen view es)
-  say_contexts P says = subst (All (SaysEntry P)) context_entries says.contexts
+  say_contexts : (P : Fact → Type 0) → SaysParts P v → All (SaysLifted P) (seen view es)
+  say_contexts P says = subst (All (SaysLifted P)) context_entries says.contexts
 
-pub contexts_piece : {J : Type 0} (view : J → EntryView) (es : List (Name × J)) (b : Board) → IsRun name_cmp view (λ e. is_tidy_entry e.1) es → parts_of b ≡ (from_sorted (seen view es), empty) → length_told (parts_of b) ≤ most_of_piece
-    → IsPiece (λ P. All (SaysEntry P) (seen view es)) b
-contexts_piece view es b run is fits = is_piece (λ P. All (SaysEntry P) (seen view es)) b (say_contexts view es run (parts_of b) is) (contexts_say view es run (parts_of b) is) fits
+pub contexts_piece : {J : Type 0} (view : J → LiftedView) (es : List (Name × J)) (b : Board) → IsRun name_cmp view (λ e. is_tidy_lifted e.1) es → parts_of b ≡ (from_sorted (seen view es), empty) → length_told (parts_of b) ≤ most_of_piece
+    → IsPiece (λ P. All (SaysLifted P) (seen view es)) b
+contexts_piece view es b run is fits = is_piece (λ P. All (SaysLifted P) (seen view es)) b (say_contexts view es run (parts_of b) is) (contexts_say view es run (parts_of b) is) fits
 
 -- WHAT PROCESSES ACKNOWLEDGE
 
@@ -59,10 +59,10 @@ module _ {J : Type 0} (view : J → AcksView) (es : List (ℕ × J)) (run : IsRu
   no_contexts = no_entry name_cmp v.0 (ap (λ x. x.0) is)
 
   pub acks_tidy : is_tidy v ≡ true
-  acks_tidy = both_true (are_tidy_entries v.0) (are_tidy_acks v.1) (all_none (λ e. is_tidy_entry e.1) (entries v.0) no_contexts) (ap (list_all (λ e. is_tidy_acks e.1)) acks_entries ∙ run.pass)
+  acks_tidy = both_true (are_tidy_entries v.0) (are_tidy_acks v.1) (all_none (λ e. is_tidy_lifted e.1) (entries v.0) no_contexts) (ap (list_all (λ e. is_tidy_acks e.1)) acks_entries ∙ run.pass)
 
   acks_say : (P : Fact → Type 0) → All (SaysAcks P) (seen view es) → SaysParts P v
-  acks_say P all = record { contexts = All-none (SaysEntry P) (entries v.0) no_contexts; acks = subst (All (SaysAcks P)) (sym acks_entries) all }
+  acks_say P all = record { contexts = All-none (SaysLifted P) (entries v.0) no_contexts; acks = subst (All (SaysAcks P)) (sym acks_entries) all }
 
   say_acks : (P : Fact → Type 0) → SaysParts P v → All (SaysAcks P) (seen view es)
   say_acks P says = subst (All (SaysAcks P)) acks_entries says.acks

@@ -1,5 +1,5 @@
 -- What the parts of a board say, fact by fact, is what the board has.
-use Rattle.std.proofs.Common.{◌≡◌, ◌≢◌, ◌<◌, ℕ, Bool, true, T, List, [], ◌∷◌, Option, Some, None, refl, sym, ap, ◌∙◌, subst, nat_lt, arith}
+use Rattle.std.proofs.Common.{◌≡◌, ◌≢◌, ◌<◌, ℕ, Bool, true, false, T, List, [], ◌∷◌, Option, Some, None, refl, sym, ap, ◌∙◌, subst, nat_lt, arith}
 use Rattle.std.specs.Prelude.{All}
 use Rattle.std.proofs.lemmas.Bool.Decides.{nat_tests}
 use Rattle.std.proofs.lemmas.List.Elements.{All-nil, All-cons, All-head, All-tail}
@@ -10,16 +10,17 @@ use Rattle.std.specs.FinMap.{FinMap, find, is_sorted, entries, entries_sorted, g
 use Rattle.join_core.specs.Flat.{FlatView, unknown, known, clash}
 use Rattle.join_core.specs.Cases.{answer, yes, no, is_tied, first, second, first_true, second_true}
 use Rattle.join_nest.specs.EntriesLaws.{find_first, find_below, below_tied}
+use Rattle.join_nest.specs.Lift.{live, dead}
 use Rattle.mpx_name.specs.Name.{Name}
 use Rattle.mpx_name.specs.Order.{name_total, name_exact}
 use Rattle.mpx_post.specs.Posts.{Given}
-use Rattle.mpx_board.specs.Boards.{Fact, Born, Held, Front, Dropped, Acknowledged, Has}
-use Rattle.mpx_board.specs.Parts.{OfProcesses, CallView, EntryView, AcksView, PartsView}
+use Rattle.mpx_board.specs.Boards.{Fact, Born, Held, Front, Dropped, Dead, Acknowledged, Has}
+use Rattle.mpx_board.specs.Parts.{OfProcesses, CallView, EntryView, LiftedView, AcksView, PartsView}
 use Rattle.mpx_board.specs.Contexts.{or_zero, or_unknown, post_in, or_nothing, number_in, ack_in, look_of}
-use Rattle.mpx_board.specs.Tidy.{is_unknown, is_bare, all_entries, has_no_zero, are_tidy_posts, is_tidy_call, says_nothing, is_neat_entry, is_tidy_entry, are_tidy_entries, is_tidy_numbers, is_tidy_acks, are_tidy_acks, is_tidy}
+use Rattle.mpx_board.specs.Tidy.{is_unknown, is_bare, all_entries, has_no_zero, are_tidy_posts, is_tidy_call, says_nothing, is_neat_entry, is_tidy_lifted, are_tidy_entries, is_tidy_numbers, is_tidy_acks, are_tidy_acks, is_tidy}
 use Rattle.std.specs.Prelude.{not, ◌&&◌}
 use Rattle.mpx_board.proofs.Entries.{entries_get}
-use Rattle.mpx_parts.specs.Facts.{SaysPost, SaysCall, SaysHead, SaysEntry, SaysNumbers, SaysAcks, SaysParts}
+use Rattle.mpx_parts.specs.Facts.{SaysPost, SaysCall, SaysHead, SaysEntry, SaysLifted, SaysNumbers, SaysAcks, SaysParts}
 
 -- LOOK-UPS AND ENTRIES
 
@@ -62,17 +63,25 @@ module _ (P : Fact → Type 0) where
   number_said F (Some m) said n some is = subst (λ x. P (F x)) is (said m refl)
 
   module _ (name : Name) where
-    born_said : (o : Option EntryView) → ((e : EntryView) → o ≡ Some e → SaysEntry P (name, e)) → (v : FlatView _) → v ≢ unknown → (or_nothing o).birth ≡ v → P (Born name v)
+    born_said : (o : Option LiftedView) → ((l : LiftedView) → o ≡ Some l → SaysLifted P (name, l)) → (v : FlatView _) → v ≢ unknown → (or_nothing o).birth ≡ v → P (Born name v)
     born_said None said v told is = absurd (told (sym is))
-    born_said (Some e) said v told is = subst (λ x. P (Born name x)) is ((said e refl).head.birth (λ none. told (sym is ∙ none)))
+    born_said (Some (live e)) said v told is = let of : SaysEntry P (name, e) = said (live e) refl in subst (λ x. P (Born name x)) is (of.head.birth (λ none. told (sym is ∙ none)))
+    born_said (Some dead) said v told is = absurd (told (sym is))
 
-    front_said : (o : Option EntryView) → ((e : EntryView) → o ≡ Some e → SaysEntry P (name, e)) → (p n : ℕ) → 0 < n → (or_nothing o).fronts p ≡ n → P (Front name p n)
+    front_said : (o : Option LiftedView) → ((l : LiftedView) → o ≡ Some l → SaysLifted P (name, l)) → (p n : ℕ) → 0 < n → (or_nothing o).fronts p ≡ n → P (Front name p n)
     front_said None said p n some is = absurd (omega (arith, is, some))
-    front_said (Some e) said p n some is = number_said (Front name p) (get e.1.0 p) (all_get nat_cmp_total nat_cmp-IsAntisymmetric (λ x. P (Front name x.0 x.1)) e.1.0 (said e refl).head.fronts p) n some is
+    front_said (Some (live e)) said p n some is = let of : SaysEntry P (name, e) = said (live e) refl in number_said (Front name p) (get e.1.0 p) (all_get nat_cmp_total nat_cmp-IsAntisymmetric (λ x. P (Front name x.0 x.1)) e.1.0 of.head.fronts p) n some is
+    front_said (Some dead) said p n some is = absurd (omega (arith, is, some))
 
-    dropped_said : (o : Option EntryView) → ((e : EntryView) → o ≡ Some e → SaysEntry P (name, e)) → (n : ℕ) → 0 < n → (or_nothing o).dropped ≡ n → P (Dropped name n)
+    dropped_said : (o : Option LiftedView) → ((l : LiftedView) → o ≡ Some l → SaysLifted P (name, l)) → (n : ℕ) → 0 < n → (or_nothing o).dropped ≡ n → P (Dropped name n)
     dropped_said None said n some is = absurd (omega (arith, is, some))
-    dropped_said (Some e) said n some is = subst (λ x. P (Dropped name x)) is ((said e refl).head.dropped (subst (λ x. 0 < x) (sym is) some))
+    dropped_said (Some (live e)) said n some is = let of : SaysEntry P (name, e) = said (live e) refl in subst (λ x. P (Dropped name x)) is (of.head.dropped (subst (λ x. 0 < x) (sym is) some))
+    dropped_said (Some dead) said n some is = absurd (omega (arith, is, some))
+
+    dead_said : (o : Option LiftedView) → ((l : LiftedView) → o ≡ Some l → SaysLifted P (name, l)) → (or_nothing o).dead ≡ true → P (Dead name)
+    dead_said None said is = let no : false ≡ true = is in cc
+    dead_said (Some (live e)) said is = let no : false ≡ true = is in cc
+    dead_said (Some dead) said is = said dead refl
 
     post_said : (k p : ℕ) (o : Option (FlatView Given)) → ((w : FlatView Given) → o ≡ Some w → P (Held name k p w)) → (v : FlatView Given) → v ≢ unknown → or_unknown o ≡ v → P (Held name k p v)
     post_said k p None said v told is = absurd (told (sym is))
@@ -82,9 +91,10 @@ module _ (P : Fact → Type 0) where
     call_said k p None said v told is = absurd (told (sym is))
     call_said k p (Some c) said v told is = post_said k p (get c p) (all_get nat_cmp_total nat_cmp-IsAntisymmetric (SaysPost P name k) c (said c refl) p) v told is
 
-    held_said : (o : Option EntryView) → ((e : EntryView) → o ≡ Some e → SaysEntry P (name, e)) → (k p : ℕ) (v : FlatView Given) → v ≢ unknown → (or_nothing o).posts k p ≡ v → P (Held name k p v)
+    held_said : (o : Option LiftedView) → ((l : LiftedView) → o ≡ Some l → SaysLifted P (name, l)) → (k p : ℕ) (v : FlatView Given) → v ≢ unknown → (or_nothing o).posts k p ≡ v → P (Held name k p v)
     held_said None said k p v told is = absurd (told (sym is))
-    held_said (Some e) said k p v told is = call_said k p (get e.1.1.calls k) (all_get nat_cmp_total nat_cmp-IsAntisymmetric (SaysCall P name) e.1.1.calls (said e refl).calls k) v told is
+    held_said (Some (live e)) said k p v told is = let of : SaysEntry P (name, e) = said (live e) refl in call_said k p (get e.1.1.calls k) (all_get nat_cmp_total nat_cmp-IsAntisymmetric (SaysCall P name) e.1.1.calls of.calls k) v told is
+    held_said (Some dead) said k p v told is = absurd (told (sym is))
 
   numbers_said : (q : ℕ) (name : Name) (o : Option (OfProcesses ℕ)) → ((m : OfProcesses ℕ) → o ≡ Some m → SaysNumbers P q (name, m)) → (p n : ℕ) → 0 < n → number_in p o ≡ n → P (Acknowledged q name p n)
   numbers_said q name None said p n some is = absurd (omega (arith, is, some))
@@ -94,8 +104,8 @@ module _ (P : Fact → Type 0) where
   ack_said q name None said p n some is = absurd (omega (arith, is, some))
   ack_said q name (Some a) said p n some is = numbers_said q name (get a name) (all_get name_total name_exact (SaysNumbers P q) a (said a refl) name) p n some is
 
-  entry_at : (v : PartsView) → SaysParts P v → (name : Name) (e : EntryView) → get v.0 name ≡ Some e → SaysEntry P (name, e)
-  entry_at v said name e is = all_get name_total name_exact (SaysEntry P) v.0 said.contexts name e is
+  lifted_at : (v : PartsView) → SaysParts P v → (name : Name) (l : LiftedView) → get v.0 name ≡ Some l → SaysLifted P (name, l)
+  lifted_at v said name l is = all_get name_total name_exact (SaysLifted P) v.0 said.contexts name l is
 
   acks_at : (v : PartsView) → SaysParts P v → (q : ℕ) (a : AcksView) → get v.1 q ≡ Some a → SaysAcks P (q, a)
   acks_at v said q a is = all_get nat_cmp_total nat_cmp-IsAntisymmetric (SaysAcks P) v.1 said.acks q a is
@@ -103,10 +113,11 @@ module _ (P : Fact → Type 0) where
   -- what the parts say is all that is known
   pub all_said : (v : PartsView) → SaysParts P v → (f : Fact) → Has (look_of v) f → P f
   unfolding look_of
-  all_said v said (Born name x) has = born_said name (get v.0 name) (entry_at v said name) x has.0 has.1
-  all_said v said (Held name k p x) has = held_said name (get v.0 name) (entry_at v said name) k p x has.0 has.1
-  all_said v said (Front name p n) has = front_said name (get v.0 name) (entry_at v said name) p n has.0 has.1
-  all_said v said (Dropped name n) has = dropped_said name (get v.0 name) (entry_at v said name) n has.0 has.1
+  all_said v said (Born name x) has = born_said name (get v.0 name) (lifted_at v said name) x has.0 has.1
+  all_said v said (Held name k p x) has = held_said name (get v.0 name) (lifted_at v said name) k p x has.0 has.1
+  all_said v said (Front name p n) has = front_said name (get v.0 name) (lifted_at v said name) p n has.0 has.1
+  all_said v said (Dropped name n) has = dropped_said name (get v.0 name) (lifted_at v said name) n has.0 has.1
+  all_said v said (Dead name) has = dead_said name (get v.0 name) (lifted_at v said name) has
   all_said v said (Acknowledged q name p n) has = ack_said q name (get v.1 q) (acks_at v said q) p n has.0 has.1
 
 -- AND ONLY THAT
@@ -118,7 +129,7 @@ is_told : {A : Type 0} (v : FlatView A) → not (is_unknown v) ≡ true → v �
 is_told v h none = cc (ap is_unknown none, h)
 
 module _ (P : Fact → Type 0) (v : PartsView) (tidy : is_tidy v ≡ true) (has : (f : Fact) → Has (look_of v) f → P f) where
-  say_call : (name : Name) (e : EntryView) → get v.0 name ≡ Some e → (k : ℕ) (c : CallView) → get e.1.1.calls k ≡ Some c → is_tidy_call k c ≡ true → SaysCall P name (k, c)
+  say_call : (name : Name) (e : EntryView) → get v.0 name ≡ Some (live e) → (k : ℕ) (c : CallView) → get e.1.1.calls k ≡ Some c → is_tidy_call k c ≡ true → SaysCall P name (k, c)
   unfolding look_of
   say_call name e at k c of neat = get_all nat_cmp_total nat_cmp-IsAntisymmetric (SaysPost P name k) c (λ p w is.
       has (Held name k p w) (
@@ -126,10 +137,10 @@ module _ (P : Fact → Type 0) (v : PartsView) (tidy : is_tidy v ≡ true) (has 
         ap (λ o. (or_nothing o).posts k p) at ∙ ap (post_in p) of ∙ ap or_unknown is,
       ))
 
-  say_entry : (name : Name) (e : EntryView) → get v.0 name ≡ Some e → SaysEntry P (name, e)
+  say_entry : (name : Name) (e : EntryView) → get v.0 name ≡ Some (live e) → SaysEntry P (name, e)
   unfolding look_of
   say_entry name e at =
-      let neat : is_neat_entry e ≡ true = second_true (not (says_nothing e)) (is_neat_entry e) (entries_get name_total name_exact (λ name e. is_tidy_entry e) v.0 (first_true (are_tidy_entries v.0) (are_tidy_acks v.1) tidy) name e at) in
+      let neat : is_neat_entry e ≡ true = second_true (not (says_nothing e)) (is_neat_entry e) (entries_get name_total name_exact (λ name l. is_tidy_lifted l) v.0 (first_true (are_tidy_entries v.0) (are_tidy_acks v.1) tidy) name (live e) at) in
       record {
         head = record {
           birth = λ told. has (Born name e.0) (told, ap (λ o. (or_nothing o).birth) at);
@@ -143,6 +154,11 @@ module _ (P : Fact → Type 0) (v : PartsView) (tidy : is_tidy v ≡ true) (has 
         calls = get_all nat_cmp_total nat_cmp-IsAntisymmetric (SaysCall P name) e.1.1.calls (λ k c is.
             say_call name e at k c is (entries_get nat_cmp_total nat_cmp-IsAntisymmetric is_tidy_call e.1.1.calls (second_true (has_no_zero e.1.0) (all_entries is_tidy_call e.1.1.calls) neat) k c is));
       }
+
+  say_lifted : (name : Name) (l : LiftedView) → get v.0 name ≡ Some l → SaysLifted P (name, l)
+  unfolding look_of
+  say_lifted name (live e) at = say_entry name e at
+  say_lifted name dead at = has (Dead name) (ap (λ o. (or_nothing o).dead) at)
 
   say_numbers : (q : ℕ) (a : AcksView) → get v.1 q ≡ Some a → (name : Name) (m : OfProcesses ℕ) → get a name ≡ Some m → is_tidy_numbers m ≡ true → SaysNumbers P q (name, m)
   unfolding look_of
@@ -160,6 +176,6 @@ module _ (P : Fact → Type 0) (v : PartsView) (tidy : is_tidy v ≡ true) (has 
 
   pub said_all : SaysParts P v
   said_all = record {
-    contexts = get_all name_total name_exact (SaysEntry P) v.0 say_entry;
+    contexts = get_all name_total name_exact (SaysLifted P) v.0 say_lifted;
     acks = get_all nat_cmp_total nat_cmp-IsAntisymmetric (SaysAcks P) v.1 say_acks;
   }

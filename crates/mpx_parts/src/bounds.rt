@@ -2,7 +2,8 @@
 // long, and nothing that is proved rests on it: whether a run is short is told by its frame.
 
 use join_core::Flat;
-use mpx_board::{Acks, Call, Entry, VersionVector};
+use join_nest::Lift;
+use mpx_board::{Acks, Call, Entry, Lifted, VersionVector};
 use mpx_group::Proc;
 use mpx_name::{Name, Step};
 use mpx_num::Ty;
@@ -20,7 +21,10 @@ const GATHERING: usize = 4;
 // What one process acknowledges, without the contexts.
 const ACKS: usize = 3;
 
-// At least, a context without its name, its fronts and its calls.
+// Whether a context is live.
+const LIFTED: usize = 1;
+
+// At least, a live context without its name, its fronts and its calls.
 const ENTRY: usize = 10;
 
 // At least, a call without its posts.
@@ -30,13 +34,13 @@ const CALL: usize = 5;
 const POST: usize = 3;
 
 // What these contexts leave of the room, at most.
-pub fn room_after_contexts(mut room: usize, contexts: &[(Name, Entry)]) -> usize {
-    for (name, entry) in contexts {
+pub fn room_after_contexts(mut room: usize, contexts: &[(Name, Lifted)]) -> usize {
+    for (name, known) in contexts {
         if room == 0 {
             return 0;
         }
         room = after_name(room, name);
-        room = after_entry(room, entry);
+        room = after_context(room, known);
     }
     room
 }
@@ -87,6 +91,15 @@ fn after_step(room: usize, step: &Step) -> usize {
 }
 
 // Behind what is known of a context.
+fn after_context(room: usize, known: &Lifted) -> usize {
+    let room = after(room, 1, LIFTED);
+    match known {
+        Lift::Live(entry) => after_entry(room, entry),
+        Lift::Dead => room,
+    }
+}
+
+// Behind what is known of a live one.
 fn after_entry(room: usize, entry: &Entry) -> usize {
     let mut room = after(room, 1, ENTRY);
     if let Flat::Known(birth) = &entry.first {

@@ -3,18 +3,18 @@ ghost use Rattle.std.specs.Prelude.{◌≡◌, ◌∷◌, [], ◌<◌, ◌||◌,
 ghost use Rattle.std.specs.FinMap.{from_sorted, empty};
 ghost use Rattle.join_core.specs.FlatSeen.{flat_view};
 ghost use Rattle.mpx_post.specs.Drafts.{most_calls};
-ghost use Rattle.mpx_board.specs.Boards.{Held};
+ghost use Rattle.mpx_board.specs.Boards.{Dead, Held};
 ghost use Rattle.mpx_board.specs.Looks.{parts_of};
 ghost use Rattle.mpx_board.specs.Parts.{PartsView};
 ghost use Rattle.mpx_board.specs.Tidy.{is_bare, is_neat_entry, is_tidy, is_tidy_numbers, is_unknown};
-ghost use Rattle.mpx_board.specs.Views.{view_of_entry, view_of_numbers, view_of_parts};
+ghost use Rattle.mpx_board.specs.Views.{view_of_entry, view_of_lifted, view_of_numbers, view_of_parts};
 ghost use Rattle.mpx_parts.specs.Facts.{SaysHead, SaysNumbers};
 ghost use Rattle.mpx_parts.specs.Pieces.{IsPiece, has_head};
 
 use crate::limits::{few_numbers, short_birth, short_name, short_post};
 use join_core::{Exact, Flat, Key, OutOfMemory, Pair};
-use join_nest::{Keyed, Trunc};
-use mpx_board::{Board, Entry, Parts, VersionVector};
+use join_nest::{Keyed, Lift, Trunc};
+use mpx_board::{Board, Entry, Lifted, Parts, VersionVector};
 use mpx_group::Proc;
 use mpx_name::Name;
 use mpx_post::Post;
@@ -40,12 +40,12 @@ fn one_call<J: Exact>(alloc: Global, call: u32, value: J) -> Result<Trunc<J>, Ou
 }
 
 // The board of this one context.
-fn about(alloc: Global, name: &Name, entry: Entry) -> Result<Board, OutOfMemory>
-    requires { (v : PartsView) → v ≡ (from_sorted ((name.now, view_of_entry entry) ∷ []), empty) → is_tidy v ≡ true }
-    ensures { IfOk result (λ made. parts_of made ≡ (from_sorted ((name.now, view_of_entry entry) ∷ []), empty)) }
+fn about(alloc: Global, name: &Name, known: Lifted) -> Result<Board, OutOfMemory>
+    requires { (v : PartsView) → v ≡ (from_sorted ((name.now, view_of_lifted known) ∷ []), empty) → is_tidy v ≡ true }
+    ensures { IfOk result (λ made. parts_of made ≡ (from_sorted ((name.now, view_of_lifted known) ∷ []), empty)) }
 {
     let parts = Pair {
-        first: one(alloc, name.copy(alloc)?, entry)?,
+        first: one(alloc, name.copy(alloc)?, known)?,
         second: Keyed::new(alloc),
     };
     Ok(Board::of(parts).unwrap())
@@ -73,7 +73,7 @@ pub fn post_piece(
             second: one_call(alloc, call, of_call)?,
         },
     };
-    about(alloc, name, entry)
+    about(alloc, name, Lift::Live(entry))
 }
 
 // What is said of the context beside its posts, where there is something.
@@ -92,7 +92,15 @@ pub fn head_piece(alloc: Global, name: &Name, entry: &Entry) -> Result<Board, Ou
             second: Trunc::new(alloc, entry.second.second.dropped()),
         },
     };
-    about(alloc, name, head)
+    about(alloc, name, Lift::Live(head))
+}
+
+// That the context is dead.
+pub fn dead_piece(alloc: Global, name: &Name) -> Result<Board, OutOfMemory>
+    ensures { IfOk result (IsPiece (λ P. P (Dead name.now))) }
+{
+    short_name(name);
+    about(alloc, name, Lift::Dead)
 }
 
 // What the process acknowledges of the context.

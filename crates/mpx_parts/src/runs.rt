@@ -5,17 +5,17 @@ ghost use Rattle.std.specs.FinMap.{from_sorted, is_sorted};
 ghost use Rattle.join_nest.specs.Seen.{seen};
 ghost use Rattle.mpx_name.specs.Order.{name_cmp};
 ghost use Rattle.mpx_board.specs.Looks.{parts_of};
-ghost use Rattle.mpx_board.specs.Tidy.{is_tidy_acks, is_tidy_entry, is_tidy_numbers};
-ghost use Rattle.mpx_board.specs.Views.{view_of_acks, view_of_entry, view_of_numbers};
+ghost use Rattle.mpx_board.specs.Tidy.{is_tidy_acks, is_tidy_lifted, is_tidy_numbers};
+ghost use Rattle.mpx_board.specs.Views.{view_of_acks, view_of_lifted, view_of_numbers};
 ghost use Rattle.mpx_format.specs.Encoding.{length_told};
-ghost use Rattle.mpx_parts.specs.Facts.{SaysAcks, SaysEntry, SaysNumbers};
+ghost use Rattle.mpx_parts.specs.Facts.{SaysAcks, SaysLifted, SaysNumbers};
 ghost use Rattle.mpx_parts.specs.Pieces.{IsPiece, IsRun, most_of_piece};
 
 use crate::bounds::{room_after_acks, room_after_contexts, room_after_names};
 use crate::pieces::one;
 use join_core::{Exact, Key, OutOfMemory, Pair};
 use join_nest::{Keyed, push_copy};
-use mpx_board::{Acks, Board, Entry, VersionVector};
+use mpx_board::{Acks, Board, Lifted, VersionVector};
 use mpx_encode::frame_len;
 use mpx_group::Proc;
 use mpx_name::Name;
@@ -51,10 +51,10 @@ fn short(board: Board) -> Option<Board>
 // What is known of these contexts, where that is short.
 pub fn contexts_piece(
     alloc: Global,
-    contexts: &[(Name, Entry)],
+    contexts: &[(Name, Lifted)],
 ) -> Result<Option<Board>, OutOfMemory>
-    requires { IsRun name_cmp view_of_entry (λ e. is_tidy_entry e.1) contexts.now }
-    ensures { IfOk result (λ found. IfSome found (IsPiece (λ P. All (SaysEntry P) (seen view_of_entry contexts.now)))) }
+    requires { IsRun name_cmp view_of_lifted (λ e. is_tidy_lifted e.1) contexts.now }
+    ensures { IfOk result (λ found. IfSome found (IsPiece (λ P. All (SaysLifted P) (seen view_of_lifted contexts.now)))) }
 {
     if room_after_contexts(MOST_OF_PIECE, contexts) == 0 {
         return Ok(None);

@@ -5,17 +5,18 @@ ghost use Rattle.std.specs.FinMap.{entries};
 ghost use Rattle.join_nest.specs.Seen.{seen};
 ghost use Rattle.mpx_name.specs.Order.{name_cmp};
 ghost use Rattle.mpx_post.specs.Drafts.{most_calls};
+ghost use Rattle.mpx_board.specs.Boards.{Dead};
 ghost use Rattle.mpx_board.specs.Looks.{parts_of};
-ghost use Rattle.mpx_board.specs.Tidy.{all_entries, are_tidy_posts, is_tidy_acks, is_tidy_call, is_neat_entry, is_tidy_entry, is_tidy_numbers};
-ghost use Rattle.mpx_board.specs.Views.{view_of_acks, view_of_call, view_of_calls, view_of_entry, view_of_numbers};
-ghost use Rattle.mpx_parts.specs.Facts.{SaysAcks, SaysCall, SaysEntry, SaysHead, SaysNumbers, SaysParts};
+ghost use Rattle.mpx_board.specs.Tidy.{all_entries, are_tidy_posts, is_tidy_acks, is_tidy_call, is_neat_entry, is_tidy_entry, is_tidy_lifted, is_tidy_numbers};
+ghost use Rattle.mpx_board.specs.Views.{view_of_acks, view_of_call, view_of_calls, view_of_entry, view_of_lifted, view_of_numbers};
+ghost use Rattle.mpx_parts.specs.Facts.{SaysAcks, SaysCall, SaysEntry, SaysHead, SaysLifted, SaysNumbers, SaysParts};
 ghost use Rattle.mpx_parts.specs.Pieces.{Adds, IsRun};
 
-use crate::pieces::{has_head, head_piece, number_piece, post_piece};
+use crate::pieces::{dead_piece, has_head, head_piece, number_piece, post_piece};
 use crate::runs::{acks_piece, contexts_piece, names_piece};
 use join_core::OutOfMemory;
-use join_nest::Trunc;
-use mpx_board::{Acks, Board, Call, Entry, VersionVector};
+use join_nest::{Lift, Trunc};
+use mpx_board::{Acks, Board, Call, Entry, Lifted, VersionVector};
 use mpx_group::Proc;
 use mpx_name::Name;
 use std::alloc::Global;
@@ -70,8 +71,8 @@ fn add_head(
     Ok(())
 }
 
-// Adds what is said of the context.
-fn add_context(
+// Adds what is said of the live context.
+fn add_entry(
     alloc: Global,
     made: &mut Vec<Board>,
     name: &Name,
@@ -84,14 +85,38 @@ fn add_context(
     add_calls(alloc, made, name, &entry.second.second)
 }
 
+// Adds that the context is dead.
+fn add_dead(alloc: Global, made: &mut Vec<Board>, name: &Name) -> Result<(), OutOfMemory>
+    ensures { OnOk result (Adds (λ P. P (Dead name.now)) made.old.items made.new.items) }
+{
+    made.push(dead_piece(alloc, name)?)?;
+    Ok(())
+}
+
+// Adds what is said of the context.
+fn add_context(
+    alloc: Global,
+    made: &mut Vec<Board>,
+    name: &Name,
+    known: &Lifted,
+) -> Result<(), OutOfMemory>
+    requires { is_tidy_lifted (view_of_lifted known.now) ≡ true }
+    ensures { OnOk result (Adds (λ P. SaysLifted P (name.now, view_of_lifted known.now)) made.old.items made.new.items) }
+{
+    match known {
+        Lift::Live(entry) => add_entry(alloc, made, name, entry),
+        Lift::Dead => add_dead(alloc, made, name),
+    }
+}
+
 // Adds what is said of these contexts: as one piece where that is short, else by halves.
 fn add_contexts(
     alloc: Global,
     made: &mut Vec<Board>,
-    contexts: &[(Name, Entry)],
+    contexts: &[(Name, Lifted)],
 ) -> Result<(), OutOfMemory>
-    requires { IsRun name_cmp view_of_entry (λ e. is_tidy_entry e.1) contexts.now }
-    ensures { OnOk result (Adds (λ P. All (SaysEntry P) (seen view_of_entry contexts.now)) made.old.items made.new.items) }
+    requires { IsRun name_cmp view_of_lifted (λ e. is_tidy_lifted e.1) contexts.now }
+    ensures { OnOk result (Adds (λ P. All (SaysLifted P) (seen view_of_lifted contexts.now)) made.old.items made.new.items) }
 {
     if contexts.is_empty() {
         return Ok(());
@@ -101,8 +126,8 @@ fn add_contexts(
         return Ok(());
     }
     if contexts.len() == 1 {
-        let (name, entry) = &contexts[0];
-        return add_context(alloc, made, name, entry);
+        let (name, known) = &contexts[0];
+        return add_context(alloc, made, name, known);
     }
     let half = contexts.len() / 2;
     add_contexts(alloc, made, &contexts[..half])?;

@@ -11,7 +11,7 @@ use Rattle.mpx_num.specs.Types.{item_len}
 use Rattle.mpx_post.specs.declared.draft.At.{At}
 use Rattle.mpx_post.specs.declared.draft.Draft.{Draft}
 use Rattle.mpx_post.specs.declared.draft.PostError.{PostError}
-use Rattle.mpx_post.specs.declared.draft.PostError.TheVariants.{ItemOutOfRange, NoTopology, TooManyItems}
+use Rattle.mpx_post.specs.declared.draft.PostError.TheVariants.{Closed, ItemOutOfRange, NoTopology, TooManyItems}
 use Rattle.mpx_kind.specs.declared.kinds.Makes.{Makes}
 use Rattle.mpx_kind.specs.declared.kinds.Makes.TheVariants as M
 use Rattle.mpx_kind.specs.declared.kinds.Number.{Number}
@@ -22,7 +22,7 @@ use Rattle.mpx_post.specs.Kinds.{family_of, fields_of, is_gathered, kind_of, mak
 use Rattle.mpx_post.specs.Posts.{Given, IsMaking, most_counts, most_items}
 use Rattle.mpx_post.specs.Seats.{lacks_topology}
 use Rattle.mpx_post.specs.Topologies.{most_neighbours}
-use Rattle.mpx_post.specs.Drafts.{Checks, checked, refusal_of, refusals, asked_first, are_edges, are_so_many, are_ranks, drafted_seat, edge_count, graph_of, has_making, is_misfilled, checked_at, checked_in, stray_refusals, drafted_making, drafted_numbers, first_that_holds, given_by, has_colour_and_key, is_colour, is_count, is_key, is_misplaced, is_of, is_rank, most_calls, most_steps, numbers_refusal, place_refusals, ranks_in, received_counts, sent_counts, unless}
+use Rattle.mpx_post.specs.Drafts.{Checks, checked, refusal_of, refusals, asked_first, are_edges, are_so_many, are_ranks, drafted_seat, edge_count, graph_of, has_making, is_misfilled, checked_as, checked_at, checked_in, stray_refusals, drafted_making, drafted_numbers, first_that_holds, given_by, has_colour_and_key, is_colour, is_count, is_key, is_misplaced, is_of, is_rank, most_calls, most_steps, numbers_refusal, place_refusals, ranks_in, received_counts, sent_counts, unless}
 use Rattle.mpx_post.specs.Graphs.{most_edges}
 use Rattle.mpx_post.proofs.Graphs.{are_edges-more, is_rank-more}
 use Rattle.mpx_post.proofs.Limits.{from_not, right, right_more}
@@ -228,13 +228,20 @@ never false false x y h = cc
 stray : (draft : Draft) (given : Given) → unless (first_that_holds (stray_refusals draft)) (given_by draft) ≡ Ok given → ⊥
 stray draft given h = never (not (list_all (is_of draft.ty) (drafted_numbers draft))) _ (given_by draft) given h
 
+-- nothing is accepted where its process has posted a free
+pub closed_first : (closed : Bool) (answer : Result Given PostError) (given : Given) → cond closed (Err Closed) answer ≡ Ok given → (closed ≡ false) × (answer ≡ Ok given)
+closed_first true answer given h = cc
+closed_first false answer given h = (refl, h)
+
 -- what an accepted draft of a member passes, in its seat
 accepted_in : (found : Option ℕ) (birth : BirthView) (at : At) (draft : Draft) (given : Given) → checked_at found birth at draft ≡ Ok given → (seat : Seat) × (checked_in seat at draft ≡ Ok given)
 accepted_in None birth at draft given h = cc
-accepted_in (Some rank) birth at draft given h = elim (cases_Bool (lacks_topology birth.topology (kind_of draft.call))) [
-  | inl lacks ↦ absurd (stray draft given (rw lacks at h))
-  | inr has ↦ (drafted_seat birth rank draft, rw has at h)
-]
+accepted_in (Some rank) birth at draft given h =
+    let passed : checked_as rank birth at draft ≡ Ok given = (closed_first at.closed (checked_as rank birth at draft) given h).1 in
+    elim (cases_Bool (lacks_topology birth.topology (kind_of draft.call))) [
+      | inl lacks ↦ absurd (stray draft given (rw lacks at passed))
+      | inr has ↦ (drafted_seat birth rank draft, rw has at passed)
+    ]
 
 -- an accepted call that makes communicators has room for one more step
 pub room : (birth : BirthView) (me : ℕ) (at : At) (draft : Draft) (given : Given) → checked birth me at draft ≡ Ok given → makes_communicators (family_of (kind_of draft.call)) ≡ true → at.depth < 8
@@ -245,6 +252,11 @@ room birth me at draft given h makes = let found = accepted_in (rank_in me birth
 pub call_room : (birth : BirthView) (me : ℕ) (at : At) (draft : Draft) (given : Given) → checked birth me at draft ≡ Ok given → (at.call == most_calls) ≡ false
 unfolding checked
 call_room birth me at draft given h = let found = accepted_in (rank_in me birth.members) birth at draft given h in call_below found.0 at draft given found.1
+
+-- behind its own free a member posts nothing
+pub closed_there : (birth : BirthView) (me rank : ℕ) (at : At) (draft : Draft) → rank_in me birth.members ≡ Some rank → at.closed ≡ true → checked birth me at draft ≡ Err Closed
+unfolding checked
+closed_there birth me rank at draft member closed = rw (member, closed) refl
 
 -- A MADE POST
 

@@ -4,9 +4,9 @@ use Rattle.mpx_num.specs.declared.operations.Op.TheVariants.{Sum}
 use Rattle.mpx_num.specs.declared.types.Ty.TheVariants.{I32}
 use Rattle.mpx_post.specs.declared.draft.At.{At}
 use Rattle.mpx_post.specs.declared.draft.Draft.{Draft}
-use Rattle.mpx_post.specs.declared.draft.PostError.TheVariants.{BadGroup, BadTag, DepthUsedUp}
+use Rattle.mpx_post.specs.declared.draft.PostError.TheVariants.{BadGroup, BadTag, Closed, DepthUsedUp, NotMember}
 use Rattle.mpx_kind.specs.declared.kinds.Kind.{Kind}
-use Rattle.mpx_kind.specs.declared.kinds.Kind.TheVariants.{Barrier, Create, CreateGroup, Dup, Split}
+use Rattle.mpx_kind.specs.declared.kinds.Kind.TheVariants.{Barrier, Create, CreateGroup, Dup, Free, NeighborAllgather, Split}
 use Rattle.mpx_post.specs.declared.making.Making.TheVariants as Making
 use Rattle.mpx_post.specs.Births.{BirthView, of_members}
 use Rattle.mpx_post.specs.Drafts.{checked}
@@ -20,7 +20,11 @@ four = of_members (0 ∷ 1 ∷ 2 ∷ 3 ∷ [])
 
 -- the first call of a context with so many steps
 abbrev first_on : (depth : ℕ) (gathering : Bool) → At
-first_on depth gathering = record { call = 0; depth = depth; gathering = gathering }
+first_on depth gathering = record { call = 0; depth = depth; closed = false; gathering = gathering }
+
+-- the call behind a free
+abbrev behind_free : At
+behind_free = record { call = 1; depth = 1; closed = true; gathering = false }
 
 abbrev drafted : Kind → Option ℤ → (key : ℤ) → List ℤ → Draft
 drafted kind colour key group = record { call = blocking kind; root = pos 0; op = Sum; ty = I32; scounts = []; rcounts = []; items = []; colour = colour; key = key; group = group; graph = None }
@@ -59,24 +63,48 @@ barrier_on_a_gathering : checked four 2 (first_on 1 true) (drafted Barrier None 
 unfolding checked
 barrier_on_a_gathering = refl
 
+free : checked four 2 (first_on 0 false) (drafted Free None (pos 0) []) ≡ Ok (record nothing_given { kind = Free })
+unfolding checked
+free = refl
+
+free_on_a_gathering : checked four 2 (first_on 1 true) (drafted Free None (pos 0) []) ≡ Err BadGroup
+unfolding checked
+free_on_a_gathering = refl
+
+free_twice : checked four 2 behind_free (drafted Free None (pos 0) []) ≡ Err Closed
+unfolding checked
+free_twice = refl
+
+closed_before_topology : checked four 2 behind_free (drafted NeighborAllgather None (pos 0) []) ≡ Err Closed
+unfolding checked
+closed_before_topology = refl
+
+no_member_before_closed : checked four 4 behind_free (drafted Barrier None (pos 0) []) ≡ Err NotMember
+unfolding checked
+no_member_before_closed = refl
+
 -- GATHERINGS
 
-two_of_four : gathering four 2 0 (pos 5) (pos 0 ∷ pos 2 ∷ []) ≡ Ok (record { tag = 5; members = 0 ∷ 2 ∷ [] })
+two_of_four : gathering four 2 0 false (pos 5) (pos 0 ∷ pos 2 ∷ []) ≡ Ok (record { tag = 5; members = 0 ∷ 2 ∷ [] })
 unfolding gathering
 two_of_four = refl
 
-without_the_caller : gathering four 2 0 (pos 5) (pos 0 ∷ pos 1 ∷ []) ≡ Err BadGroup
+without_the_caller : gathering four 2 0 false (pos 5) (pos 0 ∷ pos 1 ∷ []) ≡ Err BadGroup
 unfolding gathering
 without_the_caller = refl
 
-of_none : gathering four 2 0 (pos 5) [] ≡ Err BadGroup
+of_none : gathering four 2 0 false (pos 5) [] ≡ Err BadGroup
 unfolding gathering
 of_none = refl
 
-tag_beyond : gathering four 2 0 (pos 32768) (pos 2 ∷ []) ≡ Err BadTag
+tag_beyond : gathering four 2 0 false (pos 32768) (pos 2 ∷ []) ≡ Err BadTag
 unfolding gathering
 tag_beyond = refl
 
-too_deep_first : gathering four 2 8 (pos 5) [] ≡ Err DepthUsedUp
+too_deep_first : gathering four 2 8 false (pos 5) [] ≡ Err DepthUsedUp
 unfolding gathering
 too_deep_first = refl
+
+closed_first : gathering four 2 8 true (pos 5) [] ≡ Err Closed
+unfolding gathering
+closed_first = refl

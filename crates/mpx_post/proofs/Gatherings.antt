@@ -8,7 +8,7 @@ use Rattle.std.proofs.lemmas.Bool.{and_from, and_parts, eq-eqb, or_left, or_part
 use Rattle.std.proofs.lemmas.Bool.Decides.{nat_tests}
 use Rattle.mpx_group.specs.Group.{has, has_twice}
 use Rattle.mpx_post.specs.declared.draft.PostError.{PostError}
-use Rattle.mpx_post.specs.declared.draft.PostError.TheVariants.{NotMember, DepthUsedUp, BadGroup, BadTag}
+use Rattle.mpx_post.specs.declared.draft.PostError.TheVariants.{NotMember, Closed, DepthUsedUp, BadGroup, BadTag}
 use Rattle.mpx_post.specs.Births.{BirthView, rank_in}
 use Rattle.mpx_post.specs.Drafts.{first_that_holds, is_rank, is_tag, most_steps, natural, naturals, unless}
 use Rattle.mpx_post.specs.Gatherings.{GatheringView, gathering, gathering_at, is_bad_group, members_at}
@@ -40,30 +40,38 @@ members_at-pushed members ranks i l before after x was push is =
 
 -- WHAT A CHECK SAYS
 
-module _ (birth : BirthView) (me depth : ℕ) (tag : ℤ) (ranks : List ℤ) where
+module _ (birth : BirthView) (me depth : ℕ) (closed : Bool) (tag : ℤ) (ranks : List ℤ) where
   abbrev answer : Result GatheringView PostError
-  answer = gathering birth me depth tag ranks
+  answer = gathering birth me depth closed tag ranks
 
   pub refused_outside : rank_in me birth.members ≡ None → answer ≡ Err NotMember
   unfolding gathering
   refused_outside h = rw h refl
 
-  module _ (rank : ℕ) (member : rank_in me birth.members ≡ Some rank) where
+  pub refused_closed : (rank : ℕ) → rank_in me birth.members ≡ Some rank → closed ≡ true → answer ≡ Err Closed
+  unfolding gathering
+  refused_closed rank member shut = rw (member, shut) refl
+
+  module _ (rank : ℕ) (member : rank_in me birth.members ≡ Some rank) (going : closed ≡ false) where
     pub refused_too_deep : nat_le most_steps depth ≡ true → answer ≡ Err DepthUsedUp
     unfolding gathering
-    refused_too_deep deep = rw (member, deep) refl
+    refused_too_deep deep = rw (member, going, deep) refl
 
     pub refused_group : nat_le most_steps depth ≡ false → is_bad_group birth.members me ranks ≡ true → answer ≡ Err BadGroup
     unfolding gathering
-    refused_group deep bad = rw (member, deep, bad) refl
+    refused_group deep bad = rw (member, going, deep, bad) refl
 
     pub refused_tag : nat_le most_steps depth ≡ false → is_bad_group birth.members me ranks ≡ false → is_tag tag ≡ false → answer ≡ Err BadTag
     unfolding gathering
-    refused_tag deep bad tagged = rw (member, deep, bad, tagged) refl
+    refused_tag deep bad tagged = rw (member, going, deep, bad, tagged) refl
 
     pub gathered : nat_le most_steps depth ≡ false → is_bad_group birth.members me ranks ≡ false → is_tag tag ≡ true → answer ≡ Ok (record { tag = natural tag; members = members_at birth.members ranks })
     unfolding gathering
-    gathered deep bad tagged = rw (member, deep, bad, tagged) refl
+    gathered deep bad tagged = rw (member, going, deep, bad, tagged) refl
+
+-- below a communicator that it has freed a member opens none
+pub closed_gathering : (birth : BirthView) (me rank depth : ℕ) (tag : ℤ) (ranks : List ℤ) → rank_in me birth.members ≡ Some rank → gathering birth me depth true tag ranks ≡ Err Closed
+closed_gathering birth me rank depth tag ranks member = refused_closed birth me depth true tag ranks rank member refl
 
 -- a group that isn't bad: ranks in range, members that differ, and the caller
 pub group_parts : (members : List ℕ) (me : ℕ) (ranks : List ℤ) → is_bad_group members me ranks ≡ false → (list_all (is_rank (length members)) ranks ≡ true) × (has_twice (members_at members ranks) ≡ false) × (has (members_at members ranks) me ≡ true)
@@ -106,16 +114,17 @@ pub record Gathers (birth : BirthView) (me depth : ℕ) (g : GatheringView) : Ty
   pub tag : g.tag < 2 ^ 15
   pub room : depth < 8
 
-passed : (d b t : Bool) (x g : GatheringView) → unless (first_that_holds ((d, DepthUsedUp) ∷ (b, BadGroup) ∷ (t, BadTag) ∷ [])) x ≡ Ok g → (d ≡ false) × (b ≡ false) × (t ≡ false) × (x ≡ g)
-passed true b t x g h = cc
-passed false true t x g h = cc
-passed false false true x g h = cc
-passed false false false x g h = (refl, refl, refl, cc)
+passed : (c d b t : Bool) (x g : GatheringView) → unless (first_that_holds ((c, Closed) ∷ (d, DepthUsedUp) ∷ (b, BadGroup) ∷ (t, BadTag) ∷ [])) x ≡ Ok g → (d ≡ false) × (b ≡ false) × (t ≡ false) × (x ≡ g)
+passed true d b t x g h = cc
+passed false true b t x g h = cc
+passed false false true t x g h = cc
+passed false false false true x g h = cc
+passed false false false false x g h = (refl, refl, refl, cc)
 
-gathers_at : (found : Option ℕ) (birth : BirthView) (me depth : ℕ) (tag : ℤ) (ranks : List ℤ) (g : GatheringView) → gathering_at found birth.members me depth tag ranks ≡ Ok g → Gathers birth me depth g
-gathers_at None birth me depth tag ranks g h = cc
-gathers_at (Some rank) birth me depth tag ranks g h =
-    let tests = passed (nat_le most_steps depth) (is_bad_group birth.members me ranks) (not (is_tag tag)) _ g h in
+gathers_at : (found : Option ℕ) (birth : BirthView) (me depth : ℕ) (closed : Bool) (tag : ℤ) (ranks : List ℤ) (g : GatheringView) → gathering_at found birth.members me depth closed tag ranks ≡ Ok g → Gathers birth me depth g
+gathers_at None birth me depth closed tag ranks g h = cc
+gathers_at (Some rank) birth me depth closed tag ranks g h =
+    let tests = passed closed (nat_le most_steps depth) (is_bad_group birth.members me ranks) (not (is_tag tag)) _ g h in
     let group = group_parts birth.members me ranks tests.1 in
     let tagged = and_parts (int_le (pos 0) tag) (nat_lt (natural tag) (2 ^ 15)) (from_not _ tests.2) in
     let small : natural tag < 2 ^ 15 = grind (arith, nat_tests, tagged.1) in
@@ -130,6 +139,6 @@ gathers_at (Some rank) birth me depth tag ranks g h =
       room = room;
     })
 
-pub gathers : (birth : BirthView) (me depth : ℕ) (tag : ℤ) (ranks : List ℤ) (g : GatheringView) → gathering birth me depth tag ranks ≡ Ok g → Gathers birth me depth g
+pub gathers : (birth : BirthView) (me depth : ℕ) (closed : Bool) (tag : ℤ) (ranks : List ℤ) (g : GatheringView) → gathering birth me depth closed tag ranks ≡ Ok g → Gathers birth me depth g
 unfolding gathering
-gathers birth me depth tag ranks g h = gathers_at (rank_in me birth.members) birth me depth tag ranks g h
+gathers birth me depth closed tag ranks g h = gathers_at (rank_in me birth.members) birth me depth closed tag ranks g h

@@ -13,7 +13,7 @@ use Rattle.mpx_num.specs.ItemList.{ItemList}
 use Rattle.mpx_num.specs.Operations.{fits}
 use Rattle.mpx_num.specs.Types.{item_len}
 use Rattle.mpx_kind.specs.declared.kinds.Kind.{Kind}
-use Rattle.mpx_kind.specs.declared.kinds.Kind.TheVariants.{Barrier, Bcast, Gather, Gatherv, Scatter, Scatterv, Allgather, Allgatherv, Alltoall, Alltoallv, Reduce, Allreduce, ReduceScatterBlock, ReduceScatter, Scan, Exscan, Dup, Split, Create, CreateGroup, DistGraph, DistGraphAdjacent, NeighborAllgather, NeighborAllgatherv, NeighborAlltoall, NeighborAlltoallv}
+use Rattle.mpx_kind.specs.declared.kinds.Kind.TheVariants.{Barrier, Bcast, Gather, Gatherv, Scatter, Scatterv, Allgather, Allgatherv, Alltoall, Alltoallv, Reduce, Allreduce, ReduceScatterBlock, ReduceScatter, Scan, Exscan, Dup, Split, Create, CreateGroup, DistGraph, DistGraphAdjacent, NeighborAllgather, NeighborAllgatherv, NeighborAlltoall, NeighborAlltoallv, Free}
 use Rattle.mpx_post.specs.Kinds.{fields_of}
 use Rattle.mpx_post.specs.Posts.{AreCounts, NoneUnless, few_items, most_counts, most_items}
 use Rattle.mpx_post.specs.Drafts.{is_count, is_rank, natural, naturals, where_had}
@@ -91,6 +91,7 @@ typed NeighborAllgather h = cc
 typed NeighborAllgatherv h = cc
 typed NeighborAlltoall h = cc
 typed NeighborAlltoallv h = cc
+typed Free h = cc
 
 type_where : (with_op with_items : Bool) (op : Op) (ty : Ty) (nums : List ℤ) → (with_op ≡ true → with_items ≡ true) → cond with_op (fits op ty) true ≡ true → option_map_or (λ o. fits o (option_map_or (λ (items : ItemList). items.ty) (where_had with_items (record { ty = ty; nums = nums })) I8)) (where_had with_op op) true ≡ true
 type_where true true op ty nums both h = h

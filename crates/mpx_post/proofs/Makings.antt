@@ -77,6 +77,7 @@ has_mode (C.Reduction reduction Nonblocking) = ap (may_be Nonblocking) (reductio
 has_mode (C.NewCommunicator new) = refl
 has_mode (C.Neighbourhood exchange Blocking) = refl
 has_mode (C.Neighbourhood exchange Nonblocking) = ap (may_be Nonblocking) (neighbourhood_family exchange)
+has_mode C.Free = refl
 
 -- MAKINGS
 

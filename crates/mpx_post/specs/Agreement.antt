@@ -7,7 +7,7 @@ use Rattle.mpx_num.specs.declared.types.Ty.{Ty}
 use Rattle.mpx_num.specs.ItemList.{ItemList}
 use Rattle.mpx_num.specs.Types.{item_len}
 use Rattle.mpx_kind.specs.declared.kinds.Kind.{Kind}
-use Rattle.mpx_kind.specs.declared.kinds.Kind.TheVariants.{Barrier, Bcast, Gather, Gatherv, Scatter, Scatterv, Allgather, Allgatherv, Alltoall, Alltoallv, Reduce, Allreduce, ReduceScatterBlock, ReduceScatter, Scan, Exscan, Dup, Split, Create, CreateGroup, DistGraph, DistGraphAdjacent, NeighborAllgather, NeighborAllgatherv, NeighborAlltoall, NeighborAlltoallv}
+use Rattle.mpx_kind.specs.declared.kinds.Kind.TheVariants.{Barrier, Bcast, Gather, Gatherv, Scatter, Scatterv, Allgather, Allgatherv, Alltoall, Alltoallv, Reduce, Allreduce, ReduceScatterBlock, ReduceScatter, Scan, Exscan, Dup, Split, Create, CreateGroup, DistGraph, DistGraphAdjacent, NeighborAllgather, NeighborAllgatherv, NeighborAlltoall, NeighborAlltoallv, Free}
 use Rattle.mpx_kind.specs.declared.kinds.Neighbourhood.{Neighbourhood}
 use Rattle.mpx_kind.specs.declared.kinds.Neighbourhood.TheVariants as H
 use Rattle.mpx_kind.specs.declared.kinds.Seat.{Seat}
@@ -143,6 +143,7 @@ AmountsAgree topology NeighborAllgather row rank given = AlongEdges H.Allgather 
 AmountsAgree topology NeighborAllgatherv row rank given = AlongEdges H.Allgatherv topology row rank given
 AmountsAgree topology NeighborAlltoall row rank given = AlongEdges H.Alltoall topology row rank given
 AmountsAgree topology NeighborAlltoallv row rank given = AlongEdges H.Alltoallv topology row rank given
+AmountsAgree topology Free row rank given = Unit {0}
 
 -- each member of the group that the post gives, if any, gives the same group (MPI 4.1 section 7.4.2)
 abbrev pub GroupsAgree : RowView → Given → Type 0

@@ -11,7 +11,7 @@ use Rattle.mpx_num.specs.declared.types.Ty.TheVariants.{I32}
 use Rattle.mpx_post.specs.declared.draft.At.{At}
 use Rattle.mpx_post.specs.declared.draft.Draft.{Draft}
 use Rattle.mpx_post.specs.declared.draft.PostError.{PostError}
-use Rattle.mpx_post.specs.declared.draft.PostError.TheVariants.{NotMember, RootOutOfRange, OpNotForType, CountsLength, ItemsLength, ItemOutOfRange, TooManyItems, NoTopology, CallsUsedUp, DepthUsedUp, BadGroup, BadEdge, TooManyEdges, BadTag, OutOfMemory}
+use Rattle.mpx_post.specs.declared.draft.PostError.TheVariants.{NotMember, Closed, RootOutOfRange, OpNotForType, CountsLength, ItemsLength, ItemOutOfRange, TooManyItems, NoTopology, CallsUsedUp, DepthUsedUp, BadGroup, BadEdge, TooManyEdges, BadTag, OutOfMemory}
 use Rattle.mpx_kind.specs.declared.kinds.Number.{Number}
 use Rattle.mpx_kind.specs.declared.kinds.Seat.{Seat}
 use Rattle.mpx_kind.specs.declared.kinds.Makes.{Makes}
@@ -44,9 +44,9 @@ most_calls = 4294967295
 abbrev pub most_steps : ℕ
 most_steps = 8
 
--- where the call with this number on this context stands
-abbrev pub at : Name → ℕ → At
-at name call = record { call = call; depth = length name; gathering = is_gathering name }
+-- where the call with this number on this context stands, for a process that has posted a free there or not
+abbrev pub at : Name → ℕ → (closed : Bool) → At
+at name call closed = record { call = call; depth = length name; closed = closed; gathering = is_gathering name }
 
 -- WHAT A DRAFT HAS. A field that its kind hasn't is not looked at.
 
@@ -278,12 +278,16 @@ refusal_of (Err e) = Some e
 abbrev pub checked_in : Seat → At → Draft → Result Given PostError
 checked_in seat at draft = unless (first_that_holds (refusals seat at draft)) (given_by draft)
 
-abbrev pub checked_at : Option ℕ → BirthView → At → Draft → Result Given PostError
-checked_at None birth at draft = Err NotMember
-checked_at (Some rank) birth at draft =
+-- what the draft of the member with this rank comes to, where it hasn't posted a free
+abbrev pub checked_as : (rank : ℕ) → BirthView → At → Draft → Result Given PostError
+checked_as rank birth at draft =
     cond (lacks_topology birth.topology (kind_of draft.call))
     (unless (first_that_holds (stray_refusals draft)) (given_by draft))
     (checked_in (drafted_seat birth rank draft) at draft)
+
+abbrev pub checked_at : Option ℕ → BirthView → At → Draft → Result Given PostError
+checked_at None birth at draft = Err NotMember
+checked_at (Some rank) birth at draft = cond at.closed (Err Closed) (checked_as rank birth at draft)
 
 -- what a draft comes to: its first refusal, or its post
 unfoldable pub checked : BirthView → ℕ → At → Draft → Result Given PostError

@@ -21,7 +21,7 @@ use Rattle.mpx_post.specs.declared.making.Making.TheVariants.{Nothing, Split, Gr
 use Rattle.mpx_birth.specs.declared.edges.Edge.{Edge}
 use Rattle.mpx_birth.specs.declared.edges.Neighbour.{Neighbour}
 use Rattle.mpx_post.specs.Graphs.{AreEdges, AreNeighbours}
-use Rattle.mpx_post.specs.Kinds.{family_of, fields_of, is_had, may_be}
+use Rattle.mpx_post.specs.Kinds.{family_of, fields_of, frees, is_had, may_be}
 
 -- what one member gives to one call: the kind with its fields
 pub record Given : Type 0 where
@@ -77,6 +77,10 @@ pub record IsMaking (makes : Makes) (making : Making) : Type 0 where
   pub within : IsWithin making
 
 -- READING A POST
+
+-- whether it frees its communicator
+abbrev pub is_free : Given → Bool
+is_free given = frees (family_of given.kind)
 
 -- the rank of the root, of a post that has one
 abbrev pub root_of : Given → ℕ

@@ -6,6 +6,7 @@ use Rattle.mpx_post.specs.declared.draft.PostError.TheVariants as R
 -- as a refusal prints
 abbrev pub refusal_name : PostError → List ℕ
 refusal_name R.NotMember = codes "NotMember"
+refusal_name R.Closed = codes "Closed"
 refusal_name R.RootOutOfRange = codes "RootOutOfRange"
 refusal_name R.OpNotForType = codes "OpNotForType"
 refusal_name R.CountsLength = codes "CountsLength"

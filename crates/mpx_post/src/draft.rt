@@ -59,18 +59,22 @@ pub struct At {
     pub call: u32,
     /// How many steps the name of its context has.
     pub depth: usize,
+    /// Whether the caller has posted a free on its context, behind which it posts no more there (`MPI_COMM_FREE`, MPI 4.1
+    /// section 7.4.3).
+    pub closed: bool,
     /// Whether its context is a gathering, on which only calls of `create_group` are made.
     pub gathering: bool,
 }
 
 impl At {
-    /// The call with this number on this context.
-    pub fn on(name: &Name, call: u32) -> At
-        ensures { result ≡ at name.now call }
+    /// The call with this number on this context, where the caller has posted a free or not.
+    pub fn on(name: &Name, call: u32, closed: bool) -> At
+        ensures { result ≡ at name.now call closed }
     {
         At {
             call,
             depth: name.depth(),
+            closed,
             gathering: name.is_gathering(),
         }
     }
@@ -81,6 +85,8 @@ impl At {
 pub enum PostError {
     /// The process is no member of the communicator.
     NotMember,
+    /// The process has posted a free there.
+    Closed,
     /// The root is no rank of the communicator.
     RootOutOfRange,
     /// The operation isn't defined on the type.
@@ -123,6 +129,9 @@ impl Draft {
         match birth.rank_of(me) {
             None => Err(PostError::NotMember),
             Some(rank) => {
+                if at.closed {
+                    return Err(PostError::Closed);
+                }
                 if self.lacks_topology(birth) {
                     return Err(self.stray_refusal());
                 }
@@ -132,7 +141,8 @@ impl Draft {
         }
     }
 
-    /// The same for the call with this number on the context with this name. No call has a post past the last.
+    /// The same for the call with this number on the context with this name, where the process has posted a free or not. No
+    /// call has a post past the last.
     pub fn check_call(
         self,
         alloc: Global,
@@ -140,11 +150,12 @@ impl Draft {
         me: Proc,
         name: &Name,
         call: u32,
+        closed: bool,
     ) -> Result<Post, PostError>
-        ensures value { Checks (checked birth.now me (at name.now call) self) result }
+        ensures value { Checks (checked birth.now me (at name.now call closed) self) result }
         ensures room { OnOk result (call < most_calls) }
     {
-        self.check(alloc, birth, me, &At::on(name, call))
+        self.check(alloc, birth, me, &At::on(name, call, closed))
     }
 
     /// The first reason why [`Draft::check`] would refuse this draft. It takes no memory.
@@ -154,6 +165,9 @@ impl Draft {
         match birth.rank_of(me) {
             None => Some(PostError::NotMember),
             Some(rank) => {
+                if at.closed {
+                    return Some(PostError::Closed);
+                }
                 if self.lacks_topology(birth) {
                     return Some(self.stray_refusal());
                 }

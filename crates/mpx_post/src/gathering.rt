@@ -36,20 +36,25 @@ impl Model for Gathering {
 
 impl Gathering {
     /// The gathering of the members with these ranks, or the first reason why a member may not open it below a
-    /// communicator whose name has so many steps: `NotMember`, `DepthUsedUp`, `BadGroup`, `BadTag`, `OutOfMemory`.
+    /// communicator whose name has so many steps, and where it has posted a free or not: `NotMember`, `Closed`,
+    /// `DepthUsedUp`, `BadGroup`, `BadTag`, `OutOfMemory`.
     pub fn check(
         alloc: Global,
         birth: &Birth,
         me: Proc,
         depth: usize,
+        closed: bool,
         tag: i128,
         ranks: &[i128],
     ) -> Result<Gathering, PostError>
-        ensures { ChecksGathering (gathering birth.now me depth tag ranks.now) result }
+        ensures { ChecksGathering (gathering birth.now me depth closed tag ranks.now) result }
     {
         let Some(_rank) = birth.rank_of(me) else {
             return Err(PostError::NotMember);
         };
+        if closed {
+            return Err(PostError::Closed);
+        }
         if 8 <= depth {
             return Err(PostError::DepthUsedUp);
         }

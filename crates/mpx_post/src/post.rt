@@ -4,7 +4,7 @@ ghost use Rattle.std.specs.Option.{option_copied, option_map};
 ghost use Rattle.mpx_num.specs.ItemList.{ItemList};
 ghost use Rattle.mpx_post.specs.Kinds.{fields_of};
 ghost use Rattle.mpx_post.specs.Ranks.{AreRanks};
-ghost use Rattle.mpx_post.specs.Posts.{AreCounts, Given, IsColour, IsPost, are_items_of, colour_of, count_of, destinations_of, edges_of, few_items, group_of, key_of, sources_of, weighted_of};
+ghost use Rattle.mpx_post.specs.Posts.{AreCounts, Given, IsColour, IsPost, are_items_of, colour_of, count_of, destinations_of, edges_of, few_items, group_of, is_free, key_of, sources_of, weighted_of};
 ghost use Rattle.mpx_post.specs.Equality.{same_option, same_items};
 ghost use Rattle.mpx_post.specs.Graphs.{AreEdges, AreNeighbours};
 
@@ -143,6 +143,13 @@ impl Post {
         ensures { result ≡ self.now.kind }
     {
         self.kind
+    }
+
+    /// Whether it frees its communicator.
+    pub fn is_free(&self) -> bool
+        ensures { result ≡ is_free self.now }
+    {
+        self.kind.frees()
     }
 
     /// Whether the call blocks.

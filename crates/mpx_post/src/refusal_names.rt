@@ -12,6 +12,7 @@ impl PostError {
     {
         match self {
             PostError::NotMember => "NotMember",
+            PostError::Closed => "Closed",
             PostError::RootOutOfRange => "RootOutOfRange",
             PostError::OpNotForType => "OpNotForType",
             PostError::CountsLength => "CountsLength",

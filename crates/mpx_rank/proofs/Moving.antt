@@ -1,12 +1,15 @@
 -- What moves leave of a rank.
-use Rattle.std.proofs.Common.{◌≡◌, ℕ, ◌+◌, ◌<◌, List, [], ◌∷◌, ◌++◌, Option, Some, None, length, map, refl, ap, ◌∙◌, arith}
+use Rattle.std.proofs.Common.{◌≡◌, ℕ, ◌+◌, ◌<◌, List, [], ◌∷◌, ◌++◌, Option, Some, None, length, map, refl, sym, ap, ◌∙◌, subst, arith}
 use Rattle.std.proofs.lemmas.List.{map-append}
 use Rattle.mpx_name.specs.Name.{Name}
+use Rattle.mpx_statement.specs.declared.statement.Question.{Question}
 use Rattle.mpx_statement.specs.declared.statement.Statement.{Statement}
-use Rattle.mpx_evaluation.specs.Ranks.{doing}
+use Rattle.mpx_statement.specs.declared.statement.Statement.TheVariants.{Ask}
+use Rattle.mpx_evaluation.specs.Ranks.{answered_by, doing}
 use Rattle.mpx_evaluation.specs.Standing.{WaitView, awaited, closed, todo_of}
+use Rattle.mpx_evaluation.specs.Transcripts.{line_text}
 use Rattle.mpx_rank.specs.Carriers.{Outcomes, Terms}
-use Rattle.mpx_rank.specs.Moves.{Move, RankView, left_of, asks, hears, is_refused, passes, posts, starts, wait_lines}
+use Rattle.mpx_rank.specs.Moves.{Move, RankView, answered, found_by, left_of, asks, hears, is_refused, passes, posts, starts, wait_lines}
 
 pub lines_push : {A : Type 0} (text_of : A → List ℕ) (lines new : List A) (line : A) (text : List ℕ) → new ≡ lines ++ line ∷ [] → text_of line ≡ text → map text_of new ≡ map text_of lines ++ text ∷ []
 lines_push text_of lines new line text e f = ap (map text_of) e ∙ map-append text_of lines (line ∷ []) ∙ ap (λ x. map text_of lines ++ x ∷ []) f
@@ -28,6 +31,12 @@ todo_length None rest = omega (arith, doing_length rest)
 pub wait_lines-length : (told : Outcomes) (requests : List ℕ → Option (Name × ℕ)) (words : List (List ℕ)) → length (wait_lines told requests words) ≡ length words
 wait_lines-length told requests [] = refl
 wait_lines-length told requests (word ∷ words) = omega (arith, wait_lines-length told (closed word requests) words)
+
+-- a question that is answered is a move, which leaves the carrier as it was
+pub asks_there : {C K : Type 0} (terms : Terms C K) (r : RankView K) (c d : C) (s : RankView K) (question : Question) (rest : List Statement) (text : List ℕ) → r.waits ≡ None → r.todo ≡ Ask question ∷ rest
+    → text ≡ line_text (answered_by r.me (found_by (terms.closes c r.me) (terms.knows c) r.bound) question) → answered r rest text ≡ s → d ≡ c → Move terms r c s d
+asks_there terms r c d s question rest text waits todo said is same =
+    subst (λ e. Move terms r c s e) (sym same) (subst (λ u. Move terms r c u c) is (asks question rest text waits todo said))
 
 -- less is left after a move
 pub move_leaves : {C K : Type 0} (terms : Terms C K) (r : RankView K) (c : C) (s : RankView K) (d : C) → Move terms r c s d → left_of s < left_of r

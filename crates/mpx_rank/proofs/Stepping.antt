@@ -1,6 +1,6 @@
 -- A rank whose communicators are names and births, and whose carrier tells what is known, makes the steps of its script.
-use Rattle.std.proofs.Common.{◌≡◌, ℕ, zero, suc, ◌+◌, Bool, true, List, [], ◌∷◌, ◌++◌, length, map, Option, Some, None, refl, sym, ap, ◌∙◌, subst, inl, inr}
-use Rattle.std.specs.Prelude.{Ok, Err, is_some, option_and_then, slice_get}
+use Rattle.std.proofs.Common.{◌≡◌, ℕ, zero, suc, ◌+◌, Bool, true, false, List, [], ◌∷◌, ◌++◌, length, map, Option, Some, None, refl, sym, ap, ◌∙◌, subst, inl, inr}
+use Rattle.std.specs.Prelude.{Ok, Err, is_some, slice_get}
 use Rattle.std.specs.Option.{option_map}
 use Rattle.std.proofs.lemmas.List.{map-append, append-nil}
 use Rattle.std.proofs.lemmas.Option.{same_Some}
@@ -8,14 +8,14 @@ use Rattle.mpx_name.specs.Name.{Name}
 use Rattle.mpx_post.specs.declared.draft.PostError.{PostError}
 use Rattle.mpx_post.specs.declared.draft.PostError.TheVariants.{OutOfMemory}
 use Rattle.mpx_value.specs.declared.outcomes.Outcome.{Outcome}
-use Rattle.mpx_value.specs.Histories.{Answer, Made, Results}
+use Rattle.mpx_value.specs.Histories.{Answer, Made, Results, has_freed}
 use Rattle.mpx_statement.specs.declared.statement.Posting.{Posting}
 use Rattle.mpx_statement.specs.declared.statement.Question.{Question}
 use Rattle.mpx_statement.specs.declared.statement.Statement.{Statement}
 use Rattle.mpx_statement.specs.declared.statement.Statement.TheVariants.{Post, Wait, Ask}
 use Rattle.mpx_statement.specs.Statements.{bound_to, posted_on, started_as}
 use Rattle.mpx_statement.specs.Lookups.{named}
-use Rattle.mpx_evaluation.specs.Ranks.{Act, Communicator, Do, Line, Local, Refused, Todo, Told, answered as answer_line, answered_by, answers, attempt, awaited_by, bind, bound_by, communicator_of, doing, done, next_call, origins_of, step, waited_lines}
+use Rattle.mpx_evaluation.specs.Ranks.{Act, Communicator, Do, Line, Local, Refused, Todo, Told, answered as answer_line, answered_by, answers, attempt, awaited_by, bind, bound_by, communicator_of, doing, done, found_of, next_call, origins_of, step, waited_lines}
 use Rattle.mpx_evaluation.specs.Going.{Goes, stays as stays_there, moves}
 use Rattle.mpx_evaluation.specs.Standing.{WaitView, awaited, binds, todo_of}
 use Rattle.mpx_evaluation.specs.Transcripts.{line_text, outcome_text}
@@ -24,11 +24,11 @@ use Rattle.mpx_evaluation.proofs.Standing.{named_behind, named_without_all}
 use Rattle.mpx_evaluation.proofs.Steps as S
 use Rattle.mpx_evaluation.proofs.Passing.{answer_no_call}
 use Rattle.mpx_rank.specs.Carriers.{IsWithin, Terms, outcomes_of}
-use Rattle.mpx_rank.specs.Moves.{GoesOn, Move, Ran, RankView, Still, answered, are_done, asks, communicator_in, has_ended, heard, hears, is_refused, moved_on, passes, passes_not, posted, posts, posts_not, refused, started, starts, stayed, wait_lines, waited, waits_on}
+use Rattle.mpx_rank.specs.Moves.{GoesOn, Move, Ran, RankView, Still, answered, are_done, asks, communicator_in, found_by, has_ended, heard, hears, is_refused, moved_on, passes, passes_not, posted, posts, posts_not, refused, started, starts, stayed, wait_lines, waited, waits_on}
 use Rattle.mpx_rank.specs.Places.{CommunicatorView, Stands, attempt_by, bound_as}
 use Rattle.mpx_rank.proofs.Moving.{todo_length, wait_lines-length}
 use Rattle.mpx_rank.proofs.Telling.{all_done_later, lines_later, wait_tells}
-use Rattle.mpx_rank.proofs.Words.{answers_done, attempt_same, bound_behind, bound_there, communicator_same, lines_told}
+use Rattle.mpx_rank.proofs.Words.{answers_done, attempt_same, bound_behind, bound_there, communicator_same, found_behind, lines_told}
 
 some_there : {A : Type 0} (o : Option A) → is_some o ≡ true → (x : A) × (o ≡ Some x)
 some_there None e = cc e
@@ -41,13 +41,15 @@ abbrev pub IsOn : Local → Posting → Option CommunicatorView → Type 0
 IsOn s posting on = (c : CommunicatorView) → on ≡ Some c → named s.bound (posted_on posting) ≡ Some (Communicator c.0 c.1)
 
 -- what is said to the rank `me`, which stands there, by a carrier that fits it there: what it hears of others fits too; what it
--- tells is known; the communicator that a call gave is that of the known answer; a communicator is known; and what is tried of
--- the next statement comes to what the statement comes to. After a step of the rank the carrier fits as After says
+-- tells is known; the communicator that a call gave is that of the known answer; a communicator is closed where the rank has
+-- freed it, else known; and what is tried of the next statement comes to what the statement comes to. After a step of the rank
+-- the carrier fits as After says
 pub record GoesBy {C : Type 0} (terms : Terms C CommunicatorView) (known : Results) (me : ℕ) (s : Local) (Fits : C → Type 0) (After : Local → C → Type 0) : Type 0 where
   pub hears : (c d : C) → Fits c → terms.hears c d → Fits d
   pub tells : (c : C) → Fits c → IsWithin (terms.tells c me) (outcomes_of known)
   pub gives : (c : C) → Fits c → (name : Name) (call : ℕ) (to : Option CommunicatorView) → terms.gives c me name call to → (answer : Answer) × (known name call ≡ Some answer) × (bound_as to ≡ bound_by answer.outcome answer.born)
-  pub knows : (c : C) → Fits c → (communicator : CommunicatorView) → terms.knows c communicator ≡ Some communicator
+  pub closes : (c : C) → Fits c → (communicator : CommunicatorView) → terms.closes c me communicator ≡ has_freed communicator.0 s.made
+  pub knows : (c : C) → Fits c → (communicator : CommunicatorView) → terms.closes c me communicator ≡ false → terms.knows c communicator ≡ Some communicator
   pub quiet : (c : C) → Fits c → (t : Local) → step known s ≡ Some t → t.made ≡ s.made → After t c
   pub posts : (c d : C) → Fits c → (posting : Posting) (rest : List Todo) → s.todo ≡ Do (Post posting) ∷ rest → (on : Option CommunicatorView) → IsOn s posting on
       → (name : Name) (call : ℕ) → terms.tries c me posting on (Ok (Some (name, call))) d
@@ -139,21 +141,18 @@ module _ {C : Type 0} (terms : Terms C CommunicatorView) (known : Results) (r : 
       (λ stay. one_line a d (Told w.name w.call answer.outcome) refl (λ name call o is. let now : terms.tells d r.me w.name w.call ≡ Some answer.outcome = tells ∙ ap Some (sym same) in cc (is, now)))
 
   -- its question is answered
-  asks_steps : (c : C) → Fits c → (question : Question) (rest : List Statement) (text : List ℕ) → r.waits ≡ None → r.todo ≡ Ask question ∷ rest → text ≡ line_text (answered_by r.me (λ word. option_and_then (terms.knows c) (communicator_in (r.bound word))) question)
+  asks_steps : (c : C) → Fits c → (question : Question) (rest : List Statement) (text : List ℕ) → r.waits ≡ None → r.todo ≡ Ask question ∷ rest → text ≡ line_text (answered_by r.me (found_by (terms.closes c r.me) (terms.knows c) r.bound) question)
       → Stepped terms known r.me s c After (answered r rest text) c
   asks_steps c fits question rest text waits todo said =
-      let there : (word : List ℕ) → option_and_then (terms.knows c) (communicator_in (r.bound word)) ≡ communicator_of (named s.bound word) = λ word. known_there (communicator_in (r.bound word)) ∙ sym (communicator_same (r.bound word)) ∙ ap communicator_of (stands.bound word) in
-      let line : answered_by r.me (λ word. option_and_then (terms.knows c) (communicator_in (r.bound word))) question ≡ answer_line s.me s.bound question = λ i. answered_by (sym local_me i) (λ word. there word i) question in
+      let there : (word : List ℕ) → found_by (terms.closes c r.me) (terms.knows c) r.bound word ≡ found_of s.made (named s.bound word) = λ word. found_behind s.made (terms.closes c r.me) (terms.knows c) (by.closes c fits) (by.knows c fits) (r.bound word) ∙ ap (found_of s.made) (stands.bound word) in
+      let line : answered_by r.me (found_by (terms.closes c r.me) (terms.knows c) r.bound) question ≡ answer_line s.me s.bound s.made question = λ i. answered_by (sym local_me i) (λ word. there word i) question in
       let a : Act = S.told_at_once s question (doing rest) in
       let e : step known s ≡ Some (done s a) = S.step_asks known s question (doing rest) (todo_is None (Ask question ∷ rest) waits todo) in
       stepped c c (answered r rest text) a e
-      (record { bound = stands.bound; requests = stands.requests; todo = refl; lines = line_so text (answer_line s.me s.bound question) (said ∙ ap line_text line); origins = origins_so 1 1 refl })
+      (record { bound = stands.bound; requests = stands.requests; todo = refl; lines = line_so text (answer_line s.me s.bound s.made question) (said ∙ ap line_text line); origins = origins_so 1 1 refl })
       (by.quiet c fits (done s a) e (append-nil s.made))
       (λ stay name call outcome told. told)
-      (λ stay. one_line a c (answer_line s.me s.bound question) refl (λ name call outcome is. absurd (answer_no_call name call outcome s.me (λ word. communicator_of (named s.bound word)) question is))) where
-        known_there : (o : Option CommunicatorView) → option_and_then (terms.knows c) o ≡ o
-        known_there None = refl
-        known_there (Some k) = by.knows c fits k
+      (λ stay. one_line a c (answer_line s.me s.bound s.made question) refl (λ name call outcome is. absurd (answer_no_call name call outcome s.me (λ word. found_of s.made (named s.bound word)) question is)))
 
   -- it passes a wait
   passes_steps : (c mid d : C) → Fits c → (words : List (List ℕ)) (rest : List Statement) → r.waits ≡ None → r.todo ≡ Wait words ∷ rest → terms.hears c mid → are_done (terms.tells mid r.me) r.requests words ≡ true → terms.hears mid d

@@ -5,14 +5,16 @@ use Rattle.std.specs.List.{list_all}
 use Rattle.std.specs.Option.{option_map}
 use Rattle.std.proofs.lemmas.Option.{option_and_then_some, same_Some}
 use Rattle.mpx_name.specs.Name.{Name}
-use Rattle.mpx_value.specs.Histories.{Answer, Made, Results}
+use Rattle.mpx_value.specs.Histories.{Answer, Made, Results, has_freed}
 use Rattle.mpx_statement.specs.declared.statement.Posting.{Posting}
 use Rattle.mpx_statement.specs.Lookups.{named}
-use Rattle.mpx_evaluation.specs.Ranks.{Bindings, Bound, Communicator, NullCommunicator, Requests, Idle, answers, attempt_on, awaited_by, awaited_then, bind, communicator_of, line_then, waited_lines, without}
+use Rattle.mpx_evaluation.specs.declared.asking.Found.{Found}
+use Rattle.mpx_evaluation.specs.declared.asking.Found.TheVariants as W
+use Rattle.mpx_evaluation.specs.Ranks.{Bindings, Bound, Communicator, NullCommunicator, Requests, Idle, answers, attempt_on, awaited_by, awaited_then, bind, communicator_of, found_as, found_of, line_then, open_or_null, waited_lines, without}
 use Rattle.mpx_evaluation.specs.Standing.{binds, closed}
 use Rattle.mpx_evaluation.proofs.Standing.{binds_seen, named_behind, named_without, same_word}
 use Rattle.mpx_rank.specs.Carriers.{outcomes_of}
-use Rattle.mpx_rank.specs.Moves.{are_done, communicator_in, is_done, request_line, told_line, wait_lines}
+use Rattle.mpx_rank.specs.Moves.{are_done, communicator_in, found_in, is_done, request_line, told_line, wait_lines}
 use Rattle.mpx_rank.specs.Places.{CommunicatorView, attempt_by, bound_as}
 use Rattle.mpx_post.proofs.Lists.{is_some-all_of}
 
@@ -39,6 +41,30 @@ pub attempt_same : (me : ℕ) (made : List Made) (posting : Posting) (b : Option
 attempt_same me made posting None = refl
 attempt_same me made posting (Some NullCommunicator) = refl
 attempt_same me made posting (Some (Communicator name birth)) = refl
+
+-- what it stands for where it is asked about
+
+abbrev found_at : List Made → Option CommunicatorView → Found CommunicatorView
+found_at made None = W.Null
+found_at made (Some c) = found_as (has_freed c.0 made) (Some c)
+
+found_same : (made : List Made) (o : Option (Option CommunicatorView)) → found_at made (communicator_in o) ≡ found_of made (option_map bound_as o)
+found_same made None = refl
+found_same made (Some None) = refl
+found_same made (Some (Some c)) = refl
+
+-- by one who says of a communicator that the rank freed it where it did, and who knows those that it didn't free
+module _ (made : List Made) (closes : CommunicatorView → Bool) (knows : CommunicatorView → Option CommunicatorView) (closed_so : (c : CommunicatorView) → closes c ≡ has_freed c.0 made) (known_so : (c : CommunicatorView) → closes c ≡ false → knows c ≡ Some c) where
+  found_known : (c : CommunicatorView) (freed : Bool) → closes c ≡ freed → found_as freed (knows c) ≡ found_as freed (Some c)
+  found_known c true e = refl
+  found_known c false e = ap open_or_null (known_so c e)
+
+  found_there : (o : Option CommunicatorView) → found_in closes knows o ≡ found_at made o
+  found_there None = refl
+  found_there (Some c) = found_known c (closes c) refl ∙ ap (λ freed. found_as freed (Some c)) (closed_so c)
+
+  pub found_behind : (o : Option (Option CommunicatorView)) → found_in closes knows (communicator_in o) ≡ found_of made (option_map bound_as o)
+  found_behind o = found_there (communicator_in o) ∙ found_same made o
 
 -- WAITS
 

@@ -16,12 +16,14 @@ abbrev pub Outcomes : Type 0
 Outcomes = Name → (call : ℕ) → Option Outcome
 
 -- what a carrier of this type says, whose communicators are of that one: the outcomes that it tells a rank; which communicator
--- a rank's call gave; a communicator's name and how it came to be, as far as it knows; what it asks of a rank's statement that
--- posts on a communicator, and what comes of that, where Ok None is: not now; and that it has heard of others, at most
+-- a rank's call gave; a communicator's name and how it came to be, as far as it knows; whether a rank has posted a free there;
+-- what it asks of a rank's statement that posts on a communicator, and what comes of that, where Ok None is: not now; and that
+-- it has heard of others, at most
 pub record Terms (C K : Type 0) : Type 1 where
   pub tells : C → (me : ℕ) → Outcomes
   pub gives : C → (me : ℕ) → Name → (call : ℕ) → Option K → Type 0
   pub knows : C → K → Option (Name × BirthView)
+  pub closes : C → (me : ℕ) → K → Bool
   pub may : C → (me : ℕ) → Posting → Option K → Type 0
   pub tries : C → (me : ℕ) → Posting → Option K → Result (Option (Name × ℕ)) PostError → C → Type 0
   pub hears : C → C → Type 0

@@ -1,5 +1,5 @@
 -- Where a rank stands in its statements, and what its moves do.
-use Rattle.std.specs.Prelude.{◌≡◌, ℕ, ◌+◌, ◌*◌, Bool, true, false, ◌||◌, cond, is_some, codes, bytes_eq, List, [], ◌∷◌, ◌++◌, length, map, Option, Some, None, option_and_then, Ok, Err}
+use Rattle.std.specs.Prelude.{◌≡◌, ℕ, ◌+◌, ◌*◌, Bool, true, false, ◌||◌, cond, is_some, codes, bytes_eq, List, [], ◌∷◌, ◌++◌, length, map, Option, Some, None, Ok, Err}
 use Rattle.std.specs.List.{list_all}
 use Rattle.mpx_name.specs.Name.{Name}
 use Rattle.mpx_post.specs.Births.{BirthView}
@@ -12,7 +12,9 @@ use Rattle.mpx_statement.specs.declared.statement.Statement.{Statement}
 use Rattle.mpx_statement.specs.declared.statement.Statement.TheVariants.{Post, Wait, Ask}
 use Rattle.mpx_statement.specs.Statements.{bound_to, posted_on, started_as}
 use Rattle.mpx_evaluation.specs.declared.origin.Origin.{Origin}
-use Rattle.mpx_evaluation.specs.Ranks.{Line, Told, Refused, Idle, answered_by, origins_of}
+use Rattle.mpx_evaluation.specs.declared.asking.Found.{Found}
+use Rattle.mpx_evaluation.specs.declared.asking.Found.TheVariants as W
+use Rattle.mpx_evaluation.specs.Ranks.{Line, Told, Refused, Idle, answered_by, found_as, origins_of}
 use Rattle.mpx_evaluation.specs.Standing.{WaitView, awaited, binds, closed, closed_all, has_statements}
 use Rattle.mpx_evaluation.specs.Transcripts.{line_text, outcome_text}
 use Rattle.mpx_rank.specs.Carriers.{Outcomes, Terms, is_told}
@@ -35,9 +37,21 @@ abbrev pub communicator_in : {K : Type 0} → Option (Option K) → Option K
 communicator_in None = None
 communicator_in (Some to) = to
 
--- that communicator by its name, and how it came to be, as far as that is known
-abbrev pub known_by : {K : Type 0} → (K → Option (Name × BirthView)) → (List ℕ → Option (Option K)) → List ℕ → Option (Name × BirthView)
-known_by knows bound word = option_and_then knows (communicator_in (bound word))
+-- whether the rank has freed that communicator
+abbrev pub closed_by : {K : Type 0} → (K → Bool) → Option K → Bool
+closed_by closes None = false
+closed_by closes (Some k) = closes k
+
+-- what the word stands for that is asked about, by whether the rank has freed it, and by what is known of it
+abbrev pub found_with : {K : Type 0} → (freed : Bool) → (K → Option (Name × BirthView)) → Option K → Found (Name × BirthView)
+found_with freed knows None = W.Null
+found_with freed knows (Some k) = found_as freed (knows k)
+
+abbrev pub found_in : {K : Type 0} → (closes : K → Bool) → (knows : K → Option (Name × BirthView)) → Option K → Found (Name × BirthView)
+found_in closes knows o = found_with (closed_by closes o) knows o
+
+abbrev pub found_by : {K : Type 0} → (closes : K → Bool) → (knows : K → Option (Name × BirthView)) → (List ℕ → Option (Option K)) → List ℕ → Found (Name × BirthView)
+found_by closes knows bound word = found_in closes knows (communicator_in (bound word))
 
 -- before any statement `world` alone is bound, if any word is
 abbrev pub bound_first : {K : Type 0} → Option K → List ℕ → Option (Option K)
@@ -123,7 +137,8 @@ answered r rest text = record { me = r.me; bound = r.bound; requests = r.request
 
 -- one move of a rank, and what its carrier does for it: it hears the outcome that it waits for; or it does its next statement.
 -- One that posts is posted, and then its outcome is awaited or its request is open, or it is refused; a wait is passed once
--- all calls of its requests are done; and a question is answered by what the carrier knows of communicators
+-- all calls of its requests are done; and a question is answered by what the carrier knows of communicators, and by which of
+-- them the rank has freed
 pub data Move {C K : Type 0} (terms : Terms C K) : RankView K → C → RankView K → C → Type 0 where
   hears : {r : RankView K} {c d : C} (w : WaitView) (outcome : Outcome) (text : List ℕ) (to : Option K) → r.waits ≡ Some w
       → terms.hears c d → terms.tells d r.me w.name w.call ≡ Some outcome → text ≡ outcome_text outcome → terms.gives d r.me w.name w.call to
@@ -141,7 +156,7 @@ pub data Move {C K : Type 0} (terms : Terms C K) : RankView K → C → RankView
       → terms.hears c mid → are_done (terms.tells mid r.me) r.requests words ≡ true → terms.hears mid d
       → Move terms r c (waited r words rest (terms.tells mid r.me)) d
   asks : {r : RankView K} {c : C} (question : Question) (rest : List Statement) (text : List ℕ) → r.waits ≡ None → r.todo ≡ Ask question ∷ rest
-      → text ≡ line_text (answered_by r.me (known_by (terms.knows c) r.bound) question)
+      → text ≡ line_text (answered_by r.me (found_by (terms.closes c r.me) (terms.knows c) r.bound) question)
       → Move terms r c (answered r rest text) c
 
 -- there is no move: nothing is left; or the outcome that it waits for isn't told, or not that of each request of a wait; or its

@@ -1,15 +1,14 @@
 //! Statements that are answered at once.
 ghost use Rattle.std.specs.Prelude.{◌≡◌, IfOk, string_bytes};
-ghost use Rattle.std.specs.Option.{option_copied, option_map};
 ghost use Rattle.mpx_evaluation.specs.Transcripts.{line_text};
-ghost use Rattle.mpx_evaluation.specs.Ranks.{answered_by, birth_in};
+ghost use Rattle.mpx_evaluation.specs.Ranks.{answered_by, found_map};
 ghost use Rattle.mpx_evaluation.specs.Standing.{looked_up};
-ghost use Rattle.mpx_rank.specs.Moves.{known_by};
+ghost use Rattle.mpx_rank.specs.Moves.{closed_by, communicator_in, found_by, found_with};
 
 use crate::carrier::Carrier;
 use crate::rank::communicator;
 use join_core::OutOfMemory;
-use mpx_evaluation::{comparison_answer, neighbours_answer, translation_answer};
+use mpx_evaluation::{Found, comparison_answer, neighbours_answer, translation_answer};
 use mpx_group::Proc;
 use mpx_name::Name;
 use mpx_post::Birth;
@@ -17,53 +16,78 @@ use mpx_statement::{Question, Word};
 use std::alloc::Global;
 use std::collections::BTreeMap;
 
-/// The line that answers a question of a rank, by what its words are bound to and what the carrier knows of that.
+/// The line that answers a question of a rank, by what its words are bound to, what the carrier knows of that, and what of it the
+/// rank has freed.
 pub(crate) fn answer<C: Carrier>(
     alloc: Global,
-    carrier: &C,
+    carrier: &mut C,
     me: Proc,
     bound: &BTreeMap<Word, Option<C::Communicator>>,
     question: &Question,
 ) -> Result<String, OutOfMemory>
-    ensures { IfOk result (λ text. string_bytes text ≡ line_text (answered_by me (known_by (C.terms.knows carrier.now) (looked_up bound.now)) question.now)) }
+    ensures line { IfOk result (λ text. string_bytes text ≡ line_text (answered_by me (found_by (C.terms.closes carrier.old me) (C.terms.knows carrier.old) (looked_up bound.now)) question.now)) }
+    ensures same { carrier.new ≡ carrier.old }
 {
     match question {
         Question::Neighbours { on, side } => {
-            neighbours_answer(alloc, me, *side, birth_of(carrier, bound, on))
+            let freed = is_freed(carrier, me, bound, on);
+            neighbours_answer(alloc, me, *side, stands_for(carrier, bound, on, freed))
         }
-        Question::Compare { first, second } => comparison_answer(
-            alloc,
-            known(carrier, bound, first),
-            known(carrier, bound, second),
-        ),
-        Question::Translate { from, to, ranks } => translation_answer(
-            alloc,
-            ranks.as_slice(),
-            birth_of(carrier, bound, from),
-            birth_of(carrier, bound, to),
-        ),
+        Question::Compare { first, second } => {
+            let freed = is_freed(carrier, me, bound, first);
+            let second_freed = is_freed(carrier, me, bound, second);
+            comparison_answer(
+                alloc,
+                stands_for(carrier, bound, first, freed),
+                stands_for(carrier, bound, second, second_freed),
+            )
+        }
+        Question::Translate { from, to, ranks } => {
+            let freed = is_freed(carrier, me, bound, from);
+            let to_freed = is_freed(carrier, me, bound, to);
+            translation_answer(
+                alloc,
+                ranks.as_slice(),
+                stands_for(carrier, bound, from, freed),
+                stands_for(carrier, bound, to, to_freed),
+            )
+        }
     }
 }
 
-// The communicator that a word is bound to, and how it came to be, as far as the carrier knows.
-fn known<'m, C: Carrier>(
-    carrier: &'m C,
-    bound: &'m BTreeMap<Word, Option<C::Communicator>>,
+// Whether the rank has freed the communicator that a word is bound to, where it is one.
+fn is_freed<C: Carrier>(
+    carrier: &mut C,
+    me: Proc,
+    bound: &BTreeMap<Word, Option<C::Communicator>>,
     word: &Word,
-) -> Option<(&'m Name, &'m Birth)>
-    ensures { option_map (λ c. (c.0.now, c.1.now)) result ≡ known_by (C.terms.knows carrier.now) (looked_up bound.now) word.now }
+) -> bool
+    ensures freed { result ≡ closed_by (C.terms.closes carrier.old me) (communicator_in (looked_up bound.now word.now)) }
+    ensures same { carrier.new ≡ carrier.old }
 {
-    carrier.known(communicator(bound, word)?)
+    match communicator(bound, word) {
+        Some(communicator) => carrier.is_closed(me, communicator),
+        None => false,
+    }
 }
 
-// How it came to be.
-fn birth_of<'m, C: Carrier>(
+// What a word stands for, whose communicator the rank has freed or not.
+fn stands_for<'m, C: Carrier>(
     carrier: &'m C,
     bound: &'m BTreeMap<Word, Option<C::Communicator>>,
     word: &Word,
-) -> Option<&'m Birth>
-    ensures { option_copied result ≡ birth_in (known_by (C.terms.knows carrier.now) (looked_up bound.now) word.now) }
+    freed: bool,
+) -> Found<(&'m Name, &'m Birth)>
+    ensures { found_map (λ c. (c.0.now, c.1.now)) result ≡ found_with freed (C.terms.knows carrier.now) (communicator_in (looked_up bound.now word.now)) }
 {
-    let (_, birth) = known(carrier, bound, word)?;
-    Some(birth)
+    let Some(communicator) = communicator(bound, word) else {
+        return Found::Null;
+    };
+    if freed {
+        return Found::Freed;
+    }
+    match carrier.known(communicator) {
+        Some(known) => Found::Open(known),
+        None => Found::Null,
+    }
 }

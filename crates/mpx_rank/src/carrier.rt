@@ -70,6 +70,11 @@ pub trait Carrier: Drop {
     fn known<'m>(&'m self, communicator: &'m Self::Communicator) -> Option<(&'m Name, &'m Birth)>
         ensures { option_map (λ c. (c.0.now, c.1.now)) result ≡ terms.knows self.now communicator.now };
 
+    /// Whether the rank has posted a free on the communicator.
+    fn is_closed(&mut self, me: Proc, communicator: &Self::Communicator) -> bool
+        ensures closed { result ≡ terms.closes self.old me communicator.now }
+        ensures same { self.new ≡ self.old };
+
     /// It may have heard nothing.
     ghost hears_nothing: { (c : Self) → terms.hears c c };
 

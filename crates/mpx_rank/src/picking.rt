@@ -1,15 +1,15 @@
-//! Numbers of ranks, picked by a test.
+//! What is picked by a test, as numbers of ranks.
 ghost use Rattle.std.specs.Prelude.{◌≡◌, ◌++◌, ◌∷◌, [], OnOk, cond};
 
 use join_core::OutOfMemory;
 
-/// Adds the rank where the test holds.
-pub fn push_where(ranks: &mut Vec<u8>, rank: u8, test: bool) -> Result<(), OutOfMemory>
-    ensures { OnOk result (ranks.new.items ≡ ranks.old.items ++ cond test (rank ∷ []) []) }
+/// Adds the item where the test holds.
+pub fn push_where<T: Drop>(items: &mut Vec<T>, item: T, test: bool) -> Result<(), OutOfMemory>
+    ensures { OnOk result (items.new.items ≡ items.old.items ++ cond test (item ∷ []) []) }
 {
     if !test {
         return Ok(());
     }
-    ranks.push(rank)?;
+    items.push(item)?;
     Ok(())
 }

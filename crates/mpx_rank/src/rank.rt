@@ -295,13 +295,13 @@ impl<'a, C: Carrier> Rank<'a, C> {
     fn ask_next(
         &mut self,
         alloc: Global,
-        carrier: &C,
+        carrier: &mut C,
         question: &Question,
         rest: &'a [Statement],
     ) -> Result<(), OutOfMemory>
         requires waits { (rank_of C.place self.old).waits ≡ None }
         requires todo { (rank_of C.place self.old).todo ≡ Ask question.now ∷ rest.now }
-        ensures { OnOk result (Moves C.terms (rank_of C.place self.old) carrier.now (rank_of C.place self.new) carrier.now true) }
+        ensures { OnOk result (Moves C.terms (rank_of C.place self.old) carrier.old (rank_of C.place self.new) carrier.new true) }
     {
         let text = answer(alloc, carrier, self.me, &self.bound, question)?;
         self.lines.push(text)?;

@@ -9,7 +9,7 @@ use Rattle.mpx_kind.specs.declared.kinds.Kind.{Kind}
 use Rattle.mpx_kind.specs.declared.kinds.Mode.TheVariants.{Nonblocking}
 use Rattle.mpx_kind.specs.declared.kinds.Neighbourhood.TheVariants as H
 use Rattle.mpx_kind.specs.declared.kinds.Reduction.TheVariants as R
-use Rattle.mpx_kind.specs.declared.kinds.Kind.TheVariants.{Barrier, Bcast, Gatherv, Scatterv, Allreduce, ReduceScatter, Dup, Split, Create, DistGraph, DistGraphAdjacent, NeighborAlltoall, NeighborAlltoallv}
+use Rattle.mpx_kind.specs.declared.kinds.Kind.TheVariants.{Barrier, Bcast, Gatherv, Scatterv, Allreduce, ReduceScatter, Dup, Split, Create, DistGraph, DistGraphAdjacent, NeighborAlltoall, NeighborAlltoallv, Free}
 use Rattle.mpx_post.specs.declared.draft.Draft.{Draft}
 use Rattle.mpx_post.specs.declared.drafted_edges.DraftedEdge.{DraftedEdge}
 use Rattle.mpx_post.specs.declared.drafted_edges.DraftedNeighbour.{DraftedNeighbour}
@@ -142,6 +142,10 @@ record Examples : Type 0 where
   tag_and_list : reading (alone (codes "0: create_group world 1,2 x -> a")) ≡ refused_at 2 BadNumber
   strange_rank : reading (alone (codes "0: create_group world 1 0,x -> a")) ≡ refused_at 2 BadList
   strange_name : reading (alone (codes "0: dup nope -> Zz")) ≡ refused_at 2 BadName
+  freed : reading (alone (codes "0: free world")) ≡ says (blank Free)
+  nonblocking_free : reading (alone (codes "0: ifree world -> r")) ≡ refused_at 2 UnknownStatement
+  word_behind_free : reading (alone (codes "0: free world 1")) ≡ refused_at 2 WrongWords
+  bound_behind_free : reading (script (codes "ranks 1" ∷ codes "0: dup world -> a" ∷ codes "0: free a" ∷ codes "0: dup world -> a" ∷ [])) ≡ refused_at 4 NameTaken
   counts_of_neighbours : reading (alone (codes "0: neighbor_alltoall world i32 1 2 5")) ≡ says (record (blank NeighborAlltoall) { ty = I32; scounts = pos 1 ∷ []; rcounts = pos 2 ∷ []; items = pos 5 ∷ [] })
   lists_of_neighbours : reading (alone (codes "0: neighbor_alltoallv world i32 1,0 - 5")) ≡ says (record (blank NeighborAlltoallv) { ty = I32; scounts = pos 1 ∷ pos 0 ∷ []; items = pos 5 ∷ [] })
   list_for_a_send_count : reading (alone (codes "0: neighbor_alltoall world i32 1,0 x 5")) ≡ refused_at 2 BadNumber
@@ -232,6 +236,10 @@ examples = record {
   tag_and_list = refl;
   strange_rank = refl;
   strange_name = refl;
+  freed = refl;
+  nonblocking_free = refl;
+  word_behind_free = refl;
+  bound_behind_free = refl;
   counts_of_neighbours = refl;
   lists_of_neighbours = refl;
   list_for_a_send_count = refl;

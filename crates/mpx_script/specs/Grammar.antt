@@ -74,6 +74,7 @@ kind_named word = named (
     ∷ (codes "neighbor_allgatherv", K.NeighborAllgatherv)
     ∷ (codes "neighbor_alltoall", K.NeighborAlltoall)
     ∷ (codes "neighbor_alltoallv", K.NeighborAlltoallv)
+    ∷ (codes "free", K.Free)
     ∷ []) word
 
 -- the kind, if there are nonblocking calls of it
@@ -116,6 +117,7 @@ shape_in (F.Exchange exchange) = record { colour = false; tag = false; ranks = f
 shape_in (F.Reduction reduction) = record { colour = false; tag = false; ranks = false; edges = false; neighbours = false; target = false }
 shape_in (F.NewCommunicator new) = shape_of_new new
 shape_in (F.Neighbourhood exchange) = record { colour = false; tag = false; ranks = false; edges = false; neighbours = false; target = false }
+shape_in F.Free = record { colour = false; tag = false; ranks = false; edges = false; neighbours = false; target = false }
 
 abbrev pub shape_of : Kind → Shape
 shape_of kind = shape_in (family_of kind)
@@ -148,3 +150,4 @@ call_with mode (F.Exchange exchange) = C.Exchange exchange mode
 call_with mode (F.Reduction reduction) = C.Reduction reduction mode
 call_with mode (F.NewCommunicator new) = C.NewCommunicator new
 call_with mode (F.Neighbourhood exchange) = C.Neighbourhood exchange mode
+call_with mode F.Free = C.Free

@@ -91,6 +91,7 @@ posting_of (F.Exchange exchange) mode on draft tag target request = call_posted 
 posting_of (F.Reduction reduction) mode on draft tag target request = call_posted mode on draft request
 posting_of (F.NewCommunicator new) mode on draft tag target request = new_posted new on draft tag target
 posting_of (F.Neighbourhood exchange) mode on draft tag target request = call_posted mode on draft request
+posting_of F.Free mode on draft tag target request = call_posted mode on draft request
 
 abbrev pub posting_said : Kind → Mode → Option (List ℕ) → NewSyntax → CallSyntax → Posting
 posting_said kind mode communicator new call = posting_of (family_of kind) mode (unwrap_or communicator []) (draft_in kind mode new call) (said number_of (pos 0) new.tag) (unwrap_or new.target []) (unwrap_or call.request [])

@@ -114,6 +114,7 @@ const KINDS: &[(&[u8], Kind)] = &[
     (b"neighbor_allgatherv", Kind::NeighborAllgatherv),
     (b"neighbor_alltoall", Kind::NeighborAlltoall),
     (b"neighbor_alltoallv", Kind::NeighborAlltoallv),
+    (b"free", Kind::Free),
 ];
 
 /// The kind of call of a statement's word.
@@ -132,10 +133,10 @@ fn started_named(word: &[u8]) -> Option<Kind>
     match word {
         [b'i', blocking @ ..] => {
             let kind = kind_named(blocking)?;
-            if kind.makes_communicators() {
-                None
-            } else {
+            if kind.may_be_nonblocking() {
                 Some(kind)
+            } else {
+                None
             }
         }
         _ => None,
@@ -211,7 +212,7 @@ pub fn is_nonblocking(mode: Mode) -> bool
     mode == Mode::Nonblocking
 }
 
-/// The call of a kind with a mode; one that makes communicators only blocks.
+/// The call of a kind with a mode; one that makes communicators, or frees one, only blocks.
 pub fn call_with(mode: Mode, kind: Kind) -> Call
     ensures { result ≡ call_with mode (family_of kind) }
 {
@@ -220,6 +221,7 @@ pub fn call_with(mode: Mode, kind: Kind) -> Call
         Family::Reduction(reduction) => Call::Reduction(reduction, mode),
         Family::NewCommunicator(new) => Call::NewCommunicator(new),
         Family::Neighbourhood(exchange) => Call::Neighbourhood(exchange, mode),
+        Family::Free => Call::Free,
     }
 }
 
@@ -268,14 +270,15 @@ pub fn shape_of(kind: Kind) -> Shape
     ensures { result ≡ shape_of kind }
 {
     match kind.family() {
-        Family::Exchange(_) | Family::Reduction(_) | Family::Neighbourhood(_) => Shape {
-            colour: false,
-            tag: false,
-            ranks: false,
-            edges: false,
-            neighbours: false,
-            target: false,
-        },
+        Family::Exchange(_) | Family::Reduction(_) | Family::Neighbourhood(_) | Family::Free =>
+            Shape {
+                colour: false,
+                tag: false,
+                ranks: false,
+                edges: false,
+                neighbours: false,
+                target: false,
+            },
         Family::NewCommunicator(new) => shape_of_new(new),
     }
 }

@@ -147,7 +147,7 @@ fn call_of(
         Family::NewCommunicator(made) => {
             Ok(new_posted(alloc, made, on, draft, tag, new.target)?)
         }
-        Family::Exchange(_) | Family::Reduction(_) | Family::Neighbourhood(_) => {
+        Family::Exchange(_) | Family::Reduction(_) | Family::Neighbourhood(_) | Family::Free => {
             Ok(call_posted(alloc, mode, on, draft, call.request)?)
         }
     }

@@ -1,20 +1,20 @@
 -- Docked and moored ports.
-use Rattle.std.proofs.Common.{◌≡◌, ◌≢◌, ℕ, ◌+◌, List, [], ◌∷◌, ◌++◌, length, take, Some, Result, Ok, Err, true, slice_get, refl, sym, ap, ◌∙◌, subst, arith, inl, inr, length-append, ⊎_elim, append_assoc}
-use Rattle.std.specs.Prelude.{ℤ, Option, None, IfNone, IfOk, IfSome, OnOk, OnErr}
+use Rattle.std.proofs.Common.{◌≡◌, ◌≢◌, ◌⊎◌, ℕ, ◌+◌, Bool, false, List, [], ◌∷◌, ◌++◌, length, take, Some, Result, Ok, Err, true, slice_get, refl, sym, ap, ◌∙◌, subst, arith, inl, inr, length-append, ⊎_elim, append_assoc}
+use Rattle.std.specs.Prelude.{ℤ, Option, None, IfNone, IfOk, IfSome, IsTrue, OnOk, OnErr, is_some}
 use Rattle.std.proofs.lemmas.List.{append-nil}
 use Rattle.join_core.specs.declared.memory.OutOfMemory.{OutOfMemory}
 use mathlib.Core.List.{IsPrefix}
 use Rattle.atomic_table.specs.Seated.{TableId}
 use Rattle.mpx_name.specs.Name.{Name}
 use Rattle.mpx_post.specs.Posts.{Given}
-use Rattle.mpx_post.specs.Births.{BirthView}
+use Rattle.mpx_post.specs.Births.{BirthView, rank_in}
 use Rattle.mpx_post.specs.declared.draft.Draft.{Draft}
 use Rattle.mpx_post.specs.declared.draft.PostError.{PostError}
 use Rattle.mpx_post.specs.Drafts.{at, checked}
-use Rattle.mpx_board.specs.Boards.{told}
-use Rattle.mpx_value.specs.Histories.{Made, posts_on}
+use Rattle.mpx_board.specs.Boards.{IsGone, Look, told}
+use Rattle.mpx_value.specs.Histories.{Made, has_freed, posts_on}
 use Rattle.mpx_node.specs.declared.finished.Finished.{Finished}
-use Rattle.mpx_node.specs.Nodes.{NodeView, Posts, checked_on, posted_on, results_on}
+use Rattle.mpx_node.specs.Nodes.{NodeView, Posts, checked_on, freed_on, posted_on, results_on}
 use Rattle.mpx_world.specs.Worlds.{ProcessView, makes}
 use Rattle.mpx_bus.specs.declared.act.Act.{Act}
 use Rattle.mpx_bus.specs.declared.act.Act.TheVariants as A
@@ -29,15 +29,17 @@ use Rattle.mpx_bus.specs.declared.port.Pop.TheVariants as O
 use Rattle.mpx_bus.specs.Answers.{Lists, PopsOne, PushesLast, PushesNext, Stopped}
 use Rattle.mpx_post.proofs.Lists.{slice_get-append}
 use Rattle.mpx_world.proofs.Lists.{slice_get-push, slice_get-push_cases}
+use Rattle.mpx_world.proofs.Opened.{member_ranked}
 use Rattle.mpx_bus.proofs.Journals.{after-append}
 use Rattle.mpx_bus.proofs.Ports.{kept_after, new_stood}
 use Rattle.mpx_bus.proofs.Goes.{NoPosts, goes_itself, goes_then, made_more, two_acts}
-use Rattle.mpx_shared.specs.Docks.{AreAllSince, HasGoneOn, IsDocked, IsListed, IsMoored, IsNext, MakesNoPost, made_at, made_in, next_call, planned_birth, with_context}
+use Rattle.mpx_shared.specs.Docks.{AreAllSince, HasGoneOn, IsDocked, IsListed, IsMoored, IsNext, MakesNoPost, is_closed, living, made_at, made_in, next_call, planned_birth, with_context}
 use Rattle.mpx_shared.specs.Laws.{IsBirth, IsFinished}
 use Rattle.mpx_shared.specs.Tickets.{GathersOne, PostsThen}
 use Rattle.mpx_shared.specs.declared.ticket.Ticket.{Ticket}
+use Rattle.mpx_shared.proofs.Dying.{gone_after, listed_living}
 use Rattle.mpx_shared.proofs.Plans.{plan_births, prefix_itself, prefix_next, prefix_take, prefix_then, ranks_of}
-use Rattle.mpx_shared.proofs.Standing.{checked_parts, own_beside, stood_birth, stood_good, stood_value, within}
+use Rattle.mpx_shared.proofs.Standing.{checked_parts, own_beside, stood_birth, stood_good, stood_member, stood_value, within}
 
 -- NO POSTS
 
@@ -116,6 +118,12 @@ gone_on_more {setup} {me} {opening} a b more g same grows made = record {
       ((kept_after more (process_in a)).results_kept name call f (g.results name call f e));
 }
 
+-- a context that is dead stays so
+dead_stays : (a b : Berth) (more : List Act) → IsSamePort a b → b.journal ≡ a.journal ++ more → (name : Name) → IsGone (node_in a).board name → IsGone (node_in b).board name
+dead_stays a b more same grows name dead =
+    subst (λ (v : ProcessView). IsGone v.node.board name) (sym (made_same a b same (a.journal ++ more) grows ∙ after-append a.journal more (at_start a.setup a.me)))
+    (gone_after more (process_in a) name dead)
+
 listed_more : (name : Name) (contexts : List Name) (new : Option Name) → IsListed name contexts → IsListed name (with_context contexts new)
 listed_more name contexts None (inl e) = inl e
 listed_more name contexts None (inr there) = inr there
@@ -128,11 +136,11 @@ listed_new name contexts None some none = none
 listed_new name contexts (Some context) some none = inr (length contexts, slice_get-push contexts context ∙ ap Some some)
 
 all_since_more : (setup : Setup) (me : ℕ) (opening : List Act) (contexts : List Name) (a b : Berth) (m : Made) (new : Option Name) → AreAllSince setup me opening a contexts → made_in b ≡ made_in a ++ m ∷ [] → IsListed m.name (with_context contexts new)
-    → AreAllSince setup me opening b (with_context contexts new)
-all_since_more setup me opening contexts a b m new all made here k x low there =
-    slice_get-push_cases (λ (y : Made) i. IsListed y.name (with_context contexts new)) (made_in a) m k x (sym (ap (λ ms. slice_get ms k) made) ∙ there)
-    (λ old. listed_more x.name contexts new (all k x low old))
-    (λ same last. subst (λ (y : Made). IsListed y.name (with_context contexts new)) same here)
+    → ((name : Name) → IsGone (node_in a).board name → IsGone (node_in b).board name) → AreAllSince setup me opening b (with_context contexts new)
+all_since_more setup me opening contexts a b m new all made here stays_dead k x low there =
+    slice_get-push_cases (λ (y : Made) i. IsListed y.name (with_context contexts new) ⊎ IsGone (node_in b).board y.name) (made_in a) m k x (sym (ap (λ ms. slice_get ms k) made) ∙ there)
+    (λ old. elim (all k x low old) [ inl l ↦ inl (listed_more x.name contexts new l) | inr dead ↦ inr (stays_dead x.name dead) ])
+    (λ same last. subst (λ (y : Made). IsListed y.name (with_context contexts new) ⊎ IsGone (node_in b).board y.name) same (inl here))
 
 -- MOORED PORTS
 
@@ -164,8 +172,31 @@ moored_later a b m n = record {
   planned = n.goes.plan m.planned;
   counted = ap length n.made ∙ m.counted;
   gone_on = gone_on_more a b n.acts m.gone_on n.goes.same n.journal (prefix_itself (made_in a) (made_in b) n.made);
-  listed = λ k x low there. m.listed k x low (sym (ap (λ ms. slice_get ms k) n.made) ∙ there);
+  listed = λ k x low there. elim (m.listed k x low (sym (ap (λ ms. slice_get ms k) n.made) ∙ there)) [
+    | inl l ↦ inl l
+    | inr dead ↦ inr (dead_stays a b n.acts n.goes.same n.journal x.name dead)
+  ];
 }
+
+-- contexts that are dead leave the list
+pub moored_leaves : {table : TableId} {setup : Setup} {me : ℕ} {opening : List Act} {before total : ℕ} {contexts : List Name} (fewer : List Name) (b : Berth) (board : Look) → board ≡ (node_in b).board → fewer ≡ living board contexts
+    → IsMoored table setup me opening before b total contexts → IsMoored table setup me opening before b total fewer
+moored_leaves {table} {setup} {me} {opening} {before} {total} {contexts} fewer b board is left m = record {
+  table_is = m.table_is;
+  setup_is = m.setup_is;
+  me_is = m.me_is;
+  planned = m.planned;
+  counted = m.counted;
+  gone_on = m.gone_on;
+  listed = λ k x low there. elim (m.listed k x low there) [
+    | inl l ↦ subst (λ (k : Look × List Name). IsListed x.name k.1 ⊎ IsGone k.0 x.name) (λ i. (is i, sym left i)) (listed_living board contexts x.name l)
+    | inr dead ↦ inr dead
+  ];
+}
+
+-- a book with the same total
+pub moored_same : {table : TableId} {setup : Setup} {me : ℕ} {opening : List Act} {before total : ℕ} {contexts : List Name} (more : ℕ) (b : Berth) → more ≡ total → IsMoored table setup me opening before b total contexts → IsMoored table setup me opening before b more contexts
+moored_same {table} {setup} {me} {opening} {before} {total} {contexts} more b e m = subst (λ n. IsMoored table setup me opening before b n contexts) (sym e) m
 
 pub docked_of : {table : TableId} {setup : Setup} {me : ℕ} {opening : List Act} {before total : ℕ} {contexts : List Name} (b : Berth) → IsMoored table setup me opening before b total contexts → (KeepsPlan b → Stood b.setup b.me b.journal)
     → IsDocked table setup me b
@@ -224,7 +255,8 @@ next_made setup me journal count name draft given s plan counted next is planned
     let born : planned_birth setup name ≡ Some parts.birth = plan_births setup (world_of setup s.happenings) planned s.planned (ranks_of setup s.happenings) name parts.birth (stood_birth setup me journal s name parts.birth parts.born) in
     let first : v.made ≡ take count (planned_posts setup me) = prefix_take v.made (planned_posts setup me) (plan planned) ∙ ap (λ n. take n (planned_posts setup me)) counted in
     let call : posted_on v.node name ≡ next_call setup me count name = good.counted name ∙ ap (λ ms. length (posts_on name ms)) first in
-    next planned parts.birth given born (subst (λ (x : ℕ × ℕ). checked parts.birth x.0 (at name x.1) draft ≡ Ok given) (λ i. (good.me_is i, call i)) parts.checks)
+    let unfreed : false ≡ is_closed setup me count name = sym parts.unfreed ∙ good.closed name ∙ ap (has_freed name) first in
+    next planned parts.birth given born (subst (λ (x : ℕ × (ℕ × Bool)). checked parts.birth x.0 (at name x.1.0 x.1.1) draft ≡ Ok given) (λ i. (good.me_is i, (call i, unfreed i))) parts.checks)
 
 planned_more : (setup : Setup) (me : ℕ) (journal : List Act) (name : Name) (draft : Draft) (given : Given) → checked_on (process_at setup me journal).node name draft ≡ Ok given → IsPlanned setup me journal
     → (setup.planned ≡ true → slice_get (planned_posts setup me) (length (process_at setup me journal).made) ≡ Some (record { name = name; given = given })) → IsPlanned setup me (journal ++ A.Posted name draft ∷ [])
@@ -252,7 +284,7 @@ moored_posts {table} {setup} {me} {opening} {before} {total} {contexts} amount n
       planned = subst (λ (x : Setup × (ℕ × List Act)). IsPlanned x.0 x.1.0 x.1.1) (λ i. (sym same.setup i, (sym same.me i, sym grows i))) plan;
       counted = ap length made ∙ (let l = length-append (made_in a) (post ∷ []) in omega (arith, l, m.counted, more));
       gone_on = gone_on_more a b (A.Posted name draft ∷ []) m.gone_on same grows (post ∷ [], sym made);
-      listed = subst (AreAllSince setup me opening b) (sym listed) (all_since_more setup me opening contexts a b post new m.listed made (listed_new name contexts new some none));
+      listed = subst (AreAllSince setup me opening b) (sym listed) (all_since_more setup me opening contexts a b post new m.listed made (listed_new name contexts new some none) (dead_stays a b (A.Posted name draft ∷ []) same grows));
     }
 
 -- DOCKED PORTS
@@ -265,10 +297,23 @@ docked_result table setup me port name call f d e =
 pub docked_mine : (table : TableId) (setup : Setup) (me : ℕ) (port : Berth) (name : Name) (call : ℕ) (f : Finished) → IsDocked table setup me port → slice_get (results_on (node_in port) name) call ≡ Some f → slice_get (posts_on name (made_in port)) call ≡ Some f.mine
 docked_mine table setup me port name call f d e = own_beside port.setup port.me port.journal d.stood name call f e
 
+-- its node knows its frees
+pub docked_closed : (table : TableId) (setup : Setup) (me : ℕ) (port : Berth) (name : Name) → IsDocked table setup me port → freed_on (node_in port) name ≡ has_freed name (made_in port)
+docked_closed table setup me port name d = (stood_good port.setup port.me port.journal d.stood).closed name
+
 pub docked_birth : (table : TableId) (setup : Setup) (me : ℕ) (port : Berth) (name : Name) (birth : BirthView) → IsDocked table setup me port → told ((node_in port).board.contexts name).birth ≡ Some birth → IsBirth setup name birth
 docked_birth table setup me port name birth d e =
     subst (λ (x : Setup). IsBirth x name birth) d.setup_is
     (record { happenings = d.stood.happenings; may = d.stood.may; begins = d.stood.planned; born = stood_birth port.setup port.me port.journal d.stood name birth e })
+
+-- it is a member of each context that it has opened
+pub docked_member : (table : TableId) (setup : Setup) (me : ℕ) (port : Berth) (name : Name) → IsDocked table setup me port → IsTrue (is_some ((node_in port).opened name)) → (birth : BirthView) × ((rank : ℕ) × (IsBirth setup name birth × (rank_in me birth.members ≡ Some rank)))
+docked_member table setup me port name d opened =
+    let m = stood_member port.setup port.me port.journal d.stood name opened in
+    let ranked = member_ranked m.birth.members m.rank port.me m.member in
+    let born : IsBirth port.setup name m.birth = record { happenings = d.stood.happenings; may = d.stood.may; begins = d.stood.planned; born = m.born } in
+    let rank_is : rank_in me m.birth.members ≡ Some ranked.0 = ap (λ p. rank_in p m.birth.members) (sym d.me_is) ∙ ranked.1 in
+    (m.birth, (ranked.0, (subst (λ (x : Setup). IsBirth x name m.birth) d.setup_is born, rank_is)))
 
 pub docked_posts : (table : TableId) (setup : Setup) (me : ℕ) (port : Berth) → setup.planned ≡ true → IsDocked table setup me port → made_in port ≡ take (length (made_in port)) (planned_posts setup me)
 docked_posts table setup me port planned d =

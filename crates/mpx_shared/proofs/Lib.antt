@@ -1,5 +1,6 @@
 pub mod Plans
 pub mod Standing
+pub mod Dying
 pub mod Docked
 pub mod Gossiping
 pub mod Pruning

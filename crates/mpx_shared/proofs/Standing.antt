@@ -1,20 +1,25 @@
 -- What is so of a process that stands in a world that can be reached.
-use Rattle.std.proofs.Common.{◌≡◌, ℕ, zero, suc, ◌<◌, ◌≤◌, List, [], ◌∷◌, length, Option, None, Some, Ok, slice_get, refl, sym, ap, ◌∙◌, subst, arith}
-use Rattle.std.specs.Prelude.{IsTrue, is_some, map}
-use Rattle.std.specs.Option.{option_map}
+use Rattle.std.proofs.Common.{◌≡◌, ℕ, zero, suc, ◌-◌, ◌<◌, ◌≤◌, Bool, true, false, cond, List, [], ◌∷◌, length, Option, None, Some, Result, Ok, Err, slice_get, refl, sym, ap, ◌∙◌, subst, arith}
+use Rattle.std.specs.Prelude.{◌&&◌, IsTrue, is_some, map, nat_le}
+use Rattle.std.specs.List.{list_any}
+use Rattle.std.specs.Option.{option_map_or}
 use Rattle.std.proofs.lemmas.Option.{same_Some}
 use Rattle.join_core.specs.Flat.{FlatView, unknown, known, clash}
 use Rattle.mpx_name.specs.Name.{Name}
-use Rattle.mpx_post.specs.Posts.{Given}
+use Rattle.mpx_post.specs.Posts.{Given, is_free}
 use Rattle.mpx_post.specs.Births.{BirthView}
 use Rattle.mpx_post.specs.declared.draft.Draft.{Draft}
 use Rattle.mpx_post.specs.Drafts.{at, checked}
+use Rattle.mpx_post.specs.declared.draft.PostError.{PostError}
+use Rattle.mpx_post.specs.declared.draft.PostError.TheVariants.{Closed}
 use Rattle.mpx_board.specs.Boards.{floor_on, minimum, told}
 use Rattle.mpx_value.specs.Histories.{posts_on}
 use Rattle.mpx_node.specs.declared.finished.Finished.{Finished}
-use Rattle.mpx_node.specs.Nodes.{OpenedView, checked_by, front_on, posted_by, posted_on, results_on}
+use Rattle.mpx_node.specs.Nodes.{OpenedView, checked_by, checked_there, freed_by, freed_on, front_on, is_fine_free, is_nothing, is_past_free, posted_by, posted_on, results_on}
 use Rattle.mpx_world.specs.Worlds.{ProcessView, WorldView, births, history}
 use Rattle.mpx_world.specs.Soundness.{Agrees, IsMember, IsValue}
+use Rattle.mpx_world.proofs.Born.{option_map_some}
+use Rattle.mpx_world.proofs.Lists.{any_at}
 use Rattle.mpx_world.proofs.Truth.{told_agrees}
 use Rattle.mpx_world.proofs.Steps.{Good, board_so, minimum_below}
 use Rattle.mpx_world.proofs.Retention.{retention}
@@ -45,16 +50,33 @@ past [] k e = omega arith
 past (x ∷ xs) zero e = absurd (cc e)
 past (x ∷ xs) (suc k) e = let l = past xs k e in omega (arith, l)
 
--- what a draft came to where it came to a post
+-- of results beside posts of which none is a free the last is none
+unfreed_last : (posts : List Given) (results : List Finished) → list_any is_free posts ≡ false → ((k : ℕ) (f : Finished) → slice_get results k ≡ Some f → slice_get posts k ≡ Some f.mine) → (n : ℕ) → is_past_free results n ≡ false
+unfreed_last posts results none beside n = by_last (slice_get results (length results - 1)) refl where
+  by_free : (f : Finished) → slice_get posts (length results - 1) ≡ Some f.mine → (free : Bool) → is_free f.mine ≡ free → ((free && is_nothing f.outcome) && nat_le (length results) n) ≡ false
+  by_free f mine true t = let some = any_at is_free posts (length results - 1) f.mine mine t in cc (none, some)
+  by_free f mine false t = refl
+
+  by_last : (o : Option Finished) → slice_get results (length results - 1) ≡ o → (option_map_or is_fine_free o false && nat_le (length results) n) ≡ false
+  by_last None e = refl
+  by_last (Some f) e = by_free f (beside (length results - 1) f e) (is_free f.mine) refl
+
+-- what a draft came to where it came to a post: no free stands before it
 pub record IsChecked (o : Option OpenedView) (b : Option BirthView) (me : ℕ) (name : Name) (draft : Draft) (given : Given) : Type 0 where
   pub birth : BirthView
   pub born : b ≡ Some birth
-  pub checks : checked birth me (at name (posted_by o)) draft ≡ Ok given
+  pub unfreed : freed_by o ≡ false
+  pub checks : checked birth me (at name (posted_by o) false) draft ≡ Ok given
+
+opened_parts : (o : OpenedView) (b : Option BirthView) (me : ℕ) (name : Name) (draft : Draft) (given : Given) (freed : Bool) → o.freed ≡ freed
+    → (let r : Result Given PostError = cond freed (Err Closed) (checked_there o.posted b me name draft) in r) ≡ Ok given → IsChecked (Some o) b me name draft given
+opened_parts o b me name draft given true unfreed e = cc e
+opened_parts o None me name draft given false unfreed e = cc e
+opened_parts o (Some birth) me name draft given false unfreed e = record { birth = birth; born = refl; unfreed = unfreed; checks = e }
 
 pub checked_parts : (o : Option OpenedView) (b : Option BirthView) (me : ℕ) (name : Name) (draft : Draft) (given : Given) → checked_by o b me name draft ≡ Ok given → IsChecked o b me name draft given
 checked_parts None b me name draft given e = cc e
-checked_parts (Some o) None me name draft given e = cc e
-checked_parts (Some o) (Some birth) me name draft given e = record { birth = birth; born = refl; checks = e }
+checked_parts (Some o) b me name draft given e = opened_parts o b me name draft given o.freed refl e
 
 module _ (setup : Setup) (me : ℕ) (journal : List Act) (s : Stood setup me journal) where
   abbrev w : WorldView
@@ -78,12 +100,13 @@ module _ (setup : Setup) (me : ℕ) (journal : List Act) (s : Stood setup me jou
   pub stood_birth : (name : Name) (birth : BirthView) → told ((node_at setup me journal).board.contexts name).birth ≡ Some birth → births (world_of setup s.happenings) name ≡ Some birth
   stood_birth name birth e = told_agrees ((node_at setup me journal).board.contexts name).birth (births w name) birth (((board_so w me (process_at setup me journal) stood_good).contexts_so name).birth_so) e
 
-  -- where it has posted it is a member
-  own_member : (name : Name) → 0 < posted_on (node_at setup me journal) name → IsMember (node_at setup me journal).board name me
-  own_member name l =
-      let opened : IsTrue (is_some ((node_at setup me journal).opened name)) = opened_where ((node_at setup me journal).opened name) l in
-      let member : IsMember ((w.each me).node.board) name me = are_members w well.holds well.members me name (subst (λ (u : ProcessView). IsTrue (is_some (u.node.opened name))) (sym s.stands) opened) in
-      subst (λ (u : ProcessView). IsMember u.node.board name me) s.stands member
+  -- it is a member of each context that it has opened
+  pub stood_member : (name : Name) → IsTrue (is_some ((node_at setup me journal).opened name)) → IsMember (world_of setup s.happenings) name me
+  stood_member name opened = are_members w well.holds well.members me name (subst (λ (u : ProcessView). IsTrue (is_some (u.node.opened name))) (sym s.stands) opened)
+
+  -- and of each on which it has posted
+  own_member : (name : Name) → 0 < posted_on (node_at setup me journal) name → IsMember (world_of setup s.happenings) name me
+  own_member name l = stood_member name (opened_where ((node_at setup me journal).opened name) l)
 
   -- and no floor passes its own front
   pub floor_low : (name : Name) (floor : ℕ) → 0 < posted_on (node_at setup me journal) name → floor_on (node_at setup me journal).board name ≡ Some floor → floor ≤ front_on (node_at setup me journal) name
@@ -91,7 +114,8 @@ module _ (setup : Setup) (me : ℕ) (journal : List Act) (s : Stood setup me jou
       let v = process_at setup me journal in
       let fronts = (v.node.board.contexts name).fronts in
       let b = own_member name l in
-      let least : floor ≡ minimum (map fronts b.birth.members) = same_Some floor _ (sym e ∙ ap (λ f. option_map (λ (birth : BirthView). minimum (map fronts birth.members)) (told f)) b.born) in
+      let least : floor ≡ minimum (map fronts b.birth.members) = option_map_some (λ (birth : BirthView). minimum (map fronts birth.members)) (told (v.node.board.contexts name).birth) floor e
+      (λ birth is same. sym same ∙ ap (λ (x : BirthView). minimum (map fronts x.members)) (same_Some birth b.birth (sym (stood_birth name birth is) ∙ b.born))) in
       let below : minimum (map fronts b.birth.members) ≤ fronts me = minimum_below fronts b.birth.members b.rank me b.member in
       let so : fronts me ≤ front_on v.node name = subst (λ (u : ProcessView). fronts me ≤ front_on u.node name) s.stands (((board_so w me v stood_good).contexts_so name).fronts_so me) in
       omega (arith, least, below, so)
@@ -104,7 +128,7 @@ module _ (setup : Setup) (me : ℕ) (journal : List Act) (s : Stood setup me jou
       let l : call < length (posts_on name v.made) = within (posts_on name v.made) call x mine in
       let b = own_member name (omega (arith, l, stood_good.counted name)) in
       let front : length (results_on ((w.each me).node) name) ≤ call = past (results_on ((w.each me).node) name) call (ap (λ (u : ProcessView). slice_get (results_on u.node name) call) s.stands ∙ none) in
-      let kept = retention w well.holds well.stores name b.birth (stood_birth name b.birth (ap told b.born)) b.rank me b.member call me x front (stood_history name call ∙ mine) in
+      let kept = retention w well.holds well.stores well.members name b.birth b.born b.rank me b.member call me x front (stood_history name call ∙ mine) in
       ap (λ (u : ProcessView). told ((u.node.board.contexts name).posts call me)) (sym s.stands) ∙ ap told kept
 
   pub own_on_board : (name : Name) (call : ℕ) → slice_get (results_on (node_at setup me journal) name) call ≡ None
@@ -117,3 +141,7 @@ module _ (setup : Setup) (me : ℕ) (journal : List Act) (s : Stood setup me jou
   -- a result stands beside the own post
   pub own_beside : (name : Name) (call : ℕ) (f : Finished) → slice_get (results_on (node_at setup me journal) name) call ≡ Some f → slice_get (posts_on name ((process_at setup me journal).made)) call ≡ Some f.mine
   own_beside name call f e = sym (stood_history name call) ∙ (stood_value name call f e).mine
+
+  -- where it has posted no free none of its results is one
+  pub stood_unfreed : (name : Name) → freed_on (node_at setup me journal) name ≡ false → (n : ℕ) → is_past_free (results_on (node_at setup me journal) name) n ≡ false
+  stood_unfreed name unfreed n = unfreed_last (posts_on name ((process_at setup me journal).made)) (results_on (node_at setup me journal) name) (sym (stood_good.closed name) ∙ unfreed) (own_beside name) n

@@ -1,5 +1,5 @@
 -- Ports of one bus, and what they have posted.
-use Rattle.std.specs.Prelude.{◌≡◌, ◌+◌, ◌≤◌, ◌⊎◌, ℕ, List, [], ◌∷◌, ◌++◌, length, take, true, Option, None, Some, Ok, slice_get}
+use Rattle.std.specs.Prelude.{◌≡◌, ◌+◌, ◌≤◌, ◌⊎◌, ℕ, Bool, List, [], ◌∷◌, ◌++◌, length, take, filter, not, true, Option, None, Some, Ok, slice_get}
 use mathlib.Core.List.{IsPrefix}
 use Rattle.atomic_table.specs.Seated.{TableId}
 use Rattle.mpx_name.specs.Name.{Name}
@@ -7,7 +7,8 @@ use Rattle.mpx_post.specs.Posts.{Given}
 use Rattle.mpx_post.specs.Births.{BirthView}
 use Rattle.mpx_post.specs.declared.draft.Draft.{Draft}
 use Rattle.mpx_post.specs.Drafts.{at, checked}
-use Rattle.mpx_value.specs.Histories.{Made, History, Results, history_of, birth_of, posts_on, results_of}
+use Rattle.mpx_board.specs.Boards.{IsGone, Look}
+use Rattle.mpx_value.specs.Histories.{Made, History, Results, history_of, birth_of, has_freed, posts_on, results_of}
 use Rattle.mpx_node.specs.declared.finished.Finished.{Finished}
 use Rattle.mpx_node.specs.Nodes.{results_on}
 use Rattle.mpx_bus.specs.declared.act.Act.{Act}
@@ -52,15 +53,19 @@ pub record HasGoneOn (setup : Setup) (me : ℕ) (opening : List Act) (port : Ber
 abbrev pub IsListed : Name → List Name → Type 0
 IsListed name contexts = (name ≡ []) ⊎ ((i : ℕ) × (slice_get contexts i ≡ Some name))
 
+-- those of the contexts that aren't dead on the board
+abbrev pub living : Look → List Name → List Name
+living board names = filter (λ name. not (board.contexts name).dead) names
+
 -- the contexts with this one behind them, where there is one
 abbrev pub with_context : List Name → Option Name → List Name
 with_context contexts None = contexts
 with_context contexts (Some name) = contexts ++ name ∷ []
 
--- each context on which the port has posted since is listed
+-- each context on which the port has posted since is listed, or is dead on its board
 abbrev pub AreAllSince : Setup → (me : ℕ) → (opening : List Act) → Berth → List Name → Type 0
 AreAllSince setup me opening port contexts = (k : ℕ) (m : Made) → length (made_at setup me opening) ≤ k → slice_get (made_in port) k ≡ Some m
-    → IsListed m.name contexts
+    → IsListed m.name contexts ⊎ IsGone (node_in port).board m.name
 
 -- a port under a lock, which had done these and had made so many posts when it was put there, and has made so many since, on the
 -- world and on these contexts
@@ -98,8 +103,12 @@ planned_results setup me = results_of (plan_history setup) setup.ranks me
 abbrev pub next_call : Setup → (me count : ℕ) → Name → ℕ
 next_call setup me count name = length (posts_on name (take count (planned_posts setup me)))
 
+-- whether a free is among them
+abbrev pub is_closed : Setup → (me count : ℕ) → Name → Bool
+is_closed setup me count name = has_freed name (take count (planned_posts setup me))
+
 -- where there is a plan: what the draft comes to on the context, by the plan, is the post that follows the first so many
 abbrev pub IsNext : Setup → (me count : ℕ) → Name → Draft → Type 0
 IsNext setup me count name draft = setup.planned ≡ true → (birth : BirthView) (given : Given)
-    → planned_birth setup name ≡ Some birth → checked birth me (at name (next_call setup me count name)) draft ≡ Ok given
+    → planned_birth setup name ≡ Some birth → checked birth me (at name (next_call setup me count name) (is_closed setup me count name)) draft ≡ Ok given
     → slice_get (planned_posts setup me) count ≡ Some (record { name = name; given = given })

@@ -1,9 +1,9 @@
 -- What a pull and a put do to a port.
-use Rattle.std.specs.Prelude.{◌≡◌, ◌+◌, ◌≤◌, ℕ, All, Bool, true, false, List, [], None, Some, Result, Ok, Err, is_some, slice_get}
+use Rattle.std.specs.Prelude.{◌≡◌, ◌+◌, ◌≤◌, ◌⊎◌, ℕ, All, Bool, true, false, List, [], None, Some, Result, Ok, Err, is_some, slice_get}
 use Rattle.join_core.specs.declared.memory.OutOfMemory.{OutOfMemory}
 use Rattle.mpx_name.specs.Name.{Name}
-use Rattle.mpx_board.specs.Boards.{floor_on}
-use Rattle.mpx_node.specs.Nodes.{front_on, next_result, posted_on}
+use Rattle.mpx_board.specs.Boards.{IsGone, floor_on}
+use Rattle.mpx_node.specs.Nodes.{front_on, is_past_free, next_result, posted_on, results_on}
 use Rattle.mpx_bus.specs.declared.act.Act.{Act}
 use Rattle.mpx_bus.specs.declared.act.Act.TheVariants as A
 use Rattle.mpx_bus.specs.declared.port.Pop.{Pop}
@@ -49,15 +49,30 @@ pub record HarvestsNext (had : Bool) (name : Name) (old new : Berth) : Type 0 wh
 abbrev pub dropped_on : Berth → Name → ℕ
 dropped_on port name = ((node_in port).board.contexts name).dropped
 
--- all that every member of the context has harvested, as the first port's board tells it, the second has dropped
-abbrev pub DropsAll : Name → Berth → Berth → Type 0
-DropsAll name old new = (floor : ℕ) → floor_on (node_in old).board name ≡ Some floor → floor ≤ dropped_on new name
+-- the calls below the number are past a free whose row is fine and whose result the port has
+abbrev pub is_past : Berth → Name → (number : ℕ) → Bool
+is_past port name number = is_past_free (results_on (node_in port) name) number
 
--- the port dropped the posts of the context that every member has harvested; where it had dropped them all, nothing is done
+-- the port has dropped all that every member of the context has harvested, as its board tells it, and no free of all is among it
+abbrev pub HasDropped : Name → Berth → Type 0
+HasDropped name port = (floor : ℕ) → floor_on (node_in port).board name ≡ Some floor → (floor ≤ dropped_on port name) × (is_past port name floor ≡ false)
+
+-- all that every member of the context has harvested, as the first port's board tells it, the second has dropped, or the context is
+-- dead there
+abbrev pub DropsAll : Name → Berth → Berth → Type 0
+DropsAll name old new = (floor : ℕ) → floor_on (node_in old).board name ≡ Some floor → IsGone (node_in new).board name ⊎ (floor ≤ dropped_on new name)
+
+-- where every member has harvested a free of the context, as the first port's board tells it, the context is dead at the second
+abbrev pub KillsFreed : Name → Berth → Berth → Type 0
+KillsFreed name old new = (floor : ℕ) → floor_on (node_in old).board name ≡ Some floor → is_past old name floor ≡ true → IsGone (node_in new).board name
+
+-- the port dropped the posts of the context that every member has harvested, or the context is dead; where it had dropped them all, and
+-- no free of all is among them, nothing is done
 pub record Prunes (name : Name) (old new : Berth) : Type 0 where
   pub does : HarvestsAndPrunes old new
   pub drops : DropsAll name old new
-  pub none : DropsAll name old old → new ≡ old
+  pub kills : KillsFreed name old new
+  pub none : HasDropped name old → new ≡ old
 
 -- the port harvested on the context until no further result could be had there, and then dropped what every member has harvested;
 -- before and after that it harvested and pruned elsewhere

@@ -1,5 +1,5 @@
 -- What the calls of a shared port tell of the port under its lock, at a moment of the call.
-use Rattle.std.specs.Prelude.{◌≡◌, ◌≢◌, ℕ, ℤ, List, [], ◌∷◌, ◌++◌, length, Option, None, Some, Result, Ok, Err, IfOk, slice_get}
+use Rattle.std.specs.Prelude.{◌≡◌, ◌≢◌, ℕ, ℤ, Bool, List, [], ◌∷◌, ◌++◌, length, Option, None, Some, Result, Ok, Err, IfOk, slice_get}
 use Rattle.atomic_table.specs.Seated.{TableId}
 use Rattle.mpx_name.specs.Name.{Name}
 use Rattle.mpx_post.specs.Posts.{Given}
@@ -7,7 +7,7 @@ use Rattle.mpx_post.specs.Births.{BirthView}
 use Rattle.mpx_post.specs.declared.draft.Draft.{Draft}
 use Rattle.mpx_post.specs.declared.draft.PostError.{PostError}
 use Rattle.mpx_board.specs.Boards.{told}
-use Rattle.mpx_value.specs.Histories.{posts_on}
+use Rattle.mpx_value.specs.Histories.{has_freed, posts_on}
 use Rattle.mpx_node.specs.Nodes.{NodeView, Opens, Posts, checked_on, gathers_on, posted_on, results_on}
 use Rattle.mpx_bus.specs.declared.act.Setup.{Setup}
 use Rattle.mpx_bus.specs.declared.act.Act.{Act}
@@ -73,13 +73,14 @@ abbrev pub GathersOne : Name → ℤ → List ℤ → Result Name PostError → 
 GathersOne parent tag ranks (Ok name) old new = new.journal ≡ old.journal ++ A.Gathered parent tag ranks ∷ []
 GathersOne parent tag ranks (Err refusal) old new = new ≡ old
 
--- the port opened the gathering and did nothing else, or refused it
-pub record OpensThen (table : TableId) (setup : Setup) (me : ℕ) (opening : List Act) (parent : Name) (tag : ℤ) (ranks : List ℤ) (result : Result Name PostError) : Type 0 where
+-- the port had made so many posts, and then opened the gathering and did nothing else, or refused it
+pub record OpensThen (table : TableId) (setup : Setup) (me : ℕ) (opening : List Act) (count : ℕ) (parent : Name) (tag : ℤ) (ranks : List ℤ) (result : Result Name PostError) : Type 0 where
   pub before : Berth
   pub after : Berth
   pub docked_before : IsDocked table setup me before
   pub docked_after : IsDocked table setup me after
   pub gone_on : HasGoneOn setup me opening before
+  pub counted : length (made_in before) ≡ count
   pub opens : Opens parent (gathers_on (node_in before) parent tag ranks) result (node_in before) (node_in after)
   pub no_post : MakesNoPost before after
   pub acts : GathersOne parent tag ranks result before after
@@ -91,3 +92,11 @@ pub record TellsBirth (table : TableId) (setup : Setup) (me : ℕ) (opening : Li
   pub docked : IsDocked table setup me port
   pub gone_on : HasGoneOn setup me opening port
   pub told : told ((node_in port).board.contexts name).birth ≡ birth
+
+-- the port, which had made so many posts, had posted a free on the context, or hadn't
+pub record TellsClosed (table : TableId) (setup : Setup) (me : ℕ) (opening : List Act) (count : ℕ) (name : Name) (closed : Bool) : Type 0 where
+  pub port : Berth
+  pub docked : IsDocked table setup me port
+  pub gone_on : HasGoneOn setup me opening port
+  pub counted : length (made_in port) ≡ count
+  pub told : closed ≡ has_freed name (made_in port)

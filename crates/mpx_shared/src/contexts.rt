@@ -1,8 +1,10 @@
 // The contexts below the world on which a port has posted.
 ghost use Rattle.std.specs.Prelude.{◌≡◌, ◌<◌, ℕ, true, IfOk, IfSome, IfNone, slice_get, vec_capacity, vec_len};
-ghost use Rattle.mpx_shared.specs.Docks.{IsListed, with_context};
+ghost use Rattle.mpx_board.specs.Looks.{look};
+ghost use Rattle.mpx_shared.specs.Docks.{IsListed, living, with_context};
 
 use join_core::{Exact, OutOfMemory};
+use mpx_board::Board;
 use mpx_name::Name;
 use std::alloc::Global;
 
@@ -33,6 +35,13 @@ pub(crate) fn add_context(contexts: &mut Vec<Name>, context: Option<Name>)
     if let Some(name) = context {
         contexts.push_reserved(name);
     }
+}
+
+// Takes the contexts out of the list that are dead on the board.
+pub(crate) fn leave_dead(contexts: &mut Vec<Name>, board: &Board)
+    ensures { contexts.new.items ≡ living (look board.now) contexts.old.items }
+{
+    contexts.retain(|name| !board.is_dead(name));
 }
 
 fn is_among(contexts: &[Name], name: &Name) -> bool

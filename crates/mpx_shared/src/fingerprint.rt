@@ -1,6 +1,7 @@
 // What a board says, in one number: to see whether it has changed, and whether boards say the same. Nothing is claimed of it.
 use join_core::Pair;
-use mpx_board::{Acks, Board, Call, Entry, VersionVector, is_told};
+use join_nest::Lift;
+use mpx_board::{Acks, Board, Call, Entry, Lifted, VersionVector, is_told};
 use mpx_group::Proc;
 use mpx_name::{Name, Step};
 
@@ -8,8 +9,8 @@ use mpx_name::{Name, Step};
 pub(crate) fn fingerprint(board: &Board) -> u64 {
     let Pair { first, second } = board.pair();
     let mut all = 0;
-    for (name, entry) in first.entries() {
-        all = follow(all, follow(of_name(name), of_entry(entry)));
+    for (name, known) in first.entries() {
+        all = follow(all, follow(of_name(name), of_lifted(known)));
     }
     for (process, acks) in second.entries() {
         all = follow(all, follow(u64::from(process.number()), of_acks(acks)));
@@ -23,6 +24,13 @@ fn of_acks(acks: &Acks) -> u64 {
         all = follow(all, follow(of_name(name), of_numbers(numbers)));
     }
     all
+}
+
+fn of_lifted(known: &Lifted) -> u64 {
+    match known {
+        Lift::Live(entry) => of_entry(entry),
+        Lift::Dead => 5,
+    }
 }
 
 fn of_entry(entry: &Entry) -> u64 {

@@ -1,6 +1,6 @@
 // What a pull does to a port: a pop with its take, then harvests, and prunings.
-ghost use Rattle.std.specs.Prelude.{◌≡◌, ◌<◌, ◌≤◌, true, false, IfOk, OnOk, OnErr};
-ghost use Rattle.mpx_node.specs.Nodes.{front_on, posted_on};
+ghost use Rattle.std.specs.Prelude.{◌≡◌, ◌<◌, ◌≤◌, ◌&&◌, not, nat_le, true, false, IfOk, OnOk, OnErr};
+ghost use Rattle.mpx_node.specs.Nodes.{freed_on, front_on, is_past_free, posted_on, results_on};
 ghost use Rattle.mpx_node.specs.Shown.{node_of};
 ghost use Rattle.mpx_bus.specs.Berths.{KeepsPlan};
 ghost use Rattle.mpx_bus.specs.Buses.{table_of};
@@ -102,14 +102,22 @@ fn harvest_next(alloc: Global, port: &mut Port, name: &Name) -> Result<bool, Out
     }
 }
 
-// Whether the process is a member whose own front the dropped front has reached, which no floor passes.
+// Whether the process is a member whose own front the dropped front has reached, which no floor passes, and has no free there.
 fn has_none_to_drop(node: &Node, name: &Name, dropped: u32) -> bool
-    ensures { result ≡ true → (0 < posted_on (node_of node.now) name.now) × (front_on (node_of node.now) name.now ≤ dropped) }
+    ensures { result ≡ true → (0 < posted_on (node_of node.now) name.now) × ((front_on (node_of node.now) name.now ≤ dropped) × (freed_on (node_of node.now) name.now ≡ false)) }
 {
-    node.posted(name) > 0 && node.front(name) <= dropped
+    node.posted(name) > 0 && node.front(name) <= dropped && !node.has_freed(name)
 }
 
-// Drops the posts of a context that every member has harvested, as far as the board knows.
+// Whether all calls below the floor are dropped, and no free whose row is fine is among them.
+fn has_dropped(node: &Node, name: &Name, dropped: u32, floor: u32) -> bool
+    ensures { result ≡ (nat_le floor dropped && not (is_past_free (results_on (node_of node.now) name.now) floor)) }
+{
+    floor <= dropped && !node.is_past_free(name, floor)
+}
+
+// Drops the posts of a context that every member has harvested, as far as the board knows. Where that is past a free, the context is
+// dead then, whatever others had dropped before.
 fn prune_on(port: &mut Port, name: &Name)
     requires plan { KeepsPlan port.old }
     ensures { Prunes name.now port.old port.new }
@@ -121,7 +129,7 @@ fn prune_on(port: &mut Port, name: &Name)
     let Some(floor) = port.node().board().floor(name) else {
         return;
     };
-    if floor <= dropped {
+    if has_dropped(port.node(), name, dropped, floor) {
         return;
     }
     let _ = port.prune(name, floor);

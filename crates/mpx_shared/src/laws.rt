@@ -4,9 +4,9 @@ ghost use Rattle.atomic_table.specs.Seated.{TableId};
 ghost use Rattle.mpx_name.specs.Name.{Name};
 ghost use Rattle.mpx_post.specs.Births.{BirthView};
 ghost use Rattle.mpx_board.specs.Boards.{told};
-ghost use Rattle.mpx_value.specs.Histories.{posts_on};
+ghost use Rattle.mpx_value.specs.Histories.{has_freed, posts_on};
 ghost use Rattle.mpx_node.specs.declared.finished.Finished.{Finished};
-ghost use Rattle.mpx_node.specs.Nodes.{results_on};
+ghost use Rattle.mpx_node.specs.Nodes.{freed_on, results_on};
 ghost use Rattle.mpx_bus.specs.declared.act.Setup.{Setup};
 ghost use Rattle.mpx_bus.specs.Rule.{planned_posts};
 ghost use Rattle.mpx_bus.specs.Berths.{Berth, IsNew, node_in};
@@ -14,7 +14,8 @@ ghost use Rattle.mpx_shared.specs.Docks.{IsDocked, made_in, planned_birth};
 ghost use Rattle.mpx_shared.specs.Laws.{IsBirth, IsFinished, IsPlannedResult};
 
 /// Each result that a docked port holds is the value of a row, beside the port's own post, and each birth on its board is one, in a
-/// history that can happen. Where there is a plan, the posts are the first of the plan, and the results and births are the plan's.
+/// history that can happen; and its node knows of a free just where one is among its posts. Where there is a plan, the posts are the
+/// first of the plan, and the results and births are the plan's.
 pub fn docked_ports_hold_what_is_so()
     ensures results { (table : TableId) (setup : Setup) (me : ℕ) (port : Berth) (name : Name) (call : ℕ) (f : Finished) → IsDocked table setup me port
         → slice_get (results_on (node_in port) name) call ≡ Some f → IsFinished setup me name call f }
@@ -22,6 +23,8 @@ pub fn docked_ports_hold_what_is_so()
         → slice_get (results_on (node_in port) name) call ≡ Some f → slice_get (posts_on name (made_in port)) call ≡ Some f.mine }
     ensures planned_results { (setup : Setup) (me : ℕ) (name : Name) (call : ℕ) (f : Finished) → setup.planned ≡ true
         → IsFinished setup me name call f → IsPlannedResult setup me name call f }
+    ensures frees { (table : TableId) (setup : Setup) (me : ℕ) (port : Berth) (name : Name) → IsDocked table setup me port
+        → freed_on (node_in port) name ≡ has_freed name (made_in port) }
     ensures births { (table : TableId) (setup : Setup) (me : ℕ) (port : Berth) (name : Name) (birth : BirthView) → IsDocked table setup me port
         → told ((node_in port).board.contexts name).birth ≡ Some birth → IsBirth setup name birth }
     ensures planned_births { (setup : Setup) (name : Name) (birth : BirthView) → setup.planned ≡ true

@@ -7,10 +7,10 @@ ghost use Rattle.mpx_bus.specs.Berths.{Goes, node_in};
 ghost use Rattle.mpx_bus.specs.Buses.{table_of};
 ghost use Rattle.mpx_shared.specs.Docks.{HasGoneOn, IsDocked, IsNext, MakesNoPost, made_in};
 ghost use Rattle.mpx_shared.specs.Gossip.{Pulls, frame_limit};
-ghost use Rattle.mpx_shared.specs.Tickets.{Answers, OpensThen, PostsThen, TellsBirth, call_of};
+ghost use Rattle.mpx_shared.specs.Tickets.{Answers, OpensThen, PostsThen, TellsBirth, TellsClosed, call_of};
 ghost use Rattle.mpx_shared.specs.Turns.{PullsThen, PutsThen};
 
-use crate::contexts::{add_context, new_context};
+use crate::contexts::{add_context, leave_dead, new_context};
 use crate::dock::Dock;
 use crate::fingerprint::fingerprint;
 use crate::gossip::pull_on;
@@ -29,7 +29,7 @@ use std::sync::ledger::{Book, Share};
 const LIMIT: usize = 1_048_576;
 
 /// A port under a lock, with the book of its posts and the contexts on which it has posted. To a contract it is the port, how many
-/// posts it has made since it was put there, and on which contexts below the world.
+/// posts it has made since it was put there, and on which contexts below the world that aren't dead.
 #[derive(Drop)]
 pub struct Moored<L: Dock> {
     port: Port,
@@ -120,20 +120,37 @@ impl<L: Dock> Moored<L> {
     pub fn open_gathering(
         &mut self,
         alloc: Global,
+        share: &mut Share<L>,
         parent: &Name,
         tag: i128,
         ranks: &[i128],
     ) -> Result<Name, PostError>
+        requires whole { share.old.parts ≡ L.parts }
+        ensures parts { share.new.parts ≡ share.old.parts }
+        ensures amount { share.new.amount ≡ share.old.amount }
         ensures port { MakesNoPost self.old.0 self.new.0 }
         ensures err { OnErr result (self.new ≡ self.old) }
         ensures node { Opens parent.now (gathers_on (node_in self.old.0) parent.now tag ranks.now) result (node_in self.old.0) (node_in self.new.0) }
-        ensures then { OpensThen L.table L.setup L.me L.opening parent.now tag ranks.now result }
+        ensures then { OpensThen L.table L.setup L.me L.opening (L.before + share.old.amount) parent.now tag ranks.now result }
     {
+        self.book.audit(share);
         // so that the proof knows that the port stands where its journal says, before and after
         let _before = self.port.node();
         let opened = self.port.open_gathering(alloc, parent, tag, ranks);
         let _after = self.port.node();
         opened
+    }
+
+    /// Whether the port has posted a free on the context.
+    pub fn is_closed(&mut self, share: &mut Share<L>, name: &Name) -> bool
+        requires whole { share.old.parts ≡ L.parts }
+        ensures parts { share.new.parts ≡ share.old.parts }
+        ensures amount { share.new.amount ≡ share.old.amount }
+        ensures same { self.new ≡ self.old }
+        ensures then { TellsClosed L.table L.setup L.me L.opening (L.before + share.old.amount) name.now result }
+    {
+        self.book.audit(share);
+        self.port.node().has_freed(name)
     }
 
     /// How a communicator came to be, where the port's board tells it.
@@ -147,6 +164,7 @@ impl<L: Dock> Moored<L> {
     }
 
     /// Pops a frame and takes in its part; then stores the results that can be had, and drops what every member has harvested.
+    /// Contexts that are dead then are looked at no more.
     pub fn pull<R: Wait>(&mut self, rt: &R, alloc: Global, bus: &Bus) -> Pull
         requires queue { table_of bus.now ≡ L.table }
         ensures port { MakesNoPost self.old.0 self.new.0 }
@@ -156,7 +174,8 @@ impl<L: Dock> Moored<L> {
         // so that the proof knows that the port stands where its journal says, before and after
         let _before = self.port.node();
         let pull = pull_on(rt, alloc, bus, &mut self.port, self.contexts.as_slice());
-        let _after = self.port.node();
+        let after = self.port.node();
+        leave_dead(&mut self.contexts, after.board());
         pull
     }
 

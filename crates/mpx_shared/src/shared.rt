@@ -2,7 +2,7 @@
 ghost use Rattle.std.specs.Prelude.{◌≡◌, ◌+◌, ◌<◌, length, IfOk, OnOk, OnErr};
 ghost use Rattle.mpx_bus.specs.Buses.{table_of};
 ghost use Rattle.mpx_shared.specs.Docks.{HasGoneOn, IsDocked, IsNext, made_in};
-ghost use Rattle.mpx_shared.specs.Tickets.{Answers, OpensThen, PostsThen, TellsBirth};
+ghost use Rattle.mpx_shared.specs.Tickets.{Answers, OpensThen, PostsThen, TellsBirth, TellsClosed};
 ghost use Rattle.mpx_shared.specs.Turns.{PullsThen, PutsThen, TurnsThen};
 
 use crate::dock::Dock;
@@ -79,20 +79,33 @@ impl<L: Dock> SharedPort<L> {
         self.moored.lock(rt).test(alloc, ticket)
     }
 
-    /// Opens a gathering, as [`Port::open_gathering`] does. An `Err` leaves all as before.
+    /// Opens a gathering, as [`Port::open_gathering`] does. An `Err` leaves all as before. The poster is asked, since it knows how many
+    /// posts the port has made, and with that whether it has posted a free on the parent.
     pub fn open_gathering<R: Wait>(
         &self,
         rt: &R,
         alloc: Global,
+        poster: &mut Poster<L>,
         parent: &Name,
         tag: i128,
         ranks: &[i128],
     ) -> Result<Name, PostError>
-        ensures { OpensThen L.table L.setup L.me L.opening parent.now tag ranks.now result }
+        requires ledger { L.all ≡ L.parts }
+        ensures amount { poster.new.share.amount ≡ poster.old.share.amount }
+        ensures then { OpensThen L.table L.setup L.me L.opening (L.before + poster.old.share.amount) parent.now tag ranks.now result }
     {
         self.moored
             .lock(rt)
-            .open_gathering(alloc, parent, tag, ranks)
+            .open_gathering(alloc, &mut poster.share, parent, tag, ranks)
+    }
+
+    /// Whether the port has posted a free on the context. The poster is asked, since it knows how many posts the port has made.
+    pub fn is_closed<R: Wait>(&self, rt: &R, poster: &mut Poster<L>, name: &Name) -> bool
+        requires ledger { L.all ≡ L.parts }
+        ensures amount { poster.new.share.amount ≡ poster.old.share.amount }
+        ensures then { TellsClosed L.table L.setup L.me L.opening (L.before + poster.old.share.amount) name.now result }
+    {
+        self.moored.lock(rt).is_closed(&mut poster.share, name)
     }
 
     /// How a communicator came to be, where the port's board tells it.

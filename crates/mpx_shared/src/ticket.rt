@@ -64,7 +64,7 @@ pub(crate) fn ticket_for(
     let Ok(draft) = draft.copy() else {
         return Err(PostError::OutOfMemory);
     };
-    let post = draft.check(alloc, birth, me, &At::on(name, call))?;
+    let post = draft.check(alloc, birth, me, &At::on(name, call, false))?;
     match name.copy(alloc) {
         Ok(name) => Ok(Ticket { name, call, post }),
         Err(_) => Err(PostError::OutOfMemory),

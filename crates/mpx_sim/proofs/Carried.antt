@@ -1,13 +1,12 @@
 -- A rank's moves are those of a process of the run, where its desk carries its posts.
 use Rattle.std.proofs.Common.{◌≡◌, ℕ, Bool, true, false, List, [], ◌∷◌, ◌++◌, map, Option, Some, None, refl, sym, ap, ◌∙◌, subst}
-use Rattle.std.specs.Prelude.{◌&&◌, is_some, option_and_then, slice_get, Ok, Err}
+use Rattle.std.specs.Prelude.{◌&&◌, is_some, slice_get, Ok, Err}
 use Rattle.std.specs.Option.{option_map}
 use Rattle.std.proofs.lemmas.Option.{same_Some}
 use Rattle.mpx_name.specs.Name.{Name}
-use Rattle.mpx_value.specs.Histories.{Answer, answer_with}
 use Rattle.mpx_comm.specs.declared.comm.Comm.{Comm}
 use Rattle.mpx_node.specs.declared.finished.Finished.{Finished}
-use Rattle.mpx_node.specs.Nodes.{NodeView, results_on}
+use Rattle.mpx_node.specs.Nodes.{NodeView, freed_on, results_on}
 use Rattle.mpx_node.specs.Shown.{node_of}
 use Rattle.mpx_statement.specs.Statements.{bound_to, posted_on}
 use Rattle.mpx_evaluation.specs.Ranks.{answered_by}
@@ -15,9 +14,8 @@ use Rattle.mpx_evaluation.specs.Standing.{binds, closed}
 use Rattle.mpx_evaluation.specs.Transcripts.{line_text, outcome_text}
 use Rattle.mpx_evaluation.proofs.Standing.{binds_seen}
 use Rattle.mpx_rank.proofs.Telling.{done_first}
-use Rattle.mpx_rank.specs.Moves.{GoesOn, Move, Ran, RankView, Still, are_done, asks, communicator_in, has_ended, hears, is_done, is_refused, moved_on, passes, passes_not, posts, posts_not, request_line, starts, stayed, wait_lines, waits_on}
+use Rattle.mpx_rank.specs.Moves.{GoesOn, Move, Ran, RankView, Still, are_done, asks, communicator_in, found_in, has_ended, hears, is_done, is_refused, moved_on, passes, passes_not, posts, posts_not, request_line, starts, stayed, wait_lines, waits_on}
 use Rattle.mpx_system.specs.Running as Y
-use Rattle.mpx_system.specs.Systems.{node_births, node_tells}
 use Rattle.mpx_system.proofs.Moving.{moves_asks, moves_hears, moves_itself, moves_keeps, moves_passes, moves_posts, moves_refused, moves_starts, moves_then}
 use Rattle.mpx_sim.specs.declared.desk.RunDesk.{RunDesk}
 use Rattle.mpx_sim.specs.Carrying.{desk_terms, outcomes_on}
@@ -31,10 +29,10 @@ named_in None = refl
 named_in (Some None) = refl
 named_in (Some (Some c)) = refl
 
-known_in : (node : NodeView) (o : Option (Option Comm)) → option_and_then (λ (c : Comm). Y.known_to node (Some c.name)) (communicator_in o) ≡ Y.known_to node (Y.communicator_in (option_map name_in o))
-known_in node None = refl
-known_in node (Some None) = refl
-known_in node (Some (Some c)) = refl
+found_so : (node : NodeView) (o : Option (Option Comm)) → found_in (λ (c : Comm). freed_on node c.name) (λ (c : Comm). Y.known_to node c.name) (communicator_in o) ≡ Y.found_at node (Y.communicator_in (option_map name_in o))
+found_so node None = refl
+found_so node (Some None) = refl
+found_so node (Some (Some c)) = refl
 
 -- WAITS
 
@@ -73,13 +71,11 @@ move_is r c s d (hears w outcome text to waits heard tells said gives) =
     let node = node_of d.desk.host in
     let mid = process_with r node in
     let f = gives.0 in
-    let answer : Answer = answer_with (node_births node) f.outcome in
-    let told : node_tells node w.name w.call ≡ Some answer = ap (option_map (λ (f : Finished). answer_with (node_births node) f.outcome)) gives.1 in
     let same : outcome ≡ f.outcome = same_Some outcome f.outcome (sym tells ∙ ap (option_map (λ (f : Finished). f.outcome)) gives.1) in
     let bound : (word : List ℕ) → binds w.target (Y.given_name f.outcome) (names_of r.bound) word ≡ names_of s.bound word = λ word. ap (λ n. binds w.target n (names_of r.bound) word) (sym gives.2) ∙ sym (binds_seen name_in w.target to r.bound word) in
     moves_then old mid (process_with s node) (moves_keeps old mid (keeps_harvested old.node node heard.0 old refl))
     (subst (Y.Moves mid) (λ i. record { me = r.me; node = node; bound = λ word. bound word i; requests = r.requests; todo = r.todo; waits = None; lines = r.lines ++ text ∷ [] })
-    (moves_hears mid w answer text waits told (said ∙ ap outcome_text same)))
+    (moves_hears mid w f text waits gives.1 (said ∙ ap outcome_text same)))
 move_is r c s d (posts posting rest name call waits todo none tries) =
     let old = process_with r (node_of c.desk.host) in
     let tried : Y.Tries (Y.tried posting (old.bound (posted_on posting)) old.node) (Ok (name, call)) (node_of d.desk.host) = subst (λ o. Y.Tries (Y.tried_on posting o old.node) (Ok (name, call)) (node_of d.desk.host)) (named_in (r.bound (posted_on posting))) tries in
@@ -106,7 +102,7 @@ move_is r c s d (passes {mid = between} words rest waits todo before done after)
     (moves_passes mid words rest waits todo (sym (are_held_is node r.requests words) ∙ done))) more)
 move_is r c s d (asks question rest text waits todo said) =
     let old = process_with r (node_of c.desk.host) in
-    moves_asks old question rest text waits todo (said ∙ ap line_text (λ i. answered_by r.me (λ word. known_in old.node (r.bound word) i) question))
+    moves_asks old question rest text waits todo (said ∙ ap line_text (λ i. answered_by r.me (λ word. found_so old.node (r.bound word) i) question))
 
 -- without a move it harvests at most
 pub still_is : (r : RankView Comm) (c d : RunDesk) → Still desk_terms r c d → Y.Moves (process_with r (node_of c.desk.host)) (process_with r (node_of d.desk.host))

@@ -10,7 +10,7 @@ use Rattle.mpx_board.specs.Looks.{look}
 use Rattle.mpx_board.specs.Parts.{PartsView}
 use Rattle.mpx_format.specs.declared.faults.WireError.{WireError}
 use Rattle.mpx_format.specs.declared.faults.WireError.TheVariants as E
-use Rattle.mpx_format.specs.Contexts.{frame}
+use Rattle.mpx_format.specs.declared.versions.Version.{Version}
 use Rattle.mpx_format.specs.Decoding.{Spells, Refuses, most_bytes, decoded}
 use Rattle.mpx_format.specs.Encoding.{is_too_long, length_told}
 use Rattle.mpx_format.proofs.Decoded.{decoded_again}
@@ -23,11 +23,11 @@ use Rattle.mpx_system.proofs.Running.{run_sends}
 
 -- BYTES
 
-pub spelled_ok : (bytes : List ℕ) (v : PartsView) → Spells bytes v → IsTrue (is_ok (decoded bytes))
-spelled_ok bytes v s = ap is_ok (decoded_again bytes v s)
+pub spelled_ok : (version : Version) (bytes : List ℕ) (v : PartsView) → Spells version bytes v → IsTrue (is_ok (decoded bytes))
+spelled_ok version bytes v s = ap is_ok (decoded_again version bytes v s)
 
-pub spelled_shown : (bytes : List ℕ) (v : PartsView) → Spells bytes v → shown (decoded bytes) ≡ look_of v
-spelled_shown bytes v s = ap shown (decoded_again bytes v s)
+pub spelled_shown : (version : Version) (bytes : List ℕ) (v : PartsView) → Spells version bytes v → shown (decoded bytes) ≡ look_of v
+spelled_shown version bytes v s = ap shown (decoded_again version bytes v s)
 
 is_refused : (r : Result PartsView WireError) (e : WireError) → IsTrue (is_ok r) → r ≡ Err e → ⊥
 is_refused r e ok f = let none : false ≡ true = sym (ap is_ok f) ∙ ok in cc none

@@ -9,7 +9,7 @@ use Rattle.mpx_comm.specs.Later.{Later, result_at}
 use Rattle.mpx_comm.proofs.Harvesting.{harvested_none, harvested_then}
 use Rattle.mpx_comm.proofs.Steps.{later_more, later_none}
 use Rattle.mpx_node.specs.declared.finished.Finished.{Finished}
-use Rattle.mpx_node.specs.Nodes.{NodeView}
+use Rattle.mpx_node.specs.Nodes.{NodeView, freed_on}
 use Rattle.mpx_node.specs.Shown.{node_of}
 use Rattle.mpx_rank.specs.Carriers.{AtOnce, IsWithin, Outcomes, Terms}
 use Rattle.mpx_system.specs.Running.{Tries, given_name, known_to, tried_on}
@@ -25,12 +25,13 @@ abbrev pub outcomes_on : NodeView → Outcomes
 outcomes_on node name call = outcome_in (result_at node name call)
 
 -- the outcomes that its node holds, and the communicators that these give; of a communicator is known how it came to be as its
--- board tells; a post is tried on its node; and it harvests
+-- board tells, and it is closed where its node has posted a free; a post is tried on its node; and it harvests
 abbrev pub desk_terms : Terms RunDesk Comm
 desk_terms = record {
   tells = λ d me. outcomes_on (node_of d.desk.host);
   gives = λ d me name call to. (f : Finished) × (result_at (node_of d.desk.host) name call ≡ Some f) × (name_in to ≡ given_name f.outcome);
-  knows = λ d comm. known_to (node_of d.desk.host) (Some comm.name);
+  knows = λ d comm. known_to (node_of d.desk.host) comm.name;
+  closes = λ d me comm. freed_on (node_of d.desk.host) comm.name;
   may = λ d me posting on. Unit {0};
   tries = λ d me posting on result e. AtOnce (λ answer. Tries (tried_on posting (name_in on) (node_of d.desk.host)) answer (node_of e.desk.host)) result;
   hears = λ d e. Harvested (node_of d.desk.host) (node_of e.desk.host) × Later (node_of d.desk.host) (node_of e.desk.host);

@@ -70,11 +70,14 @@ impl RunDesk {
     }
 
     /// Drops the posts that every member has harvested, of each context that it looks at, by what its board knows of that. It
-    /// answers whether there were any.
+    /// answers whether there were any. Contexts that are dead then are looked at no more.
     pub(crate) fn prune(&mut self) -> bool
         ensures { KeepsNode (node_of self.old.desk.host) (node_of self.new.desk.host) }
     {
-        prune_all(&mut self.desk, &self.contexts)
+        let changed = prune_all(&mut self.desk, &self.contexts);
+        let board = self.desk.host().board();
+        self.contexts.retain(|name| !board.is_dead(name));
+        changed
     }
 }
 
@@ -133,6 +136,10 @@ impl Carrier for RunDesk {
     fn known<'m>(&'m self, communicator: &'m Comm) -> Option<(&'m Name, &'m Birth)> {
         let birth = self.desk.host().board().birth(communicator.name())?;
         Some((communicator.name(), birth))
+    }
+
+    fn is_closed(&mut self, _me: Proc, communicator: &Comm) -> bool {
+        self.desk.host().has_freed(communicator.name())
     }
 
     ghost hears_nothing = { hears_nothing };
@@ -254,11 +261,18 @@ fn prune_all(desk: &mut Desk<Node>, contexts: &[Name]) -> bool
     changed
 }
 
-// Whether the process is a member whose own front the dropped front has reached, which no floor passes.
+// Whether the process is a member whose own front the dropped front has reached, which no floor passes, and has no free there.
 fn has_none_to_drop(node: &Node, name: &Name, dropped: u32) -> bool {
-    node.posted(name) > 0 && node.front(name) <= dropped
+    node.posted(name) > 0 && node.front(name) <= dropped && !node.has_freed(name)
 }
 
+// Whether all that every member has harvested is dropped, and no free is among it.
+fn has_dropped(node: &Node, name: &Name, dropped: u32, floor: u32) -> bool {
+    floor <= dropped && !node.is_past_free(name, floor)
+}
+
+// Drops what every member has harvested, where that is more than is dropped. Where it is past a free, the context is dead then, whatever
+// others had dropped before.
 fn prune_on(desk: &mut Desk<Node>, name: &Name) -> bool
     ensures { KeepsNode (node_of desk.old.host) (node_of desk.new.host) }
 {
@@ -269,7 +283,7 @@ fn prune_on(desk: &mut Desk<Node>, name: &Name) -> bool
     let Some(floor) = desk.host().board().floor(name) else {
         return false;
     };
-    if floor <= dropped {
+    if has_dropped(desk.host(), name, dropped, floor) {
         return false;
     }
     desk.prune(name, floor).is_ok()

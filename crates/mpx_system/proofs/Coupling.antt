@@ -6,12 +6,10 @@ use Rattle.std.specs.Str.{bytes_eq}
 use Rattle.std.proofs.lemmas.Bool.Decides.{nat_tests}
 use Rattle.mpx_name.specs.Name.{Name}
 use Rattle.mpx_post.specs.Births.{BirthView}
-use Rattle.mpx_post.specs.Drafts.{at}
 use Rattle.mpx_post.specs.declared.draft.PostError.{PostError}
-use Rattle.mpx_board.specs.Boards.{told}
 use Rattle.mpx_value.specs.declared.outcomes.Outcome.TheVariants.{NewComm}
 use Rattle.mpx_value.specs.Histories.{Answer, Made, answer_with, birth_of, posts_on, Results, Within, results_of}
-use Rattle.mpx_node.specs.Nodes.{OpenedView, opened_at_start}
+use Rattle.mpx_node.specs.Nodes.{OpenedView, fresh, opened_at_start}
 use Rattle.mpx_world.specs.Worlds.{WorldView, history, births, Happening, IsNoPost, happens, MayHappen}
 use Rattle.mpx_world.specs.Worlds.{goes_on as goes_on_world}
 use Rattle.mpx_world.proofs.Lists.{same_number, name_itself}
@@ -35,9 +33,9 @@ use Rattle.mpx_evaluation.proofs.Ahead.{goes_on_cases}
 use Rattle.mpx_evaluation.proofs.Ends.{goes_on-at}
 use Rattle.mpx_evaluation.proofs.Passing.{carries_out-grows, step-carries_out, carried_out-tell}
 use Rattle.mpx_evaluation.proofs.Tells.{each-me, each-bound, given_by, named-bound}
-use Rattle.mpx_system.specs.Systems.{System, node_tells, posts_bound, posts_of, Doing, Nets, Drives, does, does_all, MayDo, MayDoAll, start_system, TellsResults}
+use Rattle.mpx_system.specs.Systems.{System, posts_bound, posts_of, Doing, Nets, Drives, does, does_all, MayDo, MayDoAll, start_system, TellsResults, world_tells}
 use Rattle.mpx_system.specs.Running.{Tried, answered_on, name_of, names_in, tried}
-use Rattle.mpx_system.proofs.Posting.{Upheld, upheld_happens, is_told, tells_at, tells_on, value_known, Follows, Driven, follows_itself, IsBoundSo, driven_bound, known_bound}
+use Rattle.mpx_system.proofs.Posting.{Upheld, upheld_happens, is_there, tells_at, tells_on, value_known, Follows, Driven, follows_itself, IsBoundSo, driven_bound, found_bound}
 
 -- A WORLD AND ITS RANKS
 
@@ -50,7 +48,7 @@ pub record Couples (script : List (List Statement)) (ranks : ℕ) (s : System) :
   pub opened : (p : ℕ) → p < ranks → (word : List ℕ) (name : Name) (birth : BirthView) → named (s.ranks p).bound word ≡ Some (Communicator name birth) → IsTrue (is_some ((s.world.each p).node.opened name))
   pub made : (p : ℕ) → (s.world.each p).made ≡ (s.ranks p).made
   pub relays : (p : ℕ) → ranks ≤ p → (s.ranks p).made ≡ []
-  pub told : (p : ℕ) → CarriesOut (node_tells (s.world.each p).node) (bound_at_start ranks) (statements_of script p) (s.ranks p)
+  pub told : (p : ℕ) → CarriesOut (world_tells s.world p) (bound_at_start ranks) (statements_of script p) (s.ranks p)
   pub reached : IsReached script ranks s.ranks
 
 module _ (script : List (List Statement)) (ranks : ℕ) (s : System) (c : Couples script ranks s) where
@@ -58,7 +56,7 @@ module _ (script : List (List Statement)) (ranks : ℕ) (s : System) (c : Couple
   one_history = λ i. history_of_ranks (λ p. record (s.ranks p) { made = c.made p i })
 
   -- what a node tells is known in the evaluation
-  pub tells_known : (p : ℕ) → Within (node_tells (s.world.each p).node) (known ranks s.ranks p)
+  pub tells_known : (p : ℕ) → Within (world_tells s.world p) (known ranks s.ranks p)
   tells_known p name k answer e =
       let found = tells_at s.world c.upheld p name k answer e in
       let value = (c.upheld.holds.processes p).values name k found.0 found.1 in
@@ -80,12 +78,14 @@ module _ (script : List (List Statement)) (ranks : ℕ) (s : System) (c : Couple
   attempts_same p posting = λ i. attempt_on (each-me script ranks s.ranks c.reached p i) (sym (c.made p) i) posting (named (s.ranks p).bound (word_of posting))
 
   pub driven : (p : ℕ) → p < ranks → (posting : Posting)
-      → Driven s.world p (posts_bound p posting (named (s.ranks p).bound (word_of posting))) (attempt_at p posting) (tried posting (option_map name_of (named (s.ranks p).bound (word_of posting))) (s.world.each p).node)
+      → Driven s.world p (posts_bound p (s.world.each p).made posting (named (s.ranks p).bound (word_of posting))) (attempt_at p posting) (tried posting (option_map name_of (named (s.ranks p).bound (word_of posting))) (s.world.each p).node)
   driven p l posting = driven_bound s.world c.upheld p posting (named (s.ranks p).bound (word_of posting)) (bound_so p l (word_of posting))
 
   -- a rank that asks is answered by what its node knows
-  pub answer_same : (p : ℕ) → p < ranks → (question : Question) → answered_on (s.ranks p).me (names_in (s.ranks p).bound) question (s.world.each p).node ≡ answered_rank (s.ranks p).me (s.ranks p).bound question
-  answer_same p l question = λ i. answered_by (s.ranks p).me (λ word. known_bound s.world c.upheld p (named (s.ranks p).bound word) (bound_so p l word) i) question
+  pub answer_same : (p : ℕ) → p < ranks → (question : Question) → answered_on (s.ranks p).me (names_in (s.ranks p).bound) question (s.world.each p).node ≡ answered_rank (s.ranks p).me (s.ranks p).bound (s.ranks p).made question
+  answer_same p l question =
+      (λ i. answered_by (s.ranks p).me (λ word. found_bound s.world c.upheld p (named (s.ranks p).bound word) (bound_so p l word) i) question)
+      ∙ ap (λ ms. answered_rank (s.ranks p).me (s.ranks p).bound ms question) (c.made p)
 
 -- A RANK'S MOVE
 
@@ -121,14 +121,14 @@ goes_on-same s p r more t e f = λ i q. by_rank (λ j. goes_on s p r j ≡ goes_
 
 module _ (script : List (List Statement)) (ranks : ℕ) (s : System) (c : Couples script ranks s) where
   -- the rank moves, and its posts are made
-  couples_move : (p : ℕ) → p < ranks → (new : WorldView) (added : List Made) (t : Local) → step (node_tells (s.world.each p).node) (s.ranks p) ≡ Some t → t.made ≡ (s.ranks p).made ++ added → Follows p s.world new added
+  couples_move : (p : ℕ) → p < ranks → (new : WorldView) (added : List Made) (t : Local) → step (world_tells s.world p) (s.ranks p) ≡ Some t → t.made ≡ (s.ranks p).made ++ added → Follows p s.world new added
       → ((word : List ℕ) (name : Name) (birth : BirthView) → named t.bound word ≡ Some (Communicator name birth) → IsTrue (is_some ((new.each p).node.opened name)))
-      → Couples script ranks (record { world = new; ranks = goes_on s.ranks p (node_tells (s.world.each p).node) })
+      → Couples script ranks (record { world = new; ranks = goes_on s.ranks p (world_tells s.world p) })
   couples_move p l new added t e more f bound =
-      let r = node_tells (s.world.each p).node in
+      let r = world_tells s.world p in
       let at : goes_on s.ranks p r p ≡ t = goes_on-at s.ranks p r t e in
       let known_step : step (known ranks s.ranks p) (s.ranks p) ≡ Some t = step-grows r (known ranks s.ranks p) (tells_known script ranks s c p) (s.ranks p) t e in
-      let told : (q : ℕ) → Within (node_tells (s.world.each q).node) (node_tells (new.each q).node) = tells_on s.world new f.later c.upheld f.upheld in
+      let told : (q : ℕ) → Within (world_tells s.world q) (world_tells new q) = tells_on s.world new f.later c.upheld f.upheld in
       record {
         upheld = f.upheld;
         size = sym f.later.ranks ∙ c.size;
@@ -141,15 +141,15 @@ module _ (script : List (List Statement)) (ranks : ℕ) (s : System) (c : Couple
         relays = λ q above. by_rank (λ j. ranks ≤ j → (goes_on s.ranks p r j).made ≡ []) p q
             (λ over. absurd (omega (arith, over, l)))
             (λ d over. ap (λ (u : Local). u.made) (goes_on-other s.ranks p r q d) ∙ c.relays q over) above;
-        told = goes_on_cases (λ q u. CarriesOut (node_tells (new.each q).node) (bound_at_start ranks) (statements_of script q) u) s.ranks p r
-            (λ q. carries_out-grows (node_tells (s.world.each q).node) (node_tells (new.each q).node) (told q) (bound_at_start ranks) (statements_of script q) (s.ranks q) (c.told q))
-            (λ u g. carries_out-grows r (node_tells (new.each p).node) (told p) (bound_at_start ranks) (statements_of script p) u (step-carries_out r (bound_at_start ranks) (statements_of script p) (s.ranks p) u (c.told p) g));
+        told = goes_on_cases (λ q u. CarriesOut (world_tells new q) (bound_at_start ranks) (statements_of script q) u) s.ranks p r
+            (λ q. carries_out-grows (world_tells s.world q) (world_tells new q) (told q) (bound_at_start ranks) (statements_of script q) (s.ranks q) (c.told q))
+            (λ u g. carries_out-grows r (world_tells new p) (told p) (bound_at_start ranks) (statements_of script p) u (step-carries_out r (bound_at_start ranks) (statements_of script p) (s.ranks p) u (c.told p) g));
         reached = subst (IsReached script ranks) (sym (goes_on-same s.ranks p r (known ranks s.ranks p) t e known_step)) (reached-more script ranks s.ranks p c.reached);
       }
 
   -- it has no move
-  couples_stay : (p : ℕ) → step (node_tells (s.world.each p).node) (s.ranks p) ≡ None → Couples script ranks (record { world = s.world; ranks = goes_on s.ranks p (node_tells (s.world.each p).node) })
-  couples_stay p e = subst (λ u. Couples script ranks (record { world = s.world; ranks = u })) (goes_on-none s.ranks p (node_tells (s.world.each p).node) e) c
+  couples_stay : (p : ℕ) → step (world_tells s.world p) (s.ranks p) ≡ None → Couples script ranks (record { world = s.world; ranks = goes_on s.ranks p (world_tells s.world p) })
+  couples_stay p e = subst (λ u. Couples script ranks (record { world = s.world; ranks = u })) (goes_on-none s.ranks p (world_tells s.world p) e) c
 
   -- what is no post
   couples_net : (h : Happening) → IsNoPost h → MayHappen s.world h → Couples script ranks (record { world = happens s.world h; ranks = s.ranks })
@@ -162,7 +162,7 @@ module _ (script : List (List Statement)) (ranks : ℕ) (s : System) (c : Couple
         opened = λ p l word name birth e. (later.kept p).opened_kept name (c.opened p l word name birth e);
         made = λ p. made_happens s.world h net p ∙ c.made p;
         relays = c.relays;
-        told = λ p. carries_out-grows (node_tells (s.world.each p).node) (node_tells ((happens s.world h).each p).node) (tells_on s.world (happens s.world h) later c.upheld upheld p) (bound_at_start ranks) (statements_of script p) (s.ranks p) (c.told p);
+        told = λ p. carries_out-grows (world_tells s.world p) (world_tells (happens s.world h) p) (tells_on s.world (happens s.world h) later c.upheld upheld p) (bound_at_start ranks) (statements_of script p) (s.ranks p) (c.told p);
         reached = c.reached;
       }
 
@@ -175,66 +175,66 @@ module _ (script : List (List Statement)) (ranks : ℕ) (s : System) (c : Couple
   ]
 
   abbrev driven_to : (p : ℕ) → List Happening → System
-  driven_to p hs = record { world = goes_on_world s.world hs; ranks = goes_on s.ranks p (node_tells (s.world.each p).node) }
+  driven_to p hs = record { world = goes_on_world s.world hs; ranks = goes_on s.ranks p (world_tells s.world p) }
 
   -- an accepted post, whose outcome is awaited or whose request is open from then on
   couples_accepted : (p : ℕ) → p < ranks → (posting : Posting) (rest : List Todo) → (s.ranks p).todo ≡ Do (Post posting) ∷ rest → (hs : List Happening) (t : Tried) (m : Made) → attempt_at script ranks s c p posting ≡ Ok m → Driven s.world p hs (Ok m) t
       → (request : Option (List ℕ)) → started_as posting ≡ request → Couples script ranks (driven_to p hs)
   couples_accepted p l posting rest e hs t m f d None b =
       couples_move p l (goes_on_world s.world hs) (m ∷ []) (done (s.ranks p) (posted (s.ranks p) (bound_to posting) rest m))
-      (step_posts (node_tells (s.world.each p).node) (s.ranks p) posting rest m e b (attempts_same script ranks s c p posting ∙ f)) refl d.follows
+      (step_posts (world_tells s.world p) (s.ranks p) posting rest m e b (attempts_same script ranks s c p posting ∙ f)) refl d.follows
       (λ word name birth h. (d.follows.later.kept p).opened_kept name (c.opened p l word name birth h))
   couples_accepted p l posting rest e hs t m f d (Some request) b =
       couples_move p l (goes_on_world s.world hs) (m ∷ []) (done (s.ranks p) (started (s.ranks p) request rest m))
-      (step_starts (node_tells (s.world.each p).node) (s.ranks p) posting rest request m e b (attempts_same script ranks s c p posting ∙ f)) refl d.follows
+      (step_starts (world_tells s.world p) (s.ranks p) posting rest request m e b (attempts_same script ranks s c p posting ∙ f)) refl d.follows
       (λ word name birth h. (d.follows.later.kept p).opened_kept name (c.opened p l word name birth h))
 
   couples_posts : (p : ℕ) → p < ranks → (posting : Posting) (rest : List Todo) → (s.ranks p).todo ≡ Do (Post posting) ∷ rest → (hs : List Happening) (t : Tried) (o : Result Made PostError) → attempt_at script ranks s c p posting ≡ o → Driven s.world p hs o t → Couples script ranks (driven_to p hs)
   couples_posts p l posting rest e hs t (Ok m) f d = couples_accepted p l posting rest e hs t m f d (started_as posting) refl
   couples_posts p l posting rest e hs t (Err refusal) f d =
       couples_move p l (goes_on_world s.world hs) [] (done (s.ranks p) (turned_down (s.ranks p) (bound_to posting) rest refusal))
-      (step_refused (node_tells (s.world.each p).node) (s.ranks p) posting rest refusal e (attempts_same script ranks s c p posting ∙ f)) refl d.follows
+      (step_refused (world_tells s.world p) (s.ranks p) posting rest refusal e (attempts_same script ranks s c p posting ∙ f)) refl d.follows
       (bound_more p l (goes_on_world s.world hs) d.follows.later (bound_to posting) NullCommunicator (λ name birth is. cc is))
 
   couples_asks : (p : ℕ) → p < ranks → (question : Question) (rest : List Todo) → (s.ranks p).todo ≡ Do (Ask question) ∷ rest → Couples script ranks (driven_to p [])
   couples_asks p l question rest e =
       couples_move p l s.world [] (done (s.ranks p) (told_at_once (s.ranks p) question rest))
-      (step_asks (node_tells (s.world.each p).node) (s.ranks p) question rest e) refl (follows_itself s.world c.upheld p)
+      (step_asks (world_tells s.world p) (s.ranks p) question rest e) refl (follows_itself s.world c.upheld p)
       (c.opened p l)
 
-  couples_passes : (p : ℕ) → p < ranks → (words : List (List ℕ)) (rest : List Todo) → (s.ranks p).todo ≡ Do (Wait words) ∷ rest → (o : Option (List Answer)) → answers (node_tells (s.world.each p).node) (awaited_by (s.ranks p).requests words) ≡ o → Couples script ranks (driven_to p [])
-  couples_passes p l words rest e None f = couples_stay p (step_stays (node_tells (s.world.each p).node) (s.ranks p) words rest e f)
+  couples_passes : (p : ℕ) → p < ranks → (words : List (List ℕ)) (rest : List Todo) → (s.ranks p).todo ≡ Do (Wait words) ∷ rest → (o : Option (List Answer)) → answers (world_tells s.world p) (awaited_by (s.ranks p).requests words) ≡ o → Couples script ranks (driven_to p [])
+  couples_passes p l words rest e None f = couples_stay p (step_stays (world_tells s.world p) (s.ranks p) words rest e f)
   couples_passes p l words rest e (Some told) f =
       couples_move p l s.world [] (done (s.ranks p) (waited (s.ranks p) words rest told))
-      (step_passes (node_tells (s.world.each p).node) (s.ranks p) words rest told e f) refl (follows_itself s.world c.upheld p)
+      (step_passes (world_tells s.world p) (s.ranks p) words rest told e f) refl (follows_itself s.world c.upheld p)
       (c.opened p l)
 
   -- what an answer binds a word to is opened
-  pub answer_opened : (p : ℕ) (from : Name) (call : ℕ) (answer : Answer) → node_tells (s.world.each p).node from call ≡ Some answer → (name : Name) (birth : BirthView) → bound_by answer.outcome answer.born ≡ Communicator name birth → IsTrue (is_some ((s.world.each p).node.opened name))
+  pub answer_opened : (p : ℕ) (from : Name) (call : ℕ) (answer : Answer) → world_tells s.world p from call ≡ Some answer → (name : Name) (birth : BirthView) → bound_by answer.outcome answer.born ≡ Communicator name birth → IsTrue (is_some ((s.world.each p).node.opened name))
   answer_opened p from call answer e name birth is =
       let found = tells_at s.world c.upheld p from call answer e in
       let given = given_by answer.outcome answer.born name birth is in
       (c.upheld.holds.processes p).opened_given from call found.0 found.1 name given.size given.rank (ap (λ (a : Answer). a.outcome) found.2 ∙ given.is)
 
   -- and its birth is told
-  pub answer_born : (p : ℕ) (from : Name) (call : ℕ) (answer : Answer) → node_tells (s.world.each p).node from call ≡ Some answer → (new : Name) (size rank : ℕ) → answer.outcome ≡ NewComm new size rank → (birth : BirthView) × (answer.born ≡ Some birth)
+  pub answer_born : (p : ℕ) (from : Name) (call : ℕ) (answer : Answer) → world_tells s.world p from call ≡ Some answer → (new : Name) (size rank : ℕ) → answer.outcome ≡ NewComm new size rank → (birth : BirthView) × (answer.born ≡ Some birth)
   answer_born p from call answer e new size rank is =
       let found = tells_at s.world c.upheld p from call answer e in
       let same : found.0.outcome ≡ NewComm new size rank = ap (λ (a : Answer). a.outcome) found.2 ∙ is in
-      let x = is_told s.world c.upheld p new ((c.upheld.holds.processes p).opened_given from call found.0 found.1 new size rank same) in
-      (x.0, ap (λ (a : Answer). a.born) (sym found.2) ∙ ap (λ o. (answer_with (births s.world) o).born) same ∙ x.2)
+      let x = is_there s.world c.upheld p new ((c.upheld.holds.processes p).opened_given from call found.0 found.1 new size rank same) in
+      (x.birth, ap (λ (a : Answer). a.born) (sym found.2) ∙ ap (λ o. (answer_with (births s.world) o).born) same ∙ x.born)
 
-  couples_hears : (p : ℕ) → p < ranks → (name : Name) (call : ℕ) (target : Option (List ℕ)) (rest : List Todo) → (s.ranks p).todo ≡ Await name call target ∷ rest → (o : Option Answer) → node_tells (s.world.each p).node name call ≡ o → Couples script ranks (driven_to p [])
-  couples_hears p l name call target rest e None f = couples_stay p (step_waits (node_tells (s.world.each p).node) (s.ranks p) name call target rest e f)
+  couples_hears : (p : ℕ) → p < ranks → (name : Name) (call : ℕ) (target : Option (List ℕ)) (rest : List Todo) → (s.ranks p).todo ≡ Await name call target ∷ rest → (o : Option Answer) → world_tells s.world p name call ≡ o → Couples script ranks (driven_to p [])
+  couples_hears p l name call target rest e None f = couples_stay p (step_waits (world_tells s.world p) (s.ranks p) name call target rest e f)
   couples_hears p l name call target rest e (Some answer) f =
-      couples_move p l s.world [] (done (s.ranks p) (heard (s.ranks p) name call target rest answer)) (step_hears (node_tells (s.world.each p).node) (s.ranks p) name call target rest answer e f) refl (follows_itself s.world c.upheld p)
+      couples_move p l s.world [] (done (s.ranks p) (heard (s.ranks p) name call target rest answer)) (step_hears (world_tells s.world p) (s.ranks p) name call target rest answer e f) refl (follows_itself s.world c.upheld p)
       (bound_more p l s.world (later_itself s.world) target (bound_by answer.outcome answer.born) (answer_opened p name call answer f))
 
-  couples_drive : (p : ℕ) → p < ranks → (todo : List Todo) → (s.ranks p).todo ≡ todo → Couples script ranks (driven_to p (posts_of p (s.ranks p).bound todo))
-  couples_drive p l [] e = couples_stay p (step_ends (node_tells (s.world.each p).node) (s.ranks p) e)
-  couples_drive p l (Await name call target ∷ rest) e = couples_hears p l name call target rest e (node_tells (s.world.each p).node name call) refl
+  couples_drive : (p : ℕ) → p < ranks → (todo : List Todo) → (s.ranks p).todo ≡ todo → Couples script ranks (driven_to p (posts_of p (s.world.each p).made (s.ranks p).bound todo))
+  couples_drive p l [] e = couples_stay p (step_ends (world_tells s.world p) (s.ranks p) e)
+  couples_drive p l (Await name call target ∷ rest) e = couples_hears p l name call target rest e (world_tells s.world p name call) refl
   couples_drive p l (Do (Post posting) ∷ rest) e = couples_posts p l posting rest e _ _ (attempt_at script ranks s c p posting) refl (driven script ranks s c p l posting)
-  couples_drive p l (Do (Wait words) ∷ rest) e = couples_passes p l words rest e (answers (node_tells (s.world.each p).node) (awaited_by (s.ranks p).requests words)) refl
+  couples_drive p l (Do (Wait words) ∷ rest) e = couples_passes p l words rest e (answers (world_tells s.world p) (awaited_by (s.ranks p).requests words)) refl
   couples_drive p l (Do (Ask question) ∷ rest) e = couples_asks p l question rest e
 
   pub couples_does : (d : Doing) → MayDo ranks s d → Couples script ranks (does s d)
@@ -245,8 +245,7 @@ module _ (script : List (List Statement)) (ranks : ℕ) (s : System) (c : Couple
 
   pub tells_results : (p : ℕ) → TellsResults (s.world.each p).node (s.ranks p)
   tells_results p i name call outcome e =
-      let node = (s.world.each p).node in
-      let tells = carried_out-tell (node_tells node) (bound_at_start ranks) (statements_of script p) (s.ranks p) (c.told p) i name call outcome e in
+      let tells = carried_out-tell (world_tells s.world p) (bound_at_start ranks) (statements_of script p) (s.ranks p) (c.told p) i name call outcome e in
       let found = tells_at s.world c.upheld p name call tells.answer tells.known_as in
       let value = (c.upheld.holds.processes p).values name call found.0 found.1 in
       record { finished = found.0; held = found.1; is = ap (λ (a : Answer). a.outcome) found.2 ∙ tells.is; mine = ap (λ ms. slice_get (posts_on name ms) call) (sym (c.made p)) ∙ value.mine }
@@ -258,8 +257,8 @@ couples_all script ranks (d ∷ ds) s c m = couples_all script ranks ds (does s 
 opened_first : (ranks p : ℕ) → p < ranks → IsTrue (is_some (opened_at_start p ranks []))
 opened_first ranks p l =
     let below : nat_lt p ranks ≡ true = grind (arith, nat_tests, l) in
-    ap (λ b. is_some (let o : Option OpenedView = cond (b && nat_lt p ranks) (Some (record { posted = 0; results = [] })) None in o)) (name_itself [])
-    ∙ ap (λ b. is_some (let o : Option OpenedView = cond b (Some (record { posted = 0; results = [] })) None in o)) below
+    ap (λ b. is_some (let o : Option OpenedView = cond (b && nat_lt p ranks) (Some fresh) None in o)) (name_itself [])
+    ∙ ap (λ b. is_some (let o : Option OpenedView = cond b (Some fresh) None in o)) below
 
 -- before any statement a word is bound to the world alone
 bound_first : (ranks : ℕ) (b : Bool) (name : Name) (birth : BirthView) → (if b then Some (Communicator [] (world_of ranks)) else None) ≡ Some (Communicator name birth) → name ≡ []

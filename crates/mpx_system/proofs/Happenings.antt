@@ -5,6 +5,7 @@ use Rattle.mpx_post.specs.Births.{BirthView}
 use Rattle.mpx_post.specs.Gatherings.{GatheringView, gathering}
 use Rattle.mpx_post.specs.declared.draft.Draft.{Draft}
 use Rattle.mpx_post.specs.declared.draft.PostError.{PostError}
+use Rattle.mpx_value.specs.Histories.{Made, has_freed}
 use Rattle.mpx_world.specs.Worlds.{WorldView, MayGoOn}
 use Rattle.mpx_world.proofs.Whole.{LeadsTo, leads_by, leads_nowhere, leads_on}
 use Rattle.mpx_statement.specs.declared.statement.Posting.{Posting}
@@ -21,27 +22,27 @@ may_gathered : (w : WorldView) (p : ℕ) (draft : Draft) (parent : Name) (asked 
 may_gathered w p draft parent asked (Ok g) = (tt, (tt, tt))
 may_gathered w p draft parent asked (Err refusal) = tt
 
-may_in : (w : WorldView) (p : ℕ) (draft : Draft) (asked : Option Asked) (name : Name) (birth : BirthView) → MayGoOn w (posts_in p draft asked name birth)
-may_in w p draft None name birth = (tt, tt)
-may_in w p draft (Some asked) name birth = may_gathered w p draft name asked (gathering birth p (length name) asked.tag asked.ranks)
+may_in : (w : WorldView) (p : ℕ) (made : List Made) (draft : Draft) (asked : Option Asked) (name : Name) (birth : BirthView) → MayGoOn w (posts_in p made draft asked name birth)
+may_in w p made draft None name birth = (tt, tt)
+may_in w p made draft (Some asked) name birth = may_gathered w p draft name asked (gathering birth p (length name) (has_freed name made) asked.tag asked.ranks)
 
-may_bound : (w : WorldView) (p : ℕ) (posting : Posting) (bound : Option Bound) → MayGoOn w (posts_bound p posting bound)
-may_bound w p posting None = tt
-may_bound w p posting (Some NullCommunicator) = tt
-may_bound w p posting (Some (Communicator name birth)) = may_in w p (draft_of posting) (gathers_of posting) name birth
+may_bound : (w : WorldView) (p : ℕ) (made : List Made) (posting : Posting) (bound : Option Bound) → MayGoOn w (posts_bound p made posting bound)
+may_bound w p made posting None = tt
+may_bound w p made posting (Some NullCommunicator) = tt
+may_bound w p made posting (Some (Communicator name birth)) = may_in w p made (draft_of posting) (gathers_of posting) name birth
 
-may_posts : (w : WorldView) (p : ℕ) (bound : Bindings) (todo : List Todo) → MayGoOn w (posts_of p bound todo)
-may_posts w p bound [] = tt
-may_posts w p bound (Do (Post posting) ∷ rest) = may_bound w p posting (named bound (posted_on posting))
-may_posts w p bound (Do (Wait requests) ∷ rest) = tt
-may_posts w p bound (Do (Ask question) ∷ rest) = tt
-may_posts w p bound (Await name call target ∷ rest) = tt
+may_posts : (w : WorldView) (p : ℕ) (made : List Made) (bound : Bindings) (todo : List Todo) → MayGoOn w (posts_of p made bound todo)
+may_posts w p made bound [] = tt
+may_posts w p made bound (Do (Post posting) ∷ rest) = may_bound w p made posting (named bound (posted_on posting))
+may_posts w p made bound (Do (Wait requests) ∷ rest) = tt
+may_posts w p made bound (Do (Ask question) ∷ rest) = tt
+may_posts w p made bound (Await name call target ∷ rest) = tt
 
 -- DOINGS
 
 doing_leads : (ranks : ℕ) (s : System) (d : Doing) → MayDo ranks s d → LeadsTo s.world (does s d).world
 doing_leads ranks s (Nets h) m = leads_by s.world h m.1
-doing_leads ranks s (Drives p) m = record { happenings = posts_of p (s.ranks p).bound (s.ranks p).todo; may = may_posts s.world p (s.ranks p).bound (s.ranks p).todo; is = refl }
+doing_leads ranks s (Drives p) m = record { happenings = posts_of p (s.world.each p).made (s.ranks p).bound (s.ranks p).todo; may = may_posts s.world p (s.world.each p).made (s.ranks p).bound (s.ranks p).todo; is = refl }
 
 doings_lead : (ranks : ℕ) (ds : List Doing) (s : System) → MayDoAll ranks s ds → LeadsTo s.world (does_all s ds).world
 doings_lead ranks [] s m = leads_nowhere s.world

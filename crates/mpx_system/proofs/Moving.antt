@@ -10,8 +10,10 @@ use Rattle.mpx_name.specs.Name.{Name}
 use Rattle.mpx_board.specs.Boards.{Look}
 use Rattle.mpx_value.specs.declared.outcomes.Outcome.{Outcome}
 use Rattle.mpx_value.specs.declared.outcomes.Outcome.TheVariants.{Nothing, Absent, Items, NewComm, Null, Fault}
-use Rattle.mpx_value.specs.Histories.{Answer, Made, Results}
-use Rattle.mpx_world.specs.Worlds.{WorldView, Happening}
+use Rattle.mpx_value.specs.Histories.{Answer, Made, Results, answer_with}
+use Rattle.mpx_node.specs.declared.finished.Finished.{Finished}
+use Rattle.mpx_node.specs.Nodes.{NodeView, results_on}
+use Rattle.mpx_world.specs.Worlds.{WorldView, Happening, births}
 use Rattle.mpx_world.specs.Worlds.{goes_on as goes_on_world}
 use Rattle.mpx_statement.specs.declared.statement.Posting.{Posting}
 use Rattle.mpx_statement.specs.declared.statement.Question.{Question}
@@ -24,7 +26,7 @@ use Rattle.mpx_evaluation.specs.Ranks.{Await, Bindings, Bound, NullCommunicator,
 use Rattle.mpx_evaluation.specs.Transcripts.{line_text, outcome_text}
 use Rattle.mpx_evaluation.proofs.Ends.{goes_on-at}
 use Rattle.mpx_evaluation.proofs.Steps.{heard, posted, started, told_at_once, turned_down, waited, step_asks, step_hears, step_passes, step_posts, step_refused, step_starts}
-use Rattle.mpx_system.specs.Systems.{node_tells, posts_bound, posts_of, Drives}
+use Rattle.mpx_system.specs.Systems.{node_tells, posts_bound, posts_of, world_tells, Drives}
 use Rattle.mpx_evaluation.specs.Standing.{WaitView, closed_all, or_new, binds, todo_of}
 use Rattle.mpx_system.specs.Running.{RankView, Names, Tried, answered_on, are_held, name_of, names_in, given_name, tried, wait_lines, Stands, IsUnderWay, Keeps, Moves}
 use Rattle.mpx_system.proofs.Posting.{Driven, answered, not_same}
@@ -70,16 +72,19 @@ answered_err made (Err other) refusal e = let same : other ≡ refusal = cc e in
 
 module _ (script : List (List Statement)) (ranks size : ℕ) (processes : List RankView) (frames : List Look) (p : ℕ) (l : p < ranks) (r : RankView) (at : slice_get processes p ≡ Some r) (run : IsUnderWay script ranks size processes frames) where
   abbrev told : Results
-  told = node_tells (run.system.world.each p).node
+  told = world_tells run.system.world p
 
-  -- a move by what the node tells, after which the world is so
-  moved : (hs : List Happening) (t : Local) (new : RankView) → posts_of p (run.system.ranks p).bound (run.system.ranks p).todo ≡ hs → step told (run.system.ranks p) ≡ Some t → Stands new t
+  abbrev made : List Made
+  made = (run.system.world.each p).made
+
+  -- a move by what the node's results tell, after which the world is so
+  moved : (hs : List Happening) (t : Local) (new : RankView) → posts_of p made (run.system.ranks p).bound (run.system.ranks p).todo ≡ hs → step told (run.system.ranks p) ≡ Some t → Stands new t
       → new.node ≡ ((goes_on_world run.system.world hs).each p).node
       → ((q : ℕ) → (q ≡ p → ⊥) → ((goes_on_world run.system.world hs).each q).node ≡ (run.system.world.each q).node)
       → (goes_on_world run.system.world hs).parts ≡ run.system.world.parts
       → IsUnderWay script ranks size (set processes p new) frames
   moved hs t new e step_is stands node nodes parts =
-      let world : goes_on_world run.system.world hs ≡ goes_on_world run.system.world (posts_of p (run.system.ranks p).bound (run.system.ranks p).todo) = ap (goes_on_world run.system.world) (sym e) in
+      let world : goes_on_world run.system.world hs ≡ goes_on_world run.system.world (posts_of p made (run.system.ranks p).bound (run.system.ranks p).todo) = ap (goes_on_world run.system.world) (sym e) in
       run_on script ranks size processes frames run p new (Drives p) l (record {
         node = node ∙ ap (λ (w : WorldView). (w.each p).node) world;
         stands = λ m. subst (Stands new) (sym (goes_on-at run.system.ranks p told t step_is)) stands;
@@ -97,27 +102,28 @@ module _ (script : List (List Statement)) (ranks size : ℕ) (processes : List R
   bound_so : (target : Option (List ℕ)) (new : Bound) (word : List ℕ) → binds target (name_of new) r.bound word ≡ names_in (bind target new (run.system.ranks p).bound) word
   bound_so target new word = names_bound target r.bound (run.system.ranks p).bound new word ((run.shows.stands p r at l).bound word)
 
-  -- it hears an answer that its node tells
-  hears : (w : WaitView) (answer : Answer) (text : List ℕ) → r.waits ≡ Some w → node_tells r.node w.name w.call ≡ Some answer → text ≡ outcome_text answer.outcome
-      → IsUnderWay script ranks size (set processes p (record { me = r.me; node = r.node; bound = binds w.target (given_name answer.outcome) r.bound; requests = r.requests; todo = r.todo; waits = None; lines = r.lines ++ text ∷ [] })) frames
-  hears w answer text wait e t =
+  -- it hears a result that its node holds
+  hears : (w : WaitView) (f : Finished) (text : List ℕ) → r.waits ≡ Some w → slice_get (results_on r.node w.name) w.call ≡ Some f → text ≡ outcome_text f.outcome
+      → IsUnderWay script ranks size (set processes p (record { me = r.me; node = r.node; bound = binds w.target (given_name f.outcome) r.bound; requests = r.requests; todo = r.todo; waits = None; lines = r.lines ++ text ∷ [] })) frames
+  hears w f text wait e t =
       let c = coupled script ranks size processes frames run in
       let local = run.system.ranks p in
       let todo = stands_so (Some w) r.todo wait refl in
-      let known : told w.name w.call ≡ Some answer = ap (λ n. node_tells n w.name w.call) (sym (run.shows.nodes p r at)) ∙ e in
+      let answer = answer_with (births run.system.world) f.outcome in
+      let known : told w.name w.call ≡ Some answer = ap (λ (n : NodeView). node_tells (births run.system.world) n w.name w.call) (sym (run.shows.nodes p r at)) ∙ ap (option_map (λ (x : Finished). answer_with (births run.system.world) x.outcome)) e in
       let to = bound_by answer.outcome answer.born in
       let name_is : name_of to ≡ given_name answer.outcome = named_so answer.outcome answer.born (answer_born script ranks run.system c p w.name w.call answer known) in
-      moved [] (done local (heard local w.name w.call w.target (doing r.todo) answer)) (record { me = r.me; node = r.node; bound = binds w.target (given_name answer.outcome) r.bound; requests = r.requests; todo = r.todo; waits = None; lines = r.lines ++ text ∷ [] })
-      (ap (posts_of p local.bound) todo)
+      moved [] (done local (heard local w.name w.call w.target (doing r.todo) answer)) (record { me = r.me; node = r.node; bound = binds w.target (given_name f.outcome) r.bound; requests = r.requests; todo = r.todo; waits = None; lines = r.lines ++ text ∷ [] })
+      (ap (posts_of p made local.bound) todo)
       (step_hears told local w.name w.call w.target (doing r.todo) answer todo known)
       (record { me = (run.shows.stands p r at l).me; bound = λ word. ap (λ n. binds w.target n r.bound word) (sym name_is) ∙ bound_so w.target to word; requests = (run.shows.stands p r at l).requests; todo = refl; lines = lines_so text (Told w.name w.call answer.outcome) t })
       (run.shows.nodes p r at) (λ q other. refl) refl
 
   -- what its node has of its next statement
-  post_driven : (posting : Posting) → Driven run.system.world p (posts_bound p posting (named (run.system.ranks p).bound (word_of posting))) (attempt_at script ranks run.system (coupled script ranks size processes frames run) p posting) (tried posting (r.bound (word_of posting)) r.node)
+  post_driven : (posting : Posting) → Driven run.system.world p (posts_bound p made posting (named (run.system.ranks p).bound (word_of posting))) (attempt_at script ranks run.system (coupled script ranks size processes frames run) p posting) (tried posting (r.bound (word_of posting)) r.node)
   post_driven posting =
       let c = coupled script ranks size processes frames run in
-      subst (λ (t : Tried). Driven run.system.world p (posts_bound p posting (named (run.system.ranks p).bound (word_of posting))) (attempt_at script ranks run.system c p posting) t)
+      subst (λ (t : Tried). Driven run.system.world p (posts_bound p made posting (named (run.system.ranks p).bound (word_of posting))) (attempt_at script ranks run.system c p posting) t)
       (λ i. tried posting (sym ((run.shows.stands p r at l).bound (word_of posting)) i) (sym (run.shows.nodes p r at) i)) (driven script ranks run.system c p l posting)
 
   -- it posts
@@ -131,8 +137,8 @@ module _ (script : List (List Statement)) (ranks size : ℕ) (processes : List R
       let found = answered_ok (run.system.world.each p).made (attempt_at script ranks run.system c p posting) name call (sym d.answer ∙ e) in
       let m : Made = found.0 in
       let count : next_call m.name local.made ≡ call = ap (next_call m.name) (sym (c.made p)) ∙ found.3 in
-      moved (posts_bound p posting (named local.bound (word_of posting))) (done local (posted local (bound_to posting) (doing rest) m)) (record { me = r.me; node = (tried posting (r.bound (word_of posting)) r.node).node; bound = r.bound; requests = r.requests; todo = rest; waits = Some (record { name = name; call = call; target = bound_to posting }); lines = r.lines })
-      (ap (posts_of p local.bound) todo)
+      moved (posts_bound p made posting (named local.bound (word_of posting))) (done local (posted local (bound_to posting) (doing rest) m)) (record { me = r.me; node = (tried posting (r.bound (word_of posting)) r.node).node; bound = r.bound; requests = r.requests; todo = rest; waits = Some (record { name = name; call = call; target = bound_to posting }); lines = r.lines })
+      (ap (posts_of p made local.bound) todo)
       (step_posts told local posting (doing rest) m todo b (attempts_same script ranks run.system c p posting ∙ found.1))
       (record { me = (run.shows.stands p r at l).me; bound = (run.shows.stands p r at l).bound; requests = (run.shows.stands p r at l).requests; todo = λ i. Await (found.2 i) (count i) (bound_to posting) ∷ doing rest; lines = (run.shows.stands p r at l).lines ∙ ap (map line_text) (sym (append-nil local.lines)) })
       d.node d.nodes d.parts
@@ -149,8 +155,8 @@ module _ (script : List (List Statement)) (ranks size : ℕ) (processes : List R
       let found = answered_ok (run.system.world.each p).made (attempt_at script ranks run.system c p posting) name call (sym d.answer ∙ e) in
       let m : Made = found.0 in
       let count : next_call m.name local.made ≡ call = ap (next_call m.name) (sym (c.made p)) ∙ found.3 in
-      moved (posts_bound p posting (named local.bound (word_of posting))) (done local (started local word (doing rest) m)) (record { me = r.me; node = (tried posting (r.bound (word_of posting)) r.node).node; bound = r.bound; requests = binds (Some word) (name, call) r.requests; todo = rest; waits = None; lines = r.lines })
-      (ap (posts_of p local.bound) todo)
+      moved (posts_bound p made posting (named local.bound (word_of posting))) (done local (started local word (doing rest) m)) (record { me = r.me; node = (tried posting (r.bound (word_of posting)) r.node).node; bound = r.bound; requests = binds (Some word) (name, call) r.requests; todo = rest; waits = None; lines = r.lines })
+      (ap (posts_of p made local.bound) todo)
       (step_starts told local posting (doing rest) word m todo b (attempts_same script ranks run.system c p posting ∙ found.1))
       (record {
         me = stands.me;
@@ -170,8 +176,8 @@ module _ (script : List (List Statement)) (ranks size : ℕ) (processes : List R
       let todo = stands_so None (Post posting ∷ rest) w t in
       let d = post_driven posting in
       let is = answered_err (run.system.world.each p).made (attempt_at script ranks run.system c p posting) refusal (sym d.answer ∙ e) in
-      moved (posts_bound p posting (named local.bound (word_of posting))) (done local (turned_down local (bound_to posting) (doing rest) refusal)) (record { me = r.me; node = (tried posting (r.bound (word_of posting)) r.node).node; bound = binds (bound_to posting) None r.bound; requests = r.requests; todo = rest; waits = None; lines = r.lines ++ text ∷ [] })
-      (ap (posts_of p local.bound) todo)
+      moved (posts_bound p made posting (named local.bound (word_of posting))) (done local (turned_down local (bound_to posting) (doing rest) refusal)) (record { me = r.me; node = (tried posting (r.bound (word_of posting)) r.node).node; bound = binds (bound_to posting) None r.bound; requests = r.requests; todo = rest; waits = None; lines = r.lines ++ text ∷ [] })
+      (ap (posts_of p made local.bound) todo)
       (step_refused told local posting (doing rest) refusal todo (attempts_same script ranks run.system c p posting ∙ is))
       (record { me = (run.shows.stands p r at l).me; bound = bound_so (bound_to posting) NullCommunicator; requests = (run.shows.stands p r at l).requests; todo = refl; lines = lines_so text (Refused refusal) u })
       d.node d.nodes d.parts
@@ -183,10 +189,10 @@ module _ (script : List (List Statement)) (ranks size : ℕ) (processes : List R
       let local = run.system.ranks p in
       let stands = run.shows.stands p r at l in
       let todo = stands_so None (Wait words ∷ rest) w t in
-      let comes = passing r.node words r.requests local.requests stands.requests h in
-      let known : answers told (awaited_by local.requests words) ≡ Some comes.told = ap (λ n. answers (node_tells n) (awaited_by local.requests words)) (sym (run.shows.nodes p r at)) ∙ comes.known_as in
+      let comes = passing (births run.system.world) r.node words r.requests local.requests stands.requests h in
+      let known : answers told (awaited_by local.requests words) ≡ Some comes.told = ap (λ (n : NodeView). answers (node_tells (births run.system.world) n) (awaited_by local.requests words)) (sym (run.shows.nodes p r at)) ∙ comes.known_as in
       moved [] (done local (waited local words (doing rest) comes.told)) (record { me = r.me; node = r.node; bound = r.bound; requests = closed_all words r.requests; todo = rest; waits = None; lines = r.lines ++ wait_lines r.node r.requests words })
-      (ap (posts_of p local.bound) todo)
+      (ap (posts_of p made local.bound) todo)
       (step_passes told local words (doing rest) comes.told todo known)
       (record {
         me = stands.me;
@@ -205,16 +211,16 @@ module _ (script : List (List Statement)) (ranks size : ℕ) (processes : List R
       let local = run.system.ranks p in
       let stands = run.shows.stands p r at l in
       let todo = stands_so None (Ask question ∷ rest) w t in
-      let line : answered_on r.me r.bound question r.node ≡ answered_rank local.me local.bound question = (λ i. answered_on (stands.me i) (λ word. stands.bound word i) question (run.shows.nodes p r at i)) ∙ answer_same script ranks run.system c p l question in
+      let line : answered_on r.me r.bound question r.node ≡ answered_rank local.me local.bound local.made question = (λ i. answered_on (stands.me i) (λ word. stands.bound word i) question (run.shows.nodes p r at i)) ∙ answer_same script ranks run.system c p l question in
       moved [] (done local (told_at_once local question (doing rest))) (record { me = r.me; node = r.node; bound = r.bound; requests = r.requests; todo = rest; waits = None; lines = r.lines ++ text ∷ [] })
-      (ap (posts_of p local.bound) todo)
+      (ap (posts_of p made local.bound) todo)
       (step_asks told local question (doing rest) todo)
-      (record { me = stands.me; bound = stands.bound; requests = stands.requests; todo = refl; lines = lines_so text (answered_rank local.me local.bound question) (u ∙ ap line_text line) })
+      (record { me = stands.me; bound = stands.bound; requests = stands.requests; todo = refl; lines = lines_so text (answered_rank local.me local.bound local.made question) (u ∙ ap line_text line) })
       (run.shows.nodes p r at) (λ q other. refl) refl
 
-pub moves_hears : (r : RankView) (w : WaitView) (answer : Answer) (text : List ℕ) → r.waits ≡ Some w → node_tells r.node w.name w.call ≡ Some answer → text ≡ outcome_text answer.outcome
-    → Moves r (record { me = r.me; node = r.node; bound = binds w.target (given_name answer.outcome) r.bound; requests = r.requests; todo = r.todo; waits = None; lines = r.lines ++ text ∷ [] })
-moves_hears r w answer text wait e t script ranks size processes frames p l at run = hears script ranks size processes frames p l r at run w answer text wait e t
+pub moves_hears : (r : RankView) (w : WaitView) (f : Finished) (text : List ℕ) → r.waits ≡ Some w → slice_get (results_on r.node w.name) w.call ≡ Some f → text ≡ outcome_text f.outcome
+    → Moves r (record { me = r.me; node = r.node; bound = binds w.target (given_name f.outcome) r.bound; requests = r.requests; todo = r.todo; waits = None; lines = r.lines ++ text ∷ [] })
+moves_hears r w f text wait e t script ranks size processes frames p l at run = hears script ranks size processes frames p l r at run w f text wait e t
 
 pub moves_posts : (r : RankView) (posting : Posting) (rest : List Statement) (name : Name) (call : ℕ) → r.waits ≡ None → r.todo ≡ Post posting ∷ rest → started_as posting ≡ None → (tried posting (r.bound (word_of posting)) r.node).answer ≡ Ok (name, call)
     → Moves r (record { me = r.me; node = (tried posting (r.bound (word_of posting)) r.node).node; bound = r.bound; requests = r.requests; todo = rest; waits = Some (record { name = name; call = call; target = bound_to posting }); lines = r.lines })

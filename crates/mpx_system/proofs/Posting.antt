@@ -1,34 +1,37 @@
 -- What a process's post comes to in a world, and what is so of that world then.
-use Rattle.std.proofs.Common.{◌≡◌, ℕ, ℤ, Bool, true, false, cond, ◌==◌, List, [], ◌∷◌, ◌++◌, length, Option, Some, None, refl, sym, ap, ◌∙◌, subst}
+use Rattle.std.proofs.Common.{◌≡◌, ℕ, ℤ, Bool, true, false, cond, ◌==◌, List, [], ◌∷◌, ◌++◌, length, Option, Some, None, ◌⊎◌, inl, inr, refl, sym, ap, ◌∙◌, subst}
 use Rattle.std.specs.Prelude.{slice_get, is_some, IsTrue, Result, Ok, Err, option_and_then}
 use Rattle.std.specs.Option.{option_map}
+use Rattle.std.proofs.lemmas.Option.{same_Some}
 use Rattle.mpx_name.specs.Name.{Name}
-use Rattle.mpx_post.specs.Posts.{Given}
-use Rattle.mpx_post.specs.Births.{BirthView, of_members}
+use Rattle.mpx_post.specs.Posts.{Given, is_free}
+use Rattle.mpx_post.specs.Births.{BirthView, of_members, rank_in}
 use Rattle.mpx_post.specs.Drafts.{at, checked}
 use Rattle.mpx_post.specs.Gatherings.{GatheringView, gathering}
 use Rattle.mpx_post.specs.declared.draft.Draft.{Draft}
 use Rattle.mpx_post.specs.declared.draft.PostError.{PostError}
-use Rattle.mpx_post.specs.declared.draft.PostError.TheVariants.{NotMember}
-use Rattle.mpx_board.specs.Boards.{told}
-use Rattle.mpx_value.specs.Histories.{Answer, Made, answer_with, gathered, outcomes_by, Within, results_of, value_for}
+use Rattle.mpx_post.specs.declared.draft.PostError.TheVariants.{Closed, NotMember}
+use Rattle.mpx_post.proofs.Checks.{closed_there}
+use Rattle.mpx_post.proofs.Gatherings.{closed_gathering}
+use Rattle.mpx_board.specs.Boards.{IsGone, told}
+use Rattle.mpx_value.specs.Histories.{Answer, Made, answer_with, gathered, has_freed, outcomes_by, posts_on, Within, results_of, value_for}
 use Rattle.mpx_node.specs.declared.finished.Finished.{Finished}
-use Rattle.mpx_node.specs.Nodes.{NodeView, OpenedView, posted_by, posted_on, results_on, checked_by, checked_on, gathering_name, gathers_by, gathers_on, open_gathering_node}
+use Rattle.mpx_node.specs.Nodes.{NodeView, OpenedView, freed_by, freed_on, posted_by, posted_on, results_on, checked_by, checked_on, checked_there, gathering_name, gathers_by, gathers_on, gathers_there, open_gathering_node}
 use Rattle.mpx_world.specs.Worlds.{ProcessView, WorldView, history, births, at_process, gathers, makes, opens_gathering, posts, Happening, Posts, Gathers, happens, MayHappen}
 use Rattle.mpx_world.specs.Worlds.{goes_on as goes_on_world}
 use Rattle.mpx_world.specs.Soundness.{IsValue}
-use Rattle.mpx_world.proofs.Lists.{same_number}
+use Rattle.mpx_world.proofs.Freeing.{all_of_at}
+use Rattle.mpx_world.proofs.Lists.{any_at, same_number}
 use Rattle.mpx_world.proofs.Later.{Later, births_grow, later_happens, later_itself, later_then, made_happens}
-use Rattle.mpx_world.proofs.Truth.{told_agrees}
 use Rattle.mpx_world.proofs.Steps.{Holds, board_so, holds_happens, at_here}
-use Rattle.mpx_world.proofs.Opened.{AllIn, gathering_opened, in_happens}
+use Rattle.mpx_world.proofs.Opened.{AllIn, gathering_opened, in_happens, is_in, member_ranked}
 use Rattle.mpx_statement.specs.declared.statement.Posting.{Posting}
 use Rattle.mpx_statement.specs.Statements.{Gathers as Asked, draft_of, gathers_of}
-use Rattle.mpx_evaluation.specs.Ranks.{Bound, Communicator, NullCommunicator, attempt_in, attempt_on, communicator_of, made_on, next_call, post_gathered, post_on}
+use Rattle.mpx_evaluation.specs.Ranks.{Bound, Communicator, NullCommunicator, attempt_in, attempt_on, found_as, found_of, made_on, next_call, post_gathered, post_on}
 use Rattle.std.proofs.lemmas.List.{append-nil}
 use Rattle.mpx_evaluation.proofs.Tells.{mapped_some}
-use Rattle.mpx_system.specs.Systems.{node_births, node_tells, posts_bound, posts_gathered, posts_in}
-use Rattle.mpx_system.specs.Running.{Tried, communicator_in, known_to, name_of, tried, tried_gathered, tried_in, tried_post}
+use Rattle.mpx_system.specs.Systems.{posts_bound, posts_gathered, posts_in, world_tells}
+use Rattle.mpx_system.specs.Running.{Tried, communicator_in, found_at, known_to, name_of, tried, tried_gathered, tried_in, tried_post}
 use Rattle.mpx_value.proofs.Histories.{same_answer, gathered_there}
 
 -- WORLDS
@@ -41,62 +44,108 @@ pub record Upheld (w : WorldView) : Type 0 where
 pub upheld_happens : (w : WorldView) (h : Happening) → Upheld w → MayHappen w h → Upheld (happens w h)
 upheld_happens w h u m = record { holds = holds_happens w h u.holds m; in_all = in_happens w h u.holds m u.in_all }
 
-opened_checks : (o : Option OpenedView) (birth : BirthView) (me : ℕ) (name : Name) (draft : Draft) → IsTrue (is_some o) → checked_by o (Some birth) me name draft ≡ checked birth me (at name (posted_by o)) draft
-opened_checks None birth me name draft e = cc e
-opened_checks (Some o) birth me name draft e = refl
+-- of a member's draft and gathering on an opened context the node asks what the birth, its posts and its free say, where it is freed or
+-- the birth is told
+opened_checks : (o : Option OpenedView) (said : Option BirthView) (birth : BirthView) (me rank : ℕ) (name : Name) (draft : Draft) → IsTrue (is_some o) → rank_in me birth.members ≡ Some rank → (freed_by o ≡ true) ⊎ (said ≡ Some birth)
+    → checked_by o said me name draft ≡ checked birth me (at name (posted_by o) (freed_by o)) draft
+opened_checks None said birth me rank name draft e m known = cc e
+opened_checks (Some o) said birth me rank name draft e m known = by_freed o.freed known where
+  by_freed : (b : Bool) → (b ≡ true) ⊎ (said ≡ Some birth) → (let x : Result Given PostError = cond b (Err Closed) (checked_there o.posted said me name draft) in x) ≡ checked birth me (at name o.posted b) draft
+  by_freed true k = sym (closed_there birth me rank (at name o.posted true) draft m refl)
+  by_freed false (inl never) = cc never
+  by_freed false (inr is) = ap (λ x. checked_there o.posted x me name draft) is
 
-opened_gathers : (o : Option OpenedView) (birth : BirthView) (me : ℕ) (name : Name) (tag : ℤ) (ranks : List ℤ) → IsTrue (is_some o) → gathers_by o (Some birth) me name tag ranks ≡ gathering birth me (length name) tag ranks
-opened_gathers None birth me name tag ranks e = cc e
-opened_gathers (Some o) birth me name tag ranks e = refl
+opened_gathers : (o : Option OpenedView) (said : Option BirthView) (birth : BirthView) (me rank : ℕ) (name : Name) (tag : ℤ) (ranks : List ℤ) → IsTrue (is_some o) → rank_in me birth.members ≡ Some rank → (freed_by o ≡ true) ⊎ (said ≡ Some birth)
+    → gathers_by o said me name tag ranks ≡ gathering birth me (length name) (freed_by o) tag ranks
+opened_gathers None said birth me rank name tag ranks e m known = cc e
+opened_gathers (Some o) said birth me rank name tag ranks e m known = by_freed o.freed known where
+  by_freed : (b : Bool) → (b ≡ true) ⊎ (said ≡ Some birth) → (let x : Result GatheringView PostError = cond b (Err Closed) (gathers_there said me name tag ranks) in x) ≡ gathering birth me (length name) b tag ranks
+  by_freed true k = sym (closed_gathering birth me rank (length name) tag ranks m)
+  by_freed false (inl never) = cc never
+  by_freed false (inr is) = ap (λ x. gathers_there x me name tag ranks) is
+
+-- and a question finds it so
+found_known : (freed : Bool) (known there : Option (Name × BirthView)) → (freed ≡ true) ⊎ (known ≡ there) → found_as freed known ≡ found_as freed there
+found_known true known there k = refl
+found_known false known there (inl never) = cc never
+found_known false known there (inr is) = ap (found_as false) is
+
+-- an opened context: how it came to be, with the process as a member, which the process's board tells, where it isn't dead there
+pub record IsThere (w : WorldView) (p : ℕ) (name : Name) : Type 0 where
+  pub birth : BirthView
+  pub born : births w name ≡ Some birth
+  pub tells : IsGone (w.each p).node.board name ⊎ (told ((w.each p).node.board.contexts name).birth ≡ Some birth)
+  pub rank : ℕ
+  pub member : rank_in p birth.members ≡ Some rank
 
 module _ (w : WorldView) (u : Upheld w) (p : ℕ) where
-  -- an opened context has its birth on the board
-  pub is_told : (name : Name) → IsTrue (is_some ((w.each p).node.opened name)) → (birth : BirthView) × (node_births (w.each p).node name ≡ Some birth) × (births w name ≡ Some birth)
-  is_told name t = by_opened ((w.each p).node.opened name) refl t where
-    by_opened : (o : Option OpenedView) → (w.each p).node.opened name ≡ o → IsTrue (is_some o) → (birth : BirthView) × (node_births (w.each p).node name ≡ Some birth) × (births w name ≡ Some birth)
-    by_opened None e is = cc is
-    by_opened (Some o) e is =
-        let i = u.in_all p name o e in
-        let t : node_births (w.each p).node name ≡ Some i.birth = ap (λ v. told v) i.born in
-        let so = (board_so w p (w.each p) (u.holds.processes p)).contexts_so name in
-        (i.birth, t, told_agrees ((w.each p).node.board.contexts name).birth (births w name) i.birth so.birth_so t)
+  pub is_there : (name : Name) → IsTrue (is_some ((w.each p).node.opened name)) → IsThere w p name
+  is_there name t =
+      let i = is_in w u.holds u.in_all p name t in
+      let ranked = member_ranked i.birth.members i.rank p i.member in
+      record {
+        birth = i.birth;
+        born = i.born;
+        tells = elim i.tells [ inl dead ↦ inl dead | inr is ↦ inr (ap told is) ];
+        rank = ranked.0;
+        member = ranked.1;
+      }
 
-  birth_told : (name : Name) (birth : BirthView) → IsTrue (is_some ((w.each p).node.opened name)) → births w name ≡ Some birth → node_births (w.each p).node name ≡ Some birth
-  birth_told name birth t b = let x = is_told name t in x.1 ∙ sym x.2 ∙ b
+  -- where its board says that a context is dead the process has posted its free there
+  gone_freed : (name : Name) → IsTrue (is_some ((w.each p).node.opened name)) → IsGone (w.each p).node.board name → freed_on (w.each p).node name ≡ true
+  gone_freed name t dead =
+      let g = u.holds.processes p in
+      let i = is_in w u.holds u.in_all p name t in
+      let f = ((board_so w p (w.each p) g).contexts_so name).dead_so dead in
+      let same : i.birth ≡ f.birth = same_Some i.birth f.birth (sym i.born ∙ f.born) in
+      let own = all_of_at (history w name f.call) f.birth.members f.row f.whole i.rank p (subst (λ (b : BirthView). slice_get b.members i.rank ≡ Some p) same i.member) in
+      g.closed name ∙ any_at is_free (posts_on name (w.each p).made) f.call own.0 own.1 (f.frees i.rank own.0 own.2)
+
+  -- a context that it has opened it has freed, or its board tells the birth
+  freed_or_told : (name : Name) (birth : BirthView) → IsTrue (is_some ((w.each p).node.opened name)) → births w name ≡ Some birth → (freed_on (w.each p).node name ≡ true) ⊎ (told ((w.each p).node.board.contexts name).birth ≡ Some birth)
+  freed_or_told name birth t b =
+      let x = is_there name t in
+      elim x.tells [
+        | inl dead ↦ inl (gone_freed name t dead)
+        | inr is ↦ inr (is ∙ sym x.born ∙ b)
+      ]
+
+  ranked_in : (name : Name) (birth : BirthView) → IsTrue (is_some ((w.each p).node.opened name)) → births w name ≡ Some birth → (rank : ℕ) × (rank_in p birth.members ≡ Some rank)
+  ranked_in name birth t b =
+      let x = is_there name t in
+      let same : x.birth ≡ birth = same_Some x.birth birth (sym x.born ∙ b) in
+      (x.rank, ap (λ (y : BirthView). rank_in p y.members) (sym same) ∙ x.member)
 
   -- the node checks a draft as its birth and its posts say
-  checks_so : (name : Name) (birth : BirthView) → IsTrue (is_some ((w.each p).node.opened name)) → births w name ≡ Some birth → (draft : Draft) → checked_on (w.each p).node name draft ≡ checked birth p (at name (next_call name (w.each p).made)) draft
+  checks_so : (name : Name) (birth : BirthView) → IsTrue (is_some ((w.each p).node.opened name)) → births w name ≡ Some birth → (draft : Draft) → checked_on (w.each p).node name draft ≡ checked birth p (at name (next_call name (w.each p).made) (has_freed name (w.each p).made)) draft
   checks_so name birth t b draft =
       let node = (w.each p).node in
       let g = u.holds.processes p in
-      (λ i. checked_by (node.opened name) (birth_told name birth t b i) (g.me_is i) name draft)
-      ∙ opened_checks (node.opened name) birth p name draft t
-      ∙ λ i. checked birth p (at name (g.counted name i)) draft
+      let m = ranked_in name birth t b in
+      (λ i. checked_by (node.opened name) (told (node.board.contexts name).birth) (g.me_is i) name draft)
+      ∙ opened_checks (node.opened name) (told (node.board.contexts name).birth) birth p m.0 name draft t m.1 (freed_or_told name birth t b)
+      ∙ λ i. checked birth p (at name (g.counted name i) (g.closed name i)) draft
 
-  gathers_so : (name : Name) (birth : BirthView) → IsTrue (is_some ((w.each p).node.opened name)) → births w name ≡ Some birth → (tag : ℤ) (ranks : List ℤ) → gathers_on (w.each p).node name tag ranks ≡ gathering birth p (length name) tag ranks
+  gathers_so : (name : Name) (birth : BirthView) → IsTrue (is_some ((w.each p).node.opened name)) → births w name ≡ Some birth → (tag : ℤ) (ranks : List ℤ) → gathers_on (w.each p).node name tag ranks ≡ gathering birth p (length name) (has_freed name (w.each p).made) tag ranks
   gathers_so name birth t b tag ranks =
       let node = (w.each p).node in
-      (λ i. gathers_by (node.opened name) (birth_told name birth t b i) ((u.holds.processes p).me_is i) name tag ranks)
-      ∙ opened_gathers (node.opened name) birth p name tag ranks t
-
-  -- a result tells what it tells by the births of the history
-  tells_so : (name : Name) (k : ℕ) (f : Finished) → slice_get (results_on (w.each p).node name) k ≡ Some f → answer_with (node_births (w.each p).node) f.outcome ≡ answer_with (births w) f.outcome
-  tells_so name k f held = same_answer (node_births (w.each p).node) (births w) f.outcome (λ new size rank is. let x = is_told new ((u.holds.processes p).opened_given name k f held new size rank is) in x.1 ∙ sym x.2)
+      let g = u.holds.processes p in
+      let m = ranked_in name birth t b in
+      (λ i. gathers_by (node.opened name) (told (node.board.contexts name).birth) (g.me_is i) name tag ranks)
+      ∙ opened_gathers (node.opened name) (told (node.board.contexts name).birth) birth p m.0 name tag ranks t m.1 (freed_or_told name birth t b)
+      ∙ λ i. gathering birth p (length name) (g.closed name i) tag ranks
 
   -- the result behind an answer
-  pub tells_at : (name : Name) (k : ℕ) (answer : Answer) → node_tells (w.each p).node name k ≡ Some answer → (f : Finished) × (slice_get (results_on (w.each p).node name) k ≡ Some f) × (answer_with (births w) f.outcome ≡ answer)
-  tells_at name k answer e =
-      let found = mapped_some (λ (f : Finished). answer_with (node_births (w.each p).node) f.outcome) (slice_get (results_on (w.each p).node name) k) answer e in
-      (found.0, found.1, sym (tells_so name k found.0 found.1) ∙ found.2)
+  pub tells_at : (name : Name) (k : ℕ) (answer : Answer) → world_tells w p name k ≡ Some answer → (f : Finished) × (slice_get (results_on (w.each p).node name) k ≡ Some f) × (answer_with (births w) f.outcome ≡ answer)
+  tells_at name k answer e = mapped_some (λ (f : Finished). answer_with (births w) f.outcome) (slice_get (results_on (w.each p).node name) k) answer e
 
 -- who holds more tells more
-pub tells_on : (w new : WorldView) → Later w new → Upheld w → Upheld new → (q : ℕ) → Within (node_tells (w.each q).node) (node_tells (new.each q).node)
+pub tells_on : (w new : WorldView) → Later w new → Upheld w → Upheld new → (q : ℕ) → Within (world_tells w q) (world_tells new q)
 tells_on w new later u v q name k answer e =
     let found = tells_at w u q name k answer e in
     let held = (later.kept q).results_kept name k found.0 found.1 in
-    ap (option_map (λ (f : Finished). answer_with (node_births (new.each q).node) f.outcome)) held
-    ∙ ap Some (tells_so new v q name k found.0 held
-    ∙ same_answer (births new) (births w) found.0.outcome (λ at size rank is. let x = is_told w u q at ((u.holds.processes q).opened_given name k found.0 found.1 at size rank is) in births_grow w new later at x.0 x.2 ∙ sym x.2)
+    ap (option_map (λ (f : Finished). answer_with (births new) f.outcome)) held
+    ∙ ap Some (same_answer (births new) (births w) found.0.outcome (λ at size rank is. let x = is_there w u q at ((u.holds.processes q).opened_given name k found.0 found.1 at size rank is) in births_grow w new later at x.birth x.born ∙ sym x.born)
     ∙ found.2)
 
 -- a result is what the row of all posts gives
@@ -187,7 +236,7 @@ module _ (w : WorldView) (u : Upheld w) (p : ℕ) (name : Name) where
   gathers_node : (tag : ℤ) (ranks : List ℤ) (g : GatheringView) → gathers_on (w.each p).node name tag ranks ≡ Ok g → ((happens w (Gathers p name tag ranks)).each p).node ≡ open_gathering_node name g (w.each p).node
   gathers_node tag ranks g e = ap (λ (x : ProcessView). x.node) (at_here w p (gathers name tag ranks)) ∙ ap (λ r. (opens_gathering name r (w.each p)).node) e
 
-  driven_gathering : (birth : BirthView) → IsTrue (is_some ((w.each p).node.opened name)) → births w name ≡ Some birth → (draft : Draft) (asked : Asked) (g : GatheringView) → gathering birth p (length name) asked.tag asked.ranks ≡ Ok g
+  driven_gathering : (birth : BirthView) → IsTrue (is_some ((w.each p).node.opened name)) → births w name ≡ Some birth → (draft : Draft) (asked : Asked) (g : GatheringView) → gathering birth p (length name) (has_freed name (w.each p).made) asked.tag asked.ranks ≡ Ok g
       → Driven w p (posts_gathered p draft name asked (Ok g)) (post_gathered p (w.each p).made draft name (Ok g)) (tried_gathered name draft (Ok g) (w.each p).node)
   driven_gathering birth t b draft asked g e =
       let h : Happening = Gathers p name asked.tag asked.ranks in
@@ -198,7 +247,7 @@ module _ (w : WorldView) (u : Upheld w) (p : ℕ) (name : Name) where
       let node_is : (new.each p).node ≡ open_gathering_node name g (w.each p).node = gathers_node asked.tag asked.ranks g accepted in
       let made_is : (new.each p).made ≡ (w.each p).made = made_happens w h tt p in
       let there : IsTrue (is_some ((new.each p).node.opened at_new)) = gathering_opened w p name asked.tag asked.ranks g accepted in
-      let born : births new at_new ≡ Some (of_members g.members) = ap (option_and_then (gathered g.members)) (births_grow w new later name birth b) ∙ gathered_there birth p (length name) asked.tag asked.ranks g e in
+      let born : births new at_new ≡ Some (of_members g.members) = ap (option_and_then (gathered g.members)) (births_grow w new later name birth b) ∙ gathered_there birth p (length name) (has_freed name (w.each p).made) asked.tag asked.ranks g e in
       let d = driven_post new (upheld_happens w h u tt) p at_new (of_members g.members) there born draft in
       let moved : Driven new p (Posts p at_new draft ∷ []) (post_on p (w.each p).made draft at_new (of_members g.members)) (tried_gathered name draft (Ok g) (w.each p).node)
       = subst (λ (n : NodeView). Driven new p (Posts p at_new draft ∷ []) (post_on p (w.each p).made draft at_new (of_members g.members)) (tried_post at_new (checked_on n at_new draft) n)) node_is
@@ -216,16 +265,16 @@ module _ (w : WorldView) (u : Upheld w) (p : ℕ) (name : Name) where
         answer = moved.answer ∙ ap (λ ms. answered ms (post_on p (w.each p).made draft at_new (of_members g.members))) made_is;
       }
 
-  driven_gathers : (birth : BirthView) → IsTrue (is_some ((w.each p).node.opened name)) → births w name ≡ Some birth → (draft : Draft) (asked : Asked) (x : Result GatheringView PostError) → gathering birth p (length name) asked.tag asked.ranks ≡ x
+  driven_gathers : (birth : BirthView) → IsTrue (is_some ((w.each p).node.opened name)) → births w name ≡ Some birth → (draft : Draft) (asked : Asked) (x : Result GatheringView PostError) → gathering birth p (length name) (has_freed name (w.each p).made) asked.tag asked.ranks ≡ x
       → Driven w p (posts_gathered p draft name asked x) (post_gathered p (w.each p).made draft name x) (tried_gathered name draft x (w.each p).node)
   driven_gathers birth t b draft asked (Ok g) e = driven_gathering birth t b draft asked g e
   driven_gathers birth t b draft asked (Err refusal) e = driven_nothing w u p refusal
 
   driven_in : (birth : BirthView) → IsTrue (is_some ((w.each p).node.opened name)) → births w name ≡ Some birth → (draft : Draft) (asked : Option Asked)
-      → Driven w p (posts_in p draft asked name birth) (attempt_in p (w.each p).made draft asked name birth) (tried_in draft asked name (w.each p).node)
+      → Driven w p (posts_in p (w.each p).made draft asked name birth) (attempt_in p (w.each p).made draft asked name birth) (tried_in draft asked name (w.each p).node)
   driven_in birth t b draft None = driven_post w u p name birth t b draft
   driven_in birth t b draft (Some asked) =
-      let x = gathering birth p (length name) asked.tag asked.ranks in
+      let x = gathering birth p (length name) (has_freed name (w.each p).made) asked.tag asked.ranks in
       subst (λ y. Driven w p (posts_gathered p draft name asked x) (post_gathered p (w.each p).made draft name x) (tried_gathered name draft y (w.each p).node)) (sym (gathers_so w u p name birth t b asked.tag asked.ranks)) (driven_gathers birth t b draft asked x refl)
 
 -- a word's communicator is opened, and came to be as its binding says
@@ -234,13 +283,18 @@ IsBoundSo w p bound = (name : Name) (birth : BirthView) → bound ≡ Some (Comm
 
 -- a statement on what its word is bound to
 pub driven_bound : (w : WorldView) → Upheld w → (p : ℕ) (posting : Posting) (bound : Option Bound) → IsBoundSo w p bound
-    → Driven w p (posts_bound p posting bound) (attempt_on p (w.each p).made posting bound) (tried posting (option_map name_of bound) (w.each p).node)
+    → Driven w p (posts_bound p (w.each p).made posting bound) (attempt_on p (w.each p).made posting bound) (tried posting (option_map name_of bound) (w.each p).node)
 driven_bound w u p posting None h = driven_nothing w u p NotMember
 driven_bound w u p posting (Some NullCommunicator) h = driven_nothing w u p NotMember
 driven_bound w u p posting (Some (Communicator name birth)) h = let x = h name birth refl in driven_in w u p name birth x.0 x.1 (draft_of posting) (gathers_of posting)
 
--- the communicator that a node knows is what the word is bound to
-pub known_bound : (w : WorldView) → Upheld w → (p : ℕ) (bound : Option Bound) → IsBoundSo w p bound → known_to (w.each p).node (communicator_in (option_map name_of bound)) ≡ communicator_of bound
-known_bound w u p None h = refl
-known_bound w u p (Some NullCommunicator) h = refl
-known_bound w u p (Some (Communicator name birth)) h = let x = h name birth refl in ap (option_map (λ (b : BirthView). (name, b))) (birth_told w u p name birth x.0 x.1)
+-- what a word stands for at a node is what it stands for in the evaluation
+pub found_bound : (w : WorldView) → Upheld w → (p : ℕ) (bound : Option Bound) → IsBoundSo w p bound → found_at (w.each p).node (communicator_in (option_map name_of bound)) ≡ found_of (w.each p).made bound
+found_bound w u p None h = refl
+found_bound w u p (Some NullCommunicator) h = refl
+found_bound w u p (Some (Communicator name birth)) h =
+    let x = h name birth refl in
+    let node = (w.each p).node in
+    found_known (freed_on node name) (known_to node name) (Some (name, birth))
+    (elim (freed_or_told w u p name birth x.0 x.1) [ inl freed ↦ inl freed | inr is ↦ inr (ap (option_map (λ (b : BirthView). (name, b))) is) ])
+    ∙ ap (λ b. found_as b (Some (name, birth))) ((u.holds.processes p).closed name)

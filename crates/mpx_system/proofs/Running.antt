@@ -9,18 +9,19 @@ use Rattle.std.proofs.lemmas.Option.{slice_get-get_or, slice_get_within, same_So
 use Rattle.join_core.specs.declared.memory.OutOfMemory.{OutOfMemory}
 use Rattle.mpx_board.specs.declared.errors.PruneError.{PruneError}
 use Rattle.mpx_name.specs.Name.{Name}
-use Rattle.mpx_board.specs.Boards.{Look, only, Dropped, floor_on}
-use Rattle.mpx_board.specs.Changes.{pruned}
+use Rattle.mpx_board.specs.Boards.{Look}
+use Rattle.mpx_board.specs.Changes.{pruned_on}
 use Rattle.mpx_parts.specs.Facts.{OnlyFactsOf}
 use Rattle.mpx_delta.specs.Digests.{Numbers, HasUpTo}
 use Rattle.mpx_node.specs.declared.finished.Finished.{Finished}
 use Rattle.mpx_node.specs.declared.node.Harvest.{Harvest}
 use Rattle.mpx_node.specs.declared.node.Harvest.TheVariants.{Done, NotYet, NotOpened}
 use Rattle.mpx_node.specs.Harvests.{Harvests as HarvestsOn}
-use Rattle.mpx_node.specs.Nodes.{NodeView, acknowledge, learn, next_result}
+use Rattle.mpx_node.specs.Nodes.{NodeView, acknowledge, learn, learn_some, next_result, prune_part}
 use Rattle.mpx_world.specs.declared.events.Event.TheVariants as E
 use Rattle.mpx_world.specs.declared.events.Cut.TheVariants as C
 use Rattle.mpx_world.specs.Worlds.{ProcessView, stores, drops, takes, acknowledges, harvests, prunes, Harvests, Prunes, Sends, Takes, Acknowledges, at_process}
+use Rattle.mpx_world.proofs.Kept.{taken_node}
 use Rattle.mpx_world.proofs.Lists.{slice_get-push, slice_get-push_cases}
 use Rattle.mpx_world.proofs.Steps.{at_here}
 use Rattle.mpx_world.proofs.Reached.{may_happen}
@@ -119,22 +120,22 @@ keeps_harvest name r script ranks size processes frames p at run =
     (ap (λ n. stored name (next_result n name) n) same ∙ sym (stores_node name (next_result v.node name) v)))
 
 abbrev pub pruned_by : Name → Result (Unit {0}) PruneError → ℕ → NodeView → NodeView
-pruned_by name (Ok u) n node = learn (only (Dropped name n)) node
+pruned_by name (Ok u) n node = learn_some (prune_part node name n) node
 pruned_by name (Err refusal) n node = node
 
 drops_node : (name : Name) (n : ℕ) (x : Result (Unit {0}) PruneError) (v : ProcessView) → (drops name n x v).node ≡ pruned_by name x n v.node
-drops_node name n (Ok u) v = refl
+drops_node name n (Ok u) v = taken_node (prune_part v.node name n) v
 drops_node name n (Err refusal) v = refl
 
-pub keeps_prune : (name : Name) (r : RankView) (n : ℕ) → Keeps r (record r { node = pruned_by name (pruned (floor_on r.node.board name) n) n r.node })
+pub keeps_prune : (name : Name) (r : RankView) (n : ℕ) → Keeps r (record r { node = pruned_by name (pruned_on r.node.board name n) n r.node })
 keeps_prune name r n script ranks size processes frames p at run =
     let s = run.system in
     let v = s.world.each p in
     let same : r.node ≡ v.node = run.shows.nodes p r at in
-    let new = pruned_by name (pruned (floor_on r.node.board name) n) n r.node in
+    let new = pruned_by name (pruned_on r.node.board name n) n r.node in
     run_on script ranks size processes frames run p (record r { node = new }) (Nets (Prunes p name n)) (tt, tt)
     (done_net ranks s p r new (prunes name n) (run.shows.stands p r at)
-    (ap (λ (m : NodeView). pruned_by name (pruned (floor_on m.board name) n) n m) same ∙ sym (drops_node name n (pruned (floor_on v.node.board name) n) v)))
+    (ap (λ (m : NodeView). pruned_by name (pruned_on m.board name n) n m) same ∙ sym (drops_node name n (pruned_on v.node.board name n) v)))
 
 -- a process acknowledges what its board has
 pub keeps_acknowledge : (numbers : Numbers) (r : RankView) → ((name : Name) (m : ℕ) → HasUpTo r.node.board name m (numbers name m)) → Keeps r (record r { node = acknowledge numbers r.node })
@@ -145,7 +146,7 @@ keeps_acknowledge numbers r has script ranks size processes frames p at run =
     (tt, subst (λ (n : NodeView). (name : Name) (m : ℕ) → HasUpTo n.board name m (numbers name m)) same has)
     (done_net ranks s p r (acknowledge numbers r.node) (acknowledges numbers) (run.shows.stands p r at) (ap (acknowledge numbers) same))
 
-pub pruned_is : (name : Name) (r : Result (Unit {0}) PruneError) (n : ℕ) (old new : NodeView) → OnOk r (new ≡ learn (only (Dropped name n)) old) → OnErr r (new ≡ old) → new ≡ pruned_by name r n old
+pub pruned_is : (name : Name) (r : Result (Unit {0}) PruneError) (n : ℕ) (old new : NodeView) → OnOk r (new ≡ learn_some (prune_part old name n) old) → OnErr r (new ≡ old) → new ≡ pruned_by name r n old
 pruned_is name (Ok u) n old new f g = f
 pruned_is name (Err refusal) n old new f g = g
 
@@ -184,9 +185,9 @@ keeps_node_acknowledge numbers old new has e r is =
     subst (λ m. Keeps r (record r { node = m })) (ap (acknowledge numbers) is ∙ sym e)
     (keeps_acknowledge numbers r (subst (λ (n : NodeView). (name : Name) (m : ℕ) → HasUpTo n.board name m (numbers name m)) (sym is) has))
 
-pub keeps_node_prune : (name : Name) (n : ℕ) (answer : Result (Unit {0}) PruneError) (old new : NodeView) → answer ≡ pruned (floor_on old.board name) n → OnOk answer (new ≡ learn (only (Dropped name n)) old) → OnErr answer (new ≡ old) → KeepsNode old new
+pub keeps_node_prune : (name : Name) (n : ℕ) (answer : Result (Unit {0}) PruneError) (old new : NodeView) → answer ≡ pruned_on old.board name n → OnOk answer (new ≡ learn_some (prune_part old name n) old) → OnErr answer (new ≡ old) → KeepsNode old new
 keeps_node_prune name n answer old new e f g r is =
-    let to : new ≡ pruned_by name (pruned (floor_on r.node.board name) n) n r.node = pruned_is name answer n old new f g ∙ ap (λ x. pruned_by name x n old) e ∙ ap (λ (m : NodeView). pruned_by name (pruned (floor_on m.board name) n) n m) (sym is) in
+    let to : new ≡ pruned_by name (pruned_on r.node.board name n) n r.node = pruned_is name answer n old new f g ∙ ap (λ x. pruned_by name x n old) e ∙ ap (λ (m : NodeView). pruned_by name (pruned_on m.board name n) n m) (sym is) in
     subst (λ m. Keeps r (record r { node = m })) (sym to) (keeps_prune name r n)
 
 -- a frame is taken

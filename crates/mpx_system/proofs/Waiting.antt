@@ -13,7 +13,8 @@ use Rattle.mpx_evaluation.specs.Ranks.{Requests, answers, awaited_by, awaited_th
 use Rattle.mpx_evaluation.specs.Standing.{closed}
 use Rattle.mpx_evaluation.specs.Transcripts.{line_text}
 use Rattle.mpx_evaluation.proofs.Standing.{named_without}
-use Rattle.mpx_system.specs.Systems.{node_births, node_tells}
+use Rattle.mpx_post.specs.Births.{BirthView}
+use Rattle.mpx_system.specs.Systems.{node_tells}
 use Rattle.mpx_system.specs.Running.{Open, is_held, are_held, request_line, result_line, wait_lines}
 
 -- REQUESTS
@@ -52,31 +53,31 @@ pub record Passing (r : Results) (requests : Requests) (words : List (List ℕ))
   pub known_as : answers r (awaited_by requests words) ≡ Some told
   pub lines_are : lines ≡ map line_text (waited_lines requests words told)
 
-module _ (node : NodeView) where
+module _ (born : Name → Option BirthView) (node : NodeView) where
   pub held_call : (call : Name × ℕ) → is_held node (Some call) ≡ true → (f : Finished) × (slice_get (results_on node call.0) call.1 ≡ Some f)
   held_call call h = by_result (slice_get (results_on node call.0) call.1) refl where
     by_result : (o : Option Finished) → slice_get (results_on node call.0) call.1 ≡ o → (f : Finished) × (slice_get (results_on node call.0) call.1 ≡ Some f)
     by_result None e = cc (h, e)
     by_result (Some f) e = (f, e)
 
-  passing_first : (opened : Open) (requests : Requests) (word : List ℕ) (words : List (List ℕ)) → AreOpen opened requests → is_held node (opened word) ≡ true → Passing (node_tells node) (without word requests) words (wait_lines node (closed word opened) words)
-      → (o : Option (Name × ℕ)) → named requests word ≡ o → Passing (node_tells node) requests (word ∷ words) (wait_lines node opened (word ∷ words))
+  passing_first : (opened : Open) (requests : Requests) (word : List ℕ) (words : List (List ℕ)) → AreOpen opened requests → is_held node (opened word) ≡ true → Passing (node_tells born node) (without word requests) words (wait_lines node (closed word opened) words)
+      → (o : Option (Name × ℕ)) → named requests word ≡ o → Passing (node_tells born node) requests (word ∷ words) (wait_lines node opened (word ∷ words))
   passing_first opened requests word words same h rest None e = record {
     told = rest.told;
-    known_as = ap (λ o. answers (node_tells node) (awaited_then o (awaited_by (without word requests) words))) e ∙ rest.known_as;
+    known_as = ap (λ o. answers (node_tells born node) (awaited_then o (awaited_by (without word requests) words))) e ∙ rest.known_as;
     lines_are = (λ i. request_line node ((same word ∙ e) i) ∷ rest.lines_are i) ∙ ap (λ o. map line_text (line_then o rest.told (waited_lines (without word requests) words))) (sym e);
   }
   passing_first opened requests word words same h rest (Some call) e =
       let found = held_call call (ap (is_held node) (sym (same word ∙ e)) ∙ h) in
-      let answer : Answer = answer_with (node_births node) found.0.outcome in
-      let tells : node_tells node call.0 call.1 ≡ Some answer = ap (option_map (λ (f : Finished). answer_with (node_births node) f.outcome)) found.1 in
+      let answer : Answer = answer_with born found.0.outcome in
+      let tells : node_tells born node call.0 call.1 ≡ Some answer = ap (option_map (λ (f : Finished). answer_with born f.outcome)) found.1 in
       record {
         told = answer ∷ rest.told;
-        known_as = ap (λ o. answers (node_tells node) (awaited_then o (awaited_by (without word requests) words))) e ∙ rw tells (rw rest.known_as refl);
+        known_as = ap (λ o. answers (node_tells born node) (awaited_then o (awaited_by (without word requests) words))) e ∙ rw tells (rw rest.known_as refl);
         lines_are = (λ i. request_line node ((same word ∙ e) i) ∷ rest.lines_are i) ∙ ap (λ o. result_line o ∷ map line_text (waited_lines (without word requests) words rest.told)) found.1 ∙ ap (λ o. map line_text (line_then o (answer ∷ rest.told) (waited_lines (without word requests) words))) (sym e);
       }
 
-  pub passing : (words : List (List ℕ)) (opened : Open) (requests : Requests) → AreOpen opened requests → are_held node opened words ≡ true → Passing (node_tells node) requests words (wait_lines node opened words)
+  pub passing : (words : List (List ℕ)) (opened : Open) (requests : Requests) → AreOpen opened requests → are_held node opened words ≡ true → Passing (node_tells born node) requests words (wait_lines node opened words)
   passing [] opened requests same h = record { told = []; known_as = refl; lines_are = refl }
   passing (word ∷ words) opened requests same h =
       let held = held_first node opened word words h in

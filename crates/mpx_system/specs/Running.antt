@@ -10,22 +10,24 @@ use Rattle.mpx_post.specs.declared.draft.PostError.{PostError}
 use Rattle.mpx_post.specs.declared.draft.PostError.TheVariants.{NotMember, OutOfMemory}
 use Rattle.mpx_post.specs.Births.{BirthView}
 use Rattle.mpx_post.specs.Gatherings.{GatheringView}
-use Rattle.mpx_board.specs.Boards.{Look}
+use Rattle.mpx_board.specs.Boards.{Look, told}
 use Rattle.mpx_value.specs.declared.outcomes.Outcome.{Outcome}
 use Rattle.mpx_value.specs.declared.outcomes.Outcome.TheVariants.{Nothing, Absent, Items, NewComm, Null, Fault}
-use Rattle.mpx_node.specs.Nodes.{NodeView, add_result, checked_on, children_on, front_on, gathering_name, gathers_on, next_result, open_gathering_node, post_at, posted_on, results_on, start_node}
+use Rattle.mpx_node.specs.Nodes.{NodeView, add_result, checked_on, children_on, freed_on, front_on, gathering_name, gathers_on, next_result, open_gathering_node, post_at, posted_on, results_on, start_node}
 use Rattle.mpx_node.specs.declared.finished.Finished.{Finished}
 use Rattle.mpx_statement.specs.declared.statement.Posting.{Posting}
 use Rattle.mpx_statement.specs.declared.statement.Question.{Question}
 use Rattle.mpx_statement.specs.declared.statement.Statement.{Statement}
 use Rattle.mpx_statement.specs.Statements.{Gathers as Asked, create_group_draft, draft_of, gathers_of}
 use Rattle.mpx_statement.specs.Lookups.{named}
-use Rattle.mpx_evaluation.specs.Ranks.{Bindings, Bound, Communicator, NullCommunicator, Line, Idle, Local, answered_by}
+use Rattle.mpx_evaluation.specs.declared.asking.Found.{Found}
+use Rattle.mpx_evaluation.specs.declared.asking.Found.TheVariants as W
+use Rattle.mpx_evaluation.specs.Ranks.{Bindings, Bound, Communicator, NullCommunicator, Line, Idle, Local, answered_by, found_as}
 use Rattle.mpx_script.specs.ScriptView.{ScriptView}
 use Rattle.mpx_evaluation.specs.Evaluation.{Script, bound_at_start}
 use Rattle.mpx_evaluation.specs.Standing.{WaitView, awaited, closed, has_statements, todo_of}
 use Rattle.mpx_evaluation.specs.Transcripts.{line_text, outcome_text}
-use Rattle.mpx_system.specs.Systems.{System, Leads, node_births, start_system}
+use Rattle.mpx_system.specs.Systems.{System, Leads, start_system}
 
 -- what each word is bound to: the name of a communicator, or None for the null communicator
 abbrev pub Names : Type 0
@@ -107,14 +109,18 @@ Tries t (Err refusal) new = (refusal ≡ OutOfMemory → ⊥) → (t.answer ≡ 
 
 -- QUESTIONS
 
--- the communicator, where it is one and the node knows how it came to be
-abbrev pub known_to : NodeView → Option Name → Option (Name × BirthView)
-known_to node None = None
-known_to node (Some name) = option_map (λ birth. (name, birth)) (node_births node name)
+-- a communicator by its name, and how it came to be, where the node's board tells that
+abbrev pub known_to : NodeView → Name → Option (Name × BirthView)
+known_to node name = option_map (λ birth. (name, birth)) (told (node.board.contexts name).birth)
+
+-- what a communicator is to a question: freed, where the node has posted that, else what is known of it
+abbrev pub found_at : NodeView → Option Name → Found (Name × BirthView)
+found_at node None = W.Null
+found_at node (Some name) = found_as (freed_on node name) (known_to node name)
 
 -- the line that answers a question, by what the node knows of what the words are bound to
 abbrev pub answered_on : (me : ℕ) → Names → Question → NodeView → Line
-answered_on me bound question node = answered_by me (λ word. known_to node (communicator_in (bound word))) question
+answered_on me bound question node = answered_by me (λ word. found_at node (communicator_in (bound word))) question
 
 -- WAITING
 

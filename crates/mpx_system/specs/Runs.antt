@@ -6,7 +6,7 @@ use Rattle.mpx_evaluation.specs.Evaluation.{State, IsEvaluation, IsPrefixOf, bou
 use Rattle.mpx_evaluation.specs.Told.{CarriesOut}
 use Rattle.mpx_evaluation.specs.Reports.{lines_in, waiting_in}
 use Rattle.mpx_world.specs.Soundness.{Sound}
-use Rattle.mpx_system.specs.Systems.{System, IsOfHappenings, Leads, node_tells, start_system, TellsResults}
+use Rattle.mpx_system.specs.Systems.{System, IsOfHappenings, Leads, start_system, TellsResults, world_tells}
 
 -- doings lead from the start to a sound world with these nodes; what can happen leads to it, so that each law of such histories is
 -- of it. In it each process has posted what its rank has and a relay nothing; the ranks carry out their statements by what their
@@ -20,7 +20,7 @@ pub record IsRun (script : ScriptView) (relays : ℕ) (nodes : List NodeView) (t
   pub nodes_are : (p : ℕ) (node : NodeView) → slice_get nodes p ≡ Some node → node ≡ (system.world.each p).node
   pub posts : (p : ℕ) → (system.world.each p).made ≡ (system.ranks p).made
   pub relays_post_nothing : (p : ℕ) → script.ranks ≤ p → (system.world.each p).made ≡ []
-  pub carries_out : (p : ℕ) → CarriesOut (node_tells (system.world.each p).node) (bound_at_start script.ranks) (statements_of script.statements p) (system.ranks p)
+  pub carries_out : (p : ℕ) → CarriesOut (world_tells system.world p) (bound_at_start script.ranks) (statements_of script.statements p) (system.ranks p)
   pub told : (p : ℕ) → TellsResults (system.world.each p).node (system.ranks p)
   pub ranks_are : length transcripts ≡ script.ranks
   pub lines : (p : ℕ) (lines : List (List ℕ)) → slice_get transcripts p ≡ Some lines → lines ≡ lines_in system.ranks p

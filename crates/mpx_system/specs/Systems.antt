@@ -6,12 +6,11 @@ use Rattle.mpx_post.specs.declared.draft.Draft.{Draft}
 use Rattle.mpx_post.specs.declared.draft.PostError.{PostError}
 use Rattle.mpx_post.specs.Births.{BirthView}
 use Rattle.mpx_post.specs.Gatherings.{GatheringView, gathering}
-use Rattle.mpx_board.specs.Boards.{told}
 use Rattle.mpx_value.specs.declared.outcomes.Outcome.{Outcome}
-use Rattle.mpx_value.specs.Histories.{Results, answer_with, posts_on}
+use Rattle.mpx_value.specs.Histories.{Made, Results, answer_with, has_freed, posts_on}
 use Rattle.mpx_node.specs.declared.finished.Finished.{Finished}
 use Rattle.mpx_node.specs.Nodes.{NodeView, gathering_name, results_on}
-use Rattle.mpx_world.specs.Worlds.{WorldView, Happening, Posts, Gathers, IsNoPost, happens, MayHappen, MayGoOn, world_by}
+use Rattle.mpx_world.specs.Worlds.{WorldView, Happening, Posts, Gathers, IsNoPost, births, happens, MayHappen, MayGoOn, world_by}
 use Rattle.mpx_world.specs.Worlds.{goes_on as goes_on_world, start as start_world}
 use Rattle.mpx_statement.specs.declared.statement.Posting.{Posting}
 use Rattle.mpx_statement.specs.declared.statement.Statement.{Statement}
@@ -25,38 +24,38 @@ pub record System : Type 0 where
   pub world : WorldView
   pub ranks : State
 
--- how communicators came to be, as far as a node's board knows
-abbrev pub node_births : NodeView → Name → Option BirthView
-node_births node name = told (node.board.contexts name).birth
+-- what the results that a node holds tell, where communicators came to be so
+abbrev pub node_tells : (born : Name → Option BirthView) → NodeView → Results
+node_tells born node name k = option_map (λ (f : Finished). answer_with born f.outcome) (slice_get (results_on node name) k)
 
--- what the results that a node holds tell
-abbrev pub node_tells : NodeView → Results
-node_tells node name k = option_map (λ (f : Finished). answer_with (node_births node) f.outcome) (slice_get (results_on node name) k)
+-- what those of a process tell in its world
+abbrev pub world_tells : WorldView → (process : ℕ) → Results
+world_tells w p = node_tells (births w) (w.each p).node
 
 -- the opening of a gathering and the post there; nothing where the gathering is refused
 abbrev pub posts_gathered : ℕ → Draft → (parent : Name) → Asked → Result GatheringView PostError → List Happening
 posts_gathered p draft parent asked (Ok g) = Gathers p parent asked.tag asked.ranks ∷ Posts p (gathering_name parent g) draft ∷ []
 posts_gathered p draft parent asked (Err refusal) = []
 
-abbrev pub posts_in : ℕ → Draft → Option Asked → Name → BirthView → List Happening
-posts_in p draft None name birth = Posts p name draft ∷ []
-posts_in p draft (Some asked) name birth = posts_gathered p draft name asked (gathering birth p (length name) asked.tag asked.ranks)
+abbrev pub posts_in : ℕ → List Made → Draft → Option Asked → Name → BirthView → List Happening
+posts_in p made draft None name birth = Posts p name draft ∷ []
+posts_in p made draft (Some asked) name birth = posts_gathered p draft name asked (gathering birth p (length name) (has_freed name made) asked.tag asked.ranks)
 
--- what a statement that posts gives a node to post on what its word is bound to
-abbrev pub posts_bound : ℕ → Posting → Option Bound → List Happening
-posts_bound p posting None = []
-posts_bound p posting (Some NullCommunicator) = []
-posts_bound p posting (Some (Communicator name birth)) = posts_in p (draft_of posting) (gathers_of posting) name birth
+-- what a statement that posts gives a node, after these posts, to post on what its word is bound to
+abbrev pub posts_bound : ℕ → List Made → Posting → Option Bound → List Happening
+posts_bound p made posting None = []
+posts_bound p made posting (Some NullCommunicator) = []
+posts_bound p made posting (Some (Communicator name birth)) = posts_in p made (draft_of posting) (gathers_of posting) name birth
 
 -- what the next move of a rank gives its node to post
-abbrev pub posts_of : ℕ → Bindings → List Todo → List Happening
-posts_of p bound [] = []
-posts_of p bound (Do (Post posting) ∷ rest) = posts_bound p posting (named bound (posted_on posting))
-posts_of p bound (Do (Wait requests) ∷ rest) = []
-posts_of p bound (Do (Ask question) ∷ rest) = []
-posts_of p bound (Await name call target ∷ rest) = []
+abbrev pub posts_of : ℕ → List Made → Bindings → List Todo → List Happening
+posts_of p made bound [] = []
+posts_of p made bound (Do (Post posting) ∷ rest) = posts_bound p made posting (named bound (posted_on posting))
+posts_of p made bound (Do (Wait requests) ∷ rest) = []
+posts_of p made bound (Do (Ask question) ∷ rest) = []
+posts_of p made bound (Await name call target ∷ rest) = []
 
--- something that makes no post, or a rank's next move by what its node tells, with the posts that it makes there
+-- something that makes no post, or a rank's next move by what its node's results tell, with the posts that it makes there
 pub data Doing : Type 0 where
   Nets : Happening → Doing
   Drives : (rank : ℕ) → Doing
@@ -64,8 +63,8 @@ pub data Doing : Type 0 where
 abbrev pub does : System → Doing → System
 does s (Nets h) = record { world = happens s.world h; ranks = s.ranks }
 does s (Drives p) = record {
-  world = goes_on_world s.world (posts_of p (s.ranks p).bound (s.ranks p).todo);
-  ranks = goes_on s.ranks p (node_tells (s.world.each p).node);
+  world = goes_on_world s.world (posts_of p (s.world.each p).made (s.ranks p).bound (s.ranks p).todo);
+  ranks = goes_on s.ranks p (world_tells s.world p);
 }
 
 abbrev pub does_all : System → List Doing → System

@@ -3,7 +3,7 @@ ghost use Rattle.std.specs.Prelude.{◌≡◌, ◌≤◌, List, ℕ, []};
 ghost use Rattle.mpx_evaluation.specs.Evaluation.{Script, State, IsEvaluation, IsPrefixOf, bound_at_start, statements_of};
 ghost use Rattle.mpx_evaluation.specs.Told.{CarriesOut};
 ghost use Rattle.mpx_world.specs.Soundness.{Sound};
-ghost use Rattle.mpx_system.specs.Systems.{Doing, IsOfHappenings, MayDoAll, TellsResults, does_all, node_tells, start_system};
+ghost use Rattle.mpx_system.specs.Systems.{Doing, IsOfHappenings, MayDoAll, TellsResults, does_all, start_system, world_tells};
 
 /// Whatever is sent, acknowledged, lost, repeated or reordered, and in whatever order ranks move: each rank's lines begin its
 /// lines in the evaluation, those of a rank that has nothing left are all of them, each line that tells an outcome tells that
@@ -19,7 +19,7 @@ pub fn every_run_begins_the_evaluation()
     ensures posts { (script : Script) (ranks size : ℕ) (doings : List Doing) → MayDoAll ranks (start_system script ranks size) doings
         → (p : ℕ) → ((does_all (start_system script ranks size) doings).world.each p).made ≡ ((does_all (start_system script ranks size) doings).ranks p).made }
     ensures carries_out { (script : Script) (ranks size : ℕ) (doings : List Doing) → MayDoAll ranks (start_system script ranks size) doings
-        → (p : ℕ) → CarriesOut (node_tells ((does_all (start_system script ranks size) doings).world.each p).node) (bound_at_start ranks) (statements_of script p) ((does_all (start_system script ranks size) doings).ranks p) }
+        → (p : ℕ) → CarriesOut (world_tells (does_all (start_system script ranks size) doings).world p) (bound_at_start ranks) (statements_of script p) ((does_all (start_system script ranks size) doings).ranks p) }
     ensures relays { (script : Script) (ranks size : ℕ) (doings : List Doing) → MayDoAll ranks (start_system script ranks size) doings
         → (p : ℕ) → ranks ≤ p → ((does_all (start_system script ranks size) doings).world.each p).made ≡ [] }
     ensures sound { (script : Script) (ranks size : ℕ) (doings : List Doing) → MayDoAll ranks (start_system script ranks size) doings

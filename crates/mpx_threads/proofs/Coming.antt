@@ -3,7 +3,7 @@ use Rattle.std.proofs.Common.{◌≡◌, ℕ, zero, suc, ◌+◌, Bool, true, fa
 use Rattle.std.specs.Prelude.{slice_get, bytes_eq, is_some, ◌||◌, Ok, if◌then◌else◌}
 use Rattle.std.specs.Option.{option_map}
 use Rattle.mpx_name.specs.Name.{Name}
-use Rattle.mpx_value.specs.Histories.{Answer, Made, Results}
+use Rattle.mpx_value.specs.Histories.{Answer, Made, Results, has_freed}
 use Rattle.mpx_statement.specs.declared.statement.Posting.{Posting}
 use Rattle.mpx_statement.specs.declared.statement.Statement.{Statement}
 use Rattle.mpx_statement.specs.declared.statement.Statement.TheVariants.{Post}
@@ -100,7 +100,8 @@ module _ (script : ScriptView) (relays : ℕ) (setup : Setup) (plan : Plans scri
     hears = λ c d fits h. fits_same s c d fits h.1;
     tells = λ c fits. outcomes_known by c.0;
     gives = λ c fits name call to given. (given.0, told_known by c.0 name call given.0 given.1, given.2);
-    knows = λ c fits communicator. refl;
+    closes = λ c fits communicator. ap (has_freed communicator.0) (sym fits.made);
+    knows = λ c fits communicator unfreed. refl;
     quiet = λ c fits t e made. fits_quiet s c c fits t e made refl;
     posts = λ c d fits posting rest todo on is_on name call tried.
         let m : Made = tried.1.0 in

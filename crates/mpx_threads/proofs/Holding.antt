@@ -6,21 +6,16 @@ use Rattle.std.proofs.lemmas.Bool.Decides.{Decides-eqb, nat_tests}
 use Rattle.std.proofs.lemmas.Option.{same_Some}
 use Rattle.atomic_table.specs.Seated.{TableId}
 use Rattle.mpx_name.specs.Name.{Name, same_name}
-use Rattle.mpx_board.specs.Boards.{told}
+use Rattle.mpx_post.specs.Births.{BirthView}
 use Rattle.mpx_value.specs.declared.outcomes.Outcome.{Outcome}
-use Rattle.mpx_value.specs.declared.outcomes.Outcome.TheVariants.{Nothing, Absent, Items, NewComm, Null, Fault}
 use Rattle.mpx_value.specs.Histories.{Answer, Results, Within, answer_with, posts_on}
 use Rattle.mpx_node.specs.declared.finished.Finished.{Finished}
 use Rattle.mpx_node.specs.Nodes.{NodeView, results_on}
-use Rattle.mpx_world.specs.Worlds.{ProcessView}
 use Rattle.mpx_world.proofs.Lists.{names_same}
-use Rattle.mpx_world.proofs.Whole.{IsWell, well_by}
-use Rattle.mpx_world.proofs.Opened.{are_communicators}
 use Rattle.mpx_bus.specs.declared.act.Setup.{Setup}
 use Rattle.mpx_bus.specs.Berths.{Berth, node_in}
-use Rattle.mpx_bus.specs.Rule.{world_of}
 use Rattle.mpx_shared.specs.Docks.{IsDocked, made_in}
-use Rattle.mpx_shared.proofs.Docked.{docked_birth, docked_mine, docked_posts, docked_result}
+use Rattle.mpx_shared.proofs.Docked.{docked_mine, docked_posts, docked_result}
 use Rattle.mpx_shared.proofs.Plans as P
 use Rattle.mpx_statement.specs.declared.statement.Statement.{Statement}
 use Rattle.mpx_evaluation.specs.Ranks.{Told, doing}
@@ -32,7 +27,7 @@ use Rattle.mpx_evaluation.specs.Reports.{is_left}
 use Rattle.mpx_evaluation.proofs.Fronts.{prefix_itself}
 use Rattle.mpx_evaluation.proofs.Going.{goes-carries_out}
 use Rattle.mpx_evaluation.proofs.Tells.{mapped_some}
-use Rattle.mpx_system.specs.Systems.{node_births, node_tells}
+use Rattle.mpx_system.specs.Systems.{node_tells}
 use Rattle.mpx_script.specs.ScriptView.{ScriptView}
 use Rattle.mpx_threads.specs.declared.told.ToldCall.{ToldCall}
 use Rattle.mpx_threads.specs.Plans.{Plans, planned_results}
@@ -40,7 +35,7 @@ use Rattle.mpx_threads.specs.Runs.{IsDone}
 use Rattle.mpx_threads.specs.Told.{AllHeld, first_posts, is_among, is_at, planned_birth, told_of}
 use Rattle.mpx_threads.specs.Work.{HasCome, HasWorked}
 use Rattle.mpx_threads.proofs.Less.{Have, carries_out_less}
-use Rattle.mpx_threads.proofs.Plans.{planned_is, results_are, statements_at}
+use Rattle.mpx_threads.proofs.Plans.{births_are, planned_is, results_are, statements_at}
 
 -- AMONG
 
@@ -85,30 +80,11 @@ module _ (table : TableId) (setup : Setup) (me : ℕ) (port : Berth) (docked : I
   result_is : (name : Name) (call : ℕ) (f : Finished) → slice_get (results_on (node_in port) name) call ≡ Some f → planned_results setup me name call ≡ Some (answer_with (planned_birth setup) f.outcome)
   result_is name call f e = (P.result_is_planned setup me name call f planned (docked_result table setup me port name call f docked e)).result
 
-  -- the board knows each communicator that a result names
-  names_known : (name : Name) (call : ℕ) (f : Finished) → slice_get (results_on (node_in port) name) call ≡ Some f → (new : Name) (size rank : ℕ) → f.outcome ≡ NewComm new size rank → node_births (node_in port) new ≡ planned_birth setup new
-  names_known name call f e new size rank given =
-      let stood = docked.stood in
-      let well : IsWell (world_of port.setup stood.happenings) = well_by port.setup.ranks port.setup.size stood.happenings stood.may in
-      let there : slice_get (results_on ((world_of port.setup stood.happenings).each port.me).node name) call ≡ Some f = ap (λ (v : ProcessView). slice_get (results_on v.node name) call) stood.stands ∙ e in
-      let c = are_communicators (world_of port.setup stood.happenings) well.holds well.members port.me name call f there new size rank given in
-      let born : told ((node_in port).board.contexts new).birth ≡ Some c.birth = ap (λ (v : ProcessView). told (v.node.board.contexts new).birth) (sym stood.stands) ∙ ap told c.born in
-      born ∙ sym (P.birth_is_planned setup new c.birth planned (docked_birth table setup me port new c.birth docked born))
-
-  same_answer : (name : Name) (call : ℕ) (f : Finished) → slice_get (results_on (node_in port) name) call ≡ Some f → (outcome : Outcome) → f.outcome ≡ outcome → answer_with (node_births (node_in port)) outcome ≡ answer_with (planned_birth setup) outcome
-  same_answer name call f e Nothing g = refl
-  same_answer name call f e Absent g = refl
-  same_answer name call f e (Items items) g = refl
-  same_answer name call f e (NewComm new size rank) g = let same = names_known name call f e new size rank g in λ i. record { outcome = NewComm new size rank; born = same i }
-  same_answer name call f e Null g = refl
-  same_answer name call f e (Fault fault) g = refl
-
   -- what the node tells the plan's posts give
-  tells_planned : Within (node_tells (node_in port)) (planned_results setup me)
+  tells_planned : Within (node_tells (planned_birth setup) (node_in port)) (planned_results setup me)
   tells_planned name call answer e =
-      let found = mapped_some (λ (f : Finished). answer_with (node_births (node_in port)) f.outcome) (slice_get (results_on (node_in port) name) call) answer e in
-      let f : Finished = found.0 in
-      result_is name call f found.1 ∙ ap Some (sym (same_answer name call f found.1 f.outcome refl) ∙ found.2)
+      let found = mapped_some (λ (f : Finished). answer_with (planned_birth setup) f.outcome) (slice_get (results_on (node_in port) name) call) answer e in
+      result_is name call found.0 found.1 ∙ ap Some found.2
 
   module _ (script : ScriptView) (relays : ℕ) (plan : Plans script relays setup) (ts : List ToldCall) (count : ℕ) (lines : List (List ℕ)) (waits : Bool) (come : HasCome script setup me ts count lines waits) (counted : length (made_in port) ≡ count) (held : AllHeld (node_in port) ts) where
     goes_there : Goes (known script.ranks plan.end me) (start script.statements script.ranks me) come.to
@@ -127,17 +103,18 @@ module _ (table : TableId) (setup : Setup) (me : ℕ) (port : Berth) (docked : I
     made_same : made_in port ≡ come.to.made
     made_same = docked_posts table setup me port planned docked ∙ ap (first_posts setup me) counted ∙ sym come.made_is
 
-    have : Have (planned_results setup me) (node_tells (node_in port)) tells_planned come.to.lines
+    have : Have (planned_results setup me) (node_tells (planned_birth setup) (node_in port)) tells_planned come.to.lines
     have i name call outcome e =
         let there = line_held i name call outcome e in
-        (answer_with (node_births (node_in port)) there.0.outcome, ap (option_map (λ (f : Finished). answer_with (node_births (node_in port)) f.outcome)) there.1)
+        (answer_with (planned_birth setup) there.0.outcome, ap (option_map (λ (f : Finished). answer_with (planned_birth setup) f.outcome)) there.1)
 
     pub is_done : IsDone script plan.end me port come.to
     is_done = record {
       goes = goes_there;
-      carries_out = carries_out_less (planned_results setup me) (node_tells (node_in port)) tells_planned (bound_at_start script.ranks) (statements_of script.statements me) come.to
+      carries_out = subst (λ (born : Name → Option BirthView). CarriesOut (node_tells born (node_in port)) (bound_at_start script.ranks) (statements_of script.statements me) come.to) (λ i name. births_are script relays setup plan name i)
+          (carries_out_less (planned_results setup me) (node_tells (planned_birth setup) (node_in port)) tells_planned (bound_at_start script.ranks) (statements_of script.statements me) come.to
           (subst (λ r. CarriesOut r (bound_at_start script.ranks) (statements_of script.statements me) come.to) (sym (results_are script relays setup plan me)) (goes-carries_out script.statements script.ranks plan.end me come.to goes_there))
-          have;
+          have);
       told = λ i name call outcome e.
           let there = line_held i name call outcome e in
           record {

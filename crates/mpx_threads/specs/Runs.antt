@@ -3,20 +3,22 @@ use Rattle.std.specs.Prelude.{◌≡◌, ℕ, ◌<◌, ◌≤◌, ◌+◌, List,
 use Rattle.atomic_table.specs.Seated.{TableId}
 use Rattle.mpx_bus.specs.Berths.{Berth, node_in}
 use Rattle.mpx_shared.specs.Docks.{IsDocked, made_in}
+use Rattle.mpx_value.specs.Histories.{birth_of}
 use Rattle.mpx_script.specs.ScriptView.{ScriptView}
 use Rattle.mpx_evaluation.specs.Ranks.{Local}
-use Rattle.mpx_evaluation.specs.Evaluation.{State, IsEvaluation, IsPrefixOf, bound_at_start, known, start, statements_of}
+use Rattle.mpx_evaluation.specs.Evaluation.{State, IsEvaluation, IsPrefixOf, bound_at_start, history, known, start, statements_of}
 use Rattle.mpx_evaluation.specs.Going.{Goes}
 use Rattle.mpx_evaluation.specs.Told.{CarriesOut}
 use Rattle.mpx_evaluation.specs.Reports.{lines_in, waiting_in}
 use Rattle.mpx_system.specs.Systems.{TellsResults, node_tells}
 use Rattle.mpx_threads.specs.Plans.{setup_by}
 
--- the rank has come there by answers of the evaluation, each of which its port's node holds; each line that tells an outcome tells
--- that of a stored result, beside the rank's own post; and the port has made its posts
+-- the rank has come there by answers of the evaluation, each of which is that of a result that its port's node holds, where
+-- communicators came to be as they do there; each line that tells an outcome tells that of a stored result, beside the rank's own
+-- post; and the port has made its posts
 pub record IsDone (script : ScriptView) (end : State) (p : ℕ) (port : Berth) (s : Local) : Type 0 where
   pub goes : Goes (known script.ranks end p) (start script.statements script.ranks p) s
-  pub carries_out : CarriesOut (node_tells (node_in port)) (bound_at_start script.ranks) (statements_of script.statements p) s
+  pub carries_out : CarriesOut (node_tells (birth_of (history end) script.ranks) (node_in port)) (bound_at_start script.ranks) (statements_of script.statements p) s
   pub told : TellsResults (node_in port) s
   pub posts : IsPrefixOf s.made (made_in port)
 

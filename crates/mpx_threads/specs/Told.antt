@@ -8,7 +8,7 @@ use Rattle.mpx_post.specs.Gatherings.{gathering}
 use Rattle.mpx_post.specs.declared.draft.Draft.{Draft}
 use Rattle.mpx_post.specs.declared.draft.PostError.{PostError}
 use Rattle.mpx_post.specs.declared.draft.PostError.TheVariants.{OutOfMemory}
-use Rattle.mpx_value.specs.Histories.{Answer, Made, Results}
+use Rattle.mpx_value.specs.Histories.{Answer, Made, Results, has_freed}
 use Rattle.mpx_statement.specs.declared.statement.Posting.{Posting}
 use Rattle.mpx_statement.specs.Statements.{draft_of, gathers_of}
 use Rattle.mpx_evaluation.specs.Ranks.{attempt_in, bound_by, next_call, post_gathered, post_on}
@@ -70,7 +70,7 @@ pub record MayPost (setup : Setup) (me count : ℕ) (posting : Posting) (on : Op
 -- where the post on a gathering of these ranks below the context comes to a post, by the plan, that is the plan's next
 abbrev pub IsNextGathered : Setup → (me count : ℕ) → (parent : Name) → (tag : ℤ) → (ranks : List ℤ) → Draft → Type 0
 IsNextGathered setup me count parent tag ranks draft = (birth : BirthView) (m : Made) → planned_birth setup parent ≡ Some birth
-    → post_gathered me (first_posts setup me count) draft parent (gathering birth me (length parent) tag ranks) ≡ Ok m → slice_get (planned_posts setup me) count ≡ Some m
+    → post_gathered me (first_posts setup me count) draft parent (gathering birth me (length parent) (has_freed parent (first_posts setup me count)) tag ranks) ≡ Ok m → slice_get (planned_posts setup me) count ≡ Some m
 
 -- where the statement comes to a post on the context, or on a gathering below it, by the plan, that is the plan's next
 abbrev pub IsNextIn : Setup → (me count : ℕ) → Name → Posting → Type 0
@@ -99,7 +99,7 @@ abbrev pub on_context : (me : ℕ) → Posting → Name → List Made → BirthV
 on_context me posting name made birth = post_on me made (draft_of posting) name birth
 
 abbrev pub on_gathering : (me : ℕ) → Posting → (parent : Name) → (tag : ℤ) → (ranks : List ℤ) → List Made → BirthView → Result Made PostError
-on_gathering me posting parent tag ranks made birth = post_gathered me made (draft_of posting) parent (gathering birth me (length parent) tag ranks)
+on_gathering me posting parent tag ranks made birth = post_gathered me made (draft_of posting) parent (gathering birth me (length parent) (has_freed parent made) tag ranks)
 
 abbrev pub on_either : (me : ℕ) → Posting → Name → List Made → BirthView → Result Made PostError
 on_either me posting name made birth = attempt_in me made (draft_of posting) (gathers_of posting) name birth
@@ -113,13 +113,14 @@ abbrev pub Tells : Results → List ToldCall → Name → (call : ℕ) → Optio
 Tells known told name call (Some said) = (answer : Answer) × (told_of known told name call ≡ Some answer) × (string_bytes said.text ≡ outcome_text answer.outcome) × (bound_as said.given ≡ bound_by answer.outcome answer.born)
 Tells known told name call None = told_of known told name call ≡ None
 
--- what was told is of the plan's posts; a communicator is its name and its birth; a post is tried after the first so many of the plan,
--- where the ledger is whole and it is the plan's next; and more may be told
+-- what was told is of the plan's posts; a communicator is its name and its birth, and is closed where a free is among the first so many
+-- posts of the plan; a post is tried after these, where the ledger is whole and it is the plan's next; and more may be told
 abbrev pub thread_terms : Setup → (me before : ℕ) → (ledger : Type 0) → Terms DeskView CommunicatorView
 thread_terms setup me before ledger = record {
   tells = λ d p. outcomes_of (told_of (planned_results setup me) d.0);
   gives = λ d p name call to. (answer : Answer) × (told_of (planned_results setup me) d.0 name call ≡ Some answer) × (bound_as to ≡ bound_by answer.outcome answer.born);
   knows = λ d c. Some c;
+  closes = λ d p c. has_freed c.0 (first_posts setup me (before + d.1));
   may = λ d p posting on. ledger × MayPost setup me (before + d.1) posting on;
   tries = λ d p posting on result e. (e.0 ≡ d.0) × Tried (first_posts setup me (before + d.1)) (attempt_by me (first_posts setup me (before + d.1)) posting on) result d.1 e.1;
   hears = HearsMore;

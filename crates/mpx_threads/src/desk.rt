@@ -50,7 +50,7 @@ impl<'a, L: Dock, R: Wait> Model for ThreadDesk<'a, L, R> {
 
     ghost view = { λ d. (d.told, d.poster.share.amount) };
 
-    ghost invariant = { λ d. L.setup.planned ≡ true };
+    ghost invariant = { λ d. (L.setup.planned ≡ true) × (L.all ≡ L.parts) };
 }
 
 impl<'a, L: Dock, R: Wait> ThreadDesk<'a, L, R> {
@@ -62,7 +62,8 @@ impl<'a, L: Dock, R: Wait> ThreadDesk<'a, L, R> {
         looks: &'a Looks<'a>,
         poster: Poster<L>,
     ) -> ThreadDesk<'a, L, R>
-        requires { L.setup.planned ≡ true }
+        requires planned { L.setup.planned ≡ true }
+        requires ledger { L.all ≡ L.parts }
         ensures { result ≡ ([], poster.share.amount) }
     {
         ThreadDesk {
@@ -230,6 +231,11 @@ impl<'a, L: Dock, R: Wait> Carrier for ThreadDesk<'a, L, R> {
         Some((name, birth))
     }
 
+    fn is_closed(&mut self, _me: Proc, communicator: &(Name, Birth)) -> bool {
+        let (name, _) = communicator;
+        self.port.is_closed(self.rt, &mut self.poster, name)
+    }
+
     ghost hears_nothing = { hears_nothing };
 
     ghost hears_more = { hears_more };
@@ -345,7 +351,7 @@ fn gather_and_post<L: Dock, R: Wait>(
     requires next { IsNextGathered L.setup L.me (L.before + poster.old.share.amount) parent.now tag ranks.now (draft_of posting.now) }
     ensures { PostsAs L.setup L.me L.before parent.now (on_gathering L.me posting.now parent.now tag ranks.now) result poster.old.share.amount poster.new.share.amount }
 {
-    match port.open_gathering(rt, alloc, parent, tag, ranks) {
+    match port.open_gathering(rt, alloc, poster, parent, tag, ranks) {
         Ok(name) => post_on(rt, alloc, port, poster, &name, posting),
         Err(refusal) => {
             if refusal.is_no_member() {

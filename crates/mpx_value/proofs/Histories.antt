@@ -1,5 +1,5 @@
 -- What gatherings give birth to, and answers that name births.
-use Rattle.std.proofs.Common.{◌≡◌, ℕ, ℤ, ◌<◌, true, cond, not, ◌&&◌, List, length, Option, Some, None, refl, ap, arith}
+use Rattle.std.proofs.Common.{◌≡◌, ℕ, ℤ, ◌<◌, Bool, true, cond, not, ◌&&◌, List, length, Option, Some, None, refl, ap, arith}
 use Rattle.std.specs.Prelude.{nat_lt, Ok}
 use Rattle.std.specs.List.{list_all}
 use Rattle.std.proofs.lemmas.Bool.{and_from}
@@ -14,9 +14,9 @@ use Rattle.mpx_value.specs.declared.outcomes.Outcome.TheVariants.{Nothing, Absen
 use Rattle.mpx_value.specs.Histories.{Answer, answer_with, gathered}
 
 -- members that gather may do so
-pub gathered_there : (birth : BirthView) (me depth : ℕ) (tag : ℤ) (ranks : List ℤ) (g : GatheringView) → gathering birth me depth tag ranks ≡ Ok g → gathered g.members birth ≡ Some (of_members g.members)
-gathered_there birth me depth tag ranks g e =
-    let a = gathers birth me depth tag ranks g e in
+pub gathered_there : (birth : BirthView) (me depth : ℕ) (closed : Bool) (tag : ℤ) (ranks : List ℤ) (g : GatheringView) → gathering birth me depth closed tag ranks ≡ Ok g → gathered g.members birth ≡ Some (of_members g.members)
+gathered_there birth me depth closed tag ranks g e =
+    let a = gathers birth me depth closed tag ranks g e in
     let l : 0 < length g.members = some_is_more g.members a.some in
     let more : nat_lt 0 (length g.members) ≡ true = grind (arith, nat_tests, l) in
     let may : (nat_lt 0 (length g.members) && (not (has_twice g.members) && list_all (has birth.members) g.members)) ≡ true =

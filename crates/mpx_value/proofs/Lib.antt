@@ -9,3 +9,4 @@ pub mod NewCommunicators
 pub mod Within
 pub mod Growth
 pub mod Histories
+pub mod Fine

@@ -61,6 +61,7 @@ rise_in (F.Exchange exchange) birth row = none
 rise_in (F.Reduction reduction) birth row = none
 rise_in (F.NewCommunicator new) birth row = rise_by new birth row
 rise_in (F.Neighbourhood exchange) birth row = none
+rise_in F.Free birth row = none
 
 rise_unless : (v : Verdict) (made : List ChildView) → Rise made → Rise (unless_fault v made)
 rise_unless V.Fine made rise = rise
@@ -123,6 +124,7 @@ by_family (F.Exchange exchange) birth row name call at new size rank e = absurd 
 by_family (F.Reduction reduction) birth row name call at new size rank e = absurd (by_value (fold_value row at) new size rank e)
 by_family (F.Neighbourhood exchange) birth row name call at new size rank e = absurd (by_value (neigh_value birth.topology row at) new size rank e)
 by_family (F.NewCommunicator made) birth row name call at new size rank e = e
+by_family F.Free birth row name call at new size rank e = cc e
 
 by_verdict : (v : Verdict) (given : Outcome) (new : Name) (size rank : ℕ) → or_fault v given ≡ NewComm new size rank → given ≡ NewComm new size rank
 by_verdict V.Fine given new size rank e = e

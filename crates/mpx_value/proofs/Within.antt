@@ -54,6 +54,7 @@ module _ (birth : BirthView) (row : RowView) (long : length row ≡ length birth
   by_family (F.Reduction reduction) is = All-nil Within
   by_family (F.NewCommunicator new) is = by_kind new is
   by_family (F.Neighbourhood exchange) is = All-nil Within
+  by_family F.Free is = All-nil Within
 
   by_verdict : (v : Verdict) → (v ≡ V.Fine → IsFine row) → All Within (unless_fault v (children_in (family_of (first_of row).kind) birth row))
   by_verdict V.Fine fine = by_family (family_of (first_of row).kind) (fine refl)

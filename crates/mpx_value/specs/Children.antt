@@ -102,6 +102,7 @@ children_in (F.Exchange exchange) birth row = []
 children_in (F.Reduction reduction) birth row = []
 children_in (F.NewCommunicator new) birth row = children_by new birth row
 children_in (F.Neighbourhood exchange) birth row = []
+children_in F.Free birth row = []
 
 -- none where the posts don't fit together
 abbrev pub unless_fault : Verdict → List ChildView → List ChildView

@@ -1,11 +1,11 @@
 -- What all processes posted on all contexts, the members that this gives to each context, and what its whole rows give.
 use Rattle.std.specs.Prelude.{◌≡◌, ℕ, Bool, cond, not, ◌&&◌, nat_lt, List, [], ◌∷◌, length, Option, Some, None, option_and_then, slice_get}
-use Rattle.std.specs.List.{list_all}
+use Rattle.std.specs.List.{list_all, list_any}
 use Rattle.std.specs.Option.{option_map}
 use Rattle.mpx_group.specs.Group.{has, has_twice}
 use Rattle.mpx_name.specs.declared.steps.Step.TheVariants.{Child, Gathering}
 use Rattle.mpx_name.specs.Name.{Name, same_name}
-use Rattle.mpx_post.specs.Posts.{Given}
+use Rattle.mpx_post.specs.Posts.{Given, is_free}
 use Rattle.mpx_post.specs.Births.{BirthView, of_members, rank_in, upto}
 use Rattle.mpx_post.specs.Gatherings.{GatheringView}
 use Rattle.mpx_post.specs.Rows.{RowView, all_of}
@@ -25,6 +25,10 @@ pub record Made : Type 0 where
 abbrev pub posts_on : Name → List Made → List Given
 posts_on name [] = []
 posts_on name (m ∷ rest) = cond (same_name name m.name) (m.given ∷ posts_on name rest) (posts_on name rest)
+
+-- whether one of these posts frees the context
+abbrev pub has_freed : Name → List Made → Bool
+has_freed name made = list_any is_free (posts_on name made)
 
 -- what a process posted on a context as its call of this number, where it did
 abbrev pub History : Type 0

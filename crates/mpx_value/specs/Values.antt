@@ -1,4 +1,4 @@
--- What a call gives its members (MPI 4.1, sections 6.3 to 6.11, 7.4.2, 8.5.4 and 8.6).
+-- What a call gives its members (MPI 4.1, sections 6.3 to 6.11, 7.4.2, 7.4.3, 8.5.4 and 8.6).
 use Rattle.std.specs.Prelude.{◌≡◌, ℕ, cond, List, [], ◌∷◌, length, slice_index_or, Result, Ok, Err}
 use Rattle.std.specs.Option.{option_map_or}
 use Rattle.join_core.specs.declared.memory.OutOfMemory.{OutOfMemory}
@@ -42,6 +42,7 @@ given_in (F.Exchange exchange) birth row name call rank = outcome_of (move_value
 given_in (F.Reduction reduction) birth row name call rank = outcome_of (fold_value row rank)
 given_in (F.NewCommunicator new) birth row name call rank = new_communicator birth row name call (slice_index_or birth.members rank 0)
 given_in (F.Neighbourhood exchange) birth row name call rank = outcome_of (neigh_value birth.topology row rank)
+given_in F.Free birth row name call rank = Nothing
 
 abbrev pub given_to : BirthView → RowView → Name → (call rank : ℕ) → Outcome
 given_to birth row name call rank = given_in (family_of (first_of row).kind) birth row name call rank

@@ -83,6 +83,7 @@ pub(crate) fn made(
         Family::Exchange(_) => Ok(Vec::new(alloc)),
         Family::Reduction(_) => Ok(Vec::new(alloc)),
         Family::Neighbourhood(_) => Ok(Vec::new(alloc)),
+        Family::Free => Ok(Vec::new(alloc)),
         Family::NewCommunicator(new) => match new {
             NewCommunicator::Dup => only_child(alloc, birth.copy(alloc)?, name, call),
             NewCommunicator::Split => split(alloc, birth, row, name, call),

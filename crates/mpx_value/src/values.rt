@@ -63,6 +63,7 @@ fn given_to(
             let process = birth.members()[usize::from(rank)];
             new_communicator(alloc, birth, row, name, call, process)
         }
+        Family::Free => Ok(Outcome::Nothing),
     }
 }
 

@@ -11,12 +11,15 @@ use Rattle.mpx_board.specs.Parts.{PartsView}
 use Rattle.mpx_board.specs.declared.board.Board.{Board}
 use Rattle.mpx_format.specs.declared.faults.WireError.{WireError}
 use Rattle.mpx_format.specs.declared.faults.WireError.TheVariants as E
+use Rattle.mpx_format.specs.declared.versions.Version.{Version}
+use Rattle.mpx_format.specs.declared.versions.Version.TheVariants.{Two}
 use Rattle.mpx_format.specs.Format.{byte, number, many_fit}
 use Rattle.mpx_format.specs.Rising.{entry, always}
 use Rattle.mpx_format.specs.Fields.{process, name, name_count, some_names, numbers, acks, all_acks}
-use Rattle.mpx_format.specs.Contexts.{context, says_something, parts, frame}
+use Rattle.mpx_format.specs.Contexts.{lifted, says_something, parts, frame}
 use Rattle.mpx_format.specs.Decoding.{Decodes, Spells, decoded, most_bytes}
 use Rattle.mpx_format.specs.Encoding.{has_many_names, is_too_long, length_told, most_names}
+use Rattle.mpx_format.proofs.ContextLaws.{parts_fit}
 use Rattle.mpx_format.proofs.Decoded.{all_fit, decoded_again}
 use Rattle.mpx_encode.proofs.Encoded.{length_short, many_by_acks}
 use Rattle.mpx_wire.specs.Reading.{IsReadBack}
@@ -33,8 +36,8 @@ by_answer board (Err E.ShortFrame) d = cc d
 by_answer board (Err (E.OutOfLimits at)) d = cc d
 by_answer board (Err (E.NotCanonical at)) d = cc d
 
-pub read_back : (board : Board) (bytes : List ℕ) (answer : Result Board WireError) → Spells bytes (parts_of board) → Decodes answer (decoded bytes) → IsReadBack board answer
-read_back board bytes answer s d = by_answer board answer (subst (Decodes answer) (decoded_again bytes (parts_of board) s) d)
+pub read_back : (board : Board) (version : Version) (bytes : List ℕ) (answer : Result Board WireError) → Spells version bytes (parts_of board) → Decodes answer (decoded bytes) → IsReadBack board answer
+read_back board version bytes answer s d = by_answer board answer (subst (Decodes answer) (decoded_again version bytes (parts_of board) s) d)
 
 -- WRITTEN AGAIN
 
@@ -47,11 +50,12 @@ few_acks a fits =
     ap (λ (names : ℕ). nat_le names most_names) (len-entries a)
     ∙ (and_parts ((number w16).fits n) (nat_le n most_names) (and_parts (name_count.fits n) (nat_lt 0 n) (and_parts (some_names.fits n) each fits).0).0).1
 
-few_names : (v : PartsView) → frame.fits v ≡ true → has_many_names v ≡ false
-unfolding frame parts all_acks name_count
-few_names v fits =
+few_names : (version : Version) (v : PartsView) → frame.fits (version, v) ≡ true → has_many_names v ≡ false
+unfolding parts all_acks name_count
+few_names version v whole =
+    let fits = parts_fit version v whole in
     let n = length (entries v.0) in
-    let each = many_fit (entry name_cmp None name context says_something) n [] (entries v.0) in
+    let each = many_fit (entry name_cmp None name (lifted version) says_something) n [] (entries v.0) in
     let a = length (entries v.1) in
     let acks_fit = many_fit (entry nat_cmp None process acks always) a [] (entries v.1) in
     let both = and_parts (name_count.fits n && each) (byte.fits a && acks_fit) fits in
@@ -60,13 +64,13 @@ few_names v fits =
     many_by_acks v few
     ∙ ap not (all_fit nat_cmp None process acks always (λ p m. nat_le (len m) most_names) (λ p m key value says. few_acks m value) a [] (entries v.1) (and_parts (byte.fits a) acks_fit both.1).1)
 
--- what is spelled isn't too long
-pub spelled_short : (bytes : List ℕ) (v : PartsView) → Spells bytes v → is_too_long v ≡ false
+-- what is spelled in version 2 isn't too long
+pub spelled_short : (bytes : List ℕ) (v : PartsView) → Spells Two bytes v → is_too_long v ≡ false
 unfolding is_too_long
 spelled_short bytes v s =
-    let few : length (frame.spelling v) ≤ most_bytes = subst (λ b. length b ≤ most_bytes) s.bytes_are s.few in
-    ap (λ b. b || nat_lt most_bytes (length (frame.spelling v))) (few_names v s.fits) ∙ le-ltb most_bytes (length (frame.spelling v)) few
+    let few : length (frame.spelling (Two, v)) ≤ most_bytes = subst (λ b. length b ≤ most_bytes) s.bytes_are s.few in
+    ap (λ b. b || nat_lt most_bytes (length (frame.spelling (Two, v)))) (few_names Two v s.fits) ∙ le-ltb most_bytes (length (frame.spelling (Two, v))) few
 
 -- and its length is told
-pub spelled_length : (bytes : List ℕ) (v : PartsView) → Spells bytes v → length_told v ≡ length bytes
+pub spelled_length : (bytes : List ℕ) (v : PartsView) → Spells Two bytes v → length_told v ≡ length bytes
 spelled_length bytes v s = length_short v (spelled_short bytes v s) ∙ ap length (sym s.bytes_are)

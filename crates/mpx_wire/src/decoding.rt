@@ -2,14 +2,15 @@
 ghost use Rattle.std.specs.Prelude.{◌≡◌, IfOk, IfErr, Ok};
 ghost use Rattle.mpx_board.specs.Parts.{PartsView};
 ghost use Rattle.mpx_board.specs.Looks.{parts_of};
-ghost use Rattle.mpx_format.specs.Format.{Gives, mark_at};
-ghost use Rattle.mpx_format.specs.Contexts.{frame};
-ghost use Rattle.mpx_format.specs.Decoding.{Spells, Decodes, Refuses, decoded};
+ghost use Rattle.mpx_format.specs.Format.{Gives, both, mark_at};
+ghost use Rattle.mpx_format.specs.Codes.{version_byte};
+ghost use Rattle.mpx_format.specs.Contexts.{frame, parts as parts_format};
+ghost use Rattle.mpx_format.specs.Decoding.{IsSpelled, Decodes, Refuses, decoded};
 
 use join_core::Exact;
 use mpx_board::{Board, Parts};
-use mpx_decode::read_parts;
-use mpx_format::{Fault, ReadError, SHORT, WireError, placed};
+use mpx_decode::{read_parts, read_version};
+use mpx_format::{Fault, ReadError, SHORT, Version, WireError, placed};
 use std::alloc::Global;
 
 // This byte; else the fault.
@@ -28,16 +29,24 @@ fn read_mark(wrong: Fault, mark: u8, bytes: &[u8]) -> Result<&[u8], ReadError>
     }
 }
 
+// The version, and the parts as it spells them.
+fn read_versioned(alloc: Global, bytes: &[u8]) -> Result<((Version, Parts), &[u8]), ReadError>
+    ensures { Gives (λ x. ((x.0.0, ⟦<Parts as Exact>⟧.view x.0.1), x.1.now)) result ((both version_byte parts_format).read bytes.now) }
+{
+    let (version, rest) = read_version(bytes)?;
+    let (parts, rest) = read_parts(version, alloc, rest)?;
+    Ok(((version, parts), rest))
+}
+
 #[tactic(auto, unfolding(mpx_format::specs::Contexts::frame))]
-fn read_frame(alloc: Global, bytes: &[u8]) -> Result<(Parts, &[u8]), ReadError>
-    ensures { Gives (λ x. (⟦<Parts as Exact>⟧.view x.0, x.1.now)) result (frame.read bytes.now) }
+fn read_frame(alloc: Global, bytes: &[u8]) -> Result<((Version, Parts), &[u8]), ReadError>
+    ensures { Gives (λ x. ((x.0.0, ⟦<Parts as Exact>⟧.view x.0.1), x.1.now)) result (frame.read bytes.now) }
 {
     let rest = read_mark(Fault::BadMagic, 0x4d, bytes)?;
     let rest = read_mark(Fault::BadMagic, 0x50, rest)?;
     let rest = read_mark(Fault::BadMagic, 0x58, rest)?;
     let rest = read_mark(Fault::BadMagic, 0x47, rest)?;
-    let rest = read_mark(Fault::BadVersion, 1, rest)?;
-    read_parts(alloc, rest)
+    read_versioned(alloc, rest)
 }
 
 // The most bytes of a frame.
@@ -52,7 +61,7 @@ fn parts_of(alloc: Global, bytes: &[u8]) -> Result<Parts, WireError>
         return Err(WireError::TooLong);
     }
     match read_frame(alloc, bytes) {
-        Ok((parts, rest)) => {
+        Ok(((_, parts), rest)) => {
             if rest.is_empty() {
                 Ok(parts)
             } else {
@@ -64,12 +73,12 @@ fn parts_of(alloc: Global, bytes: &[u8]) -> Result<Parts, WireError>
     }
 }
 
-/// The board that the bytes spell.
+/// The board that the bytes spell, in version 1 or 2.
 pub fn decode(alloc: Global, bytes: &[u8]) -> Result<Board, WireError>
-    // What is decoded is spelled so, each byte of it.
-    ensures found { IfOk result (λ board. Spells bytes.now (parts_of board)) }
-    // What is spelled so is decoded, unless memory runs out.
-    ensures only { (v : PartsView) → Spells bytes.now v → Decodes result (Ok v) }
+    // What is decoded is spelled so in some version, each byte of it.
+    ensures found { IfOk result (λ board. IsSpelled bytes.now (parts_of board)) }
+    // What is spelled so in some version is decoded, unless memory runs out.
+    ensures only { (v : PartsView) → IsSpelled bytes.now v → Decodes result (Ok v) }
     // Which field is refused, and with what.
     ensures exact { Decodes result (decoded bytes.now) }
 {

@@ -1,6 +1,6 @@
 -- What calls and gatherings make is born, and is opened where it was given.
-use Rattle.std.proofs.Common.{◌≡◌, ℕ, ◌==◌, true, ◌&&◌, List, ◌∷◌, length, Option, Some, None, refl, sym, ap, ◌∙◌, subst, ℤ}
-use Rattle.std.specs.Prelude.{slice_get, Ok, option_and_then}
+use Rattle.std.proofs.Common.{◌≡◌, ℕ, ◌==◌, Bool, true, false, cond, ◌&&◌, List, ◌∷◌, length, Option, Some, None, refl, sym, ap, ◌∙◌, subst, ℤ}
+use Rattle.std.specs.Prelude.{slice_get, Result, Ok, Err, option_and_then}
 use Rattle.std.specs.Option.{option_map}
 use Rattle.std.proofs.lemmas.Bool.{and_from}
 use Rattle.std.proofs.lemmas.List.Folds.{list_any_at}
@@ -12,6 +12,8 @@ use Rattle.mpx_name.specs.declared.steps.Step.TheVariants.{Child}
 use Rattle.mpx_name.specs.Name.{Name, same_name}
 use Rattle.mpx_post.specs.Births.{BirthView, of_members, rank_in}
 use Rattle.mpx_post.specs.Gatherings.{GatheringView, gathering}
+use Rattle.mpx_post.specs.declared.draft.PostError.{PostError}
+use Rattle.mpx_post.specs.declared.draft.PostError.TheVariants.{Closed}
 use Rattle.mpx_post.specs.Rows.{RowView, all_of}
 use Rattle.mpx_board.specs.Boards.{Look, told, row_on, only, Born}
 use Rattle.mpx_value.specs.declared.outcomes.Outcome.TheVariants.{NewComm}
@@ -20,7 +22,7 @@ use Rattle.mpx_value.specs.Histories.{History, row_of, child_of, gathered, birth
 use Rattle.mpx_value.proofs.Growth.{then_some, all_of-grows}
 use Rattle.mpx_value.proofs.NewCommunicators.{children_exact, new_communicator}
 use Rattle.mpx_node.specs.declared.finished.Finished.{Finished}
-use Rattle.mpx_node.specs.Nodes.{NodeView, OpenedView, outcome_on, result_of, or_none, children_on, births_of, is_new_to, gathers_by, gathers_on, gathering_name}
+use Rattle.mpx_node.specs.Nodes.{NodeView, OpenedView, outcome_on, result_of, or_none, children_on, births_of, is_new_to, gathers_by, gathers_there, gathers_on, gathering_name}
 use Rattle.mpx_world.specs.Worlds.{WorldView, history, births}
 use Rattle.mpx_world.proofs.Lists.{any_at, name_itself}
 use Rattle.mpx_world.proofs.Truth.{LookSo, born_so, told_agrees}
@@ -101,11 +103,18 @@ given_is_new board name me k finished new size rank e given =
 
 -- GATHERINGS
 
+there_is : (o : Option BirthView) (me : ℕ) (parent : Name) (tag : ℤ) (ranks : List ℤ) (g : GatheringView) → gathers_there o me parent tag ranks ≡ Ok g → (birth : BirthView) × (o ≡ Some birth) × (gathering birth me (length parent) false tag ranks ≡ Ok g)
+there_is None me parent tag ranks g e = cc e
+there_is (Some birth) me parent tag ranks g e = (birth, refl, e)
+
+not_closed : (freed : Bool) (r : Result GatheringView PostError) (g : GatheringView) → (let x : Result GatheringView PostError = cond freed (Err Closed) r in x) ≡ Ok g → r ≡ Ok g
+not_closed true r g e = cc e
+not_closed false r g e = e
+
 -- what a node is told of a gathering that isn't refused: the parent is opened, its birth known, and the gathering accepted
-pub gathers_is : (x : Option OpenedView) (o : Option BirthView) (me : ℕ) (parent : Name) (tag : ℤ) (ranks : List ℤ) (g : GatheringView) → gathers_by x o me parent tag ranks ≡ Ok g → (birth : BirthView) × (o ≡ Some birth) × (gathering birth me (length parent) tag ranks ≡ Ok g)
+pub gathers_is : (x : Option OpenedView) (o : Option BirthView) (me : ℕ) (parent : Name) (tag : ℤ) (ranks : List ℤ) (g : GatheringView) → gathers_by x o me parent tag ranks ≡ Ok g → (birth : BirthView) × (o ≡ Some birth) × (gathering birth me (length parent) false tag ranks ≡ Ok g)
 gathers_is None o me parent tag ranks g e = cc e
-gathers_is (Some v) None me parent tag ranks g e = cc e
-gathers_is (Some v) (Some birth) me parent tag ranks g e = (birth, refl, e)
+gathers_is (Some v) o me parent tag ranks g e = there_is o me parent tag ranks g (not_closed v.freed (gathers_there o me parent tag ranks) g e)
 
 -- what a board that tells the truth lets gather is born
 pub gathering_born : (w : WorldView) (node : NodeView) (parent : Name) (tag : ℤ) (ranks : List ℤ) (g : GatheringView) → LookSo w node.board → gathers_on node parent tag ranks ≡ Ok g → births w (gathering_name parent g) ≡ Some (of_members g.members)
@@ -113,4 +122,4 @@ gathering_born w node parent tag ranks g s e =
     let is = gathers_is (node.opened parent) (told (node.board.contexts parent).birth) node.me parent tag ranks g e in
     then_some (gathered g.members) (births w parent) is.0 (of_members g.members)
     (told_agrees (node.board.contexts parent).birth (births w parent) is.0 (s.contexts_so parent).birth_so is.1)
-    (gathered_there is.0 node.me (length parent) tag ranks g is.2)
+    (gathered_there is.0 node.me (length parent) false tag ranks g is.2)

@@ -1,6 +1,6 @@
 -- What all processes acknowledge is on the board of every process, or is dropped there.
 use Rattle.std.proofs.Common.{arith, ◌≡◌, ◌≢◌, ◌<◌, ◌≤◌, ℕ, Bool, true, false, cond, not, ◌||◌, Option, inl, inr, refl, sym, ap, ◌∙◌, subst}
-use Rattle.std.specs.Prelude.{nat_lt}
+use Rattle.std.specs.Prelude.{◌⊎◌, nat_lt}
 use Rattle.std.proofs.lemmas.Option.{same_Some}
 use Rattle.std.proofs.lemmas.Bool.Decides.{nat_tests}
 use Rattle.join_core.specs.Flat.{FlatView, unknown, known, clash, flat_leq}
@@ -9,7 +9,7 @@ use Rattle.mpx_name.specs.Name.{Name}
 use Rattle.mpx_post.specs.Posts.{Given}
 use Rattle.mpx_post.specs.Equality.{same_given, given_equality}
 use Rattle.mpx_post.specs.Births.{upto}
-use Rattle.mpx_board.specs.Boards.{Look, Born, Held, Front, Dropped, Acknowledged, Stands, IsBelow}
+use Rattle.mpx_board.specs.Boards.{Look, Born, Held, Front, Dropped, Dead, Acknowledged, Stands, IsBelow}
 use Rattle.mpx_board.specs.Changes.{is_posted}
 use Rattle.mpx_board.specs.Tidy.{is_unknown}
 use Rattle.mpx_delta.specs.Digests.{Numbers, HasUpTo, IsDigest, common_on, Covers, without}
@@ -33,11 +33,18 @@ told_agree (known x) unknown o some a t b = cc t
 told_agree (known x) clash o some a t b = absurd b
 told_agree (known x) (known y) o some a t b = subst (λ z. same_given x z ≡ true) (same_Some x y (sym a ∙ b)) (given_equality.reflexive x)
 
-posted_stands : (w : WorldView) (b : Look) → LookSo w b → (name : Name) (k p : ℕ) (v : FlatView Given) → v ≢ unknown → Agrees v (history w name k p) → is_posted (b.contexts name) k p ≡ true → Stands b (Held name k p v)
-posted_stands w b so name k p v some a h = by_answer (nat_lt k (b.contexts name).dropped) refl h where
-  by_answer : (x : Bool) → nat_lt k (b.contexts name).dropped ≡ x → (x || not (is_unknown ((b.contexts name).posts k p))) ≡ true → Stands b (Held name k p v)
+had_stands : (w : WorldView) (b : Look) → LookSo w b → (name : Name) (k p : ℕ) (v : FlatView Given) → v ≢ unknown → Agrees v (history w name k p) → (nat_lt k (b.contexts name).dropped || not (is_unknown ((b.contexts name).posts k p))) ≡ true
+    → (k < (b.contexts name).dropped) ⊎ (flat_leq same_given v ((b.contexts name).posts k p) ≡ true)
+had_stands w b so name k p v some a h = by_answer (nat_lt k (b.contexts name).dropped) refl h where
+  by_answer : (x : Bool) → nat_lt k (b.contexts name).dropped ≡ x → (x || not (is_unknown ((b.contexts name).posts k p))) ≡ true → (k < (b.contexts name).dropped) ⊎ (flat_leq same_given v ((b.contexts name).posts k p) ≡ true)
   by_answer true t g = inl (grind (arith, nat_tests, t))
   by_answer false t g = inr (told_agree v ((b.contexts name).posts k p) (history w name k p) some a g ((so.contexts_so name).posts_so k p))
+
+posted_stands : (w : WorldView) (b : Look) → LookSo w b → (name : Name) (k p : ℕ) (v : FlatView Given) → v ≢ unknown → Agrees v (history w name k p) → is_posted (b.contexts name) k p ≡ true → Stands b (Held name k p v)
+posted_stands w b so name k p v some a h = by_dead (b.contexts name).dead refl h where
+  by_dead : (x : Bool) → (b.contexts name).dead ≡ x → (x || (nat_lt k (b.contexts name).dropped || not (is_unknown ((b.contexts name).posts k p)))) ≡ true → Stands b (Held name k p v)
+  by_dead true t g = inl t
+  by_dead false t g = inr (had_stands w b so name k p v some a g)
 
 -- in a world in which all that is told is so, and later
 pub own_covers : (old new : WorldView) → Holds old → Holds new → Later old new → OwnCovers old new
@@ -73,4 +80,5 @@ without_below left a b stands lean (Held name k p v) has = elim (answer (nat_lt 
   lower k n t = grind (arith, nat_tests, t)
 without_below left a b stands lean (Front name p n) has = lean (Front name p n) has
 without_below left a b stands lean (Dropped name n) has = lean (Dropped name n) has
+without_below left a b stands lean (Dead name) has = lean (Dead name) has
 without_below left a b stands lean (Acknowledged q name p n) has = lean (Acknowledged q name p n) has

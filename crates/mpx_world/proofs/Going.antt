@@ -10,8 +10,8 @@ use Rattle.mpx_post.specs.declared.draft.Draft.{Draft}
 use Rattle.mpx_post.specs.declared.draft.PostError.{PostError}
 use Rattle.mpx_board.specs.declared.board.Board.{Board}
 use Rattle.mpx_board.specs.declared.errors.PruneError.{PruneError}
-use Rattle.mpx_board.specs.Boards.{Look, IsBetween, Dropped, Has, floor_on, only}
-use Rattle.mpx_board.specs.Changes.{pruned}
+use Rattle.mpx_board.specs.Boards.{Look, IsBetween, IsGone, gone, Has}
+use Rattle.mpx_board.specs.Changes.{pruned_on}
 use Rattle.mpx_board.specs.Looks.{look}
 use Rattle.mpx_parts.specs.Facts.{OnlyFactsOf}
 use Rattle.mpx_delta.specs.Digests.{HasUpTo}
@@ -20,13 +20,14 @@ use Rattle.mpx_node.specs.declared.node.Harvest.{Harvest}
 use Rattle.mpx_node.specs.declared.node.Harvest.TheVariants as H
 use Rattle.mpx_node.specs.Deltas.{SaysWhatItHas}
 use Rattle.mpx_node.specs.Harvests.{Harvests, HarvestsOpened}
-use Rattle.mpx_node.specs.Nodes.{NodeView, Opens, Posts as MakesPost, StopsTaking, acknowledge, add_result, checked_on, gathers_on, learn, next_result, open_gathering_node, post_at, results_on}
+use Rattle.mpx_node.specs.Nodes.{NodeView, Opens, Posts as MakesPost, StopsTaking, acknowledge, add_result, checked_on, gathers_on, learn, learn_some, next_result, open_gathering_node, post_at, prune_part, results_on}
 use Rattle.mpx_world.specs.Worlds.{ProcessView, WorldView, MayLeave, makes, made_next, stores, opens_gathering, drops, takes, learns, posts, harvests, gathers, prunes, acknowledges, Happening, Posts, Harvests as HappensHarvest, Gathers, Prunes, Sends, Takes, TakesPartly, Acknowledges, at_process, happens, MayHappen, MayGoOn, start, world_by}
 use Rattle.mpx_world.specs.Soundness.{AgreeAcross, BoardsAgree}
-use Rattle.mpx_world.specs.Networks.{AllAgree, AreAmong, AreKept, AreNew, Gives, GoesOn, HasPruned, IsNetwork, IsStep, IsTake, Network, NodesAgree, network_of, new_network, world_in}
+use Rattle.mpx_world.specs.Networks.{AllAgree, AreAmong, AreKept, AreNew, DeadStaysOn, Gives, GoesOn, HasPruned, IsNetwork, IsStep, IsTake, Network, NodesAgree, network_of, new_network, world_in}
 use Rattle.mpx_world.proofs.Lists.{cond_cases, itself, same_number, slice_get-push}
+use Rattle.mpx_world.proofs.Kept.{taken_node}
 use Rattle.mpx_world.proofs.Later.{Later}
-use Rattle.mpx_world.proofs.Reached.{agree_across, all_agree, own_seen}
+use Rattle.mpx_world.proofs.Reached.{agree_across, all_agree, dead_stays, own_seen}
 use Rattle.mpx_world.proofs.Covering.{digest_had}
 use Rattle.mpx_post.proofs.Lists.{set_cases, slice_get-append}
 use Rattle.mpx_world.proofs.Whole.{IsWell, goes_on-append, may_append, well_by, later_by}
@@ -155,7 +156,7 @@ pub prune_step : (old new : NodeView) (name : Name) (m : ℕ) (result : Result (
 prune_step old new name m (Ok u) h n s p at =
     let v = (world_in n).each p in
     let here = s.each p old at in
-    by_step n p old new (prunes name m) (Prunes p name m) s at tt refl (h.1 ∙ ap (learn (only (Dropped name m))) here ∙ ap (λ r. (drops name m r v).node) (h.0 ∙ ap (λ (x : NodeView). pruned (floor_on x.board name) m) here))
+    by_step n p old new (prunes name m) (Prunes p name m) s at tt refl (h.1 ∙ ap (λ x. learn_some (prune_part x name m) x) here ∙ sym (taken_node (prune_part v.node name m) v) ∙ ap (λ r. (drops name m r v).node) (h.0 ∙ ap (λ (x : NodeView). pruned_on x.board name m) here))
 prune_step old new name m (Err refusal) h n s p at = unchanged_step old new h.2 n s p at
 
 pub take_step : (old new : NodeView) (part : Look) (result : Result (Unit {0}) OutOfMemory) → OnOk result (new ≡ learn part old) → OnErr result (StopsTaking part old new) → IsTake part old new
@@ -183,7 +184,7 @@ deltas_step old new says n s p at =
 gives : (n : Network) (p : ℕ) (node : NodeView) (part : Look) → IsNetwork n → slice_get n.nodes p ≡ Some node → OnlyFactsOf part node.board → GoesOn n n.nodes (part ∷ n.parts)
 gives n p node part s at facts =
     let w = world_in n in
-    let may : MayHappen w (Sends p part) = λ f has. own_seen w p (w.each p) f ((well n s).holds.processes p) (subst (λ (x : NodeView). Has x.board f) (s.each p node at) (facts f has)) in
+    let may : MayHappen w (Sends p part) = λ f has. inl (own_seen w p (w.each p) f ((well n s).holds.processes p) (subst (λ (x : NodeView). Has x.board f) (s.each p node at) (facts f has))) in
     by_happening n (Sends p part) n.nodes (part ∷ n.parts) s may s.each more where
       more : AreAmong (part ∷ n.parts) ((world_in n).parts ++ part ∷ [])
       more zero x e = (length (world_in n).parts, slice_get-push (world_in n).parts part ∙ e)
@@ -232,3 +233,10 @@ pub results_kept : (n : Network) (nodes : List NodeView) (parts : List Look) →
 results_kept n nodes parts s on p a b ea eb name k r er =
     subst (λ v. slice_get (results_on v name) k ≡ Some r) (sym (on.network.each p b eb))
     (((later_on n nodes parts on).kept p).results_kept name k r (subst (λ v. slice_get (results_on v name) k ≡ Some r) (s.each p a ea) er))
+
+pub dead_stays_on : (n : Network) (nodes : List NodeView) (parts : List Look) → IsNetwork n → GoesOn n nodes parts → DeadStaysOn n.nodes nodes
+dead_stays_on n nodes parts s on p a b ea eb name dead =
+    let old = world_in n in
+    let new = world_in (network_of on) in
+    let now = dead_stays old new (later_on n nodes parts on) (well (network_of on) on.network).holds p name (subst (λ (v : NodeView). IsGone v.board name) (s.each p a ea) dead) in
+    subst (λ (v : NodeView). v.board.contexts name ≡ gone) (sym (on.network.each p b eb)) now

@@ -6,8 +6,8 @@ use Rattle.mpx_post.specs.Gatherings.{GatheringView}
 use Rattle.mpx_post.specs.Posts.{Given}
 use Rattle.mpx_post.specs.declared.draft.PostError.{PostError}
 use Rattle.mpx_board.specs.declared.errors.PruneError.{PruneError}
-use Rattle.mpx_board.specs.Boards.{Look, floor_on}
-use Rattle.mpx_board.specs.Changes.{pruned}
+use Rattle.mpx_board.specs.Boards.{Look}
+use Rattle.mpx_board.specs.Changes.{pruned_on}
 use Rattle.mpx_node.specs.declared.finished.Finished.{Finished}
 use Rattle.mpx_node.specs.Nodes.{OpenedView, posted_on, front_on, checked_on, next_of, gathers_on}
 use Rattle.mpx_world.specs.declared.events.Event.{Event}
@@ -48,7 +48,7 @@ there_same : (w : WorldView) (e : Event) → IsTrue (is_refusal (reply_of w e)) 
 there_same w (E.Post p name draft) t = same_at w p (posts name draft) (post_same (posted_on (w.each p).node name) name (checked_on (w.each p).node name draft) (w.each p) t)
 there_same w (E.Harvest p name) t = same_at w p (harvests name) (harvest_same (front_on (w.each p).node name) name ((w.each p).node.opened name) (w.each p).node.board (w.each p).node.me (w.each p) t)
 there_same w (E.Gather p parent tag ranks) t = same_at w p (gathers parent tag ranks) (gather_same parent (gathers_on (w.each p).node parent tag ranks) (w.each p) t)
-there_same w (E.Prune p name n) t = same_at w p (prunes name n) (prune_same name n (pruned (floor_on (w.each p).node.board name) n) (w.each p) t)
+there_same w (E.Prune p name n) t = same_at w p (prunes name n) (prune_same name n (pruned_on (w.each p).node.board name n) (w.each p) t)
 there_same w (E.Send p cut) t = cc t
 there_same w (E.Take p place) t = same_at w p (takes (slice_get w.parts place)) (take_same (slice_get w.parts place) (w.each p) t)
 

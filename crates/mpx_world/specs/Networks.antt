@@ -2,10 +2,10 @@
 use Rattle.std.specs.Prelude.{◌≡◌, ℕ, List, [], ◌++◌, set, slice_get, Some, Result, OnOk, OnErr}
 use Rattle.mpx_name.specs.Name.{Name}
 use Rattle.mpx_board.specs.declared.errors.PruneError.{PruneError}
-use Rattle.mpx_board.specs.Boards.{Look, Dropped, floor_on, only}
-use Rattle.mpx_board.specs.Changes.{pruned}
+use Rattle.mpx_board.specs.Boards.{Look, IsGone, gone}
+use Rattle.mpx_board.specs.Changes.{pruned_on}
 use Rattle.mpx_node.specs.declared.finished.Finished.{Finished}
-use Rattle.mpx_node.specs.Nodes.{NodeView, learn, start_node, results_on}
+use Rattle.mpx_node.specs.Nodes.{NodeView, learn_some, prune_part, start_node, results_on}
 use Rattle.mpx_world.specs.Worlds.{WorldView, Happening, MayGoOn, start, world_by}
 use Rattle.mpx_world.specs.Soundness.{BoardsAgree, OfOneRow}
 
@@ -58,9 +58,9 @@ network_of {n} {nodes} {parts} on = later_network n on.later nodes parts
 abbrev pub IsStep : (old new : NodeView) → Type 0
 IsStep old new = (n : Network) → IsNetwork n → (p : ℕ) → slice_get n.nodes p ≡ Some old → GoesOn n (set n.nodes p new) n.parts
 
--- what a pruning leaves: just these calls are dropped, where they may be
+-- what a pruning leaves: just these calls are dropped, where they may be, or the context is dead
 abbrev pub HasPruned : Name → ℕ → Result (Unit {0}) PruneError → (old new : NodeView) → Type 0
-HasPruned name m result old new = (result ≡ pruned (floor_on old.board name) m) × OnOk result (new ≡ learn (only (Dropped name m)) old) × OnErr result (new ≡ old)
+HasPruned name m result old new = (result ≡ pruned_on old.board name m) × OnOk result (new ≡ learn_some (prune_part old name m) old) × OnErr result (new ≡ old)
 
 -- a step by which it takes a part: so does each network in which the part was sent
 abbrev pub IsTake : (part : Look) → (old new : NodeView) → Type 0
@@ -86,3 +86,8 @@ AllAgree w these those = (p q : ℕ) (a b : NodeView) → slice_get these p ≡ 
 abbrev pub AreKept : (nodes later : List NodeView) → Type 0
 AreKept nodes later = (p : ℕ) (a b : NodeView) → slice_get nodes p ≡ Some a → slice_get later p ≡ Some b
     → (name : Name) (k : ℕ) (r : Finished) → slice_get (results_on a name) k ≡ Some r → slice_get (results_on b name) k ≡ Some r
+
+-- a context that is dead on the board of one of these nodes is dead there later too, and nothing else is known of it there
+abbrev pub DeadStaysOn : (nodes later : List NodeView) → Type 0
+DeadStaysOn nodes later = (p : ℕ) (a b : NodeView) → slice_get nodes p ≡ Some a → slice_get later p ≡ Some b
+    → (name : Name) → IsGone a.board name → b.board.contexts name ≡ gone

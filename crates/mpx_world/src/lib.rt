@@ -2,8 +2,9 @@
 //!
 //! In the order of reading: [`Event`] with its [`Cut`] and [`Reply`], [`World`] with [`Stopped`], and the laws
 //! [`every_world_is_sound`], [`completed_results_are_permanent`], [`processes_agree_at_any_time`],
-//! [`what_all_acknowledge_all_have`], [`nodes_are_of_one_world`] and [`every_history_is_sound`]; for nodes of one's own
-//! [`networks_begin`], [`networks_go_on`] and [`networks_are_sound`]; and for all of these [`one_part_of_each_is_enough`].
+//! [`what_all_acknowledge_all_have`], [`freed_contexts_stay_dead`], [`nodes_are_of_one_world`] and [`every_history_is_sound`];
+//! for nodes of one's own [`networks_begin`], [`networks_go_on`] and [`networks_are_sound`]; and for all of these
+//! [`one_part_of_each_is_enough`].
 //! Contracts see a world as its processes and the parts that they sent (`specs/Worlds.antt`); what is sound is said in
 //! `specs/Soundness.antt`, what an event comes to and is answered in `specs/Events.antt`, what a network is in
 //! `specs/Networks.antt`, and what is enough in `specs/Enough.antt`.
@@ -20,7 +21,8 @@ pub use enough::one_part_of_each_is_enough;
 pub use events::{Cut, Event, Names, Reply, Stopped};
 pub use laws::{
     completed_results_are_permanent, every_history_is_sound, every_world_is_sound,
-    nodes_are_of_one_world, processes_agree_at_any_time, what_all_acknowledge_all_have,
+    freed_contexts_stay_dead, nodes_are_of_one_world, processes_agree_at_any_time,
+    what_all_acknowledge_all_have,
 };
 pub use networks::{networks_are_sound, networks_begin, networks_go_on};
 pub use world::World;

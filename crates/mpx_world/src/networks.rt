@@ -15,7 +15,7 @@ ghost use Rattle.mpx_node.specs.Harvests.{Harvests};
 ghost use Rattle.mpx_node.specs.Nodes.{NodeView, Opens, Posts, StopsTaking, checked_on, gathers_on, learn, next_result};
 ghost use Rattle.mpx_world.specs.Soundness.{Agree, AgreeAcross, AreCommunicators, AreLeast, AreMembers, ArePermanent, Retains, Sound};
 ghost use Rattle.mpx_world.specs.Enough.{AnswerDoneUpTo, IsEnough, was_in};
-ghost use Rattle.mpx_world.specs.Networks.{AllAgree, AreAmong, AreKept, AreNew, Gives, GoesOn, HasPruned, IsNetwork, IsStep, IsTake, Network, network_of, new_network, world_in};
+ghost use Rattle.mpx_world.specs.Networks.{AllAgree, AreAmong, AreKept, AreNew, DeadStaysOn, Gives, GoesOn, HasPruned, IsNetwork, IsStep, IsTake, Network, network_of, new_network, world_in};
 
 /// Nodes that were just made, each at the place of its number and all for the same numbers of ranks and processes, are a network in
 /// which nothing has happened.
@@ -54,7 +54,8 @@ pub fn networks_go_on()
 /// posts are retained. Of the nodes themselves: all that each other member's board told at one moment after its post of a call is
 /// enough for a node's harvests up to that call, one part of each ([`one_part_of_each_is_enough`](crate::one_part_of_each_is_enough));
 /// every two agree, on births, posts and rows, and on results of one call, which are what one row gives the two, also an earlier
-/// node with a later one; and later nodes have what they had finished.
+/// node with a later one; later nodes have what they had finished; and a context that is dead on a node's board is dead on it later, with
+/// nothing else known of it.
 pub fn networks_are_sound()
     ensures sound { (n : Network) → IsNetwork n → Sound (world_in n) }
     ensures agree { (n : Network) → IsNetwork n → (p q : ℕ) → Agree (world_in n) p q }
@@ -72,4 +73,6 @@ pub fn networks_are_sound()
     ensures later_nodes { (n : Network) (nodes : List NodeView) (parts : List Look) → IsNetwork n → GoesOn n nodes parts
         → AllAgree (world_in n) n.nodes nodes }
     ensures kept { (n : Network) (nodes : List NodeView) (parts : List Look) → IsNetwork n → GoesOn n nodes parts → AreKept n.nodes nodes }
+    ensures dead { (n : Network) (nodes : List NodeView) (parts : List Look) → IsNetwork n → GoesOn n nodes parts
+        → DeadStaysOn n.nodes nodes }
 {}

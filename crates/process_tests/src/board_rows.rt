@@ -1,7 +1,7 @@
 //! Rows of what is done to a board of the world and then seen of it.
 use crate::contexts::post_of;
 use join_core::Exact;
-use mpx_board::{AddPostError, Board, PruneError};
+use mpx_board::{AddPostError, Board, KillError, PruneError};
 use mpx_name::Name;
 use mpx_post::Birth;
 use std::alloc::Global;
@@ -24,6 +24,8 @@ pub enum Step {
     Prunes(u32, Result<(), PruneError>),
     // The prune changes nothing.
     PrunesInVain(u32),
+    Kills(Result<(), KillError>),
+    IsDead(bool),
     HasFloor(Option<u32>),
     HasDropped(u32),
     HasFront(u8, u32),
@@ -114,6 +116,8 @@ fn is_so(alloc: Global, board: &mut Board, world: &Name, step: Step) -> Result<b
         Step::Joins(process, items) => joins(alloc, board, world, process, items),
         Step::Prunes(number, told) => Ok(board.prune(world, number) == told),
         Step::PrunesInVain(number) => prunes_in_vain(alloc, board, world, number),
+        Step::Kills(told) => Ok(board.kill(world) == told),
+        Step::IsDead(told) => Ok(board.is_dead(world) == told),
         Step::HasFloor(floor) => Ok(board.floor(world) == floor),
         Step::HasDropped(number) => Ok(board.dropped(world) == number),
         Step::HasFront(process, number) => Ok(board.front(world, proc(process)) == number),

@@ -1,6 +1,6 @@
 //! Steps of boards: calls that add to one, and prunes.
 use crate::board_rows::{Step, board_of};
-use mpx_board::{AddPostError, PruneError};
+use mpx_board::{AddPostError, KillError, PruneError};
 use std::test::Fail;
 
 // Three members, of whom each has harvested so many calls.
@@ -53,11 +53,38 @@ const IN_TWO_WAYS: &[Step] = &[
     Step::HasBirth(false),
 ];
 
-const BOARDS: [(&str, &[Step]); 4] = [
+// A dead world says nothing else, and nothing that is joined later is told. A world that nobody told of can't die.
+const DEAD: &[Step] = &[
+    Step::Kills(Err(KillError::NoBirth)),
+    Step::IsDead(false),
+    Step::Members(2),
+    Step::Front(0, 1),
+    Step::Adds(0, 0, &[7], Ok(())),
+    Step::Kills(Ok(())),
+    Step::IsDead(true),
+    Step::HasBirth(false),
+    Step::HasFront(0, 0),
+    Step::HasFloor(None),
+    Step::Lacks(0, 0),
+    Step::Members(2),
+    Step::Front(1, 3),
+    Step::Joins(1, &[7]),
+    Step::Adds(4, 0, &[7], Err(AddPostError::AlreadyPosted)),
+    Step::HasBirth(false),
+    Step::HasFront(1, 0),
+    Step::Lacks(0, 1),
+    Step::PrunesInVain(3),
+    Step::HasDropped(0),
+    Step::Kills(Ok(())),
+    Step::IsDead(true),
+];
+
+const BOARDS: [(&str, &[Step]); 5] = [
     ("prunes to the floor", FLOOR),
     ("prunes in vain", IN_VAIN),
     ("no birth", NO_BIRTH),
     ("told in two ways", IN_TWO_WAYS),
+    ("dead", DEAD),
 ];
 
 #[test]

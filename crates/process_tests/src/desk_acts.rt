@@ -16,6 +16,7 @@ pub enum Call {
     Create(&'static [i128]),
     // With a tag.
     CreateGroup(i128, &'static [i128]),
+    Free,
 }
 
 // Nonblocking calls.
@@ -52,6 +53,7 @@ pub fn make_call(
         Call::Split(colour, key) => desk.split(alloc, comm, colour, key, 0),
         Call::Create(ranks) => create(alloc, desk, comm, ranks),
         Call::CreateGroup(tag, ranks) => desk.create_group(alloc, comm, tag, ranks, 0),
+        Call::Free => desk.free(alloc, comm, 0),
     }
 }
 

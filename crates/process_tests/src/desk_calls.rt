@@ -102,13 +102,40 @@ const OWN: &[Row] = &[
     Row::Right(Act::Tests(0), Told::SumOf(8, 15)),
 ];
 
+const CLOSED: Told = Told::Refused(PostError::Closed);
+
+// Both free the dup of the world, the left rank with an open request there. Nothing more is posted there by who has freed it, and
+// what was posted before is done.
+const FREED: &[Row] = &[
+    Row::Left(Act::Calls(0, Call::Dup), Told::Open),
+    Row::Right(Act::Calls(0, Call::Dup), Told::Open),
+    Row::Swap,
+    Row::Left(Act::Waits(0), Told::Made(2, 0, 1)),
+    Row::Right(Act::Waits(0), Told::Made(2, 1, 1)),
+    Row::Left(Act::Starts(1, Start::Sum(5)), Told::Open),
+    Row::Left(Act::Calls(1, Call::Free), Told::Open),
+    Row::Left(Act::Calls(1, Call::Barrier), CLOSED),
+    Row::Left(Act::Calls(1, Call::Free), CLOSED),
+    Row::Left(Act::Calls(1, Call::CreateGroup(3, &[0])), CLOSED),
+    Row::Right(Act::Starts(1, Start::Sum(6)), Told::Open),
+    Row::Right(Act::Calls(1, Call::Free), Told::Open),
+    Row::Swap,
+    Row::Left(Act::Waits(0), Told::Items(&[11])),
+    Row::Left(Act::Waits(0), Told::Nothing),
+    Row::Right(Act::Waits(0), Told::Items(&[11])),
+    Row::Right(Act::Waits(0), Told::Nothing),
+    Row::Right(Act::Calls(1, Call::Dup), CLOSED),
+    Row::Left(Act::Calls(0, Call::Barrier), Told::Open),
+];
+
 // What the rows show, how many ranks there are, and the rows.
-const DESKS: [(&str, u8, &[Row]); 5] = [
+const DESKS: [(&str, u8, &[Row]); 6] = [
     ("calls give communicators", 1, COMMUNICATORS),
     ("gatherings", 1, GATHERINGS),
     ("three communicators at once", 2, OVERLAP),
     ("tests close all or none", 2, TESTED),
     ("results have the own post", 2, OWN),
+    ("a free closes", 2, FREED),
 ];
 
 #[test]

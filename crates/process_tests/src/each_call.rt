@@ -165,11 +165,11 @@ fn start_of_both_counts(
     }
 }
 
-// Whether the call gives just the item; a barrier gives nothing, and nothing is below rank 0.
+// Whether the call gives just the item; a barrier and a free give nothing, and nothing is below rank 0.
 fn is_right(kind: Kind, finished: &Finished) -> bool {
     match &finished.outcome {
         Outcome::Items(items) => items.nums() == SEVEN,
-        Outcome::Nothing => kind == Kind::Barrier,
+        Outcome::Nothing => kind == Kind::Barrier || kind == Kind::Free,
         Outcome::Absent => kind == Kind::Exscan,
         _ => false,
     }
@@ -251,6 +251,13 @@ fn barriers(alloc: Global, desk: &mut Desk<Node>, comm: &Comm) -> bool {
     gives_later(alloc, desk, Kind::Barrier, answer) && called
 }
 
+// A free, behind which the communicator is closed.
+fn frees(alloc: Global, desk: &mut Desk<Node>, comm: &Comm) -> bool {
+    let called = gives(Kind::Free, desk.free(alloc, comm, 0));
+    let answer = desk.ibarrier(alloc, comm);
+    called && matches!(answer, Err(PostError::Closed))
+}
+
 // By any edges.
 fn of_edges(alloc: Global, desk: &mut Desk<Node>, comm: &Comm) -> Result<Comm, Fail> {
     let edge = DraftedEdge {
@@ -292,6 +299,7 @@ fn all_calls(
     for kind in OF_BOTH_COUNTS {
         assert!(rt; calls_of_both_counts(alloc, desk, comm, kind)?, "{kind:?}");
     }
+    assert!(rt; frees(alloc, desk, comm));
     Ok(())
 }
 

@@ -11,7 +11,7 @@ use std::process::Abort;
 use std::test::Fail;
 use test_drafts::proc;
 
-const EMPTY: [u8; 8] = [0x4d, 0x50, 0x58, 0x47, 1, 0, 0, 0];
+const EMPTY: [u8; 8] = [0x4d, 0x50, 0x58, 0x47, 2, 0, 0, 0];
 
 const WORLD_WITH_A_POST: &[Step] = &[
     Step::Members(2),
@@ -19,14 +19,27 @@ const WORLD_WITH_A_POST: &[Step] = &[
     Step::Adds(0, 0, &[-2, 1000], Ok(())),
 ];
 
-// The magic, the version and one name, of no step; a birth of processes 0 and 1 without a topology, and one front; nothing
-// dropped, and one call, number 0, with a post of process 0: an allreduce that blocks, by sums, of two items at 64 bits; and
-// nobody acknowledges anything.
-const WRITTEN_OUT: [u8; 57] = [
-    0x4d, 0x50, 0x58, 0x47, 0x01, 0x00, 0x01, 0x00, 0x01, 0x02, 0x00, 0x01, 0x00, 0x01, 0x01, 0x00,
-    0x00, 0x01, 0x02, 0x00, 0x00, 0x00, 0x00, 0x00, 0x00, 0x00, 0x01, 0x00, 0x00, 0x00, 0x00, 0x01,
-    0x00, 0x01, 0x0b, 0x00, 0x03, 0x04, 0x00, 0x02, 0xff, 0xff, 0xff, 0xff, 0xff, 0xff, 0xff, 0xfe,
-    0x00, 0x00, 0x00, 0x00, 0x00, 0x00, 0x03, 0xe8, 0x00,
+// The magic, the version and one name, of no step, which isn't dead; a birth of processes 0 and 1 without a topology, and one
+// front; nothing dropped, and one call, number 0, with a post of process 0: an allreduce that blocks, by sums, of two items at
+// 64 bits; and nobody acknowledges anything.
+const WRITTEN_OUT: [u8; 58] = [
+    0x4d, 0x50, 0x58, 0x47, 0x02, 0x00, 0x01, 0x00, 0x00, 0x01, 0x02, 0x00, 0x01, 0x00, 0x01, 0x01,
+    0x00, 0x00, 0x01, 0x02, 0x00, 0x00, 0x00, 0x00, 0x00, 0x00, 0x00, 0x01, 0x00, 0x00, 0x00, 0x00,
+    0x01, 0x00, 0x01, 0x0b, 0x00, 0x03, 0x04, 0x00, 0x02, 0xff, 0xff, 0xff, 0xff, 0xff, 0xff, 0xff,
+    0xfe, 0x00, 0x00, 0x00, 0x00, 0x00, 0x00, 0x03, 0xe8, 0x00,
+];
+
+const FREED_WORLD: &[Step] = &[
+    Step::Members(2),
+    Step::Acknowledges(1, 0, 1),
+    Step::Adds(0, 0, &[7], Ok(())),
+    Step::Kills(Ok(())),
+];
+
+// One name, of no step, which is dead; and one process, number 1, that acknowledges one call of process 0 there.
+const WRITTEN_FREED: [u8; 20] = [
+    0x4d, 0x50, 0x58, 0x47, 0x02, 0x00, 0x01, 0x00, 0x01, 0x01, 0x01, 0x00, 0x01, 0x00, 0x01, 0x00,
+    0x00, 0x00, 0x00, 0x01,
 ];
 
 fn is_written(alloc: Global, board: &Board, wanted: &[u8]) -> Result<bool, Fail> {
@@ -69,23 +82,24 @@ fn lengths(alloc: Global, count: u32) -> Result<(Option<usize>, usize), Fail>
     Ok((length(alloc, &board)?, frame_len(&board)))
 }
 
-// Two boards, and as many names as a list may have, and one more.
+// Three boards, and as many names as a list may have, and one more.
 #[test]
 fn boards_are_written_out(rt: HostRuntime) -> Result<(), Fail> {
     let alloc = rt.alloc();
     assert!(rt; writes(&rt, alloc, &[], &EMPTY)?);
     assert!(rt; writes(&rt, alloc, WORLD_WITH_A_POST, &WRITTEN_OUT)?);
-    let most = 8 + 4096 * 25;
+    assert!(rt; writes(&rt, alloc, FREED_WORLD, &WRITTEN_FREED)?);
+    let most = 8 + 4096 * 26;
     assert_eq!(rt; lengths(alloc, 4096)?, (Some(most), most));
     assert_eq!(rt; lengths(alloc, 4097)?, (None, 1_048_577));
     Ok(())
 }
 
-// The world's name, no birth, no fronts, nothing dropped, one call 0, in which process 0 posts a blocking allreduce of the
-// sum of one item 9 of type i32; no acknowledgements. The item is the four bytes before the last one.
+// The world's name, which isn't dead, no birth, no fronts, nothing dropped, one call 0, in which process 0 posts a blocking
+// allreduce of the sum of one item 9 of type i32; no acknowledgements. The item is the four bytes before the last one.
 pub const FRAME: &[u8] = &[
-    0x4d, 0x50, 0x58, 0x47, 1, 0, 1, 0, 0, 0, 0, 0, 0, 0, 0, 0, 0, 1, 0, 0, 0, 0, 1, 0, 1, 11, 0,
-    3, 3, 0, 1, 0, 0, 0, 9, 0,
+    0x4d, 0x50, 0x58, 0x47, 2, 0, 1, 0, 0, 0, 0, 0, 0, 0, 0, 0, 0, 0, 1, 0, 0, 0, 0, 1, 0, 1, 11,
+    0, 3, 3, 0, 1, 0, 0, 0, 9, 0,
 ];
 
 // Whether the frame with another byte at this place gives a board, which has just that frame.

@@ -51,11 +51,11 @@ fn run_two<R: Threads + Wait + Sync>(
         move || -> Port
             requires { (first.table ≡ table_of bus.now) × (first.setup.planned ≡ false) }
             ensures { IsSamePort first result }
-        { work(rt, alloc, bus, first, 100_000) },
+        { work(rt, alloc, bus, first, 5_000_000) },
         move || -> Port
             requires { (second.table ≡ table_of bus.now) × (second.setup.planned ≡ false) }
             ensures { IsSamePort second result }
-        { work(rt, alloc, bus, second, 100_000) },
+        { work(rt, alloc, bus, second, 5_000_000) },
     );
     Ok(bus.meet(first, second).both)
 }

@@ -155,14 +155,53 @@ const MAKES: &[Row] = &[
     Row::Sees(0, On::Gathering, Look::Posted(1)),
 ];
 
+// A rank that has freed the context of all posts nothing more there; the other one may, until it has freed it too. Both get what was
+// posted before. Once both have all of it the context is dead, and who hears that drops what it knows of it.
+const FREED: &[Row] = &[
+    Row::Does(0, Act::Post(1), Told::Posted(0)),
+    Row::Does(0, Act::Free, Told::Posted(1)),
+    Row::Does(0, Act::Post(1), Told::PostRefused(PostError::Closed)),
+    Row::Does(0, Act::Free, Told::PostRefused(PostError::Closed)),
+    Row::Does(1, Act::Post(2), Told::Posted(0)),
+    Row::Does(1, Act::Free, Told::Posted(1)),
+    Row::Does(0, Act::Send, Told::Sent(0)),
+    Row::Does(1, Act::Send, Told::Sent(1)),
+    Row::Does(0, Act::Take(1), Told::Taken),
+    Row::Does(1, Act::Take(0), Told::Taken),
+    Row::Does(0, Act::Harvest(WORLD), Told::Harvested(0)),
+    Row::Does(0, Act::Harvest(WORLD), Told::Harvested(1)),
+    Row::Does(1, Act::Harvest(WORLD), Told::Harvested(0)),
+    Row::Sees(0, WORLD, Look::Sum(0, 3)),
+    Row::Sees(0, WORLD, Look::Posted(2)),
+    Row::Sees(1, WORLD, Look::Sum(0, 3)),
+    Row::Does(1, Act::Harvest(WORLD), Told::Harvested(1)),
+    Row::Does(0, Act::Send, Told::Sent(2)),
+    Row::Does(1, Act::Take(2), Told::Taken),
+    Row::Does(1, Act::Prune(1), Told::Pruned),
+    Row::Sees(1, WORLD, Look::Born),
+    Row::Does(1, Act::Prune(2), Told::Pruned),
+    Row::Sees(1, WORLD, Look::Unborn),
+    Row::Sees(1, WORLD, Look::Lacks(1, 1)),
+    Row::Does(1, Act::Prune(3), Told::Pruned),
+    Row::Does(1, Act::Post(1), Told::PostRefused(PostError::Closed)),
+    Row::Does(1, Act::Send, Told::Sent(3)),
+    Row::Sees(0, WORLD, Look::Holds(1, 0)),
+    Row::Does(0, Act::Take(3), Told::Taken),
+    Row::Sees(0, WORLD, Look::Unborn),
+    Row::Sees(0, WORLD, Look::Lacks(1, 0)),
+    Row::Sees(0, WORLD, Look::Sum(0, 3)),
+    Row::Does(0, Act::Harvest(WORLD), Told::NotYet),
+];
+
 // What the rows show, how many ranks and processes the world has, and the rows.
-const WORLDS: [(&str, u8, u8, &[Row]); 6] = [
+const WORLDS: [(&str, u8, u8, &[Row]); 7] = [
     ("a relay carries posts", 2, 3, RELAY),
     ("refusals and cuts", 1, 2, REFUSALS),
     ("an own post is kept", 2, 2, KEPT),
     ("parts come in any order", 3, 5, PARTS),
     ("a short board is one part", 3, 4, ONE_PART),
     ("a gathering makes a communicator", 4, 4, MAKES),
+    ("a free closes", 2, 2, FREED),
 ];
 
 #[test]

@@ -8,7 +8,7 @@ use crate::shared_ports::{Shared, post, share};
 use mpx_bus::{Bus, Port, Push};
 use mpx_name::Name;
 use mpx_node::Finished;
-use mpx_post::Kind;
+use mpx_post::{Kind, PostError};
 use mpx_shared::{Dock, Poster, Pull, SharedPort, Tested};
 use mpx_value::Outcome;
 use std::alloc::Global;
@@ -18,8 +18,8 @@ use std::sync::ledger::Blank;
 use std::test::Fail;
 use test_drafts::{draft, just};
 
-// What is told: of frames, of a gathering, and of births.
-type AllTold = (bool, bool, bool);
+// What is told: of frames, of a gathering, of births, and of a free.
+type AllTold = (bool, bool, bool, bool);
 
 // Whether the port's board tells how the communicator came to be.
 fn is_born<L: Dock, R: Wait>(
@@ -93,6 +93,42 @@ fn gathers<L: Dock, R: Wait>(
     }
 }
 
+// Whether the post is refused, since the port has freed the context.
+fn is_refused<L: Dock, R: Wait>(
+    rt: &R,
+    alloc: Global,
+    port: &SharedPort<L>,
+    poster: &mut Poster<L>,
+    name: &Name,
+    kind: Kind,
+) -> Result<bool, Fail>
+    requires ledger { (L.all ≡ L.parts) × (0 < L.parts) }
+    requires plan { L.setup.planned ≡ false }
+{
+    let drafted = draft(alloc, &just(kind))?;
+    let answer = post(rt, alloc, port, poster, name, drafted);
+    Ok(matches!(answer, Err(PostError::Closed)))
+}
+
+// A free of the world closes it, and no other context.
+fn frees<L: Dock, R: Wait>(
+    rt: &R,
+    alloc: Global,
+    port: &SharedPort<L>,
+    poster: &mut Poster<L>,
+    gathering: &Name,
+) -> Result<bool, Fail>
+    requires ledger { (L.all ≡ L.parts) × (0 < L.parts) }
+    requires plan { L.setup.planned ≡ false }
+{
+    let world = Name::world(alloc);
+    let open = !port.is_closed(rt, poster, &world);
+    let freed = !is_refused(rt, alloc, port, poster, &world, Kind::Free)?;
+    let closed = port.is_closed(rt, poster, &world) && !port.is_closed(rt, poster, gathering);
+    let refused = is_refused(rt, alloc, port, poster, &world, Kind::Barrier)?;
+    Ok(open && freed && closed && refused)
+}
+
 // All that is told of a new port.
 fn all_told<L: Dock, R: Wait>(
     rt: &R,
@@ -107,9 +143,11 @@ fn all_told<L: Dock, R: Wait>(
 {
     let Shared { port, mut poster } = share::<L>(alloc, port, 0, blank);
     let framed = frames(rt, alloc, bus, &port)?;
-    let gathering = port.open_gathering(rt, alloc, &Name::world(alloc), 3, &[0])?;
+    let gathering = port.open_gathering(rt, alloc, &mut poster, &Name::world(alloc), 3, &[0])?;
     let gathered = gathers(rt, alloc, bus, &port, &mut poster, &gathering)?;
-    Ok((framed, gathered, births(rt, alloc, &port, &gathering)?))
+    let born = births(rt, alloc, &port, &gathering)?;
+    let freed = frees(rt, alloc, &port, &mut poster, &gathering)?;
+    Ok((framed, gathered, born, freed))
 }
 
 // The same of the only port of a bus with room for one frame.
@@ -120,6 +158,6 @@ fn alone<R: Wait>(rt: &R, alloc: Global) -> Result<AllTold, Fail> {
 
 #[test]
 fn a_port_alone(rt: HostRuntime) -> Result<(), Fail> {
-    assert_eq!(rt; alone(&rt, rt.alloc())?, (true, true, true));
+    assert_eq!(rt; alone(&rt, rt.alloc())?, (true, true, true, true));
     Ok(())
 }

@@ -1,6 +1,7 @@
 //! Frames that no process sent, but that spell a board: nodes take them as they take all boards. A post of such a frame clashes with the
 //! process's own, which is never harvested then; a birth that such a frame makes a clash refuses posts; calls that it tells dropped, or
-//! harvested, are; and what it tells acknowledged is left out of what is told on.
+//! harvested, are; a context that it tells dead is; and what it tells acknowledged is left out of what is told on. Those frames are of
+//! version 1, but for the dead context's.
 use crate::contexts::sum_of;
 use crate::frames::FRAME;
 use crate::looks::{Look, is_seen};
@@ -52,6 +53,9 @@ const FRONTS: &[u8] = &[
 const ACKNOWLEDGED: &[u8] = &[
     0x4d, 0x50, 0x58, 0x47, 1, 0, 0, 1, 1, 0, 1, 0, 1, 0, 255, 255, 255, 255,
 ];
+
+// World is dead.
+const DEAD: &[u8] = &[0x4d, 0x50, 0x58, 0x47, 2, 0, 1, 0, 1, 0];
 
 // What comes to the node of rank 0 of two, and what is seen of it.
 #[derive(Clone, Copy)]
@@ -169,7 +173,25 @@ const ACKNOWLEDGED_EARLY: &[Step] = &[
     Step::Sees(Look::Sum(0, 3)),
 ];
 
-const NODES: [(&str, &[Step]); 8] = [
+// Of a dead context nothing is known, nothing comes back, and nothing is left to drop.
+const DEAD_EARLY: &[Step] = &[
+    Step::Posts(1, Ok(0)),
+    Step::Takes(DEAD),
+    Step::Sees(Look::Unborn),
+    Step::Sees(Look::Lacks(0, 0)),
+    Step::Posts(2, Err(PostError::NotMember)),
+    Step::Opens(Err(PostError::NotMember)),
+    Step::Harvests(Harvest::NotYet),
+    Step::Prunes(7, Ok(())),
+    Step::Takes(POST_OF_RANK_1),
+    Step::Takes(THREE_MEMBERS),
+    Step::Sees(Look::Lacks(0, 1)),
+    Step::Sees(Look::Unborn),
+    Step::Sees(Look::Posted(1)),
+    Step::Sees(Look::OnePart),
+];
+
+const NODES: [(&str, &[Step]); 9] = [
     ("another post before the own one", CLASHES),
     ("another post after the own one", CLASHES_LATER),
     ("the own post before it is made", AGREES),
@@ -177,6 +199,7 @@ const NODES: [(&str, &[Step]); 8] = [
     ("two births", BORN_TWICE),
     ("a dropped front", DROPPED_EARLY),
     ("fronts", HARVESTED_EARLY),
+    ("a dead context", DEAD_EARLY),
     ("acknowledgements", ACKNOWLEDGED_EARLY),
 ];
 

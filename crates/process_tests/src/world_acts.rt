@@ -17,6 +17,8 @@ pub enum Act {
     Post(i128),
     Barrier,
     Dup(On),
+    // It frees the context of all.
+    Free,
     // It posts a call by the first two members of the gathering.
     CreateGroup,
     Harvest(On),
@@ -79,6 +81,7 @@ pub fn event(alloc: Global, number: u8, act: Act) -> Result<Event, Fail> {
         Act::Post(item) => posts(alloc, proc, WORLD, &sum_of(&[item])),
         Act::Barrier => posts(alloc, proc, WORLD, &just(Kind::Barrier)),
         Act::Dup(on) => posts(alloc, proc, on, &just(Kind::Dup)),
+        Act::Free => posts(alloc, proc, WORLD, &just(Kind::Free)),
         Act::CreateGroup => creates_group(alloc, proc),
         Act::Harvest(on) => {
             let name = name_of(alloc, on)?;

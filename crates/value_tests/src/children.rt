@@ -13,10 +13,11 @@ use std::alloc::Global;
 use std::test::Fail;
 use test_drafts::{Drafted, birth, check, just};
 
-// What a call gives rank 0: a communicator by its colour, its size and the rank in it.
+// What a call gives rank 0: a communicator by its colour, its size and the rank in it; or nothing, as a free does.
 enum Given {
     Comm(u16, u8, u8),
     Null,
+    Nothing,
     Fault(FaultKind, u8),
 }
 
@@ -123,6 +124,35 @@ const CASES: &[Case] = &[
         made: &[],
         given: Given::Fault(FaultKind::Amount, 0),
     },
+    // A free makes nothing, and gives nothing, below a name of eight steps too.
+    Case {
+        members: &[0, 1],
+        place: Place::World,
+        posted: &[Just(Kind::Free), Just(Kind::Free)],
+        made: &[],
+        given: Given::Nothing,
+    },
+    Case {
+        members: &[6, 3],
+        place: Place::Below(8),
+        posted: &[Just(Kind::Free), Just(Kind::Free)],
+        made: &[],
+        given: Given::Nothing,
+    },
+    Case {
+        members: &[0, 1],
+        place: Place::World,
+        posted: &[Just(Kind::Free), Just(Kind::Barrier)],
+        made: &[],
+        given: Given::Fault(FaultKind::Kind, 1),
+    },
+    Case {
+        members: &[0, 1],
+        place: Place::World,
+        posted: &[Just(Kind::Dup), Just(Kind::Free)],
+        made: &[],
+        given: Given::Fault(FaultKind::Kind, 1),
+    },
 ];
 
 fn drafted(posted: &Posted) -> Drafted<'static> {
@@ -167,6 +197,7 @@ fn is_given(
             Ok(same && is_child(alloc, new, name, *colour)?)
         }
         (Outcome::Null, Null) => Ok(true),
+        (Outcome::Nothing, Given::Nothing) => Ok(true),
         (Outcome::Fault(fault), Given::Fault(what, rank)) => {
             Ok(fault.what == *what && fault.rank == *rank)
         }
@@ -244,8 +275,8 @@ fn posts_of(
     case: &Case,
 ) -> Result<Vec<Post>, PostError> {
     let at = match case.place {
-        Place::Below(_) => At::on(&Name::world(alloc), CALL),
-        _ => At::on(name, CALL),
+        Place::Below(_) => At::on(&Name::world(alloc), CALL, false),
+        _ => At::on(name, CALL, false),
     };
     let mut posts = Vec::new(alloc);
     for (me, posted) in birth.members().iter().zip(case.posted) {

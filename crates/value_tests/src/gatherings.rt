@@ -1,4 +1,4 @@
-//! Gatherings: their members in the order given, and two refusals that no script shows.
+//! Gatherings: their members in the order given, and three refusals that no script shows.
 use crate::making::processes;
 use mpx_post::{Birth, Gathering, PostError};
 use std::alloc::Global;
@@ -13,16 +13,17 @@ fn parent(alloc: Global) -> Option<Birth> {
     }
 }
 
-// What the process with this number opens below it.
+// What the process with this number opens below it, where it has posted a free or not.
 fn opened(
     alloc: Global,
     number: u8,
     depth: usize,
+    closed: bool,
     tag: i128,
     ranks: &[i128],
 ) -> Result<Gathering, PostError> {
     match parent(alloc) {
-        Some(birth) => Gathering::check(alloc, &birth, proc(number), depth, tag, ranks),
+        Some(birth) => Gathering::check(alloc, &birth, proc(number), depth, closed, tag, ranks),
         None => Err(PostError::OutOfMemory),
     }
 }
@@ -31,10 +32,11 @@ fn refusal(
     alloc: Global,
     number: u8,
     depth: usize,
+    closed: bool,
     tag: i128,
     ranks: &[i128],
 ) -> Option<PostError> {
-    match opened(alloc, number, depth, tag, ranks) {
+    match opened(alloc, number, depth, closed, tag, ranks) {
         Ok(_) => None,
         Err(refusal) => Some(refusal),
     }
@@ -53,13 +55,14 @@ fn is_of_three(alloc: Global, gathering: &Gathering) -> bool {
 #[test]
 fn members_in_the_order_given(rt: HostRuntime) -> Result<(), Fail> {
     let alloc = rt.alloc();
-    match opened(alloc, 2, 7, 32767, &[2, 1, 3]) {
+    match opened(alloc, 2, 7, false, 32767, &[2, 1, 3]) {
         Ok(gathering) => assert!(rt; is_of_three(alloc, &gathering)),
         Err(_) => Err("refused")?,
     }
     let ranks = vec![in alloc; 1; 100000]?;
-    let stranger = refusal(alloc, 1, 8, 32768, &[4]) == Some(PostError::NotMember);
-    let long = refusal(alloc, 2, 0, 0, &ranks) == Some(PostError::BadGroup);
-    assert!(rt; stranger & long);
+    let stranger = refusal(alloc, 1, 8, true, 32768, &[4]) == Some(PostError::NotMember);
+    let closed = refusal(alloc, 2, 8, true, 32768, &[4]) == Some(PostError::Closed);
+    let long = refusal(alloc, 2, 0, false, 0, &ranks) == Some(PostError::BadGroup);
+    assert!(rt; stranger & closed & long);
     Ok(())
 }

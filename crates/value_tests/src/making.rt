@@ -18,7 +18,18 @@ pub fn on(call: u32, depth: usize, gathering: bool) -> At {
     At {
         call,
         depth,
+        closed: false,
         gathering,
+    }
+}
+
+// The call with this number of a context where the caller has posted a free.
+pub fn behind_free(call: u32) -> At {
+    At {
+        call,
+        depth: 1,
+        closed: true,
+        gathering: false,
     }
 }
 

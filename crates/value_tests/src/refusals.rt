@@ -1,5 +1,5 @@
 //! Refusals of drafts that no script shows: strangers, calls used up, and contexts of other calls.
-use crate::making::{blocks, in_world, on, post_at, reduce, split};
+use crate::making::{behind_free, blocks, in_world, on, post_at, reduce, split};
 use mpx_num::Ty;
 use mpx_post::{At, Birth, Draft, Kind, PostError};
 use std::alloc::Global;
@@ -47,13 +47,17 @@ fn check_refusals(
     }
 }
 
-// Of several reasons the first in their order is told: who is no member, then what the draft says, then its place.
+// Of several reasons the first in their order is told: who is no member, then who has posted a free, then what the draft
+// says, then its place.
 #[test]
 fn strangers_calls_used_up_and_contexts(rt: HostRuntime) {
-    use PostError::{BadGroup, CallsUsedUp, DepthUsedUp, ItemsLength, NoTopology, NotMember};
+    use PostError::{
+        BadGroup, CallsUsedUp, Closed, DepthUsedUp, ItemsLength, NoTopology, NotMember,
+    };
     let (plain, gathering) = (on(0, 1, false), on(0, 1, true));
     let at = in_world(0);
     let (last, past) = (in_world(4294967294), in_world(4294967295));
+    let (freed, freed_last) = (behind_free(1), behind_free(4294967295));
     let along_edges = blocks(Kind::NeighborAlltoallv, &[1], &[], &[7]);
     let cut = Drafted {
         ty: Ty::TwoInt,
@@ -80,11 +84,22 @@ fn strangers_calls_used_up_and_contexts(rt: HostRuntime) {
             (0, plain, just(Kind::CreateGroup), Some(BadGroup)),
             (0, gathering, just(Kind::CreateGroup), None),
             (0, gathering, just(Kind::Barrier), Some(BadGroup)),
+            (0, gathering, just(Kind::Free), Some(BadGroup)),
             (0, gathering, just(Kind::Dup), Some(BadGroup)),
             (0, gathering, just(Kind::Split), Some(BadGroup)),
             (0, gathering, just(Kind::Create), Some(BadGroup)),
             (0, on(0, 8, true), just(Kind::Dup), Some(DepthUsedUp)),
             (0, on(0, 7, true), split(Some(-1), 0), Some(BadGroup)),
+            // a free is posted as any call, on the world too, and nothing behind it
+            (0, at, just(Kind::Free), None),
+            (1, on(7, 8, false), just(Kind::Free), None),
+            (0, past, just(Kind::Free), Some(CallsUsedUp)),
+            (0, freed, just(Kind::Free), Some(Closed)),
+            (1, freed, just(Kind::Barrier), Some(Closed)),
+            (0, freed, reduce(2), Some(Closed)),
+            (0, freed, along_edges, Some(Closed)),
+            (0, freed_last, just(Kind::CreateGroup), Some(Closed)),
+            (2, freed, reduce(2), Some(NotMember)),
         ],
     );
 }

@@ -2,10 +2,13 @@
 use Rattle.std.specs.Prelude.{ℕ, ◌+◌, ◌==◌, Bool, true, false, ◌&&◌, List, [], ◌∷◌, ◌++◌, bytes_eq, codes, cond, if◌then◌else◌, map, slice_get, slice_index_or, Option, Some, None, unwrap_or}
 use Rattle.std.specs.Fmt.{decimal}
 use Rattle.std.specs.List.{flat_map}
+use Rattle.mpx_eval.specs.declared.missing.MissingMember.{MissingMember}
 use Rattle.mpx_eval.specs.Complaints.{ComplaintView, started_at}
 use Rattle.mpx_eval.specs.Waiting.{MissingCallView, WaitingView}
 use Rattle.mpx_script.specs.LinesGiven.{lines_given, words_at}
 use Rattle.mpx_statement.specs.declared.statement.Statement.{Statement}
+use Rattle.waits.specs.declared.members.Place.{Place}
+use Rattle.waits.specs.declared.members.Place.TheVariants as P
 
 -- PLACES
 
@@ -46,48 +49,62 @@ abbrev pub what_text : (text : List ℕ) → List Statement → (numbers : List 
 what_text text statements numbers line None = call_words text line
 what_text text statements numbers line (Some request) = request_text text line request (line_at numbers (started_at statements request))
 
--- where a rank stands: the line at which it waits, or none where it is at its end
+-- the line at which a rank waits, or none where it is at its end
 abbrev pub standing : (places : List (ℕ × ℕ)) → (rank : ℕ) → Option ℕ
 standing [] rank = None
 standing (place ∷ places) rank = cond (place.0 == rank) (Some place.1) (standing places rank)
 
-abbrev pub standing_text : Option ℕ → List ℕ
-standing_text None = codes "finished"
-standing_text (Some line) = codes "line " ++ decimal line
+abbrev pub place_at : Option ℕ → Place
+place_at None = P.Finished
+place_at (Some line) = P.Line line
+
+-- where a member stands that has not posted: it has freed the communicator, or else it is at its end, or waits at a line
+abbrev pub place_in : (places : List (ℕ × ℕ)) → MissingMember → Place
+place_in places member = cond member.closed P.Closed (place_at (standing places member.rank))
+
+abbrev pub place_text : Place → List ℕ
+place_text P.Closed = codes "closed"
+place_text P.Finished = codes "finished"
+place_text (P.Line line) = codes "line " ++ decimal line
 
 -- ranks, and where they stand
-abbrev pub placed_text : (ranks : List ℕ) → Option ℕ → List ℕ
-placed_text ranks place = ranks ++ codes " (" ++ standing_text place ++ codes ")"
+abbrev pub placed_text : (ranks : List ℕ) → Place → List ℕ
+placed_text ranks place = ranks ++ codes " (" ++ place_text place ++ codes ")"
 
-abbrev pub member_text : (places : List (ℕ × ℕ)) → (member : ℕ) → List ℕ
-member_text places member = placed_text (decimal member) (standing places member)
+abbrev pub member_text : (places : List (ℕ × ℕ)) → MissingMember → List ℕ
+member_text places member = placed_text (decimal member.rank) (place_in places member)
 
 -- members in a row that stand at one place, from the first to the last
-abbrev pub row_text : (places : List (ℕ × ℕ)) → (first last : ℕ) → List ℕ
+abbrev pub row_text : (places : List (ℕ × ℕ)) → (first last : MissingMember) → List ℕ
 row_text places first last =
-    if first == last then member_text places last else
-    if first + 1 == last then member_text places first ++ codes ", " ++ member_text places last else
-    placed_text (decimal first ++ codes " to " ++ decimal last) (standing places last)
+    if first.rank == last.rank then member_text places last else
+    if first.rank + 1 == last.rank then member_text places first ++ codes ", " ++ member_text places last else
+    placed_text (decimal first.rank ++ codes " to " ++ decimal last.rank) (place_in places last)
 
-abbrev pub is_same_place : Option ℕ → Option ℕ → Bool
-is_same_place None None = true
-is_same_place None (Some line) = false
-is_same_place (Some line) None = false
-is_same_place (Some one) (Some other) = one == other
+abbrev pub is_same_place : Place → Place → Bool
+is_same_place P.Closed P.Closed = true
+is_same_place P.Closed P.Finished = false
+is_same_place P.Closed (P.Line line) = false
+is_same_place P.Finished P.Closed = false
+is_same_place P.Finished P.Finished = true
+is_same_place P.Finished (P.Line line) = false
+is_same_place (P.Line line) P.Closed = false
+is_same_place (P.Line line) P.Finished = false
+is_same_place (P.Line one) (P.Line other) = one == other
 
 -- a member is the next rank, and stands where that one does
-abbrev pub follows : (places : List (ℕ × ℕ)) → (last member : ℕ) → Bool
-follows places last member = (last + 1 == member) && is_same_place (standing places last) (standing places member)
+abbrev pub follows : (places : List (ℕ × ℕ)) → (last member : MissingMember) → Bool
+follows places last member = (last.rank + 1 == member.rank) && is_same_place (place_in places last) (place_in places member)
 
 -- members, of which those from the first to the last are in a row so far
-abbrev pub rows_text : (places : List (ℕ × ℕ)) → (first last : ℕ) → List ℕ → List ℕ
+abbrev pub rows_text : (places : List (ℕ × ℕ)) → (first last : MissingMember) → List MissingMember → List ℕ
 rows_text places first last [] = row_text places first last
 rows_text places first last (member ∷ more) =
     if follows places last member then rows_text places first member more else
     row_text places first last ++ codes ", " ++ rows_text places member member more
 
 -- members with commas between
-abbrev pub members_text : (places : List (ℕ × ℕ)) → List ℕ → List ℕ
+abbrev pub members_text : (places : List (ℕ × ℕ)) → List MissingMember → List ℕ
 members_text places [] = []
 members_text places (member ∷ more) = rows_text places member member more
 
@@ -96,7 +113,7 @@ abbrev pub start_text : (rank line : ℕ) → List ℕ
 start_text rank line = codes "rank " ++ decimal rank ++ codes " line " ++ decimal line ++ codes ": "
 
 -- and how it ends
-abbrev pub end_text : (places : List (ℕ × ℕ)) → (call : ℕ) → (missing : List ℕ) → List ℕ
+abbrev pub end_text : (places : List (ℕ × ℕ)) → (call : ℕ) → (missing : List MissingMember) → List ℕ
 end_text places call missing = codes ", call " ++ decimal call ++ codes ": no post of " ++ members_text places missing ++ codes "\n"
 
 -- the whole line, of a rank with these statements and their lines

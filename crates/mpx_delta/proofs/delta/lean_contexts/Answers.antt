@@ -1,23 +1,26 @@
 -- What is kept of one entry after another.
 use Rattle.std.proofs.Common.{◌+◌, ap, sym, ◌∙◌, subst}
 use Rattle.mpx_name.specs.Order.{name_cmp}
-use Rattle.mpx_board.specs.Views.{view_of_acks, view_of_entry}
+use Rattle.mpx_board.specs.Views.{view_of_acks, view_of_lifted}
 use Rattle.mpx_delta.specs.Lean.{lean_context}
 use Rattle.mpx_delta.proofs.Steps.{KeptSoFar, kept_none, kept_one, kept_whole, kept_rises}
 use Rattle.mpx_delta.proofs.Leaning.{says_some, says_none}
 use Rattle.mpx_delta.proofs.delta.lean_contexts.Goals as goal
-use Rattle.mpx_delta.proofs.delta.lean_contexts.Goals.{then-says_something+in_ok-copy+in_ok-push, else-says_something}
+use Rattle.mpx_delta.proofs.delta.lean_contexts.Goals.{then-is_said+in_ok-copy+in_ok-push, else-is_said+in-Live-1, else-is_said+in-Dead-1}
 
 pub loop-name-preserved : goal.loop-name-preserved
 loop-name-preserved c =
-    elim c.if-says_something.branch [
-      | then-says_something+in_ok-copy+in_ok-push w ↦
-          subst (λ m. KeptSoFar (lean_context (view_of_acks c.args.digest.now)) view_of_entry view_of_entry c.entries-name-items.result.now m (c.loop-name.name-index + 1)) (sym (ap (λ v. v.items) w.made-is ∙ w.in_ok-push.ensures.items))
-          (kept_one (lean_context (view_of_acks c.args.digest.now)) view_of_entry view_of_entry c.entries-name-items.result.now c.loop-name.made.items c.loop-name.name-index c.loop-name-item.result _ c.loop-name-test.true c.loop-name-item.is w.in_ok-copy.ensures (says_some _ _ c.in_ok-lean.ensures (sym w.if-says_something.true ∙ c.says_something.ensures)) c.loop-name.invariant)
-      | else-says_something w ↦
-          subst (λ m. KeptSoFar (lean_context (view_of_acks c.args.digest.now)) view_of_entry view_of_entry c.entries-name-items.result.now m (c.loop-name.name-index + 1)) (sym (ap (λ v. v.items) w.made-is))
-          (kept_none (lean_context (view_of_acks c.args.digest.now)) view_of_entry view_of_entry c.entries-name-items.result.now c.loop-name.made.items c.loop-name.name-index c.loop-name-item.result c.loop-name-test.true c.loop-name-item.is (says_none _ _ c.in_ok-lean.ensures (sym w.if-says_something.false ∙ c.says_something.ensures)) c.loop-name.invariant)
+    elim c.if-is_said.branch [
+      | then-is_said+in_ok-copy+in_ok-push w ↦
+          subst (λ m. KeptSoFar (lean_context (view_of_acks c.args.digest.now)) view_of_lifted view_of_lifted c.entries-name-items.result.now m (c.loop-name.name-index + 1)) (sym (ap (λ v. v.items) w.made-is ∙ w.in_ok-push.ensures.items))
+          (kept_one (lean_context (view_of_acks c.args.digest.now)) view_of_lifted view_of_lifted c.entries-name-items.result.now c.loop-name.made.items c.loop-name.name-index c.loop-name-item.result _ c.loop-name-test.true c.loop-name-item.is w.in_ok-copy.ensures (says_some _ _ c.in_ok-lean.ensures (sym w.if-is_said.true ∙ c.is_said.ensures)) c.loop-name.invariant)
+      | else-is_said+in-Live-1 w ↦
+          subst (λ m. KeptSoFar (lean_context (view_of_acks c.args.digest.now)) view_of_lifted view_of_lifted c.entries-name-items.result.now m (c.loop-name.name-index + 1)) (sym (ap (λ v. v.items) w.made-is))
+          (kept_none (lean_context (view_of_acks c.args.digest.now)) view_of_lifted view_of_lifted c.entries-name-items.result.now c.loop-name.made.items c.loop-name.name-index c.loop-name-item.result c.loop-name-test.true c.loop-name-item.is (says_none _ _ c.in_ok-lean.ensures (sym w.if-is_said.false ∙ c.is_said.ensures)) c.loop-name.invariant)
+      | else-is_said+in-Dead-1 w ↦
+          subst (λ m. KeptSoFar (lean_context (view_of_acks c.args.digest.now)) view_of_lifted view_of_lifted c.entries-name-items.result.now m (c.loop-name.name-index + 1)) (sym (ap (λ v. v.items) w.made-is))
+          (kept_none (lean_context (view_of_acks c.args.digest.now)) view_of_lifted view_of_lifted c.entries-name-items.result.now c.loop-name.made.items c.loop-name.name-index c.loop-name-item.result c.loop-name-test.true c.loop-name-item.is (says_none _ _ c.in_ok-lean.ensures (sym w.if-is_said.false ∙ c.is_said.ensures)) c.loop-name.invariant)
     ]
 
 pub from_rising-requires : goal.from_rising-requires
-from_rising-requires c = kept_rises (lean_context (view_of_acks c.args.digest.now)) view_of_entry view_of_entry c.entries-name-items.result.now name_cmp c.loop-name.made.items c.entries-name-items.ensures.rising (kept_whole (lean_context (view_of_acks c.args.digest.now)) view_of_entry view_of_entry c.entries-name-items.result.now c.loop-name.made.items c.loop-name.name-index c.loop-name-test.false c.loop-name.invariant)
+from_rising-requires c = kept_rises (lean_context (view_of_acks c.args.digest.now)) view_of_lifted view_of_lifted c.entries-name-items.result.now name_cmp c.loop-name.made.items c.entries-name-items.ensures.rising (kept_whole (lean_context (view_of_acks c.args.digest.now)) view_of_lifted view_of_lifted c.entries-name-items.result.now c.loop-name.made.items c.loop-name.name-index c.loop-name-test.false c.loop-name.invariant)

@@ -1,5 +1,6 @@
 use Rattle.std.proofs.Common.{◌≡◌, ◌-◌, true, false, cond, length, Some, None, sym, ap, ◌∙◌}
 use Rattle.mpx_board.specs.Views.{view_of_parts}
+use Rattle.mpx_format.specs.declared.versions.Version.TheVariants.{Two}
 use Rattle.mpx_format.specs.Contexts.{frame}
 use Rattle.mpx_format.specs.Decoding.{most_bytes}
 use Rattle.mpx_format.specs.Encoding.{has_many_names}
@@ -10,7 +11,7 @@ pub returns-then-has_many_names-clause-value : goal.returns-then-has_many_names-
 returns-then-has_many_names-clause-value c =
     let v = view_of_parts c.args.parts.now in
     let many : has_many_names v ≡ true = sym c.has_many_names.ensures ∙ c.if-has_many_names.true in
-    sym (ap (λ b. cond b None (Some (most_bytes - length (frame.spelling v)))) (long_by_names v many))
+    sym (ap (λ b. cond b None (Some (most_bytes - length (frame.spelling (Two, v))))) (long_by_names v many))
 
 pub returns-clause-value : goal.returns-clause-value
 returns-clause-value c =
@@ -21,4 +22,4 @@ returns-clause-value c =
 pub returns-clause-few : goal.returns-clause-few
 returns-clause-few c =
     let v = view_of_parts c.args.parts.now in
-    few_left (length (frame.spelling v)) most_bytes c.room_after_frame.result c.room_after_frame.ensures.value
+    few_left (length (frame.spelling (Two, v))) most_bytes c.room_after_frame.result c.room_after_frame.ensures.value

@@ -8,14 +8,15 @@ use Rattle.join_core.specs.Cases.{first_true, second_true}
 use Rattle.join_nest.specs.Seen.{seen, sorted_seen}
 use Rattle.mpx_name.specs.Order.{name_cmp}
 use Rattle.mpx_board.specs.Tidy.{is_tidy_acks}
-use Rattle.mpx_board.specs.Views.{view_of_acks, view_of_entry}
+use Rattle.mpx_board.specs.Views.{view_of_acks, view_of_lifted}
 use Rattle.mpx_format.specs.Encoding.{most_names}
 use Rattle.mpx_encode.specs.Room.{room_left}
 use Rattle.std.specs.List.{list_any}
 use Rattle.mpx_board.specs.Views.{view_of_parts}
-use Rattle.mpx_board.specs.Tidy.{is_tidy_entry, are_tidy_entries, are_tidy_acks}
+use Rattle.mpx_board.specs.Tidy.{is_tidy_lifted, are_tidy_entries, are_tidy_acks}
+use Rattle.mpx_format.specs.declared.versions.Version.TheVariants.{Two}
 use Rattle.mpx_format.specs.Fields.{process, name, acks}
-use Rattle.mpx_format.specs.Contexts.{context}
+use Rattle.mpx_format.specs.Contexts.{lifted}
 use Rattle.mpx_encode.specs.Entries.{entries_spelled, both_pass}
 use Rattle.mpx_encode.proofs.Rooms.{room_stops_at, room_behind}
 use Rattle.mpx_encode.proofs.Frames.{names_part, length-names, frame_split, frame_fits, both_tests, not_above, either_false}
@@ -25,7 +26,7 @@ use Rattle.mpx_encode.proofs.write_contexts.room_after_frame.Goals as goal
 pub room_after_counted-requires : goal.room_after_counted-requires
 room_after_counted-requires c =
     let v = view_of_parts c.args.parts.now in
-    ap (list_all (λ e. is_tidy_entry e.1)) c.entries-names.ensures.entries ∙ first_true (are_tidy_entries v.0) (are_tidy_acks v.1) c.requires.tidy
+    ap (list_all (λ e. is_tidy_lifted e.1)) c.entries-names.ensures.entries ∙ first_true (are_tidy_entries v.0) (are_tidy_acks v.1) c.requires.tidy
 
 pub room_after_counted-requires-2 : goal.room_after_counted-requires-2
 room_after_counted-requires-2 c =
@@ -37,19 +38,19 @@ room_after_counted-requires-2 c =
 pub returns-in_err-left-clause-value : goal.returns-in_err-left-clause-value
 returns-in_err-left-clause-value c =
     let v = view_of_parts c.args.parts.now in
-    let es = seen view_of_entry c.entries-names.result.now in
+    let es = seen view_of_lifted c.entries-names.result.now in
     let ps = seen view_of_acks c.entries-processes.result.now in
     let none : c.from_residual.result ≡ None = search rules in
-    let short : room_left (7 + length (entries_spelled name context es)) c.args.room ≡ None = search rules in
+    let short : room_left (7 + length (entries_spelled name (lifted Two) es)) c.args.room ≡ None = search rules in
     none ∙ sym (ap (λ l. room_left (length l) c.args.room) (frame_split v es ps c.entries-names.ensures.entries c.entries-processes.ensures.entries)
     ∙ room_stops_at (names_part v es ps) ((length ps ∷ []) ++ entries_spelled process acks ps) c.args.room (ap (λ n. room_left n c.args.room) (length-names v es ps) ∙ short))
 
 pub returns-clause-value : goal.returns-clause-value
 returns-clause-value c =
     let v = view_of_parts c.args.parts.now in
-    let es = seen view_of_entry c.entries-names.result.now in
+    let es = seen view_of_lifted c.entries-names.result.now in
     let ps = seen view_of_acks c.entries-processes.result.now in
-    let left : room_left (7 + length (entries_spelled name context es)) c.args.room ≡ Some c.in_ok-left.left = search rules in
+    let left : room_left (7 + length (entries_spelled name (lifted Two) es)) c.args.room ≡ Some c.in_ok-left.left = search rules in
     let one : 1 + length (entries_spelled process acks ps) ≡ length ((length ps ∷ []) ++ entries_spelled process acks ps) = omega arith in
     c.room_after_counted-2.ensures.value ∙ ap (λ n. room_left n c.in_ok-left.left) one
     ∙ sym (ap (λ l. room_left (length l) c.args.room) (frame_split v es ps c.entries-names.ensures.entries c.entries-processes.ensures.entries)
@@ -58,14 +59,14 @@ returns-clause-value c =
 pub returns-clause-fits : goal.returns-clause-fits
 returns-clause-fits c =
     let v = view_of_parts c.args.parts.now in
-    let es = seen view_of_entry c.entries-names.result.now in
+    let es = seen view_of_lifted c.entries-names.result.now in
     let ps = seen view_of_acks c.entries-processes.result.now in
     let few = either_false (nat_lt most_names (len v.0)) (list_any (λ e. nat_lt most_names (len e.1)) (entries v.1)) c.requires.few in
     let short = leb-true (len v.0) most_names (not_above (len v.0) most_names few.0) in
-    let tidy = ap (list_all (λ e. is_tidy_entry e.1)) c.entries-names.ensures.entries ∙ first_true (are_tidy_entries v.0) (are_tidy_acks v.1) c.requires.tidy in
-    let pass : both_pass name.fits context.fits es ≡ true = search rules in
+    let tidy = ap (list_all (λ e. is_tidy_lifted e.1)) c.entries-names.ensures.entries ∙ first_true (are_tidy_entries v.0) (are_tidy_acks v.1) c.requires.tidy in
+    let pass : both_pass name.fits (lifted Two).fits es ≡ true = search rules in
     where_left c.room_after_counted-2.result
     (λ h. frame_fits v es ps c.entries-names.ensures.entries c.entries-processes.ensures.entries
-    (sorted_seen name_cmp view_of_entry c.entries-names.result.now ∙ c.entries-names.ensures.rising) (sorted_seen nat_cmp view_of_acks c.entries-processes.result.now ∙ c.entries-processes.ensures.rising)
+    (sorted_seen name_cmp view_of_lifted c.entries-names.result.now ∙ c.entries-names.ensures.rising) (sorted_seen nat_cmp view_of_acks c.entries-processes.result.now ∙ c.entries-processes.ensures.rising)
     (omega (arith, short, len-entries v.0, ap length c.entries-names.ensures.entries)) tidy pass h)
     c.room_after_counted-2.ensures.fits

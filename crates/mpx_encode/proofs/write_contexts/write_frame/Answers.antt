@@ -4,12 +4,13 @@ use Rattle.std.specs.Ordering.{nat_cmp}
 use Rattle.join_nest.specs.Seen.{seen}
 use Rattle.join_nest.proofs.Steps.{length_seen}
 use Rattle.mpx_name.specs.Order.{name_cmp}
-use Rattle.mpx_board.specs.Views.{view_of_acks, view_of_entry}
+use Rattle.mpx_board.specs.Views.{view_of_acks, view_of_lifted}
 use Rattle.mpx_format.specs.Rising.{always}
 use Rattle.mpx_board.specs.Views.{view_of_parts}
+use Rattle.mpx_format.specs.declared.versions.Version.TheVariants.{Two}
 use Rattle.mpx_format.specs.Format.{byte}
 use Rattle.mpx_format.specs.Fields.{process, name, name_count, acks}
-use Rattle.mpx_format.specs.Contexts.{context, says_something}
+use Rattle.mpx_format.specs.Contexts.{lifted, says_something}
 use Rattle.mpx_encode.specs.Entries.{entries_spelled}
 use Rattle.mpx_encode.proofs.Frames.{magic, names_part, frame_spelled, frame_names, frame_acks}
 use Rattle.mpx_encode.proofs.Contexts.{names_below}
@@ -19,9 +20,9 @@ use Rattle.mpx_encode.proofs.write_contexts.write_frame.Goals as goal
 pub overflow_cast-names : goal.overflow_cast-names
 overflow_cast-names c =
     let v = view_of_parts c.args.parts.now in
-    let es = seen view_of_entry c.entries-names.result.now in
-    let few = names_below (length es) (keyed_count name_cmp name_count name context says_something v.0 es c.entries-names.ensures.entries (frame_names v [] [] c.requires)) in
-    omega (arith, few, length_seen view_of_entry c.entries-names.result.now)
+    let es = seen view_of_lifted c.entries-names.result.now in
+    let few = names_below (length es) (keyed_count name_cmp name_count name (lifted Two) says_something v.0 es c.entries-names.ensures.entries (frame_names v [] [] c.requires)) in
+    omega (arith, few, length_seen view_of_lifted c.entries-names.result.now)
 
 pub overflow_cast-processes : goal.overflow_cast-processes
 overflow_cast-processes c =
@@ -33,7 +34,7 @@ overflow_cast-processes c =
 pub write_entries-requires : goal.write_entries-requires
 write_entries-requires c =
     let v = view_of_parts c.args.parts.now in
-    keyed_pass name_cmp name_count name context says_something v.0 (seen view_of_entry c.entries-names.result.now) c.entries-names.ensures.entries (frame_names v [] [] c.requires)
+    keyed_pass name_cmp name_count name (lifted Two) says_something v.0 (seen view_of_lifted c.entries-names.result.now) c.entries-names.ensures.entries (frame_names v [] [] c.requires)
 
 pub write_entries-requires-2 : goal.write_entries-requires-2
 write_entries-requires-2 c =
@@ -43,14 +44,14 @@ write_entries-requires-2 c =
 pub returns : goal.returns
 returns c =
     let v = view_of_parts c.args.parts.now in
-    let es = seen view_of_entry c.entries-names.result.now in
+    let es = seen view_of_lifted c.entries-names.result.now in
     let ps = seen view_of_acks c.entries-processes.result.now in
     let old = c.args.out.now.items in
     let mark : c.extend_from_slice.new.self.items ≡ old ++ magic = search rules in
-    let number : c.write_u16.new.out.items ≡ c.extend_from_slice.new.self.items ++ to_be_bytes w16 (length es) = rw (length_seen view_of_entry c.entries-names.result.now) (search rules) in
-    let names : c.write_entries.new.out.items ≡ c.write_u16.new.out.items ++ entries_spelled name context es = search rules in
+    let number : c.write_u16.new.out.items ≡ c.extend_from_slice.new.self.items ++ to_be_bytes w16 (length es) = rw (length_seen view_of_lifted c.entries-names.result.now) (search rules) in
+    let names : c.write_entries.new.out.items ≡ c.write_u16.new.out.items ++ entries_spelled name (lifted Two) es = search rules in
     let many : c.write_u8.new.out.items ≡ c.write_entries.new.out.items ++ length ps ∷ [] = rw (length_seen view_of_acks c.entries-processes.result.now) (search rules) in
     let one = written_behind old c.extend_from_slice.new.self.items c.write_u16.new.out.items magic (to_be_bytes w16 (length es)) mark number in
-    let two = written_behind old c.write_u16.new.out.items c.write_entries.new.out.items (magic ++ to_be_bytes w16 (length es)) (entries_spelled name context es) one names in
+    let two = written_behind old c.write_u16.new.out.items c.write_entries.new.out.items (magic ++ to_be_bytes w16 (length es)) (entries_spelled name (lifted Two) es) one names in
     let first = written_behind old c.write_entries.new.out.items c.write_u8.new.out.items (names_part v es ps) (length ps ∷ []) two many in
     told_behind c.write_entries-2.result old c.write_u8.new.out.items c.write_entries-2.new.out.items _ _ _ (frame_spelled v es ps c.entries-names.ensures.entries c.entries-processes.ensures.entries) first (search rules)

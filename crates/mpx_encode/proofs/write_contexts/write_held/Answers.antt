@@ -3,6 +3,7 @@ use Rattle.std.specs.Int.{w32, to_be_bytes}
 use Rattle.std.specs.FinMap.{entries}
 use Rattle.join_nest.proofs.Steps.{length_seen}
 use Rattle.mpx_board.specs.Views.{view_of_call, view_of_calls}
+use Rattle.mpx_format.specs.declared.versions.Version.TheVariants.{Two}
 use Rattle.mpx_format.specs.Fields.{call}
 use Rattle.mpx_format.specs.Contexts.{call_posts}
 use Rattle.mpx_encode.specs.Entries.{both_pass}
@@ -16,7 +17,7 @@ overflow_cast-entries c =
     omega (arith, held_below t c.requires, ap length c.entries-entries.ensures.entries, length_seen view_of_call c.entries-entries.result.now)
 
 pub write_entries-requires : goal.write_entries-requires
-write_entries-requires c = ap (both_pass call.fits call_posts.fits) c.entries-entries.ensures.entries ∙ held_pass (view_of_calls c.args.held.now) c.requires
+write_entries-requires c = ap (both_pass call.fits (call_posts Two).fits) c.entries-entries.ensures.entries ∙ held_pass (view_of_calls c.args.held.now) c.requires
 
 pub returns : goal.returns
 returns c =

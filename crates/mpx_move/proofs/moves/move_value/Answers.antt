@@ -39,3 +39,7 @@ returns-in-NewCommunicator c =
 pub returns-in-Neighbourhood : goal.returns-in-Neighbourhood
 returns-in-Neighbourhood c =
     by_family c.args.row.now c.args.rank _ (first_family c.args.row.now _ _ _ _ c.post.ensures.value c.kind.ensures c.family.ensures c.in-Neighbourhood.is)
+
+pub returns-in-Free : goal.returns-in-Free
+returns-in-Free c =
+    by_family c.args.row.now c.args.rank _ (first_family c.args.row.now _ _ _ _ c.post.ensures.value c.kind.ensures c.family.ensures c.in-Free.is)

@@ -48,3 +48,8 @@ pub returns-in-Some-NewCommunicator : goal.returns-in-Some-NewCommunicator
 returns-in-Some-NewCommunicator c =
     let family = first_family c.args.row.now _ _ _ _ c.post.ensures.value c.kind.ensures c.family.ensures c.in-Some-NewCommunicator.is-1 in
     by_family c.args.birth.now.topology c.args.row.now c.args.rank _ _ (sym (ap option_copied c.in-Some-NewCommunicator.is-0) ∙ c.topology.ensures.value) family
+
+pub returns-in-Some-Free : goal.returns-in-Some-Free
+returns-in-Some-Free c =
+    let family = first_family c.args.row.now _ _ _ _ c.post.ensures.value c.kind.ensures c.family.ensures c.in-Some-Free.is-1 in
+    by_family c.args.birth.now.topology c.args.row.now c.args.rank _ _ (sym (ap option_copied c.in-Some-Free.is-0) ∙ c.topology.ensures.value) family

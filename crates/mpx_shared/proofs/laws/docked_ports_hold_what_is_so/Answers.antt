@@ -1,5 +1,5 @@
 use Rattle.mpx_shared.proofs.Plans.{birth_is_planned, result_is_planned}
-use Rattle.mpx_shared.proofs.Docked.{docked_birth, docked_mine, docked_posts, docked_result}
+use Rattle.mpx_shared.proofs.Docked.{docked_birth, docked_closed, docked_mine, docked_posts, docked_result}
 use Rattle.mpx_shared.proofs.laws.docked_ports_hold_what_is_so.Goals as goal
 
 pub returns-clause-results : goal.returns-clause-results
@@ -10,6 +10,9 @@ returns-clause-mine c = docked_mine
 
 pub returns-clause-planned_results : goal.returns-clause-planned_results
 returns-clause-planned_results c = result_is_planned
+
+pub returns-clause-frees : goal.returns-clause-frees
+returns-clause-frees c = docked_closed
 
 pub returns-clause-births : goal.returns-clause-births
 returns-clause-births c = docked_birth

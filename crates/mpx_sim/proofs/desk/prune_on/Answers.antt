@@ -9,8 +9,8 @@ returns-in_default c = keeps_node_itself (node_of c.args.desk.now.host) (node_of
 pub returns-then-has_none_to_drop : goal.returns-then-has_none_to_drop
 returns-then-has_none_to_drop c = keeps_node_itself (node_of c.args.desk.now.host) (node_of c.args.desk.now.host) refl
 
-pub returns-then-floor-dropped : goal.returns-then-floor-dropped
-returns-then-floor-dropped c = keeps_node_itself (node_of c.args.desk.now.host) (node_of c.args.desk.now.host) refl
+pub returns-then-has_dropped : goal.returns-then-has_dropped
+returns-then-has_dropped c = keeps_node_itself (node_of c.args.desk.now.host) (node_of c.args.desk.now.host) refl
 
 pub returns : goal.returns
 returns c = keeps_node_prune c.args.name.now c.in-Some.floor c.prune.result (node_of c.args.desk.now.host) (node_of c.prune.new.self.host) c.prune.ensures.answer c.prune.ensures.ok c.prune.ensures.err

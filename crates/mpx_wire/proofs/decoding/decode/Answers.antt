@@ -8,13 +8,15 @@ use Rattle.mpx_wire.proofs.decoding.decode.Goals as goal
 pub returns-in_err-parts-clause-only : goal.returns-in_err-parts-clause-only
 returns-in_err-parts-clause-only c = λ v s.
     let p = err_from_is_err_and c.from_residual.result c.from_residual.ensures.1 in
-    rw (p.1, p.2) (subst (λ r. Refuses c.in_err-parts.field-0.0 r) (decoded_again c.args.bytes.now v s) c.in_err-parts.ensures.err)
+    rw (p.1, p.2) (subst (λ r. Refuses c.in_err-parts.field-0.0 r) (decoded_again s.0 c.args.bytes.now v s.1) c.in_err-parts.ensures.err)
 
 pub from_tidy-requires : goal.from_tidy-requires
-from_tidy-requires c = frame_tidy _ (decoded_found c.args.bytes.now _ (λ i. omega (arith, c.type_inv.bytes i)) c.in_ok-parts.ensures.ok).fits
+from_tidy-requires c =
+    let s = decoded_found c.args.bytes.now _ (λ i. omega (arith, c.type_inv.bytes i)) c.in_ok-parts.ensures.ok in
+    frame_tidy s.0 _ s.1.fits
 
 pub returns-clause-found : goal.returns-clause-found
 returns-clause-found c = decoded_found c.args.bytes.now (parts_of c.from_tidy.result) (λ i. omega (arith, c.type_inv.bytes i)) (c.in_ok-parts.ensures.ok ∙ ap Ok (sym c.from_tidy.ensures))
 
 pub returns-clause-only : goal.returns-clause-only
-returns-clause-only c = λ v s. sym (decoded_again c.args.bytes.now v s) ∙ c.in_ok-parts.ensures.ok ∙ ap Ok (sym c.from_tidy.ensures)
+returns-clause-only c = λ v s. sym (decoded_again s.0 c.args.bytes.now v s.1) ∙ c.in_ok-parts.ensures.ok ∙ ap Ok (sym c.from_tidy.ensures)

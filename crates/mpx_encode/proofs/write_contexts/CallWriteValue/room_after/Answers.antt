@@ -7,6 +7,7 @@ use Rattle.join_core.specs.declared.flats.Flat.{Flat}
 use Rattle.join_core.specs.Flat.{FlatView}
 use Rattle.join_core.specs.FlatSeen.{flat_view}
 use Rattle.mpx_post.specs.Posts.{Given}
+use Rattle.mpx_format.specs.declared.versions.Version.TheVariants.{Two}
 use Rattle.mpx_format.specs.Contexts.{posted, call_posts}
 use Rattle.join_nest.specs.Seen.{seen, keyed_view, sorted_seen}
 use Rattle.mpx_board.specs.Tidy.{is_bare, is_unknown, all_entries}
@@ -30,7 +31,7 @@ unfolding call_posts some_byte
 returns-clause-value c =
     let m = keyed_view nat_cmp says c.args.self.now.entries.items in
     let es = seen says c.entries.result.now in
-    c.room_after_counted.ensures.value ∙ ap (λ n. room_left n c.args.room) (sym (keyed_length nat_cmp some_byte process posted always m es 1 c.entries.ensures.entries refl))
+    c.room_after_counted.ensures.value ∙ ap (λ n. room_left n c.args.room) (sym (keyed_length nat_cmp some_byte process (posted Two) always m es 1 c.entries.ensures.entries refl))
 
 pub returns-clause-fits : goal.returns-clause-fits
 unfolding call_posts
@@ -40,5 +41,5 @@ returns-clause-fits c =
     let sorted : is_sorted nat_cmp es ≡ true = sorted_seen nat_cmp says c.entries.result.now ∙ c.entries.ensures.rising in
     let some : 0 < length es = omega (arith, ap length c.entries.ensures.entries, some_entries m (first_true (not (is_bare m)) (all_entries (λ p v. not (is_unknown v)) m) c.requires)) in
     where_left c.room_after_counted.result
-    (λ pass. keyed_fits nat_cmp some_byte process posted always m es c.entries.ensures.entries sorted (some_byte_count (length es) some (few_processes posted.fits es sorted pass)) pass (always_says es))
+    (λ pass. keyed_fits nat_cmp some_byte process (posted Two) always m es c.entries.ensures.entries sorted (some_byte_count (length es) some (few_processes (posted Two).fits es sorted pass)) pass (always_says es))
     c.room_after_counted.ensures.fits

@@ -13,18 +13,18 @@ pub returns-then-is_err-clause-err : goal.returns-then-is_err-clause-err
 returns-then-is_err-clause-err c =
     let old = node_of c.args.self.now in
     let o = c.in-Some.opened.now in
-    let w : Opened = record { posted = o.posted; results = c.reserve.new.self; counted = search rules } in
+    let w : Opened = record { posted = o.posted; results = c.reserve.new.self; freed = o.freed; counted = search rules } in
     let n = c.get_mut.follows.lender w in
-    let same : seen n ≡ seen c.args.self.now.opened = stays c.args.self.now.opened n c.args.name.now o w c.in-Some.ensures.value (c.get_mut.follows.holds w) (λ i. record { posted = o.posted; results = c.reserve.ensures.items i }) in
+    let same : seen n ≡ seen c.args.self.now.opened = stays c.args.self.now.opened n c.args.name.now o w c.in-Some.ensures.value (c.get_mut.follows.holds w) (λ i. record { posted = o.posted; results = c.reserve.ensures.items i; freed = o.freed }) in
     ap (λ (x : Contexts). record old { opened = x }) same
 
 pub returns-in-Err-clause-err : goal.returns-in-Err-clause-err
 returns-in-Err-clause-err c =
     let old = node_of c.args.self.now in
     let o = c.in-Some.opened.now in
-    let w : Opened = record { posted = o.posted; results = c.reserve.new.self; counted = search rules } in
+    let w : Opened = record { posted = o.posted; results = c.reserve.new.self; freed = o.freed; counted = search rules } in
     let n = c.get_mut.follows.lender w in
-    let same : seen n ≡ seen c.args.self.now.opened = stays c.args.self.now.opened n c.args.name.now o w c.in-Some.ensures.value (c.get_mut.follows.holds w) (λ i. record { posted = o.posted; results = c.reserve.ensures.items i }) in
+    let same : seen n ≡ seen c.args.self.now.opened = stays c.args.self.now.opened n c.args.name.now o w c.in-Some.ensures.value (c.get_mut.follows.holds w) (λ i. record { posted = o.posted; results = c.reserve.ensures.items i; freed = o.freed }) in
     λ i. record { me = old.me; processes = old.processes; board = c.in-Err.ensures.err i; opened = same i }
 
 pub returns-in-Ok-clause-ok : goal.returns-in-Ok-clause-ok
@@ -33,11 +33,11 @@ returns-in-Ok-clause-ok c =
     let finished = c.args.finished in
     let old = node_of c.args.self.now in
     let o = c.in-Some.opened.now in
-    let w : Opened = record { posted = o.posted; results = c.push_reserved.new.self; counted = search rules } in
+    let w : Opened = record { posted = o.posted; results = c.push_reserved.new.self; freed = o.freed; counted = search rules } in
     let n = c.get_mut.follows.lender w in
     let results : c.push_reserved.new.self.items ≡ o.results.items ++ finished ∷ [] = c.push_reserved.ensures.items ∙ ap (λ rs. rs ++ finished ∷ []) c.reserve.ensures.items in
     let stores : OpenedView → OpenedView = λ v. record v { results = v.results ++ finished ∷ [] } in
-    let added : seen n ≡ (λ q. cond (same_name q name) (option_map stores (seen c.args.self.now.opened q)) (seen c.args.self.now.opened q)) = does c.args.self.now.opened n name o w c.in-Some.ensures.value (c.get_mut.follows.holds w) stores (λ i. record { posted = o.posted; results = results i }) in
+    let added : seen n ≡ (λ q. cond (same_name q name) (option_map stores (seen c.args.self.now.opened q)) (seen c.args.self.now.opened q)) = does c.args.self.now.opened n name o w c.in-Some.ensures.value (c.get_mut.follows.holds w) stores (λ i. record { posted = o.posted; results = results i; freed = o.freed }) in
     let board : look c.raise_front.new.self ≡ join old.board (harvest_part name [] old) =
     c.in-Ok.ensures.ok
     ∙ ap (λ k. join old.board (only (Front name old.me (k + 1)))) c.requires.front

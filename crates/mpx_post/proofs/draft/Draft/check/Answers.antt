@@ -7,12 +7,16 @@ pub returns-in-None : goal.returns-in-None
 unfolding checked
 returns-in-None c = rw (sym c.rank_of.ensures ∙ c.in-None.is) refl
 
+pub returns-then-at : goal.returns-then-at
+unfolding checked
+returns-then-at c = rw (sym c.rank_of.ensures ∙ c.in-Some.is, c.if-at.true) refl
+
 pub returns-then-lacks_topology : goal.returns-then-lacks_topology
 unfolding checked
-returns-then-lacks_topology c = rw (sym c.rank_of.ensures ∙ c.in-Some.is, sym c.lacks_topology.ensures ∙ c.if-lacks_topology.true, c.stray_refusal.ensures) refl
+returns-then-lacks_topology c = rw (sym c.rank_of.ensures ∙ c.in-Some.is, c.if-at.false, sym c.lacks_topology.ensures ∙ c.if-lacks_topology.true, c.stray_refusal.ensures) refl
 
 pub returns-else-lacks_topology : goal.returns-else-lacks_topology
 unfolding checked
 returns-else-lacks_topology c =
     let in_seat = subst (λ (seat : Seat). Checks (checked_in seat c.args.at.now c.args.self) c.check_in.result) c.seat-seat.ensures.value c.check_in.ensures in
-    rw (sym c.rank_of.ensures ∙ c.in-Some.is, sym c.lacks_topology.ensures ∙ c.if-lacks_topology.false) in_seat
+    rw (sym c.rank_of.ensures ∙ c.in-Some.is, c.if-at.false, sym c.lacks_topology.ensures ∙ c.if-lacks_topology.false) in_seat

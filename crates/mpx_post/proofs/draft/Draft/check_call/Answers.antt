@@ -5,5 +5,5 @@ use Rattle.mpx_post.proofs.draft.Draft.check_call.Goals as goal
 
 pub returns-clause-room : goal.returns-clause-room
 returns-clause-room c =
-    room_of_post c.args.birth.now c.args.me (at c.args.name.now c.args.call) c.args.self c.check.result (omega (arith, c.ranges.call.fits))
+    room_of_post c.args.birth.now c.args.me (at c.args.name.now c.args.call c.args.closed) c.args.self c.check.result (omega (arith, c.ranges.call.fits))
     (subst (λ a. Checks (checked c.args.birth.now c.args.me a c.args.self) c.check.result) c.on.ensures c.check.ensures)

@@ -1,15 +1,20 @@
-use Rattle.std.proofs.Common.{ℕ, List, subst}
+use Rattle.std.proofs.Common.{◌∙◌, ℕ, List, ap, subst}
 use Rattle.mpx_name.specs.Name.{Name}
+use Rattle.mpx_board.specs.Looks.{look}
+use Rattle.mpx_node.specs.Nodes.{NodeView}
 use Rattle.mpx_bus.specs.Berths.{Berth}
 use Rattle.mpx_shared.specs.Docks.{MakesNoPost}
 use Rattle.mpx_shared.specs.Gossip.{Pulls}
-use Rattle.mpx_shared.proofs.Docked.{moored_later}
+use Rattle.mpx_shared.proofs.Docked.{moored_later, moored_leaves}
 use Rattle.mpx_shared.proofs.Gossiping.{pulls_then}
 use Rattle.mpx_shared.proofs.moored.Moored.pull.Goals as goal
 
 pub invariant_of-self : goal.invariant_of-self
-invariant_of-self g c =
-    (c.self.invariant.0, moored_later c.self.inside.port c.pull_on-pull.new.port c.self.invariant.1 c.pull_on-pull.ensures.port)
+invariant_of-self g c = (
+  c.self.invariant.0,
+  moored_leaves c.leave_dead.new.contexts.items c.pull_on-pull.new.port (look c.board.result.now) (c.board.ensures ∙ ap (λ (n : NodeView). n.board) c.node-after.ensures.node) c.leave_dead.ensures
+      (moored_later c.self.inside.port c.pull_on-pull.new.port c.self.invariant.1 c.pull_on-pull.ensures.port),
+)
 
 pub returns-clause-port : goal.returns-clause-port
 returns-clause-port g c = subst (λ (x : Berth × (ℕ × List Name)). MakesNoPost x.0 c.pull_on-pull.new.port) c.self.view_is c.pull_on-pull.ensures.port

@@ -1,0 +1,21 @@
+-- A call that gives nothing has a row that is fine.
+use Rattle.std.proofs.Common.{◌≡◌, ℕ, refl}
+use Rattle.mpx_match.specs.declared.faults.Verdict.{Verdict}
+use Rattle.mpx_match.specs.declared.faults.Verdict.TheVariants as V
+use Rattle.mpx_match.specs.Verdicts.{verdict}
+use Rattle.mpx_match.proofs.FirstFault.{verdict-fine}
+use Rattle.mpx_name.specs.Name.{Name}
+use Rattle.mpx_post.specs.Births.{BirthView}
+use Rattle.mpx_post.specs.Rows.{RowView}
+use Rattle.mpx_post.specs.Agreement.{IsFineWith}
+use Rattle.mpx_value.specs.declared.outcomes.Outcome.{Outcome}
+use Rattle.mpx_value.specs.declared.outcomes.Outcome.TheVariants.{Nothing}
+use Rattle.mpx_value.specs.Values.{given_to, or_fault, value}
+
+by_verdict : (v : Verdict) (given : Outcome) → or_fault v given ≡ Nothing → v ≡ V.Fine
+by_verdict V.Fine given e = refl
+by_verdict (V.Fault fault) given e = cc e
+
+pub nothing-fine : (birth : BirthView) (row : RowView) (name : Name) (call rank : ℕ) → value birth row name call rank ≡ Nothing → IsFineWith birth.topology row
+unfolding value
+nothing-fine birth row name call rank e = verdict-fine birth.topology row (by_verdict (verdict birth.topology row) (given_to birth row name call rank) e)

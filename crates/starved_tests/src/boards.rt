@@ -1,0 +1,189 @@
+//! Boards that are tried, and what changes them.
+use crate::drafts::post_of;
+use crate::names::{child, next_child};
+use crate::trial::Trial;
+use crate::trouble::{Trouble, both, filled, taken, tight};
+use join_core::Exact;
+use mpx_board::Board;
+use mpx_delta::{deltas, digest_of};
+use mpx_group::Proc;
+use mpx_name::Name;
+use mpx_post::{Birth, Kind, Post};
+use std::alloc::Global;
+use test_drafts::proc;
+
+// The world has three members, of which two have posted, one has harvested, and one acknowledges.
+fn fill(alloc: Global, board: &mut Board, world: &Name) -> Result<(), Trouble> {
+    board.add_birth(alloc, world, Birth::world(alloc, 3)?)?;
+    for number in 0..2 {
+        let post = post_of(alloc, Kind::Allreduce)?;
+        board.join_post(alloc, world, 0, proc(number), post)?;
+    }
+    board.raise_front(alloc, world, proc(1), 2)?;
+    board.raise_ack(alloc, proc(2), world, proc(0), 1)?;
+    Ok(())
+}
+
+// The context has two members, of which one has posted that it frees it. Where it is dead, nothing is left of that.
+fn fill_freed(alloc: Global, board: &mut Board, name: &Name, is_dead: bool) -> Result<(), Trouble> {
+    board.add_birth(alloc, name, born(alloc)?)?;
+    board.join_post(alloc, name, 0, proc(0), post_of(alloc, Kind::Free)?)?;
+    if is_dead {
+        board.kill(name)?;
+    }
+    Ok(())
+}
+
+// So it is with the next child of the world.
+fn free_next(alloc: Global, board: &mut Board, is_dead: bool) -> Result<(), Trouble> {
+    let name = next_child(alloc)?;
+    let done = fill_freed(alloc, board, &name, is_dead);
+    drop(name);
+    done
+}
+
+// The third has posted too, and again, and the first acknowledges; and a child of the world has a front.
+fn fill_other(alloc: Global, board: &mut Board, world: &Name, child: &Name) -> Result<(), Trouble> {
+    for call in 0..2 {
+        let post = post_of(alloc, Kind::Alltoallv)?;
+        board.join_post(alloc, world, call, proc(2), post)?;
+    }
+    board.raise_front(alloc, child, proc(0), 1)?;
+    board.raise_ack(alloc, proc(0), world, proc(2), 2)?;
+    Ok(())
+}
+
+/// The board of a world of three members.
+pub fn some_board(alloc: Global) -> Result<Board, Trouble> {
+    let (mut board, world) = (Board::new(alloc), Name::world(alloc));
+    let done = fill(alloc, &mut board, &world);
+    drop(world);
+    let freed = free_next(alloc, &mut board, false);
+    tight(alloc, board, done.and(freed))
+}
+
+/// The board of another process there.
+pub fn other_board(alloc: Global) -> Result<Board, Trouble> {
+    let child = child(alloc)?;
+    let (mut board, world) = (Board::new(alloc), Name::world(alloc));
+    let done = fill_other(alloc, &mut board, &world, &child);
+    drop(child);
+    drop(world);
+    let freed = free_next(alloc, &mut board, true);
+    tight(alloc, board, done.and(freed))
+}
+
+pub enum BoardCall {
+    JoinPost,
+    AddPost,
+    AddBirth,
+    RaiseFront,
+    RaiseAck,
+    RaiseAcks,
+    Deltas,
+}
+
+// A board, what is told of it, and of which contexts.
+#[derive(Drop)]
+pub struct Told {
+    board: Board,
+    posts: Vec<Post>,
+    births: Vec<Birth>,
+    world: Name,
+    child: Name,
+}
+
+// A context that is new to the board gets a post.
+fn add_post(alloc: Global, told: &mut Told) -> Result<(), Trouble> {
+    let post = taken(&mut told.posts)?;
+    Ok(told.board.add_post(alloc, &told.child, 3, proc(1), post)?)
+}
+
+fn join_post(alloc: Global, told: &mut Told) -> Result<(), Trouble> {
+    let post = taken(&mut told.posts)?;
+    Ok(told.board.join_post(alloc, &told.world, 1, proc(1), post)?)
+}
+
+fn add_birth(alloc: Global, told: &mut Told) -> Result<(), Trouble> {
+    let birth = taken(&mut told.births)?;
+    Ok(told.board.add_birth(alloc, &told.child, birth)?)
+}
+
+// A process says what the board has.
+fn raise_acks(alloc: Global, board: &mut Board, process: Proc) -> Result<(), Trouble> {
+    let digest = digest_of(alloc, board)?;
+    let raised = board.raise_acks(alloc, process, &digest);
+    drop(digest);
+    Ok(raised?)
+}
+
+fn acknowledge(alloc: Global, board: &mut Board) -> Result<(), Trouble> {
+    drop(deltas(alloc, board, Proc::new(0), 3, 524_288)?);
+    Ok(())
+}
+
+fn fill_told(alloc: Global, told: &mut Told) -> Result<(), Trouble> {
+    for _time in 0..2 {
+        told.posts.push(post_of(alloc, Kind::Barrier)?)?;
+        told.births.push(born(alloc)?)?;
+    }
+    Ok(())
+}
+
+impl Trial for BoardCall {
+    type State = Told;
+
+    type Made = ();
+
+    fn start(&self, alloc: Global) -> Result<Told, Trouble> {
+        let (board, child) = both(some_board(alloc), child(alloc))?;
+        let mut told = Told {
+            board,
+            posts: Vec::new(alloc),
+            births: Vec::new(alloc),
+            world: Name::world(alloc),
+            child,
+        };
+        let done = fill_told(alloc, &mut told);
+        filled(told, done)
+    }
+
+    fn call(&self, alloc: Global, told: &mut Told) -> Result<(), Trouble> {
+        match self {
+            BoardCall::JoinPost => join_post(alloc, told),
+            BoardCall::AddPost => add_post(alloc, told),
+            BoardCall::AddBirth => add_birth(alloc, told),
+            BoardCall::RaiseFront => { Ok(told.board.raise_front(alloc, &told.child, proc(2), 4)?) }
+            BoardCall::RaiseAck => {
+                Ok(
+                    told.board
+                        .raise_ack(alloc, proc(1), &told.child, proc(2), 4)?,
+                )
+            }
+            BoardCall::RaiseAcks => raise_acks(alloc, &mut told.board, proc(2)),
+            BoardCall::Deltas => acknowledge(alloc, &mut told.board),
+        }
+    }
+
+    fn are_same(&self, one: &Told, other: &Told) -> bool {
+        one.board.same(&other.board)
+    }
+
+    fn are_alike(&self, _one: &(), _other: &()) -> bool {
+        true
+    }
+}
+
+fn born(alloc: Global) -> Result<Birth, Trouble> {
+    Ok(Birth::world(alloc, 2)?)
+}
+
+pub const BOARD_CALLS: &[(&str, BoardCall)] = &[
+    ("mpx_board Board::join_post", BoardCall::JoinPost),
+    ("mpx_board Board::add_post", BoardCall::AddPost),
+    ("mpx_board Board::add_birth", BoardCall::AddBirth),
+    ("mpx_board Board::raise_front", BoardCall::RaiseFront),
+    ("mpx_board Board::raise_ack", BoardCall::RaiseAck),
+    ("mpx_board Board::raise_acks, raised", BoardCall::RaiseAcks),
+    ("mpx_delta deltas, new_list", BoardCall::Deltas),
+];

@@ -1,0 +1,96 @@
+//! Copies, joins and deltas of two values, whatever they are.
+use crate::notes::Called;
+use crate::trial::{Trial, tries};
+use crate::trouble::{Trouble, both};
+use join_core::Join;
+use std::alloc::Global;
+use std::marker::PhantomData;
+use std::process::Abort;
+use std::test::Fail;
+
+#[derive(Drop)]
+enum JoinCall {
+    Copy,
+    Joined,
+    Delta,
+    JoinIn,
+}
+
+/// A join of which there are two values to be tried with.
+pub trait Sample: Join {
+    /// The one of the two values, and the other.
+    fn sample(alloc: Global, other: bool) -> Result<Self, Trouble>;
+}
+
+#[derive(Drop)]
+struct Joining<J> {
+    call: JoinCall,
+    of: PhantomData<J>,
+}
+
+impl<J: Sample> Trial for Joining<J> {
+    type State = (J, J);
+
+    type Made = Option<J>;
+
+    fn start(&self, alloc: Global) -> Result<(J, J), Trouble> {
+        both(J::sample(alloc, false), J::sample(alloc, true))
+    }
+
+    fn call(&self, alloc: Global, state: &mut (J, J)) -> Result<Option<J>, Trouble> {
+        match self.call {
+            JoinCall::Copy => Ok(Some(state.0.copy(alloc)?)),
+            JoinCall::Joined => Ok(Some(state.0.joined(alloc, &state.1)?)),
+            JoinCall::Delta => Ok(Some(state.0.delta(alloc, &state.1)?)),
+            JoinCall::JoinIn => {
+                state.0.join_in(alloc, &state.1)?;
+                Ok(None)
+            }
+        }
+    }
+
+    fn are_same(&self, one: &(J, J), other: &(J, J)) -> bool {
+        one.0.same(&other.0) && one.1.same(&other.1)
+    }
+
+    fn are_alike(&self, one: &Option<J>, other: &Option<J>) -> bool {
+        match (one, other) {
+            (None, None) => true,
+            (Some(one), Some(other)) => one.same(other),
+            (None, Some(_)) => false,
+            (Some(_), None) => false,
+        }
+    }
+
+    // A join in place may leave what stands between.
+    fn is_kept(&self, left: &(J, J), before: &(J, J), whole: &(J, J)) -> bool {
+        match self.call {
+            JoinCall::JoinIn => {
+                before.0.leq(&left.0) && left.0.leq(&whole.0) && left.1.same(&before.1)
+            }
+            _ => self.are_same(left, before),
+        }
+    }
+}
+
+fn tries_one<J: Sample, R: Abort>(
+    rt: &R,
+    alloc: Global,
+    name: Called<'_>,
+    call: JoinCall,
+) -> Result<(), Fail> {
+    let of = PhantomData;
+    tries(rt, alloc, name, &Joining::<J> { call, of })
+}
+
+/// The calls of this type.
+pub fn joins_stay<J: Sample, R: Abort>(rt: &R, alloc: Global, of: &str) -> Result<(), Fail> {
+    let name = "copy";
+    tries_one::<J, R>(rt, alloc, Called { of, name }, JoinCall::Copy)?;
+    let name = "joined";
+    tries_one::<J, R>(rt, alloc, Called { of, name }, JoinCall::Joined)?;
+    let name = "delta";
+    tries_one::<J, R>(rt, alloc, Called { of, name }, JoinCall::Delta)?;
+    let name = "join_in";
+    tries_one::<J, R>(rt, alloc, Called { of, name }, JoinCall::JoinIn)
+}

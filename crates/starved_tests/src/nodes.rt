@@ -1,0 +1,258 @@
+//! The steps of one process.
+use crate::drafts::{add_drafts, draft_of};
+use crate::groups::group;
+use crate::names::{child, gathering};
+use crate::same::{is_between, same_boards, same_finished, same_nodes};
+use crate::trial::Trial;
+use crate::trouble::{Trouble, filled, put, taken};
+use join_core::Exact;
+use mpx_board::Board;
+use mpx_group::Proc;
+use mpx_name::Name;
+use mpx_node::{Finished, Harvest, Node};
+use mpx_post::{Draft, Kind};
+use std::alloc::Global;
+
+pub enum NodeCall {
+    New,
+    Post,
+    OpenGathering,
+    Harvest,
+    /// Of a call that makes a communicator.
+    HarvestChild,
+    Take,
+    /// Of a part that brings nothing new, which takes no memory.
+    TakeAgain,
+    Part,
+    Parts,
+    Deltas,
+    CopyFinished,
+}
+
+// Process 0 of two, which knows that both have posted a call, a part with more of the other, drafts, and some contexts.
+#[derive(Drop)]
+pub struct Stand {
+    node: Node,
+    part: Board,
+    drafts: Vec<Draft>,
+    names: Vec<Name>,
+}
+
+#[derive(Drop)]
+pub enum NodeMade {
+    Nothing,
+    Node(Node),
+    Call(u32),
+    Opened(Name),
+    Harvest(Harvest),
+    Board(Board),
+    Boards(Vec<Board>),
+    Finished(Finished),
+}
+
+/// Process 0 or 1 of two ranks.
+pub fn node_of(alloc: Global, is_first: bool) -> Result<Node, Trouble> {
+    if is_first {
+        Ok(Node::new(alloc, Proc::new(0), 2, 2)?)
+    } else {
+        Ok(Node::new(alloc, Proc::new(1), 2, 2)?)
+    }
+}
+
+fn post(alloc: Global, world: &Name, node: &mut Node, kind: Kind) -> Result<(), Trouble> {
+    node.post(alloc, world, draft_of(alloc, kind)?)?;
+    Ok(())
+}
+
+// Both post a call of the kind, which the first takes; then the other posts once more.
+fn exchange(
+    alloc: Global,
+    world: &Name,
+    node: &mut Node,
+    other: &mut Node,
+    kind: Kind,
+) -> Result<Board, Trouble> {
+    post(alloc, world, node, kind)?;
+    post(alloc, world, other, kind)?;
+    node.take(alloc, other.board())?;
+    post(alloc, world, other, Kind::Barrier)?;
+    Ok(other.board().copy(alloc)?)
+}
+
+// The part with more of another node, which has exchanged with this one.
+fn exchanged(alloc: Global, node: &mut Node, kind: Kind) -> Result<Board, Trouble> {
+    let mut other = node_of(alloc, false)?;
+    let world = Name::world(alloc);
+    let part = exchange(alloc, &world, node, &mut other, kind);
+    drop(world);
+    drop(other);
+    part
+}
+
+// The gathering of both ranks.
+fn gathered(alloc: Global) -> Result<Name, Trouble> {
+    let members = group(alloc, &[1, 0])?;
+    let world = Name::world(alloc);
+    let name = gathering(alloc, &world, &members);
+    drop(world);
+    drop(members);
+    name
+}
+
+/// Adds the world, its first child, and a gathering.
+pub fn add_contexts(alloc: Global, names: &mut Vec<Name>) -> Result<(), Trouble> {
+    names.push(gathered(alloc)?)?;
+    names.push(child(alloc)?)?;
+    names.push(Name::world(alloc))?;
+    Ok(())
+}
+
+/// The world, its first child, and a gathering.
+pub fn contexts(alloc: Global) -> Result<Vec<Name>, Trouble> {
+    let mut names = Vec::new(alloc);
+    let done = add_contexts(alloc, &mut names);
+    filled(names, done)
+}
+
+fn kind_of(call: &NodeCall) -> Kind {
+    match call {
+        NodeCall::HarvestChild => Kind::Split,
+        _ => Kind::Allreduce,
+    }
+}
+
+// The draft is the next call on the world.
+fn post_next(alloc: Global, stand: &mut Stand) -> Result<NodeMade, Trouble> {
+    let draft = taken(&mut stand.drafts)?;
+    let world = Name::world(alloc);
+    let call = stand.node.post(alloc, &world, draft);
+    drop(world);
+    Ok(NodeMade::Call(call?))
+}
+
+// The next call on the world.
+fn harvest(alloc: Global, node: &mut Node) -> Result<Harvest, Trouble> {
+    let world = Name::world(alloc);
+    let harvest = node.harvest(alloc, &world);
+    drop(world);
+    Ok(harvest?)
+}
+
+fn open(alloc: Global, node: &mut Node) -> Result<NodeMade, Trouble> {
+    let world = Name::world(alloc);
+    let name = node.open_gathering(alloc, &world, 9, &[1, 0]);
+    drop(world);
+    Ok(NodeMade::Opened(name?))
+}
+
+fn take(alloc: Global, stand: &mut Stand) -> Result<NodeMade, Trouble> {
+    stand.node.take(alloc, &stand.part)?;
+    Ok(NodeMade::Nothing)
+}
+
+// The result of the first call once more.
+fn copy_finished(alloc: Global, node: &Node) -> Result<NodeMade, Trouble> {
+    let world = Name::world(alloc);
+    let finished = node.result(&world, 0);
+    drop(world);
+    match finished {
+        Some(finished) => Ok(NodeMade::Finished(finished.copy(alloc)?)),
+        None => Err(Trouble::Refused),
+    }
+}
+
+// Stores the result of the first call, or takes the part, where the call asks for that.
+fn prepared(alloc: Global, call: &NodeCall, node: &mut Node, part: &Board) -> Result<(), Trouble> {
+    match call {
+        NodeCall::CopyFinished => {
+            harvest(alloc, node)?;
+            Ok(())
+        }
+        NodeCall::TakeAgain => Ok(node.take(alloc, part)?),
+        _ => Ok(()),
+    }
+}
+
+fn fill(alloc: Global, call: &NodeCall, stand: &mut Stand) -> Result<(), Trouble> {
+    add_drafts(alloc, &mut stand.drafts, Kind::Allreduce)?;
+    add_contexts(alloc, &mut stand.names)?;
+    let part = exchanged(alloc, &mut stand.node, kind_of(call));
+    put(&mut stand.part, part)?;
+    prepared(alloc, call, &mut stand.node, &stand.part)
+}
+
+impl Trial for NodeCall {
+    type State = Stand;
+
+    type Made = NodeMade;
+
+    fn start(&self, alloc: Global) -> Result<Stand, Trouble> {
+        let mut stand = Stand {
+            node: node_of(alloc, true)?,
+            part: Board::new(alloc),
+            drafts: Vec::new(alloc),
+            names: Vec::new(alloc),
+        };
+        let done = fill(alloc, self, &mut stand);
+        filled(stand, done)
+    }
+
+    fn call(&self, alloc: Global, stand: &mut Stand) -> Result<NodeMade, Trouble> {
+        match self {
+            NodeCall::New => Ok(NodeMade::Node(node_of(alloc, false)?)),
+            NodeCall::Post => post_next(alloc, stand),
+            NodeCall::OpenGathering => open(alloc, &mut stand.node),
+            NodeCall::Harvest => Ok(NodeMade::Harvest(harvest(alloc, &mut stand.node)?)),
+            NodeCall::HarvestChild => Ok(NodeMade::Harvest(harvest(alloc, &mut stand.node)?)),
+            NodeCall::Take => take(alloc, stand),
+            NodeCall::TakeAgain => take(alloc, stand),
+            NodeCall::Part => Ok(NodeMade::Board(stand.node.part(alloc, 524_288)?)),
+            NodeCall::Parts => Ok(NodeMade::Boards(stand.node.parts(alloc, 524_288)?)),
+            NodeCall::Deltas => Ok(NodeMade::Boards(stand.node.deltas(alloc, 524_288)?)),
+            NodeCall::CopyFinished => copy_finished(alloc, &stand.node),
+        }
+    }
+
+    fn are_same(&self, one: &Stand, other: &Stand) -> bool {
+        same_nodes(&one.node, &other.node, &one.names) && one.part.same(&other.part)
+    }
+
+    fn are_alike(&self, one: &NodeMade, other: &NodeMade) -> bool {
+        match (one, other) {
+            (NodeMade::Nothing, NodeMade::Nothing) => true,
+            (NodeMade::Node(one), NodeMade::Node(other)) => same_nodes(one, other, &[]),
+            (NodeMade::Call(one), NodeMade::Call(other)) => one == other,
+            (NodeMade::Opened(one), NodeMade::Opened(other)) => one == other,
+            (NodeMade::Harvest(one), NodeMade::Harvest(other)) => one == other,
+            (NodeMade::Board(one), NodeMade::Board(other)) => one.same(other),
+            (NodeMade::Boards(one), NodeMade::Boards(other)) => same_boards(one, other),
+            (NodeMade::Finished(one), NodeMade::Finished(other)) => same_finished(one, other),
+            _ => false,
+        }
+    }
+
+    // A take may leave what stands between.
+    fn is_kept(&self, left: &Stand, before: &Stand, whole: &Stand) -> bool {
+        match self {
+            NodeCall::Take => is_between(&left.node, &before.node, &whole.node, &left.names),
+            _ => self.are_same(left, before),
+        }
+    }
+}
+
+pub const NODE_CALLS: &[(&str, NodeCall)] = &[
+    ("Node::new", NodeCall::New),
+    ("Node::post", NodeCall::Post),
+    ("Node::open_gathering", NodeCall::OpenGathering),
+    ("Node::harvest", NodeCall::Harvest),
+    (
+        "Node::harvest of a new communicator",
+        NodeCall::HarvestChild,
+    ),
+    ("Node::take", NodeCall::Take),
+    ("Node::take of nothing new", NodeCall::TakeAgain),
+    ("Node::part", NodeCall::Part),
+    ("Node::parts", NodeCall::Parts),
+    ("Node::deltas, lacking", NodeCall::Deltas),
+    ("Finished::copy", NodeCall::CopyFinished),
+];

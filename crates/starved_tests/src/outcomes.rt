@@ -1,0 +1,202 @@
+//! What calls give, and which communicators they make, by the posts of two ranks.
+use crate::births::all_near;
+use crate::drafts::post_of;
+use crate::same::same_outcomes;
+use crate::trial::Trial;
+use crate::trouble::{Trouble, both, tight};
+use join_core::Exact;
+use mpx_board::Board;
+use mpx_name::Name;
+use mpx_post::{Birth, Kind, Row};
+use mpx_value::{Outcome, children, outcome};
+use std::alloc::Global;
+use test_drafts::proc;
+
+/// A call of this kind.
+pub enum ValueCall {
+    /// What it gives the second rank.
+    Outcome(Kind),
+    /// That once more.
+    Copy(Kind),
+    Children(Kind),
+}
+
+#[derive(Drop)]
+pub struct Posted {
+    board: Board,
+    birth: Birth,
+    given: Outcome,
+}
+
+#[derive(Drop)]
+pub enum ValueMade {
+    Outcome(Outcome),
+    Children(Vec<(Name, Birth)>),
+}
+
+fn kind_of(call: &ValueCall) -> Kind {
+    match call {
+        ValueCall::Outcome(kind) => *kind,
+        ValueCall::Copy(kind) => *kind,
+        ValueCall::Children(kind) => *kind,
+    }
+}
+
+// Both ranks' posts to the first call.
+fn fill(alloc: Global, board: &mut Board, world: &Name, kind: Kind) -> Result<(), Trouble> {
+    board.add_birth(alloc, world, all_near(alloc)?)?;
+    for number in 0..2 {
+        let post = post_of(alloc, kind)?;
+        board.join_post(alloc, world, 0, proc(number), post)?;
+    }
+    Ok(())
+}
+
+fn board_of(alloc: Global, kind: Kind) -> Result<Board, Trouble> {
+    let (mut board, world) = (Board::new(alloc), Name::world(alloc));
+    let done = fill(alloc, &mut board, &world, kind);
+    drop(world);
+    tight(alloc, board, done)
+}
+
+// What the row gives the second rank.
+fn outcome_of(alloc: Global, birth: &Birth, row: &Row<'_>) -> Result<Outcome, Trouble> {
+    if row.len() != birth.members().len() || row.len() < 2 {
+        return Err(Trouble::Refused);
+    }
+    let world = Name::world(alloc);
+    let given = outcome(alloc, birth, row, &world, 0, 1);
+    drop(world);
+    Ok(given?)
+}
+
+fn children_of(alloc: Global, birth: &Birth, row: &Row<'_>) -> Result<Vec<(Name, Birth)>, Trouble> {
+    if row.len() != birth.members().len() {
+        return Err(Trouble::Refused);
+    }
+    let world = Name::world(alloc);
+    let made = children(alloc, birth, row, &world, 0);
+    drop(world);
+    Ok(made?)
+}
+
+// The posts of the first call.
+fn row_of(alloc: Global, board: &Board) -> Result<Row<'_>, Trouble> {
+    let world = Name::world(alloc);
+    let row = board.row(alloc, &world, 0);
+    drop(world);
+    match row? {
+        Some(row) => Ok(row),
+        None => Err(Trouble::Refused),
+    }
+}
+
+fn given_by(alloc: Global, board: &Board, birth: &Birth) -> Result<Outcome, Trouble> {
+    let row = row_of(alloc, board)?;
+    let given = outcome_of(alloc, birth, &row);
+    drop(row);
+    given
+}
+
+fn made_by(alloc: Global, board: &Board, birth: &Birth) -> Result<Vec<(Name, Birth)>, Trouble> {
+    let row = row_of(alloc, board)?;
+    let made = children_of(alloc, birth, &row);
+    drop(row);
+    made
+}
+
+// Beside what a call of the kind gives.
+fn with_given(
+    board: Board,
+    birth: Birth,
+    given: Result<Outcome, Trouble>,
+) -> Result<Posted, Trouble> {
+    match given {
+        Ok(given) => Ok(Posted {
+            board,
+            birth,
+            given,
+        }),
+        Err(e) => {
+            drop(board);
+            drop(birth);
+            Err(e)
+        }
+    }
+}
+
+fn same_children(one: &[(Name, Birth)], other: &[(Name, Birth)]) -> bool {
+    for (one, other) in one.iter().zip(other) {
+        if !(one.0.same(&other.0) && one.1.same(&other.1)) {
+            return false;
+        }
+    }
+    one.len() == other.len()
+}
+
+impl Trial for ValueCall {
+    type State = Posted;
+
+    type Made = ValueMade;
+
+    fn start(&self, alloc: Global) -> Result<Posted, Trouble> {
+        let kind = kind_of(self);
+        let (board, birth) = both(board_of(alloc, kind), all_near(alloc))?;
+        let given = given_by(alloc, &board, &birth);
+        with_given(board, birth, given)
+    }
+
+    fn call(&self, alloc: Global, posted: &mut Posted) -> Result<ValueMade, Trouble> {
+        let (board, birth) = (&posted.board, &posted.birth);
+        match self {
+            ValueCall::Outcome(_) => Ok(ValueMade::Outcome(given_by(alloc, board, birth)?)),
+            ValueCall::Copy(_) => Ok(ValueMade::Outcome(posted.given.copy(alloc)?)),
+            ValueCall::Children(_) => Ok(ValueMade::Children(made_by(alloc, board, birth)?)),
+        }
+    }
+
+    fn are_same(&self, one: &Posted, other: &Posted) -> bool {
+        one.board.same(&other.board)
+            && one.birth.same(&other.birth)
+            && same_outcomes(&one.given, &other.given)
+    }
+
+    fn are_alike(&self, one: &ValueMade, other: &ValueMade) -> bool {
+        match (one, other) {
+            (ValueMade::Outcome(one), ValueMade::Outcome(other)) => same_outcomes(one, other),
+            (ValueMade::Children(one), ValueMade::Children(other)) => same_children(one, other),
+            _ => false,
+        }
+    }
+}
+
+pub const VALUE_CALLS: &[(&str, ValueCall)] = &[
+    (
+        "outcome, mpx_fold fold_value",
+        ValueCall::Outcome(Kind::Allreduce),
+    ),
+    (
+        "outcome, mpx_move move_value",
+        ValueCall::Outcome(Kind::Alltoallv),
+    ),
+    (
+        "outcome, mpx_neigh neigh_value",
+        ValueCall::Outcome(Kind::NeighborAlltoallv),
+    ),
+    (
+        "outcome of a new communicator",
+        ValueCall::Outcome(Kind::Split),
+    ),
+    ("Outcome::copy", ValueCall::Copy(Kind::Split)),
+    ("children of dup", ValueCall::Children(Kind::Dup)),
+    ("children of split", ValueCall::Children(Kind::Split)),
+    ("children of create", ValueCall::Children(Kind::Create)),
+    (
+        "children, mpx_graph topology_general",
+        ValueCall::Children(Kind::DistGraph),
+    ),
+    (
+        "children, mpx_graph topology_adjacent",
+        ValueCall::Children(Kind::DistGraphAdjacent),
+    ),
+];

@@ -1,0 +1,100 @@
+//! A call that may lack memory, tried on a state of its own.
+use crate::notes::{Called, note};
+use crate::trouble::Trouble;
+use std::alloc::Global;
+use std::process::Abort;
+use std::test::Fail;
+
+/// A call of the library, with the state that it is made on.
+pub trait Trial {
+    /// What the call is made on.
+    type State: Drop;
+
+    /// What it answers.
+    type Made: Drop;
+
+    /// The state before the call, the same each time.
+    fn start(&self, alloc: Global) -> Result<Self::State, Trouble>;
+
+    /// The call.
+    fn call(&self, alloc: Global, state: &mut Self::State) -> Result<Self::Made, Trouble>;
+
+    /// Whether two states are the same.
+    fn are_same(&self, one: &Self::State, other: &Self::State) -> bool;
+
+    /// Whether two answers are the same.
+    fn are_alike(&self, one: &Self::Made, other: &Self::Made) -> bool;
+
+    /// Whether the call may have left this where memory was wanting: the state before it, if nothing else is said of the call. `whole`
+    /// is what it leaves with memory enough.
+    fn is_kept(&self, left: &Self::State, before: &Self::State, _whole: &Self::State) -> bool {
+        self.are_same(left, before)
+    }
+}
+
+/// Makes the call with memory enough, and then where it may be wanting, and once more where it was: what was left is what may be, and
+/// in the end the answer and the state are those with memory enough.
+pub fn tries<T: Trial, R: Abort>(
+    rt: &R,
+    alloc: Global,
+    name: Called<'_>,
+    trial: &T,
+) -> Result<(), Fail> {
+    let before = trial.start(alloc)?;
+    let mut whole = trial.start(alloc)?;
+    let wanted = trial.call(alloc, &mut whole)?;
+    let mut state = trial.start(alloc)?;
+    let made = called(rt, alloc, name, trial, &mut state, &before, &whole)?;
+    assert!(rt;
+        trial.are_alike(&made, &wanted),
+        "{}: another answer",
+        name.name
+    );
+    assert!(rt;
+        trial.are_same(&state, &whole),
+        "{}: another state",
+        name.name
+    );
+    Ok(())
+}
+
+// The call, which is made again where memory was wanting.
+fn called<T: Trial, R: Abort>(
+    rt: &R,
+    alloc: Global,
+    name: Called<'_>,
+    trial: &T,
+    state: &mut T::State,
+    before: &T::State,
+    whole: &T::State,
+) -> Result<T::Made, Fail> {
+    note(alloc, "begins ", name);
+    let first = trial.call(alloc, state);
+    note(alloc, "ends ", name);
+    match first {
+        Ok(made) => Ok(made),
+        Err(Trouble::OutOfMemory) => {
+            assert!(rt;
+                trial.is_kept(state, before, whole),
+                "{}: the state isn't kept",
+                name.name
+            );
+            note(alloc, "kept ", name);
+            Ok(trial.call(alloc, state)?)
+        }
+        Err(Trouble::Refused) => Err(Fail::from("refused")),
+    }
+}
+
+/// The same of each of these calls, which are of this crate.
+pub fn tries_each<T: Trial, R: Abort>(
+    rt: &R,
+    alloc: Global,
+    of: &str,
+    trials: &[(&str, T)],
+) -> Result<(), Fail> {
+    for (name, trial) in trials {
+        tries(rt, alloc, Called { of, name: *name }, trial)?;
+    }
+    Ok(())
+}
