@@ -11,6 +11,7 @@ pub mod KeyedLaws
 pub mod Cut
 pub mod TruncLaws
 pub mod Between
+pub mod Passed
 pub mod Lift
 pub mod LiftSeen
 pub mod LiftLaws

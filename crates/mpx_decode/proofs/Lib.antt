@@ -3,3 +3,4 @@ pub mod Members
 pub mod Signed
 pub mod Integers
 pub mod PostLimits
+pub mod RightRows

@@ -12,6 +12,7 @@ use crate::entries::{WireKey, WireValue, read_entries};
 use crate::fields::{read_process, read_some_byte, read_some_calls, read_some_names};
 use crate::names::read_name;
 use crate::numbers::read_u8;
+use crate::rows::read_rows;
 use join_core::Max;
 use join_nest::Keyed;
 use mpx_board::{Acks, VersionVector};
@@ -76,7 +77,7 @@ impl WireValue for VersionVector {
         bytes: &[u8],
     ) -> Result<(VersionVector, &[u8]), ReadError> {
         let (count, rest) = read_some_byte(bytes)?;
-        let (entries, rest) = read_entries(version, alloc, &None, count as usize, rest)?;
+        let (entries, rest) = read_rows(version, alloc, count as usize, rest)?;
         Ok((Keyed::from_rising(entries), rest))
     }
 }

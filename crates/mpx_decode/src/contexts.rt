@@ -14,6 +14,7 @@ use crate::acks::read_all_acks;
 use crate::entries::{WireKey, WireValue, read_entries};
 use crate::fields::{read_call, read_name_count, read_some_byte};
 use crate::numbers::{read_u8, read_u32};
+use crate::rows::read_rows;
 use join_core::{Exact, Flat, Pair};
 use join_nest::{Keyed, Lift, Trunc};
 use mpx_board::{Call, Entry, Lifted, Parts, VersionVector, is_said, is_told};
@@ -100,7 +101,7 @@ fn read_fronts(
     ensures { Gives (λ x. (⟦<VersionVector as Exact>⟧.view x.0, x.1.now)) result (fronts.read bytes.now) }
 {
     let (count, rest) = read_u8(bytes)?;
-    let (entries, rest) = read_entries(version, alloc, &None, count as usize, rest)?;
+    let (entries, rest) = read_rows(version, alloc, count as usize, rest)?;
     Ok((Keyed::from_rising(entries), rest))
 }
 

@@ -16,6 +16,7 @@ mod names;
 mod neighbours;
 mod numbers;
 mod posts;
+mod rows;
 
 pub use codes::read_version;
 pub use contexts::read_parts;

@@ -6,3 +6,4 @@ pub mod Lesser
 pub mod Reaching
 pub mod Gaps
 pub mod Saying
+pub mod Telling

@@ -11,7 +11,7 @@ ghost use Rattle.mpx_delta.specs.Lacking.{IsLacking};
 
 use crate::delta::lean_board;
 use crate::digest::{Digest, digest_of};
-use crate::least::common;
+use crate::posted::common_of_posts;
 use join_core::OutOfMemory;
 use mpx_board::{Board, Raised};
 use mpx_encode::frame_len;
@@ -122,7 +122,7 @@ fn lean_by_all(
     requires few { processes ≤ 64 }
     ensures { IfOk result (λ made. look made ≡ without (common_on processes (look said)) (record (look board.now) { acks = (look said).acks })) }
 {
-    match common(alloc, &said, processes) {
+    match common_of_posts(alloc, board, &said, processes) {
         Ok(digest) => lean_board(alloc, board, said, &digest),
         Err(e) => {
             drop(said);

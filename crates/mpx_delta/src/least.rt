@@ -123,7 +123,7 @@ fn least_numbers(
 }
 
 // The first place from this one on whose key isn't smaller.
-fn place_from<K: Key, J>(entries: &[(K, J)], from: usize, key: &K) -> usize {
+pub fn place_from<K: Key, J>(entries: &[(K, J)], from: usize, key: &K) -> usize {
     let mut at = from;
     while at < entries.len() && entries[at].0.cmp(key) == Ordering::Less {
         at += 1;
@@ -132,7 +132,7 @@ fn place_from<K: Key, J>(entries: &[(K, J)], from: usize, key: &K) -> usize {
 }
 
 // The value at the key: it is looked for at the place first.
-fn value_near<'a, K: Key, J: Exact>(map: &'a Keyed<K, J>, at: usize, key: &K) -> Option<&'a J>
+pub fn value_near<'a, K: Key, J: Exact>(map: &'a Keyed<K, J>, at: usize, key: &K) -> Option<&'a J>
     ensures { option_map J.view (option_copied result) ≡ get (⟦<Keyed<K, J> as Exact>⟧.view map.now) key.now }
 {
     let entries = map.entries();

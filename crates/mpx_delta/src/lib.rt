@@ -10,6 +10,7 @@ mod delta;
 mod digest;
 mod lacking;
 mod least;
+mod posted;
 
 pub use delta::delta_for;
 pub use digest::{Digest, digest_of};

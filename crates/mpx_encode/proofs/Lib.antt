@@ -8,3 +8,4 @@ pub mod Posts
 pub mod Contexts
 pub mod Frames
 pub mod Encoded
+pub mod Fours

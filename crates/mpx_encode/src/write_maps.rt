@@ -1,5 +1,5 @@
 // Numbers of calls by process, and acknowledgements.
-ghost use Rattle.std.specs.Prelude.{◌≡◌, ◌++◌, ◌-◌, ◌^◌, ◌&&◌, ℕ, true, IfSome, OnOk, length, nat_lt, nat_le};
+ghost use Rattle.std.specs.Prelude.{◌≡◌, ◌++◌, ◌-◌, ◌^◌, ◌&&◌, ℕ, true, IfOk, IfSome, OnOk, length, nat_lt, nat_le};
 ghost use Rattle.std.specs.FinMap.{len};
 ghost use Rattle.mpx_board.specs.Parts.{OfProcesses, AcksView};
 ghost use Rattle.mpx_board.specs.Tidy.{has_no_zero, is_tidy_numbers, is_tidy_acks};
@@ -12,7 +12,6 @@ ghost use Rattle.mpx_encode.specs.Room.{room_left};
 use crate::room::room_left;
 use crate::write_entries::{WriteKey, WriteValue, room_after_counted};
 use crate::write_numbers::{write_u8, write_u32};
-use byteorder::{BigEndian, ByteOrder};
 use join_core::{Max, OutOfMemory};
 use mpx_board::VersionVector;
 use mpx_group::Proc;
@@ -112,24 +111,52 @@ pub fn write_fronts(numbers: &VersionVector, out: &mut Vec<u8>) -> Result<(), Ou
     write_rows(entries, out)
 }
 
-// Writes processes with their numbers at the end.
+// Writes processes with their numbers at the end, four at once as long as there are four.
 fn write_rows(rows: &[(Proc, Max)], out: &mut Vec<u8>) -> Result<(), OutOfMemory>
     ensures { OnOk result (out.new.items ≡ out.old.items ++ entries_spelled process some_calls (seen (λ n. n.0) rows.now)) }
 {
-    for row in rows {
-        write_row(row, out)?;
+    let rest = write_fours(rows, out)?;
+    for row in rest {
+        out.extend_from_slice(&row_bytes(row))?;
     }
     Ok(())
 }
 
-// The five bytes of one at once.
-#[tactic(auto, unfolding(mpx_format::specs::Fields::process, mpx_format::specs::Fields::some_calls))]
-fn write_row(row: &(Proc, Max), out: &mut Vec<u8>) -> Result<(), OutOfMemory>
-    ensures { OnOk result (out.new.items ≡ out.old.items ++ entry_spelled process some_calls (row.now.0, row.now.1.0)) }
+// Writes fours of them at the end, and gives those that are left.
+fn write_fours<'a>(
+    rows: &'a [(Proc, Max)],
+    out: &mut Vec<u8>,
+) -> Result<&'a [(Proc, Max)], OutOfMemory>
+    ensures { IfOk result (λ rest. out.new.items ++ entries_spelled process some_calls (seen (λ n. n.0) rest.now)
+        ≡ out.old.items ++ entries_spelled process some_calls (seen (λ n. n.0) rows.now)) }
 {
-    let mut bytes = [0u8; 5];
-    bytes[0] = row.0.number();
-    BigEndian::write_u32(&mut bytes[1..], row.1.0);
-    out.extend_from_slice(&bytes)?;
-    Ok(())
+    let mut rest = rows;
+    while let Some((four, after)) = rest.split_first_chunk::<4>() {
+        out.extend_from_slice(&four_bytes(four))?;
+        rest = after;
+    }
+    Ok(rest)
+}
+
+// The bytes of four.
+fn four_bytes(rows: &[(Proc, Max); 4]) -> [u8; 20]
+    ensures { result ≡ entries_spelled process some_calls (seen (λ n. n.0) rows.now) }
+{
+    let a = row_bytes(&rows[0]);
+    let b = row_bytes(&rows[1]);
+    let c = row_bytes(&rows[2]);
+    let d = row_bytes(&rows[3]);
+    [
+        a[0], a[1], a[2], a[3], a[4], b[0], b[1], b[2], b[3], b[4], c[0], c[1], c[2], c[3], c[4],
+        d[0], d[1], d[2], d[3], d[4],
+    ]
+}
+
+// The five bytes of one.
+#[tactic(auto, unfolding(mpx_format::specs::Fields::process, mpx_format::specs::Fields::some_calls))]
+fn row_bytes(row: &(Proc, Max)) -> [u8; 5]
+    ensures { result ≡ entry_spelled process some_calls (row.now.0, row.now.1.0) }
+{
+    let number = row.1.0.to_be_bytes();
+    [row.0.number(), number[0], number[1], number[2], number[3]]
 }

@@ -4,5 +4,6 @@ use Rattle.mpx_format.specs.Fields.{process, some_calls}
 use Rattle.mpx_encode.specs.Entries.{entries_spelled}
 use Rattle.mpx_encode.proofs.write_maps.write_rows.Given as goal
 
+-- behind the fours
 abbrev pub invariant-loop-row : goal.invariant-loop-row
-invariant-loop-row l = l.out.items ≡ l.fn.out.items ++ entries_spelled process some_calls (take l.row-index (seen (λ n. n.0) l.rows))
+invariant-loop-row l = l.out.items ≡ l.initial.out.items ++ entries_spelled process some_calls (take l.row-index (seen (λ n. n.0) l.rest))
