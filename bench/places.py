@@ -1,53 +1,73 @@
 #!/usr/bin/env python3
-"""Says which files of sources and definitions docs/ARCHITECTURE.md doesn't name in "Where to find what", and which it names that aren't there.
+"""Holds each crate's page, crates/NAME/README.md, against its files, and docs/ARCHITECTURE.md's table of crates against crates.txt.
 
     bench/places.py
 
-A cell of the table names files by their whole place, as `mpx_sim/src/turns.rt`, and the files beside the last one by their names alone, as
-`frame.rt`. Roots of crates (lib.rt, main.rt, Lib.antt) and the crates of tests needn't be named, and may be."""
+Each file of src/ and specs/ is to be named in the section "Files" of its crate's page, as `src/turns.rt`, and each that is named there is to be there.
+Each crate of crates.txt is to have a page, and a row in the map's table with a link to it, and no other has one. Links from one document to another are to lead
+to a file that is there, and to a heading where they name one."""
 import pathlib
 import re
 import sys
 
 ROOT = pathlib.Path(__file__).resolve().parent.parent
-ROOTS = {"lib.rt", "main.rt", "Lib.antt"}
+CRATES = ROOT / "crates"
+MAP = ROOT / "docs" / "ARCHITECTURE.md"
 
 
-def named():
-    """The places that the table names."""
-    text = (ROOT / "docs" / "ARCHITECTURE.md").read_text()
-    section = text.split("## Where to find what", 1)[1].split("\n## ", 1)[0]
-    for line in section.splitlines():
-        folder = None
-        for word in re.findall(r"`([^`]+)`", line):
-            if re.fullmatch(r"\w+/(src|specs)/\w+\.(rt|antt)", word):
-                folder = word.rpartition("/")[0]
-                yield word
-            elif folder and re.fullmatch(r"\w+\.(rt|antt)", word):
-                yield f"{folder}/{word}"
+def listed():
+    """The crates of crates.txt."""
+    lines = (ROOT / "crates.txt").read_text().splitlines()
+    return {line.partition(":")[0].strip() for line in lines if line.strip() and not line.startswith("#")}
 
 
-def present():
-    """The places that are there."""
-    for crate in sorted((ROOT / "crates").iterdir()):
-        if crate.name.endswith("_tests") or crate.name in ("test_drafts", "tour"):
+def named(page):
+    """The files that a page names in its section "Files"."""
+    section = page.read_text().partition("\n## Files\n")[2].partition("\n## ")[0]
+    return set(re.findall(r"`((?:src|specs)/[\w/]+\.(?:rt|antt))`", section))
+
+
+def present(crate):
+    """The files that are there."""
+    found = (file for folder in ("src", "specs") for file in (CRATES / crate / folder).rglob("*.*"))
+    return {str(file.relative_to(CRATES / crate)) for file in found if file.suffix in (".rt", ".antt")}
+
+
+def anchors(file):
+    """The headings of a document, as links name them."""
+    heads = re.findall(r"^#+ (.*)$", file.read_text(), re.M)
+    return {re.sub(r"[^\w\- ]", "", head.lower()).replace(" ", "-") for head in heads}
+
+
+def lost_links(file):
+    """The links of a document that lead nowhere."""
+    for target in re.findall(r"\]\(([^)\s]+)\)", file.read_text()):
+        place, _, head = target.partition("#")
+        if "://" in target:
             continue
-        for folder in ("src", "specs"):
-            for file in sorted((crate / folder).glob("*.*")):
-                if file.suffix in (".rt", ".antt") and file.name not in ROOTS:
-                    yield f"{crate.name}/{folder}/{file.name}"
+        there = (file.parent / place).resolve() if place else file
+        if not there.exists() or head and there.suffix == ".md" and head not in anchors(there):
+            yield target
 
 
 def main():
-    told, there = set(named()), set(present())
-    missing = sorted(there - told)
-    gone = sorted(place for place in told - there if not (ROOT / "crates" / place).is_file())
-    for place in missing:
-        print(f"{place} isn't named")
-    for place in gone:
-        print(f"{place} isn't there")
-    print(f"{len(there)} files, {len(missing)} not named")
-    return 1 if missing or gone else 0
+    crates, faults = listed(), []
+    folders = {page.parent.name for page in CRATES.glob("*/README.md")}
+    faults += [f"{crate} has no page" for crate in sorted(crates - folders)]
+    faults += [f"{crate} isn't in crates.txt" for crate in sorted(folders - crates)]
+    rows = re.findall(r"\]\(\.\./crates/(\w+)/README\.md\)", MAP.read_text())
+    faults += [f"the map has no row for {crate}" for crate in sorted(crates - set(rows))]
+    faults += [f"the map names {crate} {rows.count(crate)} times" for crate in sorted(set(rows)) if rows.count(crate) > 1]
+    count = 0
+    for crate in sorted(folders):
+        told, there = named(CRATES / crate / "README.md"), present(crate)
+        count += len(there)
+        faults += [f"{crate}/{file} isn't named" for file in sorted(there - told)]
+        faults += [f"{crate}/{file} isn't there" for file in sorted(told - there)]
+    for file in sorted([*ROOT.glob("*.md"), *(page for folder in ("docs", "bench", "crates", "record", "open") for page in (ROOT / folder).rglob("*.md"))]):
+        faults += [f"{file.relative_to(ROOT)}: {target} leads nowhere" for target in lost_links(file)]
+    print("\n".join([*faults, f"{len(folders)} pages, {count} files; {len(faults)} faults"]))
+    return 1 if faults else 0
 
 
 if __name__ == "__main__":

@@ -61,6 +61,8 @@ def combine(op, ty, a, b):
         return max([a, b], key=lambda p: (p[0], -p[1]))
     if op == "minloc":
         return min([a, b])
+    if op == "affine":
+        return (wrap(ty, b[0] * a[0]), wrap(ty, b[0] * a[1] + b[1]))
     a, b = a[0], b[0]
     truth = lambda x: 1 if x else 0
     r = {"max": lambda: max(a, b), "min": lambda: min(a, b), "sum": lambda: a + b, "prod": lambda: a * b,
@@ -69,7 +71,8 @@ def combine(op, ty, a, b):
     return (wrap(ty, r),)
 
 
-OPS = ["max", "min", "sum", "prod", "land", "lor", "lxor", "band", "bor", "bxor", "maxloc", "minloc"]
+OPS = ["max", "min", "sum", "prod", "land", "lor", "lxor", "band", "bor", "bxor", "maxloc", "minloc", "affine"]
+PAIRED = ["maxloc", "minloc", "affine"]
 BYTES, STATEMENTS, STEPS = 1048576, 65536, 8
 
 
@@ -257,7 +260,7 @@ def expected(call, n, me, graph):
 def refusal(call, n, me, depth, graph):
     if call["root"] is not None and not 0 <= call["root"] < n:
         return "RootOutOfRange"
-    if call["op"] and (call["op"] in ("maxloc", "minloc")) != (call["ty"] == "2int"):
+    if call["op"] and (call["op"] in PAIRED) != (call["ty"] == "2int"):
         return "OpNotForType"
     stray = call["kind"] in NEAR and graph is None
     ls, lr, stand = expected(call, n, me, graph)
@@ -589,7 +592,7 @@ def random_call(rng, members, graph, wild):
     kind, ty = rng.choice([k for k in BOTH if k not in (NEAR if graph is None and rng.random() < 0.9 else [])]), rng.choice(list(TYPES))
     if graph is not None and rng.random() < 0.7:
         kind = rng.choice(NEAR)
-    op = rng.choice(["maxloc", "minloc"] if ty == "2int" else ["max", "min", "sum", "prod", "land", "lor", "lxor", "band", "bor", "bxor"])
+    op = rng.choice(PAIRED if ty == "2int" else ["max", "min", "sum", "prod", "land", "lor", "lxor", "band", "bor", "bxor"])
     root, c, width = rng.randrange(n), rng.randint(0, 3), 2 if ty == "2int" else 1
     send = [[rng.randint(0, 3) for _ in range(n)] for _ in range(n)]
     vector = [rng.randint(0, 3) for _ in range(n)]
@@ -621,7 +624,7 @@ def random_call(rng, members, graph, wild):
         if rng.random() < 0.04 * wild:
             words["root"] = str(rng.randint(-1, n))
         if rng.random() < 0.03 * wild:
-            words["op"] = rng.choice(["sum", "maxloc", "max"])
+            words["op"] = rng.choice(["sum", "maxloc", "max", "affine"])
         if rng.random() < 0.03 * wild:
             words["count"] = str(rng.choice([-1, 0, 2, 4096, 4097]))
         if rng.random() < 0.03 * wild:
@@ -774,7 +777,7 @@ NUMBERS = ["", "-", "x", "+1", "1.5", "1,2", "1,", "-0", "007", "i32", "->", "1\
            "-9223372036854775808", "-9223372036854775809", "--1", "1_0"]
 LISTS = ["-", "-w", "0>1", "0>1:2", "0>1:2,1>0", "1:2,0", "0>1>2", "0>", ">1", "0>1:", "1:", "1:2:3", "0 >1", "1,,2", "1,x", ",", "1,", ",1", "--", "1,-1", "0,00", "1", "x", "1,18446744073709551616", "1,\x0b2"]
 NAMES = ["c0", "c1", "c9", "world", "undefined", "->", "Zz", "worlds", "a_1", "_a", "a" * 32, "a" * 33, "1a", "null", "world\r", "World", "w-1", "world:", "r0_1", "r1_2"]
-OTHERS = ["neighbor_alltoall", "neighbor_allgatherv", "sources", "destinations", "isources", "ineighbor_alltoall", "dup", "split", "create", "create_group", "dist_graph", "dist_graph_adjacent", "idup", "undefined", "i33", "f64", "i32", "sum", "avg", "maxloc", "barrier", "ibcast", "iwait", "wait", "waitall", "compare", "translate", "icompare", "ibarrier", "iallreduce", "Barrier", "ranks", "scan", "gatherv", "free", "ifree"]
+OTHERS = ["neighbor_alltoall", "neighbor_allgatherv", "sources", "destinations", "isources", "ineighbor_alltoall", "dup", "split", "create", "create_group", "dist_graph", "dist_graph_adjacent", "idup", "undefined", "i33", "f64", "i32", "sum", "avg", "maxloc", "affine", "barrier", "ibcast", "iwait", "wait", "waitall", "compare", "translate", "icompare", "ibarrier", "iallreduce", "Barrier", "ranks", "scan", "gatherv", "free", "ifree"]
 LABELS = ["*:", "9:", "-1:", "00:", "-0:", "0", "0:barrier", ":", "+0:", "99999999999999999999:", "#", "\xe9", "0::", "*"]
 LINES = ["0: wait", "0: waitall", "0: wait world", "0: wait Q", "0: ibarrier world", "0: ibarrier world ->", "0: ibarrier world 1 -> q", "*: ibarrier world -> q", "0: compare world", "0: compare world world world", "0: translate world world 0,null", "0: translate world world null,x", "", "# a", "#", "\t# \xff", "\r", "ranks 1", "0:", "*:", "9:", "x: y", "\x0b", "0: barrier", "0: barrier world 1", "0: barrier world "]
 OPENINGS = ["", "ranks", "ranks 0", "ranks 65", "ranks 64", "ranks -1", "ranks 2 3", "ranks x", "Ranks 2", "\tranks  3 ", "ranks 3\r"]

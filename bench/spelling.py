@@ -23,6 +23,8 @@ FIELDS = ["", "RTCI", "RTI", "RTCI", "RTCI", "RTSCI", "TI", "TCI", "TCI", "TSCI"
           "", "K", "G", "", "E", "A", "TCI", "TCI", "TSCI", "TSCI", ""]
 KINDS = {1: 26, 2: 27}
 ONLY_BLOCKING = [*range(16, 22), 26]
+# operations of single numbers, of pairs, and of a job's own
+SINGLE, PAIRED, OWN = range(1, 11), range(11, 13), range(16, 32)
 WIDTHS = [0, 1, 2, 4, 8, 1, 2, 4, 8, 8]
 BATCH = 20000
 
@@ -121,6 +123,13 @@ class Reader:
         """A number of calls for each process, none of them 0."""
         self.rising(count, self.process, lambda _: self.some(4))
 
+    def operation(self):
+        """One of the predefined operations, or in version 2 one of a job's own, which stands beside each type."""
+        at, op = self.at, self.number(1)
+        if op not in SINGLE and op not in PAIRED and (self.version == 1 or op not in OWN):
+            raise Wrong("OutOfLimits(%d)" % at)
+        return op
+
     def post(self):
         kind = self.number(1, KINDS[self.version] - 1)
         self.number(1, 0 if kind in ONLY_BLOCKING else 1)
@@ -129,9 +138,9 @@ class Reader:
             if field == "R":
                 self.process()
             elif field == "O":
-                op = self.number(1, 12, 1)
+                op = self.operation()
             elif field == "T":
-                ty = self.number(1, 8 if op is not None and op <= 10 else 9, 9 if op is not None and op > 10 else 1)
+                ty = self.number(1, 8 if op in SINGLE else 9, 9 if op in PAIRED else 1)
             elif field in "SC":
                 for _ in range(self.number(2)):
                     self.number(2, ITEMS)
@@ -338,13 +347,13 @@ class Maker:
         kind = self.number(1, KINDS[self.version] - 1, small=False)
         self.number(1, 0 if kind in ONLY_BLOCKING else 1)
         fields = FIELDS[kind] if kind < len(FIELDS) else ""
-        op = self.rng.randint(1, 12) if "O" in fields else None
-        ty = self.rng.randint(1, 8) if op is None or op <= 10 or self.slips() else 9
+        op = self.rng.choice([*SINGLE, *PAIRED, *(OWN if self.version == 2 else [])]) if "O" in fields else None
+        ty = 9 if op in PAIRED and not self.slips() else self.rng.randint(1, 9 if op in OWN else 8)
         for field in fields:
             if field == "R":
                 self.number(1, 63)
             elif field in "OT":
-                self.put(1, self.rng.choice([0, 255]) if self.slips() else op if field == "O" else ty)
+                self.put(1, self.rng.choice([0, 13, 15, 16, 32, 255]) if self.slips() else op if field == "O" else ty)
             elif field in "SC":
                 self.counts()
             elif field == "I":

@@ -48,16 +48,19 @@ class Definitions:
         self.imports = imports(text)
         self.lines = collections.defaultdict(list)
         self.owner = {}
-        current = None
+        # where the definitions of a module begin, behind its blanks
+        current, base = None, 0
         for line in text.splitlines():
             if not line.strip() or line.strip().startswith("--") or line.startswith("use "):
                 continue
-            if not line[0].isspace():
+            indent = len(line) - len(line.lstrip())
+            base = min(base, indent)
+            if indent == base:
+                if line.lstrip().startswith("module "):
+                    current, base = None, indent + 2
+                    continue
                 bare = re.sub(r"^(abbrev|unfoldable|pattern|pub|data|record|\s)*\b(pub |data |record )*", "", line)
                 head = WORD.match(bare)
-                if line.startswith("module "):
-                    current = None
-                    continue
                 current = head.group(0) if head else current
             elif current:
                 inner = re.match(r"\s+(?:pub )?([^\W\d][\w'-]*) :", line)

@@ -6,7 +6,7 @@ ghost use Rattle.std.specs.Prelude.{◌<◌};
 use mpx_comm::{Comm, Desk, Tested};
 use mpx_group::Proc;
 use mpx_node::{Finished, Node};
-use mpx_num::{Numbers, Op, Ty};
+use mpx_num::{Numbers, Op, Ops, Ty};
 use mpx_value::Outcome;
 use std::alloc::Global;
 use std::process::ExitCode;
@@ -35,7 +35,7 @@ fn number_of(finished: &Finished) -> Option<i128> {
 }
 
 // Both ranks call an allreduce, and rank 0 hears of rank 1. None where memory is wanting.
-fn sum(alloc: Global) -> Option<i128> {
+fn sum(alloc: Global, ops: &Ops) -> Option<i128> {
     let mut left = desk_of(alloc, 0)?;
     let mut right = desk_of(alloc, 1)?;
     let request = left
@@ -45,6 +45,7 @@ fn sum(alloc: Global) -> Option<i128> {
             Op::Sum,
             Ty::I64,
             number(alloc, 3)?,
+            ops,
         )
         .ok()?;
     right
@@ -54,17 +55,19 @@ fn sum(alloc: Global) -> Option<i128> {
             Op::Sum,
             Ty::I64,
             number(alloc, 4)?,
+            ops,
         )
         .ok()?;
     left.take(alloc, right.host().board()).ok()?;
-    match left.test(alloc, request).ok()? {
+    match left.test(alloc, request, ops).ok()? {
         Tested::Done(finished) => number_of(&finished),
         Tested::NotYet(_) => None,
     }
 }
 
 fn main(rt: HostRuntime) -> ExitCode {
-    match sum(rt.alloc()) {
+    let ops = Ops::none(rt.alloc());
+    match sum(rt.alloc(), &ops) {
         Some(sum) => {
             let _printed = println!(rt; "{sum}");
             ExitCode::SUCCESS

@@ -5,9 +5,12 @@
 mod progress;
 
 use crate::progress::Progress;
+use mpx_affine::Affine;
+use mpx_num::{Ops, OwnOp};
 use mpx_program::{refuse, run_job_observed};
 use mpx_words::not_text;
 use std::alloc::AllocError;
+use std::io::Write;
 use std::process::ExitCode;
 use std::{env, io};
 
@@ -20,18 +23,36 @@ fn words_of(rt: &HostRuntime) -> Result<Vec<String>, clap::Error> {
     }
 }
 
-/// What fails on the standard error is let go: the status stands.
+/// There is no more memory.
+fn starved<E: Write>(err: &mut E) -> ExitCode {
+    ExitCode::from(refuse(&clap::Error::from(AllocError), err).status)
+}
+
+/// What fails on the standard error is let go: the status stands. Scripts may name one operation of a job's own: the composition of
+/// affine maps, by the word `affine`.
 fn main(rt: HostRuntime) -> ExitCode {
+    let alloc = rt.alloc();
     let err = &mut rt.stderr();
+    let mut list: Vec<Box<dyn OwnOp + Send + Sync + Drop>> = Vec::new(alloc);
+    let Ok(affine) = Box::new(alloc, Affine { word: "affine" }) else {
+        return starved(err);
+    };
+    if list.push(affine).is_err() {
+        return starved(err);
+    }
+    let Ok(ops) = Ops::new(list) else {
+        return ExitCode::FAILURE;
+    };
     let exit = match words_of(&rt) {
         Ok(words) => run_job_observed(
             &rt,
-            rt.alloc(),
+            alloc,
             &words,
             &mut rt.reader(),
             &mut io::writer(&rt),
             err,
             &mut Progress::new(&rt, rt.stderr()),
+            &ops,
         ),
         Err(refusal) => refuse(&refusal, err),
     };

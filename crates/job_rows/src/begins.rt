@@ -1,5 +1,6 @@
 //! Whether what a run prints begins the script's evaluation, however early it ends.
 use crate::lines::{word_at, words_of};
+use mpx_num::Ops;
 use mpx_program::run_job;
 use std::alloc::Global;
 use std::io;
@@ -13,11 +14,12 @@ pub fn begins<T: Threads + Wait + Sync>(
     alloc: Global,
     line: &[u8],
     script: &[u8],
+    ops: &Ops,
 ) -> io::Result<Vec<u8>> {
     let run = words_of(alloc, line, 2)?;
-    let mut text = printed(rt, alloc, &run, script)?;
+    let mut text = printed(rt, alloc, &run, script, ops)?;
     let eval = words_of(alloc, b"eval", 0)?;
-    let whole = printed(rt, alloc, &eval, script)?;
+    let whole = printed(rt, alloc, &eval, script, ops)?;
     if begin(&text, &whole) {
         text.clear();
         text.extend_from_slice(b"begins\n= 0\n")?;
@@ -33,11 +35,12 @@ fn printed<T: Threads + Wait + Sync>(
     alloc: Global,
     words: &[String],
     script: &[u8],
+    ops: &Ops,
 ) -> io::Result<Vec<u8>> {
     let mut out = Vec::new(alloc);
     let mut said = Vec::new(alloc);
     let mut reader = script;
-    let _exit = run_job(rt, alloc, words, &mut reader, &mut out, &mut said);
+    let _exit = run_job(rt, alloc, words, &mut reader, &mut out, &mut said, ops);
     Ok(out)
 }
 

@@ -5,6 +5,7 @@ use crate::gates::{Both, Counting};
 use crate::lines::{number_of, word_at, words_of};
 use crate::statements::{last_statement, sizes, statements};
 use crate::streams::{Failing, Holding, Limited};
+use mpx_num::Ops;
 use mpx_program::{refuse, run_job, status_of, write_message};
 use mpx_run::{Command, Gate, Job, Options, Unobserved, run_text, run_text_observed};
 use mpx_script::ReadScriptError;
@@ -20,32 +21,33 @@ pub fn told<T: Threads + Wait + Sync>(
     alloc: Global,
     line: &[u8],
     script: &[u8],
+    ops: &Ops,
 ) -> io::Result<Vec<u8>> {
     let word = word_at(line, 1);
     if word == b"statements".as_slice() {
-        statements(alloc, script)
+        statements(alloc, script, ops)
     } else if word == b"sizes".as_slice() {
-        sizes(alloc, script)
+        sizes(alloc, script, ops)
     } else if word == b"last".as_slice() {
-        last_statement(alloc, script)
+        last_statement(alloc, script, ops)
     } else if word == b"job".as_slice() {
-        strange_job(rt, alloc, word_at(line, 2), script)
+        strange_job(rt, alloc, word_at(line, 2), script, ops)
     } else if word == b"gate".as_slice() {
-        counted(rt, alloc, script, true)
+        counted(rt, alloc, script, true, ops)
     } else if word == b"steps".as_slice() {
-        counted(rt, alloc, script, false)
+        counted(rt, alloc, script, false, ops)
     } else if word == b"both".as_slice() {
-        both_asked(rt, alloc, script)
+        both_asked(rt, alloc, script, ops)
     } else if word == b"begins".as_slice() {
-        begins(rt, alloc, line, script)
+        begins(rt, alloc, line, script, ops)
     } else if word == b"dead".as_slice() {
-        dead(alloc, line, script)
+        dead(alloc, line, script, ops)
     } else if word == b"no-text".as_slice() {
         no_text(alloc)
     } else if word == b"memory".as_slice() {
         Ok(format!(in alloc; "{}\n= 0\n", ReadScriptError::OutOfMemory)?.into_bytes())
     } else {
-        streamed(rt, alloc, word, line, script)
+        streamed(rt, alloc, word, line, script, ops)
     }
 }
 
@@ -56,26 +58,27 @@ fn streamed<T: Threads + Wait + Sync>(
     word: &[u8],
     line: &[u8],
     script: &[u8],
+    ops: &Ops,
 ) -> io::Result<Vec<u8>> {
     let first = number_of(word_at(line, 2));
     if word == b"reader".as_slice() {
-        from_failing(rt, alloc, line, script, first)
+        from_failing(rt, alloc, line, script, first, ops)
     } else if word == b"endless".as_slice() {
-        from_endless(rt, alloc, line)
+        from_endless(rt, alloc, line, ops)
     } else if word == b"writer".as_slice() {
-        into_limited(rt, alloc, line, script, first)
+        into_limited(rt, alloc, line, script, first, ops)
     } else if word == b"holding".as_slice() {
-        into_holding(rt, alloc, line, script, first == 1)
+        into_holding(rt, alloc, line, script, first == 1, ops)
     } else if word == b"length".as_slice() {
-        length(rt, alloc, line, script)
+        length(rt, alloc, line, script, ops)
     } else if word == b"status".as_slice() {
-        status(rt, alloc, line, script)
+        status(rt, alloc, line, script, ops)
     } else if word == b"many".as_slice() {
-        with_many(rt, alloc, line, script, first)
+        with_many(rt, alloc, line, script, first, ops)
     } else {
         let mut out = Vec::new(alloc);
         let mut reader = script;
-        let said = called(rt, alloc, line, 1, &mut reader, &mut out)?;
+        let said = called(rt, alloc, line, 1, &mut reader, &mut out, ops)?;
         ended(out, &said)
     }
 }
@@ -88,9 +91,10 @@ fn called<T: Threads + Wait + Sync, R: Read, W: Write>(
     from: usize,
     reader: &mut R,
     out: &mut W,
+    ops: &Ops,
 ) -> io::Result<Vec<u8>> {
     let words = words_of(alloc, line, from)?;
-    called_by(rt, alloc, &words, reader, out)
+    called_by(rt, alloc, &words, reader, out, ops)
 }
 
 // The same, of these words.
@@ -100,9 +104,10 @@ fn called_by<T: Threads + Wait + Sync, R: Read, W: Write>(
     words: &[String],
     reader: &mut R,
     out: &mut W,
+    ops: &Ops,
 ) -> io::Result<Vec<u8>> {
     let mut said = Vec::new(alloc);
-    let exit = run_job(rt, alloc, words, reader, out, &mut said);
+    let exit = run_job(rt, alloc, words, reader, out, &mut said, ops);
     writeln!(said, "= {}", exit.status)?;
     Ok(said)
 }
@@ -114,6 +119,7 @@ fn with_many<T: Threads + Wait + Sync>(
     line: &[u8],
     script: &[u8],
     count: usize,
+    ops: &Ops,
 ) -> io::Result<Vec<u8>> {
     let mut words = words_of(alloc, line, 3)?;
     for _ in 0..count {
@@ -122,7 +128,7 @@ fn with_many<T: Threads + Wait + Sync>(
     }
     let mut out = Vec::new(alloc);
     let mut reader = script;
-    let said = called_by(rt, alloc, &words, &mut reader, &mut out)?;
+    let said = called_by(rt, alloc, &words, &mut reader, &mut out, ops)?;
     ended(out, &said)
 }
 
@@ -139,10 +145,11 @@ fn from_failing<T: Threads + Wait + Sync>(
     line: &[u8],
     bytes: &[u8],
     calls: usize,
+    ops: &Ops,
 ) -> io::Result<Vec<u8>> {
     let mut reader = Failing { bytes, calls };
     let mut out = Vec::new(alloc);
-    let said = called(rt, alloc, line, 3, &mut reader, &mut out)?;
+    let said = called(rt, alloc, line, 3, &mut reader, &mut out, ops)?;
     writeln!(out, "{} bytes left", reader.bytes.len())?;
     ended(out, &said)
 }
@@ -152,10 +159,11 @@ fn from_endless<T: Threads + Wait + Sync>(
     rt: &T,
     alloc: Global,
     line: &[u8],
+    ops: &Ops,
 ) -> io::Result<Vec<u8>> {
     let mut reader = io::repeat(b'#');
     let mut out = Vec::new(alloc);
-    let said = called(rt, alloc, line, 2, &mut reader, &mut out)?;
+    let said = called(rt, alloc, line, 2, &mut reader, &mut out, ops)?;
     ended(out, &said)
 }
 
@@ -166,6 +174,7 @@ fn into_limited<T: Threads + Wait + Sync>(
     line: &[u8],
     script: &[u8],
     room: usize,
+    ops: &Ops,
 ) -> io::Result<Vec<u8>> {
     let mut writer = Limited {
         held: Vec::new(alloc),
@@ -173,7 +182,7 @@ fn into_limited<T: Threads + Wait + Sync>(
         room,
     };
     let mut reader = script;
-    let said = called(rt, alloc, line, 4, &mut reader, &mut writer)?;
+    let said = called(rt, alloc, line, 4, &mut reader, &mut writer, ops)?;
     ended(writer.held, &said)
 }
 
@@ -184,6 +193,7 @@ fn into_holding<T: Threads + Wait + Sync>(
     line: &[u8],
     script: &[u8],
     fails: bool,
+    ops: &Ops,
 ) -> io::Result<Vec<u8>> {
     let mut writer = Holding {
         held: Vec::new(alloc),
@@ -191,7 +201,7 @@ fn into_holding<T: Threads + Wait + Sync>(
         fails,
     };
     let mut reader = script;
-    let said = called(rt, alloc, line, 3, &mut reader, &mut writer)?;
+    let said = called(rt, alloc, line, 3, &mut reader, &mut writer, ops)?;
     ended(writer.out, &said)
 }
 
@@ -201,10 +211,11 @@ fn length<T: Threads + Wait + Sync>(
     alloc: Global,
     line: &[u8],
     script: &[u8],
+    ops: &Ops,
 ) -> io::Result<Vec<u8>> {
     let mut out = Vec::new(alloc);
     let mut reader = script;
-    let said = called(rt, alloc, line, 2, &mut reader, &mut out)?;
+    let said = called(rt, alloc, line, 2, &mut reader, &mut out, ops)?;
     ended(
         format!(in alloc; "{} bytes\n", out.len())?.into_bytes(),
         &said,
@@ -217,12 +228,13 @@ fn status<T: Threads + Wait + Sync>(
     alloc: Global,
     line: &[u8],
     script: &[u8],
+    ops: &Ops,
 ) -> io::Result<Vec<u8>> {
     let words = words_of(alloc, line, 2)?;
     let mut out = Vec::new(alloc);
     let mut said = Vec::new(alloc);
     let mut reader = script;
-    let exit = run_job(rt, alloc, &words, &mut reader, &mut out, &mut said);
+    let exit = run_job(rt, alloc, &words, &mut reader, &mut out, &mut said, ops);
     Ok(format!(in alloc; "= {}\n", exit.status)?.into_bytes())
 }
 
@@ -241,6 +253,7 @@ fn strange_job<T: Threads + Wait + Sync>(
     alloc: Global,
     word: &[u8],
     script: &[u8],
+    ops: &Ops,
 ) -> io::Result<Vec<u8>> {
     let command = if word == b"check".as_slice() {
         Command::Check
@@ -255,7 +268,7 @@ fn strange_job<T: Threads + Wait + Sync>(
     };
     let mut reader = script;
     let mut out = Vec::new(alloc);
-    let answer = run_text(rt, alloc, &job, &mut reader, &mut out);
+    let answer = run_text(rt, alloc, &job, &mut reader, &mut out, ops);
     write_message(&answer, &mut out)?;
     writeln!(out, "= {}", status_of(&answer))?;
     Ok(out)
@@ -266,9 +279,10 @@ fn both_asked<T: Threads + Wait + Sync>(
     rt: &T,
     alloc: Global,
     script: &[u8],
+    ops: &Ops,
 ) -> io::Result<Vec<u8>> {
     let both = Both::new();
-    let mut out = gated(rt, alloc, script, 0, &both)?;
+    let mut out = gated(rt, alloc, script, 0, &both, ops)?;
     if !both.were_asked() {
         writeln!(out, "not asked")?;
     }
@@ -282,9 +296,10 @@ fn counted<T: Threads + Wait + Sync>(
     alloc: Global,
     script: &[u8],
     gives_up: bool,
+    ops: &Ops,
 ) -> io::Result<Vec<u8>> {
     let counting = Counting::new(alloc, 5, gives_up)?;
-    let mut out = gated(rt, alloc, script, 2, &counting)?;
+    let mut out = gated(rt, alloc, script, 2, &counting, ops)?;
     counting.tell(TURNS, &mut out)?;
     Ok(out)
 }
@@ -299,6 +314,7 @@ fn gated<T: Threads + Wait + Sync, G: Gate + Sync>(
     script: &[u8],
     relays: u8,
     gate: &G,
+    ops: &Ops,
 ) -> io::Result<Vec<u8>> {
     let job = Job {
         command: Command::Run,
@@ -312,7 +328,7 @@ fn gated<T: Threads + Wait + Sync, G: Gate + Sync>(
     let mut reader = script;
     let mut out = Vec::new(alloc);
     let seen = &mut Unobserved;
-    let answer = run_text_observed(rt, alloc, &job, &mut reader, &mut out, seen, gate);
+    let answer = run_text_observed(rt, alloc, &job, &mut reader, &mut out, seen, gate, ops);
     write_message(&answer, &mut out)?;
     writeln!(out, "= {}", status_of(&answer))?;
     Ok(out)

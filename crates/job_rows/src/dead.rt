@@ -4,6 +4,7 @@ ghost use Rattle.std.specs.Prelude.{◌≡◌};
 use crate::lines::{number_of, word_at};
 use join_nest::Lift;
 use mpx_board::Board;
+use mpx_num::Ops;
 use mpx_run::{Options, run_sim};
 use mpx_script::{Script, read_script};
 use std::alloc::Global;
@@ -35,11 +36,17 @@ fn push_board(text: &mut Vec<u8>, process: usize, board: &Board) -> io::Result<(
     writeln!(text, "process {process}: {contexts} contexts, {dead} dead")
 }
 
-fn push_run(alloc: Global, text: &mut Vec<u8>, script: &Script, seed: usize) -> io::Result<()> {
+fn push_run(
+    alloc: Global,
+    text: &mut Vec<u8>,
+    script: &Script,
+    seed: usize,
+    ops: &Ops,
+) -> io::Result<()> {
     if script.ranks() > 61 {
         return writeln!(text, "too many processes");
     }
-    let Ok(run) = run_sim(alloc, script, &options(seed)) else {
+    let Ok(run) = run_sim(alloc, script, &options(seed), ops) else {
         return writeln!(text, "out of memory");
     };
     for (process, node) in run.nodes.iter().enumerate() {
@@ -49,10 +56,10 @@ fn push_run(alloc: Global, text: &mut Vec<u8>, script: &Script, seed: usize) -> 
 }
 
 /// `dead SEED`: of each process how many contexts its board knows at the end of such a run, and how many of these are dead there.
-pub fn dead(alloc: Global, line: &[u8], script: &[u8]) -> io::Result<Vec<u8>> {
+pub fn dead(alloc: Global, line: &[u8], script: &[u8], ops: &Ops) -> io::Result<Vec<u8>> {
     let mut text = Vec::new(alloc);
-    match read_script(alloc, script) {
-        Ok(script) => push_run(alloc, &mut text, &script, number_of(word_at(line, 2)))?,
+    match read_script(alloc, script, ops) {
+        Ok(script) => push_run(alloc, &mut text, &script, number_of(word_at(line, 2)), ops)?,
         Err(error) => writeln!(text, "{error}")?,
     }
     text.extend_from_slice(b"= 0\n")?;

@@ -19,6 +19,8 @@ mod streams;
 use crate::calls::told;
 use crate::lines::of_pieces;
 use crate::more_runs::MoreRuns;
+use mpx_affine::Affine;
+use mpx_num::{Ops, OwnOp};
 use std::alloc::Global;
 use std::io;
 use std::io::{Read, Write};
@@ -74,27 +76,37 @@ impl Rows {
     }
 
     /// The row ends: adds its line, and what its call comes to, where that isn't what the row before came to.
-    fn end<T: Threads + Wait + Sync>(&mut self, rt: &T, alloc: Global) -> io::Result<()> {
+    fn end<T: Threads + Wait + Sync>(
+        &mut self,
+        rt: &T,
+        alloc: Global,
+        ops: &Ops,
+    ) -> io::Result<()> {
         if self.call.starts_with(b">* ") {
             self.script = of_pieces(alloc, &self.script)?;
         }
         self.text.extend_from_slice(&self.call)?;
         self.text.push(b'\n')?;
-        let came = told(rt, alloc, &self.call, &self.script)?;
+        let came = told(rt, alloc, &self.call, &self.script, ops)?;
         if came == self.last {
             self.text.extend_from_slice(b"= as above\n")?;
         } else {
             self.text.extend_from_slice(&came)?;
         }
         self.last = came;
-        self.run_more(rt, alloc)
+        self.run_more(rt, alloc, ops)
     }
 
     // Adds what another run comes to, where that isn't the same.
-    fn run_more<T: Threads + Wait + Sync>(&mut self, rt: &T, alloc: Global) -> io::Result<()> {
+    fn run_more<T: Threads + Wait + Sync>(
+        &mut self,
+        rt: &T,
+        alloc: Global,
+        ops: &Ops,
+    ) -> io::Result<()> {
         let again = self
             .more
-            .make(rt, alloc, &self.call, &self.script, &self.last)?;
+            .make(rt, alloc, &self.call, &self.script, &self.last, ops)?;
         if let Some(again) = again {
             self.text.extend_from_slice(b"in another run:\n")?;
             self.text.extend_from_slice(&again)?;
@@ -108,12 +120,13 @@ impl Rows {
         rt: &T,
         alloc: Global,
         line: &[u8],
+        ops: &Ops,
     ) -> io::Result<()> {
         if !line.starts_with(b"> ") && !line.starts_with(b">* ") && !line.starts_with(b">> ") {
             return self.add_line(line);
         }
         if !self.call.is_empty() {
-            self.end(rt, alloc)?;
+            self.end(rt, alloc, ops)?;
         }
         self.begin(line)
     }
@@ -125,11 +138,12 @@ fn read_all<T: Threads + Wait + Sync>(
     alloc: Global,
     rows: &mut Rows,
     text: &[u8],
+    ops: &Ops,
 ) -> io::Result<()> {
     for line in text.split(|byte| *byte == b'\n') {
-        rows.read_line(rt, alloc, line)?;
+        rows.read_line(rt, alloc, line, ops)?;
     }
-    rows.end(rt, alloc)?;
+    rows.end(rt, alloc, ops)?;
     writeln!(
         rows.text,
         "{} runs were made in threads too, and {} after an evaluation",
@@ -143,17 +157,30 @@ fn print_rows<T: Threads + Wait + Sync, R: Read, W: Write>(
     alloc: Global,
     reader: &mut R,
     writer: &mut W,
+    ops: &Ops,
 ) -> io::Result<()> {
     let mut text = Vec::new(alloc);
     reader.read_to_end(&mut text)?;
     let mut rows = Rows::new(alloc);
-    read_all(rt, alloc, &mut rows, &text)?;
+    read_all(rt, alloc, &mut rows, &text, ops)?;
     writer.write_all(&rows.text)?;
     writer.flush()
 }
 
+/// Words of the rows' scripts that name an operation of a job's own name the composition of affine maps, `affine`.
 fn main(rt: HostRuntime) -> ExitCode {
-    match print_rows(&rt, rt.alloc(), &mut rt.reader(), &mut io::writer(&rt)) {
+    let alloc = rt.alloc();
+    let mut list: Vec<Box<dyn OwnOp + Send + Sync + Drop>> = Vec::new(alloc);
+    let Ok(affine) = Box::new(alloc, Affine { word: "affine" }) else {
+        return ExitCode::FAILURE;
+    };
+    if list.push(affine).is_err() {
+        return ExitCode::FAILURE;
+    }
+    let Ok(ops) = Ops::new(list) else {
+        return ExitCode::FAILURE;
+    };
+    match print_rows(&rt, alloc, &mut rt.reader(), &mut io::writer(&rt), &ops) {
         Ok(()) => ExitCode::SUCCESS,
         Err(_) => ExitCode::FAILURE,
     }

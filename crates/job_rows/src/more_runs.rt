@@ -2,6 +2,7 @@
 //! well before any run, the script is run.
 use crate::calls::told;
 use crate::lines::word_at;
+use mpx_num::Ops;
 use std::alloc::Global;
 use std::io;
 use std::sync::Wait;
@@ -55,6 +56,7 @@ impl MoreRuns {
         line: &[u8],
         script: &[u8],
         came: &[u8],
+        ops: &Ops,
     ) -> io::Result<Option<Vec<u8>>> {
         if !has_ended_well(came) {
             return Ok(None);
@@ -63,11 +65,11 @@ impl MoreRuns {
             self.is_threaded = true;
             self.is_run = true;
             self.threaded = self.threaded.saturating_add(1);
-            run_in_threads(rt, alloc, line, script, came)
+            run_in_threads(rt, alloc, line, script, came, ops)
         } else if is_evaluation(line) && !self.is_run && script.len() <= LONGEST {
             self.is_run = true;
             self.simulated = self.simulated.saturating_add(1);
-            other_than(came, told(rt, alloc, b"> run", script)?)
+            other_than(came, told(rt, alloc, b"> run", script, ops)?)
         } else {
             Ok(None)
         }
@@ -81,11 +83,12 @@ fn run_in_threads<T: Threads + Wait + Sync>(
     line: &[u8],
     script: &[u8],
     came: &[u8],
+    ops: &Ops,
 ) -> io::Result<Option<Vec<u8>>> {
     let mut call = Vec::new(alloc);
     call.extend_from_slice(line)?;
     call.extend_from_slice(b" --threads --turns 10000000")?;
-    other_than(came, told(rt, alloc, &call, script)?)
+    other_than(came, told(rt, alloc, &call, script, ops)?)
 }
 
 // What another run came to, where that isn't the same.

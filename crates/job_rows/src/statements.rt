@@ -1,4 +1,5 @@
 //! Scripts that are read, as text: a line for each statement, with all that it says.
+use mpx_num::Ops;
 use mpx_post::{Draft, DraftedGraph, DraftedNeighbour};
 use mpx_script::{Posting, Question, Script, Statement, Word, read_script};
 use std::alloc::Global;
@@ -138,9 +139,9 @@ fn push_script(alloc: Global, text: &mut Vec<u8>, script: &Script) -> io::Result
 }
 
 /// The script's ranks and their statements, or why it is refused, as a row.
-pub fn statements(alloc: Global, script: &[u8]) -> io::Result<Vec<u8>> {
+pub fn statements(alloc: Global, script: &[u8], ops: &Ops) -> io::Result<Vec<u8>> {
     let mut text = Vec::new(alloc);
-    match read_script(alloc, script) {
+    match read_script(alloc, script, ops) {
         Ok(script) => push_script(alloc, &mut text, &script)?,
         Err(error) => writeln!(text, "{error}")?,
     }
@@ -150,10 +151,10 @@ pub fn statements(alloc: Global, script: &[u8]) -> io::Result<Vec<u8>> {
 
 /// `sizes`: how long the script is, how many ranks it has and how many statements the first and the 64th of them have, or why
 /// it is refused.
-pub fn sizes(alloc: Global, script: &[u8]) -> io::Result<Vec<u8>> {
+pub fn sizes(alloc: Global, script: &[u8], ops: &Ops) -> io::Result<Vec<u8>> {
     let mut text = Vec::new(alloc);
     write!(text, "{} bytes, ", script.len())?;
-    match read_script(alloc, script) {
+    match read_script(alloc, script, ops) {
         Ok(script) => write!(
             text,
             "{} ranks, {} and {} statements",
@@ -168,9 +169,9 @@ pub fn sizes(alloc: Global, script: &[u8]) -> io::Result<Vec<u8>> {
 }
 
 /// `last`: all that the last statement of the first rank says.
-pub fn last_statement(alloc: Global, script: &[u8]) -> io::Result<Vec<u8>> {
+pub fn last_statement(alloc: Global, script: &[u8], ops: &Ops) -> io::Result<Vec<u8>> {
     let mut text = Vec::new(alloc);
-    match read_script(alloc, script) {
+    match read_script(alloc, script, ops) {
         Ok(script) => {
             if let Some(statement) = script.statements(0).last() {
                 push_statement(alloc, &mut text, statement)?;

@@ -107,6 +107,14 @@ impl<K: Key, J: Exact> Keyed<K, J> {
         &self.entries
     }
 
+    /// The entries, moved out of the map: [`Keyed::from_rising`] makes it of them again. It takes no memory.
+    pub fn into_entries(self) -> Vec<(K, J)>
+        ensures entries { ⟦<Keyed<K, J> as Exact>⟧.view self ≡ from_sorted (seen J.view result.items) }
+        ensures rising { IsTrue (is_sorted K.cmp result.items) }
+    {
+        self.entries
+    }
+
     /// How many keys have an entry.
     pub fn len(&self) -> usize
         ensures { result ≡ len (⟦<Keyed<K, J> as Exact>⟧.view self.now) }

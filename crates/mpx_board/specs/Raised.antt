@@ -34,3 +34,9 @@ pub record Raises (raised : Raised) (old new : Look) : Type 0 where
   pub gives : look_of (parts.0, stored (view_of_raised raised) parts.1) ≡ new
   pub neat : is_tidy (parts.0, stored (view_of_raised raised) parts.1) ≡ true
   pub above : IsBelow old new
+
+-- storing it makes the old board the new one
+pub record Leads (raised : Raised) (old new : PartsView) : Type 0 where
+  pub contexts : new.0 ≡ old.0
+  pub says : stored (view_of_raised raised) old.1 ≡ new.1
+  pub neat : is_tidy new ≡ true

@@ -8,11 +8,12 @@ ghost use Rattle.mpx_board.specs.Boards.{IsBelow, IsBetween, Look, empty, join, 
 ghost use Rattle.mpx_board.specs.Changes.{is_posted, killed, pruned_on, cut_to};
 ghost use Rattle.mpx_board.specs.Contexts.{live_of, numbers_of};
 ghost use Rattle.mpx_post.specs.Drafts.{most_calls};
-ghost use Rattle.mpx_board.specs.Raised.{Raises};
+ghost use Rattle.mpx_board.specs.Parts.{PartsView};
+ghost use Rattle.mpx_board.specs.Raised.{Leads, Raises};
 ghost use Rattle.mpx_board.specs.Tidy.{are_tidy_numbers, is_tidy};
 ghost use Rattle.mpx_board.specs.Views.{view_of_acks, view_of_entries, view_of_entry, view_of_lifted, view_of_parts};
 
-use crate::acks::{Raised, one_ack, raised_by};
+use crate::acks::{Raised, exchange_acks, one_ack, raised_by};
 use crate::copies::copied_acks;
 use crate::errors::{AddPostError, KillError, PruneError};
 use crate::fact::{Fact, bury, drop_posts, tell};
@@ -27,6 +28,7 @@ use mpx_group::Proc;
 use mpx_name::Name;
 use mpx_post::{Birth, Post};
 use std::alloc::Global;
+use std::mem;
 
 /// What a process knows of all contexts: births, how many calls each process has harvested, and the posts of calls at or
 /// above a dropped front, or that a context is dead; and what each process says that it has of the posts of others.
@@ -143,6 +145,14 @@ impl Board {
         ensures tidy { IsTrue (is_tidy (parts_of self.now)) }
     {
         &self.inside
+    }
+
+    /// The same, moved out of the board. It takes no memory.
+    pub fn into_pair(self) -> Parts
+        ensures value { view_of_parts result ≡ parts_of self }
+        ensures tidy { IsTrue (is_tidy (view_of_parts result)) }
+    {
+        self.inside
     }
 
     /// Joins a part to the board, in place: only what is new takes memory, and a part that is below the board takes none. An
@@ -294,6 +304,35 @@ impl Board {
                 self.inside.second = all;
             }
         }
+    }
+
+    /// Says all these calls too, as [`Board::raise_acks`] does, and gives what takes that back: [`Board::exchange`] stores again
+    /// what stood before. An `Err` changes nothing.
+    pub fn say(&mut self, alloc: Global, process: Proc, said: &Acks) -> Result<Raised, OutOfMemory>
+        requires { IsTrue (are_tidy_numbers (view_of_acks said.now)) }
+        ensures ok { OnOk result (look self.new ≡ join (look self.old) (own_acks process (numbers_of (view_of_acks said.now)))) }
+        ensures back { IfOk result (λ before. Leads before (parts_of self.new) (parts_of self.old)) }
+        ensures err { OnErr result (look self.new ≡ look self.old) }
+    {
+        let raised = self.raised(alloc, process, said)?;
+        Ok(self.exchange(raised))
+    }
+
+    /// Stores what was made, and gives what stores again what stood there. It takes no memory and can't fail.
+    pub fn exchange(&mut self, raised: Raised) -> Raised
+        requires { (new : PartsView) × Leads raised (parts_of self.old) new }
+        ensures new { (new : PartsView) → Leads raised (parts_of self.old) new → parts_of self.new ≡ new }
+        ensures back { Leads result (parts_of self.new) (parts_of self.old) }
+    {
+        exchange_acks(&mut self.inside.second, raised)
+    }
+
+    /// Exchanges the acknowledgements with those of the other. It takes no memory.
+    pub fn swap_acks(&mut self, other: &mut Board)
+        ensures mine { parts_of self.new ≡ ((parts_of self.old).0, (parts_of other.old).1) }
+        ensures theirs { parts_of other.new ≡ ((parts_of other.old).0, (parts_of self.old).1) }
+    {
+        mem::swap(&mut self.inside.second, &mut other.inside.second);
     }
 
     /// The acknowledgements alone.

@@ -1,6 +1,7 @@
 -- A process's board tells how many calls it has harvested, or that their context is dead.
-use Rattle.std.proofs.Common.{◌≡◌, ℕ, ◌+◌, ◌≤◌, ◌⊎◌, ◌==◌, cond, Bool, true, false, List, [], ◌∷◌, ◌++◌, length, Some, None, Option, Result, Ok, Err, inl, inr, refl, sym, ap, ◌∙◌, subst, arith, length-append}
+use Rattle.std.proofs.Common.{◌≡◌, ℕ, ◌+◌, ◌≤◌, ◌⊎◌, ◌==◌, cond, Bool, true, false, List, [], ◌∷◌, length, Some, None, Option, Result, Ok, Err, inl, inr, refl, sym, ap, ◌∙◌, subst, arith, length-append}
 use Rattle.mpx_name.specs.Name.{Name, same_name}
+use Rattle.mpx_num.specs.declared.own.Operation.{Operation}
 use Rattle.mpx_post.specs.Posts.{Given}
 use Rattle.mpx_post.specs.Births.{BirthView}
 use Rattle.mpx_post.specs.Gatherings.{GatheringView}
@@ -77,10 +78,10 @@ harvest_tells name made node =
     (fold_above_each (front_fact name node ∷ births_of made) empty 0 (front_fact name node) refl)
     (inr (as_many (front_on node name + 1) (((front_fact name node).contexts name).fronts node.me) (front_there name node)))
 
-tells_stores : (name : Name) (r : Option Finished) (v : ProcessView) → Tells v → Tells (stores name r v)
-tells_stores name None v t n = t n
-tells_stores name (Some finished) v t n =
-    let made : List (Name × BirthView) = made_next name v.node in
+tells_stores : (ops : List Operation) (name : Name) (r : Option Finished) (v : ProcessView) → Tells v → Tells (stores ops name r v)
+tells_stores ops name None v t n = t n
+tells_stores ops name (Some finished) v t n =
+    let made : List (Name × BirthView) = made_next ops name v.node in
     let part : Look = harvest_part name made v.node in
     let joined : Look = join v.node.board part in
     subst (λ xs. IsFront (joined.contexts n) v.node.me (length xs)) (sym (results_added name finished made v.node n))
@@ -92,24 +93,24 @@ tells_stores name (Some finished) v t n =
 
 -- ALL ACTS
 
-tells_act : (a : Act) (v : ProcessView) → Tells v → Tells (act_on a v)
-tells_act (A.Posted name draft) v t = tells_makes name (checked_on v.node name draft) v t
-tells_act (A.Harvested name) v t = tells_stores name (next_result v.node name) v t
-tells_act (A.Gathered parent tag ranks) v t = tells_opens parent (gathers_on v.node parent tag ranks) v t
-tells_act (A.Pruned name n) v t = tells_drops name n (pruned_on v.node.board name n) v t
-tells_act (A.Took bytes) v t = tells_learns (part_of bytes) v t
-tells_act (A.StoppedTaking bytes left) v t = tells_learns (look left) v t
-tells_act (A.Acknowledged board) v t = tells_learns (own_acks v.node.me (said_on board v)) v t
-tells_act (A.Pushed bytes) v t = t
-tells_act (A.Popped bytes) v t = t
+tells_act : (ops : List Operation) (a : Act) (v : ProcessView) → Tells v → Tells (act_on ops a v)
+tells_act ops (A.Posted name draft) v t = tells_makes name (checked_on ops v.node name draft) v t
+tells_act ops (A.Harvested name) v t = tells_stores ops name (next_result ops v.node name) v t
+tells_act ops (A.Gathered parent tag ranks) v t = tells_opens parent (gathers_on v.node parent tag ranks) v t
+tells_act ops (A.Pruned name n) v t = tells_drops name n (pruned_on v.node.board name n) v t
+tells_act ops (A.Took bytes) v t = tells_learns (part_of bytes) v t
+tells_act ops (A.StoppedTaking bytes left) v t = tells_learns (look left) v t
+tells_act ops (A.Acknowledged board) v t = tells_learns (own_acks v.node.me (said_on board v)) v t
+tells_act ops (A.Pushed bytes) v t = t
+tells_act ops (A.Popped bytes) v t = t
 
-tells_after : (acts : List Act) (v : ProcessView) → Tells v → Tells (after acts v)
-tells_after [] v t = t
-tells_after (a ∷ acts) v t = tells_after acts (act_on a v) (tells_act a v t)
+tells_after : (ops : List Operation) (acts : List Act) (v : ProcessView) → Tells v → Tells (after ops acts v)
+tells_after ops [] v t = t
+tells_after ops (a ∷ acts) v t = tells_after ops acts (act_on ops a v) (tells_act ops a v t)
 
 none_harvested : (b : Bool) (k : ℕ) → length (results_by (cond b (Some fresh) None)) ≤ k
 none_harvested true k = omega arith
 none_harvested false k = omega arith
 
 pub tells_at : (setup : Setup) (p : ℕ) (acts : List Act) → TellsFronts (node_at setup p acts)
-tells_at setup p acts = tells_after acts (at_start setup p) (λ name. inr (none_harvested (same_name name [] && nat_lt p setup.ranks) (((at_start setup p).node.board.contexts name).fronts p)))
+tells_at setup p acts = tells_after setup.operations acts (at_start setup p) (λ name. inr (none_harvested (same_name name [] && nat_lt p setup.ranks) (((at_start setup p).node.board.contexts name).fronts p)))

@@ -2,6 +2,7 @@
 use Rattle.std.proofs.Common.{◌≡◌, ℕ, List, [], ◌∷◌, ◌++◌, Some, None, Option, Result, Ok, Err, OnErr, refl, sym, ap, ◌∙◌, subst, append_assoc}
 use mathlib.Core.List.{IsPrefix}
 use Rattle.mpx_name.specs.Name.{Name}
+use Rattle.mpx_num.specs.declared.own.Operation.{Operation}
 use Rattle.mpx_board.specs.Changes.{pruned_on}
 use Rattle.mpx_value.specs.Histories.{Made}
 use Rattle.mpx_node.specs.declared.finished.Finished.{Finished}
@@ -33,27 +34,27 @@ abbrev pub NoPosts : List Act → Type 0
 NoPosts [] = Unit {0}
 NoPosts (a ∷ more) = IsNoPost a × NoPosts more
 
-made_stores : (name : Name) (r : Option Finished) (v : ProcessView) → (stores name r v).made ≡ v.made
-made_stores name None v = refl
-made_stores name (Some finished) v = refl
+made_stores : (ops : List Operation) (name : Name) (r : Option Finished) (v : ProcessView) → (stores ops name r v).made ≡ v.made
+made_stores ops name None v = refl
+made_stores ops name (Some finished) v = refl
 
-made_act : (a : Act) (v : ProcessView) → IsNoPost a → (act_on a v).made ≡ v.made
-made_act (A.Posted name draft) v none = absurd none
-made_act (A.Harvested name) v none = made_stores name (next_result v.node name) v
-made_act (A.Gathered parent tag ranks) v none = made_opens parent (gathers_on v.node parent tag ranks) v
-made_act (A.Pruned name n) v none = made_drops name n (pruned_on v.node.board name n) v
-made_act (A.Took bytes) v none = refl
-made_act (A.StoppedTaking bytes left) v none = refl
-made_act (A.Acknowledged board) v none = refl
-made_act (A.Pushed bytes) v none = refl
-made_act (A.Popped bytes) v none = refl
+made_act : (ops : List Operation) (a : Act) (v : ProcessView) → IsNoPost a → (act_on ops a v).made ≡ v.made
+made_act ops (A.Posted name draft) v none = absurd none
+made_act ops (A.Harvested name) v none = made_stores ops name (next_result ops v.node name) v
+made_act ops (A.Gathered parent tag ranks) v none = made_opens parent (gathers_on v.node parent tag ranks) v
+made_act ops (A.Pruned name n) v none = made_drops name n (pruned_on v.node.board name n) v
+made_act ops (A.Took bytes) v none = refl
+made_act ops (A.StoppedTaking bytes left) v none = refl
+made_act ops (A.Acknowledged board) v none = refl
+made_act ops (A.Pushed bytes) v none = refl
+made_act ops (A.Popped bytes) v none = refl
 
-made_after : (acts : List Act) (v : ProcessView) → NoPosts acts → (after acts v).made ≡ v.made
-made_after [] v none = refl
-made_after (a ∷ acts) v none = made_after acts (act_on a v) none.1 ∙ made_act a v none.0
+made_after : (ops : List Operation) (acts : List Act) (v : ProcessView) → NoPosts acts → (after ops acts v).made ≡ v.made
+made_after ops [] v none = refl
+made_after ops (a ∷ acts) v none = made_after ops acts (act_on ops a v) none.1 ∙ made_act ops a v none.0
 
 pub made_more : (setup : Setup) (p : ℕ) (journal more : List Act) → NoPosts more → (process_at setup p (journal ++ more)).made ≡ (process_at setup p journal).made
-made_more setup p journal more none = ap (λ (v : ProcessView). v.made) (after-append journal more (at_start setup p)) ∙ made_after more (process_at setup p journal) none
+made_more setup p journal more none = ap (λ (v : ProcessView). v.made) (after-append setup.operations journal more (at_start setup p)) ∙ made_after setup.operations more (process_at setup p journal) none
 
 -- what it may push it may still push
 pub keeps_frames : (a b : Berth) (more : List Act) → IsSamePort a b → b.journal ≡ a.journal ++ more → (bytes : List ℕ) → CanPush a bytes → CanPush b bytes

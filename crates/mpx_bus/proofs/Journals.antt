@@ -3,6 +3,7 @@ use Rattle.std.proofs.Common.{◌≡◌, ◌≢◌, ◌⊎◌, ℕ, zero, suc, �
 use Rattle.std.specs.Prelude.{slice_get}
 use Rattle.std.proofs.lemmas.List.{append-nil}
 use Rattle.mpx_name.specs.Name.{Name}
+use Rattle.mpx_num.specs.declared.own.Operation.{Operation}
 use Rattle.mpx_board.specs.declared.board.Board.{Board}
 use Rattle.mpx_board.specs.Boards.{Look, Fact, Has}
 use Rattle.mpx_board.specs.Looks.{look}
@@ -12,6 +13,7 @@ use Rattle.mpx_delta.specs.Digests.{HasUpTo}
 use Rattle.mpx_world.specs.Worlds.{ProcessView, WorldView, learns, takes, acknowledges, at_process, Happening, Posts, Harvests, Gathers, Prunes, Sends, Takes, TakesPartly, Acknowledges, IsSeen, happens, goes_on, MayLeave, MayHappen, MayGoOn}
 use Rattle.mpx_world.proofs.Lists.{itself, same_number, cond_cases, slice_get-push}
 use Rattle.mpx_world.proofs.Steps.{Holds, board_so, holds_happens}
+use Rattle.mpx_world.proofs.Later.{later_goes_on}
 use Rattle.mpx_world.proofs.Whole.{goes_on-append, may_append, well_by}
 use Rattle.mpx_bus.specs.declared.act.Act.{Act}
 use Rattle.mpx_bus.specs.declared.act.Act.TheVariants as A
@@ -33,9 +35,9 @@ one_of a b (suc k) e = absurd (cc)
 
 -- JOURNALS
 
-pub after-append : (early late : List Act) (v : ProcessView) → after (early ++ late) v ≡ after late (after early v)
-after-append [] late v = refl
-after-append (a ∷ early) late v = after-append early late (act_on a v)
+pub after-append : (ops : List Operation) (early late : List Act) (v : ProcessView) → after ops (early ++ late) v ≡ after ops late (after ops early v)
+after-append ops [] late v = refl
+after-append ops (a ∷ early) late v = after-append ops early late (act_on ops a v)
 
 pub did_before : (early late : List Act) (a : Act) → DidIn early a → DidIn (early ++ late) a
 did_before early late a d = record { at = d.at; did = slice_get-append early late d.at a d.did }
@@ -50,14 +52,14 @@ pub did_now : (early : List Act) (a b : Act) → DidIn (early ++ b ∷ []) a →
 did_now early a b d = ⊎_elim (λ (e : DidIn early a). inl e) (λ (e : DidIn (b ∷ []) a). inr (one_of b a e.at e.did)) (did_cases early (b ∷ []) a d)
 
 -- a local event was one as the process was then
-local_at : (published : List Act) (v : ProcessView) (locals : List Act) (k : ℕ) (a : Act) → AreLocal published v locals → slice_get locals k ≡ Some a → (u : ProcessView) × IsLocal published u a
-local_at published v [] k a h e = absurd (cc)
-local_at published v (b ∷ bs) zero a h e = (v, subst (IsLocal published v) (one_of b a 0 e) h.0)
-local_at published v (b ∷ bs) (suc k) a h e = local_at published (act_on b v) bs k a h.1 e
+local_at : (ops : List Operation) (published : List Act) (v : ProcessView) (locals : List Act) (k : ℕ) (a : Act) → AreLocal ops published v locals → slice_get locals k ≡ Some a → (u : ProcessView) × IsLocal published u a
+local_at ops published v [] k a h e = absurd (cc)
+local_at ops published v (b ∷ bs) zero a h e = (v, subst (IsLocal published v) (one_of b a 0 e) h.0)
+local_at ops published v (b ∷ bs) (suc k) a h e = local_at ops published (act_on ops b v) bs k a h.1 e
 
-local_push : (published : List Act) (v : ProcessView) (locals : List Act) (a : Act) → AreLocal published v locals → IsLocal published (after locals v) a → AreLocal published v (locals ++ a ∷ [])
-local_push published v [] a h is = (is, tt)
-local_push published v (b ∷ bs) a h is = (h.0, local_push published (act_on b v) bs a h.1 is)
+local_push : (ops : List Operation) (published : List Act) (v : ProcessView) (locals : List Act) (a : Act) → AreLocal ops published v locals → IsLocal published (after ops locals v) a → AreLocal ops published v (locals ++ a ∷ [])
+local_push ops published v [] a h is = (is, tt)
+local_push ops published v (b ∷ bs) a h is = (h.0, local_push ops published (act_on ops b v) bs a h.1 is)
 
 pub did_ahead : {setup : Setup} {p : ℕ} (published journal : List Act) (a : Act) → IsAhead setup p published journal → DidIn published a → DidIn journal a
 did_ahead published journal a h d = subst (λ xs. DidIn xs a) (sym h.whole) (did_before published h.locals a d)
@@ -67,26 +69,26 @@ pub pushed_before : {setup : Setup} {p : ℕ} (published journal : List Act) (by
 pushed_before {setup} {p} published journal bytes h d =
     ⊎_elim
     (λ (e : DidIn published (A.Pushed bytes)). e)
-    (λ (e : DidIn h.locals (A.Pushed bytes)). absurd ((local_at published (process_at setup p published) h.locals e.at (A.Pushed bytes) h.local e.did).1))
+    (λ (e : DidIn h.locals (A.Pushed bytes)). absurd ((local_at setup.operations published (process_at setup p published) h.locals e.at (A.Pushed bytes) h.local e.did).1))
     (did_cases published h.locals (A.Pushed bytes) (subst (λ xs. DidIn xs (A.Pushed bytes)) h.whole d))
 
 pub popped_before : {setup : Setup} {p : ℕ} (published journal : List Act) (bytes : List ℕ) → IsAhead setup p published journal → DidIn journal (A.Popped bytes) → DidIn published (A.Popped bytes)
 popped_before {setup} {p} published journal bytes h d =
     ⊎_elim
     (λ (e : DidIn published (A.Popped bytes)). e)
-    (λ (e : DidIn h.locals (A.Popped bytes)). absurd ((local_at published (process_at setup p published) h.locals e.at (A.Popped bytes) h.local e.did).1))
+    (λ (e : DidIn h.locals (A.Popped bytes)). absurd ((local_at setup.operations published (process_at setup p published) h.locals e.at (A.Popped bytes) h.local e.did).1))
     (did_cases published h.locals (A.Popped bytes) (subst (λ xs. DidIn xs (A.Popped bytes)) h.whole d))
 
 -- the process after its journal, by what it did since it published
-pub after_ahead : {setup : Setup} {p : ℕ} (published journal : List Act) (h : IsAhead setup p published journal) → process_at setup p journal ≡ after h.locals (process_at setup p published)
-after_ahead {setup} {p} published journal h = ap (process_at setup p) h.whole ∙ after-append published h.locals (at_start setup p)
+pub after_ahead : {setup : Setup} {p : ℕ} (published journal : List Act) (h : IsAhead setup p published journal) → process_at setup p journal ≡ after setup.operations h.locals (process_at setup p published)
+after_ahead {setup} {p} published journal h = ap (process_at setup p) h.whole ∙ after-append setup.operations published h.locals (at_start setup p)
 
 -- one local event more
 pub ahead_more : (setup : Setup) (p : ℕ) (published journal : List Act) (a : Act) → IsAhead setup p published journal → IsLocal published (process_at setup p journal) a → IsAhead setup p published (journal ++ a ∷ [])
 ahead_more setup p published journal a h is = record {
   locals = h.locals ++ a ∷ [];
   whole = ap (λ xs. xs ++ a ∷ []) h.whole ∙ append_assoc published h.locals (a ∷ []);
-  local = local_push published (process_at setup p published) h.locals a h.local (subst (λ (v : ProcessView). IsLocal published v a) (after_ahead published journal h) is);
+  local = local_push setup.operations published (process_at setup p published) h.locals a h.local (subst (λ (v : ProcessView). IsLocal published v a) (after_ahead published journal h) is);
 }
 
 pub ahead_itself : (setup : Setup) (p : ℕ) (journal : List Act) → IsAhead setup p journal journal
@@ -105,7 +107,7 @@ sent_later parts more bytes s = record { view = s.view; spells = s.spells; place
 record Step (w : WorldView) (p : ℕ) (a : Act) : Type 0 where
   happening : Happening
   may : MayHappen w happening
-  is : happens w happening ≡ at_process p (act_on a) w
+  is : happens w happening ≡ at_process p (act_on w.operations a) w
 
 -- two steps of a process that come to the same where it stands
 at_same : (w : WorldView) (p : ℕ) (f g : ProcessView → ProcessView) → f (w.each p) ≡ g (w.each p) → at_process p f w ≡ at_process p g w
@@ -141,7 +143,7 @@ step_of published w p (A.StoppedTaking bytes left) h sent is =
     record { happening = TakesPartly p s.place (look left); may = subst (λ o. MayLeave (w.each p).node.board o (look left)) same is.1; is = refl }
 step_of published w p (A.Acknowledged board) h sent is =
     let numbers = said_on board (w.each p) in
-    record { happening = Acknowledges p numbers; may = says_so w p board h is; is = at_same w p (acknowledges numbers) (act_on (A.Acknowledged board)) refl }
+    record { happening = Acknowledges p numbers; may = says_so w p board h is; is = at_same w p (acknowledges numbers) (act_on w.operations (A.Acknowledged board)) refl }
 step_of published w p (A.Pushed bytes) h sent is = absurd is
 step_of published w p (A.Popped bytes) h sent is = absurd is
 
@@ -159,20 +161,20 @@ pub record Way (w : WorldView) (p : ℕ) (v : ProcessView) : Type 0 where
   pub others : (q : ℕ) → q ≢ p → (goes_on w more).each q ≡ w.each q
   pub parts : (goes_on w more).parts ≡ w.parts
 
-pub way : (published acts : List Act) (w : WorldView) (p : ℕ) → Holds w → ((bytes : List ℕ) → DidIn published (A.Popped bytes) → IsSent w.parts bytes) → AreLocal published (w.each p) acts → Way w p (after acts (w.each p))
+pub way : (published acts : List Act) (w : WorldView) (p : ℕ) → Holds w → ((bytes : List ℕ) → DidIn published (A.Popped bytes) → IsSent w.parts bytes) → AreLocal w.operations published (w.each p) acts → Way w p (after w.operations acts (w.each p))
 way published [] w p h sent are = record { more = []; may = tt; here = refl; others = λ q ne. refl; parts = refl }
 way published (a ∷ acts) w p h sent are =
     let one : Step w p a = step_of published w p a h sent are.0 in
-    let w1 : WorldView = at_process p (act_on a) w in
+    let w1 : WorldView = at_process p (act_on w.operations a) w in
     let h1 : Holds w1 = subst Holds one.is (holds_happens w one.happening h one.may) in
-    let are1 : AreLocal published (w1.each p) acts = subst (λ (v : ProcessView). AreLocal published v acts) (sym (at_self w p (act_on a))) are.1 in
-    let rest : Way w1 p (after acts (w1.each p)) = way published acts w1 p h1 sent are1 in
-    let there : Way (happens w one.happening) p (after acts (w1.each p)) = subst (λ (u : WorldView). Way u p (after acts (w1.each p))) (sym one.is) rest in
+    let are1 : AreLocal w.operations published (w1.each p) acts = subst (λ (v : ProcessView). AreLocal w.operations published v acts) (sym (at_self w p (act_on w.operations a))) are.1 in
+    let rest : Way w1 p (after w.operations acts (w1.each p)) = way published acts w1 p h1 sent are1 in
+    let there : Way (happens w one.happening) p (after w.operations acts (w1.each p)) = subst (λ (u : WorldView). Way u p (after w.operations acts (w1.each p))) (sym one.is) rest in
     record {
       more = one.happening ∷ there.more;
       may = (one.may, there.may);
-      here = there.here ∙ ap (after acts) (at_self w p (act_on a));
-      others = λ q ne. there.others q ne ∙ (ap (λ (u : WorldView). u.each q) one.is ∙ at_other w p (act_on a) q ne);
+      here = there.here ∙ ap (after w.operations acts) (at_self w p (act_on w.operations a));
+      others = λ q ne. there.others q ne ∙ (ap (λ (u : WorldView). u.each q) one.is ∙ at_other w p (act_on w.operations a) q ne);
       parts = there.parts ∙ ap (λ (u : WorldView). u.parts) one.is;
     }
 
@@ -191,13 +193,15 @@ pub onward : (setup : Setup) (hs : List Happening) (p : ℕ) (published journal 
     → Onward setup hs p (process_at setup p journal) (world_of setup hs).parts
 onward setup hs p published journal m here ahead popped =
     let w : WorldView = world_of setup hs in
-    let are : AreLocal published (w.each p) ahead.locals = subst (λ (v : ProcessView). AreLocal published v ahead.locals) (sym here) ahead.local in
-    let go : Way w p (after ahead.locals (w.each p)) = way published ahead.locals w p (well_by setup.ranks setup.size hs m).holds popped are in
+    let ops : w.operations ≡ setup.operations = sym (later_goes_on hs (start_of setup)).operations in
+    let local : AreLocal setup.operations published (w.each p) ahead.locals = subst (λ (v : ProcessView). AreLocal setup.operations published v ahead.locals) (sym here) ahead.local in
+    let are : AreLocal w.operations published (w.each p) ahead.locals = subst (λ o. AreLocal o published (w.each p) ahead.locals) (sym ops) local in
+    let go : Way w p (after w.operations ahead.locals (w.each p)) = way published ahead.locals w p (well_by setup.operations setup.ranks setup.size hs m).holds popped are in
     let e : world_of setup (hs ++ go.more) ≡ goes_on w go.more = goes_on-append hs go.more (start_of setup) in
     record {
       all = hs ++ go.more;
       may = may_append hs go.more (start_of setup) m go.may;
-      here = ap (λ (u : WorldView). u.each p) e ∙ go.here ∙ ap (after ahead.locals) here ∙ sym (after_ahead published journal ahead);
+      here = ap (λ (u : WorldView). u.each p) e ∙ go.here ∙ ap (λ o. after o ahead.locals (w.each p)) ops ∙ ap (after setup.operations ahead.locals) here ∙ sym (after_ahead published journal ahead);
       others = λ q ne. ap (λ (u : WorldView). u.each q) e ∙ go.others q ne;
       parts_are = ap (λ (u : WorldView). u.parts) e ∙ go.parts;
     }

@@ -138,5 +138,5 @@ have_met a b v u j k kept kept' table table' pass pass' same p p' stands =
       first = q.others s.me (λ e. ne (sym e)) ∙ o.here;
       second = q.here ∙ ap (λ (z : Setup). process_at z t.me k) (sym same);
       apart = λ e. ne (sym e);
-      sound = sound_of (world_of v.setup q.all) (well_by v.setup.ranks v.setup.size q.all q.may).holds;
+      sound = sound_of (world_of v.setup q.all) (well_by v.setup.operations v.setup.ranks v.setup.size q.all q.may).holds;
     }

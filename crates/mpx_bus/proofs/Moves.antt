@@ -148,10 +148,10 @@ popped_no_push : (x y : List ℕ) → A.Popped x ≡ A.Pushed y → ⊥
 popped_no_push x y e = cc
 
 pub push_same : (setup : Setup) (p : ℕ) (journal : List Act) (bytes : List ℕ) → process_at setup p (journal ++ A.Pushed bytes ∷ []) ≡ process_at setup p journal
-push_same setup p journal bytes = after-append journal (A.Pushed bytes ∷ []) (at_start setup p)
+push_same setup p journal bytes = after-append setup.operations journal (A.Pushed bytes ∷ []) (at_start setup p)
 
 pub pop_same : (setup : Setup) (p : ℕ) (journal : List Act) (bytes : List ℕ) → process_at setup p (journal ++ A.Popped bytes ∷ []) ≡ process_at setup p journal
-pop_same setup p journal bytes = after-append journal (A.Popped bytes ∷ []) (at_start setup p)
+pop_same setup p journal bytes = after-append setup.operations journal (A.Popped bytes ∷ []) (at_start setup p)
 
 -- the journal grows by a step that makes no post
 still_planned : (setup : Setup) (p : ℕ) (journal new : List Act) → process_at setup p new ≡ process_at setup p journal → IsPlanned setup p journal → IsPlanned setup p new

@@ -6,6 +6,7 @@ use mathlib.Core.List.{IsPrefix}
 use Rattle.std.proofs.lemmas.List.Elements.{All-head, All-tail}
 use Rattle.join_core.specs.Flat.{known, unknown, flat_leq}
 use Rattle.mpx_name.specs.Name.{Name}
+use Rattle.mpx_num.specs.declared.own.Operation.{Operation}
 use Rattle.mpx_post.specs.Births.{BirthView, same_birth, of_members, upto}
 use Rattle.mpx_post.specs.Posts.{Given}
 use Rattle.mpx_post.specs.Gatherings.{GatheringView}
@@ -60,9 +61,9 @@ joined_makes : (name : Name) (r : Result Given PostError) (v : ProcessView) → 
 joined_makes name (Ok given) v e = grown v _ e
 joined_makes name (Err refusal) v e = e
 
-joined_stores : (name : Name) (r : Option Finished) (v : ProcessView) → IsJoined v → IsJoined (stores name r v)
-joined_stores name None v e = e
-joined_stores name (Some finished) v e = grown v _ e
+joined_stores : (ops : List Operation) (name : Name) (r : Option Finished) (v : ProcessView) → IsJoined v → IsJoined (stores ops name r v)
+joined_stores ops name None v e = e
+joined_stores ops name (Some finished) v e = grown v _ e
 
 joined_opens : (parent : Name) (r : Result GatheringView PostError) (v : ProcessView) → IsJoined v → IsJoined (opens_gathering parent r v)
 joined_opens parent (Ok g) v e = grown v _ e
@@ -76,23 +77,23 @@ joined_drops : (name : Name) (n : ℕ) (r : Result (Unit {0}) PruneError) (v : P
 joined_drops name n (Ok u) v e = joined_takes (prune_part v.node name n) v e
 joined_drops name n (Err refusal) v e = e
 
-joined_act : (a : Act) (v : ProcessView) → IsJoined v → IsJoined (act_on a v)
-joined_act (A.Posted name draft) v e = joined_makes name (checked_on v.node name draft) v e
-joined_act (A.Harvested name) v e = joined_stores name (next_result v.node name) v e
-joined_act (A.Gathered parent tag ranks) v e = joined_opens parent (gathers_on v.node parent tag ranks) v e
-joined_act (A.Pruned name n) v e = joined_drops name n (pruned_on v.node.board name n) v e
-joined_act (A.Took bytes) v e = grown v (part_of bytes) e
-joined_act (A.StoppedTaking bytes left) v e = grown v (look left) e
-joined_act (A.Acknowledged board) v e = grown v (own_acks v.node.me (said_on board v)) e
-joined_act (A.Pushed bytes) v e = e
-joined_act (A.Popped bytes) v e = e
+joined_act : (ops : List Operation) (a : Act) (v : ProcessView) → IsJoined v → IsJoined (act_on ops a v)
+joined_act ops (A.Posted name draft) v e = joined_makes name (checked_on ops v.node name draft) v e
+joined_act ops (A.Harvested name) v e = joined_stores ops name (next_result ops v.node name) v e
+joined_act ops (A.Gathered parent tag ranks) v e = joined_opens parent (gathers_on v.node parent tag ranks) v e
+joined_act ops (A.Pruned name n) v e = joined_drops name n (pruned_on v.node.board name n) v e
+joined_act ops (A.Took bytes) v e = grown v (part_of bytes) e
+joined_act ops (A.StoppedTaking bytes left) v e = grown v (look left) e
+joined_act ops (A.Acknowledged board) v e = grown v (own_acks v.node.me (said_on board v)) e
+joined_act ops (A.Pushed bytes) v e = e
+joined_act ops (A.Popped bytes) v e = e
 
-joined_after : (acts : List Act) (v : ProcessView) → IsJoined v → IsJoined (after acts v)
-joined_after [] v e = e
-joined_after (a ∷ acts) v e = joined_after acts (act_on a v) (joined_act a v e)
+joined_after : (ops : List Operation) (acts : List Act) (v : ProcessView) → IsJoined v → IsJoined (after ops acts v)
+joined_after ops [] v e = e
+joined_after ops (a ∷ acts) v e = joined_after ops acts (act_on ops a v) (joined_act ops a v e)
 
 joined_at : (setup : Setup) (p : ℕ) (acts : List Act) → IsJoined (process_at setup p acts)
-joined_at setup p acts = joined_after acts (at_start setup p) ((well_by setup.ranks setup.size [] tt).holds.processes p).joined
+joined_at setup p acts = joined_after setup.operations acts (at_start setup p) ((well_by setup.operations setup.ranks setup.size [] tt).holds.processes p).joined
 
 -- a process may send a part that has only facts of its board
 pub sends_part : (setup : Setup) (p : ℕ) (journal : List Act) (bytes : List ℕ) (view : PartsView) → IsSpelled bytes view → OnlyFactsOf (look_of view) (node_at setup p journal).board → MayPush setup p journal bytes
@@ -106,26 +107,26 @@ sends_part setup p journal bytes view spells only =
 
 -- A PROCESS KEEPS THE BIRTH OF THE WORLD
 
-kept_act : (a : Act) (v : ProcessView) → Kept v (act_on a v)
-kept_act (A.Posted name draft) v = kept_makes name (checked_on v.node name draft) v
-kept_act (A.Harvested name) v = kept_stores name (next_result v.node name) v
-kept_act (A.Gathered parent tag ranks) v = kept_opens parent (gathers_on v.node parent tag ranks) v
-kept_act (A.Pruned name n) v = kept_drops name n (pruned_on v.node.board name n) v
-kept_act (A.Took bytes) v = kept_learns (part_of bytes) v
-kept_act (A.StoppedTaking bytes left) v = kept_learns (look left) v
-kept_act (A.Acknowledged board) v = kept_learns (own_acks v.node.me (said_on board v)) v
-kept_act (A.Pushed bytes) v = kept_itself v
-kept_act (A.Popped bytes) v = kept_itself v
+kept_act : (ops : List Operation) (a : Act) (v : ProcessView) → Kept v (act_on ops a v)
+kept_act ops (A.Posted name draft) v = kept_makes name (checked_on ops v.node name draft) v
+kept_act ops (A.Harvested name) v = kept_stores ops name (next_result ops v.node name) v
+kept_act ops (A.Gathered parent tag ranks) v = kept_opens parent (gathers_on v.node parent tag ranks) v
+kept_act ops (A.Pruned name n) v = kept_drops name n (pruned_on v.node.board name n) v
+kept_act ops (A.Took bytes) v = kept_learns (part_of bytes) v
+kept_act ops (A.StoppedTaking bytes left) v = kept_learns (look left) v
+kept_act ops (A.Acknowledged board) v = kept_learns (own_acks v.node.me (said_on board v)) v
+kept_act ops (A.Pushed bytes) v = kept_itself v
+kept_act ops (A.Popped bytes) v = kept_itself v
 
-pub kept_after : (acts : List Act) (v : ProcessView) → Kept v (after acts v)
-kept_after [] v = kept_itself v
-kept_after (a ∷ acts) v = kept_then v (act_on a v) (after acts (act_on a v)) (kept_act a v) (kept_after acts (act_on a v))
+pub kept_after : (ops : List Operation) (acts : List Act) (v : ProcessView) → Kept v (after ops acts v)
+kept_after ops [] v = kept_itself v
+kept_after ops (a ∷ acts) v = kept_then v (act_on ops a v) (after ops acts (act_on ops a v)) (kept_act ops a v) (kept_after ops acts (act_on ops a v))
 
 abbrev opening_birth : Setup → BirthView
 opening_birth setup = of_members (upto setup.ranks)
 
 born_at : (setup : Setup) (p : ℕ) (acts : List Act) → Stands (node_at setup p acts).board (Born [] (known (opening_birth setup)))
-born_at setup p acts = (kept_after acts (at_start setup p)).board_kept (Born [] (known (opening_birth setup))) ((λ e. cc e), ap (λ b. (cond b (record nothing { birth = known (opening_birth setup) }) nothing).birth) (name_itself []))
+born_at setup p acts = (kept_after setup.operations acts (at_start setup p)).board_kept (Born [] (known (opening_birth setup))) ((λ e. cc e), ap (λ b. (cond b (record nothing { birth = known (opening_birth setup) }) nothing).birth) (name_itself []))
 
 -- so a list of deltas isn't empty
 pub deltas_some : (setup : Setup) (p : ℕ) (acts : List Act) (frames : List (List ℕ)) → join_all (map part_of frames) ≡ lacking_on (node_at setup p acts) → frames ≡ [] → ⊥
@@ -173,10 +174,10 @@ kept_popped v w journal new bytes frames is grows all =
 
 -- LOCAL EVENTS
 
-pub node_more : (setup : Setup) (p : ℕ) (journal : List Act) (a : Act) → node_at setup p (journal ++ a ∷ []) ≡ (act_on a (process_at setup p journal)).node
-node_more setup p journal a = ap (λ (x : ProcessView). x.node) (after-append journal (a ∷ []) (at_start setup p))
+pub node_more : (setup : Setup) (p : ℕ) (journal : List Act) (a : Act) → node_at setup p (journal ++ a ∷ []) ≡ (act_on setup.operations a (process_at setup p journal)).node
+node_more setup p journal a = ap (λ (x : ProcessView). x.node) (after-append setup.operations journal (a ∷ []) (at_start setup p))
 
-pub port_local : (node now : NodeView) (v : View) (journal new : List Act) (a : Act) → IsPort node v journal → IsLocal (seat_of v).journal (process_at v.setup (seat_of v).me journal) a → now ≡ (act_on a (process_at v.setup (seat_of v).me journal)).node → new ≡ journal ++ a ∷ [] → IsPort now v new
+pub port_local : (node now : NodeView) (v : View) (journal new : List Act) (a : Act) → IsPort node v journal → IsLocal (seat_of v).journal (process_at v.setup (seat_of v).me journal) a → now ≡ (act_on v.setup.operations a (process_at v.setup (seat_of v).me journal)).node → new ≡ journal ++ a ∷ [] → IsPort now v new
 port_local node now v journal new a p is does grows =
     subst (λ (j : List Act). IsPort now v j) (sym grows) (record {
       stands = p.stands;
@@ -250,26 +251,26 @@ makes_node name (Ok given) call v now p = p.1
 makes_node name (Err refusal) call v now p = absurd (cc)
 
 -- a post of the node is a post of the process
-pub post_does : (name : Name) (draft : Draft) (call : ℕ) (v : ProcessView) (node now : NodeView) → node ≡ v.node → Posts name (checked_on node name draft) (Ok call) node now → now ≡ (act_on (A.Posted name draft) v).node
-post_does name draft call v node now is p = makes_node name (checked_on v.node name draft) call v now (subst (λ (n : NodeView). Posts name (checked_on n name draft) (Ok call) n now) is p)
+pub post_does : (ops : List Operation) (name : Name) (draft : Draft) (call : ℕ) (v : ProcessView) (node now : NodeView) → node ≡ v.node → Posts name (checked_on ops node name draft) (Ok call) node now → now ≡ (act_on ops (A.Posted name draft) v).node
+post_does ops name draft call v node now is p = makes_node name (checked_on ops v.node name draft) call v now (subst (λ (n : NodeView). Posts name (checked_on ops n name draft) (Ok call) n now) is p)
 
 -- a harvest of the node is one of the process
-harvests_node : (b : Bool) (name : Name) (o : Option Finished) (call : ℕ) (v : ProcessView) (now : NodeView) → Harvests b name o (Ok (H.Done call)) v.node now → now ≡ (stores name o v).node
-harvests_node false name o call v now p = absurd (cc)
-harvests_node true name None call v now p = absurd p
-harvests_node true name (Some finished) call v now p = p.1
+harvests_node : (ops : List Operation) (b : Bool) (name : Name) (o : Option Finished) (call : ℕ) (v : ProcessView) (now : NodeView) → Harvests ops b name o (Ok (H.Done call)) v.node now → now ≡ (stores ops name o v).node
+harvests_node ops false name o call v now p = absurd (cc)
+harvests_node ops true name None call v now p = absurd p
+harvests_node ops true name (Some finished) call v now p = p.1
 
-pub harvest_does : (name : Name) (call : ℕ) (v : ProcessView) (node now : NodeView) → node ≡ v.node → Harvests (is_some (node.opened name)) name (next_result node name) (Ok (H.Done call)) node now → now ≡ (act_on (A.Harvested name) v).node
-harvest_does name call v node now is p =
-    harvests_node (is_some (v.node.opened name)) name (next_result v.node name) call v now (subst (λ (n : NodeView). Harvests (is_some (n.opened name)) name (next_result n name) (Ok (H.Done call)) n now) is p)
+pub harvest_does : (ops : List Operation) (name : Name) (call : ℕ) (v : ProcessView) (node now : NodeView) → node ≡ v.node → Harvests ops (is_some (node.opened name)) name (next_result ops node name) (Ok (H.Done call)) node now → now ≡ (act_on ops (A.Harvested name) v).node
+harvest_does ops name call v node now is p =
+    harvests_node ops (is_some (v.node.opened name)) name (next_result ops v.node name) call v now (subst (λ (n : NodeView). Harvests ops (is_some (n.opened name)) name (next_result ops n name) (Ok (H.Done call)) n now) is p)
 
 opens_node : (parent : Name) (r : Result GatheringView PostError) (name : Name) (v : ProcessView) (now : NodeView) → Opens parent r (Ok name) v.node now → now ≡ (opens_gathering parent r v).node
 opens_node parent (Ok g) name v now p = p.1
 opens_node parent (Err refusal) name v now p = absurd (cc)
 
 -- an opening of a gathering is one of the process
-pub gather_does : (parent : Name) (tag : ℤ) (ranks : List ℤ) (name : Name) (v : ProcessView) (node now : NodeView) → node ≡ v.node → Opens parent (gathers_on node parent tag ranks) (Ok name) node now → now ≡ (act_on (A.Gathered parent tag ranks) v).node
-gather_does parent tag ranks name v node now is p = opens_node parent (gathers_on v.node parent tag ranks) name v now (subst (λ (n : NodeView). Opens parent (gathers_on n parent tag ranks) (Ok name) n now) is p)
+pub gather_does : (ops : List Operation) (parent : Name) (tag : ℤ) (ranks : List ℤ) (name : Name) (v : ProcessView) (node now : NodeView) → node ≡ v.node → Opens parent (gathers_on node parent tag ranks) (Ok name) node now → now ≡ (act_on ops (A.Gathered parent tag ranks) v).node
+gather_does ops parent tag ranks name v node now is p = opens_node parent (gathers_on v.node parent tag ranks) name v now (subst (λ (n : NodeView). Opens parent (gathers_on n parent tag ranks) (Ok name) n now) is p)
 
 opens_same : (parent : Name) (r : Result GatheringView PostError) (e : PostError) (old now : NodeView) → Opens parent r (Err e) old now → now ≡ old
 opens_same parent (Ok g) e old now p = p.1
@@ -279,8 +280,8 @@ pub gather_same : (parent : Name) (tag : ℤ) (ranks : List ℤ) (e : PostError)
 gather_same parent tag ranks e node now p = opens_same parent (gathers_on node parent tag ranks) e node now p
 
 -- a pruning is one of the process
-pub prune_does : (name : Name) (n : ℕ) (u : Unit {0}) (v : ProcessView) (node now : NodeView) → node ≡ v.node → Ok u ≡ pruned_on node.board name n → now ≡ learn_some (prune_part node name n) node → now ≡ (act_on (A.Pruned name n) v).node
-prune_does name n u v node now is answer does =
+pub prune_does : (ops : List Operation) (name : Name) (n : ℕ) (u : Unit {0}) (v : ProcessView) (node now : NodeView) → node ≡ v.node → Ok u ≡ pruned_on node.board name n → now ≡ learn_some (prune_part node name n) node → now ≡ (act_on ops (A.Pruned name n) v).node
+prune_does ops name n u v node now is answer does =
     does ∙ ap (λ (x : NodeView). learn_some (prune_part x name n) x) is ∙ sym (taken_node (prune_part v.node name n) v) ∙ ap (λ r. (drops name n r v).node) (answer ∙ ap (λ (x : NodeView). pruned_on x.board name n) is)
 
 -- WHAT A PROCESS SAYS THAT IT HAS
@@ -301,8 +302,8 @@ said_twice me old numbers i = record { contexts = λ name. join_contexts (old.co
   by q name m false t = refl
 
 -- a node that says what it has, as it then stands on this board
-pub says_does : (board : Board) (v : ProcessView) (node now : NodeView) → node ≡ v.node → SaysWhatItHas node now → look board ≡ now.board → now ≡ (act_on (A.Acknowledged board) v).node
-says_does board v node now is says on =
+pub says_does : (ops : List Operation) (board : Board) (v : ProcessView) (node now : NodeView) → node ≡ v.node → SaysWhatItHas node now → look board ≡ now.board → now ≡ (act_on ops (A.Acknowledged board) v).node
+says_does ops board v node now is says on =
     let there : look board ≡ join node.board (own_acks node.me says.numbers) = on ∙ ap (λ (n : NodeView). n.board) says.learnt in
     let said : (look board).acks node.me ≡ (join node.board (own_acks node.me says.numbers)).acks node.me = ap (λ (b : Look). b.acks node.me) there in
     let same : join node.board (own_acks node.me ((look board).acks node.me)) ≡ join node.board (own_acks node.me says.numbers) = ap (λ n. join node.board (own_acks node.me n)) said ∙ said_twice node.me node.board says.numbers in
@@ -325,7 +326,7 @@ says_no_more board v node now is says on = subst NoMore is no_more where
 pub port_said : (node now : NodeView) (v : View) (journal new : List Act) (board : Board) → IsPort node v journal → SaysWhatItHas node now → look board ≡ now.board → new ≡ journal ++ A.Acknowledged board ∷ [] → IsPort now v new
 port_said node now v journal new board p says on grows =
     let x : ProcessView = process_at v.setup (seat_of v).me journal in
-    port_local node now v journal new (A.Acknowledged board) p (says_no_more board x node now p.node_is says on) (says_does board x node now p.node_is says on) grows
+    port_local node now v journal new (A.Acknowledged board) p (says_no_more board x node now p.node_is says on) (says_does v.setup.operations board x node now p.node_is says on) grows
 
 -- FRAMES OF A LIST
 

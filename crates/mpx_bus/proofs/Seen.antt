@@ -3,6 +3,7 @@ use Rattle.std.proofs.Common.{◌≡◌, ℕ, zero, suc, List, [], ◌∷◌, �
 use Rattle.std.specs.Prelude.{slice_get}
 use Rattle.std.proofs.lemmas.List.{append-nil}
 use Rattle.mpx_name.specs.Name.{Name}
+use Rattle.mpx_num.specs.declared.own.Operation.{Operation}
 use Rattle.mpx_post.specs.Posts.{Given}
 use Rattle.mpx_post.specs.Gatherings.{GatheringView}
 use Rattle.mpx_post.specs.declared.draft.PostError.{PostError}
@@ -32,9 +33,9 @@ grows_makes : (name : Name) (r : Result Given PostError) (v : ProcessView) → G
 grows_makes name (Ok given) v = record { more = post_fact name given v.node ∷ []; is = refl }
 grows_makes name (Err refusal) v = no_growth v
 
-grows_stores : (name : Name) (r : Option Finished) (v : ProcessView) → Grows v (stores name r v)
-grows_stores name None v = no_growth v
-grows_stores name (Some finished) v = record { more = harvest_part name (made_next name v.node) v.node ∷ []; is = refl }
+grows_stores : (ops : List Operation) (name : Name) (r : Option Finished) (v : ProcessView) → Grows v (stores ops name r v)
+grows_stores ops name None v = no_growth v
+grows_stores ops name (Some finished) v = record { more = harvest_part name (made_next ops name v.node) v.node ∷ []; is = refl }
 
 grows_opens : (parent : Name) (r : Result GatheringView PostError) (v : ProcessView) → Grows v (opens_gathering parent r v)
 grows_opens parent (Ok g) v = record { more = gathering_fact parent g ∷ []; is = refl }
@@ -48,16 +49,16 @@ grows_drops : (name : Name) (n : ℕ) (r : Result (Unit {0}) PruneError) (v : Pr
 grows_drops name n (Ok u) v = grows_takes (prune_part v.node name n) v
 grows_drops name n (Err refusal) v = no_growth v
 
-grows_act : (a : Act) (v : ProcessView) → Grows v (act_on a v)
-grows_act (A.Posted name draft) v = grows_makes name (checked_on v.node name draft) v
-grows_act (A.Harvested name) v = grows_stores name (next_result v.node name) v
-grows_act (A.Gathered parent tag ranks) v = grows_opens parent (gathers_on v.node parent tag ranks) v
-grows_act (A.Pruned name n) v = grows_drops name n (pruned_on v.node.board name n) v
-grows_act (A.Took bytes) v = record { more = part_of bytes ∷ []; is = refl }
-grows_act (A.StoppedTaking bytes left) v = record { more = look left ∷ []; is = refl }
-grows_act (A.Acknowledged board) v = record { more = own_acks v.node.me (said_on board v) ∷ []; is = refl }
-grows_act (A.Pushed bytes) v = no_growth v
-grows_act (A.Popped bytes) v = no_growth v
+grows_act : (ops : List Operation) (a : Act) (v : ProcessView) → Grows v (act_on ops a v)
+grows_act ops (A.Posted name draft) v = grows_makes name (checked_on ops v.node name draft) v
+grows_act ops (A.Harvested name) v = grows_stores ops name (next_result ops v.node name) v
+grows_act ops (A.Gathered parent tag ranks) v = grows_opens parent (gathers_on v.node parent tag ranks) v
+grows_act ops (A.Pruned name n) v = grows_drops name n (pruned_on v.node.board name n) v
+grows_act ops (A.Took bytes) v = record { more = part_of bytes ∷ []; is = refl }
+grows_act ops (A.StoppedTaking bytes left) v = record { more = look left ∷ []; is = refl }
+grows_act ops (A.Acknowledged board) v = record { more = own_acks v.node.me (said_on board v) ∷ []; is = refl }
+grows_act ops (A.Pushed bytes) v = no_growth v
+grows_act ops (A.Popped bytes) v = no_growth v
 
 -- what begins a list begins a longer one
 begins_longer : {A : Type 0} (i : ℕ) (xs ys : List A) → (j : ℕ) × (take j (xs ++ ys) ≡ take i xs)
@@ -69,9 +70,9 @@ seen_longer : (v u : ProcessView) (g : Grows v u) (f : Fact) → IsSeen v f → 
 seen_longer v u g f (in_board i has) = let t = begins_longer i v.learned g.more in in_board t.0 (subst (λ xs. Has (join_all xs) f) (sym t.1 ∙ ap (take t.0) (sym g.is)) has)
 seen_longer v u g f (in_part i part at has) = in_part i part (ap (λ xs. slice_get xs i) g.is ∙ slice_get-append v.learned g.more i part at) has
 
-seen_after : (acts : List Act) (v : ProcessView) (f : Fact) → IsSeen v f → IsSeen (after acts v) f
-seen_after [] v f seen = seen
-seen_after (a ∷ acts) v f seen = seen_after acts (act_on a v) f (seen_longer v (act_on a v) (grows_act a v) f seen)
+seen_after : (ops : List Operation) (acts : List Act) (v : ProcessView) (f : Fact) → IsSeen v f → IsSeen (after ops acts v) f
+seen_after ops [] v f seen = seen
+seen_after ops (a ∷ acts) v f seen = seen_after ops acts (act_on ops a v) f (seen_longer v (act_on ops a v) (grows_act ops a v) f seen)
 
 pub may_push_later : (setup : Setup) (p : ℕ) (journal more : List Act) (bytes : List ℕ) → MayPush setup p journal bytes → MayPush setup p (journal ++ more) bytes
 may_push_later setup p journal more bytes may =
@@ -79,7 +80,7 @@ may_push_later setup p journal more bytes may =
     (λ (m : MaySend setup p journal bytes). inl (record {
       view = m.view;
       spells = m.spells;
-      seen = λ f has. subst (λ (v : ProcessView). IsSeen v f) (sym (after-append journal more (at_start setup p))) (seen_after more (process_at setup p journal) f (m.seen f has));
+      seen = λ f has. subst (λ (v : ProcessView). IsSeen v f) (sym (after-append setup.operations journal more (at_start setup p))) (seen_after setup.operations more (process_at setup p journal) f (m.seen f has));
     }))
     (λ (d : DidIn journal (A.Popped bytes)). inr (did_before journal more (A.Popped bytes) d))
     may

@@ -1,8 +1,6 @@
 -- Frames with the bytes of boards.
-use Rattle.std.proofs.Common.{◌≡◌, ◌≤◌, ℕ, zero, suc, Bool, true, false, cond, List, [], ◌∷◌, ◌++◌, length, map, take, Some, All, refl, sym, ap, subst, arith}
-use Rattle.std.specs.Prelude.{slice_get}
-use Rattle.std.proofs.lemmas.List.Elements.{All-nil, All-cons, All-head, All-tail, All-weaker}
-use Rattle.std.proofs.lemmas.Option.{same_Some}
+use Rattle.std.proofs.Common.{◌≡◌, ◌≤◌, ℕ, suc, Bool, true, false, cond, List, [], ◌∷◌, length, map, All, refl, sym, ap, subst, arith}
+use Rattle.std.proofs.lemmas.List.Elements.{All-nil, All-cons, All-head, All-tail}
 use Rattle.mpx_board.specs.declared.board.Board.{Board}
 use Rattle.mpx_board.specs.Boards.{Look}
 use Rattle.mpx_board.specs.Looks.{look, parts_of}
@@ -14,13 +12,6 @@ use Rattle.mpx_format.specs.Encoding.{is_too_long, length_told}
 use Rattle.mpx_format.proofs.Decoded.{decoded_again}
 use Rattle.mpx_parts.specs.Facts.{OnlyFactsOf}
 use Rattle.mpx_bus.specs.Frames.{shown, part_of, AreSpelled}
-
-pub spelled_push : (frames : List (List ℕ)) (boards : List Board) (i : ℕ) (bytes : List ℕ) (board : Board) → slice_get boards i ≡ Some board → Spells Two bytes (parts_of board) → AreSpelled frames (take i boards) → AreSpelled (frames ++ bytes ∷ []) (take (suc i) boards)
-spelled_push frames [] i bytes board e s h = cc e
-spelled_push [] (b ∷ bs) zero bytes board e s h = (subst (λ x. Spells Two bytes (parts_of x)) (sym (same_Some b board e)) s, tt)
-spelled_push (f ∷ fs) (b ∷ bs) zero bytes board e s h = absurd h
-spelled_push [] (b ∷ bs) (suc i) bytes board e s h = absurd h
-spelled_push (f ∷ fs) (b ∷ bs) (suc i) bytes board e s h = (h.0, spelled_push fs bs i bytes board e s h.1)
 
 -- they show these boards
 pub spelled_parts : (frames : List (List ℕ)) (boards : List Board) → AreSpelled frames boards → map part_of frames ≡ map look boards
@@ -60,7 +51,3 @@ spelled_fit limit (bytes ∷ frames) (board ∷ boards) s all =
     All-cons (λ xs. length xs ≤ limit) bytes frames
     (within (length bytes) (length_told (parts_of board)) limit (length_above bytes (parts_of board) s.0) (All-head (λ x. length_told (parts_of x) ≤ limit) board boards all))
     (spelled_fit limit frames boards s.1 (All-tail (λ x. length_told (parts_of x) ≤ limit) board boards all))
-
--- a greater limit lets them be longer
-pub fit_more : (limit most : ℕ) (boards : List Board) → limit ≤ most → All (λ board. length_told (parts_of board) ≤ limit) boards → All (λ board. length_told (parts_of board) ≤ most) boards
-fit_more limit most boards le all = All-weaker (λ board. length_told (parts_of board) ≤ limit) (λ board. length_told (parts_of board) ≤ most) (λ board l. within (length_told (parts_of board)) limit most l le) boards all

@@ -1,6 +1,7 @@
 -- What the acts of a process come to.
 use Rattle.std.specs.Prelude.{◌≡◌, ◌≤◌, ◌⊎◌, ℕ, List, [], ◌∷◌, ◌++◌, slice_get, Some}
 use Rattle.mpx_name.specs.Name.{Name}
+use Rattle.mpx_num.specs.declared.own.Operation.{Operation}
 use Rattle.mpx_board.specs.declared.board.Board.{Board}
 use Rattle.mpx_board.specs.Boards.{Fact, Has, IsBetween}
 use Rattle.mpx_board.specs.Looks.{look}
@@ -19,25 +20,27 @@ pub use Rattle.mpx_bus.specs.Frames.{shown, part_of}
 abbrev pub said_on : Board → ProcessView → Numbers
 said_on board v = (look board).acks v.node.me
 
-abbrev pub act_on : Act → ProcessView → ProcessView
-act_on (A.Posted name draft) v = posts name draft v
-act_on (A.Harvested name) v = harvests name v
-act_on (A.Gathered parent tag ranks) v = gathers parent tag ranks v
-act_on (A.Pruned name n) v = prunes name n v
-act_on (A.Took bytes) v = learns (part_of bytes) v
-act_on (A.StoppedTaking bytes left) v = learns (look left) v
-act_on (A.Acknowledged board) v = acknowledges (said_on board v) v
-act_on (A.Pushed bytes) v = v
-act_on (A.Popped bytes) v = v
+-- with these operations of the job's own
+module _ (ops : List Operation) where
+  abbrev pub act_on : Act → ProcessView → ProcessView
+  act_on (A.Posted name draft) v = posts ops name draft v
+  act_on (A.Harvested name) v = harvests ops name v
+  act_on (A.Gathered parent tag ranks) v = gathers parent tag ranks v
+  act_on (A.Pruned name n) v = prunes name n v
+  act_on (A.Took bytes) v = learns (part_of bytes) v
+  act_on (A.StoppedTaking bytes left) v = learns (look left) v
+  act_on (A.Acknowledged board) v = acknowledges (said_on board v) v
+  act_on (A.Pushed bytes) v = v
+  act_on (A.Popped bytes) v = v
 
--- these acts, the oldest first
-abbrev pub after : List Act → ProcessView → ProcessView
-after [] v = v
-after (a ∷ more) v = after more (act_on a v)
+  -- these acts, the oldest first
+  abbrev pub after : List Act → ProcessView → ProcessView
+  after [] v = v
+  after (a ∷ more) v = after more (act_on a v)
 
 -- the world before anything happens
 abbrev pub start_of : Setup → WorldView
-start_of setup = start setup.ranks setup.size
+start_of setup = start setup.operations setup.ranks setup.size
 
 -- a process before it does anything
 abbrev pub at_start : Setup → (process : ℕ) → ProcessView
@@ -45,7 +48,7 @@ at_start setup p = (start_of setup).each p
 
 -- a process once it has done these
 abbrev pub process_at : Setup → (process : ℕ) → List Act → ProcessView
-process_at setup p acts = after acts (at_start setup p)
+process_at setup p acts = after setup.operations acts (at_start setup p)
 
 abbrev pub node_at : Setup → (process : ℕ) → List Act → NodeView
 node_at setup p acts = (process_at setup p acts).node
@@ -73,15 +76,15 @@ IsLocal published v (A.Acknowledged board) = SaysNoMore board v
 IsLocal published v (A.Pushed bytes) = ⊥
 IsLocal published v (A.Popped bytes) = ⊥
 
-abbrev pub AreLocal : List Act → ProcessView → List Act → Type 0
-AreLocal published v [] = Unit {0}
-AreLocal published v (a ∷ more) = IsLocal published v a × AreLocal published (act_on a v) more
+abbrev pub AreLocal : List Operation → List Act → ProcessView → List Act → Type 0
+AreLocal ops published v [] = Unit {0}
+AreLocal ops published v (a ∷ more) = IsLocal published v a × AreLocal ops published (act_on ops a v) more
 
 -- the journal goes on from the published one by local events
 pub record IsAhead (setup : Setup) (process : ℕ) (published journal : List Act) : Type 0 where
   pub locals : List Act
   pub whole : journal ≡ published ++ locals
-  pub local : AreLocal published (process_at setup process published) locals
+  pub local : AreLocal setup.operations published (process_at setup process published) locals
 
 -- the process may send the part that these bytes spell: it has seen each fact of it
 pub record MaySend (setup : Setup) (process : ℕ) (journal : List Act) (bytes : List ℕ) : Type 0 where

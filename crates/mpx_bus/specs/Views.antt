@@ -7,7 +7,7 @@ use Rattle.mpx_bus.specs.declared.act.Seen.{Seen}
 use Rattle.mpx_bus.specs.declared.act.View.{View}
 
 abbrev pub no_setup : Setup
-no_setup = record { ranks = 0; size = 0; planned = false; plan = [] }
+no_setup = record { ranks = 0; size = 0; operations = []; planned = false; plan = [] }
 
 -- the first pass, which makes the others
 abbrev pub maker : View

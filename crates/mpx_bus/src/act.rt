@@ -1,7 +1,7 @@
 // What a process did, and what the queue knows of it. No value of these types is made: contracts alone see them.
 use mpx_board::Board;
 use mpx_name::Name;
-use mpx_num::Numbers;
+use mpx_num::{Numbers, Operation};
 use mpx_post::{Draft, Post};
 use std::collections::LinkedList;
 
@@ -51,10 +51,12 @@ pub enum Act {
     },
 }
 
-/// What all processes agree on from the start.
+/// What all processes agree on from the start: how many they are, what the operations of the job's own mean, and the plan, where
+/// there is one.
 pub struct Setup {
     pub ranks: u8,
     pub size: u8,
+    pub operations: LinkedList<Operation>,
     pub planned: bool,
     pub plan: LinkedList<LinkedList<(Name, Post)>>,
 }

@@ -14,7 +14,7 @@ ghost use Rattle.mpx_bus.specs.Finished.{HaveFinished};
 ghost use Rattle.mpx_bus.specs.Answers.{HarvestsOne, Lists, PassesOn, PopsOne, PushesNext, PushesOne, PushesLast, TakesIn};
 
 use crate::both::both_finished;
-use crate::frame::{Frame, frames_of};
+use crate::frame::{Frame, frames_with};
 use crate::rule::{Meets, Named, Place, Queue, Seats};
 use crate::steps::{name_all, opened_line, pop_to, push_to};
 use crate::trace::{
@@ -22,10 +22,11 @@ use crate::trace::{
 };
 use join_core::OutOfMemory;
 use mpx_board::PruneError;
-use mpx_delta::NewList;
+use mpx_delta::NewFrames;
 use mpx_group::Proc;
 use mpx_name::Name;
 use mpx_node::{Harvest, Node};
+use mpx_num::{Listing, Ops};
 use mpx_post::{Draft, PostError};
 use std::alloc::Global;
 use std::marker::{Brand, Model};
@@ -95,7 +96,7 @@ pub struct Met {
 
 impl Bus {
     /// A bus with room for so many frames, and a port for each process, in order; the first processes are ranks. What the ports
-    /// plan to post, where they do, is `N`'s, which contracts alone see.
+    /// plan to post, where they do, and which operations of the job's own they have is `N`'s, which contracts alone see.
     pub fn new<N: Named>(
         alloc: Global,
         capacity: usize,
@@ -226,10 +227,7 @@ impl Bus {
             return Pop::Empty;
         };
         popped::<Brand>(&port.desk, &mut port.line, &frame);
-        let Ok(board) = frame.opened(alloc) else {
-            return Pop::OutOfMemory(frame);
-        };
-        match port.node.take(alloc, &board) {
+        match port.node.take_frame(alloc, frame.as_slice()) {
             Ok(()) => {
                 took::<Brand>(&port.desk, &mut port.line, &frame);
                 Pop::Took(frame)
@@ -286,16 +284,23 @@ impl Port {
         &self.node
     }
 
-    /// Posts the draft as the next call on a context, as [`Node::post`] does.
-    pub fn post(&mut self, alloc: Global, name: &Name, draft: Draft) -> Result<u32, PostError>
+    /// Posts the draft as the next call on a context, as [`Node::post`] does. The operations are those that the bus was set up with.
+    pub fn post(
+        &mut self,
+        alloc: Global,
+        name: &Name,
+        draft: Draft,
+        ops: &Ops,
+    ) -> Result<u32, PostError>
+        requires { ⟦<Ops as Listing>⟧.operations ops.now ≡ self.old.setup.operations }
         ensures port { Goes self.old self.new }
         ensures still { (self.new.published ≡ self.old.published) × (self.new.kept ≡ self.old.kept) }
         ensures ok { OnOk result (self.new.journal ≡ self.old.journal ++ A.Posted name.now draft ∷ []) }
         ensures err { OnErr result (self.new ≡ self.old) }
-        ensures node { Posts name.now (checked_on (node_in self.old) name.now draft) result (node_in self.old) (node_in self.new) }
+        ensures node { Posts name.now (checked_on self.old.setup.operations (node_in self.old) name.now draft) result (node_in self.old) (node_in self.new) }
     {
         let next = posted::<Brand>(&self.desk, &mut self.line, name, &draft);
-        match self.node.post(alloc, name, draft) {
+        match self.node.post(alloc, name, draft, ops) {
             Ok(call) => {
                 self.line = next;
                 Ok(call)
@@ -304,14 +309,15 @@ impl Port {
         }
     }
 
-    /// Stores the result of the next call on a context, as [`Node::harvest`] does.
-    pub fn harvest(&mut self, alloc: Global, name: &Name) -> Result<Harvest, OutOfMemory>
+    /// Stores the result of the next call on a context, as [`Node::harvest`] does, with the same operations.
+    pub fn harvest(&mut self, alloc: Global, name: &Name, ops: &Ops) -> Result<Harvest, OutOfMemory>
+        requires { ⟦<Ops as Listing>⟧.operations ops.now ≡ self.old.setup.operations }
         ensures port { GoesOn self.old self.new }
         ensures still { (self.new.published ≡ self.old.published) × (self.new.kept ≡ self.old.kept) }
         ensures journal { HarvestsOne name.now result self.old self.new }
-        ensures node { Harvests (is_some ((node_in self.old).opened name.now)) name.now (next_result (node_in self.old) name.now) result (node_in self.old) (node_in self.new) }
+        ensures node { Harvests self.old.setup.operations (is_some ((node_in self.old).opened name.now)) name.now (next_result self.old.setup.operations (node_in self.old) name.now) result (node_in self.old) (node_in self.new) }
     {
-        match self.node.harvest(alloc, name)? {
+        match self.node.harvest(alloc, name, ops)? {
             Harvest::Done(call) => {
                 harvested::<Brand>(&self.desk, &mut self.line, name);
                 Ok(Harvest::Done(call))
@@ -388,8 +394,8 @@ impl Port {
         ensures some { OnOk result (self.new.kept ≢ []) }
         ensures err { OnErr result (self.new ≡ self.old) }
     {
-        let NewList { said, parts } = self.node.lacking(alloc, limit)?;
-        let frames = frames_of(alloc, parts.as_slice())?;
+        let NewFrames { said, frames } = self.node.lacking_frames(alloc, limit)?;
+        let frames = frames_with(alloc, frames)?;
         self.node.acknowledge(said);
         acknowledged::<Brand>(&self.desk, &mut self.line, self.node.board());
         self.kept = frames;

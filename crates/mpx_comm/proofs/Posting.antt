@@ -19,11 +19,14 @@ use Rattle.mpx_post.specs.Drafts.{at, checked, checked_as, checked_at, drafted_s
 use Rattle.mpx_post.specs.Births.{rank_in}
 use Rattle.join_core.specs.Flat.{known, unknown}
 use Rattle.mpx_name.specs.Name.{Name, same_name}
+use Rattle.mpx_num.specs.declared.own.Operation.{Operation}
+use Rattle.mpx_num.specs.Operations.{is_for}
 use Rattle.mpx_board.specs.Boards.{Look, Held, only, nothing, told}
 use Rattle.mpx_node.specs.Nodes.{NodeView, OpenedView, posted_on, posted_by, Posts, post_at, posts_more, checked_on, checked_by, checked_there, results_on, results_by, front_on}
 use Rattle.mpx_comm.specs.declared.request.Request.{Request}
 use Rattle.mpx_comm.specs.Requests.{same_request, close, close_all, ArePosted, result_of, AreResults, WerePending, HasPosted, next_call, IsRefusal, Asks, AwaitsOne, GivesUpOne, Waits, PostsAnd, Calls}
 use Rattle.mpx_comm.specs.declared.answers.WaitError.TheVariants as W
+use Rattle.mpx_comm.specs.declared.answers.CallError.{CallError}
 use Rattle.mpx_comm.specs.declared.answers.CallError.TheVariants as C
 use Rattle.mpx_comm.specs.Later.{Later, IsPending, WasPending, IsOwn}
 use Rattle.join_core.specs.Cases.{first_true, second_true, Answer, yes, no, answer}
@@ -100,19 +103,19 @@ no_fewer given true None = omega arith
 no_fewer given true (Some o) = omega arith
 no_fewer given false o = omega arith
 
-one_more : (o : Option OpenedView) (birth : Option BirthView) (me : ℕ) (name : Name) (draft : Draft) (given : Given) → checked_by o birth me name draft ≡ Ok given → posted_by (option_map (posts_more given) o) ≡ posted_by o + 1
-one_more None birth me name draft given e = cc e
-one_more (Some o) birth me name draft given e = refl
+one_more : (ops : List Operation) (o : Option OpenedView) (birth : Option BirthView) (me : ℕ) (name : Name) (draft : Draft) (given : Given) → checked_by ops o birth me name draft ≡ Ok given → posted_by (option_map (posts_more given) o) ≡ posted_by o + 1
+one_more ops None birth me name draft given e = cc e
+one_more ops (Some o) birth me name draft given e = refl
 
-pub posted_added : (old new : NodeView) (draft : Draft) (rs after : List Request) (q : Request) → ArePosted old rs → IsMade q.name q.call old new (checked_on old q.name draft) → after ≡ rs ++ q ∷ [] → ArePosted new after
-posted_added old new draft rs after q all made e i r f = by_place (get_either rs q i r (ap (λ xs. slice_get xs i) (sym e) ∙ f)) where
+pub posted_added : (ops : List Operation) (old new : NodeView) (draft : Draft) (rs after : List Request) (q : Request) → ArePosted old rs → IsMade q.name q.call old new (checked_on ops old q.name draft) → after ≡ rs ++ q ∷ [] → ArePosted new after
+posted_added ops old new draft rs after q all made e i r f = by_place (get_either rs q i r (ap (λ xs. slice_get xs i) (sym e) ∙ f)) where
   grown : (n : Name) → posted_on old n ≤ posted_on new n
   grown n = subst (λ x. posted_on old n ≤ posted_on x n) (sym made.made) (no_fewer made.given (same_name n q.name) (old.opened n))
 
   next : posted_on new q.name ≡ posted_on old q.name + 1
   next = ap (λ x. posted_on x q.name) made.made
       ∙ ap (λ b. posted_by (cond b (option_map (posts_more made.given) (old.opened q.name)) (old.opened q.name))) (name_equality.reflexive q.name)
-      ∙ one_more (old.opened q.name) (told (old.board.contexts q.name).birth) old.me q.name draft made.given made.checked
+      ∙ one_more ops (old.opened q.name) (told (old.board.contexts q.name).birth) old.me q.name draft made.given made.checked
 
   by_place : (slice_get rs i ≡ Some r) ⊎ ((i ≡ length rs) × (q ≡ r)) → r.call < posted_on new r.name
   by_place (inl there) = omega (arith, all i r there, grown r.name)
@@ -128,31 +131,31 @@ unfolding given_in
 drafted None x y f = ap (given_in x) (sym f)
 drafted (Some r) x y f = cc f
 
-given_drafted : (birth : BirthView) (me : ℕ) (at : At) (draft : Draft) (given : Given) → checked birth me at draft ≡ Ok given → given ≡ given_by draft
+given_drafted : (ops : List Operation) (birth : BirthView) (me : ℕ) (at : At) (draft : Draft) (given : Given) → checked ops birth me at draft ≡ Ok given → given ≡ given_by draft
 unfolding checked
-given_drafted birth me at draft given e = by_rank (rank_in me birth.members) e where
+given_drafted ops birth me at draft given e = by_rank (rank_in me birth.members) e where
   by_test : (b : Bool) (x y : Option PostError) → cond b (unless x (given_by draft)) (unless y (given_by draft)) ≡ Ok given → given ≡ given_by draft
   by_test true x y f = drafted x (given_by draft) given f
   by_test false x y f = drafted y (given_by draft) given f
 
-  by_closed : (rank : ℕ) (b : Bool) → (let x : Result Given PostError = cond b (Err R.Closed) (checked_as rank birth at draft) in x) ≡ Ok given → given ≡ given_by draft
+  by_closed : (rank : ℕ) (b : Bool) → (let x : Result Given PostError = cond b (Err R.Closed) (checked_as ops rank birth at draft) in x) ≡ Ok given → given ≡ given_by draft
   by_closed rank true f = cc f
-  by_closed rank false f = by_test (lacks_topology birth.topology (kind_of draft.call)) (first_that_holds (stray_refusals draft)) (first_that_holds (refusals (drafted_seat birth rank draft) at draft)) f
+  by_closed rank false f = by_test (lacks_topology birth.topology (kind_of draft.call)) (first_that_holds (stray_refusals draft)) (first_that_holds (refusals (is_for ops draft.op draft.ty) (drafted_seat birth rank draft) at draft)) f
 
-  by_rank : (o : Option ℕ) → checked_at o birth at draft ≡ Ok given → given ≡ given_by draft
+  by_rank : (o : Option ℕ) → checked_at ops o birth at draft ≡ Ok given → given ≡ given_by draft
   by_rank None f = cc f
   by_rank (Some rank) f = by_closed rank at.closed f
 
-given_there : (posted : ℕ) (birth : Option BirthView) (me : ℕ) (name : Name) (draft : Draft) (given : Given) → checked_there posted birth me name draft ≡ Ok given → given ≡ given_by draft
-given_there posted None me name draft given e = cc e
-given_there posted (Some birth) me name draft given e = given_drafted birth me (at name posted false) draft given e
+given_there : (ops : List Operation) (posted : ℕ) (birth : Option BirthView) (me : ℕ) (name : Name) (draft : Draft) (given : Given) → checked_there ops posted birth me name draft ≡ Ok given → given ≡ given_by draft
+given_there ops posted None me name draft given e = cc e
+given_there ops posted (Some birth) me name draft given e = given_drafted ops birth me (at name posted false) draft given e
 
-given_is : (o : Option OpenedView) (birth : Option BirthView) (me : ℕ) (name : Name) (draft : Draft) (given : Given) → checked_by o birth me name draft ≡ Ok given → given ≡ given_by draft
-given_is None birth me name draft given e = cc e
-given_is (Some o) birth me name draft given e = by_freed o.freed e where
-  by_freed : (b : Bool) → (let x : Result Given PostError = cond b (Err R.Closed) (checked_there o.posted birth me name draft) in x) ≡ Ok given → given ≡ given_by draft
+given_is : (ops : List Operation) (o : Option OpenedView) (birth : Option BirthView) (me : ℕ) (name : Name) (draft : Draft) (given : Given) → checked_by ops o birth me name draft ≡ Ok given → given ≡ given_by draft
+given_is ops None birth me name draft given e = cc e
+given_is ops (Some o) birth me name draft given e = by_freed o.freed e where
+  by_freed : (b : Bool) → (let x : Result Given PostError = cond b (Err R.Closed) (checked_there ops o.posted birth me name draft) in x) ≡ Ok given → given ≡ given_by draft
   by_freed true f = cc f
-  by_freed false f = given_there o.posted birth me name draft given f
+  by_freed false f = given_there ops o.posted birth me name draft given f
 
 results_stay : (given : Given) (b : Bool) (o : Option OpenedView) → results_by (cond b (option_map (posts_more given) o) o) ≡ results_by o
 results_stay given true None = refl
@@ -185,9 +188,9 @@ module _ (old : NodeView) (name : Name) (given : Given) where
         absurd (omega (arith, less, bounded));
   }
 
-  pub has_posted : (draft : Draft) → front_on old name ≤ posted_on old name → checked_on old name draft ≡ Ok given → HasPosted name draft old posting
-  has_posted draft bounded e =
-      let is : given ≡ given_by draft = given_is (old.opened name) (told (old.board.contexts name).birth) old.me name draft given e in
+  pub has_posted : (ops : List Operation) (draft : Draft) → front_on old name ≤ posted_on old name → checked_on ops old name draft ≡ Ok given → HasPosted ops name draft old posting
+  has_posted ops draft bounded e =
+      let is : given ≡ given_by draft = given_is ops (old.opened name) (told (old.board.contexts name).birth) old.me name draft given e in
       record {
         accepted = e ∙ ap Ok is;
         own = subst (λ g. IsOwn posting name (posted_on old name) g) is (own_by bounded);
@@ -197,8 +200,8 @@ module _ (old : NodeView) (name : Name) (given : Given) where
       }
 
 -- what was posted stays so
-pub posted_then : (name : Name) (draft : Draft) (old mid last : NodeView) → HasPosted name draft old mid → Later mid last → HasPosted name draft old last
-posted_then name draft old mid last h later = record {
+pub posted_then : (ops : List Operation) (name : Name) (draft : Draft) (old mid last : NodeView) → HasPosted ops name draft old mid → Later mid last → HasPosted ops name draft old last
+posted_then ops name draft old mid last h later = record {
   accepted = h.accepted;
   own = later.own name (posted_on old name) (given_by draft) h.own;
   posted = λ n. later.posted n ∙ h.posted n;
@@ -207,19 +210,19 @@ posted_then name draft old mid last h later = record {
 }
 
 -- a post and what stays of it: its request is the last, and each open one is posted
-pub post_done : (old new : NodeView) (name : Name) (call : ℕ) (draft : Draft) (rs after : List Request) (q : Request) → front_on old name ≤ posted_on old name → ArePosted old rs → Posts name (checked_on old name draft) (Ok call) old new → q ≡ record { name = name; call = call } → after ≡ insert_key same_request rs q → ((q ≡ next_call old name) × HasPosted name draft old new × (after ≡ rs ++ q ∷ [])) × ArePosted new after
-post_done old new name call draft rs after q bounded all posts is keys =
-    let at : IsMade name call old new (checked_on old name draft) = is_made name call old new (checked_on old name draft) posts in
-    let here : Posts q.name (checked_on old q.name draft) (Ok q.call) old new = subst (λ (x : Request). Posts x.name (checked_on old x.name draft) (Ok x.call) old new) (sym is) posts in
-    let made : IsMade q.name q.call old new (checked_on old q.name draft) = is_made q.name q.call old new (checked_on old q.name draft) here in
+pub post_done : (ops : List Operation) (old new : NodeView) (name : Name) (call : ℕ) (draft : Draft) (rs after : List Request) (q : Request) → front_on old name ≤ posted_on old name → ArePosted old rs → Posts name (checked_on ops old name draft) (Ok call) old new → q ≡ record { name = name; call = call } → after ≡ insert_key same_request rs q → ((q ≡ next_call old name) × HasPosted ops name draft old new × (after ≡ rs ++ q ∷ [])) × ArePosted new after
+post_done ops old new name call draft rs after q bounded all posts is keys =
+    let at : IsMade name call old new (checked_on ops old name draft) = is_made name call old new (checked_on ops old name draft) posts in
+    let here : Posts q.name (checked_on ops old q.name draft) (Ok q.call) old new = subst (λ (x : Request). Posts x.name (checked_on ops old x.name draft) (Ok x.call) old new) (sym is) posts in
+    let made : IsMade q.name q.call old new (checked_on ops old q.name draft) = is_made q.name q.call old new (checked_on ops old q.name draft) here in
     let last : after ≡ rs ++ q ∷ [] = goes_last old q rs after all made.last keys in
-    ((is ∙ (λ i. record { name = name; call = at.last i }), subst (HasPosted name draft old) (sym at.made) (has_posted old name at.given draft bounded at.checked), last), posted_added old new draft rs after q all made last)
+    ((is ∙ (λ i. record { name = name; call = at.last i }), subst (HasPosted ops name draft old) (sym at.made) (has_posted old name at.given ops draft bounded at.checked), last), posted_added ops old new draft rs after q all made last)
 
 -- it is posted as it was drafted, and nothing else changes
-pub posted_exactly : (old new : NodeView) (name : Name) (call : ℕ) (draft : Draft) → Posts name (checked_on old name draft) (Ok call) old new → new ≡ post_at name (given_by draft) old
-posted_exactly old new name call draft posts =
-    let at : IsMade name call old new (checked_on old name draft) = is_made name call old new (checked_on old name draft) posts in
-    at.made ∙ ap (λ given. post_at name given old) (given_is (old.opened name) (told (old.board.contexts name).birth) old.me name draft at.given at.checked)
+pub posted_exactly : (ops : List Operation) (old new : NodeView) (name : Name) (call : ℕ) (draft : Draft) → Posts name (checked_on ops old name draft) (Ok call) old new → new ≡ post_at name (given_by draft) old
+posted_exactly ops old new name call draft posts =
+    let at : IsMade name call old new (checked_on ops old name draft) = is_made name call old new (checked_on ops old name draft) posts in
+    at.made ∙ ap (λ given. post_at name given old) (given_is ops (old.opened name) (told (old.board.contexts name).birth) old.me name draft at.given at.checked)
 
 -- REFUSALS
 
@@ -282,24 +285,36 @@ were_more a b n rs r w later at pending i q l e = by_place (answer (nat_lt i n))
 
 -- BLOCKING CALLS
 
-module _ {H : Type 0} (node : H → NodeView) (turned : H → ℕ → H → Type 0) (refused : H → H → Type 0) (name : Name) (draft : Draft) (old mid new : H) (before between after : List Request) (turns : ℕ) (q : Request) (asks : Asks name draft (Ok q) (node old) (node mid) before between) (still : turned old 0 mid) (later : Later (node mid) (node new)) where
+module _ {H : Type 0} (ops : List Operation) (node : H → NodeView) (turned : H → ℕ → H → Type 0) (refused : H → H → Type 0) (name : Name) (draft : Draft) (old mid new : H) (before between after : List Request) (turns : ℕ) (q : Request) (asks : Asks ops name draft (Ok q) (node old) (node mid) before between) (still : turned old 0 mid) (later : Later (node mid) (node new)) where
   -- the post, and then a wait
   posts_and : (waits : H → Type 0) → waits mid → PostsAnd node turned name draft old waits
   posts_and waits since = (mid, still, asks.3, since)
 
-  pub called : (f : Finished) → Waits node turned refused q turns (Ok f) mid new between after → Calls node turned refused name draft turns (Ok f) old new before after
+  pub called : (f : Finished) → Waits node turned refused q turns (Ok f) mid new between after → Calls ops node turned refused name draft turns (Ok f) old new before after
   called f waits =
-      let posted : HasPosted name draft (node old) (node new) = posted_then name draft (node old) (node mid) (node new) asks.1 later in
+      let posted : HasPosted ops name draft (node old) (node new) = posted_then ops name draft (node old) (node mid) (node new) asks.1 later in
       let stored : result_of (node new) (next_call (node old) name) ≡ Some f = ap (result_of (node new)) (sym asks.0) ∙ waits.0 in
       let awaited : AwaitsOne node turned (next_call (node old) name) mid waits.1.0 new = subst (λ (r : Request). AwaitsOne node turned r mid waits.1.0 new) asks.0 waits.1.2 in
       (posted, stored, posted.own.mine f stored, (waits.1.0, waits.1.1, posts_and (λ h. AwaitsOne node turned (next_call (node old) name) h waits.1.0 new) awaited), waits.2 ∙ ap (λ rs. close rs q) asks.2 ∙ ap (λ r. close (before ++ r ∷ []) r) asks.0)
 
-  pub called_in_vain : (back : Request) → Waits node turned refused q turns (Err (W.StillWaiting back)) mid new between after → Calls node turned refused name draft turns (Err (C.StillWaiting back)) old new before after
+  pub called_in_vain : (back : Request) → Waits node turned refused q turns (Err (W.StillWaiting back)) mid new between after → Calls ops node turned refused name draft turns (Err (C.StillWaiting back)) old new before after
   called_in_vain back waits =
       let awaited : AwaitsOne node turned back mid turns new = subst (λ (r : Request). AwaitsOne node turned r mid turns new) (sym waits.0) waits.2 in
-      (waits.0 ∙ asks.0, posted_then name draft (node old) (node mid) (node new) asks.1 later, subst (λ (r : Request). IsPending (node new) r.name r.call) (sym waits.0) waits.1, posts_and (λ h. AwaitsOne node turned back h turns new) awaited, waits.3 ∙ asks.2 ∙ ap (λ r. before ++ r ∷ []) (sym waits.0))
+      (waits.0 ∙ asks.0, posted_then ops name draft (node old) (node mid) (node new) asks.1 later, subst (λ (r : Request). IsPending (node new) r.name r.call) (sym waits.0) waits.1, posts_and (λ h. AwaitsOne node turned back h turns new) awaited, waits.3 ∙ asks.2 ∙ ap (λ r. before ++ r ∷ []) (sym waits.0))
 
-  pub called_without_memory : (back : Request) → Waits node turned refused q turns (Err (W.OutOfMemory back)) mid new between after → Calls node turned refused name draft turns (Err (C.OutOfMemory back)) old new before after
+  pub called_without_memory : (back : Request) → Waits node turned refused q turns (Err (W.OutOfMemory back)) mid new between after → Calls ops node turned refused name draft turns (Err (C.OutOfMemory back)) old new before after
   called_without_memory back waits =
       let gave_up : GivesUpOne node turned refused back turns mid new = subst (λ (r : Request). GivesUpOne node turned refused r turns mid new) (sym waits.0) waits.1 in
-      (waits.0 ∙ asks.0, posted_then name draft (node old) (node mid) (node new) asks.1 later, posts_and (λ h. GivesUpOne node turned refused back turns h new) gave_up, waits.2 ∙ asks.2 ∙ ap (λ r. before ++ r ∷ []) (sym waits.0))
+      (waits.0 ∙ asks.0, posted_then ops name draft (node old) (node mid) (node new) asks.1 later, posts_and (λ h. GivesUpOne node turned refused back turns h new) gave_up, waits.2 ∙ asks.2 ∙ ap (λ r. before ++ r ∷ []) (sym waits.0))
+
+-- DRAFTS THAT ARE ROWS
+
+-- what is asked by a draft is asked by the row that it is
+pub asks_by_row : (ops : List Operation) (name : Name) (draft row : Draft) (result : Result Request PostError) (old new : NodeView) (between before after : List Request) → draft ≡ row → between ≡ before → Asks ops name draft result old new between after → Asks ops name row result old new before after
+asks_by_row ops name draft row result old new between before after is same asks =
+    subst (λ rs. Asks ops name row result old new rs after) same (subst (λ d. Asks ops name d result old new between after) is asks)
+
+-- so is what is called
+pub calls_by_row : {H : Type 0} (ops : List Operation) (node : H → NodeView) (turned : H → ℕ → H → Type 0) (refused : H → H → Type 0) (name : Name) (draft row : Draft) (turns : ℕ) (result : Result Finished CallError) (old new : H) (between before after : List Request) → draft ≡ row → between ≡ before → Calls ops node turned refused name draft turns result old new between after → Calls ops node turned refused name row turns result old new before after
+calls_by_row ops node turned refused name draft row turns result old new between before after is same calls =
+    subst (λ rs. Calls ops node turned refused name row turns result old new rs after) same (subst (λ d. Calls ops node turned refused name d turns result old new between after) is calls)

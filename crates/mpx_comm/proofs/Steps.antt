@@ -15,16 +15,18 @@ use Rattle.mpx_post.specs.Gatherings.{GatheringView}
 use Rattle.mpx_post.specs.declared.draft.PostError.{PostError}
 use Rattle.mpx_post.specs.Equality.{same_given, given_equality}
 use Rattle.mpx_name.specs.Name.{Name, same_name}
+use Rattle.mpx_num.specs.declared.own.Operation.{Operation}
 use Rattle.mpx_board.specs.Boards.{Context, Look, gone, join_contexts, join_live, told}
 use Rattle.mpx_value.specs.declared.outcomes.Outcome.{Outcome}
 use Rattle.mpx_node.specs.declared.finished.Finished.{Finished}
 use Rattle.mpx_node.specs.declared.node.Harvest.{Harvest}
 use Rattle.mpx_node.specs.declared.node.Harvest.TheVariants.{Done, NotYet, NotOpened}
-use Rattle.mpx_node.specs.Harvests.{Harvests}
+use Rattle.mpx_node.specs.Harvests.{Harvests, HarvestsOpened}
 use Rattle.mpx_node.specs.Deltas.{SaysWhatItHas}
 use Rattle.mpx_node.specs.Nodes.{own_acks, NodeView, OpenedView, posted_by, results_on, results_by, front_on, next_result, next_of, result_of, outcome_on, learn, learn_some, StopsTaking, add_result, children_on, or_new, opens, stores_on, is_new_to, harvest_part, Opens, gathering_fact, gathering_name, open_gathering_node}
-use Rattle.mpx_comm.specs.Later.{result_at, IsHeld, IsOwn, Later, IsPending, WasPending}
+use Rattle.mpx_comm.specs.Later.{result_at, IsAtHand, IsHeld, IsOwn, Later, IsPending, WasPending}
 use Rattle.mpx_board.proofs.Facts.{posts_bound, posts_order}
+use Rattle.mpx_node.proofs.Nexts.{no_next, some_next}
 
 -- a fact that holds whatever the refusal is
 pub if_err : {A E : Type 0} (r : Result A E) (P : Type 0) → P → IfErr r (λ e. P)
@@ -160,20 +162,20 @@ later_gathers parent (Ok g) (Err e) old new h = later_same old new h.1
 
 -- A CALL IS DONE
 
-module _ (board : Look) (name : Name) (me : ℕ) (finished : Finished) where
+module _ (ops : List Operation) (board : Look) (name : Name) (me : ℕ) (finished : Finished) where
   made_of : (mine : Given) (o : Option Outcome) → option_map (λ outcome. record { mine = mine; outcome = outcome }) o ≡ Some finished → finished.mine ≡ mine
   made_of mine None e = cc e
   made_of mine (Some x) e = sym (ap (λ (f : Finished). f.mine) (same_Some _ finished e))
 
   -- a result has the post that is told
-  result_mine : (k : ℕ) → result_of board name me k ≡ Some finished → told ((board.contexts name).posts k me) ≡ Some finished.mine
-  result_mine k e = option_and_then_some (λ mine. option_map (λ outcome. record { mine = mine; outcome = outcome }) (outcome_on board name me k)) (told ((board.contexts name).posts k me)) finished e
-      (λ mine is f. is ∙ ap Some (sym (made_of mine (outcome_on board name me k) f)))
+  result_mine : (k : ℕ) → result_of ops board name me k ≡ Some finished → told ((board.contexts name).posts k me) ≡ Some finished.mine
+  result_mine k e = option_and_then_some (λ mine. option_map (λ outcome. record { mine = mine; outcome = outcome }) (outcome_on ops board name me k)) (told ((board.contexts name).posts k me)) finished e
+      (λ mine is f. is ∙ ap Some (sym (made_of mine (outcome_on ops board name me k) f)))
 
-  next_mine : (o : Option OpenedView) → next_of o board name me ≡ Some finished → told ((board.contexts name).posts (length (results_by o)) me) ≡ Some finished.mine
+  next_mine : (o : Option OpenedView) → next_of ops o board name me ≡ Some finished → told ((board.contexts name).posts (length (results_by o)) me) ≡ Some finished.mine
   next_mine None e = cc e
   next_mine (Some o) e = by_test (nat_lt (length o.results) o.posted) e where
-    by_test : (b : Bool) → cond b (result_of board name me (length o.results)) None ≡ Some finished → told ((board.contexts name).posts (length o.results) me) ≡ Some finished.mine
+    by_test : (b : Bool) → cond b (result_of ops board name me (length o.results)) None ≡ Some finished → told ((board.contexts name).posts (length o.results) me) ≡ Some finished.mine
     by_test true f = result_mine (length o.results) f
     by_test false f = cc f
 
@@ -200,7 +202,7 @@ get_either (z ∷ xs) y (suc k) x e = one_more (get_either xs y k x e) where
   one_more (inl f) = inl f
   one_more (inr f) = inr (ap suc f.0, f.1)
 
-module _ (old : NodeView) (name : Name) (finished : Finished) (is : next_result old name ≡ Some finished) where
+module _ (ops : List Operation) (old : NodeView) (name : Name) (finished : Finished) (is : next_result ops old name ≡ Some finished) where
   abbrev after : Name → Bool → Option OpenedView
   after n b = cond b (option_map (with_result finished) (old.opened n)) (old.opened n)
 
@@ -209,13 +211,13 @@ module _ (old : NodeView) (name : Name) (finished : Finished) (is : next_result 
   stored_by true (Some o) k g e = get_first o.results finished k g e
   stored_by false o k g e = e
 
-  mine_by : (o : Option OpenedView) → next_of o old.board name old.me ≡ Some finished → (k : ℕ) (given : Given) → IsHeld (old.board.contexts name) k old.me given → ((g : Finished) → slice_get (results_by o) k ≡ Some g → g.mine ≡ given) → (g : Finished) → slice_get (results_by (option_map (with_result finished) o)) k ≡ Some g → g.mine ≡ given
+  mine_by : (o : Option OpenedView) → next_of ops o old.board name old.me ≡ Some finished → (k : ℕ) (given : Given) → IsHeld (old.board.contexts name) k old.me given → ((g : Finished) → slice_get (results_by o) k ≡ Some g → g.mine ≡ given) → (g : Finished) → slice_get (results_by (option_map (with_result finished) o)) k ≡ Some g → g.mine ≡ given
   mine_by None e k given h before g s = cc e
   mine_by (Some o) e k given h before g s = by_place (get_either o.results finished k g s) where
     by_place : (slice_get o.results k ≡ Some g) ⊎ ((k ≡ length o.results) × (finished ≡ g)) → g.mine ≡ given
     by_place (inl there) = before g there
     by_place (inr last) =
-        let here : told ((old.board.contexts name).posts k old.me) ≡ Some finished.mine = ap (λ j. told ((old.board.contexts name).posts j old.me)) last.0 ∙ next_mine old.board name old.me finished (Some o) e in
+        let here : told ((old.board.contexts name).posts k old.me) ≡ Some finished.mine = ap (λ j. told ((old.board.contexts name).posts j old.me)) last.0 ∙ next_mine ops old.board name old.me finished (Some o) e in
         sym (ap (λ (f : Finished). f.mine) last.1) ∙ told_own (old.board.contexts name) k old.me given finished.mine h here
 
   mine_at : (n : Name) (k : ℕ) (given : Given) → IsOwn old n k given → Answer (same_name n name) → (g : Finished) → slice_get (results_by (after n (same_name n name))) k ≡ Some g → g.mine ≡ given
@@ -246,7 +248,7 @@ module _ (old : NodeView) (name : Name) (finished : Finished) (is : next_result 
     pub later_done : Later old (add_result name finished made old)
     later_done = later_more old storing (add_result name finished made old) later_stored (later_more storing telling (add_result name finished made old) (later_learns (harvest_part name made old) storing) (later_opens (is_new_to old.me made) telling))
 
-    longer : (o : Option OpenedView) → next_of o old.board name old.me ≡ Some finished → length (results_by (option_map (with_result finished) o)) ≡ length (results_by o) + 1
+    longer : (o : Option OpenedView) → next_of ops o old.board name old.me ≡ Some finished → length (results_by (option_map (with_result finished) o)) ≡ length (results_by o) + 1
     longer None e = cc e
     longer (Some o) e = length-append o.results (finished ∷ [])
 
@@ -255,10 +257,10 @@ module _ (old : NodeView) (name : Name) (finished : Finished) (is : next_result 
 
 -- HARVESTS
 
-module _ (old new : NodeView) (name : Name) where
-  later_by : (b : Bool) (next : Option Finished) (result : Result Harvest OutOfMemory) → next_result old name ≡ next → Harvests b name next result old new → Later old new
+module _ (ops : List Operation) (old new : NodeView) (name : Name) where
+  later_by : (b : Bool) (next : Option Finished) (result : Result Harvest OutOfMemory) → next_result ops old name ≡ next → Harvests ops b name next result old new → Later old new
   later_by false next result e h = later_same old new h.1
-  later_by true (Some f) (Ok (Done call)) e h = subst (λ x. Later old x) (sym h.1) (later_done old name f e (children_on old.board name (front_on old name)))
+  later_by true (Some f) (Ok (Done call)) e h = subst (λ x. Later old x) (sym h.1) (later_done ops old name f e (children_on ops old.board name (front_on old name)))
   later_by true (Some f) (Ok NotYet) e h = absurd h
   later_by true (Some f) (Ok NotOpened) e h = absurd h
   later_by true None (Ok (Done call)) e h = absurd h
@@ -267,26 +269,56 @@ module _ (old new : NodeView) (name : Name) where
   later_by true None (Err x) e h = absurd h
   later_by true (Some f) (Err x) e h = later_same old new h
 
-  pub later_harvest : (result : Result Harvest OutOfMemory) → Harvests (is_some (old.opened name)) name (next_result old name) result old new → Later old new
-  later_harvest result h = later_by (is_some (old.opened name)) (next_result old name) result refl h
+  pub later_harvest : (result : Result Harvest OutOfMemory) → Harvests ops (is_some (old.opened name)) name (next_result ops old name) result old new → Later old new
+  later_harvest result h = later_by (is_some (old.opened name)) (next_result ops old name) result refl h
 
-  front_by : (b : Bool) (next : Option Finished) (call : ℕ) → next_result old name ≡ next → Harvests b name next (Ok (Done call)) old new → front_on new name ≡ front_on old name + 1
+  front_by : (b : Bool) (next : Option Finished) (call : ℕ) → next_result ops old name ≡ next → Harvests ops b name next (Ok (Done call)) old new → front_on new name ≡ front_on old name + 1
   front_by false next call e h = cc (h.0)
-  front_by true (Some f) call e h = ap (λ x. front_on x name) h.1 ∙ front_done old name f e (children_on old.board name (front_on old name))
+  front_by true (Some f) call e h = ap (λ x. front_on x name) h.1 ∙ front_done ops old name f e (children_on ops old.board name (front_on old name))
   front_by true None call e h = absurd h
 
   -- each that is done is one more result
-  pub front_harvest : (call : ℕ) → Harvests (is_some (old.opened name)) name (next_result old name) (Ok (Done call)) old new → front_on new name ≡ front_on old name + 1
-  front_harvest call h = front_by (is_some (old.opened name)) (next_result old name) call refl h
+  pub front_harvest : (call : ℕ) → Harvests ops (is_some (old.opened name)) name (next_result ops old name) (Ok (Done call)) old new → front_on new name ≡ front_on old name + 1
+  front_harvest call h = front_by (is_some (old.opened name)) (next_result ops old name) call refl h
+
+  pending_by : (b : Bool) (next : Option Finished) (call : ℕ) → next_result ops old name ≡ next → None ≡ result_at old name call → Harvests ops b name next (Ok NotYet) old new → IsPending new name call
+  pending_by false next call e none h = cc (h.0)
+  pending_by true (Some f) call e none h = absurd h
+  pending_by true None call e none h = subst (λ x. IsPending x name call) (sym h) (record { none = sym none; next = no_next ops old name e })
+
+  -- nothing more can be had of a call that has no result
+  pub pending_harvest : (call : ℕ) (answer : Harvest) → answer ≡ NotYet → None ≡ result_at old name call → Harvests ops (is_some (old.opened name)) name (next_result ops old name) (Ok answer) old new → IsPending new name call
+  pending_harvest call answer is none h = pending_by (is_some (old.opened name)) (next_result ops old name) call refl none (subst (λ x. Harvests ops (is_some (old.opened name)) name (next_result ops old name) (Ok x) old new) is h)
+
+  never_opened : (next : Option Finished) → HarvestsOpened ops name next (Ok NotOpened) old new → ⊥
+  never_opened (Some f) h = h
+  never_opened None h = h
+
+  unopened_by : (o : Option OpenedView) (call : ℕ) → old.opened name ≡ o → None ≡ result_at old name call → Harvests ops (is_some o) name (next_of ops o old.board name old.me) (Ok NotOpened) old new → IsPending new name call
+  unopened_by None call e none h = subst (λ x. IsPending x name call) (sym h.1) (record { none = sym none; next = ap (λ o. is_some (next_of [] o old.board name old.me)) e })
+  unopened_by (Some o) call e none h = absurd (never_opened (next_of ops (Some o) old.board name old.me) h)
+
+  -- nor where its context isn't opened
+  pub unopened_harvest : (call : ℕ) (answer : Harvest) → answer ≡ NotOpened → None ≡ result_at old name call → Harvests ops (is_some (old.opened name)) name (next_result ops old name) (Ok answer) old new → IsPending new name call
+  unopened_harvest call answer is none h = unopened_by (old.opened name) call refl none (subst (λ x. Harvests ops (is_some (old.opened name)) name (next_result ops old name) (Ok x) old new) is h)
+
+  wanting_by : (b : Bool) (next : Option Finished) (refusal : OutOfMemory) (call : ℕ) → next_result ops old name ≡ next → Harvests ops b name next (Err refusal) old new → IsAtHand new name call
+  wanting_by false next refusal call e h = cc (h.0)
+  wanting_by true (Some f) refusal call e h = subst (λ x. IsAtHand x name call) (sym h) (inr (some_next ops old name f e))
+  wanting_by true None refusal call e h = absurd h
+
+  -- memory can be wanting only for what is at hand
+  pub wanting_harvest : (refusal : OutOfMemory) (call : ℕ) → Harvests ops (is_some (old.opened name)) name (next_result ops old name) (Err refusal) old new → IsAtHand new name call
+  wanting_harvest refusal call h = wanting_by (is_some (old.opened name)) (next_result ops old name) refusal call refl h
 
 -- no result is past the last
 past_last : {A : Type 0} (xs : List A) (k : ℕ) → None ≡ slice_get xs k → length xs ≤ k
 past_last xs k e = elim (slice_get_cases xs k).1 [ inl there ↦ cc (e, there.2) | inr past ↦ past.0 ]
 
 -- so there is less to harvest up to a call that has none
-pub less_left : (old new : NodeView) (name : Name) (call k : ℕ) (h : Harvest) → h ≡ Done k → None ≡ result_at old name call → Harvests (is_some (old.opened name)) name (next_result old name) (Ok h) old new → call + 1 - front_on new name < call + 1 - front_on old name
-less_left old new name call k h is e done =
-    let more : front_on new name ≡ front_on old name + 1 = front_harvest old new name k (subst (λ x. Harvests (is_some (old.opened name)) name (next_result old name) (Ok x) old new) is done) in
+pub less_left : (ops : List Operation) (old new : NodeView) (name : Name) (call k : ℕ) (h : Harvest) → h ≡ Done k → None ≡ result_at old name call → Harvests ops (is_some (old.opened name)) name (next_result ops old name) (Ok h) old new → call + 1 - front_on new name < call + 1 - front_on old name
+less_left ops old new name call k h is e done =
+    let more : front_on new name ≡ front_on old name + 1 = front_harvest ops old new name k (subst (λ x. Harvests ops (is_some (old.opened name)) name (next_result ops old name) (Ok x) old new) is done) in
     omega (arith, more, past_last (results_on old name) call e)
 
 -- what is told is held

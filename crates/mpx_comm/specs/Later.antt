@@ -6,7 +6,7 @@ use Rattle.mpx_post.specs.Posts.{Given}
 use Rattle.mpx_post.specs.Equality.{same_given}
 use Rattle.mpx_board.specs.Boards.{Context}
 use Rattle.mpx_node.specs.declared.finished.Finished.{Finished}
-use Rattle.mpx_node.specs.Nodes.{NodeView, posted_on, results_on, next_result}
+use Rattle.mpx_node.specs.Nodes.{NodeView, has_next, posted_on, results_on}
 
 -- the stored result of a call
 abbrev pub result_at : NodeView → Name → (call : ℕ) → Option Finished
@@ -32,11 +32,11 @@ pub record Later (old new : NodeView) : Type 0 where
 -- the call has no result, and the next one on its context can't be had
 pub record IsPending (node : NodeView) (name : Name) (call : ℕ) : Type 0 where
   pub none : result_at node name call ≡ None
-  pub next : next_result node name ≡ None
+  pub next : has_next node name ≡ false
 
 -- the call has a result, or the next one on its context can be had: here alone may a look want memory
 abbrev pub IsAtHand : NodeView → Name → (call : ℕ) → Type 0
-IsAtHand node name call = IsTrue (is_some (result_at node name call)) ⊎ IsTrue (is_some (next_result node name))
+IsAtHand node name call = IsTrue (is_some (result_at node name call)) ⊎ IsTrue (has_next node name)
 
 -- at some moment between the two the call was not done
 pub record WasPending (old new : NodeView) (name : Name) (call : ℕ) : Type 0 where

@@ -1,12 +1,13 @@
 // A desk over a node alone, whose user carries the boards.
-ghost use Rattle.std.specs.Prelude.{◌≡◌, ◌≤◌, All, IfOk, OnOk, OnErr, map};
+ghost use Rattle.std.specs.Prelude.{◌≡◌, ◌≤◌, All, IfOk, IsTrue, OnOk, OnErr, is_ok, map};
 ghost use Rattle.mpx_board.specs.Boards.{IsBelow, join_all};
 ghost use Rattle.mpx_board.specs.Changes.{pruned_on};
 ghost use Rattle.mpx_board.specs.Looks.{look, parts_of};
+ghost use Rattle.mpx_format.specs.Decoding.{decoded, shown};
 ghost use Rattle.mpx_format.specs.Encoding.{length_told};
 ghost use Rattle.mpx_parts.specs.Facts.{OnlyFactsOf};
 ghost use Rattle.mpx_node.specs.Bounded.{node_bounded};
-ghost use Rattle.mpx_node.specs.Deltas.{SaysWhatItHas, lacking_on};
+ghost use Rattle.mpx_node.specs.Deltas.{AreLacked, SaysWhatItHas, lacking_on};
 ghost use Rattle.mpx_node.specs.Nodes.{StopsTaking, learn, learn_some, prune_part};
 ghost use Rattle.mpx_comm.specs.Harvested.{HarvestsNext};
 
@@ -16,6 +17,7 @@ use join_core::OutOfMemory;
 use mpx_board::{Board, PruneError};
 use mpx_name::Name;
 use mpx_node::{Finished, Harvest, Node};
+use mpx_num::{Listing, Ops};
 use mpx_post::{Draft, PostError};
 use std::alloc::Global;
 
@@ -30,12 +32,18 @@ impl Host for Node {
     // None is refused.
     ghost turn_refused = { λ a b. ⊥ };
 
-    fn post(&mut self, alloc: Global, name: &Name, draft: Draft) -> Result<u32, PostError> {
-        Node::post(self, alloc, name, draft)
+    fn post(
+        &mut self,
+        alloc: Global,
+        name: &Name,
+        draft: Draft,
+        ops: &Ops,
+    ) -> Result<u32, PostError> {
+        Node::post(self, alloc, name, draft, ops)
     }
 
-    fn refusal(&self, name: &Name, draft: &Draft) -> Option<PostError> {
-        Node::refusal(self, name, draft)
+    fn refusal(&self, name: &Name, draft: &Draft, ops: &Ops) -> Option<PostError> {
+        Node::refusal(self, name, draft, ops)
     }
 
     fn open_gathering(
@@ -48,8 +56,8 @@ impl Host for Node {
         Node::open_gathering(self, alloc, parent, tag, ranks)
     }
 
-    fn harvest(&mut self, alloc: Global, name: &Name) -> Result<Harvest, OutOfMemory> {
-        Node::harvest(self, alloc, name)
+    fn harvest(&mut self, alloc: Global, name: &Name, ops: &Ops) -> Result<Harvest, OutOfMemory> {
+        Node::harvest(self, alloc, name, ops)
     }
 
     fn result(&self, name: &Name, call: u32) -> Option<&Finished> {
@@ -81,12 +89,22 @@ impl Desk<Node> {
         self.host.take(alloc, part)
     }
 
-    /// Harvests the next call on a context, as the node does.
-    pub fn harvest(&mut self, alloc: Global, name: &Name) -> Result<Harvest, OutOfMemory>
-        ensures harvests { HarvestsNext name.now result (node_of self.old.host) (node_of self.new.host) }
+    /// Joins the board that the bytes of a frame spell, as [`Node::take_frame`] does. An `Err` leaves what it leaves there.
+    pub fn take_frame(&mut self, alloc: Global, frame: &[u8]) -> Result<(), OutOfMemory>
+        requires spelled { IsTrue (is_ok (decoded frame.now)) }
+        ensures ok { OnOk result (node_of self.new.host ≡ learn (shown (decoded frame.now)) (node_of self.old.host)) }
+        ensures err { OnErr result (StopsTaking (shown (decoded frame.now)) (node_of self.old.host) (node_of self.new.host)) }
         ensures requests { self.new.requests.keys ≡ self.old.requests.keys }
     {
-        self.host.harvest(alloc, name)
+        self.host.take_frame(alloc, frame)
+    }
+
+    /// Harvests the next call on a context, as the node does.
+    pub fn harvest(&mut self, alloc: Global, name: &Name, ops: &Ops) -> Result<Harvest, OutOfMemory>
+        ensures harvests { HarvestsNext (⟦<Ops as Listing>⟧.operations ops.now) name.now result (node_of self.old.host) (node_of self.new.host) }
+        ensures requests { self.new.requests.keys ≡ self.old.requests.keys }
+    {
+        self.host.harvest(alloc, name, ops)
     }
 
     /// Drops the posts of calls below the number on a context, which is at most the floor; past a free that every member has
@@ -113,5 +131,21 @@ impl Desk<Node> {
         ensures requests { self.new.requests.keys ≡ self.old.requests.keys }
     {
         self.host.deltas(alloc, limit)
+    }
+
+    /// The frames of what [`Desk::deltas`] gives, as [`Node::framed_deltas`] makes them. An `Err` changes nothing.
+    pub fn framed_deltas(
+        &mut self,
+        alloc: Global,
+        limit: usize,
+    ) -> Result<Vec<Vec<u8>>, OutOfMemory>
+        requires least { 524288 ≤ limit }
+        requires most { limit ≤ 1048576 }
+        ensures own { OnOk result (SaysWhatItHas (node_of self.old.host) (node_of self.new.host)) }
+        ensures frames { IfOk result (λ made. AreLacked limit (node_of self.new.host) (map (λ frame. frame.items) made.items)) }
+        ensures err { OnErr result (node_of self.new.host ≡ node_of self.old.host) }
+        ensures requests { self.new.requests.keys ≡ self.old.requests.keys }
+    {
+        self.host.framed_deltas(alloc, limit)
     }
 }

@@ -10,17 +10,23 @@ use crate::host::Host;
 use crate::lines;
 use crate::request::Request;
 use mpx_node::Finished;
-use mpx_num::Numbers;
+use mpx_num::{Listing, Numbers, Ops};
 use mpx_post::{DraftedEdge, DraftedNeighbour, NewCommunicator, PostError};
 use std::alloc::Global;
 
 impl<H: Host> Desk<H> {
     /// `MPI_COMM_DUP` (MPI 4.1 section 7.4.2): a new communicator of the same members, with the same topology.
-    pub fn dup(&mut self, alloc: Global, comm: &Comm, turns: u64) -> Result<Finished, CallError>
-        ensures { DeskCalls H.node H.turned H.turn_refused comm.now.name line.dup turns result self.old self.new }
+    pub fn dup(
+        &mut self,
+        alloc: Global,
+        comm: &Comm,
+        turns: u64,
+        ops: &Ops,
+    ) -> Result<Finished, CallError>
+        ensures { DeskCalls (⟦<Ops as Listing>⟧.operations ops.now) H.node H.turned H.turn_refused comm.now.name line.dup turns result self.old self.new }
     {
         let draft = lines::dup();
-        self.call_on(alloc, &comm.name, draft, turns)
+        self.call_on(alloc, &comm.name, draft, turns, ops)
     }
 
     /// `MPI_COMM_SPLIT` (MPI 4.1 section 7.4.2): a new communicator for each colour, none for `MPI_UNDEFINED`, ordered by key.
@@ -31,11 +37,12 @@ impl<H: Host> Desk<H> {
         colour: Option<i128>,
         key: i128,
         turns: u64,
+        ops: &Ops,
     ) -> Result<Finished, CallError>
-        ensures { DeskCalls H.node H.turned H.turn_refused comm.now.name (line.split colour key) turns result self.old self.new }
+        ensures { DeskCalls (⟦<Ops as Listing>⟧.operations ops.now) H.node H.turned H.turn_refused comm.now.name (line.split colour key) turns result self.old self.new }
     {
         let draft = lines::split(colour, key);
-        self.call_on(alloc, &comm.name, draft, turns)
+        self.call_on(alloc, &comm.name, draft, turns, ops)
     }
 
     /// `MPI_COMM_CREATE` (MPI 4.1 section 7.4.2): a new communicator of the members with these ranks, in this order.
@@ -45,11 +52,12 @@ impl<H: Host> Desk<H> {
         comm: &Comm,
         ranks: Numbers,
         turns: u64,
+        ops: &Ops,
     ) -> Result<Finished, CallError>
-        ensures { DeskCalls H.node H.turned H.turn_refused comm.now.name (line.create ranks) turns result self.old self.new }
+        ensures { DeskCalls (⟦<Ops as Listing>⟧.operations ops.now) H.node H.turned H.turn_refused comm.now.name (line.create ranks) turns result self.old self.new }
     {
         let draft = lines::create(ranks);
-        self.call_on(alloc, &comm.name, draft, turns)
+        self.call_on(alloc, &comm.name, draft, turns, ops)
     }
 
     /// `MPI_COMM_CREATE_GROUP` (MPI 4.1 section 7.4.2), which the members with these ranks call alone. It opens their
@@ -62,14 +70,15 @@ impl<H: Host> Desk<H> {
         tag: i128,
         ranks: &[i128],
         turns: u64,
+        ops: &Ops,
     ) -> Result<Finished, CallError>
-        ensures { DeskCallsGathered H.node H.turned H.turn_refused comm.now.name tag ranks.now turns result self.old self.new }
+        ensures { DeskCallsGathered (⟦<Ops as Listing>⟧.operations ops.now) H.node H.turned H.turn_refused comm.now.name tag ranks.now turns result self.old self.new }
     {
         match self.open_gathering(alloc, comm, tag, ranks) {
             Err(refusal) => Err(CallError::Refused(refusal)),
             Ok(gathering) => {
                 let draft = lines::create_group();
-                self.call_on(alloc, &gathering.name, draft, turns)
+                self.call_on(alloc, &gathering.name, draft, turns, ops)
             }
         }
     }
@@ -81,15 +90,16 @@ impl<H: Host> Desk<H> {
         comm: &Comm,
         tag: i128,
         ranks: &[i128],
+        ops: &Ops,
     ) -> Result<Request, PostError>
-        ensures asks { DeskAsksGathered H.node H.turned comm.now.name tag ranks.now result self.old self.new }
+        ensures asks { DeskAsksGathered (⟦<Ops as Listing>⟧.operations ops.now) H.node H.turned comm.now.name tag ranks.now result self.old self.new }
         ensures no_turn { H.turned self.old.host 0 self.new.host }
     {
         match self.open_gathering(alloc, comm, tag, ranks) {
             Err(refusal) => Err(refusal),
             Ok(gathering) => {
                 let draft = lines::create_group();
-                self.post_on(alloc, &gathering.name, draft)
+                self.post_on(alloc, &gathering.name, draft, ops)
             }
         }
     }
@@ -102,13 +112,14 @@ impl<H: Host> Desk<H> {
         weighted: bool,
         edges: Vec<DraftedEdge>,
         turns: u64,
+        ops: &Ops,
     ) -> Result<Finished, CallError>
-        ensures { DeskCalls H.node H.turned H.turn_refused comm.now.name (line.dist_graph weighted edges.items) turns result self.old self.new }
+        ensures { DeskCalls (⟦<Ops as Listing>⟧.operations ops.now) H.node H.turned H.turn_refused comm.now.name (line.dist_graph weighted edges.items) turns result self.old self.new }
     {
         let (sources, destinations) = (Vec::new(alloc), Vec::new(alloc));
         let new = NewCommunicator::DistGraph;
         let draft = lines::of_graph(new, weighted, edges, sources, destinations);
-        self.call_on(alloc, &comm.name, draft, turns)
+        self.call_on(alloc, &comm.name, draft, turns, ops)
     }
 
     /// `MPI_DIST_GRAPH_CREATE_ADJACENT` (MPI 4.1 section 8.5.4): each member gives its own sources and destinations.
@@ -120,20 +131,27 @@ impl<H: Host> Desk<H> {
         sources: Vec<DraftedNeighbour>,
         destinations: Vec<DraftedNeighbour>,
         turns: u64,
+        ops: &Ops,
     ) -> Result<Finished, CallError>
-        ensures { DeskCalls H.node H.turned H.turn_refused comm.now.name (line.dist_graph_adjacent weighted sources.items destinations.items) turns result self.old self.new }
+        ensures { DeskCalls (⟦<Ops as Listing>⟧.operations ops.now) H.node H.turned H.turn_refused comm.now.name (line.dist_graph_adjacent weighted sources.items destinations.items) turns result self.old self.new }
     {
         let new = NewCommunicator::DistGraphAdjacent;
         let draft = lines::of_graph(new, weighted, Vec::new(alloc), sources, destinations);
-        self.call_on(alloc, &comm.name, draft, turns)
+        self.call_on(alloc, &comm.name, draft, turns, ops)
     }
 
     /// `MPI_COMM_FREE` (MPI 4.1 section 7.4.3): the member posts nothing more on the communicator, whatever comes of this call;
     /// from its post on each other one is refused as [`PostError::Closed`]. What is open there can still be waited for.
-    pub fn free(&mut self, alloc: Global, comm: &Comm, turns: u64) -> Result<Finished, CallError>
-        ensures { DeskCalls H.node H.turned H.turn_refused comm.now.name line.free turns result self.old self.new }
+    pub fn free(
+        &mut self,
+        alloc: Global,
+        comm: &Comm,
+        turns: u64,
+        ops: &Ops,
+    ) -> Result<Finished, CallError>
+        ensures { DeskCalls (⟦<Ops as Listing>⟧.operations ops.now) H.node H.turned H.turn_refused comm.now.name line.free turns result self.old self.new }
     {
         let draft = lines::free();
-        self.call_on(alloc, &comm.name, draft, turns)
+        self.call_on(alloc, &comm.name, draft, turns, ops)
     }
 }

@@ -17,6 +17,7 @@ use indexmap::IndexSet;
 use join_core::{Exact, OutOfMemory};
 use mpx_name::Name;
 use mpx_node::Finished;
+use mpx_num::{Listing, Ops};
 use mpx_post::{Draft, PostError};
 use std::alloc::{AllocFailed, Global};
 
@@ -58,11 +59,17 @@ impl<H: Host> Desk<H> {
 
     /// Posts the draft as the next call on the communicator. An `Err` changes nothing, and is want of memory only where the
     /// draft isn't refused.
-    pub fn post(&mut self, alloc: Global, comm: &Comm, draft: Draft) -> Result<Request, PostError>
-        ensures asks { DeskAsks H.node comm.now.name draft result self.old self.new }
+    pub fn post(
+        &mut self,
+        alloc: Global,
+        comm: &Comm,
+        draft: Draft,
+        ops: &Ops,
+    ) -> Result<Request, PostError>
+        ensures asks { DeskAsks (⟦<Ops as Listing>⟧.operations ops.now) H.node comm.now.name draft result self.old self.new }
         ensures no_turn { H.turned self.old.host 0 self.new.host }
     {
-        self.post_on(alloc, &comm.name, draft)
+        self.post_on(alloc, &comm.name, draft, ops)
     }
 
     /// Opens the gathering with this tag of the members with these ranks, for the posts of `MPI_COMM_CREATE_GROUP` (MPI 4.1
@@ -90,11 +97,12 @@ impl<H: Host> Desk<H> {
         alloc: Global,
         gathering: &Gathering,
         draft: Draft,
+        ops: &Ops,
     ) -> Result<Request, PostError>
-        ensures asks { DeskAsks H.node gathering.now.name draft result self.old self.new }
+        ensures asks { DeskAsks (⟦<Ops as Listing>⟧.operations ops.now) H.node gathering.now.name draft result self.old self.new }
         ensures no_turn { H.turned self.old.host 0 self.new.host }
     {
-        self.post_on(alloc, &gathering.name, draft)
+        self.post_on(alloc, &gathering.name, draft, ops)
     }
 
     /// Whether the call is done, after as many harvests as there are.
@@ -102,13 +110,14 @@ impl<H: Host> Desk<H> {
         &mut self,
         alloc: Global,
         request: Request,
+        ops: &Ops,
     ) -> Result<Tested<Finished, Request>, AllocFailed<Request>>
         ensures tests { Tests request result (H.node self.new.host) self.old.requests.keys self.new.requests.keys }
         ensures later { Later (H.node self.old.host) (H.node self.new.host) }
-        ensures harvested { Harvested (H.node self.old.host) (H.node self.new.host) }
+        ensures harvested { Harvested (⟦<Ops as Listing>⟧.operations ops.now) (H.node self.old.host) (H.node self.new.host) }
         ensures no_turn { H.turned self.old.host 0 self.new.host }
     {
-        match look(alloc, &mut self.host, &request) {
+        match look(alloc, &mut self.host, &request, ops) {
             Err(_) => Err(AllocFailed { value: request }),
             Ok(None) => Ok(Tested::NotYet(request)),
             Ok(Some(finished)) => {
@@ -120,15 +129,20 @@ impl<H: Host> Desk<H> {
 
     /// Whether the call is done, after as many harvests as there are (`MPI_REQUEST_GET_STATUS`, MPI 4.1 section 3.7.6): its
     /// request stays open.
-    pub fn status(&mut self, alloc: Global, request: &Request) -> Result<bool, OutOfMemory>
+    pub fn status(
+        &mut self,
+        alloc: Global,
+        request: &Request,
+        ops: &Ops,
+    ) -> Result<bool, OutOfMemory>
         ensures status { IfOk result (λ done. HasStatus done request.now (H.node self.new.host)) }
         ensures wanting { IfErr result (λ e. IsAtHand (H.node self.new.host) request.now.name request.now.call) }
         ensures later { Later (H.node self.old.host) (H.node self.new.host) }
-        ensures harvested { Harvested (H.node self.old.host) (H.node self.new.host) }
+        ensures harvested { Harvested (⟦<Ops as Listing>⟧.operations ops.now) (H.node self.old.host) (H.node self.new.host) }
         ensures no_turn { H.turned self.old.host 0 self.new.host }
         ensures requests { self.new.requests.keys ≡ self.old.requests.keys }
     {
-        match look(alloc, &mut self.host, request)? {
+        match look(alloc, &mut self.host, request, ops)? {
             Some(finished) => {
                 drop(finished);
                 Ok(true)
@@ -142,13 +156,14 @@ impl<H: Host> Desk<H> {
         &mut self,
         alloc: Global,
         requests: Vec<Request>,
+        ops: &Ops,
     ) -> Result<Tested<Vec<Finished>, Vec<Request>>, AllocFailed<Vec<Request>>>
         ensures tests { TestsAll requests.items result (H.node self.new.host) self.old.requests.keys self.new.requests.keys }
         ensures later { Later (H.node self.old.host) (H.node self.new.host) }
-        ensures harvested { Harvested (H.node self.old.host) (H.node self.new.host) }
+        ensures harvested { Harvested (⟦<Ops as Listing>⟧.operations ops.now) (H.node self.old.host) (H.node self.new.host) }
         ensures no_turn { H.turned self.old.host 0 self.new.host }
     {
-        match look_all(alloc, &mut self.host, &requests) {
+        match look_all(alloc, &mut self.host, &requests, ops) {
             Err(_) => Err(AllocFailed { value: requests }),
             Ok(None) => Ok(Tested::NotYet(requests)),
             Ok(Some(all)) => {
@@ -160,13 +175,17 @@ impl<H: Host> Desk<H> {
 
     /// The first open request in order of posting that is done, and its result (`MPI_TESTANY`, MPI 4.1 section 3.7.5). It is
     /// closed; who hands it in later still gets the result.
-    pub fn testany(&mut self, alloc: Global) -> Result<Option<(Request, Finished)>, OutOfMemory>
+    pub fn testany(
+        &mut self,
+        alloc: Global,
+        ops: &Ops,
+    ) -> Result<Option<(Request, Finished)>, OutOfMemory>
         ensures tests { TestsAny result (H.node self.old.host) (H.node self.new.host) self.old.requests.keys self.new.requests.keys }
         ensures later { Later (H.node self.old.host) (H.node self.new.host) }
-        ensures harvested { Harvested (H.node self.old.host) (H.node self.new.host) }
+        ensures harvested { Harvested (⟦<Ops as Listing>⟧.operations ops.now) (H.node self.old.host) (H.node self.new.host) }
         ensures no_turn { H.turned self.old.host 0 self.new.host }
     {
-        match look_any(alloc, &mut self.host, self.requests.as_slice())? {
+        match look_any(alloc, &mut self.host, self.requests.as_slice(), ops)? {
             None => Ok(None),
             Some((place, finished)) => {
                 let request = self.requests.shift_remove_index(place).unwrap();
@@ -183,11 +202,12 @@ impl<H: Host> Desk<H> {
         alloc: Global,
         request: Request,
         turns: u64,
+        ops: &Ops,
     ) -> Result<Finished, WaitError<Request>>
         ensures waits { Waits H.node H.turned H.turn_refused request turns result self.old.host self.new.host self.old.requests.keys self.new.requests.keys }
         ensures later { Later (H.node self.old.host) (H.node self.new.host) }
     {
-        match await_one(alloc, &mut self.host, &request, turns) {
+        match await_one(alloc, &mut self.host, &request, turns, ops) {
             Err(_) => Err(WaitError::OutOfMemory(request)),
             Ok(None) => Err(WaitError::StillWaiting(request)),
             Ok(Some(finished)) => {
@@ -206,11 +226,12 @@ impl<H: Host> Desk<H> {
         alloc: Global,
         requests: Vec<Request>,
         turns: u64,
+        ops: &Ops,
     ) -> Result<Vec<Finished>, WaitError<Vec<Request>>>
         ensures waits { WaitsAll H.node H.turned H.turn_refused requests.items turns result self.old.host self.new.host self.old.requests.keys self.new.requests.keys }
         ensures later { Later (H.node self.old.host) (H.node self.new.host) }
     {
-        match await_all(alloc, &mut self.host, &requests, turns) {
+        match await_all(alloc, &mut self.host, &requests, turns, ops) {
             Err(_) => Err(WaitError::OutOfMemory(requests)),
             Ok(None) => Err(WaitError::StillWaiting(requests)),
             Ok(Some(all)) => {
@@ -226,11 +247,12 @@ impl<H: Host> Desk<H> {
         alloc: Global,
         name: &Name,
         draft: Draft,
+        ops: &Ops,
     ) -> Result<Request, PostError>
-        ensures asks { DeskAsks H.node name.now draft result self.old self.new }
+        ensures asks { DeskAsks (⟦<Ops as Listing>⟧.operations ops.now) H.node name.now draft result self.old self.new }
         ensures no_turn { H.turned self.old.host 0 self.new.host }
     {
-        if let Some(refusal) = self.host.refusal(name, &draft) {
+        if let Some(refusal) = self.host.refusal(name, &draft, ops) {
             drop(draft);
             return Err(refusal);
         }
@@ -238,7 +260,7 @@ impl<H: Host> Desk<H> {
             drop(draft);
             return Err(PostError::OutOfMemory);
         };
-        let call = self.host.post(alloc, name, draft)?;
+        let call = self.host.post(alloc, name, draft, ops)?;
         self.requests.insert(Request::new(twin, call)).unwrap();
         Ok(Request::new(mine, call))
     }
@@ -250,14 +272,15 @@ impl<H: Host> Desk<H> {
         name: &Name,
         draft: Draft,
         turns: u64,
+        ops: &Ops,
     ) -> Result<Finished, CallError>
-        ensures { DeskCalls H.node H.turned H.turn_refused name.now draft turns result self.old self.new }
+        ensures { DeskCalls (⟦<Ops as Listing>⟧.operations ops.now) H.node H.turned H.turn_refused name.now draft turns result self.old self.new }
     {
-        let request = match self.post_on(alloc, name, draft) {
+        let request = match self.post_on(alloc, name, draft, ops) {
             Ok(request) => request,
             Err(refusal) => return Err(CallError::Refused(refusal)),
         };
-        match self.wait(alloc, request, turns) {
+        match self.wait(alloc, request, turns, ops) {
             Ok(finished) => Ok(finished),
             Err(WaitError::StillWaiting(request)) => Err(CallError::StillWaiting(request)),
             Err(WaitError::OutOfMemory(request)) => Err(CallError::OutOfMemory(request)),

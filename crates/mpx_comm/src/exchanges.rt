@@ -12,7 +12,7 @@ use crate::host::Host;
 use crate::lines;
 use crate::request::Request;
 use mpx_node::Finished;
-use mpx_num::{Numbers, Ty};
+use mpx_num::{Listing, Numbers, Ops, Ty};
 use mpx_post::{Mode, PostError};
 use std::alloc::Global;
 
@@ -25,11 +25,12 @@ impl<H: Host> Desk<H> {
         ty: Ty,
         items: Numbers,
         turns: u64,
+        ops: &Ops,
     ) -> Result<Finished, CallError>
-        ensures { DeskCalls H.node H.turned H.turn_refused comm.now.name (line.allgather Blocking ty items) turns result self.old self.new }
+        ensures { DeskCalls (⟦<Ops as Listing>⟧.operations ops.now) H.node H.turned H.turn_refused comm.now.name (line.allgather Blocking ty items) turns result self.old self.new }
     {
         let draft = lines::allgather(Mode::Blocking, ty, items);
-        self.call_on(alloc, &comm.name, draft, turns)
+        self.call_on(alloc, &comm.name, draft, turns, ops)
     }
 
     /// `MPI_IALLGATHER` (MPI 4.1 section 6.7).
@@ -39,12 +40,13 @@ impl<H: Host> Desk<H> {
         comm: &Comm,
         ty: Ty,
         items: Numbers,
+        ops: &Ops,
     ) -> Result<Request, PostError>
-        ensures asks { DeskAsks H.node comm.now.name (line.allgather Nonblocking ty items) result self.old self.new }
+        ensures asks { DeskAsks (⟦<Ops as Listing>⟧.operations ops.now) H.node comm.now.name (line.allgather Nonblocking ty items) result self.old self.new }
         ensures no_turn { H.turned self.old.host 0 self.new.host }
     {
         let draft = lines::allgather(Mode::Nonblocking, ty, items);
-        self.post_on(alloc, &comm.name, draft)
+        self.post_on(alloc, &comm.name, draft, ops)
     }
 
     /// `MPI_ALLGATHERV` (MPI 4.1 section 6.7): the counts are how
@@ -57,11 +59,12 @@ impl<H: Host> Desk<H> {
         rcounts: Numbers,
         items: Numbers,
         turns: u64,
+        ops: &Ops,
     ) -> Result<Finished, CallError>
-        ensures { DeskCalls H.node H.turned H.turn_refused comm.now.name (line.allgatherv Blocking ty rcounts items) turns result self.old self.new }
+        ensures { DeskCalls (⟦<Ops as Listing>⟧.operations ops.now) H.node H.turned H.turn_refused comm.now.name (line.allgatherv Blocking ty rcounts items) turns result self.old self.new }
     {
         let draft = lines::allgatherv(Mode::Blocking, ty, rcounts, items);
-        self.call_on(alloc, &comm.name, draft, turns)
+        self.call_on(alloc, &comm.name, draft, turns, ops)
     }
 
     /// `MPI_IALLGATHERV` (MPI 4.1 section 6.7).
@@ -72,12 +75,13 @@ impl<H: Host> Desk<H> {
         ty: Ty,
         rcounts: Numbers,
         items: Numbers,
+        ops: &Ops,
     ) -> Result<Request, PostError>
-        ensures asks { DeskAsks H.node comm.now.name (line.allgatherv Nonblocking ty rcounts items) result self.old self.new }
+        ensures asks { DeskAsks (⟦<Ops as Listing>⟧.operations ops.now) H.node comm.now.name (line.allgatherv Nonblocking ty rcounts items) result self.old self.new }
         ensures no_turn { H.turned self.old.host 0 self.new.host }
     {
         let draft = lines::allgatherv(Mode::Nonblocking, ty, rcounts, items);
-        self.post_on(alloc, &comm.name, draft)
+        self.post_on(alloc, &comm.name, draft, ops)
     }
 
     /// `MPI_ALLTOALL` (MPI 4.1 section 6.8): a block of so many items
@@ -90,11 +94,12 @@ impl<H: Host> Desk<H> {
         count: i128,
         items: Numbers,
         turns: u64,
+        ops: &Ops,
     ) -> Result<Finished, CallError>
-        ensures { DeskCalls H.node H.turned H.turn_refused comm.now.name (line.alltoall Blocking ty count items) turns result self.old self.new }
+        ensures { DeskCalls (⟦<Ops as Listing>⟧.operations ops.now) H.node H.turned H.turn_refused comm.now.name (line.alltoall Blocking ty count items) turns result self.old self.new }
     {
         let draft = lines::alltoall(Mode::Blocking, ty, count, items);
-        self.call_on(alloc, &comm.name, draft, turns)
+        self.call_on(alloc, &comm.name, draft, turns, ops)
     }
 
     /// `MPI_IALLTOALL` (MPI 4.1 section 6.8).
@@ -105,12 +110,13 @@ impl<H: Host> Desk<H> {
         ty: Ty,
         count: i128,
         items: Numbers,
+        ops: &Ops,
     ) -> Result<Request, PostError>
-        ensures asks { DeskAsks H.node comm.now.name (line.alltoall Nonblocking ty count items) result self.old self.new }
+        ensures asks { DeskAsks (⟦<Ops as Listing>⟧.operations ops.now) H.node comm.now.name (line.alltoall Nonblocking ty count items) result self.old self.new }
         ensures no_turn { H.turned self.old.host 0 self.new.host }
     {
         let draft = lines::alltoall(Mode::Nonblocking, ty, count, items);
-        self.post_on(alloc, &comm.name, draft)
+        self.post_on(alloc, &comm.name, draft, ops)
     }
 
     /// `MPI_ALLTOALLV` (MPI 4.1 section 6.8): how many items
@@ -124,11 +130,12 @@ impl<H: Host> Desk<H> {
         rcounts: Numbers,
         items: Numbers,
         turns: u64,
+        ops: &Ops,
     ) -> Result<Finished, CallError>
-        ensures { DeskCalls H.node H.turned H.turn_refused comm.now.name (line.alltoallv Blocking ty scounts rcounts items) turns result self.old self.new }
+        ensures { DeskCalls (⟦<Ops as Listing>⟧.operations ops.now) H.node H.turned H.turn_refused comm.now.name (line.alltoallv Blocking ty scounts rcounts items) turns result self.old self.new }
     {
         let draft = lines::alltoallv(Mode::Blocking, ty, scounts, rcounts, items);
-        self.call_on(alloc, &comm.name, draft, turns)
+        self.call_on(alloc, &comm.name, draft, turns, ops)
     }
 
     /// `MPI_IALLTOALLV` (MPI 4.1 section 6.8).
@@ -140,11 +147,12 @@ impl<H: Host> Desk<H> {
         scounts: Numbers,
         rcounts: Numbers,
         items: Numbers,
+        ops: &Ops,
     ) -> Result<Request, PostError>
-        ensures asks { DeskAsks H.node comm.now.name (line.alltoallv Nonblocking ty scounts rcounts items) result self.old self.new }
+        ensures asks { DeskAsks (⟦<Ops as Listing>⟧.operations ops.now) H.node comm.now.name (line.alltoallv Nonblocking ty scounts rcounts items) result self.old self.new }
         ensures no_turn { H.turned self.old.host 0 self.new.host }
     {
         let draft = lines::alltoallv(Mode::Nonblocking, ty, scounts, rcounts, items);
-        self.post_on(alloc, &comm.name, draft)
+        self.post_on(alloc, &comm.name, draft, ops)
     }
 }

@@ -9,6 +9,7 @@ ghost use Rattle.mpx_comm.specs.Later.{Later};
 use join_core::OutOfMemory;
 use mpx_name::Name;
 use mpx_node::{Finished, Harvest};
+use mpx_num::{Listing, Ops};
 use mpx_post::{Draft, PostError};
 use std::alloc::Global;
 
@@ -24,13 +25,19 @@ pub trait Host: Drop {
     ghost turn_refused: { Self → Self → Type 0 };
 
     /// Posts the draft as the next call on a context. It makes no turn.
-    fn post(&mut self, alloc: Global, name: &Name, draft: Draft) -> Result<u32, PostError>
-        ensures posts { Posts name.now (checked_on (node self.old) name.now draft) result (node self.old) (node self.new) }
+    fn post(
+        &mut self,
+        alloc: Global,
+        name: &Name,
+        draft: Draft,
+        ops: &Ops,
+    ) -> Result<u32, PostError>
+        ensures posts { Posts name.now (checked_on (⟦<Ops as Listing>⟧.operations ops.now) (node self.old) name.now draft) result (node self.old) (node self.new) }
         ensures no_turn { turned self.old 0 self.new };
 
     /// Why the post of the draft would be refused, where it would. It takes no memory.
-    fn refusal(&self, name: &Name, draft: &Draft) -> Option<PostError>
-        ensures { result ≡ refusal_of (checked_on (node self.now) name.now draft.now) };
+    fn refusal(&self, name: &Name, draft: &Draft, ops: &Ops) -> Option<PostError>
+        ensures { result ≡ refusal_of (checked_on (⟦<Ops as Listing>⟧.operations ops.now) (node self.now) name.now draft.now) };
 
     /// Opens the gathering with this tag of the members of the parent with these ranks: its name. It makes no turn.
     fn open_gathering(
@@ -44,8 +51,8 @@ pub trait Host: Drop {
         ensures no_turn { turned self.old 0 self.new };
 
     /// Harvests the next call on a context. It makes no turn.
-    fn harvest(&mut self, alloc: Global, name: &Name) -> Result<Harvest, OutOfMemory>
-        ensures harvests { HarvestsNext name.now result (node self.old) (node self.new) }
+    fn harvest(&mut self, alloc: Global, name: &Name, ops: &Ops) -> Result<Harvest, OutOfMemory>
+        ensures harvests { HarvestsNext (⟦<Ops as Listing>⟧.operations ops.now) name.now result (node self.old) (node self.new) }
         ensures no_turn { turned self.old 0 self.new };
 
     /// The result of a call that was harvested, kept for good.

@@ -2,6 +2,7 @@
 ghost use Rattle.std.specs.Prelude.{◌≡◌, ℤ, List, Result, Ok, Some};
 ghost use Rattle.join_core.specs.declared.memory.OutOfMemory.{OutOfMemory};
 ghost use Rattle.mpx_name.specs.Name.{Name};
+ghost use Rattle.mpx_num.specs.declared.own.Operation.{Operation};
 ghost use Rattle.mpx_post.specs.Drafts.{given_by};
 ghost use Rattle.mpx_post.specs.declared.draft.Draft.{Draft};
 ghost use Rattle.mpx_post.specs.declared.draft.PostError.{PostError};
@@ -20,11 +21,12 @@ ghost use Rattle.mpx_comm.specs.Requests.{HasPosted, Tests, result_of, next_call
 /// harvests, and boards that come, also where memory was wanting to take one whole.
 pub fn calls_keep_posts_and_results()
     ensures later { (old now : NodeView) → Later old now → Keeps old now }
-    ensures posts { (old now : NodeView) (name : Name) (draft : Draft) → HasPosted name draft old now → Keeps old now }
+    ensures posts { (ops : List Operation) (old now : NodeView) (name : Name) (draft : Draft)
+        → HasPosted ops name draft old now → Keeps old now }
     ensures gatherings { (old now : NodeView) (parent : Name) (tag : ℤ) (ranks : List ℤ) (answer : Result Name PostError)
         → Opens parent (gathers_on old parent tag ranks) answer old now → Keeps old now }
-    ensures harvests { (old now : NodeView) (name : Name) (answer : Result Harvest OutOfMemory)
-        → HarvestsNext name answer old now → Keeps old now }
+    ensures harvests { (ops : List Operation) (old now : NodeView) (name : Name) (answer : Result Harvest OutOfMemory)
+        → HarvestsNext ops name answer old now → Keeps old now }
     ensures boards { (old : NodeView) (part : Look) → Keeps old (learn part old) }
     ensures stopped { (old now : NodeView) (part : Look) → StopsTaking part old now → Keeps old now }
     ensures chain { (old between now : NodeView) → Keeps old between → Keeps between now → Keeps old now }
@@ -32,8 +34,8 @@ pub fn calls_keep_posts_and_results()
 
 /// Whatever else was posted and done since, a result at the place of a draft's post says that post.
 pub fn results_say_what_was_posted()
-    ensures { (old posted now : NodeView) (name : Name) (draft : Draft) (finished : Finished)
-        → HasPosted name draft old posted → Keeps posted now → result_of now (next_call old name) ≡ Some finished → finished.mine ≡ given_by draft }
+    ensures { (ops : List Operation) (old posted now : NodeView) (name : Name) (draft : Draft) (finished : Finished)
+        → HasPosted ops name draft old posted → Keeps posted now → result_of now (next_call old name) ≡ Some finished → finished.mine ≡ given_by draft }
 {}
 
 /// What a test of a request answers is what the node stores of its call from then on, whatever is posted and done. So a

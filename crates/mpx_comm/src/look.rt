@@ -9,6 +9,7 @@ use crate::request::Request;
 use indexmap::IndexSet;
 use join_core::OutOfMemory;
 use mpx_node::{Finished, Harvest};
+use mpx_num::{Listing, Ops};
 use std::alloc::Global;
 
 // Harvests until the call is done or no further one is; its result.
@@ -16,9 +17,10 @@ pub fn look<H: Host>(
     alloc: Global,
     host: &mut H,
     request: &Request,
+    ops: &Ops,
 ) -> Result<Option<Finished>, OutOfMemory>
     ensures later { Later (H.node host.old) (H.node host.new) }
-    ensures harvested { Harvested (H.node host.old) (H.node host.new) }
+    ensures harvested { Harvested (⟦<Ops as Listing>⟧.operations ops.now) (H.node host.old) (H.node host.new) }
     ensures no_turn { H.turned host.old 0 host.new }
     ensures found { IfOk result (λ found. MatchOption found
         (IsPending (H.node host.new) request.now.name request.now.call)
@@ -29,7 +31,7 @@ pub fn look<H: Host>(
         if let Some(finished) = host.result(&request.name, request.call) {
             return Ok(Some(finished.copy(alloc)?));
         }
-        match host.harvest(alloc, &request.name)? {
+        match host.harvest(alloc, &request.name, ops)? {
             Harvest::Done(_) => {}
             Harvest::NotYet => return Ok(None),
             Harvest::NotOpened => return Ok(None),
@@ -42,9 +44,10 @@ pub fn look_all<H: Host>(
     alloc: Global,
     host: &mut H,
     requests: &[Request],
+    ops: &Ops,
 ) -> Result<Option<Vec<Finished>>, OutOfMemory>
     ensures later { Later (H.node host.old) (H.node host.new) }
-    ensures harvested { Harvested (H.node host.old) (H.node host.new) }
+    ensures harvested { Harvested (⟦<Ops as Listing>⟧.operations ops.now) (H.node host.old) (H.node host.new) }
     ensures no_turn { H.turned host.old 0 host.new }
     ensures found { IfOk result (λ found. MatchOption found
         (OneIsPending (H.node host.new) requests.now)
@@ -53,7 +56,7 @@ pub fn look_all<H: Host>(
 {
     let mut all = Vec::new(alloc);
     for request in requests {
-        match look(alloc, host, request)? {
+        match look(alloc, host, request, ops)? {
             Some(finished) => all.push(finished)?,
             None => return Ok(None),
         }
@@ -66,9 +69,10 @@ pub fn look_any<H: Host>(
     alloc: Global,
     host: &mut H,
     requests: &[Request],
+    ops: &Ops,
 ) -> Result<Option<(usize, Finished)>, OutOfMemory>
     ensures later { Later (H.node host.old) (H.node host.new) }
-    ensures harvested { Harvested (H.node host.old) (H.node host.new) }
+    ensures harvested { Harvested (⟦<Ops as Listing>⟧.operations ops.now) (H.node host.old) (H.node host.new) }
     ensures no_turn { H.turned host.old 0 host.new }
     ensures found { IfOk result (λ found. MatchOption found
         (WerePending (H.node host.old) (H.node host.new) (length requests.now) requests.now)
@@ -77,7 +81,7 @@ pub fn look_any<H: Host>(
     ensures wanting { IfErr result (λ e. OneIsAtHand (H.node host.new) requests.now) }
 {
     for place in 0..requests.len() {
-        if let Some(finished) = look(alloc, host, &requests[place])? {
+        if let Some(finished) = look(alloc, host, &requests[place], ops)? {
             return Ok(Some((place, finished)));
         }
     }
@@ -99,6 +103,7 @@ pub fn await_one<H: Host>(
     host: &mut H,
     request: &Request,
     turns: u64,
+    ops: &Ops,
 ) -> Result<Option<Finished>, OutOfMemory>
     ensures later { Later (H.node host.old) (H.node host.new) }
     ensures found { IfOk result (λ found. MatchOption found
@@ -108,7 +113,7 @@ pub fn await_one<H: Host>(
 {
     let mut left = turns;
     loop {
-        if let Some(finished) = look(alloc, host, request)? {
+        if let Some(finished) = look(alloc, host, request, ops)? {
             return Ok(Some(finished));
         }
         if left == 0 {
@@ -125,6 +130,7 @@ pub fn await_all<H: Host>(
     host: &mut H,
     requests: &[Request],
     turns: u64,
+    ops: &Ops,
 ) -> Result<Option<Vec<Finished>>, OutOfMemory>
     ensures later { Later (H.node host.old) (H.node host.new) }
     ensures found { IfOk result (λ found. MatchOption found
@@ -134,7 +140,7 @@ pub fn await_all<H: Host>(
 {
     let mut left = turns;
     loop {
-        if let Some(all) = look_all(alloc, host, requests)? {
+        if let Some(all) = look_all(alloc, host, requests, ops)? {
             return Ok(Some(all));
         }
         if left == 0 {

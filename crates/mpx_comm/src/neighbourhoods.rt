@@ -12,7 +12,7 @@ use crate::host::Host;
 use crate::lines;
 use crate::request::Request;
 use mpx_node::Finished;
-use mpx_num::{Numbers, Ty};
+use mpx_num::{Listing, Numbers, Ops, Ty};
 use mpx_post::{Mode, PostError};
 use std::alloc::Global;
 
@@ -27,11 +27,12 @@ impl<H: Host> Desk<H> {
         count: i128,
         items: Numbers,
         turns: u64,
+        ops: &Ops,
     ) -> Result<Finished, CallError>
-        ensures { DeskCalls H.node H.turned H.turn_refused comm.now.name (line.neighbor_allgather Blocking ty count items) turns result self.old self.new }
+        ensures { DeskCalls (⟦<Ops as Listing>⟧.operations ops.now) H.node H.turned H.turn_refused comm.now.name (line.neighbor_allgather Blocking ty count items) turns result self.old self.new }
     {
         let draft = lines::neighbor_allgather(Mode::Blocking, ty, count, items);
-        self.call_on(alloc, &comm.name, draft, turns)
+        self.call_on(alloc, &comm.name, draft, turns, ops)
     }
 
     /// `MPI_INEIGHBOR_ALLGATHER` (MPI 4.1 section 8.6.1).
@@ -42,12 +43,13 @@ impl<H: Host> Desk<H> {
         ty: Ty,
         count: i128,
         items: Numbers,
+        ops: &Ops,
     ) -> Result<Request, PostError>
-        ensures asks { DeskAsks H.node comm.now.name (line.neighbor_allgather Nonblocking ty count items) result self.old self.new }
+        ensures asks { DeskAsks (⟦<Ops as Listing>⟧.operations ops.now) H.node comm.now.name (line.neighbor_allgather Nonblocking ty count items) result self.old self.new }
         ensures no_turn { H.turned self.old.host 0 self.new.host }
     {
         let draft = lines::neighbor_allgather(Mode::Nonblocking, ty, count, items);
-        self.post_on(alloc, &comm.name, draft)
+        self.post_on(alloc, &comm.name, draft, ops)
     }
 
     /// `MPI_NEIGHBOR_ALLGATHERV` (MPI 4.1 section 8.6.1): how
@@ -60,11 +62,12 @@ impl<H: Host> Desk<H> {
         rcounts: Numbers,
         items: Numbers,
         turns: u64,
+        ops: &Ops,
     ) -> Result<Finished, CallError>
-        ensures { DeskCalls H.node H.turned H.turn_refused comm.now.name (line.neighbor_allgatherv Blocking ty rcounts items) turns result self.old self.new }
+        ensures { DeskCalls (⟦<Ops as Listing>⟧.operations ops.now) H.node H.turned H.turn_refused comm.now.name (line.neighbor_allgatherv Blocking ty rcounts items) turns result self.old self.new }
     {
         let draft = lines::neighbor_allgatherv(Mode::Blocking, ty, rcounts, items);
-        self.call_on(alloc, &comm.name, draft, turns)
+        self.call_on(alloc, &comm.name, draft, turns, ops)
     }
 
     /// `MPI_INEIGHBOR_ALLGATHERV` (MPI 4.1 section 8.6.1).
@@ -75,12 +78,13 @@ impl<H: Host> Desk<H> {
         ty: Ty,
         rcounts: Numbers,
         items: Numbers,
+        ops: &Ops,
     ) -> Result<Request, PostError>
-        ensures asks { DeskAsks H.node comm.now.name (line.neighbor_allgatherv Nonblocking ty rcounts items) result self.old self.new }
+        ensures asks { DeskAsks (⟦<Ops as Listing>⟧.operations ops.now) H.node comm.now.name (line.neighbor_allgatherv Nonblocking ty rcounts items) result self.old self.new }
         ensures no_turn { H.turned self.old.host 0 self.new.host }
     {
         let draft = lines::neighbor_allgatherv(Mode::Nonblocking, ty, rcounts, items);
-        self.post_on(alloc, &comm.name, draft)
+        self.post_on(alloc, &comm.name, draft, ops)
     }
 
     /// `MPI_NEIGHBOR_ALLTOALL` (MPI 4.1 section 8.6.2): how
@@ -94,11 +98,12 @@ impl<H: Host> Desk<H> {
         rcount: i128,
         items: Numbers,
         turns: u64,
+        ops: &Ops,
     ) -> Result<Finished, CallError>
-        ensures { DeskCalls H.node H.turned H.turn_refused comm.now.name (line.neighbor_alltoall Blocking ty scount rcount items) turns result self.old self.new }
+        ensures { DeskCalls (⟦<Ops as Listing>⟧.operations ops.now) H.node H.turned H.turn_refused comm.now.name (line.neighbor_alltoall Blocking ty scount rcount items) turns result self.old self.new }
     {
         let draft = lines::neighbor_alltoall(Mode::Blocking, ty, scount, rcount, items);
-        self.call_on(alloc, &comm.name, draft, turns)
+        self.call_on(alloc, &comm.name, draft, turns, ops)
     }
 
     /// `MPI_INEIGHBOR_ALLTOALL` (MPI 4.1 section 8.6.2).
@@ -110,12 +115,13 @@ impl<H: Host> Desk<H> {
         scount: i128,
         rcount: i128,
         items: Numbers,
+        ops: &Ops,
     ) -> Result<Request, PostError>
-        ensures asks { DeskAsks H.node comm.now.name (line.neighbor_alltoall Nonblocking ty scount rcount items) result self.old self.new }
+        ensures asks { DeskAsks (⟦<Ops as Listing>⟧.operations ops.now) H.node comm.now.name (line.neighbor_alltoall Nonblocking ty scount rcount items) result self.old self.new }
         ensures no_turn { H.turned self.old.host 0 self.new.host }
     {
         let draft = lines::neighbor_alltoall(Mode::Nonblocking, ty, scount, rcount, items);
-        self.post_on(alloc, &comm.name, draft)
+        self.post_on(alloc, &comm.name, draft, ops)
     }
 
     /// `MPI_NEIGHBOR_ALLTOALLV` (MPI 4.1 section 8.6.2): how
@@ -129,11 +135,12 @@ impl<H: Host> Desk<H> {
         rcounts: Numbers,
         items: Numbers,
         turns: u64,
+        ops: &Ops,
     ) -> Result<Finished, CallError>
-        ensures { DeskCalls H.node H.turned H.turn_refused comm.now.name (line.neighbor_alltoallv Blocking ty scounts rcounts items) turns result self.old self.new }
+        ensures { DeskCalls (⟦<Ops as Listing>⟧.operations ops.now) H.node H.turned H.turn_refused comm.now.name (line.neighbor_alltoallv Blocking ty scounts rcounts items) turns result self.old self.new }
     {
         let draft = lines::neighbor_alltoallv(Mode::Blocking, ty, scounts, rcounts, items);
-        self.call_on(alloc, &comm.name, draft, turns)
+        self.call_on(alloc, &comm.name, draft, turns, ops)
     }
 
     /// `MPI_INEIGHBOR_ALLTOALLV` (MPI 4.1 section 8.6.2).
@@ -145,11 +152,12 @@ impl<H: Host> Desk<H> {
         scounts: Numbers,
         rcounts: Numbers,
         items: Numbers,
+        ops: &Ops,
     ) -> Result<Request, PostError>
-        ensures asks { DeskAsks H.node comm.now.name (line.neighbor_alltoallv Nonblocking ty scounts rcounts items) result self.old self.new }
+        ensures asks { DeskAsks (⟦<Ops as Listing>⟧.operations ops.now) H.node comm.now.name (line.neighbor_alltoallv Nonblocking ty scounts rcounts items) result self.old self.new }
         ensures no_turn { H.turned self.old.host 0 self.new.host }
     {
         let draft = lines::neighbor_alltoallv(Mode::Nonblocking, ty, scounts, rcounts, items);
-        self.post_on(alloc, &comm.name, draft)
+        self.post_on(alloc, &comm.name, draft, ops)
     }
 }

@@ -12,7 +12,7 @@ use crate::host::Host;
 use crate::lines;
 use crate::request::Request;
 use mpx_node::Finished;
-use mpx_num::{Numbers, Op, Ty};
+use mpx_num::{Listing, Numbers, Op, Ops, Ty};
 use mpx_post::{Mode, PostError};
 use std::alloc::Global;
 
@@ -27,11 +27,12 @@ impl<H: Host> Desk<H> {
         ty: Ty,
         items: Numbers,
         turns: u64,
+        ops: &Ops,
     ) -> Result<Finished, CallError>
-        ensures { DeskCalls H.node H.turned H.turn_refused comm.now.name (line.reduce Blocking root op ty items) turns result self.old self.new }
+        ensures { DeskCalls (⟦<Ops as Listing>⟧.operations ops.now) H.node H.turned H.turn_refused comm.now.name (line.reduce Blocking root op ty items) turns result self.old self.new }
     {
         let draft = lines::reduce(Mode::Blocking, root, op, ty, items);
-        self.call_on(alloc, &comm.name, draft, turns)
+        self.call_on(alloc, &comm.name, draft, turns, ops)
     }
 
     /// `MPI_IREDUCE` (MPI 4.1 section 6.9.1).
@@ -43,12 +44,13 @@ impl<H: Host> Desk<H> {
         op: Op,
         ty: Ty,
         items: Numbers,
+        ops: &Ops,
     ) -> Result<Request, PostError>
-        ensures asks { DeskAsks H.node comm.now.name (line.reduce Nonblocking root op ty items) result self.old self.new }
+        ensures asks { DeskAsks (⟦<Ops as Listing>⟧.operations ops.now) H.node comm.now.name (line.reduce Nonblocking root op ty items) result self.old self.new }
         ensures no_turn { H.turned self.old.host 0 self.new.host }
     {
         let draft = lines::reduce(Mode::Nonblocking, root, op, ty, items);
-        self.post_on(alloc, &comm.name, draft)
+        self.post_on(alloc, &comm.name, draft, ops)
     }
 
     /// `MPI_ALLREDUCE` (MPI 4.1 section 6.9.6).
@@ -60,11 +62,12 @@ impl<H: Host> Desk<H> {
         ty: Ty,
         items: Numbers,
         turns: u64,
+        ops: &Ops,
     ) -> Result<Finished, CallError>
-        ensures { DeskCalls H.node H.turned H.turn_refused comm.now.name (line.allreduce Blocking op ty items) turns result self.old self.new }
+        ensures { DeskCalls (⟦<Ops as Listing>⟧.operations ops.now) H.node H.turned H.turn_refused comm.now.name (line.allreduce Blocking op ty items) turns result self.old self.new }
     {
         let draft = lines::allreduce(Mode::Blocking, op, ty, items);
-        self.call_on(alloc, &comm.name, draft, turns)
+        self.call_on(alloc, &comm.name, draft, turns, ops)
     }
 
     /// `MPI_IALLREDUCE` (MPI 4.1 section 6.9.6).
@@ -75,12 +78,13 @@ impl<H: Host> Desk<H> {
         op: Op,
         ty: Ty,
         items: Numbers,
+        ops: &Ops,
     ) -> Result<Request, PostError>
-        ensures asks { DeskAsks H.node comm.now.name (line.allreduce Nonblocking op ty items) result self.old self.new }
+        ensures asks { DeskAsks (⟦<Ops as Listing>⟧.operations ops.now) H.node comm.now.name (line.allreduce Nonblocking op ty items) result self.old self.new }
         ensures no_turn { H.turned self.old.host 0 self.new.host }
     {
         let draft = lines::allreduce(Mode::Nonblocking, op, ty, items);
-        self.post_on(alloc, &comm.name, draft)
+        self.post_on(alloc, &comm.name, draft, ops)
     }
 
     /// `MPI_REDUCE_SCATTER_BLOCK` (MPI 4.1 section 6.10.1): a block
@@ -94,11 +98,12 @@ impl<H: Host> Desk<H> {
         count: i128,
         items: Numbers,
         turns: u64,
+        ops: &Ops,
     ) -> Result<Finished, CallError>
-        ensures { DeskCalls H.node H.turned H.turn_refused comm.now.name (line.reduce_scatter_block Blocking op ty count items) turns result self.old self.new }
+        ensures { DeskCalls (⟦<Ops as Listing>⟧.operations ops.now) H.node H.turned H.turn_refused comm.now.name (line.reduce_scatter_block Blocking op ty count items) turns result self.old self.new }
     {
         let draft = lines::reduce_scatter_block(Mode::Blocking, op, ty, count, items);
-        self.call_on(alloc, &comm.name, draft, turns)
+        self.call_on(alloc, &comm.name, draft, turns, ops)
     }
 
     /// `MPI_IREDUCE_SCATTER_BLOCK` (MPI 4.1 section 6.10.1).
@@ -110,12 +115,13 @@ impl<H: Host> Desk<H> {
         ty: Ty,
         count: i128,
         items: Numbers,
+        ops: &Ops,
     ) -> Result<Request, PostError>
-        ensures asks { DeskAsks H.node comm.now.name (line.reduce_scatter_block Nonblocking op ty count items) result self.old self.new }
+        ensures asks { DeskAsks (⟦<Ops as Listing>⟧.operations ops.now) H.node comm.now.name (line.reduce_scatter_block Nonblocking op ty count items) result self.old self.new }
         ensures no_turn { H.turned self.old.host 0 self.new.host }
     {
         let draft = lines::reduce_scatter_block(Mode::Nonblocking, op, ty, count, items);
-        self.post_on(alloc, &comm.name, draft)
+        self.post_on(alloc, &comm.name, draft, ops)
     }
 
     /// `MPI_REDUCE_SCATTER` (MPI 4.1 section 6.10.2): how many items
@@ -129,11 +135,12 @@ impl<H: Host> Desk<H> {
         rcounts: Numbers,
         items: Numbers,
         turns: u64,
+        ops: &Ops,
     ) -> Result<Finished, CallError>
-        ensures { DeskCalls H.node H.turned H.turn_refused comm.now.name (line.reduce_scatter Blocking op ty rcounts items) turns result self.old self.new }
+        ensures { DeskCalls (⟦<Ops as Listing>⟧.operations ops.now) H.node H.turned H.turn_refused comm.now.name (line.reduce_scatter Blocking op ty rcounts items) turns result self.old self.new }
     {
         let draft = lines::reduce_scatter(Mode::Blocking, op, ty, rcounts, items);
-        self.call_on(alloc, &comm.name, draft, turns)
+        self.call_on(alloc, &comm.name, draft, turns, ops)
     }
 
     /// `MPI_IREDUCE_SCATTER` (MPI 4.1 section 6.10.2).
@@ -145,12 +152,13 @@ impl<H: Host> Desk<H> {
         ty: Ty,
         rcounts: Numbers,
         items: Numbers,
+        ops: &Ops,
     ) -> Result<Request, PostError>
-        ensures asks { DeskAsks H.node comm.now.name (line.reduce_scatter Nonblocking op ty rcounts items) result self.old self.new }
+        ensures asks { DeskAsks (⟦<Ops as Listing>⟧.operations ops.now) H.node comm.now.name (line.reduce_scatter Nonblocking op ty rcounts items) result self.old self.new }
         ensures no_turn { H.turned self.old.host 0 self.new.host }
     {
         let draft = lines::reduce_scatter(Mode::Nonblocking, op, ty, rcounts, items);
-        self.post_on(alloc, &comm.name, draft)
+        self.post_on(alloc, &comm.name, draft, ops)
     }
 
     /// `MPI_SCAN` (MPI 4.1 section 6.11.1).
@@ -162,11 +170,12 @@ impl<H: Host> Desk<H> {
         ty: Ty,
         items: Numbers,
         turns: u64,
+        ops: &Ops,
     ) -> Result<Finished, CallError>
-        ensures { DeskCalls H.node H.turned H.turn_refused comm.now.name (line.scan Blocking op ty items) turns result self.old self.new }
+        ensures { DeskCalls (⟦<Ops as Listing>⟧.operations ops.now) H.node H.turned H.turn_refused comm.now.name (line.scan Blocking op ty items) turns result self.old self.new }
     {
         let draft = lines::scan(Mode::Blocking, op, ty, items);
-        self.call_on(alloc, &comm.name, draft, turns)
+        self.call_on(alloc, &comm.name, draft, turns, ops)
     }
 
     /// `MPI_ISCAN` (MPI 4.1 section 6.11.1).
@@ -177,12 +186,13 @@ impl<H: Host> Desk<H> {
         op: Op,
         ty: Ty,
         items: Numbers,
+        ops: &Ops,
     ) -> Result<Request, PostError>
-        ensures asks { DeskAsks H.node comm.now.name (line.scan Nonblocking op ty items) result self.old self.new }
+        ensures asks { DeskAsks (⟦<Ops as Listing>⟧.operations ops.now) H.node comm.now.name (line.scan Nonblocking op ty items) result self.old self.new }
         ensures no_turn { H.turned self.old.host 0 self.new.host }
     {
         let draft = lines::scan(Mode::Nonblocking, op, ty, items);
-        self.post_on(alloc, &comm.name, draft)
+        self.post_on(alloc, &comm.name, draft, ops)
     }
 
     /// `MPI_EXSCAN` (MPI 4.1 section 6.11.2).
@@ -194,11 +204,12 @@ impl<H: Host> Desk<H> {
         ty: Ty,
         items: Numbers,
         turns: u64,
+        ops: &Ops,
     ) -> Result<Finished, CallError>
-        ensures { DeskCalls H.node H.turned H.turn_refused comm.now.name (line.exscan Blocking op ty items) turns result self.old self.new }
+        ensures { DeskCalls (⟦<Ops as Listing>⟧.operations ops.now) H.node H.turned H.turn_refused comm.now.name (line.exscan Blocking op ty items) turns result self.old self.new }
     {
         let draft = lines::exscan(Mode::Blocking, op, ty, items);
-        self.call_on(alloc, &comm.name, draft, turns)
+        self.call_on(alloc, &comm.name, draft, turns, ops)
     }
 
     /// `MPI_IEXSCAN` (MPI 4.1 section 6.11.2).
@@ -209,11 +220,12 @@ impl<H: Host> Desk<H> {
         op: Op,
         ty: Ty,
         items: Numbers,
+        ops: &Ops,
     ) -> Result<Request, PostError>
-        ensures asks { DeskAsks H.node comm.now.name (line.exscan Nonblocking op ty items) result self.old self.new }
+        ensures asks { DeskAsks (⟦<Ops as Listing>⟧.operations ops.now) H.node comm.now.name (line.exscan Nonblocking op ty items) result self.old self.new }
         ensures no_turn { H.turned self.old.host 0 self.new.host }
     {
         let draft = lines::exscan(Mode::Nonblocking, op, ty, items);
-        self.post_on(alloc, &comm.name, draft)
+        self.post_on(alloc, &comm.name, draft, ops)
     }
 }

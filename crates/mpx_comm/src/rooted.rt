@@ -12,26 +12,32 @@ use crate::host::Host;
 use crate::lines;
 use crate::request::Request;
 use mpx_node::Finished;
-use mpx_num::{Numbers, Ty};
+use mpx_num::{Listing, Numbers, Ops, Ty};
 use mpx_post::{Mode, PostError};
 use std::alloc::Global;
 
 impl<H: Host> Desk<H> {
     /// `MPI_BARRIER` (MPI 4.1 section 6.3).
-    pub fn barrier(&mut self, alloc: Global, comm: &Comm, turns: u64) -> Result<Finished, CallError>
-        ensures { DeskCalls H.node H.turned H.turn_refused comm.now.name (line.barrier Blocking) turns result self.old self.new }
+    pub fn barrier(
+        &mut self,
+        alloc: Global,
+        comm: &Comm,
+        turns: u64,
+        ops: &Ops,
+    ) -> Result<Finished, CallError>
+        ensures { DeskCalls (⟦<Ops as Listing>⟧.operations ops.now) H.node H.turned H.turn_refused comm.now.name (line.barrier Blocking) turns result self.old self.new }
     {
         let draft = lines::barrier(Mode::Blocking);
-        self.call_on(alloc, &comm.name, draft, turns)
+        self.call_on(alloc, &comm.name, draft, turns, ops)
     }
 
     /// `MPI_IBARRIER` (MPI 4.1 section 6.3).
-    pub fn ibarrier(&mut self, alloc: Global, comm: &Comm) -> Result<Request, PostError>
-        ensures asks { DeskAsks H.node comm.now.name (line.barrier Nonblocking) result self.old self.new }
+    pub fn ibarrier(&mut self, alloc: Global, comm: &Comm, ops: &Ops) -> Result<Request, PostError>
+        ensures asks { DeskAsks (⟦<Ops as Listing>⟧.operations ops.now) H.node comm.now.name (line.barrier Nonblocking) result self.old self.new }
         ensures no_turn { H.turned self.old.host 0 self.new.host }
     {
         let draft = lines::barrier(Mode::Nonblocking);
-        self.post_on(alloc, &comm.name, draft)
+        self.post_on(alloc, &comm.name, draft, ops)
     }
 
     /// `MPI_BCAST` (MPI 4.1 section 6.4): the root gives so many items, the others none.
@@ -44,11 +50,12 @@ impl<H: Host> Desk<H> {
         count: i128,
         items: Numbers,
         turns: u64,
+        ops: &Ops,
     ) -> Result<Finished, CallError>
-        ensures { DeskCalls H.node H.turned H.turn_refused comm.now.name (line.bcast Blocking root ty count items) turns result self.old self.new }
+        ensures { DeskCalls (⟦<Ops as Listing>⟧.operations ops.now) H.node H.turned H.turn_refused comm.now.name (line.bcast Blocking root ty count items) turns result self.old self.new }
     {
         let draft = lines::bcast(Mode::Blocking, root, ty, count, items);
-        self.call_on(alloc, &comm.name, draft, turns)
+        self.call_on(alloc, &comm.name, draft, turns, ops)
     }
 
     /// `MPI_IBCAST` (MPI 4.1 section 6.4).
@@ -60,12 +67,13 @@ impl<H: Host> Desk<H> {
         ty: Ty,
         count: i128,
         items: Numbers,
+        ops: &Ops,
     ) -> Result<Request, PostError>
-        ensures asks { DeskAsks H.node comm.now.name (line.bcast Nonblocking root ty count items) result self.old self.new }
+        ensures asks { DeskAsks (⟦<Ops as Listing>⟧.operations ops.now) H.node comm.now.name (line.bcast Nonblocking root ty count items) result self.old self.new }
         ensures no_turn { H.turned self.old.host 0 self.new.host }
     {
         let draft = lines::bcast(Mode::Nonblocking, root, ty, count, items);
-        self.post_on(alloc, &comm.name, draft)
+        self.post_on(alloc, &comm.name, draft, ops)
     }
 
     /// `MPI_GATHER` (MPI 4.1 section 6.5): every member gives as many items as the root.
@@ -77,11 +85,12 @@ impl<H: Host> Desk<H> {
         ty: Ty,
         items: Numbers,
         turns: u64,
+        ops: &Ops,
     ) -> Result<Finished, CallError>
-        ensures { DeskCalls H.node H.turned H.turn_refused comm.now.name (line.gather Blocking root ty items) turns result self.old self.new }
+        ensures { DeskCalls (⟦<Ops as Listing>⟧.operations ops.now) H.node H.turned H.turn_refused comm.now.name (line.gather Blocking root ty items) turns result self.old self.new }
     {
         let draft = lines::gather(Mode::Blocking, root, ty, items);
-        self.call_on(alloc, &comm.name, draft, turns)
+        self.call_on(alloc, &comm.name, draft, turns, ops)
     }
 
     /// `MPI_IGATHER` (MPI 4.1 section 6.5).
@@ -92,12 +101,13 @@ impl<H: Host> Desk<H> {
         root: i128,
         ty: Ty,
         items: Numbers,
+        ops: &Ops,
     ) -> Result<Request, PostError>
-        ensures asks { DeskAsks H.node comm.now.name (line.gather Nonblocking root ty items) result self.old self.new }
+        ensures asks { DeskAsks (⟦<Ops as Listing>⟧.operations ops.now) H.node comm.now.name (line.gather Nonblocking root ty items) result self.old self.new }
         ensures no_turn { H.turned self.old.host 0 self.new.host }
     {
         let draft = lines::gather(Mode::Nonblocking, root, ty, items);
-        self.post_on(alloc, &comm.name, draft)
+        self.post_on(alloc, &comm.name, draft, ops)
     }
 
     /// `MPI_GATHERV` (MPI 4.1 section 6.5): the root says how many
@@ -111,11 +121,12 @@ impl<H: Host> Desk<H> {
         rcounts: Numbers,
         items: Numbers,
         turns: u64,
+        ops: &Ops,
     ) -> Result<Finished, CallError>
-        ensures { DeskCalls H.node H.turned H.turn_refused comm.now.name (line.gatherv Blocking root ty rcounts items) turns result self.old self.new }
+        ensures { DeskCalls (⟦<Ops as Listing>⟧.operations ops.now) H.node H.turned H.turn_refused comm.now.name (line.gatherv Blocking root ty rcounts items) turns result self.old self.new }
     {
         let draft = lines::gatherv(Mode::Blocking, root, ty, rcounts, items);
-        self.call_on(alloc, &comm.name, draft, turns)
+        self.call_on(alloc, &comm.name, draft, turns, ops)
     }
 
     /// `MPI_IGATHERV` (MPI 4.1 section 6.5).
@@ -127,12 +138,13 @@ impl<H: Host> Desk<H> {
         ty: Ty,
         rcounts: Numbers,
         items: Numbers,
+        ops: &Ops,
     ) -> Result<Request, PostError>
-        ensures asks { DeskAsks H.node comm.now.name (line.gatherv Nonblocking root ty rcounts items) result self.old self.new }
+        ensures asks { DeskAsks (⟦<Ops as Listing>⟧.operations ops.now) H.node comm.now.name (line.gatherv Nonblocking root ty rcounts items) result self.old self.new }
         ensures no_turn { H.turned self.old.host 0 self.new.host }
     {
         let draft = lines::gatherv(Mode::Nonblocking, root, ty, rcounts, items);
-        self.post_on(alloc, &comm.name, draft)
+        self.post_on(alloc, &comm.name, draft, ops)
     }
 
     /// `MPI_SCATTER` (MPI 4.1 section 6.6): the root gives a block of
@@ -146,11 +158,12 @@ impl<H: Host> Desk<H> {
         count: i128,
         items: Numbers,
         turns: u64,
+        ops: &Ops,
     ) -> Result<Finished, CallError>
-        ensures { DeskCalls H.node H.turned H.turn_refused comm.now.name (line.scatter Blocking root ty count items) turns result self.old self.new }
+        ensures { DeskCalls (⟦<Ops as Listing>⟧.operations ops.now) H.node H.turned H.turn_refused comm.now.name (line.scatter Blocking root ty count items) turns result self.old self.new }
     {
         let draft = lines::scatter(Mode::Blocking, root, ty, count, items);
-        self.call_on(alloc, &comm.name, draft, turns)
+        self.call_on(alloc, &comm.name, draft, turns, ops)
     }
 
     /// `MPI_ISCATTER` (MPI 4.1 section 6.6).
@@ -162,12 +175,13 @@ impl<H: Host> Desk<H> {
         ty: Ty,
         count: i128,
         items: Numbers,
+        ops: &Ops,
     ) -> Result<Request, PostError>
-        ensures asks { DeskAsks H.node comm.now.name (line.scatter Nonblocking root ty count items) result self.old self.new }
+        ensures asks { DeskAsks (⟦<Ops as Listing>⟧.operations ops.now) H.node comm.now.name (line.scatter Nonblocking root ty count items) result self.old self.new }
         ensures no_turn { H.turned self.old.host 0 self.new.host }
     {
         let draft = lines::scatter(Mode::Nonblocking, root, ty, count, items);
-        self.post_on(alloc, &comm.name, draft)
+        self.post_on(alloc, &comm.name, draft, ops)
     }
 
     /// `MPI_SCATTERV` (MPI 4.1 section 6.6): the root says how many
@@ -182,11 +196,12 @@ impl<H: Host> Desk<H> {
         count: i128,
         items: Numbers,
         turns: u64,
+        ops: &Ops,
     ) -> Result<Finished, CallError>
-        ensures { DeskCalls H.node H.turned H.turn_refused comm.now.name (line.scatterv Blocking root ty scounts count items) turns result self.old self.new }
+        ensures { DeskCalls (⟦<Ops as Listing>⟧.operations ops.now) H.node H.turned H.turn_refused comm.now.name (line.scatterv Blocking root ty scounts count items) turns result self.old self.new }
     {
         let draft = lines::scatterv(Mode::Blocking, root, ty, scounts, count, items);
-        self.call_on(alloc, &comm.name, draft, turns)
+        self.call_on(alloc, &comm.name, draft, turns, ops)
     }
 
     /// `MPI_ISCATTERV` (MPI 4.1 section 6.6).
@@ -199,11 +214,12 @@ impl<H: Host> Desk<H> {
         scounts: Numbers,
         count: i128,
         items: Numbers,
+        ops: &Ops,
     ) -> Result<Request, PostError>
-        ensures asks { DeskAsks H.node comm.now.name (line.scatterv Nonblocking root ty scounts count items) result self.old self.new }
+        ensures asks { DeskAsks (⟦<Ops as Listing>⟧.operations ops.now) H.node comm.now.name (line.scatterv Nonblocking root ty scounts count items) result self.old self.new }
         ensures no_turn { H.turned self.old.host 0 self.new.host }
     {
         let draft = lines::scatterv(Mode::Nonblocking, root, ty, scounts, count, items);
-        self.post_on(alloc, &comm.name, draft)
+        self.post_on(alloc, &comm.name, draft, ops)
     }
 }

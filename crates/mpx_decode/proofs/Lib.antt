@@ -4,3 +4,7 @@ pub mod Signed
 pub mod Integers
 pub mod PostLimits
 pub mod RightRows
+pub mod OneRow
+pub mod RaisedRows
+pub mod Taken
+pub mod NameFront

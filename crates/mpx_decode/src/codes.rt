@@ -5,15 +5,15 @@ ghost use Rattle.mpx_num.specs.Operations.{fits};
 ghost use Rattle.mpx_kind.specs.Kinds.{family_of, may_be};
 ghost use Rattle.mpx_format.specs.Format.{Gives};
 ghost use Rattle.mpx_format.specs.Fields.{process};
-ghost use Rattle.mpx_format.specs.Codes.{flag, item_type, kind, kinds_in, mode, operation, version_byte, when};
+ghost use Rattle.mpx_format.specs.Codes.{flag, is_operation_code, item_type, kind, kinds_in, mode, operation, version_byte, when};
 ghost use Rattle.mpx_kind.specs.Codes.{kind_at};
-ghost use Rattle.mpx_num.specs.Codes.{operation_at, type_at};
+ghost use Rattle.mpx_num.specs.Codes.{type_at};
 ghost use Rattle.mpx_format.specs.Posts.{type_for};
 
 use crate::fields::read_process;
 use crate::numbers::read_u8;
 use mpx_format::{Fault, ReadError, Version, out_of_limits};
-use mpx_num::{Op, Ty, op_fits};
+use mpx_num::{Op, Ty, may_stand};
 use mpx_post::{Family, Kind, Mode};
 
 // VERSIONS
@@ -123,37 +123,25 @@ fn may_be_nonblocking(kind: Kind) -> bool
 
 // OPERATIONS AND TYPES
 
-#[tactic(auto, unfolding(mpx_format::specs::Codes::operation))]
-fn read_operation(bytes: &[u8]) -> Result<(Op, &[u8]), ReadError>
-    ensures { Gives (λ x. (x.0, x.1.now)) result (operation.read bytes.now) }
+// Whether the version spells an operation by this code.
+fn is_operation_code(version: Version, code: u8) -> bool
+    ensures { result ≡ is_operation_code version code }
 {
-    let (code, rest) = read_u8(bytes)?;
-    if 0 < code && code < 13 {
-        Ok((operation_at(code), rest))
-    } else {
-        Err(out_of_limits(bytes))
+    match version {
+        Version::One => 0 < code && code < 13,
+        Version::Two => (0 < code && code < 13) || (15 < code && code < 32),
     }
 }
 
-fn operation_at(code: u8) -> Op
-    requires some { 0 < code }
-    requires below { code < 13 }
-    ensures { result ≡ operation_at code }
+#[tactic(auto, unfolding(mpx_format::specs::Codes::operation))]
+fn read_operation(version: Version, bytes: &[u8]) -> Result<(Op, &[u8]), ReadError>
+    ensures { Gives (λ x. (x.0, x.1.now)) result ((operation version).read bytes.now) }
 {
-    match code {
-        1 => Op::Max,
-        2 => Op::Min,
-        3 => Op::Sum,
-        4 => Op::Prod,
-        5 => Op::Land,
-        6 => Op::Lor,
-        7 => Op::Lxor,
-        8 => Op::Band,
-        9 => Op::Bor,
-        10 => Op::Bxor,
-        11 => Op::Maxloc,
-        12 => Op::Minloc,
-        _ => unreachable!(),
+    let (code, rest) = read_u8(bytes)?;
+    if is_operation_code(version, code) {
+        Ok((Op::at(code), rest))
+    } else {
+        Err(out_of_limits(bytes))
     }
 }
 
@@ -188,7 +176,7 @@ fn type_at(code: u8) -> Ty
     }
 }
 
-// The type, which the operation fits where there is one.
+// The type, beside which the operation may stand where there is one.
 fn read_type_for(op: Option<Op>, bytes: &[u8]) -> Result<(Ty, &[u8]), ReadError>
     ensures read { Gives (λ x. (x.0, x.1.now)) result ((type_for op).read bytes.now) }
     ensures fits { IfOk result (λ x. option_map_or (λ o. fits o x.0) op true ≡ true) }
@@ -197,7 +185,7 @@ fn read_type_for(op: Option<Op>, bytes: &[u8]) -> Result<(Ty, &[u8]), ReadError>
     match op {
         None => Ok((ty, rest)),
         Some(op) => {
-            if op_fits(op, ty) {
+            if may_stand(op, ty) {
                 Ok((ty, rest))
             } else {
                 Err(out_of_limits(bytes))
@@ -237,19 +225,19 @@ pub fn read_root(had: bool, bytes: &[u8]) -> Result<(Option<u8>, &[u8]), ReadErr
     }
 }
 
-pub fn read_op(had: bool, bytes: &[u8]) -> Result<(Option<Op>, &[u8]), ReadError>
-    ensures read { Gives (λ x. (x.0, x.1.now)) result ((when had operation).read bytes.now) }
+pub fn read_op(version: Version, had: bool, bytes: &[u8]) -> Result<(Option<Op>, &[u8]), ReadError>
+    ensures read { Gives (λ x. (x.0, x.1.now)) result ((when had (operation version)).read bytes.now) }
     ensures there { IfOk result (λ x. is_some x.0 ≡ had) }
 {
     if had {
-        let (op, rest) = read_operation(bytes)?;
+        let (op, rest) = read_operation(version, bytes)?;
         Ok((Some(op), rest))
     } else {
         Ok((None, bytes))
     }
 }
 
-// The type of the items, which the operation fits where there is one.
+// The type of the items, beside which the operation may stand where there is one.
 pub fn read_type(had: bool, op: Option<Op>, bytes: &[u8]) -> Result<(Option<Ty>, &[u8]), ReadError>
     ensures read { Gives (λ x. (x.0, x.1.now)) result ((when had (type_for op)).read bytes.now) }
     ensures there { IfOk result (λ x. is_some x.0 ≡ had) }

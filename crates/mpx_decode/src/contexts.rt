@@ -8,7 +8,10 @@ ghost use Rattle.join_nest.specs.Trunc.{TruncView};
 ghost use Rattle.mpx_board.specs.Tidy.{is_silent};
 ghost use Rattle.mpx_format.specs.Format.{Gives};
 ghost use Rattle.mpx_format.specs.Contexts.{told, posted, call_posts, held, progress, context, lift_form, lifted, parts, says_something};
-ghost use Rattle.mpx_format.specs.Fields.{fronts, call};
+ghost use Rattle.mpx_format.specs.Fields.{fronts, call, name, name_count};
+ghost use Rattle.mpx_format.specs.Rising.{keyed};
+ghost use Rattle.mpx_name.specs.Order.{name_cmp};
+ghost use Rattle.mpx_board.specs.Views.{view_of_entries};
 
 use crate::acks::read_all_acks;
 use crate::entries::{WireKey, WireValue, read_entries};
@@ -19,6 +22,7 @@ use join_core::{Exact, Flat, Pair};
 use join_nest::{Keyed, Lift, Trunc};
 use mpx_board::{Call, Entry, Lifted, Parts, VersionVector, is_said, is_told};
 use mpx_format::{ReadError, Version, out_of_limits};
+use mpx_name::Name;
 use mpx_post::{Birth, Post};
 use std::alloc::Global;
 
@@ -189,6 +193,19 @@ impl WireValue for Lifted {
     }
 }
 
+// What is said of contexts, by name.
+pub fn read_contexts(
+    version: Version,
+    alloc: Global,
+    bytes: &[u8],
+) -> Result<(Keyed<Name, Lifted>, &[u8]), ReadError>
+    ensures { Gives (λ x. (view_of_entries x.0, x.1.now)) result ((keyed name_cmp name_count name (lifted version) says_something).read bytes.now) }
+{
+    let (count, rest) = read_name_count(bytes)?;
+    let (entries, rest) = read_entries(version, alloc, &None, count as usize, rest)?;
+    Ok((Keyed::from_rising(entries), rest))
+}
+
 /// The parts of a board, as the version spells them, at the front of these bytes, and the bytes after them.
 #[tactic(auto, unfolding(mpx_format::specs::Contexts::parts))]
 pub fn read_parts(
@@ -198,9 +215,7 @@ pub fn read_parts(
 ) -> Result<(Parts, &[u8]), ReadError>
     ensures { Gives (λ x. (⟦<Parts as Exact>⟧.view x.0, x.1.now)) result ((parts version).read bytes.now) }
 {
-    let (count, rest) = read_name_count(bytes)?;
-    let (entries, rest) = read_entries(version, alloc, &None, count as usize, rest)?;
-    let contexts = Keyed::from_rising(entries);
+    let (contexts, rest) = read_contexts(version, alloc, bytes)?;
     let (acks, rest) = read_all_acks(version, alloc, rest)?;
     Ok((
         Pair {

@@ -16,7 +16,11 @@ mod names;
 mod neighbours;
 mod numbers;
 mod posts;
+mod raised;
+mod raising;
 mod rows;
+mod taking;
 
 pub use codes::read_version;
 pub use contexts::read_parts;
+pub use taking::take_parts;

@@ -32,7 +32,7 @@ impl WireValue for Post {
         let sent = fields.scounts.is_had();
         let got = fields.rcounts.is_had();
         let (root, rest) = read_root(fields.root, rest)?;
-        let (op, rest) = read_op(fields.op, rest)?;
+        let (op, rest) = read_op(version, fields.op, rest)?;
         let (ty, rest) = read_type(fields.items, op, rest)?;
         let (scounts, rest) = read_counts(sent, alloc, rest)?;
         let (rcounts, rest) = read_counts(got, alloc, rest)?;

@@ -62,7 +62,7 @@ fn right_rows(
 }
 
 // The process and the number of the row at the front, and the bytes after it, where there are enough.
-fn front_row(bytes: &[u8]) -> Option<(u8, u32, &[u8])>
+pub fn front_row(bytes: &[u8]) -> Option<(u8, u32, &[u8])>
     ensures { IfSome result (λ x. (both byte (λ p. number w32)).read bytes.now ≡ Ok ((x.0, x.1), x.2.now)) }
 {
     match bytes.split_first_chunk::<5>() {

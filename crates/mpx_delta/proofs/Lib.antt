@@ -7,3 +7,4 @@ pub mod Reaching
 pub mod Gaps
 pub mod Saying
 pub mod Telling
+pub mod Framing

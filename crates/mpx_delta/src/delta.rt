@@ -63,7 +63,7 @@ pub fn lean_board(
 }
 
 // The contexts without those posts.
-fn lean_contexts(
+pub fn lean_contexts(
     alloc: Global,
     contexts: &Keyed<Name, Lifted>,
     digest: &Digest,

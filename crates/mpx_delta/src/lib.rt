@@ -8,11 +8,13 @@
 
 mod delta;
 mod digest;
+mod framed;
 mod lacking;
 mod least;
 mod posted;
 
 pub use delta::delta_for;
 pub use digest::{Digest, digest_of};
+pub use framed::{NewFrames, new_frames};
 pub use lacking::{NewList, deltas, new_list};
 pub use least::common;

@@ -174,7 +174,7 @@ module _ (g : Given) where
   root_part = (when (fields_of g.kind).root process).spelling g.root
 
   abbrev pub operation_part : List ℕ
-  operation_part = (when (fields_of g.kind).op operation).spelling g.op
+  operation_part = (when (fields_of g.kind).op (operation Two)).spelling g.op
 
   abbrev pub sent_part : List ℕ
   sent_part = (counts_if (is_had (fields_of g.kind).scounts)).spelling g.scounts
@@ -213,7 +213,7 @@ post_making g h =
     let a = (kind Two).fits g.kind in
     let b = (mode g.kind).fits g.mode in
     let r = (when fields.root process).fits g.root in
-    let o = (when fields.op operation).fits g.op in
+    let o = (when fields.op (operation Two)).fits g.op in
     let y = (when fields.items (type_for g.op)).fits t in
     let s = (counts_if (is_had fields.scounts)).fits g.scounts in
     let c = (counts_if (is_had fields.rcounts)).fits g.rcounts in

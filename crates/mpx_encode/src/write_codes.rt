@@ -53,20 +53,7 @@ pub fn code_of_mode(mode: Mode) -> u8
 pub fn code_of_operation(op: Op) -> u8
     ensures { result ≡ code_of_operation op }
 {
-    match op {
-        Op::Max => 1,
-        Op::Min => 2,
-        Op::Sum => 3,
-        Op::Prod => 4,
-        Op::Land => 5,
-        Op::Lor => 6,
-        Op::Lxor => 7,
-        Op::Band => 8,
-        Op::Bor => 9,
-        Op::Bxor => 10,
-        Op::Maxloc => 11,
-        Op::Minloc => 12,
-    }
+    op.code()
 }
 
 pub fn code_of_type(ty: Ty) -> u8

@@ -25,7 +25,7 @@ fn write_root(given: &Post, out: &mut Vec<u8>) -> Result<(), OutOfMemory>
 }
 
 fn write_operation(given: &Post, out: &mut Vec<u8>) -> Result<(), OutOfMemory>
-    ensures { OnOk result (out.new.items ≡ out.old.items ++ (when (fields_of given.now.kind).op operation).spelling given.now.op) }
+    ensures { OnOk result (out.new.items ≡ out.old.items ++ (when (fields_of given.now.kind).op (operation Two)).spelling given.now.op) }
 {
     match given.op() {
         None => Ok(()),
@@ -105,7 +105,7 @@ fn root_len(given: &Post) -> usize
 }
 
 fn operation_len(given: &Post) -> usize
-    ensures value { result ≡ length ((when (fields_of given.now.kind).op operation).spelling given.now.op) }
+    ensures value { result ≡ length ((when (fields_of given.now.kind).op (operation Two)).spelling given.now.op) }
     ensures small { result ≤ 1 }
 {
     match given.op() {

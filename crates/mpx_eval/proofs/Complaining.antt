@@ -1,6 +1,7 @@
 -- What ranks complain of at the end, by the program's ranks.
 use Rattle.std.proofs.Common.{◌≡◌, ℕ, zero, suc, ◌<◌, List, ◌++◌, refl, ap, ◌∙◌, arith}
 use Rattle.std.specs.Prelude.{slice_get}
+use Rattle.mpx_num.specs.declared.own.Operation.{Operation}
 use Rattle.mpx_script.specs.ScriptView.{ScriptView}
 use Rattle.mpx_evaluation.specs.Evaluation.{statements_of}
 use Rattle.mpx_evaluation.specs.Reports.{lines_in}
@@ -15,10 +16,10 @@ upto_same : (f g : ℕ → List ComplaintView) (n : ℕ) → ((p : ℕ) → p < 
 upto_same f g zero h = refl
 upto_same f g (suc n) h = λ i. upto_same f g n (λ p l. h p (omega (arith, l))) i ++ h n (omega arith) i
 
-module _ (script : ScriptView) (rs : List TableRank) (t : Table) (e : AreAtEnd script.statements script.ranks rs t) where
+module _ (ops : List Operation) (script : ScriptView) (rs : List TableRank) (t : Table) (e : AreAtEnd ops script.statements script.ranks rs t) where
   of_rank : (p : ℕ) → p < script.ranks → complaints_found script.statements p (slice_get rs p) ≡ complaints_at p (statements_of script.statements p) (lines_in e.end p) (e.end p).origins
   of_rank p l =
-      let at = there script rs t e p l in
+      let at = there ops script rs t e p l in
       let here = (e.are.each p at.0 at.1).1 in
       ap (complaints_found script.statements p) at.1 ∙ λ i. complaints_at p (at_index script.statements p i) (here.lines i) (here.origins i)
 

@@ -5,6 +5,7 @@ use Rattle.std.specs.List.{list_any}
 use Rattle.std.proofs.Math.Bool.{or-false}
 use Rattle.std.proofs.lemmas.List.Folds.{list_any-append}
 use Rattle.std.proofs.lemmas.List.Quantifiers.{position-Some}
+use Rattle.mpx_num.specs.declared.own.Operation.{Operation}
 use Rattle.mpx_post.specs.declared.draft.At.{At}
 use Rattle.mpx_post.specs.declared.draft.Draft.{Draft}
 use Rattle.mpx_post.specs.declared.draft.PostError.TheVariants.{NotMember}
@@ -19,9 +20,9 @@ pub freed_more : (posts : List Given) (post : Given) → list_any is_free (posts
 freed_more posts post = list_any-append is_free posts (post ∷ []) ∙ ap (λ b. list_any is_free posts || b) (or-false (is_free post))
 
 -- who is no member is refused
-pub checked_stranger : (birth : BirthView) (me : ℕ) (at : At) (draft : Draft) → rank_in me birth.members ≡ None → checked birth me at draft ≡ Err NotMember
+pub checked_stranger : (ops : List Operation) (birth : BirthView) (me : ℕ) (at : At) (draft : Draft) → rank_in me birth.members ≡ None → checked ops birth me at draft ≡ Err NotMember
 unfolding checked
-checked_stranger birth me at draft e = ap (λ o. checked_at o birth at draft) e
+checked_stranger ops birth me at draft e = ap (λ o. checked_at ops o birth at draft) e
 
 -- a member's rank is one of theirs
 pub rank_in-below : (me : ℕ) (members : List ℕ) (rank : ℕ) → rank_in me members ≡ Some rank → rank < length members

@@ -1,5 +1,6 @@
 pub mod Contexts
 pub mod Tables
+pub mod Trying
 pub mod Outcomes
 pub mod Gathered
 pub mod Moving

@@ -4,6 +4,7 @@ use Rattle.std.specs.Prelude.{◌||◌, is_some, slice_get, slice_index_or, unwr
 use Rattle.std.specs.Option.{option_map}
 use Rattle.std.proofs.lemmas.List.{length-map}
 use Rattle.std.proofs.lemmas.Option.{slice_get-map, same_Some}
+use Rattle.mpx_num.specs.declared.own.Operation.{Operation}
 use Rattle.mpx_name.specs.Name.{Name}
 use Rattle.mpx_statement.specs.declared.statement.Statement.{Statement}
 use Rattle.mpx_script.specs.ScriptView.{ScriptView}
@@ -37,8 +38,8 @@ at_index [] p = refl
 at_index (x ∷ xs) zero = refl
 at_index (x ∷ xs) (suc p) = at_index xs p
 
-pub are_in_start : (script : List (List Statement)) (ranks : ℕ) (rs : List TableRank) (t : Table) → length script ≡ ranks → Start script ranks ranks rs → ((name : Name) → t name ≡ None) → AreIn ranks rs t (start script ranks)
-are_in_start script ranks rs t count s none = record {
+pub are_in_start : (ops : List Operation) (script : List (List Statement)) (ranks : ℕ) (rs : List TableRank) (t : Table) → length script ≡ ranks → Start script ranks ranks rs → ((name : Name) → t name ≡ None) → AreIn ops ranks rs t (start script ranks)
+are_in_start ops script ranks rs t count s none = record {
   count = s.count_is;
   each = λ p r e.
       let h = s.each p r e in (
@@ -60,8 +61,8 @@ are_in_start script ranks rs t count s none = record {
   quiet = start_quiet script ranks (omega (arith, count));
 }
 
-pub reached_start : (script : List (List Statement)) (ranks : ℕ) → IsReached script ranks (start script ranks)
-reached_start script ranks = record { order = []; reached = refl }
+pub reached_start : (ops : List Operation) (script : List (List Statement)) (ranks : ℕ) → IsReached ops script ranks (start script ranks)
+reached_start ops script ranks = record { order = []; reached = refl }
 
 -- THE END
 
@@ -74,7 +75,7 @@ pub which_same : (f g : ℕ → Bool) (n : ℕ) → ((p : ℕ) → p < n → f p
 which_same f g zero h = refl
 which_same f g (suc n) h = λ i. which_same f g n (λ p l. h p (omega (arith, l))) i ++ cond (h n (omega arith) i) (n ∷ []) []
 
-module _ (script : ScriptView) (rs : List TableRank) (t : Table) (e : AreAtEnd script.statements script.ranks rs t) where
+module _ (ops : List Operation) (script : ScriptView) (rs : List TableRank) (t : Table) (e : AreAtEnd ops script.statements script.ranks rs t) where
   pub there : (p : ℕ) → p < script.ranks → (r : TableRank) × (slice_get rs p ≡ Some r)
   there p l = by_place (slice_get rs p) refl where
     by_place : (o : Option TableRank) → slice_get rs p ≡ o → (r : TableRank) × (slice_get rs p ≡ Some r)
@@ -94,7 +95,7 @@ module _ (script : ScriptView) (rs : List TableRank) (t : Table) (e : AreAtEnd s
   lines_at p ls None f g = cc (f, g)
   lines_at p ls (Some r) f g = sym (same_Some r.lines ls (sym (ap (option_map (λ (x : TableRank). x.lines)) f) ∙ g)) ∙ (e.are.each p r f).1.lines
 
-  pub evaluated : (said : List (List (List ℕ))) (waiting : List ℕ) → said ≡ map (λ (r : TableRank). r.lines) rs → waiting ≡ which (λ p. is_waiting_at (slice_get rs p)) script.ranks → IsEvaluated script said waiting
+  pub evaluated : (said : List (List (List ℕ))) (waiting : List ℕ) → said ≡ map (λ (r : TableRank). r.lines) rs → waiting ≡ which (λ p. is_waiting_at (slice_get rs p)) script.ranks → IsEvaluated ops script said waiting
   evaluated said waiting lines waits = record {
     end = e.end;
     evaluation = e.evaluation;

@@ -14,6 +14,7 @@ use Rattle.std.proofs.lemmas.List.Folds.{list_any_at}
 use Rattle.std.proofs.lemmas.List.Quantifiers.{position-Some}
 use Rattle.std.proofs.lemmas.Option.{same_Some}
 use Rattle.join_core.specs.Cases.{is_tied}
+use Rattle.mpx_num.specs.declared.own.Operation.{Operation}
 use Rattle.mpx_group.specs.Group.{has, has_twice}
 use Rattle.mpx_name.specs.Name.{Name, same_name}
 use Rattle.mpx_name.specs.Order.{name_cmp, name_total, name_exact, name_equality}
@@ -134,11 +135,13 @@ with_made-adds me m made q = by_test (q == me) where
   by_test true = (m ∷ [], refl)
   by_test false = ([], sym (append-nil (made q)))
 
-with_made-grows : (me : ℕ) (m : Made) (made : Posted) → Grows (history_of made) (history_of (with_made me m made))
-with_made-grows me m made name k p given e =
-    let more = with_made-adds me m made p in
-    ap (λ ms. slice_get (posts_on name ms) k) more.1 ∙ ap (λ ps. slice_get ps k) (posts_on-append name (made p) more.0)
-    ∙ slice_get-append (posts_on name (made p)) (posts_on name more.0) k given e
+with_made-grows : (ops : List Operation) (me : ℕ) (m : Made) (made : Posted) → Grows (history_of ops made) (history_of ops (with_made me m made))
+with_made-grows ops me m made = record { operations = refl; post = more_posts } where
+  more_posts : (name : Name) (k p : ℕ) (given : Given) → slice_get (posts_on name (made p)) k ≡ Some given → slice_get (posts_on name (with_made me m made p)) k ≡ Some given
+  more_posts name k p given e =
+      let more = with_made-adds me m made p in
+      ap (λ ms. slice_get (posts_on name ms) k) more.1 ∙ ap (λ ps. slice_get ps k) (posts_on-append name (made p) more.0)
+      ∙ slice_get-append (posts_on name (made p)) (posts_on name more.0) k given e
 
 posts_on-last : (name : Name) (m : Made) (ms : List Made) → same_name name m.name ≡ true → posts_on name (ms ++ m ∷ []) ≡ posts_on name ms ++ m.given ∷ []
 posts_on-last name m ms t = posts_on-append name ms (m ∷ []) ∙ ap (λ b. posts_on name ms ++ cond b (m.given ∷ []) []) t
@@ -156,8 +159,8 @@ posts_elsewhere me m made name f q = by_test (q == me) where
 -- WHAT A TABLE SHOWS
 
 -- whether a process has freed a context
-pub freed_shown : (ranks : ℕ) (t : Table) (made : Posted) → Shows ranks t made → (me : ℕ) (name : Name) → freed_on t me name ≡ has_freed name (made me)
-freed_shown ranks t made s me name = by_context (t name) refl where
+pub freed_shown : (ops : List Operation) (ranks : ℕ) (t : Table) (made : Posted) → Shows ops ranks t made → (me : ℕ) (name : Name) → freed_on t me name ≡ has_freed name (made me)
+freed_shown ops ranks t made s me name = by_context (t name) refl where
   by_context : (o : Option ContextView) → t name ≡ o → option_map_or (λ (c : ContextView). freed_in c me) o false ≡ has_freed name (made me)
   by_context None e = ap (list_any is_free) (sym (s.none name e me))
   by_context (Some c) e = by_rank (rank_in me c.birth.members) refl where
@@ -168,7 +171,7 @@ freed_shown ranks t made s me name = by_context (t name) refl where
         ∙ ap (λ ps. list_any is_free (get_or ps i [])) (s.posts name c e)
         ∙ ap (list_any is_free) (at_member (λ member. posts_on name (made member)) c.birth.members me i f)
 
-module _ (ranks : ℕ) (t : Table) (made : Posted) (s : Shows ranks t made) (name : Name) (birth : BirthView) (born : birth_of (history_of made) ranks name ≡ Some birth) where
+module _ (ops : List Operation) (ranks : ℕ) (t : Table) (made : Posted) (s : Shows ops ranks t made) (name : Name) (birth : BirthView) (born : birth_of (history_of ops made) ranks name ≡ Some birth) where
   -- what is there came to be so
   birth_is : (or_fresh birth (t name)).birth ≡ birth
   birth_is = by_context (t name) refl where
@@ -194,10 +197,10 @@ module _ (ranks : ℕ) (t : Table) (made : Posted) (s : Shows ranks t made) (nam
     by_context (Some c) e f = s.strangers name c e process f
 
   -- a context more
-  pub opened_shows : (u : Table) → ((q : Name) → u q ≡ opened name birth t q) → Shows ranks u made
+  pub opened_shows : (u : Table) → ((q : Name) → u q ≡ opened name birth t q) → Shows ops ranks u made
   opened_shows u is = record {
-    born = λ q c e. by_name q (λ x. (c : ContextView) → x ≡ Some c → birth_of (history_of made) ranks q ≡ Some c.birth)
-        (λ same c e. subst (λ n. birth_of (history_of made) ranks n ≡ Some c.birth) (sym same) (born ∙ ap Some (sym birth_is ∙ ap (λ (x : ContextView). x.birth) (same_Some _ c (ap (λ n. Some (or_fresh birth (t n))) (sym same) ∙ e)))))
+    born = λ q c e. by_name q (λ x. (c : ContextView) → x ≡ Some c → birth_of (history_of ops made) ranks q ≡ Some c.birth)
+        (λ same c e. subst (λ n. birth_of (history_of ops made) ranks n ≡ Some c.birth) (sym same) (born ∙ ap Some (sym birth_is ∙ ap (λ (x : ContextView). x.birth) (same_Some _ c (ap (λ n. Some (or_fresh birth (t n))) (sym same) ∙ e)))))
         (λ c e. s.born q c e) c (sym (is q) ∙ e);
     posts = λ q c e. by_name q (λ x. (c : ContextView) → x ≡ Some c → c.posts ≡ map (λ member. posts_on q (made member)) c.birth.members)
         (λ same c e.
@@ -225,25 +228,25 @@ module _ (ranks : ℕ) (t : Table) (made : Posted) (s : Shows ranks t made) (nam
 
   -- a draft comes there to what it comes to after these posts
   abbrev behind : (me : ℕ) (draft : Draft) → BirthView → List Given → Result Given PostError
-  behind me draft b posts = checked b me (at name (length posts) (list_any is_free posts)) draft
+  behind me draft b posts = checked ops b me (at name (length posts) (list_any is_free posts)) draft
 
   stranger : (me : ℕ) (draft : Draft) (posts : List Given) → rank_in me birth.members ≡ None → behind me draft birth posts ≡ Err NotMember
-  stranger me draft posts e = checked_stranger birth me (at name (length posts) (list_any is_free posts)) draft e
+  stranger me draft posts e = checked_stranger ops birth me (at name (length posts) (list_any is_free posts)) draft e
 
-  pub checked_same : (me : ℕ) (draft : Draft) → checked_there (or_fresh birth (t name)) me name draft ≡ checked birth me (at name (next_call name (made me)) (has_freed name (made me))) draft
+  pub checked_same : (me : ℕ) (draft : Draft) → checked_there ops (or_fresh birth (t name)) me name draft ≡ checked ops birth me (at name (next_call name (made me)) (has_freed name (made me))) draft
   checked_same me draft = ap (λ (b : BirthView). behind me draft b (posts_at (or_fresh birth (t name)).posts (rank_in me b.members))) birth_is ∙ by_rank (rank_in me birth.members) refl where
     by_rank : (o : Option ℕ) → rank_in me birth.members ≡ o → behind me draft birth (posts_at (or_fresh birth (t name)).posts (rank_in me birth.members)) ≡ behind me draft birth (posts_on name (made me))
     by_rank None e = stranger me draft (posts_at (or_fresh birth (t name)).posts (rank_in me birth.members)) e ∙ sym (stranger me draft (posts_on name (made me)) e)
     by_rank (Some i) e = ap (behind me draft birth) (ap (posts_at (or_fresh birth (t name)).posts) e ∙ counted me i e)
 
   -- a post more of a member
-  posted_shows : (me i : ℕ) (given : Given) → rank_in me birth.members ≡ Some i → has_twice birth.members ≡ false → (u : Table) → ((q : Name) → u q ≡ cond (same_name q name) (Some (with_post (or_fresh birth (t name)) me given)) (opened name birth t q)) → Shows ranks u (with_made me (record { name = name; given = given }) made)
+  posted_shows : (me i : ℕ) (given : Given) → rank_in me birth.members ≡ Some i → has_twice birth.members ≡ false → (u : Table) → ((q : Name) → u q ≡ cond (same_name q name) (Some (with_post (or_fresh birth (t name)) me given)) (opened name birth t q)) → Shows ops ranks u (with_made me (record { name = name; given = given }) made)
   posted_shows me i given member distinct u is =
       let m : Made = record { name = name; given = given } in
       let c = or_fresh birth (t name) in
       let new = with_made me m made in
       let s1 = opened_shows (opened name birth t) (λ q. refl) in
-      let grows = with_made-grows me m made in
+      let grows = with_made-grows ops me m made in
       let at_place = position-Some (λ q. q == me) birth.members i 0 member in
       let ranked : rank_in me c.birth.members ≡ Some i = ap (λ (b : BirthView). rank_in me b.members) birth_is ∙ member in
       let written : (with_post c me given).posts ≡ map (λ q. posts_on name (new q)) birth.members =
@@ -254,9 +257,9 @@ module _ (ranks : ℕ) (t : Table) (made : Posted) (s : Shows ranks t made) (nam
       (λ q f. ap (posts_on name) (sym (with_made-other me m made q f)))
       birth.members distinct i at_place.0 at_place.1 in
       record {
-        born = λ q x e. by_name q (λ o. (x : ContextView) → o ≡ Some x → birth_of (history_of new) ranks q ≡ Some x.birth)
-            (λ same x e. subst (λ n. birth_of (history_of new) ranks n ≡ Some x.birth) (sym same) (birth-grows (history_of made) (history_of new) ranks grows name birth born ∙ ap Some (sym birth_is ∙ ap (λ (y : ContextView). y.birth) (same_Some (with_post c me given) x e))))
-            (λ other x e. birth-grows (history_of made) (history_of new) ranks grows q x.birth (s1.born q x e)) x (sym (is q) ∙ e);
+        born = λ q x e. by_name q (λ o. (x : ContextView) → o ≡ Some x → birth_of (history_of ops new) ranks q ≡ Some x.birth)
+            (λ same x e. subst (λ n. birth_of (history_of ops new) ranks n ≡ Some x.birth) (sym same) (birth-grows (history_of ops made) (history_of ops new) ranks grows name birth born ∙ ap Some (sym birth_is ∙ ap (λ (y : ContextView). y.birth) (same_Some (with_post c me given) x e))))
+            (λ other x e. birth-grows (history_of ops made) (history_of ops new) ranks grows q x.birth (s1.born q x e)) x (sym (is q) ∙ e);
         posts = λ q x e. by_name q (λ o. (x : ContextView) → o ≡ Some x → x.posts ≡ map (λ member. posts_on q (new member)) x.birth.members)
             (λ same x e. subst (λ n. x.posts ≡ map (λ member. posts_on n (new member)) x.birth.members) (sym same)
             (subst (λ (y : ContextView). y.posts ≡ map (λ member. posts_on name (new member)) y.birth.members) (same_Some (with_post c me given) x e)
@@ -277,14 +280,14 @@ module _ (ranks : ℕ) (t : Table) (made : Posted) (s : Shows ranks t made) (nam
           by_test false e = there e
 
   -- what is posted is a member's
-  member_of : (me : ℕ) (draft : Draft) (given : Given) → checked_there (or_fresh birth (t name)) me name draft ≡ Ok given → (i : ℕ) × (rank_in me birth.members ≡ Some i)
+  member_of : (me : ℕ) (draft : Draft) (given : Given) → checked_there ops (or_fresh birth (t name)) me name draft ≡ Ok given → (i : ℕ) × (rank_in me birth.members ≡ Some i)
   member_of me draft given e = by_rank (rank_in me birth.members) refl where
     by_rank : (o : Option ℕ) → rank_in me birth.members ≡ o → (i : ℕ) × (rank_in me birth.members ≡ Some i)
     by_rank None f = cc (sym (checked_same me draft) ∙ e, stranger me draft (posts_on name (made me)) f)
     by_rank (Some i) f = (i, f)
 
   -- a draft is tried
-  pub tries_post : (me : ℕ) (draft : Draft) (u v : Table) → ((q : Name) → u q ≡ opened name birth t q) → (call : ℕ) → PostsOn me name draft (Ok call) (or_fresh birth (t name)) u v → Tries ranks made me (post_on me (made me) draft name birth) (Ok (name, call)) v
+  pub tries_post : (me : ℕ) (draft : Draft) (u v : Table) → ((q : Name) → u q ≡ opened name birth t q) → (call : ℕ) → PostsOn ops me name draft (Ok call) (or_fresh birth (t name)) u v → Tries ops ranks made me (post_on ops me (made me) draft name birth) (Ok (name, call)) v
   tries_post me draft u v is call p =
       let found = member_of me draft p.0 p.1 in
       let m : Made = record { name = name; given = p.0 } in
@@ -297,7 +300,7 @@ module _ (ranks : ℕ) (t : Table) (made : Posted) (s : Shows ranks t made) (nam
             (λ q. p.3 q ∙ ap (cond (same_name q name) (Some (with_post (or_fresh birth (t name)) me p.0))) (is q)),
       )
 
-  pub tries_refused : (me : ℕ) (draft : Draft) (u v : Table) → ((q : Name) → u q ≡ opened name birth t q) → (refusal : PostError) → PostsOn me name draft (Err refusal) (or_fresh birth (t name)) u v → Tries ranks made me (post_on me (made me) draft name birth) (Err refusal) v
+  pub tries_refused : (me : ℕ) (draft : Draft) (u v : Table) → ((q : Name) → u q ≡ opened name birth t q) → (refusal : PostError) → PostsOn ops me name draft (Err refusal) (or_fresh birth (t name)) u v → Tries ops ranks made me (post_on ops me (made me) draft name birth) (Err refusal) v
   tries_refused me draft u v is refusal p other =
       let f = p other in
       (ap (made_on name) (sym (checked_same me draft) ∙ f.0), opened_shows v (λ q. f.1 q ∙ is q))
@@ -307,9 +310,9 @@ pub opened_here : (name : Name) (birth : BirthView) (t : Table) → opened name 
 opened_here name birth t = ap (λ b. cond b (Some (or_fresh birth (t name))) (t name)) (name_itself name)
 
 -- a post on a context that was lent
-pub posts_lent : (me : ℕ) (name : Name) (draft : Draft) (answer : Result ℕ PostError) (o w : ContextView) (old new : Table) → old name ≡ Some o → ((q : Name) → new q ≡ cond (same_name q name) (Some w) (old q)) → has_twice o.birth.members ≡ false → Posts me name draft answer o w → PostsOn me name draft answer o old new
-posts_lent me name draft (Ok call) o w old new here is distinct p = (p.0, p.1, p.2, λ q. is q ∙ ap (λ x. cond (same_name q name) (Some x) (old q)) p.3, distinct)
-posts_lent me name draft (Err refusal) o w old new here is distinct p = λ other. let f = p other in (f.0, λ q. is q ∙ ap (λ x. cond (same_name q name) (Some x) (old q)) f.1 ∙ stays q) where
+pub posts_lent : (ops : List Operation) (me : ℕ) (name : Name) (draft : Draft) (answer : Result ℕ PostError) (o w : ContextView) (old new : Table) → old name ≡ Some o → ((q : Name) → new q ≡ cond (same_name q name) (Some w) (old q)) → has_twice o.birth.members ≡ false → Posts ops me name draft answer o w → PostsOn ops me name draft answer o old new
+posts_lent ops me name draft (Ok call) o w old new here is distinct p = (p.0, p.1, p.2, λ q. is q ∙ ap (λ x. cond (same_name q name) (Some x) (old q)) p.3, distinct)
+posts_lent ops me name draft (Err refusal) o w old new here is distinct p = λ other. let f = p other in (f.0, λ q. is q ∙ ap (λ x. cond (same_name q name) (Some x) (old q)) f.1 ∙ stays q) where
   stays : (q : Name) → cond (same_name q name) (Some o) (old q) ≡ old q
   stays q = by_test (same_name q name) refl where
     by_test : (b : Bool) → same_name q name ≡ b → cond b (Some o) (old q) ≡ old q

@@ -1,6 +1,6 @@
 -- Who waits at the end, by the program's ranks and their table.
-use Rattle.std.proofs.Common.{◌≡◌, ℕ, zero, suc, ◌+◌, ◌-◌, ◌<◌, ◌⊎◌, Bool, true, false, cond, List, [], ◌∷◌, ◌++◌, length, map, take, drop, drop-cons, get_or, Option, Some, None, Result, Ok, Err, refl, sym, ap, ◌∙◌, subst, arith, append_assoc, inl, inr}
-use Rattle.std.specs.Prelude.{◌||◌, bytes_eq, nat_le, slice_get, slice_index_or}
+use Rattle.std.proofs.Common.{◌≡◌, ℕ, zero, suc, ◌+◌, ◌-◌, ◌<◌, ◌⊎◌, Bool, true, false, cond, not, List, [], ◌∷◌, ◌++◌, length, map, take, drop, drop-cons, get_or, Option, Some, None, Result, Ok, Err, refl, sym, ap, ◌∙◌, subst, arith, append_assoc, inl, inr}
+use Rattle.std.specs.Prelude.{◌||◌, bytes_eq, is_none, is_some, nat_le, slice_get, slice_index_or}
 use Rattle.std.specs.Cmp.Lexicographic.{slice_cmp}
 use Rattle.std.specs.List.{filter, list_any}
 use Rattle.std.specs.Option.{option_map}
@@ -9,6 +9,7 @@ use Rattle.std.specs.BTreeMap.{BTreeMap}
 use Rattle.std.proofs.lemmas.List.{map-append, take_more}
 use Rattle.std.proofs.lemmas.List.Elements.{filter-append}
 use Rattle.std.proofs.lemmas.Option.{same_Some}
+use Rattle.mpx_num.specs.declared.own.Operation.{Operation}
 use Rattle.mpx_name.specs.Name.{Name}
 use Rattle.mpx_post.specs.declared.draft.PostError.{PostError}
 use Rattle.mpx_post.specs.Posts.{Given}
@@ -28,7 +29,7 @@ use Rattle.mpx_evaluation.proofs.Standing.{closed_word, named_behind, named_with
 use Rattle.mpx_evaluation.proofs.Tells.{each-carries_out}
 use Rattle.mpx_eval.specs.declared.missing.MissingMember.{MissingMember}
 use Rattle.mpx_eval.specs.Contexts.{ContextView}
-use Rattle.mpx_eval.specs.Found.{calls_found, found_at, found_call, found_calls}
+use Rattle.mpx_eval.specs.Found.{calls_found, found_at, found_call, found_calls, is_open}
 use Rattle.mpx_eval.specs.Lacking.{lacking, missing_by, missing_there}
 use Rattle.mpx_rank.specs.Shown.{requests_of}
 use Rattle.mpx_rank.proofs.Moving.{todo_length}
@@ -37,7 +38,7 @@ use Rattle.mpx_eval.specs.Places.{TableRank, posted_by}
 use Rattle.mpx_eval.specs.Rounds.{AreAtEnd, is_waiting_at}
 use Rattle.mpx_eval.specs.Tables.{Table, answer_on}
 use Rattle.mpx_eval.specs.Waiting.{Asked, MissingCallView, WaitingView, asked, asked_by, asked_of, asked_then, calls_of, is_unknown, missing_call, missing_of, missing_to, waiting_in_full, waits_at}
-use Rattle.mpx_eval.proofs.Outcomes.{results_same}
+use Rattle.mpx_eval.proofs.Outcomes.{given_there, results_same}
 use Rattle.mpx_eval.proofs.Reporting.{there, waits_same, which_same, at_index}
 use Rattle.mpx_eval.proofs.Tables.{name_itself}
 
@@ -56,15 +57,15 @@ by_words (word ∷ words) requests =
       by_place xs ys None e = e
       by_place xs ys (Some place) e = λ i. place ∷ e i
 
-pub asks_so : (s : Local) → map place_of (asked s) ≡ calls_of (next s)
-asks_so s = by_todo s.todo where
+pub asks_so : (ops : List Operation) (s : Local) → map place_of (asked s) ≡ calls_of (next ops s)
+asks_so ops s = by_todo s.todo where
   by_result : (rest : List Todo) (target request : Option (List ℕ)) (r : Result Made PostError) → [] ≡ calls_of (posts_or_refuses s rest target request r)
   by_result rest target request (Ok m) = refl
   by_result rest target request (Err refusal) = refl
 
-  by_todo : (todo : List Todo) → map place_of (asked_of (named s.requests) todo) ≡ calls_of (next_of s todo)
+  by_todo : (todo : List Todo) → map place_of (asked_of (named s.requests) todo) ≡ calls_of (next_of ops s todo)
   by_todo [] = refl
-  by_todo (Do (Post posting) ∷ rest) = by_result rest (bound_to posting) (started_as posting) (attempt s.me s.bound s.made posting)
+  by_todo (Do (Post posting) ∷ rest) = by_result rest (bound_to posting) (started_as posting) (attempt ops s.me s.bound s.made posting)
   by_todo (Do (Wait words) ∷ rest) = by_words words s.requests
   by_todo (Do (Ask question) ∷ rest) = refl
   by_todo (Await name call target ∷ rest) = refl
@@ -107,7 +108,7 @@ behind_cases false o new place e = inl e
 behind_cases true None new place e = inr (same_Some new place e)
 behind_cases true (Some old) new place e = inl e
 
-opened_by : {r : Results} {me : ℕ} {before after : Bindings} {requests left : Requests} {earlier ms : List Made} {xs : List Statement} {lines : List Line} → Passes r me before requests earlier xs after left ms lines
+opened_by : {ops : List Operation} {r : Results} {me : ℕ} {before after : Bindings} {requests left : Requests} {earlier ms : List Made} {xs : List Statement} {lines : List Line} → Passes ops r me before requests earlier xs after left ms lines
     → (word : List ℕ) (place : Name × ℕ) → named left word ≡ Some place → IsOpened requests (earlier ++ ms) word place
 opened_by none word place e = inl e
 opened_by (accepted {requests = requests} {earlier = earlier} {further = further} {m = m} b a k p) word place e =
@@ -146,8 +147,8 @@ asked_open (word ∷ words) requests i a e = by_place (requests word) refl (aske
   by_place (Some place) f again g = by_index place f again i g
 
 -- a rank has posted to each call that its next move asks for
-has_posted : (r : Results) (first : Bindings) (xs : List Statement) (s : Local) → CarriesOut r first xs s → (i : ℕ) (a : Asked) → slice_get (asked s) i ≡ Some a → a.1.1 < length (posts_on a.1.0 s.made)
-has_posted r first xs s (inl h) i a e = by_left h.left (sym (ap (λ todo. slice_get (asked_of (named s.requests) todo) i) h.todo) ∙ e) where
+has_posted : (ops : List Operation) (r : Results) (first : Bindings) (xs : List Statement) (s : Local) → CarriesOut ops r first xs s → (i : ℕ) (a : Asked) → slice_get (asked s) i ≡ Some a → a.1.1 < length (posts_on a.1.0 s.made)
+has_posted ops r first xs s (inl h) i a e = by_left h.left (sym (ap (λ todo. slice_get (asked_of (named s.requests) todo) i) h.todo) ∙ e) where
   by_left : (left : List Statement) → slice_get (asked_of (named s.requests) (doing left)) i ≡ Some a → a.1.1 < length (posts_on a.1.0 s.made)
   by_left [] f = cc f
   by_left (Post posting ∷ left) f = cc f
@@ -155,7 +156,7 @@ has_posted r first xs s (inl h) i a e = by_left h.left (sym (ap (λ todo. slice_
   by_left (Wait words ∷ left) f =
       let found = asked_open words (named s.requests) i a f in
       elim (opened_by h.passes found.0 a.1 found.1) [ inl never ↦ cc never | inr posted ↦ posted ]
-has_posted r first xs s (inr h) i a e = by_index i (sym (ap (λ todo. slice_get (asked_of (named s.requests) todo) i) h.todo) ∙ e) where
+has_posted ops r first xs s (inr h) i a e = by_index i (sym (ap (λ todo. slice_get (asked_of (named s.requests) todo) i) h.todo) ∙ e) where
   by_index : (k : ℕ) → slice_get ((None, (h.last.name, next_call h.last.name h.earlier)) ∷ []) k ≡ Some a → a.1.1 < length (posts_on a.1.0 s.made)
   by_index (suc k) f = cc f
   by_index zero f =
@@ -177,7 +178,7 @@ lacking_of f (m ∷ members) call = by_test (nat_le (length (f m)) call) (lackin
 -- THE CALLS
 
 found-append : (t : Table) (me : ℕ) (xs ys : List Asked) → found_calls t me (xs ++ ys) ≡ found_calls t me xs ++ found_calls t me ys
-found-append t me xs ys = ap (map (found_call t)) (filter-append (is_unknown (answer_on t me)) xs ys) ∙ map-append (found_call t) (filter (is_unknown (answer_on t me)) xs) (filter (is_unknown (answer_on t me)) ys)
+found-append t me xs ys = ap (map (found_call t)) (filter-append (is_open t me) xs ys) ∙ map-append (found_call t) (filter (is_open t me) xs) (filter (is_open t me) ys)
 
 then_parts : (word : List ℕ) (o : Option (Name × ℕ)) (rest : List Asked) → asked_then word o rest ≡ asked_then word o [] ++ rest
 then_parts word None rest = refl
@@ -253,44 +254,50 @@ map_filter f g test (x ∷ xs) h = by_test (test x) (h 0 x refl) (map_filter f g
   by_test true e rest = λ i. e i ∷ rest i
   by_test false e rest = rest
 
-module _ (script : ScriptView) (rs : List TableRank) (t : Table) (e : AreAtEnd script.statements script.ranks rs t) where
+not_there : {A : Type 0} (o : Option A) → not (is_some o) ≡ is_none o
+not_there None = refl
+not_there (Some x) = refl
+
+module _ (ops : List Operation) (script : ScriptView) (rs : List TableRank) (t : Table) (e : AreAtEnd ops script.statements script.ranks rs t) where
   -- whom the table lacks
-  missing_same : (p : ℕ) (name : Name) (call : ℕ) → call < length (posts_on name (e.end p).made) → missing_there (t name) call ≡ missing_to script.ranks e.end name call
+  missing_same : (p : ℕ) (name : Name) (call : ℕ) → call < length (posts_on name (e.end p).made) → missing_there (t name) call ≡ missing_to ops script.ranks e.end name call
   missing_same p name call l = by_context (t name) refl where
-    by_context : (o : Option ContextView) → t name ≡ o → missing_there o call ≡ missing_to script.ranks e.end name call
+    by_context : (o : Option ContextView) → t name ≡ o → missing_there o call ≡ missing_to ops script.ranks e.end name call
     by_context None f = absurd (let empty : length (posts_on name (e.end p).made) ≡ 0 = ap length (e.are.shows.none name f p) in omega (arith, l, empty))
     by_context (Some c) f =
         ap (λ posts. lacking c.birth.members posts call) (e.are.shows.posts name c f)
         ∙ lacking_of (λ member. posts_on name (e.end member).made) c.birth.members call
         ∙ sym (ap (missing_of e.end name call) (e.are.shows.born name c f))
 
-  calls_same : (p : ℕ) (r : TableRank) → slice_get rs p ≡ Some r → calls_found t r ≡ (waits_at script.statements script.ranks e.end p).calls
+  calls_same : (p : ℕ) (r : TableRank) → slice_get rs p ≡ Some r → calls_found t r ≡ (waits_at ops script.statements script.ranks e.end p).calls
   calls_same p r at =
       let s = e.end p in
       let here = e.are.each p r at in
       let requests : r.requests ≡ named s.requests = λ i word. here.1.requests word i in
       let asks : asked_of r.requests (todo_of r.waits r.todo) ≡ asked s = λ i. asked_of (requests i) (sym here.1.todo i) in
-      let knows : answer_on t p ≡ known script.ranks e.end p = λ i name call. results_same script.ranks t (posted_by e.end) e.are.shows p name call i in
+      let knows : answer_on ops t p ≡ known ops script.ranks e.end p = λ i name call. results_same ops script.ranks t (posted_by e.end) e.are.shows p name call i in
+      let open_where_unknown : is_open t p ≡ is_unknown (answer_on ops t p) = λ i a. (ap not (given_there ops t p a.1.0 a.1.1) ∙ not_there (answer_on ops t p a.1.0 a.1.1)) i in
       (λ i. found_calls t (here.0 i) (asks i))
+      ∙ ap (λ test. map (found_call t) (filter test (asked s))) open_where_unknown
       ∙ ap (λ r. map (found_call t) (filter (is_unknown r) (asked s))) knows
-      ∙ map_filter (found_call t) (missing_call script.ranks e.end) (is_unknown (known script.ranks e.end p)) (asked s) (λ i a f.
-      let posted = has_posted (known script.ranks e.end p) (bound_at_start script.ranks) (statements_of script.statements p) s (each-carries_out script.statements script.ranks e.end e.evaluation.reached p) i a f in
+      ∙ map_filter (found_call t) (missing_call ops script.ranks e.end) (is_unknown (known ops script.ranks e.end p)) (asked s) (λ i a f.
+      let posted = has_posted ops (known ops script.ranks e.end p) (bound_at_start script.ranks) (statements_of script.statements p) s (each-carries_out ops script.statements script.ranks e.end e.evaluation.reached p) i a f in
       ap (λ missing. record { request = a.0; name = a.1.0; call = a.1.1; missing = missing }) (missing_same p a.1.0 a.1.1 posted))
 
-  found_same : (p : ℕ) → p < script.ranks → found_at script.statements t p (slice_get rs p) ≡ waits_at script.statements script.ranks e.end p
+  found_same : (p : ℕ) → p < script.ranks → found_at script.statements t p (slice_get rs p) ≡ waits_at ops script.statements script.ranks e.end p
   found_same p l =
-      let at = there script rs t e p l in
+      let at = there ops script rs t e p l in
       let here = e.are.each p at.0 at.1 in
       let todo : awaited at.0.waits + length at.0.todo ≡ length (e.end p).todo = sym (todo_length at.0.waits at.0.todo) ∙ ap length (sym here.1.todo) in
       let statement : length (slice_index_or script.statements p []) - (awaited at.0.waits + length at.0.todo) ≡ length (statements_of script.statements p) - length (e.end p).todo =
       λ i. length (at_index script.statements p i) - todo i in
       ap (found_at script.statements t p) at.1 ∙ λ i. record { rank = p; statement = statement i; calls = calls_same p at.0 at.1 i }
 
-  pub waits_found : (found : List WaitingView) → found ≡ map (λ p. found_at script.statements t p (slice_get rs p)) (which (λ p. is_waiting_at (slice_get rs p)) script.ranks) → found ≡ waiting_in_full script.statements script.ranks e.end
+  pub waits_found : (found : List WaitingView) → found ≡ map (λ p. found_at script.statements t p (slice_get rs p)) (which (λ p. is_waiting_at (slice_get rs p)) script.ranks) → found ≡ waiting_in_full ops script.statements script.ranks e.end
   waits_found found is =
       is
-      ∙ map_which (λ p. found_at script.statements t p (slice_get rs p)) (waits_at script.statements script.ranks e.end) (λ p. is_waiting_at (slice_get rs p)) script.ranks found_same
-      ∙ ap (map (waits_at script.statements script.ranks e.end)) (which_same (λ p. is_waiting_at (slice_get rs p)) (λ p. is_left (e.end p).todo) script.ranks (waits_same script rs t e))
+      ∙ map_which (λ p. found_at script.statements t p (slice_get rs p)) (waits_at ops script.statements script.ranks e.end) (λ p. is_waiting_at (slice_get rs p)) script.ranks found_same
+      ∙ ap (map (waits_at ops script.statements script.ranks e.end)) (which_same (λ p. is_waiting_at (slice_get rs p)) (λ p. is_left (e.end p).todo) script.ranks (waits_same ops script rs t e))
 
 -- REQUESTS
 

@@ -1,13 +1,14 @@
 -- What is told of a script's evaluation: who waits at its end, and which of its lines say that a call was refused or is a fault.
 use Rattle.std.specs.Prelude.{◌≡◌, List}
+use Rattle.mpx_num.specs.declared.own.Operation.{Operation}
 use Rattle.mpx_script.specs.ScriptView.{ScriptView}
 use Rattle.mpx_evaluation.specs.Evaluation.{State, IsEvaluation}
 use Rattle.mpx_eval.specs.Complaints.{ComplaintView, complaints_in}
 use Rattle.mpx_eval.specs.Waiting.{WaitingView, waiting_in_full}
 
--- there is an evaluation of the script at whose end these wait so, and whose lines have these complaints
-pub record AreFindings (script : ScriptView) (waiting : List WaitingView) (complaints : List ComplaintView) : Type 0 where
+-- there is an evaluation of the script by these operations at whose end these wait so, and whose lines have these complaints
+pub record AreFindings (ops : List Operation) (script : ScriptView) (waiting : List WaitingView) (complaints : List ComplaintView) : Type 0 where
   pub end : State
-  pub evaluation : IsEvaluation script.statements script.ranks end
-  pub waiting_are : waiting ≡ waiting_in_full script.statements script.ranks end
+  pub evaluation : IsEvaluation ops script.statements script.ranks end
+  pub waiting_are : waiting ≡ waiting_in_full ops script.statements script.ranks end
   pub complaints_are : complaints ≡ complaints_in script.statements script.ranks end

@@ -1,5 +1,5 @@
 -- Who waits and what ranks complain of, as the program finds it by its ranks and their table.
-use Rattle.std.specs.Prelude.{ℕ, ◌+◌, ◌-◌, List, [], length, map, slice_index_or, string_bytes, Option, Some, None}
+use Rattle.std.specs.Prelude.{ℕ, ◌+◌, ◌-◌, Bool, not, List, [], length, map, slice_index_or, string_bytes, Option, Some, None}
 use Rattle.std.specs.List.{filter}
 use Rattle.mpx_statement.specs.declared.statement.Statement.{Statement}
 use Rattle.mpx_evaluation.specs.Standing.{awaited, todo_of}
@@ -9,8 +9,8 @@ use Rattle.mpx_eval.specs.declared.who_waits.WaitingRank.{WaitingRank}
 use Rattle.mpx_eval.specs.Complaints.{ComplaintView, complaints_at}
 use Rattle.mpx_eval.specs.Lacking.{missing_there}
 use Rattle.mpx_eval.specs.Places.{TableRank}
-use Rattle.mpx_eval.specs.Tables.{Table, answer_on}
-use Rattle.mpx_eval.specs.Waiting.{Asked, MissingCallView, WaitingView, asked_of, is_unknown}
+use Rattle.mpx_eval.specs.Tables.{Table, is_answered}
+use Rattle.mpx_eval.specs.Waiting.{Asked, MissingCallView, WaitingView, asked_of}
 
 -- what the program's values show
 
@@ -27,9 +27,13 @@ complaint_view c = record { rank = c.rank; statement = c.statement; text = strin
 abbrev pub found_call : Table → Asked → MissingCallView
 found_call t a = record { request = a.0; name = a.1.0; call = a.1.1; missing = missing_there (t a.1.0) a.1.1 }
 
+-- the table gives a process no answer to this call
+abbrev pub is_open : Table → (me : ℕ) → Asked → Bool
+is_open t me a = not (is_answered t me a.1.0 a.1.1)
+
 -- those of these calls whose answers the table doesn't give the process
 abbrev pub found_calls : Table → (me : ℕ) → List Asked → List MissingCallView
-found_calls t me asked = map (found_call t) (filter (is_unknown (answer_on t me)) asked)
+found_calls t me asked = map (found_call t) (filter (is_open t me) asked)
 
 -- those of a rank's next move
 abbrev pub calls_found : Table → TableRank → List MissingCallView

@@ -1,5 +1,6 @@
 -- Where a rank stands in its statements by the table of all posts, and what its moves do.
 use Rattle.std.specs.Prelude.{◌≡◌, ℕ, Bool, is_some, List, Option, Some}
+use Rattle.mpx_num.specs.declared.own.Operation.{Operation}
 use Rattle.mpx_name.specs.Name.{Name}
 use Rattle.mpx_post.specs.Births.{BirthView}
 use Rattle.mpx_value.specs.Histories.{birth_of, history_of}
@@ -18,8 +19,8 @@ TableRank = RankView CommunicatorView
 -- POSTS
 
 -- it came to be as these posts say
-abbrev pub IsBornSo : (ranks : ℕ) → Posted → Option CommunicatorView → Type 0
-IsBornSo ranks made o = (c : CommunicatorView) → o ≡ Some c → birth_of (history_of made) ranks c.0 ≡ Some c.1
+abbrev pub IsBornSo : List Operation → (ranks : ℕ) → Posted → Option CommunicatorView → Type 0
+IsBornSo ops ranks made o = (c : CommunicatorView) → o ≡ Some c → birth_of (history_of ops made) ranks c.0 ≡ Some c.1
 
 -- WHERE A RANK STANDS
 
@@ -28,20 +29,20 @@ abbrev pub posted_by : State → Posted
 posted_by s q = (s q).made
 
 -- this is rank p, it stands there, each communicator that its words are bound to came to be so, and the table shows all posts
-pub record Before (ranks p : ℕ) (r : TableRank) (t : Table) (s : State) : Type 0 where
+pub record Before (ops : List Operation) (ranks p : ℕ) (r : TableRank) (t : Table) (s : State) : Type 0 where
   pub me : r.me ≡ p
   pub local_me : (s p).me ≡ p
   pub stands : Stands r (s p)
-  pub born : (word : List ℕ) (name : Name) (birth : BirthView) → named (s p).bound word ≡ Some (Communicator name birth) → birth_of (history s) ranks name ≡ Some birth
-  pub shows : Shows ranks t (posted_by s)
+  pub born : (word : List ℕ) (name : Name) (birth : BirthView) → named (s p).bound word ≡ Some (Communicator name birth) → birth_of (history ops s) ranks name ≡ Some birth
+  pub shows : Shows ops ranks t (posted_by s)
 
 -- the same after its move, where it has one
-pub record After (ranks p : ℕ) (r : TableRank) (t : Table) (s : State) (moved : Bool) : Type 0 where
-  pub moves : moved ≡ is_some (step (known ranks s p) (s p))
+pub record After (ops : List Operation) (ranks p : ℕ) (r : TableRank) (t : Table) (s : State) (moved : Bool) : Type 0 where
+  pub moves : moved ≡ is_some (step ops (known ops ranks s p) (s p))
   pub me : r.me ≡ p
-  pub stands : Stands r (move ranks s p p)
-  pub shows : Shows ranks t (posted_by (move ranks s p))
+  pub stands : Stands r (move ops ranks s p p)
+  pub shows : Shows ops ranks t (posted_by (move ops ranks s p))
 
 -- one is the other moved on, or there was no move
-abbrev pub Moves : (old : TableRank) (before : Table) (new : TableRank) (after : Table) (moved : Bool) → Type 0
-Moves old before new after moved = (ranks p : ℕ) (s : State) → Before ranks p old before s → After ranks p new after s moved
+abbrev pub Moves : List Operation → (old : TableRank) (before : Table) (new : TableRank) (after : Table) (moved : Bool) → Type 0
+Moves ops old before new after moved = (ranks p : ℕ) (s : State) → Before ops ranks p old before s → After ops ranks p new after s moved

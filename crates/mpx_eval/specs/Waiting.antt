@@ -1,6 +1,7 @@
 -- Who waits at the end of an evaluation: at which statement, for which calls, and for whose posts to them.
 use Rattle.std.specs.Prelude.{ℕ, ◌-◌, Bool, nat_le, is_none, List, [], ◌∷◌, length, map, Option, Some, None}
 use Rattle.std.specs.List.{filter}
+use Rattle.mpx_num.specs.declared.own.Operation.{Operation}
 use Rattle.mpx_name.specs.Name.{Name}
 use Rattle.mpx_post.specs.Births.{BirthView}
 use Rattle.mpx_value.specs.Histories.{Results, birth_of, has_freed, posts_on}
@@ -77,11 +78,11 @@ missing_of s name call None = []
 missing_of s name call (Some birth) = map (missing_member s name) (filter (lacks_post s name call) birth.members)
 
 -- the members of a call's context that have not posted to it
-abbrev pub missing_to : (ranks : ℕ) → State → Name → (call : ℕ) → List MissingMember
-missing_to ranks s name call = missing_of s name call (birth_of (history s) ranks name)
+abbrev pub missing_to : List Operation → (ranks : ℕ) → State → Name → (call : ℕ) → List MissingMember
+missing_to ops ranks s name call = missing_of s name call (birth_of (history ops s) ranks name)
 
-abbrev pub missing_call : (ranks : ℕ) → State → Asked → MissingCallView
-missing_call ranks s a = record { request = a.0; name = a.1.0; call = a.1.1; missing = missing_to ranks s a.1.0 a.1.1 }
+abbrev pub missing_call : List Operation → (ranks : ℕ) → State → Asked → MissingCallView
+missing_call ops ranks s a = record { request = a.0; name = a.1.0; call = a.1.1; missing = missing_to ops ranks s a.1.0 a.1.1 }
 
 -- the answer isn't known
 abbrev pub is_unknown : Results → Asked → Bool
@@ -90,13 +91,13 @@ is_unknown r a = is_none (r a.1.0 a.1.1)
 -- WHO WAITS
 
 -- where a rank waits, and for what: its statements but for those that are left
-abbrev pub waits_at : List (List Statement) → (ranks : ℕ) → State → (rank : ℕ) → WaitingView
-waits_at script ranks s p = record {
+abbrev pub waits_at : List Operation → List (List Statement) → (ranks : ℕ) → State → (rank : ℕ) → WaitingView
+waits_at ops script ranks s p = record {
   rank = p;
   statement = length (statements_of script p) - length (s p).todo;
-  calls = map (missing_call ranks s) (filter (is_unknown (known ranks s p)) (asked (s p)));
+  calls = map (missing_call ops ranks s) (filter (is_unknown (known ops ranks s p)) (asked (s p)));
 }
 
 -- all that wait
-abbrev pub waiting_in_full : List (List Statement) → (ranks : ℕ) → State → List WaitingView
-waiting_in_full script ranks s = map (waits_at script ranks s) (waiting_in s ranks)
+abbrev pub waiting_in_full : List Operation → List (List Statement) → (ranks : ℕ) → State → List WaitingView
+waiting_in_full ops script ranks s = map (waits_at ops script ranks s) (waiting_in s ranks)

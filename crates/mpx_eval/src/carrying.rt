@@ -7,6 +7,7 @@ use join_core::OutOfMemory;
 use mpx_evaluation::line;
 use mpx_group::Proc;
 use mpx_name::Name;
+use mpx_num::Ops;
 use mpx_post::{Birth, PostError};
 use mpx_rank::{Carrier, Heard};
 use mpx_statement::Posting;
@@ -29,16 +30,21 @@ impl Carrier for Table {
         me: Proc,
         on: Option<&(Name, Birth)>,
         posting: &Posting,
+        ops: &Ops,
     ) -> Result<Option<(Name, u32)>, PostError> {
-        let call = attempt(alloc, self, me, on, posting)?;
-        Ok(Some(call))
+        match attempt(alloc, self, me, on, posting, ops) {
+            Ok(call) => Ok(Some(call)),
+            Err(refusal) => Err(refusal),
+        }
     }
 
+    #[tactic(auto, using(crate::proofs::Outcomes::told_there))]
     fn is_told(
         &mut self,
         _alloc: Global,
         me: Proc,
         call: &(Name, u32),
+        _ops: &Ops,
     ) -> Result<bool, OutOfMemory> {
         let (name, number) = call;
         Ok(self.has_answer(me, name, *number))
@@ -49,8 +55,9 @@ impl Carrier for Table {
         alloc: Global,
         me: Proc,
         call: (Name, u32),
+        ops: &Ops,
     ) -> Result<Heard<(Name, u32), (Name, Birth)>, OutOfMemory> {
-        let Some(answered) = self.answer(alloc, me, &call.0, call.1)? else {
+        let Some(answered) = self.answer(alloc, me, &call.0, call.1, ops)? else {
             return Ok(Heard::NotYet(call));
         };
         drop(call);
@@ -59,17 +66,21 @@ impl Carrier for Table {
         Ok(Heard::Told { text, given })
     }
 
-    fn known<'m>(&'m self, communicator: &'m (Name, Birth)) -> Option<(&'m Name, &'m Birth)> {
+    fn known<'m>(
+        &'m self,
+        communicator: &'m (Name, Birth),
+        _ops: &Ops,
+    ) -> Option<(&'m Name, &'m Birth)> {
         let (name, birth) = communicator;
         Some((name, birth))
     }
 
-    fn is_closed(&mut self, me: Proc, communicator: &(Name, Birth)) -> bool {
+    fn is_closed(&mut self, me: Proc, communicator: &(Name, Birth), _ops: &Ops) -> bool {
         let (name, _birth) = communicator;
         self.has_freed(me, name)
     }
 
-    ghost hears_nothing = { λ t. refl };
+    ghost hears_nothing = { λ operations t. refl };
 
     ghost hears_more = { hears_no_more };
 

@@ -4,7 +4,6 @@ ghost use Rattle.std.specs.Prelude.{slice_get};
 ghost use Rattle.std.specs.List.{list_any};
 ghost use Rattle.std.specs.Option.{option_copied, option_map};
 ghost use Rattle.mpx_group.specs.Group.{has_twice};
-ghost use Rattle.mpx_name.specs.Name.{Name as NameView};
 ghost use Rattle.mpx_post.specs.Drafts.{most_calls};
 ghost use Rattle.mpx_post.specs.Posts.{is_free};
 ghost use Rattle.mpx_value.specs.Children.{children, named_children};
@@ -16,6 +15,7 @@ use crate::missing::MissingMember;
 use join_core::{Exact, OutOfMemory};
 use mpx_group::Proc;
 use mpx_name::Name;
+use mpx_num::{Listing, Ops};
 use mpx_post::{Birth, Draft, Post, PostError, Row};
 use mpx_rank::{Answered, push_where};
 use mpx_value::{Outcome, children, outcome};
@@ -105,7 +105,7 @@ impl Model for Context {
 }
 
 impl Context {
-    ghost use Rattle.mpx_eval.specs.Contexts.{Posts, answer_in, freed_in, fresh, row_in};
+    ghost use Rattle.mpx_eval.specs.Contexts.{Posts, answer_in, freed_in, fresh, is_answered_in, row_in};
     ghost use Rattle.mpx_eval.specs.Lacking.{lacking};
 
     /// Before any post.
@@ -134,8 +134,9 @@ impl Context {
         me: Proc,
         name: &Name,
         draft: Draft,
+        ops: &Ops,
     ) -> Result<u32, PostError>
-        ensures posts { Posts me name.now draft result self.old self.new }
+        ensures posts { Posts (⟦<Ops as Listing>⟧.operations ops.now) me name.now draft result self.old self.new }
         ensures distinct { has_twice self.old.birth.members ≡ false }
     {
         // so that the proof knows that no member stands twice
@@ -147,7 +148,7 @@ impl Context {
         let rank = usize::from(rank);
         let call = self.columns[rank].count();
         let closed = self.columns[rank].has_freed();
-        let post = draft.check_call(alloc, &self.birth, me, name, call, closed)?;
+        let post = draft.check_call(alloc, &self.birth, me, name, call, closed, ops)?;
         if self.columns[rank].push(post).is_err() {
             return Err(PostError::OutOfMemory);
         }
@@ -167,7 +168,7 @@ impl Context {
 
     /// Whether all members have posted to a call, of which the process is one.
     pub(crate) fn has_answer(&self, me: Proc, call: u32) -> bool
-        ensures { (name : NameView) → result ≡ is_some (answer_in self.now me name call) }
+        ensures { result ≡ is_answered_in self.now me call }
     {
         self.birth.rank_of(me).is_some() && self.has_row(call)
     }
@@ -225,8 +226,9 @@ impl Context {
         me: Proc,
         name: &Name,
         call: u32,
+        ops: &Ops,
     ) -> Result<Option<Answered>, OutOfMemory>
-        ensures { IfOk result (λ answer. option_map answer_of answer ≡ answer_in self.now me name.now call) }
+        ensures { IfOk result (λ answer. option_map answer_of answer ≡ answer_in (⟦<Ops as Listing>⟧.operations ops.now) self.now me name.now call) }
     {
         let Some(row) = self.row(alloc, call)? else {
             return Ok(None);
@@ -235,8 +237,8 @@ impl Context {
             drop(row);
             return Ok(None);
         };
-        let outcome = outcome(alloc, &self.birth, &row, name, call, rank)?;
-        match born(alloc, &self.birth, &row, name, call, &outcome) {
+        let outcome = outcome(alloc, &self.birth, &row, name, call, rank, ops)?;
+        match born(alloc, &self.birth, &row, name, call, &outcome, ops) {
             Ok(born) => Ok(Some(Answered { outcome, born })),
             Err(e) => {
                 drop(outcome);
@@ -254,14 +256,15 @@ fn born(
     name: &Name,
     call: u32,
     outcome: &Outcome,
+    ops: &Ops,
 ) -> Result<Option<Birth>, OutOfMemory>
     requires members { length row.now ≡ length birth.now.members }
     requires call { call < most_calls }
-    ensures { IfOk result (λ born. born ≡ born_by (births_by birth.now row.now name.now call) outcome.now) }
+    ensures { IfOk result (λ born. born ≡ born_by (births_by (⟦<Ops as Listing>⟧.operations ops.now) birth.now row.now name.now call) outcome.now) }
 {
     match outcome {
         Outcome::NewComm { name: new, .. } => {
-            Ok(found(new, children(alloc, birth, row, name, call)?))
+            Ok(found(new, children(alloc, birth, row, name, call, ops)?))
         }
         Outcome::Nothing => Ok(None),
         Outcome::Absent => Ok(None),

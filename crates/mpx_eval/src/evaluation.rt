@@ -14,19 +14,20 @@ use join_core::OutOfMemory;
 use mpx_evaluation::Report;
 use mpx_group::Proc;
 use mpx_name::Name;
+use mpx_num::{Listing, Ops};
 use mpx_post::Birth;
 use mpx_rank::{Rank, push_where};
 use mpx_script::Script;
 use std::alloc::Global;
 
 /// What the ranks of a script print: in rounds, every rank in order goes on until it must wait for posts that are missing; it
-/// ends with a round that moves nobody.
-pub fn eval(alloc: Global, script: &Script) -> Result<Report, OutOfMemory>
-    ensures { IfOk result (λ report. IsEvaluated script.now (transcripts_of report) report.waiting.items) }
+/// ends with a round that moves nobody. The operations of the job's own are those of the list.
+pub fn eval(alloc: Global, script: &Script, ops: &Ops) -> Result<Report, OutOfMemory>
+    ensures { IfOk result (λ report. IsEvaluated (⟦<Ops as Listing>⟧.operations ops.now) script.now (transcripts_of report) report.waiting.items) }
 {
     let mut ranks = start(alloc, script)?;
     let mut table = Table::new(alloc);
-    rounds(alloc, &mut ranks, &mut table)?;
+    rounds(alloc, &mut ranks, &mut table, ops)?;
     drop(table);
     let waiting = waiting_of(alloc, ranks.as_slice(), script.ranks())?;
     let transcripts = lines_of(alloc, ranks)?;

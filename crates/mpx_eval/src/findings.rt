@@ -9,6 +9,7 @@ use crate::rounds::rounds;
 use crate::table::Table;
 use crate::who_waits::{WaitingRank, waiting_ranks};
 use join_core::OutOfMemory;
+use mpx_num::{Listing, Ops};
 use mpx_script::Script;
 use std::alloc::Global;
 
@@ -24,13 +25,13 @@ pub struct Findings {
 }
 
 /// Evaluates a script, and finds who waits at the end, and which calls were refused or are faults.
-pub fn examine(alloc: Global, script: &Script) -> Result<Findings, OutOfMemory>
-    ensures { IfOk result (λ found. AreFindings script.now (map waiting_view found.waiting.items) (map complaint_view found.complaints.items)) }
+pub fn examine(alloc: Global, script: &Script, ops: &Ops) -> Result<Findings, OutOfMemory>
+    ensures { IfOk result (λ found. AreFindings (⟦<Ops as Listing>⟧.operations ops.now) script.now (map waiting_view found.waiting.items) (map complaint_view found.complaints.items)) }
 {
     let count = script.ranks();
     let mut ranks = start(alloc, script)?;
     let mut table = Table::new(alloc);
-    rounds(alloc, &mut ranks, &mut table)?;
+    rounds(alloc, &mut ranks, &mut table, ops)?;
     let places = ranks.as_slice();
     let waiting = waiting_ranks(alloc, script, count, places, &table)?;
     let complaints = complaints_of(alloc, script, count, places)?;

@@ -13,6 +13,7 @@ use crate::table::Table;
 use join_core::Exact;
 use mpx_group::Proc;
 use mpx_name::Name;
+use mpx_num::{Listing, Ops};
 use mpx_post::{Birth, Draft, Gathering, PostError};
 use mpx_statement::Posting;
 use std::alloc::Global;
@@ -25,22 +26,34 @@ pub(crate) fn attempt(
     me: Proc,
     on: Option<&(Name, Birth)>,
     posting: &Posting,
+    ops: &Ops,
 ) -> Result<(Name, u32), PostError>
-    ensures { (ranks : ℕ) (made : Posted) → Shows ranks (table_of table.old) made → IsBornSo ranks made (option_copied on.entry)
-        → Tries ranks made me (attempt_by me (made me) posting.now (option_copied on.entry)) result (table_of table.new) }
+    ensures { (ranks : ℕ) (made : Posted) → Shows (⟦<Ops as Listing>⟧.operations ops.now) ranks (table_of table.old) made → IsBornSo (⟦<Ops as Listing>⟧.operations ops.now) ranks made (option_copied on.entry)
+        → Tries (⟦<Ops as Listing>⟧.operations ops.now) ranks made me (attempt_by (⟦<Ops as Listing>⟧.operations ops.now) me (made me) posting.now (option_copied on.entry)) result (table_of table.new) }
 {
-    let Some((name, birth)) = on else {
+    let Some(there) = on else {
         return Err(PostError::NotMember);
     };
+    let (name, birth) = (&there.0, &there.1);
     let Ok(draft) = posting.draft(alloc) else {
         return Err(PostError::OutOfMemory);
     };
     match posting {
-        Posting::Call { .. } => post_on(alloc, table, me, name, birth, draft),
-        Posting::Start { .. } => post_on(alloc, table, me, name, birth, draft),
-        Posting::New { .. } => post_on(alloc, table, me, name, birth, draft),
+        Posting::Call { .. } => post_on(alloc, table, me, name, birth, draft, ops),
+        Posting::Start { .. } => post_on(alloc, table, me, name, birth, draft, ops),
+        Posting::New { .. } => post_on(alloc, table, me, name, birth, draft, ops),
         Posting::CreateGroup { tag, ranks, .. } => {
-            post_gathered(alloc, table, me, name, birth, tag, ranks.as_slice(), draft)
+            post_gathered(
+                alloc,
+                table,
+                me,
+                name,
+                birth,
+                tag,
+                ranks.as_slice(),
+                draft,
+                ops,
+            )
         }
     }
 }
@@ -53,11 +66,12 @@ fn post_on(
     name: &Name,
     birth: &Birth,
     draft: Draft,
+    ops: &Ops,
 ) -> Result<(Name, u32), PostError>
-    ensures { TriesOn me draft name.now birth.now result (table_of table.old) (table_of table.new) }
+    ensures { TriesOn (⟦<Ops as Listing>⟧.operations ops.now) me draft name.now birth.now result (table_of table.old) (table_of table.new) }
 {
     match name.copy(alloc) {
-        Ok(name) => table.post(alloc, me, name, birth, draft),
+        Ok(name) => table.post(alloc, me, name, birth, draft, ops),
         Err(_) => {
             drop(draft);
             Err(PostError::OutOfMemory)
@@ -75,13 +89,14 @@ fn post_gathered(
     tag: &i128,
     ranks: &[i128],
     draft: Draft,
+    ops: &Ops,
 ) -> Result<(Name, u32), PostError>
-    ensures { (count : ℕ) (made : Posted) → Shows count (table_of table.old) made → birth_of (history_of made) count parent.now ≡ Some birth.now
-        → Tries count made me (post_gathered me (made me) draft parent.now (gathering birth.now me (length parent.now) (has_freed parent.now (made me)) tag.now ranks.now)) result (table_of table.new) }
+    ensures { (count : ℕ) (made : Posted) → Shows (⟦<Ops as Listing>⟧.operations ops.now) count (table_of table.old) made → birth_of (history_of (⟦<Ops as Listing>⟧.operations ops.now) made) count parent.now ≡ Some birth.now
+        → Tries (⟦<Ops as Listing>⟧.operations ops.now) count made me (post_gathered (⟦<Ops as Listing>⟧.operations ops.now) me (made me) draft parent.now (gathering birth.now me (length parent.now) (has_freed parent.now (made me)) tag.now ranks.now)) result (table_of table.new) }
 {
     let closed = table.has_freed(me, parent);
     match gathered(alloc, birth, me, parent, closed, tag, ranks) {
-        Ok(gathering) => post_below(alloc, table, me, parent, &gathering, draft),
+        Ok(gathering) => post_below(alloc, table, me, parent, &gathering, draft, ops),
         Err(refusal) => {
             drop(draft);
             Err(refusal)
@@ -112,15 +127,16 @@ fn post_below(
     parent: &Name,
     gathering: &Gathering,
     draft: Draft,
+    ops: &Ops,
 ) -> Result<(Name, u32), PostError>
-    ensures { TriesOn me draft (gathering_name parent.now gathering.now) (of_members gathering.now.members) result (table_of table.old) (table_of table.new) }
+    ensures { TriesOn (⟦<Ops as Listing>⟧.operations ops.now) me draft (gathering_name parent.now gathering.now) (of_members gathering.now.members) result (table_of table.old) (table_of table.new) }
 {
     let Ok(name) = parent.gathering(alloc, gathering.tag(), gathering.members()) else {
         drop(draft);
         return Err(PostError::OutOfMemory);
     };
     match gathering.birth(alloc) {
-        Ok(birth) => table.post(alloc, me, name, &birth, draft),
+        Ok(birth) => table.post(alloc, me, name, &birth, draft, ops),
         Err(_) => {
             drop(draft);
             drop(name);

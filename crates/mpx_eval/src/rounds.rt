@@ -8,6 +8,7 @@ ghost use Rattle.mpx_eval.specs.Tables.{table_of};
 
 use crate::table::Table;
 use join_core::OutOfMemory;
+use mpx_num::{Listing, Ops};
 use mpx_rank::Rank;
 use std::alloc::Global;
 
@@ -16,13 +17,14 @@ fn round(
     alloc: Global,
     ranks: &mut [Rank<'_, Table>],
     table: &mut Table,
+    ops: &Ops,
 ) -> Result<bool, OutOfMemory>
-    ensures goes { IfOk result (λ moved. Round (map shown ranks.old) (table_of table.old) (map shown ranks.new) (table_of table.new) moved (length ranks.old)) }
+    ensures goes { IfOk result (λ moved. Round (⟦<Ops as Listing>⟧.operations ops.now) (map shown ranks.old) (table_of table.old) (map shown ranks.new) (table_of table.new) moved (length ranks.old)) }
     ensures less { IfOk result (λ moved. IsTrue moved → all_left (map shown ranks.new) < all_left (map shown ranks.old)) }
 {
     let mut changed = false;
     for p in 0..ranks.len() {
-        let moved = ranks[p].go_on(alloc, table)?;
+        let moved = ranks[p].go_on(alloc, table, ops)?;
         changed |= moved;
     }
     Ok(changed)
@@ -33,10 +35,11 @@ pub(crate) fn rounds(
     alloc: Global,
     ranks: &mut [Rank<'_, Table>],
     table: &mut Table,
+    ops: &Ops,
 ) -> Result<(), OutOfMemory>
-    ensures { OnOk result ((script : List (List Said)) (count : ℕ) (s : State) → IsReached script count s → AreIn count (map shown ranks.old) (table_of table.old) s
-        → AreAtEnd script count (map shown ranks.new) (table_of table.new)) }
+    ensures { OnOk result ((script : List (List Said)) (count : ℕ) (s : State) → IsReached (⟦<Ops as Listing>⟧.operations ops.now) script count s → AreIn (⟦<Ops as Listing>⟧.operations ops.now) count (map shown ranks.old) (table_of table.old) s
+        → AreAtEnd (⟦<Ops as Listing>⟧.operations ops.now) script count (map shown ranks.new) (table_of table.new)) }
 {
-    while round(alloc, ranks, table)? {}
+    while round(alloc, ranks, table, ops)? {}
     Ok(())
 }

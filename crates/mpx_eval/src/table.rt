@@ -5,13 +5,14 @@ ghost use Rattle.mpx_name.specs.Name.{Name as NameView};
 ghost use Rattle.mpx_rank.specs.Answered.{answer_of};
 ghost use Rattle.mpx_eval.specs.Contexts.{ContextView};
 ghost use Rattle.mpx_eval.specs.Lacking.{missing_there};
-ghost use Rattle.mpx_eval.specs.Tables.{PostsOn, TriesOn, answer_on, freed_on, opened, table_of};
+ghost use Rattle.mpx_eval.specs.Tables.{PostsOn, TriesOn, answer_on, freed_on, is_answered, opened, table_of};
 
 use crate::context::Context;
 use crate::missing::MissingMember;
 use join_core::{Exact, OutOfMemory};
 use mpx_group::Proc;
 use mpx_name::Name;
+use mpx_num::{Listing, Ops};
 use mpx_post::{Birth, Draft, PostError};
 use mpx_rank::Answered;
 use std::alloc::Global;
@@ -42,11 +43,12 @@ impl Table {
         name: Name,
         birth: &Birth,
         draft: Draft,
+        ops: &Ops,
     ) -> Result<(Name, u32), PostError>
-        ensures { TriesOn me draft name birth.now result (table_of self.old) (table_of self.new) }
+        ensures { TriesOn (⟦<Ops as Listing>⟧.operations ops.now) me draft name birth.now result (table_of self.old) (table_of self.new) }
     {
         match self.open(alloc, &name, birth) {
-            Ok(()) => match self.post_on(alloc, me, &name, draft) {
+            Ok(()) => match self.post_on(alloc, me, &name, draft, ops) {
                 Ok(call) => Ok((name, call)),
                 Err(refusal) => {
                     drop(name);
@@ -68,18 +70,19 @@ impl Table {
         me: Proc,
         name: &Name,
         call: u32,
+        ops: &Ops,
     ) -> Result<Option<Answered>, OutOfMemory>
-        ensures { IfOk result (λ answer. option_map answer_of answer ≡ answer_on (table_of self.now) me name.now call) }
+        ensures { IfOk result (λ answer. option_map answer_of answer ≡ answer_on (⟦<Ops as Listing>⟧.operations ops.now) (table_of self.now) me name.now call) }
     {
         match self.contexts.get(name) {
-            Some(context) => context.answer(alloc, me, name, call),
+            Some(context) => context.answer(alloc, me, name, call, ops),
             None => Ok(None),
         }
     }
 
     /// Whether all members have posted to a call, of which the process is one.
     pub(crate) fn has_answer(&self, me: Proc, name: &Name, call: u32) -> bool
-        ensures { result ≡ is_some (answer_on (table_of self.now) me name.now call) }
+        ensures { result ≡ is_answered (table_of self.now) me name.now call }
     {
         match self.contexts.get(name) {
             Some(context) => context.has_answer(me, call),
@@ -139,13 +142,14 @@ impl Table {
         me: Proc,
         name: &Name,
         draft: Draft,
+        ops: &Ops,
     ) -> Result<u32, PostError>
         requires { is_some (table_of self.old name.now) ≡ true }
-        ensures { (c : ContextView) → table_of self.old name.now ≡ Some c → PostsOn me name.now draft result c (table_of self.old) (table_of self.new) }
+        ensures { (c : ContextView) → table_of self.old name.now ≡ Some c → PostsOn (⟦<Ops as Listing>⟧.operations ops.now) me name.now draft result c (table_of self.old) (table_of self.new) }
     {
         let Some(context) = self.contexts.get_mut(name) else {
             unreachable!();
         };
-        context.post(alloc, me, name, draft)
+        context.post(alloc, me, name, draft, ops)
     }
 }

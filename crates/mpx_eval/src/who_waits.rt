@@ -1,5 +1,6 @@
 // Who waits at the end of a script's evaluation, and for whose posts.
-ghost use Rattle.std.specs.Prelude.{◌≡◌, ◌≤◌, ◌++◌, ◌∷◌, [], IfOk, OnOk, Some, cond, length, map, slice_get};
+ghost use Rattle.std.specs.Prelude.{◌≡◌, ◌≤◌, ◌++◌, ◌∷◌, [], IfOk, List, OnOk, Some, cond, length, map, slice_get};
+ghost use Rattle.mpx_num.specs.declared.own.Operation.{Operation};
 ghost use Rattle.mpx_evaluation.specs.Ranks.{Local, next};
 ghost use Rattle.mpx_evaluation.specs.Reports.{which};
 ghost use Rattle.mpx_rank.specs.Moves.{is_waiting};
@@ -28,7 +29,7 @@ pub struct WaitingRank {
 
 /// The calls that [`examine`](crate::examine) looks at where a rank waits are those that the rank's next move asks for.
 pub fn waits_are_for_what_the_next_move_asks()
-    ensures { (s : Local) → map (λ a. a.1) (asked s) ≡ calls_of (next s) }
+    ensures { (ops : List Operation) (s : Local) → map (λ a. a.1) (asked s) ≡ calls_of (next ops s) }
 {}
 
 /// The ranks that wait among the first so many of these, in rising order: where each of them does, for which calls, and which

@@ -4,6 +4,7 @@ use Rattle.std.proofs.Math.Nat.{eq-or-lt_of_le}
 use Rattle.std.proofs.lemmas.Option.{slice_get_past}
 use Rattle.std.proofs.lemmas.Bool.Decides.{Decides-eqb}
 use Rattle.std.specs.Prelude.{unwrap_or, ◌⊎◌}
+use Rattle.mpx_num.specs.declared.own.Operation.{Operation}
 use Rattle.mpx_statement.specs.declared.statement.Statement.{Statement}
 use Rattle.mpx_value.specs.Histories.{Results}
 use Rattle.mpx_evaluation.specs.Ranks.{Local, doing, next_of, step_by, step, weights}
@@ -26,49 +27,49 @@ left-lt (suc n) s t p h l d =
     ]
 
 -- one of the first n ranks can move
-record Mover (ranks : ℕ) (s : State) (n : ℕ) : Type 0 where
+record Mover (ops : List Operation) (ranks : ℕ) (s : State) (n : ℕ) : Type 0 where
   p : ℕ
   within : p < n
   to : Local
-  moves_to : step (known ranks s p) (s p) ≡ Some to
+  moves_to : step ops (known ops ranks s p) (s p) ≡ Some to
 
 -- one of them can, or none can
-mover : (ranks : ℕ) (s : State) (n : ℕ) → Mover ranks s n ⊎ ((p : ℕ) → p < n → step (known ranks s p) (s p) ≡ None)
-mover ranks s zero = inr (λ p l. absurd (omega arith))
-mover ranks s (suc n) = elim (mover ranks s n) [
+mover : (ops : List Operation) (ranks : ℕ) (s : State) (n : ℕ) → Mover ops ranks s n ⊎ ((p : ℕ) → p < n → step ops (known ops ranks s p) (s p) ≡ None)
+mover ops ranks s zero = inr (λ p l. absurd (omega arith))
+mover ops ranks s (suc n) = elim (mover ops ranks s n) [
   | inl m ↦ inl (record { p = m.p; within = omega (arith, m.within); to = m.to; moves_to = m.moves_to })
-  | inr none ↦ by_last none (step (known ranks s n) (s n)) refl
+  | inr none ↦ by_last none (step ops (known ops ranks s n) (s n)) refl
 ] where
-  by_last : ((p : ℕ) → p < n → step (known ranks s p) (s p) ≡ None) → (o : Option Local) → step (known ranks s n) (s n) ≡ o → Mover ranks s (suc n) ⊎ ((p : ℕ) → p < suc n → step (known ranks s p) (s p) ≡ None)
+  by_last : ((p : ℕ) → p < n → step ops (known ops ranks s p) (s p) ≡ None) → (o : Option Local) → step ops (known ops ranks s n) (s n) ≡ o → Mover ops ranks s (suc n) ⊎ ((p : ℕ) → p < suc n → step ops (known ops ranks s p) (s p) ≡ None)
   by_last none (Some t) e = inl (record { p = n; within = omega arith; to = t; moves_to = e })
   by_last none None e = inr (λ p l.
       let below : p ≤ n = omega arith in
-      elim (eq-or-lt_of_le below) [ inl same ↦ subst (λ j. step (known ranks s j) (s j) ≡ None) (sym same) e | inr less ↦ none p less ])
+      elim (eq-or-lt_of_le below) [ inl same ↦ subst (λ j. step ops (known ops ranks s j) (s j) ≡ None) (sym same) e | inr less ↦ none p less ])
 
-pub goes_on-at : (s : State) (p : ℕ) (told : Results) (t : Local) → step told (s p) ≡ Some t → goes_on s p told p ≡ t
-goes_on-at s p told t e = ap (λ b. cond b (or_stay (s p) (step told (s p))) (s p)) ((Decides-eqb p p).1 refl) ∙ ap (or_stay (s p)) e
+pub goes_on-at : (ops : List Operation) (s : State) (p : ℕ) (told : Results) (t : Local) → step ops told (s p) ≡ Some t → goes_on ops s p told p ≡ t
+goes_on-at ops s p told t e = ap (λ b. cond b (or_stay (s p) (step ops told (s p))) (s p)) ((Decides-eqb p p).1 refl) ∙ ap (or_stay (s p)) e
 
-module _ (n : ℕ) (s : State) (p : ℕ) (within : p < n) (t : Local) (e : step (known n s p) (s p) ≡ Some t) where
-  pub move-left : left n (move n s p) < left n s
+module _ (ops : List Operation) (n : ℕ) (s : State) (p : ℕ) (within : p < n) (t : Local) (e : step ops (known ops n s p) (s p) ≡ Some t) where
+  pub move-left : left n (move ops n s p) < left n s
   move-left =
-      let less : weights (move n s p p).todo < weights (s p).todo = subst (λ (u : Local). weights u.todo < weights (s p).todo) (sym (goes_on-at s p (known n s p) t e)) (step-lowers (known n s p) (s p) t e) in
-      let le : (j : ℕ) → weights (move n s p j).todo ≤ weights (s j).todo = goes_on_cases (λ j u. weights u.todo ≤ weights (s j).todo) s p (known n s p) (λ j. omega arith) (λ u f. omega (arith, step-lowers (known n s p) (s p) u f)) in
-      left-lt n s (move n s p) p le within less
+      let less : weights (move ops n s p p).todo < weights (s p).todo = subst (λ (u : Local). weights u.todo < weights (s p).todo) (sym (goes_on-at ops s p (known ops n s p) t e)) (step-lowers ops (known ops n s p) (s p) t e) in
+      let le : (j : ℕ) → weights (move ops n s p j).todo ≤ weights (s j).todo = goes_on_cases ops (λ j u. weights u.todo ≤ weights (s j).todo) s p (known ops n s p) (λ j. omega arith) (λ u f. omega (arith, step-lowers ops (known ops n s p) (s p) u f)) in
+      left-lt n s (move ops n s p) p le within less
 
-  pub move-quiet : IsQuiet n s → IsQuiet n (move n s p)
-  move-quiet q = record { from = goes_on_cases (λ j u. n ≤ j → u.todo ≡ []) s p (known n s p) q.from (λ u f g. absurd (omega (arith, g, within))) }
+  pub move-quiet : IsQuiet n s → IsQuiet n (move ops n s p)
+  move-quiet q = record { from = goes_on_cases ops (λ j u. n ≤ j → u.todo ≡ []) s p (known ops n s p) q.from (λ u f g. absurd (omega (arith, g, within))) }
 
-quiet_still : (ranks n : ℕ) (s : State) → IsQuiet n s → ((p : ℕ) → p < n → step (known ranks s p) (s p) ≡ None) → IsMaximal ranks s
-quiet_still ranks n s q none p = elim (cases_lt p n) [ inl l ↦ none p l | inr g ↦ ap (λ todo. step_by (known ranks s p) (s p) (next_of (s p) todo)) (q.from p g) ]
+quiet_still : (ops : List Operation) (ranks n : ℕ) (s : State) → IsQuiet n s → ((p : ℕ) → p < n → step ops (known ops ranks s p) (s p) ≡ None) → IsMaximal ops ranks s
+quiet_still ops ranks n s q none p = elim (cases_lt p n) [ inl l ↦ none p l | inr g ↦ ap (λ todo. step_by (known ops ranks s p) (s p) (next_of ops (s p) todo)) (q.from p g) ]
 
 -- moves that none extends. Only the number that bounds birth_of's world is ranks
-pub order_of : (n fuel : ℕ) (s : State) → IsQuiet n s → left n s < fuel → (order : List ℕ) × IsMaximal n (moves n order s)
-order_of n zero s q l = absurd (omega arith)
-order_of n (suc fuel) s q l = elim (mover n s n) [
-  | inr none ↦ ([], quiet_still n n s q none)
+pub order_of : (ops : List Operation) (n fuel : ℕ) (s : State) → IsQuiet n s → left n s < fuel → (order : List ℕ) × IsMaximal ops n (moves ops n order s)
+order_of ops n zero s q l = absurd (omega arith)
+order_of ops n (suc fuel) s q l = elim (mover ops n s n) [
+  | inr none ↦ ([], quiet_still ops n n s q none)
   | inl m ↦
-      let fewer : left n (move n s m.p) < left n s = move-left n s m.p m.within m.to m.moves_to in
-      let rest = order_of n fuel (move n s m.p) (move-quiet n s m.p m.within m.to m.moves_to q) (omega (arith, fewer, l)) in
+      let fewer : left n (move ops n s m.p) < left n s = move-left ops n s m.p m.within m.to m.moves_to in
+      let rest = order_of ops n fuel (move ops n s m.p) (move-quiet ops n s m.p m.within m.to m.moves_to q) (omega (arith, fewer, l)) in
       (m.p ∷ rest.0, rest.1)
 ]
 
@@ -76,7 +77,7 @@ pub start_quiet : (script : List (List Statement)) (ranks : ℕ) → length scri
 start_quiet script ranks h = record { from = λ p g. ap (λ o. doing (unwrap_or o [])) (slice_get_past script p (omega (arith, h, g))) }
 
 -- every script has an evaluation
-pub eval_of : (script : List (List Statement)) (ranks : ℕ) → length script ≤ ranks → (end : State) × IsEvaluation script ranks end
-eval_of script ranks h =
-    let found = order_of ranks (suc (left ranks (start script ranks))) (start script ranks) (start_quiet script ranks h) (omega arith) in
-    (moves ranks found.0 (start script ranks), record { reached = record { order = found.0; reached = refl }; maximal = found.1 })
+pub eval_of : (ops : List Operation) (script : List (List Statement)) (ranks : ℕ) → length script ≤ ranks → (end : State) × IsEvaluation ops script ranks end
+eval_of ops script ranks h =
+    let found = order_of ops ranks (suc (left ranks (start script ranks))) (start script ranks) (start_quiet script ranks h) (omega arith) in
+    (moves ops ranks found.0 (start script ranks), record { reached = record { order = found.0; reached = refl }; maximal = found.1 })

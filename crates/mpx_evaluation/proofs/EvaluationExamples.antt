@@ -4,7 +4,7 @@ use Rattle.std.specs.Fmt.{digits}
 use Rattle.mpx_num.specs.declared.types.Ty.TheVariants.{I64}
 use Rattle.mpx_num.specs.declared.operations.Op.TheVariants.{Sum}
 use Rattle.mpx_num.specs.Wrapping.{into_range}
-use Rattle.mpx_num.specs.Operations.{combined, elementwise}
+use Rattle.mpx_num.specs.Operations.{combined, elementwise, predefined}
 use Rattle.mpx_kind.specs.declared.kinds.Kind.{Kind}
 use Rattle.mpx_kind.specs.declared.kinds.Kind.TheVariants as K
 use Rattle.mpx_kind.specs.declared.kinds.Call.TheVariants as C
@@ -76,15 +76,15 @@ tells_fault call what rank = Told [] call (O.Fault (record { what = what; rank =
 lines_after : List ℕ → (first second : List Statement) → List (List Line)
 lines_after order first second =
     let script : List (List Statement) = first ∷ second ∷ [] in
-    (moves 2 order (start script 2) 0).lines ∷ (moves 2 order (start script 2) 1).lines ∷ []
+    (moves [] 2 order (start script 2) 0).lines ∷ (moves [] 2 order (start script 2) 1).lines ∷ []
 
 -- the lines of a rank that is alone, with these statements
 lines_alone : List ℕ → List Statement → List Line
-lines_alone order statements = (moves 1 order (start (statements ∷ []) 1) 0).lines
+lines_alone order statements = (moves [] 1 order (start (statements ∷ []) 1) 0).lines
 
 -- the lines of the first of three ranks, where it and the last one have these statements
 lines_of_first : List ℕ → (first last : List Statement) → List Line
-lines_of_first order first last = (moves 3 order (start (first ∷ [] ∷ last ∷ []) 3) 0).lines
+lines_of_first order first last = (moves [] 3 order (start (first ∷ [] ∷ last ∷ []) 3) 0).lines
 
 record Examples : Type 0 where
   -- 1 and 2 make 3, and the greatest number and 1 make the least
@@ -138,7 +138,7 @@ record Examples : Type 0 where
   ranks : line_text (Translated (At 0 ∷ Undefined ∷ At 1 ∷ ProcNull ∷ [])) ≡ codes "0 undefined 1 null"
 
 examples : Examples
-unfolding lines_after lines_alone lines_of_first children general checked gathering digits value verdict fold_value move_value elementwise combined into_range
+unfolding lines_after lines_alone lines_of_first children general checked gathering digits value verdict fold_value move_value elementwise predefined combined into_range
 examples = record {
   sums = refl;
   alone = refl;

@@ -1,6 +1,7 @@
 -- Beginnings of lists, and of the posts of processes.
-use Rattle.std.proofs.Common.{◌≡◌, ℕ, zero, suc, List, [], ◌∷◌, ◌++◌, Some, ◌⊎◌, inl, inr, sym, ap, ◌∙◌, subst, append_assoc}
+use Rattle.std.proofs.Common.{◌≡◌, ℕ, zero, suc, List, [], ◌∷◌, ◌++◌, Some, ◌⊎◌, inl, inr, refl, sym, ap, ◌∙◌, subst, append_assoc}
 use Rattle.std.specs.Prelude.{slice_get}
+use Rattle.mpx_num.specs.declared.own.Operation.{Operation}
 use Rattle.mpx_name.specs.Name.{Name}
 use Rattle.mpx_value.specs.Histories.{Made, posts_on, Grows}
 use Rattle.mpx_value.proofs.Growth.{posts_on-append}
@@ -28,5 +29,8 @@ posts_on-begins : (name : Name) (ms more : List Made) → IsPrefixOf ms more →
 posts_on-begins name ms more p = (posts_on name p.0, sym (posts_on-append name ms p.0) ∙ ap (posts_on name) p.1)
 
 -- posts that begin others make no longer history
-pub history-grows : (s later : State) → ((p : ℕ) → IsPrefixOf (s p).made (later p).made) → Grows (history s) (history later)
-history-grows s later less name k p given e = prefix_get (posts_on name (s p).made) (posts_on name (later p).made) (posts_on-begins name (s p).made (later p).made (less p)) k given e
+pub history-grows : (ops : List Operation) (s later : State) → ((p : ℕ) → IsPrefixOf (s p).made (later p).made) → Grows (history ops s) (history ops later)
+history-grows ops s later less = record {
+  operations = refl;
+  post = λ name k p given e. prefix_get (posts_on name (s p).made) (posts_on name (later p).made) (posts_on-begins name (s p).made (later p).made (less p)) k given e;
+}

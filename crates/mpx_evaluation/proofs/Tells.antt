@@ -7,6 +7,7 @@ use Rattle.std.specs.Option.{option_map}
 use Rattle.std.proofs.Math.Nat.{eq-or-lt_of_le}
 use Rattle.std.proofs.lemmas.Bool.Decides.{Decides-eqb, nat_tests}
 use Rattle.std.proofs.lemmas.Option.{option_and_then_some, same_Some}
+use Rattle.mpx_num.specs.declared.own.Operation.{Operation}
 use Rattle.mpx_name.specs.Name.{Name}
 use Rattle.mpx_post.specs.Births.{BirthView, rank_in, upto}
 use Rattle.mpx_value.specs.declared.outcomes.Outcome.{Outcome}
@@ -80,34 +81,34 @@ mapped_some f None y e = cc e
 mapped_some f (Some x) y e = (x, refl, same_Some (f x) y e)
 
 -- its birth is known; and a rank of the script is one of its members
-pub record IsThere (ranks : ℕ) (s : State) (process : ℕ) (name : Name) (birth : BirthView) : Type 0 where
-  pub born : birth_of (history s) ranks name ≡ Some birth
+pub record IsThere (ops : List Operation) (ranks : ℕ) (s : State) (process : ℕ) (name : Name) (birth : BirthView) : Type 0 where
+  pub born : birth_of (history ops s) ranks name ≡ Some birth
   pub member : process < ranks → (rank : ℕ) × (rank_in process birth.members ≡ Some rank)
 
 -- each word that is bound to a communicator
-abbrev pub AreThere : ℕ → State → ℕ → Bindings → Type 0
-AreThere ranks s p bound = (word : List ℕ) (name : Name) (birth : BirthView) → named bound word ≡ Some (Communicator name birth) → IsThere ranks s p name birth
+abbrev pub AreThere : List Operation → ℕ → State → ℕ → Bindings → Type 0
+AreThere ops ranks s p bound = (word : List ℕ) (name : Name) (birth : BirthView) → named bound word ≡ Some (Communicator name birth) → IsThere ops ranks s p name birth
 
-module _ (ranks : ℕ) (s : State) (p : ℕ) where
-  told_there : (from : Name) (call : ℕ) (answer : Answer) → known ranks s p from call ≡ Some answer → (name : Name) (birth : BirthView) → bound_by answer.outcome answer.born ≡ Communicator name birth → IsThere ranks s p name birth
+module _ (ops : List Operation) (ranks : ℕ) (s : State) (p : ℕ) where
+  told_there : (from : Name) (call : ℕ) (answer : Answer) → known ops ranks s p from call ≡ Some answer → (name : Name) (birth : BirthView) → bound_by answer.outcome answer.born ≡ Communicator name birth → IsThere ops ranks s p name birth
   told_there from call answer e name birth f =
-      let births = birth_of (history s) ranks in
-      let found = mapped_some (answer_with births) (outcome_of (history s) ranks p from call) answer e in
+      let births = birth_of (history ops s) ranks in
+      let found = mapped_some (answer_with births) (outcome_of (history ops s) ranks p from call) answer e in
       let given = given_by answer.outcome answer.born name birth f in
       let is : found.0 ≡ NewComm name given.size given.rank = ap (λ (a : Answer). a.outcome) found.2 ∙ given.is in
       let born : births name ≡ Some birth = ap (λ o. (answer_with births o).born) (sym is) ∙ ap (λ (a : Answer). a.born) found.2 ∙ given.born_so in
-      let b = new-born (history s) ranks p from call name given.size given.rank (found.1 ∙ ap Some is) in
+      let b = new-born (history ops s) ranks p from call name given.size given.rank (found.1 ∙ ap Some is) in
       record {
         born = born;
         member = λ l. (given.rank, ap (λ (v : BirthView). rank_in p v.members) (same_Some birth b.birth (sym born ∙ b.born)) ∙ b.member);
       }
 
-  bound_there : (bound : Bindings) (target : Option (List ℕ)) (to : Bound) → AreThere ranks s p bound → ((name : Name) (birth : BirthView) → to ≡ Communicator name birth → IsThere ranks s p name birth) → AreThere ranks s p (bind target to bound)
+  bound_there : (bound : Bindings) (target : Option (List ℕ)) (to : Bound) → AreThere ops ranks s p bound → ((name : Name) (birth : BirthView) → to ≡ Communicator name birth → IsThere ops ranks s p name birth) → AreThere ops ranks s p (bind target to bound)
   bound_there bound target to before new word name birth e = elim (named-bound bound target to word (Communicator name birth) e) [ inl old ↦ before word name birth old | inr is ↦ new name birth is ]
 
   -- a rank that stands somewhere makes a step by these answers
-  pub step_there : (here : Local) → AreThere ranks s p here.bound → (t : Local) → step (known ranks s p) here ≡ Some t → AreThere ranks s p t.bound
-  step_there here before t e = step_cases (known ranks s p) here (λ u. AreThere ranks s p u.bound)
+  pub step_there : (here : Local) → AreThere ops ranks s p here.bound → (t : Local) → step ops (known ops ranks s p) here ≡ Some t → AreThere ops ranks s p t.bound
+  step_there here before t e = step_cases ops (known ops ranks s p) here (λ u. AreThere ops ranks s p u.bound)
       (λ x rest m todo b f. before)
       (λ x rest word m todo b f. before)
       (λ x rest refusal todo f. bound_there here.bound (bound_to x) NullCommunicator before (λ name birth is. cc is))
@@ -144,25 +145,25 @@ upto_there n p l =
 -- STATES
 
 -- it holds of all ranks
-pub record AllCarryOut (script : List (List Statement)) (ranks : ℕ) (s : State) : Type 0 where
-  pub each : (p : ℕ) → CarriesOut (known ranks s p) (bound_at_start ranks) (statements_of script p) (s p)
+pub record AllCarryOut (ops : List Operation) (script : List (List Statement)) (ranks : ℕ) (s : State) : Type 0 where
+  pub each : (p : ℕ) → CarriesOut ops (known ops ranks s p) (bound_at_start ranks) (statements_of script p) (s p)
   pub me : (p : ℕ) → (s p).me ≡ p
   pub world : (p : ℕ) → named (s p).bound (codes "world") ≡ named (bound_at_start ranks) (codes "world")
-  pub bound : (p : ℕ) → AreThere ranks s p (s p).bound
+  pub bound : (p : ℕ) → AreThere ops ranks s p (s p).bound
 
-move-adds : (ranks : ℕ) (s : State) (p q : ℕ) → IsPrefixOf (s q).made (move ranks s p q).made
-move-adds ranks s p = goes_on_cases (λ q t. IsPrefixOf (s q).made t.made) s p (known ranks s p) (λ q. prefix_itself (s q).made) (λ t e. (step_by-adds (known ranks s p) (s p) (next (s p)) t e).0)
+move-adds : (ops : List Operation) (ranks : ℕ) (s : State) (p q : ℕ) → IsPrefixOf (s q).made (move ops ranks s p q).made
+move-adds ops ranks s p = goes_on_cases ops (λ q t. IsPrefixOf (s q).made t.made) s p (known ops ranks s p) (λ q. prefix_itself (s q).made) (λ t e. (step_by-adds (known ops ranks s p) (s p) (next ops (s p)) t e).0)
 
-move-within : (ranks : ℕ) (s : State) (p me : ℕ) → Within (known ranks s me) (known ranks (move ranks s p) me)
-move-within ranks s p me = results-grow (history s) (history (move ranks s p)) ranks (history-grows s (move ranks s p) (move-adds ranks s p)) me
+move-within : (ops : List Operation) (ranks : ℕ) (s : State) (p me : ℕ) → Within (known ops ranks s me) (known ops ranks (move ops ranks s p) me)
+move-within ops ranks s p me = results-grow (history ops s) (history ops (move ops ranks s p)) ranks (history-grows ops s (move ops ranks s p) (move-adds ops ranks s p)) me
 
-moved_there : (ranks : ℕ) (s : State) (p q : ℕ) (bound : Bindings) → AreThere ranks s q bound → AreThere ranks (move ranks s p) q bound
-moved_there ranks s p q bound h word name birth e =
+moved_there : (ops : List Operation) (ranks : ℕ) (s : State) (p q : ℕ) (bound : Bindings) → AreThere ops ranks s q bound → AreThere ops ranks (move ops ranks s p) q bound
+moved_there ops ranks s p q bound h word name birth e =
     let there = h word name birth e in
-    record { born = birth-grows (history s) (history (move ranks s p)) ranks (history-grows s (move ranks s p) (move-adds ranks s p)) name birth there.born; member = there.member }
+    record { born = birth-grows (history ops s) (history ops (move ops ranks s p)) ranks (history-grows ops s (move ops ranks s p) (move-adds ops ranks s p)) name birth there.born; member = there.member }
 
-step_world : (r : Results) (s : Local) (b : Bound) → named s.bound (codes "world") ≡ Some b → (t : Local) → step r s ≡ Some t → named t.bound (codes "world") ≡ Some b
-step_world r s b h t e = step_cases r s (λ u. named u.bound (codes "world") ≡ Some b)
+step_world : (ops : List Operation) (r : Results) (s : Local) (b : Bound) → named s.bound (codes "world") ≡ Some b → (t : Local) → step ops r s ≡ Some t → named t.bound (codes "world") ≡ Some b
+step_world ops r s b h t e = step_cases ops r s (λ u. named u.bound (codes "world") ≡ Some b)
     (λ x rest m todo f g. h)
     (λ x rest word m todo f g. h)
     (λ x rest refusal todo f. named-stays s.bound (bound_to x) NullCommunicator (codes "world") b h)
@@ -171,68 +172,68 @@ step_world r s b h t e = step_cases r s (λ u. named u.bound (codes "world") ≡
     (λ from call target rest answer todo f. named-stays s.bound target (bound_by answer.outcome answer.born) (codes "world") b h)
     t e
 
-moved-carry_out : (script : List (List Statement)) (ranks : ℕ) (order : List ℕ) (s : State) → AllCarryOut script ranks s → AllCarryOut script ranks (moves ranks order s)
-moved-carry_out script ranks [] s h = h
-moved-carry_out script ranks (p ∷ order) s h = moved-carry_out script ranks order (move ranks s p) (record {
-  each = λ q. carries_out-grows (known ranks s q) (known ranks (move ranks s p) q) (move-within ranks s p q) (bound_at_start ranks) (statements_of script q) (move ranks s p q)
-      (goes_on_cases (λ j t. CarriesOut (known ranks s j) (bound_at_start ranks) (statements_of script j) t) s p (known ranks s p) h.each (λ t e. step-carries_out (known ranks s p) (bound_at_start ranks) (statements_of script p) (s p) t (h.each p) e) q);
-  me = goes_on_cases (λ j t. t.me ≡ j) s p (known ranks s p) h.me (λ t e. step-keeps (known ranks s p) (s p) t e ∙ h.me p);
-  world = goes_on_cases (λ j t. named t.bound (codes "world") ≡ named (bound_at_start ranks) (codes "world")) s p (known ranks s p) h.world (λ t e. step_world (known ranks s p) (s p) _ (h.world p) t e);
-  bound = λ q. moved_there ranks s p q (move ranks s p q).bound (goes_on_cases (λ j t. AreThere ranks s j t.bound) s p (known ranks s p) h.bound (λ t e. step_there ranks s p (s p) (h.bound p) t e) q);
+moved-carry_out : (ops : List Operation) (script : List (List Statement)) (ranks : ℕ) (order : List ℕ) (s : State) → AllCarryOut ops script ranks s → AllCarryOut ops script ranks (moves ops ranks order s)
+moved-carry_out ops script ranks [] s h = h
+moved-carry_out ops script ranks (p ∷ order) s h = moved-carry_out ops script ranks order (move ops ranks s p) (record {
+  each = λ q. carries_out-grows ops (known ops ranks s q) (known ops ranks (move ops ranks s p) q) (move-within ops ranks s p q) (bound_at_start ranks) (statements_of script q) (move ops ranks s p q)
+      (goes_on_cases ops (λ j t. CarriesOut ops (known ops ranks s j) (bound_at_start ranks) (statements_of script j) t) s p (known ops ranks s p) h.each (λ t e. step-carries_out ops (known ops ranks s p) (bound_at_start ranks) (statements_of script p) (s p) t (h.each p) e) q);
+  me = goes_on_cases ops (λ j t. t.me ≡ j) s p (known ops ranks s p) h.me (λ t e. step-keeps ops (known ops ranks s p) (s p) t e ∙ h.me p);
+  world = goes_on_cases ops (λ j t. named t.bound (codes "world") ≡ named (bound_at_start ranks) (codes "world")) s p (known ops ranks s p) h.world (λ t e. step_world ops (known ops ranks s p) (s p) _ (h.world p) t e);
+  bound = λ q. moved_there ops ranks s p q (move ops ranks s p q).bound (goes_on_cases ops (λ j t. AreThere ops ranks s j t.bound) s p (known ops ranks s p) h.bound (λ t e. step_there ops ranks s p (s p) (h.bound p) t e) q);
 })
 
 -- in any state
-pub start-there : (ranks : ℕ) (s : State) (p : ℕ) → AreThere ranks s p (bound_at_start ranks)
-start-there ranks s p word name birth e = by_test (bytes_eq word (codes "world")) e where
-  by_test : (t : Bool) → (if t then Some (Communicator [] (world_of ranks)) else None) ≡ Some (Communicator name birth) → IsThere ranks s p name birth
+pub start-there : (ops : List Operation) (ranks : ℕ) (s : State) (p : ℕ) → AreThere ops ranks s p (bound_at_start ranks)
+start-there ops ranks s p word name birth e = by_test (bytes_eq word (codes "world")) e where
+  by_test : (t : Bool) → (if t then Some (Communicator [] (world_of ranks)) else None) ≡ Some (Communicator name birth) → IsThere ops ranks s p name birth
   by_test true f =
       let no_steps : [] ≡ name = cc f in
       let same : world_of ranks ≡ birth = cc f in
       record {
-        born = ap (birth_of (history s) ranks) (sym no_steps) ∙ ap Some same;
+        born = ap (birth_of (history ops s) ranks) (sym no_steps) ∙ ap Some same;
         member = λ l. let found = upto_there ranks p l in (found.0, ap (λ (v : BirthView). rank_in p v.members) (sym same) ∙ found.1);
       }
   by_test false f = cc f
 
-start-carry_out : (script : List (List Statement)) (ranks : ℕ) → AllCarryOut script ranks (start script ranks)
-start-carry_out script ranks = record {
+start-carry_out : (ops : List Operation) (script : List (List Statement)) (ranks : ℕ) → AllCarryOut ops script ranks (start script ranks)
+start-carry_out ops script ranks = record {
   each = λ p. inl (record { passed = []; left = statements_of script p; all = refl; todo = refl; passes = none });
   me = λ p. refl;
   world = λ p. refl;
-  bound = start-there ranks (start script ranks);
+  bound = start-there ops ranks (start script ranks);
 }
 
-pub reached-carry_out : (script : List (List Statement)) (ranks : ℕ) (s : State) → IsReached script ranks s → AllCarryOut script ranks s
-reached-carry_out script ranks s r = subst (AllCarryOut script ranks) r.reached (moved-carry_out script ranks r.order (start script ranks) (start-carry_out script ranks))
+pub reached-carry_out : (ops : List Operation) (script : List (List Statement)) (ranks : ℕ) (s : State) → IsReached ops script ranks s → AllCarryOut ops script ranks s
+reached-carry_out ops script ranks s r = subst (AllCarryOut ops script ranks) r.reached (moved-carry_out ops script ranks r.order (start script ranks) (start-carry_out ops script ranks))
 
 -- WHAT THEY TELL
 
-module _ (script : List (List Statement)) (ranks : ℕ) (s : State) (reached : IsReached script ranks s) (p : ℕ) where
-  pub each-carries_out : CarriesOut (known ranks s p) (bound_at_start ranks) (statements_of script p) (s p)
-  each-carries_out = (reached-carry_out script ranks s reached).each p
+module _ (ops : List Operation) (script : List (List Statement)) (ranks : ℕ) (s : State) (reached : IsReached ops script ranks s) (p : ℕ) where
+  pub each-carries_out : CarriesOut ops (known ops ranks s p) (bound_at_start ranks) (statements_of script p) (s p)
+  each-carries_out = (reached-carry_out ops script ranks s reached).each p
 
   pub each-me : (s p).me ≡ p
-  each-me = (reached-carry_out script ranks s reached).me p
+  each-me = (reached-carry_out ops script ranks s reached).me p
 
   pub each-world : named (s p).bound (codes "world") ≡ Some (Communicator [] (world_of ranks))
-  each-world = (reached-carry_out script ranks s reached).world p
+  each-world = (reached-carry_out ops script ranks s reached).world p
 
-  pub each-bound : p < ranks → (word : List ℕ) (name : Name) (birth : BirthView) → named (s p).bound word ≡ Some (Communicator name birth) → IsMemberOf ranks s p name birth
+  pub each-bound : p < ranks → (word : List ℕ) (name : Name) (birth : BirthView) → named (s p).bound word ≡ Some (Communicator name birth) → IsMemberOf ops ranks s p name birth
   each-bound l word name birth e =
-      let there = (reached-carry_out script ranks s reached).bound p word name birth e in
+      let there = (reached-carry_out ops script ranks s reached).bound p word name birth e in
       record { born = there.born; rank = (there.member l).0; member = (there.member l).1 }
 
-  pub each-all : (s p).todo ≡ [] → Passes (known ranks s p) p (bound_at_start ranks) [] [] (statements_of script p) (s p).bound (s p).requests (s p).made (s p).lines
+  pub each-all : (s p).todo ≡ [] → Passes ops (known ops ranks s p) p (bound_at_start ranks) [] [] (statements_of script p) (s p).bound (s p).requests (s p).made (s p).lines
   each-all e =
-      subst (λ me. Passes (known ranks s p) me (bound_at_start ranks) [] [] (statements_of script p) (s p).bound (s p).requests (s p).made (s p).lines) each-me
-      (carried_out-all (known ranks s p) (bound_at_start ranks) (statements_of script p) (s p) each-carries_out e)
+      subst (λ me. Passes ops (known ops ranks s p) me (bound_at_start ranks) [] [] (statements_of script p) (s p).bound (s p).requests (s p).made (s p).lines) each-me
+      (carried_out-all ops (known ops ranks s p) (bound_at_start ranks) (statements_of script p) (s p) each-carries_out e)
 
-  pub lines_tell : (i : ℕ) (name : Name) (call : ℕ) (outcome : Outcome) → slice_get (s p).lines i ≡ Some (Told name call outcome) → IsToldOf ranks s p name call outcome
+  pub lines_tell : (i : ℕ) (name : Name) (call : ℕ) (outcome : Outcome) → slice_get (s p).lines i ≡ Some (Told name call outcome) → IsToldOf ops ranks s p name call outcome
   lines_tell i name call outcome e =
-      let tells = carried_out-tell (known ranks s p) (bound_at_start ranks) (statements_of script p) (s p) each-carries_out i name call outcome e in
-      let found = mapped_some (answer_with (birth_of (history s) ranks)) (outcome_of (history s) ranks p name call) tells.answer tells.known_as in
-      let given : outcome_of (history s) ranks p name call ≡ Some outcome = found.1 ∙ ap Some (ap (λ (a : Answer). a.outcome) found.2 ∙ tells.is) in
-      option_and_then_some (λ birth. outcomes_by (history s) name birth p call) (birth_of (history s) ranks name) outcome given (λ birth born f.
-      option_and_then_some (λ row. value_for birth p row name call) (row_of (history s) name birth call) outcome f (λ row whole g.
-      option_and_then_some (λ rank. Some (value birth row name call rank)) (rank_in p birth.members) outcome g (λ rank member is.
-      record { birth = birth; born = born; row = row; whole = whole; rank = rank; member = member; is = sym (same_Some (value birth row name call rank) outcome is) })))
+      let tells = carried_out-tell ops (known ops ranks s p) (bound_at_start ranks) (statements_of script p) (s p) each-carries_out i name call outcome e in
+      let found = mapped_some (answer_with (birth_of (history ops s) ranks)) (outcome_of (history ops s) ranks p name call) tells.answer tells.known_as in
+      let given : outcome_of (history ops s) ranks p name call ≡ Some outcome = found.1 ∙ ap Some (ap (λ (a : Answer). a.outcome) found.2 ∙ tells.is) in
+      option_and_then_some (λ birth. outcomes_by (history ops s) name birth p call) (birth_of (history ops s) ranks name) outcome given (λ birth born f.
+      option_and_then_some (λ row. value_for ops birth p row name call) (row_of (history ops s) name birth call) outcome f (λ row whole g.
+      option_and_then_some (λ rank. Some (value ops birth row name call rank)) (rank_in p birth.members) outcome g (λ rank member is.
+      record { birth = birth; born = born; row = row; whole = whole; rank = rank; member = member; is = sym (same_Some (value ops birth row name call rank) outcome is) })))

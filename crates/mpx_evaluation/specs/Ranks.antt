@@ -2,6 +2,7 @@
 use Rattle.std.specs.Prelude.{ℕ, zero, suc, ◌+◌, Bool, true, false, cond, not, List, [], ◌∷◌, ◌++◌, length, map, bytes_eq, Option, Some, None, option_and_then, Result, Ok, Err, ℤ}
 use Rattle.std.specs.List.{filter}
 use Rattle.std.specs.Option.{option_map}
+use Rattle.mpx_num.specs.declared.own.Operation.{Operation}
 use Rattle.mpx_group.specs.Group.{comparison_of}
 use Rattle.mpx_group.specs.Translation.{translated}
 use Rattle.mpx_group.specs.declared.ranks.Comparison.{Comparison}
@@ -117,28 +118,30 @@ abbrev pub made_on : Name → Result Given PostError → Result Made PostError
 made_on name (Ok given) = Ok (record { name = name; given = given })
 made_on name (Err refusal) = Err refusal
 
--- what a draft comes to on a context with this birth: the next post there, or why there is none
-abbrev pub post_on : (me : ℕ) → List Made → Draft → Name → BirthView → Result Made PostError
-post_on me made draft name birth = made_on name (checked birth me (at name (next_call name made) (has_freed name made)) draft)
+-- by the job's own operations
+module _ (ops : List Operation) where
+  -- what a draft comes to on a context with this birth: the next post there, or why there is none
+  abbrev pub post_on : (me : ℕ) → List Made → Draft → Name → BirthView → Result Made PostError
+  post_on me made draft name birth = made_on name (checked ops birth me (at name (next_call name made) (has_freed name made)) draft)
 
--- what it comes to on a gathering below a context, which may be refused itself
-abbrev pub post_gathered : (me : ℕ) → List Made → Draft → Name → Result GatheringView PostError → Result Made PostError
-post_gathered me made draft parent (Ok g) = post_on me made draft (Gathering g.tag g.members ∷ parent) (of_members g.members)
-post_gathered me made draft parent (Err refusal) = Err refusal
+  -- what it comes to on a gathering below a context, which may be refused itself
+  abbrev pub post_gathered : (me : ℕ) → List Made → Draft → Name → Result GatheringView PostError → Result Made PostError
+  post_gathered me made draft parent (Ok g) = post_on me made draft (Gathering g.tag g.members ∷ parent) (of_members g.members)
+  post_gathered me made draft parent (Err refusal) = Err refusal
 
-abbrev pub attempt_in : (me : ℕ) → List Made → Draft → Option Gathers → Name → BirthView → Result Made PostError
-attempt_in me made draft None name birth = post_on me made draft name birth
-attempt_in me made draft (Some g) name birth = post_gathered me made draft name (gathering birth me (length name) (has_freed name made) g.tag g.ranks)
+  abbrev pub attempt_in : (me : ℕ) → List Made → Draft → Option Gathers → Name → BirthView → Result Made PostError
+  attempt_in me made draft None name birth = post_on me made draft name birth
+  attempt_in me made draft (Some g) name birth = post_gathered me made draft name (gathering birth me (length name) (has_freed name made) g.tag g.ranks)
 
--- what a statement that posts comes to on what its word is bound to: a post, or why there is none
-abbrev pub attempt_on : (me : ℕ) → List Made → Posting → Option Bound → Result Made PostError
-attempt_on me made posting None = Err NotMember
-attempt_on me made posting (Some NullCommunicator) = Err NotMember
-attempt_on me made posting (Some (Communicator name birth)) = attempt_in me made (draft_of posting) (gathers_of posting) name birth
+  -- what a statement that posts comes to on what its word is bound to: a post, or why there is none
+  abbrev pub attempt_on : (me : ℕ) → List Made → Posting → Option Bound → Result Made PostError
+  attempt_on me made posting None = Err NotMember
+  attempt_on me made posting (Some NullCommunicator) = Err NotMember
+  attempt_on me made posting (Some (Communicator name birth)) = attempt_in me made (draft_of posting) (gathers_of posting) name birth
 
--- what such a statement of a rank comes to, with these bindings and after these posts
-abbrev pub attempt : (me : ℕ) → Bindings → List Made → Posting → Result Made PostError
-attempt me bound made posting = attempt_on me made posting (named bound (posted_on posting))
+  -- what such a statement of a rank comes to, with these bindings and after these posts
+  abbrev pub attempt : (me : ℕ) → Bindings → List Made → Posting → Result Made PostError
+  attempt me bound made posting = attempt_on me made posting (named bound (posted_on posting))
 
 -- the neighbours of a rank on one side
 abbrev pub neighbours_at : Side → TopologyView → (rank : ℕ) → List Neighbour
@@ -314,15 +317,15 @@ abbrev pub posts_or_refuses : Local → List Todo → (target request : Option (
 posts_or_refuses s rest target request (Ok m) = at_once (goes_out s rest target request m)
 posts_or_refuses s rest target request (Err refusal) = at_once (record { bound = bind target NullCommunicator s.bound; requests = s.requests; todo = rest; made = []; lines = Refused refusal ∷ [] })
 
-abbrev pub next_of : Local → List Todo → Next
-next_of s [] = End
-next_of s (Do (Post posting) ∷ rest) = posts_or_refuses s rest (bound_to posting) (started_as posting) (attempt s.me s.bound s.made posting)
-next_of s (Do (Wait words) ∷ rest) = Asks (awaited_by s.requests words) (λ told. record { bound = s.bound; requests = without_all words s.requests; todo = rest; made = []; lines = waited_lines s.requests words told })
-next_of s (Do (Ask question) ∷ rest) = at_once (record { bound = s.bound; requests = s.requests; todo = rest; made = []; lines = answered s.me s.bound s.made question ∷ [] })
-next_of s (Await name call target ∷ rest) = awaits name call (λ (answer : Answer). record { bound = bind target (bound_by answer.outcome answer.born) s.bound; requests = s.requests; todo = rest; made = []; lines = Told name call answer.outcome ∷ [] })
+abbrev pub next_of : List Operation → Local → List Todo → Next
+next_of ops s [] = End
+next_of ops s (Do (Post posting) ∷ rest) = posts_or_refuses s rest (bound_to posting) (started_as posting) (attempt ops s.me s.bound s.made posting)
+next_of ops s (Do (Wait words) ∷ rest) = Asks (awaited_by s.requests words) (λ told. record { bound = s.bound; requests = without_all words s.requests; todo = rest; made = []; lines = waited_lines s.requests words told })
+next_of ops s (Do (Ask question) ∷ rest) = at_once (record { bound = s.bound; requests = s.requests; todo = rest; made = []; lines = answered s.me s.bound s.made question ∷ [] })
+next_of ops s (Await name call target ∷ rest) = awaits name call (λ (answer : Answer). record { bound = bind target (bound_by answer.outcome answer.born) s.bound; requests = s.requests; todo = rest; made = []; lines = Told name call answer.outcome ∷ [] })
 
-abbrev pub next : Local → Next
-next s = next_of s s.todo
+abbrev pub next : List Operation → Local → Next
+next ops s = next_of ops s s.todo
 
 -- STEPS
 
@@ -334,9 +337,9 @@ abbrev pub step_by : Results → Local → Next → Option Local
 step_by r s End = None
 step_by r s (Asks calls act) = option_and_then (λ told. Some (done s (act told))) (answers r calls)
 
--- where the next move of a rank that knows these outcomes leads, where it has one
-abbrev pub step : Results → Local → Option Local
-step r s = step_by r s (next s)
+-- where the next move of a rank that knows these outcomes leads, where it has one, by the job's own operations
+abbrev pub step : List Operation → Results → Local → Option Local
+step ops r s = step_by r s (next ops s)
 
 -- so many moves are left at most
 abbrev pub weight : Todo → ℕ

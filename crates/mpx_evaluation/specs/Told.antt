@@ -1,5 +1,6 @@
 -- What a line that tells an outcome tells, what a word is bound to, and what a rank's lines and posts have to do with its statements.
 use Rattle.std.specs.Prelude.{◌≡◌, ℕ, ◌⊎◌, List, [], ◌∷◌, ◌++◌, None, Some, Ok, Err}
+use Rattle.mpx_num.specs.declared.own.Operation.{Operation}
 use Rattle.mpx_name.specs.Name.{Name}
 use Rattle.mpx_post.specs.declared.draft.PostError.{PostError}
 use Rattle.mpx_post.specs.Births.{BirthView, rank_in}
@@ -16,18 +17,18 @@ use Rattle.mpx_evaluation.specs.Ranks.{Line, Told, Refused, Bindings, NullCommun
 use Rattle.mpx_evaluation.specs.Evaluation.{State, history}
 
 -- all members of the context have posted to the call, and this is what it gives the process as one of them
-pub record IsToldOf (ranks : ℕ) (s : State) (process : ℕ) (name : Name) (call : ℕ) (outcome : Outcome) : Type 0 where
+pub record IsToldOf (ops : List Operation) (ranks : ℕ) (s : State) (process : ℕ) (name : Name) (call : ℕ) (outcome : Outcome) : Type 0 where
   pub birth : BirthView
-  pub born : birth_of (history s) ranks name ≡ Some birth
+  pub born : birth_of (history ops s) ranks name ≡ Some birth
   pub row : RowView
-  pub whole : row_of (history s) name birth call ≡ Some row
+  pub whole : row_of (history ops s) name birth call ≡ Some row
   pub rank : ℕ
   pub member : rank_in process birth.members ≡ Some rank
-  pub is : outcome ≡ value birth row name call rank
+  pub is : outcome ≡ value ops birth row name call rank
 
 -- all that made the communicator is posted, and it came to be with these members, of which the process is one
-pub record IsMemberOf (ranks : ℕ) (s : State) (process : ℕ) (name : Name) (birth : BirthView) : Type 0 where
-  pub born : birth_of (history s) ranks name ≡ Some birth
+pub record IsMemberOf (ops : List Operation) (ranks : ℕ) (s : State) (process : ℕ) (name : Name) (birth : BirthView) : Type 0 where
+  pub born : birth_of (history ops s) ranks name ≡ Some birth
   pub rank : ℕ
   pub member : rank_in process birth.members ≡ Some rank
 
@@ -38,39 +39,39 @@ pub record IsMemberOf (ranks : ℕ) (s : State) (process : ℕ) (name : Name) (b
 -- else to the null communicator. Of a wait: for each of its requests the line of the outcome of the call that the request
 -- stands for, or that it is idle; then none of them is open. Of a statement that asks: just its line, by what its words are
 -- bound to then, and by which of that it has freed
-pub data Passes (known : Results) (me : ℕ) : (before : Bindings) (requests : Requests) (earlier : List Made) → List Statement → (after : Bindings) (left : Requests) (further : List Made) → List Line → Type 0 where
-  none : {bound : Bindings} {requests : Requests} {earlier : List Made} → Passes known me bound requests earlier [] bound requests [] []
+pub data Passes (ops : List Operation) (known : Results) (me : ℕ) : (before : Bindings) (requests : Requests) (earlier : List Made) → List Statement → (after : Bindings) (left : Requests) (further : List Made) → List Line → Type 0 where
+  none : {bound : Bindings} {requests : Requests} {earlier : List Made} → Passes ops known me bound requests earlier [] bound requests [] []
   accepted : {bound after : Bindings} {requests left : Requests} {earlier further : List Made} {posting : Posting} {rest : List Statement} {m : Made} {answer : Answer} {lines : List Line}
-      → started_as posting ≡ None → attempt me bound earlier posting ≡ Ok m → known m.name (next_call m.name earlier) ≡ Some answer
-      → Passes known me (bind (bound_to posting) (bound_by answer.outcome answer.born) bound) requests (earlier ++ m ∷ []) rest after left further lines
-      → Passes known me bound requests earlier (Post posting ∷ rest) after left (m ∷ further) (Told m.name (next_call m.name earlier) answer.outcome ∷ lines)
+      → started_as posting ≡ None → attempt ops me bound earlier posting ≡ Ok m → known m.name (next_call m.name earlier) ≡ Some answer
+      → Passes ops known me (bind (bound_to posting) (bound_by answer.outcome answer.born) bound) requests (earlier ++ m ∷ []) rest after left further lines
+      → Passes ops known me bound requests earlier (Post posting ∷ rest) after left (m ∷ further) (Told m.name (next_call m.name earlier) answer.outcome ∷ lines)
   started : {bound after : Bindings} {requests left : Requests} {earlier further : List Made} {posting : Posting} {rest : List Statement} {word : List ℕ} {m : Made} {lines : List Line}
-      → started_as posting ≡ Some word → attempt me bound earlier posting ≡ Ok m
-      → Passes known me bound (requests ++ (word, (m.name, next_call m.name earlier)) ∷ []) (earlier ++ m ∷ []) rest after left further lines
-      → Passes known me bound requests earlier (Post posting ∷ rest) after left (m ∷ further) lines
-  refused : {bound after : Bindings} {requests left : Requests} {earlier further : List Made} {posting : Posting} {rest : List Statement} {refusal : PostError} {lines : List Line} → attempt me bound earlier posting ≡ Err refusal
-      → Passes known me (bind (bound_to posting) NullCommunicator bound) requests earlier rest after left further lines
-      → Passes known me bound requests earlier (Post posting ∷ rest) after left further (Refused refusal ∷ lines)
+      → started_as posting ≡ Some word → attempt ops me bound earlier posting ≡ Ok m
+      → Passes ops known me bound (requests ++ (word, (m.name, next_call m.name earlier)) ∷ []) (earlier ++ m ∷ []) rest after left further lines
+      → Passes ops known me bound requests earlier (Post posting ∷ rest) after left (m ∷ further) lines
+  refused : {bound after : Bindings} {requests left : Requests} {earlier further : List Made} {posting : Posting} {rest : List Statement} {refusal : PostError} {lines : List Line} → attempt ops me bound earlier posting ≡ Err refusal
+      → Passes ops known me (bind (bound_to posting) NullCommunicator bound) requests earlier rest after left further lines
+      → Passes ops known me bound requests earlier (Post posting ∷ rest) after left further (Refused refusal ∷ lines)
   waited : {bound after : Bindings} {requests left : Requests} {earlier further : List Made} {words : List (List ℕ)} {rest : List Statement} {told : List Answer} {lines : List Line}
       → answers known (awaited_by requests words) ≡ Some told
-      → Passes known me bound (without_all words requests) earlier rest after left further lines
-      → Passes known me bound requests earlier (Wait words ∷ rest) after left further (waited_lines requests words told ++ lines)
+      → Passes ops known me bound (without_all words requests) earlier rest after left further lines
+      → Passes ops known me bound requests earlier (Wait words ∷ rest) after left further (waited_lines requests words told ++ lines)
   asked : {bound after : Bindings} {requests left : Requests} {earlier further : List Made} {question : Question} {rest : List Statement} {lines : List Line}
-      → Passes known me bound requests earlier rest after left further lines
-      → Passes known me bound requests earlier (Ask question ∷ rest) after left further (answered me bound earlier question ∷ lines)
+      → Passes ops known me bound requests earlier rest after left further lines
+      → Passes ops known me bound requests earlier (Ask question ∷ rest) after left further (answered me bound earlier question ∷ lines)
 
 -- it started with the first bindings and no request, has passed the first of these statements and begun none of the others:
 -- it may stand at a wait
-pub record IsReady (known : Results) (first : Bindings) (statements : List Statement) (s : Local) : Type 0 where
+pub record IsReady (ops : List Operation) (known : Results) (first : Bindings) (statements : List Statement) (s : Local) : Type 0 where
   pub passed : List Statement
   pub left : List Statement
   pub all : passed ++ left ≡ statements
   pub todo : s.todo ≡ doing left
-  pub passes : Passes known s.me first [] [] passed s.bound s.requests s.made s.lines
+  pub passes : Passes ops known s.me first [] [] passed s.bound s.requests s.made s.lines
 
 -- it has passed the first of these statements, made the post of the next one, a blocking one, and waits for the outcome of
 -- that call
-pub record IsWaiting (known : Results) (first : Bindings) (statements : List Statement) (s : Local) : Type 0 where
+pub record IsWaiting (ops : List Operation) (known : Results) (first : Bindings) (statements : List Statement) (s : Local) : Type 0 where
   pub passed : List Statement
   pub posting : Posting
   pub left : List Statement
@@ -79,10 +80,10 @@ pub record IsWaiting (known : Results) (first : Bindings) (statements : List Sta
   pub last : Made
   pub made : s.made ≡ earlier ++ last ∷ []
   pub blocks : started_as posting ≡ None
-  pub accepts : attempt s.me s.bound earlier posting ≡ Ok last
+  pub accepts : attempt ops s.me s.bound earlier posting ≡ Ok last
   pub todo : s.todo ≡ Await last.name (next_call last.name earlier) (bound_to posting) ∷ doing left
-  pub passes : Passes known s.me first [] [] passed s.bound s.requests earlier s.lines
+  pub passes : Passes ops known s.me first [] [] passed s.bound s.requests earlier s.lines
 
 -- from the first bindings it carries out these statements in their order
-abbrev pub CarriesOut : Results → (first : Bindings) → List Statement → Local → Type 0
-CarriesOut known first statements s = IsReady known first statements s ⊎ IsWaiting known first statements s
+abbrev pub CarriesOut : List Operation → Results → (first : Bindings) → List Statement → Local → Type 0
+CarriesOut ops known first statements s = IsReady ops known first statements s ⊎ IsWaiting ops known first statements s

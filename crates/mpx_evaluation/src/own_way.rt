@@ -1,6 +1,7 @@
 //! The law of one rank that goes its own way.
 ghost use Rattle.std.specs.Prelude.{◌≡◌, ℕ, List, [], Some};
 ghost use Rattle.mpx_name.specs.Name.{Name};
+ghost use Rattle.mpx_num.specs.declared.own.Operation.{Operation};
 ghost use Rattle.mpx_post.specs.Births.{BirthView};
 ghost use Rattle.mpx_value.specs.Histories.{birth_of};
 ghost use Rattle.mpx_statement.specs.Lookups.{named};
@@ -14,11 +15,11 @@ ghost use Rattle.mpx_evaluation.specs.Told.{CarriesOut};
 /// far as it has come it has carried out its statements, each once and in their order, and the outcomes that it was given are
 /// those of the evaluation. Each communicator that a word of its is bound to came to be as the posts of the evaluation say.
 pub fn a_rank_goes_its_own_way()
-    ensures lines { (script : Script) (ranks : ℕ) (end : State) → IsEvaluation script ranks end → (p : ℕ) (s : Local) → GoesTo script ranks end p s → IsPrefixOf s.lines (end p).lines }
-    ensures posts { (script : Script) (ranks : ℕ) (end : State) → IsEvaluation script ranks end → (p : ℕ) (s : Local) → GoesTo script ranks end p s → IsPrefixOf s.made (end p).made }
-    ensures whole { (script : Script) (ranks : ℕ) (end : State) → IsEvaluation script ranks end → (p : ℕ) (s : Local) → GoesTo script ranks end p s → s.todo ≡ [] → s ≡ end p }
-    ensures carries_out { (script : Script) (ranks : ℕ) (end : State) → IsEvaluation script ranks end → (p : ℕ) (s : Local) → GoesTo script ranks end p s
-        → CarriesOut (known ranks end p) (bound_at_start ranks) (statements_of script p) s }
-    ensures bound { (script : Script) (ranks : ℕ) (end : State) → IsEvaluation script ranks end → (p : ℕ) (s : Local) → GoesTo script ranks end p s
-        → (word : List ℕ) (name : Name) (birth : BirthView) → named s.bound word ≡ Some (Communicator name birth) → birth_of (history end) ranks name ≡ Some birth }
+    ensures lines { (ops : List Operation) (script : Script) (ranks : ℕ) (end : State) → IsEvaluation ops script ranks end → (p : ℕ) (s : Local) → GoesTo ops script ranks end p s → IsPrefixOf s.lines (end p).lines }
+    ensures posts { (ops : List Operation) (script : Script) (ranks : ℕ) (end : State) → IsEvaluation ops script ranks end → (p : ℕ) (s : Local) → GoesTo ops script ranks end p s → IsPrefixOf s.made (end p).made }
+    ensures whole { (ops : List Operation) (script : Script) (ranks : ℕ) (end : State) → IsEvaluation ops script ranks end → (p : ℕ) (s : Local) → GoesTo ops script ranks end p s → s.todo ≡ [] → s ≡ end p }
+    ensures carries_out { (ops : List Operation) (script : Script) (ranks : ℕ) (end : State) → IsEvaluation ops script ranks end → (p : ℕ) (s : Local) → GoesTo ops script ranks end p s
+        → CarriesOut ops (known ops ranks end p) (bound_at_start ranks) (statements_of script p) s }
+    ensures bound { (ops : List Operation) (script : Script) (ranks : ℕ) (end : State) → IsEvaluation ops script ranks end → (p : ℕ) (s : Local) → GoesTo ops script ranks end p s
+        → (word : List ℕ) (name : Name) (birth : BirthView) → named s.bound word ≡ Some (Communicator name birth) → birth_of (history ops end) ranks name ≡ Some birth }
 {}

@@ -1,6 +1,7 @@
 //! What the lines of a transcript tell, and what they have to do with the statements.
 ghost use Rattle.std.specs.Prelude.{◌≡◌, ℕ, ◌<◌, List, [], Some, slice_get, codes};
 ghost use Rattle.mpx_name.specs.Name.{Name};
+ghost use Rattle.mpx_num.specs.declared.own.Operation.{Operation};
 ghost use Rattle.mpx_value.specs.declared.outcomes.Outcome.{Outcome};
 ghost use Rattle.mpx_post.specs.Births.{BirthView};
 ghost use Rattle.mpx_statement.specs.Lookups.{named};
@@ -11,8 +12,8 @@ ghost use Rattle.mpx_evaluation.specs.Told.{CarriesOut, IsMemberOf, IsToldOf, Pa
 /// After any list of moves each line that tells the outcome of a call of a context tells the value of that call: all
 /// members of the context have posted to it, and the outcome is what their posts give this rank.
 pub fn lines_tell_the_values_of_all_posts()
-    ensures { (script : Script) (ranks : ℕ) (s : State) → IsReached script ranks s →
-        (p i : ℕ) (name : Name) (call : ℕ) (outcome : Outcome) → slice_get (s p).lines i ≡ Some (Told name call outcome) → IsToldOf ranks s p name call outcome }
+    ensures { (ops : List Operation) (script : Script) (ranks : ℕ) (s : State) → IsReached ops script ranks s →
+        (p i : ℕ) (name : Name) (call : ℕ) (outcome : Outcome) → slice_get (s p).lines i ≡ Some (Told name call outcome) → IsToldOf ops ranks s p name call outcome }
 {}
 
 /// After any list of moves a rank has passed the first of its statements, in their order. Each one that posts was accepted,
@@ -27,12 +28,12 @@ pub fn lines_tell_the_values_of_all_posts()
 /// and to the null communicator where it gave none or was refused. A rank is a member of each communicator that a word of
 /// its is bound to.
 pub fn ranks_carry_out_their_statements()
-    ensures carries_out { (script : Script) (ranks : ℕ) (s : State) → IsReached script ranks s →
-        (p : ℕ) → CarriesOut (known ranks s p) (bound_at_start ranks) (statements_of script p) (s p) }
-    ensures all { (script : Script) (ranks : ℕ) (s : State) → IsReached script ranks s →
-        (p : ℕ) → (s p).todo ≡ [] → Passes (known ranks s p) p (bound_at_start ranks) [] [] (statements_of script p) (s p).bound (s p).requests (s p).made (s p).lines }
-    ensures me { (script : Script) (ranks : ℕ) (s : State) → IsReached script ranks s → (p : ℕ) → (s p).me ≡ p }
-    ensures world { (script : Script) (ranks : ℕ) (s : State) → IsReached script ranks s → (p : ℕ) → named (s p).bound (codes "world") ≡ Some (Communicator [] (world_of ranks)) }
-    ensures bound { (script : Script) (ranks : ℕ) (s : State) → IsReached script ranks s → (p : ℕ) → p < ranks
-        → (word : List ℕ) (name : Name) (birth : BirthView) → named (s p).bound word ≡ Some (Communicator name birth) → IsMemberOf ranks s p name birth }
+    ensures carries_out { (ops : List Operation) (script : Script) (ranks : ℕ) (s : State) → IsReached ops script ranks s →
+        (p : ℕ) → CarriesOut ops (known ops ranks s p) (bound_at_start ranks) (statements_of script p) (s p) }
+    ensures all { (ops : List Operation) (script : Script) (ranks : ℕ) (s : State) → IsReached ops script ranks s →
+        (p : ℕ) → (s p).todo ≡ [] → Passes ops (known ops ranks s p) p (bound_at_start ranks) [] [] (statements_of script p) (s p).bound (s p).requests (s p).made (s p).lines }
+    ensures me { (ops : List Operation) (script : Script) (ranks : ℕ) (s : State) → IsReached ops script ranks s → (p : ℕ) → (s p).me ≡ p }
+    ensures world { (ops : List Operation) (script : Script) (ranks : ℕ) (s : State) → IsReached ops script ranks s → (p : ℕ) → named (s p).bound (codes "world") ≡ Some (Communicator [] (world_of ranks)) }
+    ensures bound { (ops : List Operation) (script : Script) (ranks : ℕ) (s : State) → IsReached ops script ranks s → (p : ℕ) → p < ranks
+        → (word : List ℕ) (name : Name) (birth : BirthView) → named (s p).bound word ≡ Some (Communicator name birth) → IsMemberOf ops ranks s p name birth }
 {}

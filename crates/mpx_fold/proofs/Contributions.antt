@@ -2,7 +2,8 @@
 use Rattle.std.proofs.Common.{◌≡◌, ℕ, ◌*◌, ◌<◌, true, List, [], ◌∷◌, length, Some, refl, sym, subst, ap, ◌∙◌, eqb-true, arith, sum}
 use Rattle.mpx_num.specs.declared.types.Ty.{Ty}
 use Rattle.mpx_num.specs.declared.operations.Op.{Op}
-use Rattle.mpx_num.specs.Operations.{fits}
+use Rattle.mpx_num.specs.declared.own.Operation.{Operation}
+use Rattle.mpx_num.specs.Operations.{is_for}
 use Rattle.mpx_num.specs.Types.{item_len}
 use Rattle.mpx_num.specs.ItemList.{AreItems, is_whole}
 use Rattle.mpx_kind.specs.declared.kinds.Kind.{Kind}
@@ -12,13 +13,13 @@ use Rattle.mpx_kind.specs.declared.kinds.Reduction.{Reduction}
 use Rattle.mpx_kind.specs.declared.kinds.Reduction.TheVariants as R
 use Rattle.mpx_post.specs.Kinds.{fields_of}
 use Rattle.mpx_kind.proofs.Families.{kind_in}
-use Rattle.mpx_post.specs.Posts.{Given, type_of, numbers_of, count_of}
+use Rattle.mpx_post.specs.Posts.{Given, type_of, numbers_of, count_of, suits}
 use Rattle.mpx_post.specs.Rows.{RowView}
 use Rattle.mpx_post.specs.Blocks.{repeated}
-use Rattle.mpx_post.specs.Agreement.{post_at, first_of, fill, count_at, Agrees, AmountsAgree, IsFine}
+use Rattle.mpx_post.specs.Agreement.{post_at, first_of, fill, count_at, Agrees, AllSuit, AmountsAgree, IsFine}
 use Rattle.mpx_fold.specs.Folds.{reduces}
 use Rattle.mpx_post.proofs.Blocks.{count_alone, rcounts_as, filled_as}
-use Rattle.mpx_post.proofs.Agreement.{fits_parts, same_type}
+use Rattle.mpx_post.proofs.Agreement.{same_type}
 
 -- lists of one count are equal by it
 same_alone : (xs ys : List ℕ) → length xs ≡ 1 → length ys ≡ 1 → count_at xs 0 ≡ count_at ys 0 → xs ≡ ys
@@ -92,9 +93,11 @@ module _ (row : RowView) (rank : ℕ) (fine : IsFine row) (l : rank < length row
   pub as_many : reduces row ≡ true → AreItems (type_of (first_of row)) (numbers_of (post_at row rank)) → AreItems (type_of (first_of row)) (numbers_of (first_of row)) → length (numbers_of (post_at row rank)) ≡ length (numbers_of (first_of row))
   as_many op given first = as_many_by (first_of row).kind refl here.amounts op (subst (λ (ty : Ty). is_whole ty (numbers_of (post_at row rank)) ≡ true) (sym (same_type row rank fine l)) given.whole) first.whole
 
--- the operation fits the type
-pub fits_first : (row : RowView) (op : Op) → IsFine row → 0 < length row → (first_of row).op ≡ Some op → fits op (type_of (first_of row)) ≡ true
-fits_first row op fine l e = rw e at (fits_parts fine.topology (length row) 0 (first_of row) (fine.with.each 0 l).fit).type
+-- the operation is for the type
+pub suits_first : (ops : List Operation) (row : RowView) (op : Op) (ty : Ty) → AllSuit ops row → 0 < length row → (first_of row).op ≡ Some op → ty ≡ type_of (first_of row) → is_for ops op ty ≡ true
+suits_first ops row op ty all l e t =
+    let first : suits ops (first_of row) ≡ true = all.each 0 l in
+    ap (λ (u : Ty). is_for ops op u) t ∙ rw e at first
 
 -- a reduction has an operation
 pub reduction_has_op : (reduction : Reduction) → (fields_of (kind_in (F.Reduction reduction))).op ≡ true

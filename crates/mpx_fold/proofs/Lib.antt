@@ -1,3 +1,4 @@
 pub mod Contributions
 pub mod Folding
 pub mod Places
+pub mod Giving

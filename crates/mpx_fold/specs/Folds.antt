@@ -1,5 +1,6 @@
 -- What reductions and scans give (MPI 4.1, sections 6.9 to 6.11).
 use Rattle.std.specs.Prelude.{ℕ, Bool, ◌+◌, ◌==◌, List, ℤ, length, map, take, cond}
+use Rattle.mpx_num.specs.declared.own.Operation.{Operation}
 use Rattle.mpx_num.specs.Operations.{fold_items}
 use Rattle.mpx_kind.specs.declared.kinds.Family.{Family}
 use Rattle.mpx_kind.specs.declared.kinds.Family.TheVariants as F
@@ -18,32 +19,33 @@ use Rattle.mpx_post.specs.Values.{as_items}
 abbrev pub reduces : RowView → Bool
 reduces row = (fields_of (first_of row).kind).op
 
--- what the first n members give, combined in rank order, item by item, by the operation and the type that rank 0 names
-abbrev pub folded : RowView → ℕ → List ℤ
-folded row n = fold_items (operation_of (first_of row)) (type_of (first_of row)) (map numbers_of (take n row))
+-- what the first n members give, combined in rank order, item by item, by the operation and the type that rank 0 names and the
+-- job's own operations
+abbrev pub folded : List Operation → RowView → ℕ → List ℤ
+folded ops row n = fold_items ops (operation_of (first_of row)) (type_of (first_of row)) (map numbers_of (take n row))
 
 -- what all members give, combined
-abbrev pub all_folded : RowView → List ℤ
-all_folded row = folded row (length row)
+abbrev pub all_folded : List Operation → RowView → List ℤ
+all_folded ops row = folded ops row (length row)
 
 -- the rank's block of it, where its blocks have so many items
-abbrev pub folded_block : RowView → List ℕ → ℕ → List ℤ
-folded_block row counts rank = block_at (type_of (first_of row)) counts (all_folded row) rank
+abbrev pub folded_block : List Operation → RowView → List ℕ → ℕ → List ℤ
+folded_block ops row counts rank = block_at (type_of (first_of row)) counts (all_folded ops row) rank
 
 -- what a reduction gives the member with this rank
-abbrev pub fold_of : Reduction → RowView → ℕ → Value
-fold_of Reduce row rank = cond (rank == root_of (first_of row)) (as_items row (all_folded row)) Nothing
-fold_of Allreduce row rank = as_items row (all_folded row)
-fold_of ReduceScatterBlock row rank = as_items row (folded_block row (repeated (length row) (first_of row).rcounts) rank)
-fold_of ReduceScatter row rank = as_items row (folded_block row (first_of row).rcounts rank)
-fold_of Scan row rank = as_items row (folded row (rank + 1))
-fold_of Exscan row rank = cond (rank == 0) Absent (as_items row (folded row rank))
+abbrev pub fold_of : List Operation → Reduction → RowView → ℕ → Value
+fold_of ops Reduce row rank = cond (rank == root_of (first_of row)) (as_items row (all_folded ops row)) Nothing
+fold_of ops Allreduce row rank = as_items row (all_folded ops row)
+fold_of ops ReduceScatterBlock row rank = as_items row (folded_block ops row (repeated (length row) (first_of row).rcounts) rank)
+fold_of ops ReduceScatter row rank = as_items row (folded_block ops row (first_of row).rcounts rank)
+fold_of ops Scan row rank = as_items row (folded ops row (rank + 1))
+fold_of ops Exscan row rank = cond (rank == 0) Absent (as_items row (folded ops row rank))
 
 -- kinds of other families give nothing here
-abbrev pub fold_in : Family → RowView → ℕ → Value
-fold_in (F.Reduction reduction) row rank = fold_of reduction row rank
-fold_in family row rank = Nothing
+abbrev pub fold_in : List Operation → Family → RowView → ℕ → Value
+fold_in ops (F.Reduction reduction) row rank = fold_of ops reduction row rank
+fold_in ops family row rank = Nothing
 
 -- what a fine row of a reduction gives the member with this rank
-unfoldable pub fold_value : RowView → ℕ → Value
-fold_value row rank = fold_in (family_of (first_of row).kind) row rank
+unfoldable pub fold_value : List Operation → RowView → ℕ → Value
+fold_value ops row rank = fold_in ops (family_of (first_of row).kind) row rank

@@ -2,7 +2,7 @@
 ghost use Rattle.std.specs.Prelude.{◌≡◌, ◌+◌, ◌*◌, ◌<◌, ◌≤◌, IfOk, length, true};
 ghost use Rattle.mpx_num.specs.ItemList.{AreItems};
 ghost use Rattle.mpx_num.specs.Types.{item_len};
-ghost use Rattle.mpx_post.specs.Agreement.{IsFine, first_of, post_at};
+ghost use Rattle.mpx_post.specs.Agreement.{AllSuit, IsFine, first_of, post_at};
 ghost use Rattle.mpx_post.specs.Blocks.{IsBlock, part, repeated};
 ghost use Rattle.mpx_post.specs.Kinds.{family_of};
 ghost use Rattle.mpx_post.specs.Posts.{numbers_of, type_of};
@@ -10,19 +10,20 @@ ghost use Rattle.mpx_post.specs.Values.{GivesValue, as_items};
 ghost use Rattle.mpx_fold.specs.Folds.{all_folded, fold_of, fold_value, folded, reduces};
 
 use join_core::OutOfMemory;
-use mpx_num::{Items, apply};
+use mpx_num::{Items, Listing, Ops, apply};
 use mpx_post::{Block, Family, Reduction, Row, Value};
 use std::alloc::Global;
 
-/// What a fine row of a reduction or a scan gives the member with this rank. A row of another kind gives nothing. Memory
-/// is wanting only in the place of items.
-pub fn fold_value(alloc: Global, row: &Row<'_>, rank: u8) -> Result<Value, OutOfMemory>
+/// What a fine row of a reduction or a scan gives the member with this rank, by the job's own operations, which are for the
+/// types of their items. A row of another kind gives nothing. Memory is wanting only in the place of items.
+pub fn fold_value(alloc: Global, row: &Row<'_>, rank: u8, ops: &Ops) -> Result<Value, OutOfMemory>
     requires fine { IsFine row.now }
+    requires suits { AllSuit (⟦<Ops as Listing>⟧.operations ops.now) row.now }
     requires rank { rank < length row.now }
-    ensures { GivesValue (fold_value row.now rank) result }
+    ensures { GivesValue (fold_value (⟦<Ops as Listing>⟧.operations ops.now) row.now rank) result }
 {
     match row.post(0).kind().family() {
-        Family::Reduction(reduction) => value_of(alloc, row, reduction, rank),
+        Family::Reduction(reduction) => value_of(alloc, row, reduction, rank, ops),
         Family::Exchange(_) => Ok(Value::Nothing),
         Family::NewCommunicator(_) => Ok(Value::Nothing),
         Family::Neighbourhood(_) => Ok(Value::Nothing),
@@ -36,32 +37,34 @@ fn value_of(
     row: &Row<'_>,
     reduction: Reduction,
     rank: u8,
+    ops: &Ops,
 ) -> Result<Value, OutOfMemory>
     requires fine { IsFine row.now }
+    requires suits { AllSuit (⟦<Ops as Listing>⟧.operations ops.now) row.now }
     requires family { family_of (first_of row.now).kind ≡ Family.Reduction reduction }
     requires reduces { reduces row.now ≡ true }
     requires rank { rank < length row.now }
-    ensures { GivesValue (fold_of reduction row.now rank) result }
+    ensures { GivesValue (fold_of (⟦<Ops as Listing>⟧.operations ops.now) reduction row.now rank) result }
 {
     let place = usize::from(rank);
     let first = row.post(0);
     match reduction {
         Reduction::Reduce => {
             if first.root() == Some(rank) {
-                folded_value(alloc, row, row.len())
+                folded_value(alloc, row, row.len(), ops)
             } else {
                 Ok(Value::Nothing)
             }
         }
-        Reduction::Allreduce => folded_value(alloc, row, row.len()),
-        Reduction::ReduceScatterBlock => block_value(alloc, row, equal_block(row, rank)),
-        Reduction::ReduceScatter => block_value(alloc, row, counted_block(row, rank)),
-        Reduction::Scan => folded_value(alloc, row, place + 1),
+        Reduction::Allreduce => folded_value(alloc, row, row.len(), ops),
+        Reduction::ReduceScatterBlock => block_value(alloc, row, equal_block(row, rank), ops),
+        Reduction::ReduceScatter => block_value(alloc, row, counted_block(row, rank), ops),
+        Reduction::Scan => folded_value(alloc, row, place + 1, ops),
         Reduction::Exscan => {
             if rank == 0 {
                 Ok(Value::Absent)
             } else {
-                folded_value(alloc, row, place)
+                folded_value(alloc, row, place, ops)
             }
         }
     }
@@ -97,36 +100,39 @@ fn counted_block(row: &Row<'_>, rank: u8) -> Block
 }
 
 // A block of what all give, combined.
-fn block_value(alloc: Global, row: &Row<'_>, block: Block) -> Result<Value, OutOfMemory>
+fn block_value(alloc: Global, row: &Row<'_>, block: Block, ops: &Ops) -> Result<Value, OutOfMemory>
     requires fine { IsFine row.now }
+    requires suits { AllSuit (⟦<Ops as Listing>⟧.operations ops.now) row.now }
     requires reduces { reduces row.now ≡ true }
     requires within { (block.first + block.count) * item_len (type_of (first_of row.now)) ≤ length (numbers_of (first_of row.now)) }
-    ensures { IfOk result (λ value. value ≡ as_items row.now (part (type_of (first_of row.now)) block (all_folded row.now))) }
+    ensures { IfOk result (λ value. value ≡ as_items row.now (part (type_of (first_of row.now)) block (all_folded (⟦<Ops as Listing>⟧.operations ops.now) row.now))) }
 {
-    let all = fold_upto(alloc, row, row.len())?;
+    let all = fold_upto(alloc, row, row.len(), ops)?;
     let mut items = Items::empty(all.ty());
     items.extend(alloc, &all, block.first, block.count)?;
     Ok(Value::Items(items))
 }
 
 // What the first so many give, combined.
-fn folded_value(alloc: Global, row: &Row<'_>, ranks: usize) -> Result<Value, OutOfMemory>
+fn folded_value(alloc: Global, row: &Row<'_>, ranks: usize, ops: &Ops) -> Result<Value, OutOfMemory>
     requires fine { IsFine row.now }
+    requires suits { AllSuit (⟦<Ops as Listing>⟧.operations ops.now) row.now }
     requires reduces { reduces row.now ≡ true }
     requires some { 0 < ranks }
     requires few { ranks ≤ length row.now }
-    ensures { IfOk result (λ value. value ≡ as_items row.now (folded row.now ranks)) }
+    ensures { IfOk result (λ value. value ≡ as_items row.now (folded (⟦<Ops as Listing>⟧.operations ops.now) row.now ranks)) }
 {
-    Ok(Value::Items(fold_upto(alloc, row, ranks)?))
+    Ok(Value::Items(fold_upto(alloc, row, ranks, ops)?))
 }
 
 // What the first so many give, combined in rank order.
-fn fold_upto(alloc: Global, row: &Row<'_>, ranks: usize) -> Result<Items, OutOfMemory>
+fn fold_upto(alloc: Global, row: &Row<'_>, ranks: usize, ops: &Ops) -> Result<Items, OutOfMemory>
     requires fine { IsFine row.now }
+    requires suits { AllSuit (⟦<Ops as Listing>⟧.operations ops.now) row.now }
     requires reduces { reduces row.now ≡ true }
     requires some { 0 < ranks }
     requires few { ranks ≤ length row.now }
-    ensures value { IfOk result (λ items. items ≡ record { ty = type_of (first_of row.now); nums = folded row.now ranks }) }
+    ensures value { IfOk result (λ items. items ≡ record { ty = type_of (first_of row.now); nums = folded (⟦<Ops as Listing>⟧.operations ops.now) row.now ranks }) }
     ensures len { IfOk result (λ items. length items.nums ≡ length (numbers_of (first_of row.now))) }
 {
     let first = row.post(0);
@@ -134,7 +140,7 @@ fn fold_upto(alloc: Global, row: &Row<'_>, ranks: usize) -> Result<Items, OutOfM
     let mut folded = given(row, 0).copy()?;
     let ty = folded.ty();
     for rank in 1..ranks {
-        apply(op, ty, &mut folded, given(row, rank))?;
+        apply(op, ty, &mut folded, given(row, rank), ops)?;
     }
     Ok(folded)
 }

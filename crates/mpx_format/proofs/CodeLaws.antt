@@ -1,6 +1,7 @@
 -- The laws of codes, and of values that may be missing.
-use Rattle.std.proofs.Common.{◌≡◌, ℕ, zero, suc, Bool, true, false, ◌&&◌, ltb, Option, Some, None, refl, sym, ap, ◌∙◌, arith}
-use Rattle.std.proofs.lemmas.Bool.{ltb-true, lt-ltb, and_parts}
+use Rattle.std.proofs.Common.{◌≡◌, ℕ, zero, suc, ◌<◌, ◌≤◌, Bool, true, false, ◌&&◌, ◌||◌, ltb, Option, Some, None, refl, sym, ap, ◌∙◌, arith}
+use Rattle.std.proofs.Math.Bool.{and-false}
+use Rattle.std.proofs.lemmas.Bool.{ltb-true, lt-ltb, le-ltb, and_parts}
 use Rattle.mpx_num.specs.declared.types.Ty.{Ty}
 use Rattle.mpx_num.specs.declared.operations.Op.{Op}
 use Rattle.mpx_kind.specs.declared.kinds.Kind.{Kind}
@@ -14,7 +15,7 @@ use Rattle.mpx_kind.specs.Codes.{code_of_kind, kind_at}
 use Rattle.mpx_kind.proofs.Codes.{kind_forth}
 use Rattle.mpx_num.specs.Codes.{code_of_operation, operation_at, code_of_type, type_at}
 use Rattle.mpx_num.proofs.Codes.{operation_forth, type_forth}
-use Rattle.mpx_format.specs.Codes.{code_of_version, version_at, version_byte, kinds_in, kind, code_of_mode, mode_at, mode, operation, item_type, code_of_flag, flag_at, flag, of_none, missing, there, when}
+use Rattle.mpx_format.specs.Codes.{code_of_version, version_at, version_byte, kinds_in, kind, code_of_mode, mode_at, mode, is_operation_code, operation, item_type, code_of_flag, flag_at, flag, of_none, missing, there, when}
 use Rattle.mpx_format.proofs.FormatLaws.{Exactly, byte_laws, nothing_laws, only_laws, through_laws, some_is}
 
 -- VERSIONS
@@ -84,7 +85,17 @@ mode_laws k = only_laws out_of_limits _ (through_laws mode_at (λ x. Some (code_
 
 -- OPERATIONS AND TYPES
 
-operation_back : (n : ℕ) → (ltb 0 n && ltb n 13) ≡ true → code_of_operation (operation_at n) ≡ n
+either : (a b : Bool) → (a || b) ≡ true → a ≡ false → b ≡ true
+either true b t f = absurd cc
+either false b t f = t
+
+-- past the predefined ones
+own_code : (n : ℕ) → 16 ≤ n → is_operation_code Two n ≡ true → n < 32
+own_code n l t =
+    let past : (ltb 0 n && ltb n 13) ≡ false = ap (λ b. ltb 0 n && b) (le-ltb n 13 (omega (arith, l))) ∙ and-false (ltb 0 n) in
+    ltb-true n 32 (and_parts (ltb 15 n) (ltb n 32) (either (ltb 0 n && ltb n 13) (ltb 15 n && ltb n 32) t past)).1
+
+operation_back : (n : ℕ) → is_operation_code Two n ≡ true → code_of_operation (operation_at n) ≡ n
 operation_back zero t = absurd cc
 operation_back (suc zero) t = refl
 operation_back (suc (suc zero)) t = refl
@@ -97,11 +108,34 @@ operation_back (suc (suc (suc (suc (suc (suc (suc (suc zero)))))))) t = refl
 operation_back (suc (suc (suc (suc (suc (suc (suc (suc (suc zero))))))))) t = refl
 operation_back (suc (suc (suc (suc (suc (suc (suc (suc (suc (suc zero)))))))))) t = refl
 operation_back (suc (suc (suc (suc (suc (suc (suc (suc (suc (suc (suc zero))))))))))) t = refl
-operation_back (suc (suc (suc (suc (suc (suc (suc (suc (suc (suc (suc (suc n)))))))))))) t = omega (arith, ltb-true (suc (suc (suc (suc (suc (suc (suc (suc (suc (suc (suc (suc n)))))))))))) 13 (and_parts (ltb 0 (suc (suc (suc (suc (suc (suc (suc (suc (suc (suc (suc (suc n))))))))))))) (ltb (suc (suc (suc (suc (suc (suc (suc (suc (suc (suc (suc (suc n)))))))))))) 13) t).1)
+operation_back (suc (suc (suc (suc (suc (suc (suc (suc (suc (suc (suc (suc zero)))))))))))) t = refl
+operation_back (suc (suc (suc (suc (suc (suc (suc (suc (suc (suc (suc (suc (suc zero))))))))))))) t = absurd cc
+operation_back (suc (suc (suc (suc (suc (suc (suc (suc (suc (suc (suc (suc (suc (suc zero)))))))))))))) t = absurd cc
+operation_back (suc (suc (suc (suc (suc (suc (suc (suc (suc (suc (suc (suc (suc (suc (suc zero))))))))))))))) t = absurd cc
+operation_back (suc (suc (suc (suc (suc (suc (suc (suc (suc (suc (suc (suc (suc (suc (suc (suc zero)))))))))))))))) t = refl
+operation_back (suc (suc (suc (suc (suc (suc (suc (suc (suc (suc (suc (suc (suc (suc (suc (suc (suc zero))))))))))))))))) t = refl
+operation_back (suc (suc (suc (suc (suc (suc (suc (suc (suc (suc (suc (suc (suc (suc (suc (suc (suc (suc zero)))))))))))))))))) t = refl
+operation_back (suc (suc (suc (suc (suc (suc (suc (suc (suc (suc (suc (suc (suc (suc (suc (suc (suc (suc (suc zero))))))))))))))))))) t = refl
+operation_back (suc (suc (suc (suc (suc (suc (suc (suc (suc (suc (suc (suc (suc (suc (suc (suc (suc (suc (suc (suc zero)))))))))))))))))))) t = refl
+operation_back (suc (suc (suc (suc (suc (suc (suc (suc (suc (suc (suc (suc (suc (suc (suc (suc (suc (suc (suc (suc (suc zero))))))))))))))))))))) t = refl
+operation_back (suc (suc (suc (suc (suc (suc (suc (suc (suc (suc (suc (suc (suc (suc (suc (suc (suc (suc (suc (suc (suc (suc zero)))))))))))))))))))))) t = refl
+operation_back (suc (suc (suc (suc (suc (suc (suc (suc (suc (suc (suc (suc (suc (suc (suc (suc (suc (suc (suc (suc (suc (suc (suc zero))))))))))))))))))))))) t = refl
+operation_back (suc (suc (suc (suc (suc (suc (suc (suc (suc (suc (suc (suc (suc (suc (suc (suc (suc (suc (suc (suc (suc (suc (suc (suc zero)))))))))))))))))))))))) t = refl
+operation_back (suc (suc (suc (suc (suc (suc (suc (suc (suc (suc (suc (suc (suc (suc (suc (suc (suc (suc (suc (suc (suc (suc (suc (suc (suc zero))))))))))))))))))))))))) t = refl
+operation_back (suc (suc (suc (suc (suc (suc (suc (suc (suc (suc (suc (suc (suc (suc (suc (suc (suc (suc (suc (suc (suc (suc (suc (suc (suc (suc zero)))))))))))))))))))))))))) t = refl
+operation_back (suc (suc (suc (suc (suc (suc (suc (suc (suc (suc (suc (suc (suc (suc (suc (suc (suc (suc (suc (suc (suc (suc (suc (suc (suc (suc (suc zero))))))))))))))))))))))))))) t = refl
+operation_back (suc (suc (suc (suc (suc (suc (suc (suc (suc (suc (suc (suc (suc (suc (suc (suc (suc (suc (suc (suc (suc (suc (suc (suc (suc (suc (suc (suc zero)))))))))))))))))))))))))))) t = refl
+operation_back (suc (suc (suc (suc (suc (suc (suc (suc (suc (suc (suc (suc (suc (suc (suc (suc (suc (suc (suc (suc (suc (suc (suc (suc (suc (suc (suc (suc (suc zero))))))))))))))))))))))))))))) t = refl
+operation_back (suc (suc (suc (suc (suc (suc (suc (suc (suc (suc (suc (suc (suc (suc (suc (suc (suc (suc (suc (suc (suc (suc (suc (suc (suc (suc (suc (suc (suc (suc zero)))))))))))))))))))))))))))))) t = refl
+operation_back (suc (suc (suc (suc (suc (suc (suc (suc (suc (suc (suc (suc (suc (suc (suc (suc (suc (suc (suc (suc (suc (suc (suc (suc (suc (suc (suc (suc (suc (suc (suc n))))))))))))))))))))))))))))))) t = omega (arith, own_code (suc (suc (suc (suc (suc (suc (suc (suc (suc (suc (suc (suc (suc (suc (suc (suc (suc (suc (suc (suc (suc (suc (suc (suc (suc (suc (suc (suc (suc (suc (suc n))))))))))))))))))))))))))))))) (omega arith) t)
 
-pub operation_laws : Exactly operation
+in_some_operation : (version : Version) (n : ℕ) → is_operation_code version n ≡ true → is_operation_code Two n ≡ true
+in_some_operation One n t = ap (λ b. b || (ltb 15 n && ltb n 32)) t
+in_some_operation Two n t = t
+
+pub operation_laws : (version : Version) → Exactly (operation version)
 unfolding operation
-operation_laws = through_laws operation_at (λ x. Some (code_of_operation x)) (only_laws out_of_limits _ byte_laws) (λ n fits. ap Some (operation_back n (and_parts (byte.fits n) (ltb 0 n && ltb n 13) fits).1)) (λ x n e. ap operation_at (sym (some_is (code_of_operation x) n e)) ∙ operation_forth x)
+operation_laws version = through_laws operation_at (λ x. Some (code_of_operation x)) (only_laws out_of_limits _ byte_laws) (λ n fits. ap Some (operation_back n (in_some_operation version n (and_parts (byte.fits n) (is_operation_code version n) fits).1))) (λ x n e. ap operation_at (sym (some_is (code_of_operation x) n e)) ∙ operation_forth x)
 
 type_back : (n : ℕ) → (ltb 0 n && ltb n 10) ≡ true → code_of_type (type_at n) ≡ n
 type_back zero t = absurd cc

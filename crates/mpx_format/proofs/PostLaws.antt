@@ -236,8 +236,8 @@ post_forth g = λ i. record { kind = g.kind; mode = g.mode; root = g.root; op = 
 pub post_laws : (version : Version) → Exactly (post version)
 unfolding post
 post_laws version = through_laws given_from (λ (g : Given). Some (fields_from g))
-    (both_laws (kind_laws version) (λ k a. both_laws (mode_laws k) (λ m b. both_laws (when_laws (fields_of k).root process_laws) (λ r c. both_laws (when_laws (fields_of k).op operation_laws)
+    (both_laws (kind_laws version) (λ k a. both_laws (mode_laws k) (λ m b. both_laws (when_laws (fields_of k).root process_laws) (λ r c. both_laws (when_laws (fields_of k).op (operation_laws version))
     (λ o d. both_laws (when_laws (fields_of k).items (type_for_laws o)) (λ t e. both_laws (counts_if_laws (is_had (fields_of k).scounts)) (λ s f. both_laws (counts_if_laws (is_had (fields_of k).rcounts))
     (λ c g. both_laws (items_for_laws t) (λ i h. making_for_laws (fields_of k).makes)))))))))
-    (λ x fits. ap Some (post_back x (eighth ((kind version).fits x.0) ((mode x.0).fits x.1.0) ((when (fields_of x.0).root process).fits x.1.1.0) ((when (fields_of x.0).op operation).fits x.1.1.1.0) ((when (fields_of x.0).items (type_for x.1.1.1.0)).fits x.1.1.1.1.0) ((counts_if (is_had (fields_of x.0).scounts)).fits x.1.1.1.1.1.0) ((counts_if (is_had (fields_of x.0).rcounts)).fits x.1.1.1.1.1.1.0) ((items_for x.1.1.1.1.0).fits x.1.1.1.1.1.1.1.0) ((making_for (fields_of x.0).makes).fits x.1.1.1.1.1.1.1.1) fits)))
+    (λ x fits. ap Some (post_back x (eighth ((kind version).fits x.0) ((mode x.0).fits x.1.0) ((when (fields_of x.0).root process).fits x.1.1.0) ((when (fields_of x.0).op (operation version)).fits x.1.1.1.0) ((when (fields_of x.0).items (type_for x.1.1.1.0)).fits x.1.1.1.1.0) ((counts_if (is_had (fields_of x.0).scounts)).fits x.1.1.1.1.1.0) ((counts_if (is_had (fields_of x.0).rcounts)).fits x.1.1.1.1.1.1.0) ((items_for x.1.1.1.1.0).fits x.1.1.1.1.1.1.1.0) ((making_for (fields_of x.0).makes).fits x.1.1.1.1.1.1.1.1) fits)))
     (λ g x e. ap given_from (sym (some_is (fields_from g) x e)) ∙ post_forth g)

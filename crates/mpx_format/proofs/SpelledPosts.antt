@@ -13,7 +13,8 @@ use Rattle.mpx_num.specs.Operations.{fits}
 use Rattle.mpx_num.specs.declared.types.Ty.{Ty}
 use Rattle.mpx_num.specs.declared.types.Ty.TheVariants.{I8, I16, I32, I64, U8, U16, U32, U64, TwoInt}
 use Rattle.mpx_num.specs.declared.operations.Op.{Op}
-use Rattle.mpx_num.specs.declared.operations.Op.TheVariants.{Max, Min, Sum, Prod, Land, Lor, Lxor, Band, Bor, Bxor, Maxloc, Minloc}
+use Rattle.mpx_num.specs.declared.operations.Op.TheVariants.{Max, Min, Sum, Prod, Land, Lor, Lxor, Band, Bor, Bxor, Maxloc, Minloc, Own}
+use Rattle.mpx_num.specs.declared.own.Place.TheVariants.{P0, P1, P2, P3, P4, P5, P6, P7, P8, P9, P10, P11, P12, P13, P14, P15}
 use Rattle.mpx_kind.specs.declared.kinds.Kind.{Kind}
 use Rattle.mpx_kind.specs.declared.kinds.Kind.TheVariants.{Barrier, Bcast, Gather, Gatherv, Scatter, Scatterv, Allgather, Allgatherv, Alltoall, Alltoallv, Reduce, Allreduce, ReduceScatterBlock, ReduceScatter, Scan, Exscan, Dup, Split as SplitKind, Create, CreateGroup, DistGraph, DistGraphAdjacent, NeighborAllgather, NeighborAllgatherv, NeighborAlltoall, NeighborAlltoallv, Free}
 use Rattle.mpx_kind.specs.declared.kinds.Mode.{Mode}
@@ -71,7 +72,7 @@ unfolding mode
 mode_fits k Blocking h = and_from _ _ refl h
 mode_fits k Nonblocking h = and_from _ _ refl h
 
-operation_fits : (o : Op) → operation.fits o ≡ true
+operation_fits : (o : Op) → (operation Two).fits o ≡ true
 unfolding operation
 operation_fits Max = refl
 operation_fits Min = refl
@@ -85,6 +86,22 @@ operation_fits Bor = refl
 operation_fits Bxor = refl
 operation_fits Maxloc = refl
 operation_fits Minloc = refl
+operation_fits (Own P0) = refl
+operation_fits (Own P1) = refl
+operation_fits (Own P2) = refl
+operation_fits (Own P3) = refl
+operation_fits (Own P4) = refl
+operation_fits (Own P5) = refl
+operation_fits (Own P6) = refl
+operation_fits (Own P7) = refl
+operation_fits (Own P8) = refl
+operation_fits (Own P9) = refl
+operation_fits (Own P10) = refl
+operation_fits (Own P11) = refl
+operation_fits (Own P12) = refl
+operation_fits (Own P13) = refl
+operation_fits (Own P14) = refl
+operation_fits (Own P15) = refl
 
 type_fits : (t : Ty) → item_type.fits t ≡ true
 unfolding item_type
@@ -104,7 +121,7 @@ root_fits true (Some r) e below = process_fits r (ltb-true r 64 below)
 root_fits false None e below = refl
 root_fits false (Some r) e below = absurd cc
 
-had_operation_fits : (had : Bool) (o : Option Op) → is_some o ≡ had → (when had operation).fits o ≡ true
+had_operation_fits : (had : Bool) (o : Option Op) → is_some o ≡ had → (when had (operation Two)).fits o ≡ true
 had_operation_fits true None e = absurd cc
 had_operation_fits true (Some op) e = operation_fits op
 had_operation_fits false None e = refl

@@ -1,5 +1,5 @@
 -- The codes of versions, kinds, modes, operations and types, and what may follow a byte that says which form a value has.
-use Rattle.std.specs.Prelude.{ℕ, zero, suc, Bool, true, false, ◌&&◌, nat_lt, Option, Some, None}
+use Rattle.std.specs.Prelude.{ℕ, zero, suc, Bool, true, false, ◌&&◌, ◌||◌, nat_lt, Option, Some, None}
 use Rattle.mpx_num.specs.declared.types.Ty.{Ty}
 use Rattle.mpx_num.specs.declared.operations.Op.{Op}
 use Rattle.mpx_kind.specs.declared.kinds.Kind.{Kind}
@@ -52,8 +52,14 @@ mode k = only out_of_limits (λ m. may_be m (family_of k)) (through mode_at (λ 
 
 -- OPERATIONS AND TYPES
 
-unfoldable pub operation : Format Op
-operation = through operation_at (λ o. Some (code_of_operation o)) (only out_of_limits (λ n. nat_lt 0 n && nat_lt n 13) byte)
+-- the codes by which a version spells operations: 1 to 12 for the predefined ones, and from version 2 on 16 to 31 for those of
+-- a job's own
+abbrev pub is_operation_code : Version → ℕ → Bool
+is_operation_code One n = nat_lt 0 n && nat_lt n 13
+is_operation_code Two n = (nat_lt 0 n && nat_lt n 13) || (nat_lt 15 n && nat_lt n 32)
+
+unfoldable pub operation : Version → Format Op
+operation version = through operation_at (λ o. Some (code_of_operation o)) (only out_of_limits (is_operation_code version) byte)
 
 unfoldable pub item_type : Format Ty
 item_type = through type_at (λ t. Some (code_of_type t)) (only out_of_limits (λ n. nat_lt 0 n && nat_lt n 10) byte)

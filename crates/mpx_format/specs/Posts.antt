@@ -27,7 +27,7 @@ use Rattle.mpx_format.specs.Births.{weight, neighbour}
 
 -- TYPES AND COUNTS
 
--- the type, which the operation fits where there is one
+-- the type, beside which the operation may stand where there is one
 abbrev pub type_for : Option Op → Format Ty
 type_for None = item_type
 type_for (Some op) = only out_of_limits (fits op) item_type
@@ -220,6 +220,6 @@ fields_from g = (g.kind, (g.mode, (g.root, (g.op, (option_map (λ (i : ItemList)
 -- the fields that posts of the kind have, in their order
 unfoldable pub post : Version → Format Given
 post version = through given_from (λ g. Some (fields_from g))
-    (both (kind version) (λ k. both (mode k) (λ m. both (when (fields_of k).root process) (λ r. both (when (fields_of k).op operation) (λ o.
+    (both (kind version) (λ k. both (mode k) (λ m. both (when (fields_of k).root process) (λ r. both (when (fields_of k).op (operation version)) (λ o.
     both (when (fields_of k).items (type_for o)) (λ t. both (counts_if (is_had (fields_of k).scounts)) (λ s. both (counts_if (is_had (fields_of k).rcounts)) (λ c.
     both (items_for t) (λ i. making_for (fields_of k).makes)))))))))

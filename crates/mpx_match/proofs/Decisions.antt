@@ -7,6 +7,7 @@ use Rattle.std.specs.Bool.{Decides}
 use Rattle.std.specs.Cmp.{booleans_Decides}
 use Rattle.std.proofs.lemmas.Bool.{cases_Bool, false_from_ne_true, false≢true}
 use Rattle.std.proofs.lemmas.Bool.Decides.{Decides-eqb}
+use Rattle.mpx_num.specs.declared.own.Operation.{Operation}
 use Rattle.mpx_kind.specs.declared.kinds.Kind as K
 use Rattle.mpx_kind.specs.declared.kinds.Kind.TheVariants.{Barrier, Bcast, Gather, Gatherv, Scatter, Scatterv, Allgather, Allgatherv, Alltoall, Alltoallv, Reduce, Allreduce, ReduceScatterBlock, ReduceScatter, Scan, Exscan, Dup, Split, Create, CreateGroup, DistGraph, DistGraphAdjacent, NeighborAllgather, NeighborAllgatherv, NeighborAlltoall, NeighborAlltoallv, Free}
 use Rattle.mpx_post.specs.Posts.{Given, group_of}
@@ -118,14 +119,14 @@ amounts_decided topology NeighborAlltoall row rank given = along_edges_decided t
 amounts_decided topology NeighborAlltoallv row rank given = along_edges_decided topology H.Alltoallv row rank given
 amounts_decided topology Free row rank given = record { holds = λ e. tt; fails = λ kept e. cc e }
 
-pub decided : (topology : Option TopologyView) (question : Question) (row : RowView) (rank : ℕ) → RefutesWhere (IsKept topology) (is_faulty topology question row rank (post_at row rank)) (Agrees topology question row rank)
-decided topology Fit row rank = anyway (not_same _ (same_test _))
-decided topology Kind row rank = anyway (not_same _ (kinds_decided _ _))
-decided topology Mode row rank = anyway (not_same _ (modes_decided _ _))
-decided topology Root row rank = anyway (not_same _ (options_decided nat_eq Decides-eqb _ _))
-decided topology Op row rank = anyway (not_same _ (options_decided same_operation operations_decided _ _))
-decided topology ItemType row rank = anyway (not_same _ (types_decided _ _))
-decided topology Amount row rank = amounts_decided topology (first_of row).kind row rank (post_at row rank)
-decided topology Weights row rank = anyway (not_same _ (booleans_Decides _ _))
-decided topology Edges row rank = anyway (of_posts _ _ row (λ other. not_same _ (numbers_decided _ _)))
-decided topology Groups row rank = anyway (of_each _ _ (λ member. not_same _ (numbers_decided _ _)) (group_of (post_at row rank)))
+pub decided : (ops : List Operation) (topology : Option TopologyView) (question : Question) (row : RowView) (rank : ℕ) → RefutesWhere (IsKept topology) (is_faulty ops topology question row rank (post_at row rank)) (Agrees ops topology question row rank)
+decided ops topology Fit row rank = anyway (not_same _ (same_test _))
+decided ops topology Kind row rank = anyway (not_same _ (kinds_decided _ _))
+decided ops topology Mode row rank = anyway (not_same _ (modes_decided _ _))
+decided ops topology Root row rank = anyway (not_same _ (options_decided nat_eq Decides-eqb _ _))
+decided ops topology Op row rank = anyway (not_same _ (options_decided same_operation operations_decided _ _))
+decided ops topology ItemType row rank = anyway (not_same _ (types_decided _ _))
+decided ops topology Amount row rank = amounts_decided topology (first_of row).kind row rank (post_at row rank)
+decided ops topology Weights row rank = anyway (not_same _ (booleans_Decides _ _))
+decided ops topology Edges row rank = anyway (of_posts _ _ row (λ other. not_same _ (numbers_decided _ _)))
+decided ops topology Groups row rank = anyway (of_each _ _ (λ member. not_same _ (numbers_decided _ _)) (group_of (post_at row rank)))

@@ -32,14 +32,14 @@ fault what rank = Fault (record { what = what; rank = rank })
 
 record Examples : Type 0 where
   -- one member gives weights and one doesn't
-  some_weights : verdict None (own true [] [] ∷ own false [] [] ∷ []) ≡ fault Weights 1
+  some_weights : verdict [] None (own true [] [] ∷ own false [] [] ∷ []) ≡ fault Weights 1
   -- rank 0 names 1 as its destination, which doesn't name it as its source
-  one_end : verdict None (own false [] (near 1 0 ∷ []) ∷ own false [] [] ∷ []) ≡ fault Edges 0
-  both_ends : verdict None (own false [] (near 1 0 ∷ []) ∷ own false (near 0 0 ∷ []) [] ∷ []) ≡ Fine
+  one_end : verdict [] None (own false [] (near 1 0 ∷ []) ∷ own false [] [] ∷ []) ≡ fault Edges 0
+  both_ends : verdict [] None (own false [] (near 1 0 ∷ []) ∷ own false (near 0 0 ∷ []) [] ∷ []) ≡ Fine
   -- the same edges in another order at the other end
-  any_order : verdict None (own true [] (near 1 7 ∷ near 1 8 ∷ []) ∷ own true (near 0 8 ∷ near 0 7 ∷ []) [] ∷ []) ≡ Fine
+  any_order : verdict [] None (own true [] (near 1 7 ∷ near 1 8 ∷ []) ∷ own true (near 0 8 ∷ near 0 7 ∷ []) [] ∷ []) ≡ Fine
   -- as many edges, of another weight
-  other_weight : verdict None (own true [] (near 1 7 ∷ []) ∷ own true (near 0 8 ∷ []) [] ∷ []) ≡ fault Edges 0
+  other_weight : verdict [] None (own true [] (near 1 7 ∷ []) ∷ own true (near 0 8 ∷ []) [] ∷ []) ≡ fault Edges 0
 
 examples : Examples
 unfolding verdict

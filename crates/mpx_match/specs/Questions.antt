@@ -1,12 +1,13 @@
 -- Tests that decide in what the posts of a row differ.
-use Rattle.std.specs.Prelude.{ℕ, ◌+◌, ◌==◌, nat_eq, Bool, false, not, [], ◌∷◌, length, cond, Option, Some, None, is_some}
+use Rattle.std.specs.Prelude.{ℕ, ◌+◌, ◌==◌, nat_eq, Bool, false, not, ◌&&◌, List, [], ◌∷◌, length, cond, Option, Some, None, is_some}
 use Rattle.std.specs.List.{list_any}
 use Rattle.std.specs.Bool.{beq}
 use lib.Pointwise.{pointwise}
+use Rattle.mpx_num.specs.declared.own.Operation.{Operation}
 use Rattle.mpx_kind.specs.declared.kinds.Kind as K
 use Rattle.mpx_kind.specs.declared.kinds.Kind.TheVariants.{Barrier, Bcast, Gather, Gatherv, Scatter, Scatterv, Allgather, Allgatherv, Alltoall, Alltoallv, Reduce, Allreduce, ReduceScatterBlock, ReduceScatter, Scan, Exscan, Dup, Split, Create, CreateGroup, DistGraph, DistGraphAdjacent, NeighborAllgather, NeighborAllgatherv, NeighborAlltoall, NeighborAlltoallv, Free}
 use Rattle.mpx_birth.specs.Edges.{weights_of}
-use Rattle.mpx_post.specs.Posts.{Given, count_of, destinations_of, group_of, sources_of, weighted_of}
+use Rattle.mpx_post.specs.Posts.{Given, count_of, destinations_of, group_of, sources_of, suits, weighted_of}
 use Rattle.mpx_post.specs.Equality.{same_kind, same_mode, same_root, same_operations, same_types}
 use Rattle.mpx_post.specs.Rows.{RowView}
 use Rattle.mpx_kind.specs.declared.kinds.Neighbourhood.{Neighbourhood}
@@ -85,19 +86,23 @@ edges_differ row rank given = some_post (edges_differ_at rank given) row
 abbrev pub groups_differ : RowView → Given → Bool
 groups_differ row given = list_any (λ member. not (pointwise nat_eq (group_of (post_at row member)) (group_of given))) (group_of given)
 
+-- the post fits the communicator, and its operation is for its type by the job's own operations
+abbrev pub fits_there : List Operation → Option TopologyView → (size rank : ℕ) → Given → Bool
+fits_there ops topology size rank given = is_fit topology size rank given && suits ops given
+
 -- the answer for the post of the member with this rank
-abbrev pub is_faulty : Option TopologyView → Question → RowView → ℕ → Given → Bool
-is_faulty topology Fit row rank given = not (is_fit topology (length row) rank given)
-is_faulty topology Kind row rank given = not (same_kind given.kind (first_of row).kind)
-is_faulty topology Mode row rank given = not (same_mode given.mode (first_of row).mode)
-is_faulty topology Root row rank given = not (same_root given.root (first_of row).root)
-is_faulty topology Op row rank given = not (same_operations given.op (first_of row).op)
-is_faulty topology ItemType row rank given = not (same_types given.items (first_of row).items)
-is_faulty topology Amount row rank given = amounts_differ topology (first_of row).kind row rank given
-is_faulty topology Weights row rank given = not (beq (weighted_of given) (weighted_of (first_of row)))
-is_faulty topology Edges row rank given = edges_differ row rank given
-is_faulty topology Groups row rank given = groups_differ row given
+abbrev pub is_faulty : List Operation → Option TopologyView → Question → RowView → ℕ → Given → Bool
+is_faulty ops topology Fit row rank given = not (fits_there ops topology (length row) rank given)
+is_faulty ops topology Kind row rank given = not (same_kind given.kind (first_of row).kind)
+is_faulty ops topology Mode row rank given = not (same_mode given.mode (first_of row).mode)
+is_faulty ops topology Root row rank given = not (same_root given.root (first_of row).root)
+is_faulty ops topology Op row rank given = not (same_operations given.op (first_of row).op)
+is_faulty ops topology ItemType row rank given = not (same_types given.items (first_of row).items)
+is_faulty ops topology Amount row rank given = amounts_differ topology (first_of row).kind row rank given
+is_faulty ops topology Weights row rank given = not (beq (weighted_of given) (weighted_of (first_of row)))
+is_faulty ops topology Edges row rank given = edges_differ row rank given
+is_faulty ops topology Groups row rank given = groups_differ row given
 
 -- the least rank of whose post the answer is yes
-abbrev pub answer : Option TopologyView → Question → RowView → Option ℕ
-answer topology question row = least_rank (is_faulty topology question row) row
+abbrev pub answer : List Operation → Option TopologyView → Question → RowView → Option ℕ
+answer ops topology question row = least_rank (is_faulty ops topology question row) row

@@ -1,5 +1,6 @@
 -- The verdict of a row: its first fault, with the least rank that differs.
 use Rattle.std.specs.Prelude.{◌≡◌, ℕ, ◌<◌, ◌⊎◌, List, [], ◌∷◌, length, map, Option, Some, None}
+use Rattle.mpx_num.specs.declared.own.Operation.{Operation}
 use Rattle.mpx_post.specs.Rows.{RowView}
 use Rattle.mpx_post.specs.Topologies.{TopologyView}
 use Rattle.mpx_match.specs.declared.faults.FaultKind.{FaultKind}
@@ -28,27 +29,27 @@ told_as Q.Weights = Weights
 told_as Q.Edges = Edges
 told_as Q.Groups = Groups
 
--- in a communicator with this topology
+-- in a communicator with this topology, by the job's own operations
 
 -- the posts of all members agree in this
-abbrev pub AllAgree : Option TopologyView → Question → RowView → Type 0
-AllAgree topology question row = (rank : ℕ) → rank < length row → Agrees topology question row rank
+abbrev pub AllAgree : List Operation → Option TopologyView → Question → RowView → Type 0
+AllAgree ops topology question row = (rank : ℕ) → rank < length row → Agrees ops topology question row rank
 
 -- this is the least rank that differs in this
-pub record IsLeast (topology : Option TopologyView) (question : Question) (row : RowView) (rank : ℕ) : Type 0 where
+pub record IsLeast (ops : List Operation) (topology : Option TopologyView) (question : Question) (row : RowView) (rank : ℕ) : Type 0 where
   pub within : rank < length row
-  pub differs : Differs topology question row rank
-  pub least : (lower : ℕ) → lower < rank → Agrees topology question row lower
+  pub differs : Differs ops topology question row rank
+  pub least : (lower : ℕ) → lower < rank → Agrees ops topology question row lower
 
 -- the verdict is the fault of the least rank that differs in this
-abbrev pub Tells : Option TopologyView → Question → RowView → Verdict → Type 0
-Tells topology question row Fine = ⊥
-Tells topology question row (Fault fault) = (fault.what ≡ told_as question) × IsLeast topology question row fault.rank
+abbrev pub Tells : List Operation → Option TopologyView → Question → RowView → Verdict → Type 0
+Tells ops topology question row Fine = ⊥
+Tells ops topology question row (Fault fault) = (fault.what ≡ told_as question) × IsLeast ops topology question row fault.rank
 
 -- the verdict is the first fault of a row to which these questions are put in this order, and fine where there is none
-abbrev pub IsFirstFault : Option TopologyView → List Question → RowView → Verdict → Type 0
-IsFirstFault topology [] row verdict = verdict ≡ Fine
-IsFirstFault topology (question ∷ more) row verdict = Tells topology question row verdict ⊎ (AllAgree topology question row × IsFirstFault topology more row verdict)
+abbrev pub IsFirstFault : List Operation → Option TopologyView → List Question → RowView → Verdict → Type 0
+IsFirstFault ops topology [] row verdict = verdict ≡ Fine
+IsFirstFault ops topology (question ∷ more) row verdict = Tells ops topology question row verdict ⊎ (AllAgree ops topology question row × IsFirstFault ops topology more row verdict)
 
 -- THE SAME, COMPUTED
 
@@ -62,9 +63,9 @@ abbrev pub first_fault : List (FaultKind × Option ℕ) → Verdict
 first_fault [] = Fine
 first_fault (asked ∷ more) = or_else asked.0 asked.1 (first_fault more)
 
-abbrev pub answers : Option TopologyView → List Question → RowView → List (FaultKind × Option ℕ)
-answers topology asked row = map (λ question. (told_as question, answer topology question row)) asked
+abbrev pub answers : List Operation → Option TopologyView → List Question → RowView → List (FaultKind × Option ℕ)
+answers ops topology asked row = map (λ question. (told_as question, answer ops topology question row)) asked
 
--- the verdict of a row, in a communicator with this topology
-unfoldable pub verdict : Option TopologyView → RowView → Verdict
-verdict topology row = first_fault (answers topology questions row)
+-- the verdict of a row, in a communicator with this topology, by the job's own operations
+unfoldable pub verdict : List Operation → Option TopologyView → RowView → Verdict
+verdict ops topology row = first_fault (answers ops topology questions row)

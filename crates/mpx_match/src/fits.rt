@@ -2,12 +2,12 @@
 ghost use Rattle.std.specs.Prelude.{◌≡◌, ◌≤◌, ◌*◌, ◌==◌, ◌&&◌, nat_lt, length};
 ghost use Rattle.std.specs.List.{list_all};
 ghost use Rattle.mpx_num.specs.Types.{item_len};
-ghost use Rattle.mpx_post.specs.Posts.{fits_root, fits_type, numbers_of, type_of};
+ghost use Rattle.mpx_post.specs.Posts.{fits_root, fits_type, numbers_of, suits, type_of};
 ghost use Rattle.mpx_post.specs.Agreement.{blocks_of, fill, fits_counts, fits_edges, fits_group, is_fit, is_root, seat_of};
 ghost use Rattle.mpx_post.specs.Seats.{lacks_topology};
 ghost use Rattle.mpx_post.specs.Topologies.{most_neighbours};
 
-use mpx_num::{Ty, op_fits};
+use mpx_num::{Listing, Ops, Ty, may_stand, op_fits};
 use mpx_post::{Birth, Edge, Kind, Neighbour, Post, Seat, Sent};
 
 /// Whether a post fits a communicator that came to be so and has so many members, as the post of this rank.
@@ -82,7 +82,17 @@ fn fits_type(post: &Post) -> bool
 {
     match post.op() {
         None => true,
-        Some(op) => op_fits(op, type_of(post)),
+        Some(op) => may_stand(op, type_of(post)),
+    }
+}
+
+/// Whether the post's operation is for its type.
+pub(crate) fn suits(post: &Post, ops: &Ops) -> bool
+    ensures { result ≡ suits (⟦<Ops as Listing>⟧.operations ops.now) post.now }
+{
+    match post.op() {
+        None => true,
+        Some(op) => op_fits(op, type_of(post), ops),
     }
 }
 

@@ -1,6 +1,6 @@
 // The first fault of a row, or that it is fine.
 ghost use Rattle.std.specs.Prelude.{◌≡◌, ◌<◌, true, None, length};
-ghost use Rattle.mpx_post.specs.Agreement.{IsFineWith, post_at};
+ghost use Rattle.mpx_post.specs.Agreement.{AllSuit, IsFineWith, post_at};
 ghost use Rattle.mpx_post.specs.Equality.{same_types as have_same_types};
 ghost use Rattle.mpx_match.specs.Questions.{answer, edges_differ, is_faulty as faulty, least_rank};
 ghost use Rattle.mpx_match.specs.Verdicts.{IsFirstFault, questions, told_as as told, verdict};
@@ -8,14 +8,15 @@ ghost use Rattle.mpx_match.specs.Verdicts.{IsFirstFault, questions, told_as as t
 use crate::amounts::amounts_differ;
 use crate::edges::{edges_differ, names_no_neighbours};
 use crate::faults::{Fault, FaultKind, Verdict};
-use crate::fits::fits;
+use crate::fits::{fits, suits};
 use crate::groups::groups_differ;
-use mpx_post::{Birth, Post, Row};
+use mpx_num::{Listing, Ops};
+use mpx_post::{Birth, Post, Row, have_same_op};
 
 // What is asked of each post of a row.
 #[derive(Clone, Copy)]
 enum Question {
-    /// Whether it doesn't fit its communicator.
+    /// Whether it doesn't fit its communicator, or its operation isn't for its type.
     Fit,
     /// Whether it is of another kind than rank 0's.
     Kind,
@@ -38,21 +39,22 @@ enum Question {
 }
 
 /// Whether the posts of a row fit a communicator that came to be so, and together, or their first fault. It takes no memory.
-pub fn verdict(birth: &Birth, row: &Row<'_>) -> Verdict
-    ensures first { IsFirstFault birth.now.topology questions row.now result }
+pub fn verdict(birth: &Birth, row: &Row<'_>, ops: &Ops) -> Verdict
+    ensures first { IsFirstFault (⟦<Ops as Listing>⟧.operations ops.now) birth.now.topology questions row.now result }
     ensures fine { result ≡ Verdict.Fine → IsFineWith birth.now.topology row.now }
-    ensures computed { result ≡ verdict birth.now.topology row.now }
+    ensures suits { result ≡ Verdict.Fine → AllSuit (⟦<Ops as Listing>⟧.operations ops.now) row.now }
+    ensures computed { result ≡ verdict (⟦<Ops as Listing>⟧.operations ops.now) birth.now.topology row.now }
 {
     prove!(match birth.topology() {
         None => true,
         Some(topology) => topology.size() <= 64,
     });
-    first_fault(birth, row)
+    first_fault(birth, row, ops)
 }
 
 // The first fault, by the questions in their order.
-fn first_fault(birth: &Birth, row: &Row<'_>) -> Verdict
-    ensures { result ≡ verdict birth.now.topology row.now }
+fn first_fault(birth: &Birth, row: &Row<'_>, ops: &Ops) -> Verdict
+    ensures { result ≡ verdict (⟦<Ops as Listing>⟧.operations ops.now) birth.now.topology row.now }
 {
     let questions = [
         Question::Fit,
@@ -67,7 +69,7 @@ fn first_fault(birth: &Birth, row: &Row<'_>) -> Verdict
         Question::Groups,
     ];
     for question in questions {
-        if let Some(rank) = least_rank(birth, row, question) {
+        if let Some(rank) = least_rank(birth, row, question, ops) {
             return Verdict::Fault(Fault {
                 what: told_as(question),
                 rank,
@@ -96,14 +98,14 @@ fn told_as(question: Question) -> FaultKind
 }
 
 // The least rank of whose post the answer is yes.
-fn least_rank(birth: &Birth, row: &Row<'_>, question: Question) -> Option<u8>
-    ensures { result ≡ answer birth.now.topology question row.now }
+fn least_rank(birth: &Birth, row: &Row<'_>, question: Question, ops: &Ops) -> Option<u8>
+    ensures { result ≡ answer (⟦<Ops as Listing>⟧.operations ops.now) birth.now.topology question row.now }
 {
     if is_settled(row, question) {
         return None;
     }
     for rank in 0..row.len() {
-        if is_faulty(birth, row, question, rank) {
+        if is_faulty(birth, row, question, rank, ops) {
             return Some(rank as u8);
         }
     }
@@ -121,18 +123,18 @@ fn is_settled(row: &Row<'_>, question: Question) -> bool
 }
 
 // The answer for the post of this rank.
-fn is_faulty(birth: &Birth, row: &Row<'_>, question: Question, rank: usize) -> bool
+fn is_faulty(birth: &Birth, row: &Row<'_>, question: Question, rank: usize, ops: &Ops) -> bool
     requires { rank < length row.now }
-    ensures { result ≡ faulty birth.now.topology question row.now rank (post_at row.now rank) }
+    ensures { result ≡ faulty (⟦<Ops as Listing>⟧.operations ops.now) birth.now.topology question row.now rank (post_at row.now rank) }
 {
     let post = row.post(rank);
     let first = row.post(0);
     match question {
-        Question::Fit => !fits(birth, row.len(), rank as u8, post),
+        Question::Fit => !(fits(birth, row.len(), rank as u8, post) && suits(post, ops)),
         Question::Kind => post.kind() != first.kind(),
         Question::Mode => post.mode() != first.mode(),
         Question::Root => post.root() != first.root(),
-        Question::Op => post.op() != first.op(),
+        Question::Op => !have_same_op(post.op(), first.op()),
         Question::ItemType => !same_types(post, first),
         Question::Amount => amounts_differ(birth, row, first.kind(), rank),
         Question::Weights => post.weighted() != first.weighted(),

@@ -8,6 +8,7 @@ use Rattle.mpx_board.specs.Looks.{look, parts_of}
 use Rattle.mpx_board.specs.Raised.{Raises}
 use Rattle.mpx_format.specs.Encoding.{length_told}
 use Rattle.mpx_parts.specs.Facts.{OnlyFactsOf}
+use Rattle.mpx_delta.specs.Lacking.{AreSpelled}
 use Rattle.mpx_delta.specs.Digests.{IsDigest, Numbers, common_on, without}
 use Rattle.mpx_node.specs.Nodes.{NodeView, acknowledge}
 
@@ -35,3 +36,17 @@ pub record LacksOn (limit : ℕ) (node : NodeView) (said : Raised) (parts : List
   pub facts : All (λ part. OnlyFactsOf (look part) after.board) parts
   pub fit : All (λ part. length_told (parts_of part) ≤ limit) parts
   pub join : join_all (map look parts) ≡ lacking_on after
+
+-- the frames of such parts
+pub record LackFrames (limit : ℕ) (node : NodeView) (said : Raised) (frames : List (List ℕ)) : Type 0 where
+  pub parts : List Board
+  pub lacks : LacksOn limit node said parts
+  pub spelled : AreSpelled frames parts
+
+-- frames of parts with only facts of the node's board, which are together what others lack of it
+pub record AreLacked (limit : ℕ) (node : NodeView) (frames : List (List ℕ)) : Type 0 where
+  pub parts : List Board
+  pub facts : All (λ part. OnlyFactsOf (look part) node.board) parts
+  pub fit : All (λ part. length_told (parts_of part) ≤ limit) parts
+  pub join : join_all (map look parts) ≡ lacking_on node
+  pub spelled : AreSpelled frames parts

@@ -1,10 +1,11 @@
 -- One process, and its steps.
-use Rattle.std.specs.Prelude.{◌≡◌, ℕ, ◌+◌, ◌-◌, ◌==◌, ◌&&◌, ◌||◌, Bool, true, false, cond, nat_lt, nat_le, List, [], ◌∷◌, ◌++◌, length, map, slice_get, Option, Some, None, option_and_then, Result, Ok, Err, ℤ}
+use Rattle.std.specs.Prelude.{◌≡◌, ℕ, ◌+◌, ◌-◌, ◌&&◌, ◌||◌, Bool, true, false, cond, nat_lt, nat_le, List, [], ◌∷◌, ◌++◌, length, map, slice_get, Option, Some, None, is_some, option_and_then, Result, Ok, Err, ℤ}
 use Rattle.std.specs.List.{list_any}
 use Rattle.std.specs.Option.{option_map, option_map_or}
 use Rattle.join_core.specs.Flat.{known}
 use Rattle.mpx_group.specs.Group.{has}
 use Rattle.mpx_name.specs.Name.{Name, same_name}
+use Rattle.mpx_num.specs.declared.own.Operation.{Operation}
 use Rattle.mpx_post.specs.Posts.{Given, is_free}
 use Rattle.mpx_post.specs.declared.draft.Draft.{Draft}
 use Rattle.mpx_post.specs.declared.draft.PostError.{PostError}
@@ -104,18 +105,20 @@ posts_more given o = record o { posted = o.posted + 1; freed = o.freed || is_fre
 abbrev pub post_at : Name → Given → NodeView → NodeView
 post_at name given node = learn (only (Held name (posted_on node name) node.me (known given))) (does_on name (posts_more given) node)
 
--- what a draft comes to as the call with this number, where the process has posted no free
-abbrev pub checked_there : (call : ℕ) → Option BirthView → ℕ → Name → Draft → Result Given PostError
-checked_there call None me name draft = Err NotMember
-checked_there call (Some birth) me name draft = checked birth me (at name call false) draft
+-- with these operations of the job's own
+module _ (ops : List Operation) where
+  -- what a draft comes to as the call with this number, where the process has posted no free
+  abbrev pub checked_there : (call : ℕ) → Option BirthView → ℕ → Name → Draft → Result Given PostError
+  checked_there call None me name draft = Err NotMember
+  checked_there call (Some birth) me name draft = checked ops birth me (at name call false) draft
 
--- what it comes to: only where the context is opened, and behind an own free never, whether its birth is known or not
-abbrev pub checked_by : Option OpenedView → Option BirthView → ℕ → Name → Draft → Result Given PostError
-checked_by None birth me name draft = Err NotMember
-checked_by (Some o) birth me name draft = cond o.freed (Err Closed) (checked_there o.posted birth me name draft)
+  -- what it comes to: only where the context is opened, and behind an own free never, whether its birth is known or not
+  abbrev pub checked_by : Option OpenedView → Option BirthView → ℕ → Name → Draft → Result Given PostError
+  checked_by None birth me name draft = Err NotMember
+  checked_by (Some o) birth me name draft = cond o.freed (Err Closed) (checked_there o.posted birth me name draft)
 
-abbrev pub checked_on : NodeView → Name → Draft → Result Given PostError
-checked_on node name draft = checked_by (node.opened name) (told (node.board.contexts name).birth) node.me name draft
+  abbrev pub checked_on : NodeView → Name → Draft → Result Given PostError
+  checked_on node name draft = checked_by (node.opened name) (told (node.board.contexts name).birth) node.me name draft
 
 -- what a post comes to: the refusal of the draft, or its call number, or want of memory; it changes the node only where it is made
 abbrev pub Posts : Name → Result Given PostError → Result ℕ PostError → NodeView → NodeView → Type 0
@@ -123,21 +126,26 @@ Posts name (Err refusal) result old new = (result ≡ Err refusal) × (new ≡ o
 Posts name (Ok given) (Ok call) old new = (call ≡ posted_on old name) × (new ≡ post_at name given old)
 Posts name (Ok given) (Err e) old new = (e ≡ OutOfMemory) × (new ≡ old)
 
--- what a call gives the process, where the board has the birth and the posts of all members
-abbrev pub outcome_on : Look → Name → (me call : ℕ) → Option Outcome
-outcome_on board name me k = option_and_then (λ birth. option_and_then (λ row. value_for birth me row name k) (row_on board name k)) (told (board.contexts name).birth)
+module _ (ops : List Operation) where
+  -- what a call gives the process, where the board has the birth and the posts of all members
+  abbrev pub outcome_on : Look → Name → (me call : ℕ) → Option Outcome
+  outcome_on board name me k = option_and_then (λ birth. option_and_then (λ row. value_for ops birth me row name k) (row_on board name k)) (told (board.contexts name).birth)
 
--- the result of a call: what it gives the process, beside the own post
-abbrev pub result_of : Look → Name → (me call : ℕ) → Option Finished
-result_of board name me k = option_and_then (λ mine. option_map (λ outcome. record { mine = mine; outcome = outcome }) (outcome_on board name me k)) (told ((board.contexts name).posts k me))
+  -- the result of a call: what it gives the process, beside the own post
+  abbrev pub result_of : Look → Name → (me call : ℕ) → Option Finished
+  result_of board name me k = option_and_then (λ mine. option_map (λ outcome. record { mine = mine; outcome = outcome }) (outcome_on board name me k)) (told ((board.contexts name).posts k me))
 
-abbrev pub next_of : Option OpenedView → Look → Name → ℕ → Option Finished
-next_of None board name me = None
-next_of (Some o) board name me = cond (nat_lt (length o.results) o.posted) (result_of board name me (length o.results)) None
+  abbrev pub next_of : Option OpenedView → Look → Name → ℕ → Option Finished
+  next_of None board name me = None
+  next_of (Some o) board name me = cond (nat_lt (length o.results) o.posted) (result_of board name me (length o.results)) None
 
--- the next result on a context, where the next call is posted here
-abbrev pub next_result : NodeView → Name → Option Finished
-next_result node name = next_of (node.opened name) node.board name node.me
+  -- the next result on a context, where the next call is posted here
+  abbrev pub next_result : NodeView → Name → Option Finished
+  next_result node name = next_of (node.opened name) node.board name node.me
+
+-- whether there is one: no operation is asked for that
+abbrev pub has_next : NodeView → Name → Bool
+has_next node name = is_some (next_result [] node name)
 
 -- HARVESTS
 
@@ -146,8 +154,8 @@ or_none None = []
 or_none (Some xs) = xs
 
 -- the communicators that a call makes, by their names and births, where the board has its row
-abbrev pub children_on : Look → Name → (call : ℕ) → List (Name × BirthView)
-children_on board name k = or_none (option_and_then (λ birth. option_map (λ row. named_children name k (children birth row name k)) (row_on board name k)) (told (board.contexts name).birth))
+abbrev pub children_on : List Operation → Look → Name → (call : ℕ) → List (Name × BirthView)
+children_on ops board name k = or_none (option_and_then (λ birth. option_map (λ row. named_children name k (children ops birth row name k)) (row_on board name k)) (told (board.contexts name).birth))
 
 -- the facts that these are born
 abbrev pub births_of : List (Name × BirthView) → List Look

@@ -3,6 +3,7 @@
 //! In the order of reading: [`Finished`], [`Node`], [`PartError`].
 #![tactic(auto)]
 
+mod deltas;
 mod finished;
 mod node;
 mod opened;

@@ -1,37 +1,33 @@
 // One process, and its steps.
-ghost use Rattle.std.specs.Prelude.{◌≡◌, ◌↔◌, ◌<◌, ◌≤◌, false, [], map, All, Some, None, OnOk, OnErr, IfOk, IsErrOf, IsTrue, slice_get, is_some};
+ghost use Rattle.std.specs.Prelude.{◌≡◌, ◌<◌, ◌≤◌, [], None, OnOk, OnErr, IfOk, IsTrue, slice_get, is_ok, is_some};
 ghost use Rattle.std.specs.Option.{option_copied};
 ghost use Rattle.mpx_post.specs.Drafts.{most_calls, refusal_of};
-ghost use Rattle.mpx_board.specs.Boards.{IsBelow, join_all};
-ghost use Rattle.mpx_board.specs.Changes.{pruned_on};
-ghost use Rattle.mpx_board.specs.Looks.{look, parts_of};
-ghost use Rattle.mpx_format.specs.Encoding.{length_told};
-ghost use Rattle.mpx_parts.specs.Facts.{OnlyFactsOf};
+ghost use Rattle.mpx_board.specs.Boards.{IsBelow};
+ghost use Rattle.mpx_board.specs.Looks.{look};
+ghost use Rattle.mpx_format.specs.Decoding.{decoded, shown};
 
 use crate::finished::Finished;
 use crate::opened::Opened;
 use crate::opening::{open, store_and_open};
-use crate::part::{PartError, whole_part};
-use crate::pruning::bury;
 use crate::results::{children_on, finished, harvested_board, has_result};
 use crate::starting::{board_at_start, gathered_board, opened_at_start};
 use join_core::OutOfMemory;
-use mpx_board::{Board, PruneError, Raised};
-use mpx_delta::{NewList, new_list};
+use mpx_board::Board;
 use mpx_group::Proc;
 use mpx_name::Name;
-use mpx_parts::parts;
+use mpx_num::{Listing, Ops};
 use mpx_post::{At, Birth, Draft, Gathering, PostError};
+use mpx_wire::take_spelled;
 use std::alloc::Global;
 use std::collections::BTreeMap;
 
 /// One process. The first `ranks` processes are the members of `world`, the others relays, which only carry boards.
 #[derive(Debug, Drop)]
 pub struct Node {
-    me: Proc,
-    processes: u8,
-    board: Board,
-    opened: BTreeMap<Name, Opened>,
+    pub(crate) me: Proc,
+    pub(crate) processes: u8,
+    pub(crate) board: Board,
+    pub(crate) opened: BTreeMap<Name, Opened>,
     ghost some: { 0 < processes },
     ghost few: { processes ≤ 64 },
 }
@@ -48,12 +44,10 @@ pub enum Harvest {
 }
 
 impl Node {
-    ghost use Rattle.mpx_node.specs.Nodes.{Opens, Posts, StopsTaking, add_result, NodeView, start_node, learn, checked_on, children_on, gathering_name, gathers_on, next_result, open_gathering_node, posted_on, results_on, front_on, freed_on, is_past_free, learn_some, prune_part};
-    ghost use Rattle.mpx_node.specs.Deltas.{LacksOn, SaysWhatItHas, Stores, lacking_on};
+    ghost use Rattle.mpx_node.specs.Nodes.{Opens, Posts, StopsTaking, add_result, NodeView, start_node, learn, checked_on, children_on, gathering_name, gathers_on, next_result, open_gathering_node, posted_on, results_on, front_on, freed_on};
     ghost use Rattle.mpx_node.specs.Shown.{node_of};
     ghost use Rattle.mpx_node.specs.Opened.{HasUnfinished};
     ghost use Rattle.mpx_node.specs.Harvests.{Harvests};
-    ghost use Rattle.mpx_node.specs.Parts.{fits_in, parts_on};
 
     /// The process `me` of so many, of which the first are ranks, before any post: its board has just the birth of the
     /// world, which a rank has opened.
@@ -82,8 +76,14 @@ impl Node {
     /// Posts the draft as the next call on a context and gives its number. A context that isn't opened here is refused as
     /// `NotMember`, one on which the process has posted a free as `Closed`, and one whose birth isn't known as `NotMember`; then
     /// the refusals are those of [`Draft::check`], before anything else. An `Err` changes nothing.
-    pub fn post(&mut self, alloc: Global, name: &Name, draft: Draft) -> Result<u32, PostError>
-        ensures { Posts name.now (checked_on (node_of self.old) name.now draft) result (node_of self.old) (node_of self.new) }
+    pub fn post(
+        &mut self,
+        alloc: Global,
+        name: &Name,
+        draft: Draft,
+        ops: &Ops,
+    ) -> Result<u32, PostError>
+        ensures { Posts name.now (checked_on (⟦<Ops as Listing>⟧.operations ops.now) (node_of self.old) name.now draft) result (node_of self.old) (node_of self.new) }
     {
         let Some(opened) = self.opened.get_mut(name) else {
             drop(draft);
@@ -98,7 +98,7 @@ impl Node {
             return Err(PostError::NotMember);
         };
         let call = opened.posted;
-        let post = draft.check_call(alloc, birth, self.me, name, call, false)?;
+        let post = draft.check_call(alloc, birth, self.me, name, call, false, ops)?;
         let frees = post.is_free();
         match self.board.join_post(alloc, name, call, self.me, post) {
             Ok(()) => {
@@ -111,8 +111,8 @@ impl Node {
     }
 
     /// Why [`Node::post`] would refuse the draft, where it would. It takes no memory.
-    pub fn refusal(&self, name: &Name, draft: &Draft) -> Option<PostError>
-        ensures { result ≡ refusal_of (checked_on (node_of self.now) name.now draft.now) }
+    pub fn refusal(&self, name: &Name, draft: &Draft, ops: &Ops) -> Option<PostError>
+        ensures { result ≡ refusal_of (checked_on (⟦<Ops as Listing>⟧.operations ops.now) (node_of self.now) name.now draft.now) }
     {
         let Some(opened) = self.opened.get(name) else {
             return Some(PostError::NotMember);
@@ -123,15 +123,15 @@ impl Node {
         let Some(birth) = self.board.birth(name) else {
             return Some(PostError::NotMember);
         };
-        draft.refusal(birth, self.me, &At::on(name, opened.posted, false))
+        draft.refusal(birth, self.me, &At::on(name, opened.posted, false), ops)
     }
 
     /// Stores the result of the next call on a context, raises the own front, tells how the communicators came to be that
     /// the call makes, and opens the one that has the process, where that call is posted here and the birth and all
     /// members' posts of it are on the board. Elsewhere it answers [`Harvest::NotYet`] or
     /// [`Harvest::NotOpened`], takes no memory and is no `Err`. An `Err` changes nothing.
-    pub fn harvest(&mut self, alloc: Global, name: &Name) -> Result<Harvest, OutOfMemory>
-        ensures { Harvests (is_some ((node_of self.old).opened name.now)) name.now (next_result (node_of self.old) name.now)
+    pub fn harvest(&mut self, alloc: Global, name: &Name, ops: &Ops) -> Result<Harvest, OutOfMemory>
+        ensures { Harvests (⟦<Ops as Listing>⟧.operations ops.now) (is_some ((node_of self.old).opened name.now)) name.now (next_result (⟦<Ops as Listing>⟧.operations ops.now) (node_of self.old) name.now)
             result (node_of self.old) (node_of self.new) }
     {
         let Some(opened) = self.opened.get(name) else {
@@ -144,10 +144,10 @@ impl Node {
         if !has_result(&self.board, name, self.me, call) {
             return Ok(Harvest::NotYet);
         }
-        match finished(alloc, &self.board, name, self.me, call)? {
+        match finished(alloc, &self.board, name, self.me, call, ops)? {
             None => Ok(Harvest::NotYet),
             Some(finished) => {
-                self.add_result(alloc, name, call, finished)?;
+                self.add_result(alloc, name, call, finished, ops)?;
                 Ok(Harvest::Done(call))
             }
         }
@@ -183,34 +183,6 @@ impl Node {
         }
     }
 
-    /// Drops the posts of calls below the number on a context, which is at most the floor. Where the number is past a free
-    /// whose row is fine and whose result the process has, the context is dead from then on; on a dead one it changes nothing.
-    /// It takes no memory.
-    pub fn prune(&mut self, name: &Name, number: u32) -> Result<(), PruneError>
-        ensures answer { result ≡ pruned_on (node_of self.old).board name.now number }
-        ensures ok { OnOk result (node_of self.new ≡ learn_some (prune_part (node_of self.old) name.now number) (node_of self.old)) }
-        ensures err { OnErr result (node_of self.new ≡ node_of self.old) }
-    {
-        if self.board.is_dead(name) {
-            return Ok(());
-        }
-        if self.is_past_free(name, number) {
-            return bury(&mut self.board, name, number);
-        }
-        self.board.prune(name, number)
-    }
-
-    /// Whether the number goes past a free on a context whose row is fine and whose result the process has: then a prune to it
-    /// that is accepted leaves the context dead.
-    pub fn is_past_free(&self, name: &Name, number: u32) -> bool
-        ensures { result ≡ is_past_free (results_on (node_of self.now) name.now) number }
-    {
-        match self.opened.get(name) {
-            None => false,
-            Some(opened) => opened.is_past_free(number),
-        }
-    }
-
     /// Joins a part to the board, in place: only what is new takes memory. An `Err` leaves a board between the old one and
     /// the join, each fact of which is one of the board, of the part or of their join, and changes nothing else.
     pub fn take(&mut self, alloc: Global, part: &Board) -> Result<(), OutOfMemory>
@@ -219,6 +191,16 @@ impl Node {
         ensures more { OnErr result (¬ (IsBelow (look part.now) (node_of self.old).board)) }
     {
         self.board.take(alloc, part)
+    }
+
+    /// Joins the board that the bytes of a frame spell, as [`Node::take`] joins a part, with no board of its own for what they say. An
+    /// `Err` leaves what it leaves there.
+    pub fn take_frame(&mut self, alloc: Global, frame: &[u8]) -> Result<(), OutOfMemory>
+        requires spelled { IsTrue (is_ok (decoded frame.now)) }
+        ensures ok { OnOk result (node_of self.new ≡ learn (shown (decoded frame.now)) (node_of self.old)) }
+        ensures err { OnErr result (StopsTaking (shown (decoded frame.now)) (node_of self.old) (node_of self.new)) }
+    {
+        take_spelled(alloc, &mut self.board, frame)
     }
 
     /// The result of a call on a context that was harvested, kept for good.
@@ -268,65 +250,6 @@ impl Node {
         &self.board
     }
 
-    /// The whole board, where it has a frame of at most so many bytes.
-    ///
-    /// # Errors
-    /// `DoesNotFit` where it has none, before anything else; `OutOfMemory` where memory is refused.
-    pub fn part(&self, alloc: Global, limit: usize) -> Result<Board, PartError>
-        ensures whole { IfOk result (λ part. look part ≡ (node_of self.now).board) }
-        ensures fits { IfOk result (λ part. IsTrue (fits_in limit (parts_of part))) }
-        ensures refused { IsErrOf result PartError.DoesNotFit ↔ (fits_in limit (parts_on self.now) ≡ false) }
-    {
-        whole_part(alloc, &self.board, limit)
-    }
-
-    /// The board in parts, each of which has only facts of the board and a frame of at most so many bytes, and whose join
-    /// is the board: the board itself where it fits.
-    pub fn parts(&self, alloc: Global, limit: usize) -> Result<Vec<Board>, OutOfMemory>
-        requires least { 524288 ≤ limit }
-        requires most { limit ≤ 1048576 }
-        ensures facts { IfOk result (λ made. All (λ part. OnlyFactsOf (look part) (node_of self.now).board) made.items) }
-        ensures fit { IfOk result (λ made. All (λ part. length_told (parts_of part) ≤ limit) made.items) }
-        ensures join { IfOk result (λ made. join_all (map look made.items) ≡ (node_of self.now).board) }
-    {
-        parts(alloc, &self.board, limit)
-    }
-
-    /// What [`Node::deltas`] stores and gives, made from the node as it stands: what the process says, and what others lack of
-    /// the board with that, in parts whose frames have at most so many bytes. [`Node::acknowledge`] stores what it says.
-    pub fn lacking(&self, alloc: Global, limit: usize) -> Result<NewList, OutOfMemory>
-        requires least { 524288 ≤ limit }
-        requires most { limit ≤ 1048576 }
-        ensures { IfOk result (λ made. LacksOn limit (node_of self.now) made.said made.parts.items) }
-    {
-        new_list(alloc, &self.board, self.me, self.processes, limit)
-    }
-
-    /// Stores what [`Node::lacking`] made from this node as it stands. It takes no memory and can't fail.
-    pub fn acknowledge(&mut self, said: Raised)
-        requires made { (new : NodeView) × Stores said (node_of self.old) new }
-        ensures gives { (new : NodeView) → Stores said (node_of self.old) new → node_of self.new ≡ new }
-    {
-        self.board.store(said);
-    }
-
-    /// Says that the process has all that its board has, and gives the board without the posts below what all processes
-    /// say, in parts, each of which has only facts of the board and a frame of at most so many bytes. An `Err` changes
-    /// nothing.
-    pub fn deltas(&mut self, alloc: Global, limit: usize) -> Result<Vec<Board>, OutOfMemory>
-        requires least { 524288 ≤ limit }
-        requires most { limit ≤ 1048576 }
-        ensures own { OnOk result (SaysWhatItHas (node_of self.old) (node_of self.new)) }
-        ensures facts { IfOk result (λ made. All (λ part. OnlyFactsOf (look part) (node_of self.new).board) made.items) }
-        ensures fit { IfOk result (λ made. All (λ part. length_told (parts_of part) ≤ limit) made.items) }
-        ensures join { IfOk result (λ made. join_all (map look made.items) ≡ lacking_on (node_of self.new)) }
-        ensures err { OnErr result (node_of self.new ≡ node_of self.old) }
-    {
-        let NewList { said, parts } = self.lacking(alloc, limit)?;
-        self.acknowledge(said);
-        Ok(parts)
-    }
-
     // Stores the result of the next call on an opened context, tells of it, and opens what the call made. An `Err` changes
     // nothing.
     fn add_result(
@@ -335,15 +258,16 @@ impl Node {
         name: &Name,
         call: u32,
         finished: Finished,
+        ops: &Ops,
     ) -> Result<(), OutOfMemory>
         requires unfinished { HasUnfinished (node_of self.old).opened name.now }
         requires front { call ≡ front_on (node_of self.old) name.now }
         requires call { call < most_calls }
         ensures ok { OnOk result (node_of self.new
-            ≡ add_result name.now finished (children_on (node_of self.old).board name.now call) (node_of self.old)) }
+            ≡ add_result name.now finished (children_on (⟦<Ops as Listing>⟧.operations ops.now) (node_of self.old).board name.now call) (node_of self.old)) }
         ensures err { OnErr result (node_of self.new ≡ node_of self.old) }
     {
-        let made = match children_on(alloc, &self.board, name, call) {
+        let made = match children_on(alloc, &self.board, name, call, ops) {
             Ok(made) => made,
             Err(e) => {
                 drop(finished);

@@ -1,5 +1,5 @@
 // What the board tells of a call: its result, and what it makes.
-ghost use Rattle.std.specs.Prelude.{◌≡◌, ◌<◌, ◌∷◌, IfOk, is_some};
+ghost use Rattle.std.specs.Prelude.{◌≡◌, ◌<◌, ◌∷◌, [], IfOk, is_some};
 ghost use Rattle.mpx_board.specs.Boards.{Front, join, join_all, only, told};
 ghost use Rattle.mpx_board.specs.Looks.{look};
 ghost use Rattle.mpx_post.specs.Drafts.{most_calls};
@@ -11,13 +11,15 @@ use join_core::{Exact, Join, OutOfMemory};
 use mpx_board::Board;
 use mpx_group::Proc;
 use mpx_name::Name;
+use mpx_num::{Listing, Ops};
 use mpx_post::Birth;
 use mpx_value::{Outcome, children, outcome};
 use std::alloc::Global;
 
-// Whether the board has the birth and the posts of all members to a call, of which the process is one.
+// Whether the board has the birth and the posts of all members to a call, of which the process is one. No operation is asked
+// for that.
 pub fn has_result(board: &Board, name: &Name, me: Proc, call: u32) -> bool
-    ensures { result ≡ is_some (result_of (look board.now) name.now me call) }
+    ensures { result ≡ is_some (result_of [] (look board.now) name.now me call) }
 {
     match board.birth(name) {
         None => false,
@@ -45,14 +47,15 @@ pub fn finished(
     name: &Name,
     me: Proc,
     call: u32,
+    ops: &Ops,
 ) -> Result<Option<Finished>, OutOfMemory>
     requires { call < most_calls }
-    ensures { IfOk result (λ o. o ≡ result_of (look board.now) name.now me call) }
+    ensures { IfOk result (λ o. o ≡ result_of (⟦<Ops as Listing>⟧.operations ops.now) (look board.now) name.now me call) }
 {
     let Some(post) = board.holds(name, call, me) else {
         return Ok(None);
     };
-    let Some(outcome) = outcome_on(alloc, board, name, me, call)? else {
+    let Some(outcome) = outcome_on(alloc, board, name, me, call, ops)? else {
         return Ok(None);
     };
     match post.copy(alloc) {
@@ -71,9 +74,10 @@ fn outcome_on(
     name: &Name,
     me: Proc,
     call: u32,
+    ops: &Ops,
 ) -> Result<Option<Outcome>, OutOfMemory>
     requires { call < most_calls }
-    ensures { IfOk result (λ o. o ≡ outcome_on (look board.now) name.now me call) }
+    ensures { IfOk result (λ o. o ≡ outcome_on (⟦<Ops as Listing>⟧.operations ops.now) (look board.now) name.now me call) }
 {
     let Some(birth) = board.birth(name) else {
         return Ok(None);
@@ -84,7 +88,7 @@ fn outcome_on(
     let Some(rank) = birth.rank_of(me) else {
         return Ok(None);
     };
-    Ok(Some(outcome(alloc, birth, &row, name, call, rank)?))
+    Ok(Some(outcome(alloc, birth, &row, name, call, rank, ops)?))
 }
 
 // The communicators that a call makes, where the board has the birth and the posts of all members: names and births.
@@ -93,9 +97,10 @@ pub fn children_on(
     board: &Board,
     name: &Name,
     call: u32,
+    ops: &Ops,
 ) -> Result<Vec<(Name, Birth)>, OutOfMemory>
     requires { call < most_calls }
-    ensures { IfOk result (λ made. made.items ≡ children_on (look board.now) name.now call) }
+    ensures { IfOk result (λ made. made.items ≡ children_on (⟦<Ops as Listing>⟧.operations ops.now) (look board.now) name.now call) }
 {
     let Some(birth) = board.birth(name) else {
         return Ok(Vec::new(alloc));
@@ -103,7 +108,7 @@ pub fn children_on(
     let Some(row) = board.row(alloc, name, call)? else {
         return Ok(Vec::new(alloc));
     };
-    children(alloc, birth, &row, name, call)
+    children(alloc, birth, &row, name, call, ops)
 }
 
 // What a process tells that has harvested so many calls, and of what the last of these made.

@@ -7,3 +7,5 @@ pub mod Elementwise
 pub mod Folds
 pub mod Parts
 pub mod Codes
+pub mod OwnTables
+pub mod Places

@@ -169,7 +169,7 @@ mode_short : (k : Kind) → Short (mode k) 1
 unfolding mode
 mode_short k m = omega arith
 
-operation_short : Short operation 1
+operation_short : Short (operation Two) 1
 unfolding operation
 operation_short o = omega arith
 
@@ -329,7 +329,7 @@ post_len g h =
     let from_rcounts = joined_len ((counts_if (is_had f.rcounts)).spelling g.rcounts) ((items_for ty).spelling (nums_of g.items) ++ (making_for f.makes).spelling g.making) (2 + length g.rcounts * 2) (65538 + 3075) (counts_len (is_had f.rcounts) g.rcounts) from_items in
     let from_scounts = joined_len ((counts_if (is_had f.scounts)).spelling g.scounts) _ (2 + length g.scounts * 2) _ (counts_len (is_had f.scounts) g.scounts) from_rcounts in
     let from_type = joined_len ((when f.items (type_for g.op)).spelling ty) _ 1 _ (when_short f.items (type_for g.op) 1 (type_for_short g.op) ty) from_scounts in
-    let from_op = joined_len ((when f.op operation).spelling g.op) _ 1 _ (when_short f.op operation 1 operation_short g.op) from_type in
+    let from_op = joined_len ((when f.op (operation Two)).spelling g.op) _ 1 _ (when_short f.op (operation Two) 1 operation_short g.op) from_type in
     let from_root = joined_len ((when f.root process).spelling g.root) _ 1 _ (when_short f.root process 1 process_short g.root) from_op in
     let from_mode = joined_len ((mode g.kind).spelling g.mode) _ 1 _ (mode_short g.kind g.mode) from_root in
     omega (arith, h.scounts, h.rcounts, joined_len ((kind Two).spelling g.kind) _ 1 _ (kind_short g.kind) from_mode)

@@ -1,12 +1,13 @@
 -- What each part of a draft's check says of the whole.
-use Rattle.std.proofs.Common.{◌≡◌, ℕ, ◌*◌, ◌<◌, ◌≤◌, ◌||◌, Bool, true, false, not, cond, [], ◌∷◌, inl, inr, length, Option, Some, None, Result, Ok, Err, nat_le, nat_lt, ◌==◌, subst, refl, sym, ap, ◌∙◌, eqb-true, arith}
+use Rattle.std.proofs.Common.{◌≡◌, ℕ, ◌*◌, ◌<◌, ◌≤◌, ◌||◌, Bool, true, false, not, cond, List, [], ◌∷◌, inl, inr, length, Option, Some, None, Result, Ok, Err, nat_le, nat_lt, ◌==◌, subst, refl, sym, ap, ◌∙◌, eqb-true, arith}
 use Rattle.std.specs.Prelude.{◌&&◌, OnOk}
 use Rattle.std.specs.List.{list_all}
 use Rattle.std.specs.Option.{option_map_or, option_or}
 use Rattle.std.proofs.lemmas.Bool.{and_from, and_parts, cases_Bool, or_parts}
 use Rattle.std.proofs.lemmas.Bool.Decides.{nat_tests}
 use Rattle.mpx_num.specs.ItemList.{is_whole}
-use Rattle.mpx_num.specs.Operations.{fits}
+use Rattle.mpx_num.specs.declared.own.Operation.{Operation}
+use Rattle.mpx_num.specs.Operations.{fits, is_for}
 use Rattle.mpx_num.specs.Types.{item_len}
 use Rattle.mpx_post.specs.declared.draft.At.{At}
 use Rattle.mpx_post.specs.declared.draft.Draft.{Draft}
@@ -129,9 +130,6 @@ module _ (seat : Seat) (at : At) (draft : Draft) where
   abbrev rootless : Bool
   rootless = (fields_of (kind_of draft.call)).root && not (is_rank seat.size draft.root)
 
-  abbrev opless : Bool
-  opless = (fields_of (kind_of draft.call)).op && not (fits draft.op draft.ty)
-
   abbrev as_many_sent : Bool
   as_many_sent = are_so_many (sent_counts draft) (fields_of (kind_of draft.call)).scounts seat
 
@@ -140,40 +138,6 @@ module _ (seat : Seat) (at : At) (draft : Draft) where
 
   abbrev misfilled : Bool
   misfilled = is_misfilled seat draft
-
-  abbrev pub shape_is_fine : Type 0
-  shape_is_fine = first_that_holds (asked_first seat draft misfilled) ≡ None
-
-  abbrev answer : Result Given PostError
-  answer = checked_in seat at draft
-
-  pub refused_by_shape : (e : PostError) → first_that_holds (asked_first seat draft misfilled) ≡ Some e → Checks answer (Err e)
-  refused_by_shape e h = shape_refused rootless opless (not (as_many_sent && as_many_received)) misfilled (cut draft) (strange draft) (many draft) (not (counted draft)) (place_refusals seat.size at draft) e (given_by draft) h
-
-  -- a check is the answer by the numbers and by the place
-  pub behind_shape : shape_is_fine → answer ≡ unless (option_or (numbers_refusal draft) (first_that_holds (place_refusals seat.size at draft))) (given_by draft)
-  behind_shape h = ap (λ o. unless o (given_by draft)) (shape_passed rootless opless (not (as_many_sent && as_many_received)) misfilled (cut draft) (strange draft) (many draft) (not (counted draft)) (place_refusals seat.size at draft) h ∙ behind_or (cut draft) (strange draft) (many draft) (not (counted draft)) (place_refusals seat.size at draft))
-
-  pub shape_told : (e : PostError) → first_that_holds (asked_first seat draft misfilled) ≡ Some e → refusal_of answer ≡ Some e
-  shape_told e h = refusal_of-unless (first_that_holds (refusals seat at draft)) (given_by draft) ∙ shape_first rootless opless (not (as_many_sent && as_many_received)) misfilled (cut draft) (strange draft) (many draft) (not (counted draft)) (place_refusals seat.size at draft) e h
-
-  pub told_behind_shape : shape_is_fine → refusal_of answer ≡ option_or (numbers_refusal draft) (first_that_holds (place_refusals seat.size at draft))
-  told_behind_shape h = ap refusal_of (behind_shape h) ∙ refusal_of-unless (option_or (numbers_refusal draft) (first_that_holds (place_refusals seat.size at draft))) (given_by draft)
-
-  pub root_passed : seat.size ≤ 64 → shape_is_fine → cond (fields_of (kind_of draft.call)).root (is_rank 64 draft.root) true ≡ true
-  root_passed l h = right_more _ _ _ (is_rank-more seat.size draft.root l) (right (fields_of (kind_of draft.call)).root (is_rank seat.size draft.root) (shape_parts rootless opless (not (as_many_sent && as_many_received)) misfilled h).0)
-
-  pub op_passed : shape_is_fine → cond (fields_of (kind_of draft.call)).op (fits draft.op draft.ty) true ≡ true
-  op_passed h = right (fields_of (kind_of draft.call)).op (fits draft.op draft.ty) (shape_parts rootless opless (not (as_many_sent && as_many_received)) misfilled h).1
-
-  as_many : shape_is_fine → (as_many_sent ≡ true) × (as_many_received ≡ true)
-  as_many h = and_parts _ _ (from_not (as_many_sent && as_many_received) (shape_parts rootless opless (not (as_many_sent && as_many_received)) misfilled h).2)
-
-  pub few_sent : seat.size ≤ 64 → seat.indegree ≤ most_neighbours → seat.outdegree ≤ most_neighbours → shape_is_fine → length (sent_counts draft) ≤ most_counts
-  few_sent l i o h = omega (arith, eqb-true _ _ (as_many h).0, few_in (fields_of (kind_of draft.call)).scounts seat l i o)
-
-  pub few_received : seat.size ≤ 64 → seat.indegree ≤ most_neighbours → seat.outdegree ≤ most_neighbours → shape_is_fine → length (received_counts draft) ≤ most_counts
-  few_received l i o h = omega (arith, eqb-true _ _ (as_many h).1, few_in (fields_of (kind_of draft.call)).rcounts seat l i o)
 
   abbrev pub place_is_fine : Type 0
   place_is_fine = first_that_holds (place_refusals seat.size at draft) ≡ None
@@ -206,18 +170,57 @@ module _ (seat : Seat) (at : At) (draft : Draft) where
       let few : nat_le (edge_count makes (graph_of draft)) most_edges ≡ true = grind (arith, nat_tests, uncrowded) in
       and_from _ _ group (and_from _ _ edges (and_from _ _ few (from_not (has_colour_and_key makes draft) parts.colour_and_key)))
 
-  -- an accepted draft passes what is asked last
-  pub accepted_place : (given : Given) → answer ≡ Ok given → place_is_fine
-  accepted_place given h = none_after rootless opless (not (as_many_sent && as_many_received)) misfilled (cut draft) (strange draft) (many draft) (not (counted draft)) (place_refusals seat.size at draft) (none_told (first_that_holds (refusals seat at draft)) (given_by draft) given h)
+  -- where its operation is for its type or not
+  module _ (for_type : Bool) where
+    abbrev opless : Bool
+    opless = (fields_of (kind_of draft.call)).op && not for_type
 
-  room_below : (given : Given) → answer ≡ Ok given → makes_communicators (family_of (kind_of draft.call)) ≡ true → at.depth < 8
-  room_below given h makes =
-      let shallow = (place_parts (accepted_place given h)).depth in
-      let deep : nat_le most_steps at.depth ≡ false = rw makes at shallow in
-      grind (arith, nat_tests, deep)
+    abbrev pub shape_is_fine : Type 0
+    shape_is_fine = first_that_holds (asked_first for_type seat draft misfilled) ≡ None
 
-  call_below : (given : Given) → answer ≡ Ok given → (at.call == most_calls) ≡ false
-  call_below given h = (place_parts (accepted_place given h)).calls
+    abbrev answer : Result Given PostError
+    answer = checked_in for_type seat at draft
+
+    pub refused_by_shape : (e : PostError) → first_that_holds (asked_first for_type seat draft misfilled) ≡ Some e → Checks answer (Err e)
+    refused_by_shape e h = shape_refused rootless opless (not (as_many_sent && as_many_received)) misfilled (cut draft) (strange draft) (many draft) (not (counted draft)) (place_refusals seat.size at draft) e (given_by draft) h
+
+    -- a check is the answer by the numbers and by the place
+    pub behind_shape : shape_is_fine → answer ≡ unless (option_or (numbers_refusal draft) (first_that_holds (place_refusals seat.size at draft))) (given_by draft)
+    behind_shape h = ap (λ o. unless o (given_by draft)) (shape_passed rootless opless (not (as_many_sent && as_many_received)) misfilled (cut draft) (strange draft) (many draft) (not (counted draft)) (place_refusals seat.size at draft) h ∙ behind_or (cut draft) (strange draft) (many draft) (not (counted draft)) (place_refusals seat.size at draft))
+
+    pub shape_told : (e : PostError) → first_that_holds (asked_first for_type seat draft misfilled) ≡ Some e → refusal_of answer ≡ Some e
+    shape_told e h = refusal_of-unless (first_that_holds (refusals for_type seat at draft)) (given_by draft) ∙ shape_first rootless opless (not (as_many_sent && as_many_received)) misfilled (cut draft) (strange draft) (many draft) (not (counted draft)) (place_refusals seat.size at draft) e h
+
+    pub told_behind_shape : shape_is_fine → refusal_of answer ≡ option_or (numbers_refusal draft) (first_that_holds (place_refusals seat.size at draft))
+    told_behind_shape h = ap refusal_of (behind_shape h) ∙ refusal_of-unless (option_or (numbers_refusal draft) (first_that_holds (place_refusals seat.size at draft))) (given_by draft)
+
+    pub root_passed : seat.size ≤ 64 → shape_is_fine → cond (fields_of (kind_of draft.call)).root (is_rank 64 draft.root) true ≡ true
+    root_passed l h = right_more _ _ _ (is_rank-more seat.size draft.root l) (right (fields_of (kind_of draft.call)).root (is_rank seat.size draft.root) (shape_parts rootless opless (not (as_many_sent && as_many_received)) misfilled h).0)
+
+    pub op_passed : (for_type ≡ true → fits draft.op draft.ty ≡ true) → shape_is_fine → cond (fields_of (kind_of draft.call)).op (fits draft.op draft.ty) true ≡ true
+    op_passed stands h = right_more _ _ _ stands (right (fields_of (kind_of draft.call)).op for_type (shape_parts rootless opless (not (as_many_sent && as_many_received)) misfilled h).1)
+
+    as_many : shape_is_fine → (as_many_sent ≡ true) × (as_many_received ≡ true)
+    as_many h = and_parts _ _ (from_not (as_many_sent && as_many_received) (shape_parts rootless opless (not (as_many_sent && as_many_received)) misfilled h).2)
+
+    pub few_sent : seat.size ≤ 64 → seat.indegree ≤ most_neighbours → seat.outdegree ≤ most_neighbours → shape_is_fine → length (sent_counts draft) ≤ most_counts
+    few_sent l i o h = omega (arith, eqb-true _ _ (as_many h).0, few_in (fields_of (kind_of draft.call)).scounts seat l i o)
+
+    pub few_received : seat.size ≤ 64 → seat.indegree ≤ most_neighbours → seat.outdegree ≤ most_neighbours → shape_is_fine → length (received_counts draft) ≤ most_counts
+    few_received l i o h = omega (arith, eqb-true _ _ (as_many h).1, few_in (fields_of (kind_of draft.call)).rcounts seat l i o)
+
+    -- an accepted draft passes what is asked last
+    pub accepted_place : (given : Given) → answer ≡ Ok given → place_is_fine
+    accepted_place given h = none_after rootless opless (not (as_many_sent && as_many_received)) misfilled (cut draft) (strange draft) (many draft) (not (counted draft)) (place_refusals seat.size at draft) (none_told (first_that_holds (refusals for_type seat at draft)) (given_by draft) given h)
+
+    room_below : (given : Given) → answer ≡ Ok given → makes_communicators (family_of (kind_of draft.call)) ≡ true → at.depth < 8
+    room_below given h makes =
+        let shallow = (place_parts (accepted_place given h)).depth in
+        let deep : nat_le most_steps at.depth ≡ false = rw makes at shallow in
+        grind (arith, nat_tests, deep)
+
+    call_below : (given : Given) → answer ≡ Ok given → (at.call == most_calls) ≡ false
+    call_below given h = (place_parts (accepted_place given h)).calls
 
 never : (r t : Bool) (x y : Given) → unless (first_that_holds ((r, ItemOutOfRange) ∷ (t, TooManyItems) ∷ (true, NoTopology) ∷ [])) x ≡ Ok y → ⊥
 never true t x y h = cc
@@ -234,29 +237,29 @@ closed_first true answer given h = cc
 closed_first false answer given h = (refl, h)
 
 -- what an accepted draft of a member passes, in its seat
-accepted_in : (found : Option ℕ) (birth : BirthView) (at : At) (draft : Draft) (given : Given) → checked_at found birth at draft ≡ Ok given → (seat : Seat) × (checked_in seat at draft ≡ Ok given)
-accepted_in None birth at draft given h = cc
-accepted_in (Some rank) birth at draft given h =
-    let passed : checked_as rank birth at draft ≡ Ok given = (closed_first at.closed (checked_as rank birth at draft) given h).1 in
+accepted_in : (ops : List Operation) (found : Option ℕ) (birth : BirthView) (at : At) (draft : Draft) (given : Given) → checked_at ops found birth at draft ≡ Ok given → (seat : Seat) × (checked_in (is_for ops draft.op draft.ty) seat at draft ≡ Ok given)
+accepted_in ops None birth at draft given h = cc
+accepted_in ops (Some rank) birth at draft given h =
+    let passed : checked_as ops rank birth at draft ≡ Ok given = (closed_first at.closed (checked_as ops rank birth at draft) given h).1 in
     elim (cases_Bool (lacks_topology birth.topology (kind_of draft.call))) [
       | inl lacks ↦ absurd (stray draft given (rw lacks at passed))
       | inr has ↦ (drafted_seat birth rank draft, rw has at passed)
     ]
 
 -- an accepted call that makes communicators has room for one more step
-pub room : (birth : BirthView) (me : ℕ) (at : At) (draft : Draft) (given : Given) → checked birth me at draft ≡ Ok given → makes_communicators (family_of (kind_of draft.call)) ≡ true → at.depth < 8
+pub room : (ops : List Operation) (birth : BirthView) (me : ℕ) (at : At) (draft : Draft) (given : Given) → checked ops birth me at draft ≡ Ok given → makes_communicators (family_of (kind_of draft.call)) ≡ true → at.depth < 8
 unfolding checked
-room birth me at draft given h makes = let found = accepted_in (rank_in me birth.members) birth at draft given h in room_below found.0 at draft given found.1 makes
+room ops birth me at draft given h makes = let found = accepted_in ops (rank_in me birth.members) birth at draft given h in room_below found.0 at draft (is_for ops draft.op draft.ty) given found.1 makes
 
 -- an accepted call is never the one past the last
-pub call_room : (birth : BirthView) (me : ℕ) (at : At) (draft : Draft) (given : Given) → checked birth me at draft ≡ Ok given → (at.call == most_calls) ≡ false
+pub call_room : (ops : List Operation) (birth : BirthView) (me : ℕ) (at : At) (draft : Draft) (given : Given) → checked ops birth me at draft ≡ Ok given → (at.call == most_calls) ≡ false
 unfolding checked
-call_room birth me at draft given h = let found = accepted_in (rank_in me birth.members) birth at draft given h in call_below found.0 at draft given found.1
+call_room ops birth me at draft given h = let found = accepted_in ops (rank_in me birth.members) birth at draft given h in call_below found.0 at draft (is_for ops draft.op draft.ty) given found.1
 
 -- behind its own free a member posts nothing
-pub closed_there : (birth : BirthView) (me rank : ℕ) (at : At) (draft : Draft) → rank_in me birth.members ≡ Some rank → at.closed ≡ true → checked birth me at draft ≡ Err Closed
+pub closed_there : (ops : List Operation) (birth : BirthView) (me rank : ℕ) (at : At) (draft : Draft) → rank_in me birth.members ≡ Some rank → at.closed ≡ true → checked ops birth me at draft ≡ Err Closed
 unfolding checked
-closed_there birth me rank at draft member closed = rw (member, closed) refl
+closed_there ops birth me rank at draft member closed = rw (member, closed) refl
 
 -- A MADE POST
 
@@ -266,6 +269,10 @@ checks_post (Err refusal) given answered = cc answered
 checks_post (Ok expected) given answered = ap Ok (sym answered)
 
 -- where a post was made, there is room for one more call
-pub room_of_post : (birth : BirthView) (me : ℕ) (at : At) (draft : Draft) (answer : Result Given PostError) → at.call ≤ most_calls → Checks (checked birth me at draft) answer → OnOk answer (at.call < most_calls)
-room_of_post birth me at draft (Ok given) l answered = let room : (at.call == most_calls) ≡ false = call_room birth me at draft given (checks_post (checked birth me at draft) given answered) in grind (arith, nat_tests)
-room_of_post birth me at draft (Err e) l answered = tt
+pub room_of_post : (ops : List Operation) (birth : BirthView) (me : ℕ) (at : At) (draft : Draft) (answer : Result Given PostError) → at.call ≤ most_calls → Checks (checked ops birth me at draft) answer → OnOk answer (at.call < most_calls)
+room_of_post ops birth me at draft (Ok given) l answered = let room : (at.call == most_calls) ≡ false = call_room ops birth me at draft given (checks_post (checked ops birth me at draft) given answered) in grind (arith, nat_tests)
+room_of_post ops birth me at draft (Err e) l answered = tt
+
+-- the same of a call that stands there
+pub room_of_call : (ops : List Operation) (birth : BirthView) (me : ℕ) (here there : At) (draft : Draft) (answer : Result Given PostError) → here ≡ there → there.call ≤ most_calls → Checks (checked ops birth me here draft) answer → OnOk answer (there.call < most_calls)
+room_of_call ops birth me here there draft answer e l answered = room_of_post ops birth me there draft answer l (subst (λ (a : At). Checks (checked ops birth me a draft) answer) e answered)

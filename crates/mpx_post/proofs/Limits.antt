@@ -7,10 +7,12 @@ use Rattle.std.proofs.lemmas.Bool.{and_parts}
 use Rattle.std.proofs.lemmas.Bool.Decides.{nat_tests}
 use Rattle.std.proofs.lemmas.List.{length-map}
 use Rattle.mpx_num.specs.declared.operations.Op.{Op}
+use Rattle.mpx_num.specs.declared.operations.Op.TheVariants.{Own}
+use Rattle.mpx_num.specs.declared.own.Operation.{Operation}
 use Rattle.mpx_num.specs.declared.types.Ty.{Ty}
 use Rattle.mpx_num.specs.declared.types.Ty.TheVariants.{I8}
 use Rattle.mpx_num.specs.ItemList.{ItemList}
-use Rattle.mpx_num.specs.Operations.{fits}
+use Rattle.mpx_num.specs.Operations.{fits, is_for}
 use Rattle.mpx_num.specs.Types.{item_len}
 use Rattle.mpx_kind.specs.declared.kinds.Kind.{Kind}
 use Rattle.mpx_kind.specs.declared.kinds.Kind.TheVariants.{Barrier, Bcast, Gather, Gatherv, Scatter, Scatterv, Allgather, Allgatherv, Alltoall, Alltoallv, Reduce, Allreduce, ReduceScatterBlock, ReduceScatter, Scan, Exscan, Dup, Split, Create, CreateGroup, DistGraph, DistGraphAdjacent, NeighborAllgather, NeighborAllgatherv, NeighborAlltoall, NeighborAlltoallv, Free}
@@ -62,6 +64,11 @@ AreCounts-from numbers h few = record {
 pub counts_given : (had : Bool) (numbers : List ℤ) → NoneUnless had (naturals (cond had numbers []))
 counts_given true numbers = tt
 counts_given false numbers = refl
+
+-- an operation that is for a type may stand beside it
+pub is_for-fits : (ops : List Operation) (op : Op) (ty : Ty) → is_for ops op ty ≡ true → fits op ty ≡ true
+is_for-fits ops (Own place) ty h = refl
+is_for-fits ops op ty h = h
 
 -- a kind with an operation has items
 typed : (kind : Kind) → (fields_of kind).op ≡ true → (fields_of kind).items ≡ true

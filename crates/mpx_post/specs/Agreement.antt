@@ -3,6 +3,7 @@ use Rattle.std.specs.Prelude.{◌≡◌, ℕ, ◌*◌, ◌<◌, ◌==◌, ◌&&�
 use Rattle.std.specs.List.{sum, list_all}
 use Rattle.mpx_group.specs.Group.{has_twice}
 use Rattle.std.specs.Option.{option_map, option_map_or}
+use Rattle.mpx_num.specs.declared.own.Operation.{Operation}
 use Rattle.mpx_num.specs.declared.types.Ty.{Ty}
 use Rattle.mpx_num.specs.ItemList.{ItemList}
 use Rattle.mpx_num.specs.Types.{item_len}
@@ -15,7 +16,7 @@ use Rattle.mpx_post.specs.Kinds.{fields_of, number_in}
 use Rattle.mpx_post.specs.Seats.{lacks_topology, seat_at}
 use Rattle.mpx_post.specs.Topologies.{TopologyView}
 use Rattle.mpx_birth.specs.Ends.{Meet}
-use Rattle.mpx_post.specs.Posts.{Given, nothing_given, root_of, type_of, numbers_of, count_of, destinations_of, edges_of, fits_root, fits_type, group_of, sources_of, weighted_of}
+use Rattle.mpx_post.specs.Posts.{Given, nothing_given, root_of, type_of, numbers_of, count_of, destinations_of, edges_of, fits_root, fits_type, group_of, sources_of, suits, weighted_of}
 use Rattle.mpx_birth.specs.declared.edges.Edge.{Edge}
 use Rattle.mpx_birth.specs.declared.edges.Neighbour.{Neighbour}
 use Rattle.mpx_birth.specs.Edges.{weights_of}
@@ -84,8 +85,8 @@ fits_counts seat given = (length given.scounts == number_in (fields_of given.kin
     && fill (blocks_of seat given) given)
 
 -- the post could be that of the member with this rank, of so many, in a communicator with this topology: none of
--- RootOutOfRange, OpNotForType, CountsLength, ItemsLength, NoTopology and, for ranks out of range or twice, BadGroup and
--- BadEdge holds of it
+-- RootOutOfRange, OpNotForType (where the operation is a predefined one), CountsLength, ItemsLength, NoTopology and, for ranks
+-- out of range or twice, BadGroup and BadEdge holds of it
 abbrev pub is_fit : Option TopologyView → (size rank : ℕ) → Given → Bool
 is_fit topology size rank given = fits_root size given
     && (fits_type given
@@ -171,7 +172,11 @@ pub record Agrees (topology : Option TopologyView) (row : RowView) (rank : ℕ) 
 pub record IsFineWith (topology : Option TopologyView) (row : RowView) : Type 0 where
   pub each : (rank : ℕ) → rank < length row → Agrees topology row rank
 
--- they do in some communicator. What they give is the same in all of them, but along edges.
+-- the operation of each member's post is for its type, by the job's own operations
+pub record AllSuit (ops : List Operation) (row : RowView) : Type 0 where
+  pub each : (rank : ℕ) → rank < length row → suits ops (post_at row rank) ≡ true
+
+-- the posts fit and agree in some communicator. What they give is the same in all of them, but along edges.
 pub record IsFine (row : RowView) : Type 0 where
   pub topology : Option TopologyView
   pub with : IsFineWith topology row

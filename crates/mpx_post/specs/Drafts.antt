@@ -4,7 +4,8 @@ use Rattle.std.specs.List.{list_all, sum}
 use Rattle.std.specs.Option.{option_map, option_map_or}
 use Rattle.std.specs.Ordering.{int_eq}
 use Rattle.mpx_num.specs.ItemList.{is_whole}
-use Rattle.mpx_num.specs.Operations.{fits}
+use Rattle.mpx_num.specs.declared.own.Operation.{Operation}
+use Rattle.mpx_num.specs.Operations.{fits, is_for}
 use Rattle.mpx_num.specs.Types.{least, greatest, item_len}
 use Rattle.mpx_num.specs.declared.types.Ty.{Ty}
 use Rattle.mpx_num.specs.declared.types.Ty.TheVariants.{I32}
@@ -184,11 +185,12 @@ place_refusals size at draft =
     ∷ (not (has_colour_and_key (fields_of (kind_of draft.call)).makes draft), BadTag)
     ∷ []
 
--- of the root, the operation and the counts, and whether there are more or fewer items than these tell
-abbrev pub asked_first : Seat → Draft → (misfilled : Bool) → List (Bool × PostError)
-asked_first seat draft misfilled =
+-- of the root, the operation, which is for the type or not, and the counts, and whether there are more or fewer items than
+-- these tell
+abbrev pub asked_first : (for_type : Bool) → Seat → Draft → (misfilled : Bool) → List (Bool × PostError)
+asked_first for_type seat draft misfilled =
     ((fields_of (kind_of draft.call)).root && not (is_rank seat.size draft.root), RootOutOfRange)
-    ∷ ((fields_of (kind_of draft.call)).op && not (fits draft.op draft.ty), OpNotForType)
+    ∷ ((fields_of (kind_of draft.call)).op && not for_type, OpNotForType)
     ∷ (not (has_its_counts seat draft), CountsLength)
     ∷ (misfilled, ItemsLength)
     ∷ []
@@ -205,9 +207,9 @@ number_refusals draft =
     ∷ []
 
 -- why a member may not post this as its next call, in the order in which it is told
-abbrev pub refusals : Seat → At → Draft → List (Bool × PostError)
-refusals seat at draft =
-    asked_first seat draft (not (is_whole draft.ty (drafted_numbers draft)) || is_misfilled seat draft)
+abbrev pub refusals : (for_type : Bool) → Seat → At → Draft → List (Bool × PostError)
+refusals for_type seat at draft =
+    asked_first for_type seat draft (not (is_whole draft.ty (drafted_numbers draft)) || is_misfilled seat draft)
     ++ number_refusals draft
     ++ place_refusals seat.size at draft
 
@@ -274,24 +276,24 @@ abbrev pub refusal_of : {A E : Type 0} → Result A E → Option E
 refusal_of (Ok a) = None
 refusal_of (Err e) = Some e
 
--- what the draft of a member comes to
-abbrev pub checked_in : Seat → At → Draft → Result Given PostError
-checked_in seat at draft = unless (first_that_holds (refusals seat at draft)) (given_by draft)
+-- what the draft of a member comes to, whose operation is for its type or not
+abbrev pub checked_in : (for_type : Bool) → Seat → At → Draft → Result Given PostError
+checked_in for_type seat at draft = unless (first_that_holds (refusals for_type seat at draft)) (given_by draft)
 
--- what the draft of the member with this rank comes to, where it hasn't posted a free
-abbrev pub checked_as : (rank : ℕ) → BirthView → At → Draft → Result Given PostError
-checked_as rank birth at draft =
+-- what the draft of the member with this rank comes to, where it hasn't posted a free, by the job's own operations
+abbrev pub checked_as : List Operation → (rank : ℕ) → BirthView → At → Draft → Result Given PostError
+checked_as ops rank birth at draft =
     cond (lacks_topology birth.topology (kind_of draft.call))
     (unless (first_that_holds (stray_refusals draft)) (given_by draft))
-    (checked_in (drafted_seat birth rank draft) at draft)
+    (checked_in (is_for ops draft.op draft.ty) (drafted_seat birth rank draft) at draft)
 
-abbrev pub checked_at : Option ℕ → BirthView → At → Draft → Result Given PostError
-checked_at None birth at draft = Err NotMember
-checked_at (Some rank) birth at draft = cond at.closed (Err Closed) (checked_as rank birth at draft)
+abbrev pub checked_at : List Operation → Option ℕ → BirthView → At → Draft → Result Given PostError
+checked_at ops None birth at draft = Err NotMember
+checked_at ops (Some rank) birth at draft = cond at.closed (Err Closed) (checked_as ops rank birth at draft)
 
--- what a draft comes to: its first refusal, or its post
-unfoldable pub checked : BirthView → ℕ → At → Draft → Result Given PostError
-checked birth me at draft = checked_at (rank_in me birth.members) birth at draft
+-- what a draft comes to, by the job's own operations: its first refusal, or its post
+unfoldable pub checked : List Operation → BirthView → ℕ → At → Draft → Result Given PostError
+checked ops birth me at draft = checked_at ops (rank_in me birth.members) birth at draft
 
 -- the refusal of a draft, or its post, or want of memory in the place of the post
 abbrev pub Checks : Result Given PostError → Result Given PostError → Type 0

@@ -9,7 +9,8 @@ use Rattle.mpx_num.specs.declared.operations.Op.{Op}
 use Rattle.mpx_num.specs.declared.operations.Op.TheVariants.{Sum}
 use Rattle.mpx_num.specs.Types.{item_len}
 use Rattle.mpx_num.specs.ItemList.{AreItems, ItemList, item_count}
-use Rattle.mpx_num.specs.Operations.{fits}
+use Rattle.mpx_num.specs.declared.own.Operation.{Operation}
+use Rattle.mpx_num.specs.Operations.{fits, is_for}
 use Rattle.mpx_kind.specs.declared.kinds.Kind.{Kind}
 use Rattle.mpx_kind.specs.declared.kinds.Kind.TheVariants.{Barrier}
 use Rattle.mpx_kind.specs.declared.kinds.Mode.{Mode}
@@ -184,9 +185,13 @@ destinations_of given = destinations_in given.making
 abbrev pub fits_root : ℕ → Given → Bool
 fits_root size given = option_map_or (λ root. nat_lt root size) given.root true
 
--- an operation is defined on the items' type
+-- an operation may stand beside the items' type
 abbrev pub fits_type : Given → Bool
 fits_type given = option_map_or (λ op. fits op (type_of given)) given.op true
+
+-- it is for that type, one of the job's own as its object says
+abbrev pub suits : List Operation → Given → Bool
+suits ops given = option_map_or (λ op. is_for ops op (type_of given)) given.op true
 
 -- no counts, where there is no list of them
 abbrev pub NoneUnless : (had : Bool) → List ℕ → Type 0
@@ -198,8 +203,8 @@ abbrev pub are_items_of : Option ItemList → Type 0
 are_items_of None = Unit {0}
 are_items_of (Some items) = AreItems items.ty items.nums
 
--- it has the fields of its kind and no others, a mode of its family, a root below 64, an operation on the items' type, and
--- not too many items
+-- it has the fields of its kind and no others, a mode of its family, a root below 64, an operation that may stand beside the
+-- items' type, and not too many items
 pub record IsPost (given : Given) : Type 0 where
   pub root : is_some given.root ≡ (fields_of given.kind).root
   pub root_below : fits_root 64 given ≡ true

@@ -9,12 +9,13 @@ use crate::graph_fields::{are_edges, edge_count};
 use crate::making_fields::are_ranks;
 use crate::post::Post;
 use join_core::OutOfMemory;
+use mpx_num::may_stand;
 use std::alloc::Global;
 
 impl Draft {
     /// The post of this draft, whatever the communicator: ranks are below 64, and the numbers of counts and of items, which
     /// depend on the communicator, aren't compared. None where a field that the kind has is out of its limit: the root,
-    /// the operation on its type, items (at most 4,096), counts (each at most 4,096, at most 65,535 in a list), the ranks
+    /// the operation beside its type, items (at most 4,096), counts (each at most 4,096, at most 65,535 in a list), the ranks
     /// of a group, edges (at most 512), a colour or a key. Memory is wanting only where no field is.
     pub fn bare(self, alloc: Global) -> Result<Option<Post>, OutOfMemory>
         ensures made { IfOk result (λ made. MatchOption made
@@ -22,7 +23,8 @@ impl Draft {
             (λ post. (has_spelling self ≡ true) × (post ≡ given_by self))) }
         ensures memory { OnErr result (has_spelling self ≡ true) }
     {
-        let wrong = self.has_wrong_root(64) | self.has_wrong_op();
+        let stands = may_stand(self.op, self.ty);
+        let wrong = self.has_wrong_root(64) | self.has_wrong_op(stands);
         if wrong | !self.has_few_counts() | !self.has_making() {
             return Ok(None);
         }

@@ -22,7 +22,7 @@ use mpx_birth::Birth;
 use mpx_group::Proc;
 use mpx_kind::{Call, Seat};
 use mpx_name::Name;
-use mpx_num::{Numbers, Op, Ty};
+use mpx_num::{Listing, Numbers, Op, Ops, Ty, op_fits};
 use std::alloc::Global;
 use thiserror::Error;
 
@@ -89,7 +89,7 @@ pub enum PostError {
     Closed,
     /// The root is no rank of the communicator.
     RootOutOfRange,
-    /// The operation isn't defined on the type.
+    /// The operation isn't for the type.
     OpNotForType,
     /// A list of counts has another length than the kind asks for.
     CountsLength,
@@ -123,8 +123,15 @@ pub const MOST_CALLS: u32 = 4_294_967_295;
 
 impl Draft {
     /// The post of this draft, or the first reason why the process may not post it as its next call.
-    pub fn check(self, alloc: Global, birth: &Birth, me: Proc, at: &At) -> Result<Post, PostError>
-        ensures { Checks (checked birth.now me at.now self) result }
+    pub fn check(
+        self,
+        alloc: Global,
+        birth: &Birth,
+        me: Proc,
+        at: &At,
+        ops: &Ops,
+    ) -> Result<Post, PostError>
+        ensures { Checks (checked (⟦<Ops as Listing>⟧.operations ops.now) birth.now me at.now self) result }
     {
         match birth.rank_of(me) {
             None => Err(PostError::NotMember),
@@ -136,7 +143,8 @@ impl Draft {
                     return Err(self.stray_refusal());
                 }
                 let seat = self.seat(birth, rank);
-                self.check_in(alloc, &seat, at)
+                let for_type = op_fits(self.op, self.ty, ops);
+                self.check_in(alloc, &seat, at, for_type)
             }
         }
     }
@@ -151,16 +159,17 @@ impl Draft {
         name: &Name,
         call: u32,
         closed: bool,
+        ops: &Ops,
     ) -> Result<Post, PostError>
-        ensures value { Checks (checked birth.now me (at name.now call closed) self) result }
+        ensures value { Checks (checked (⟦<Ops as Listing>⟧.operations ops.now) birth.now me (at name.now call closed) self) result }
         ensures room { OnOk result (call < most_calls) }
     {
-        self.check(alloc, birth, me, &At::on(name, call, closed))
+        self.check(alloc, birth, me, &At::on(name, call, closed), ops)
     }
 
     /// The first reason why [`Draft::check`] would refuse this draft. It takes no memory.
-    pub fn refusal(&self, birth: &Birth, me: Proc, at: &At) -> Option<PostError>
-        ensures { result ≡ refusal_of (checked birth.now me at.now self.now) }
+    pub fn refusal(&self, birth: &Birth, me: Proc, at: &At, ops: &Ops) -> Option<PostError>
+        ensures { result ≡ refusal_of (checked (⟦<Ops as Listing>⟧.operations ops.now) birth.now me at.now self.now) }
     {
         match birth.rank_of(me) {
             None => Some(PostError::NotMember),
@@ -172,7 +181,8 @@ impl Draft {
                     return Some(self.stray_refusal());
                 }
                 let seat = self.seat(birth, rank);
-                self.refusal_in(&seat, at)
+                let for_type = op_fits(self.op, self.ty, ops);
+                self.refusal_in(&seat, at, for_type)
             }
         }
     }
@@ -221,28 +231,35 @@ impl Draft {
         }
     }
 
-    // The post of this draft, or why the member may not post it.
-    fn check_in(self, alloc: Global, seat: &Seat, at: &At) -> Result<Post, PostError>
+    // The post of this draft, whose operation is for its type or not, or why the member may not post it.
+    fn check_in(
+        self,
+        alloc: Global,
+        seat: &Seat,
+        at: &At,
+        for_type: bool,
+    ) -> Result<Post, PostError>
+        requires op { for_type ≡ true → fits self.op self.ty ≡ true }
         requires size { seat.now.size ≤ 64 }
         requires sources { seat.now.indegree ≤ most_neighbours }
         requires destinations { seat.now.outdegree ≤ most_neighbours }
-        ensures { Checks (checked_in seat.now at.now self) result }
+        ensures { Checks (checked_in for_type seat.now at.now self) result }
     {
-        if let Some(refusal) = self.shape_refusal(seat) {
+        if let Some(refusal) = self.shape_refusal(seat, for_type) {
             return Err(refusal);
         }
         let refusal = self.place_refusal(seat.size, at);
         self.posted(alloc, refusal)
     }
 
-    // Why the member may not post this draft.
-    fn refusal_in(&self, seat: &Seat, at: &At) -> Option<PostError>
+    // Why the member may not post this draft, whose operation is for its type or not.
+    fn refusal_in(&self, seat: &Seat, at: &At, for_type: bool) -> Option<PostError>
         requires size { seat.now.size ≤ 64 }
         requires sources { seat.now.indegree ≤ most_neighbours }
         requires destinations { seat.now.outdegree ≤ most_neighbours }
-        ensures { result ≡ refusal_of (checked_in seat.now at.now self.now) }
+        ensures { result ≡ refusal_of (checked_in for_type seat.now at.now self.now) }
     {
-        if let Some(refusal) = self.shape_refusal(seat) {
+        if let Some(refusal) = self.shape_refusal(seat, for_type) {
             return Some(refusal);
         }
         if let Some(refusal) = self.numbers_refusal() {

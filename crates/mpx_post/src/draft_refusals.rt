@@ -1,6 +1,5 @@
 // Why a draft is refused: what is asked of it, in the order in which it is told.
 ghost use Rattle.std.specs.Prelude.{◌≡◌, ◌≤◌, ◌&&◌, nat_le, Some, not, length};
-ghost use Rattle.mpx_num.specs.Operations.{fits};
 ghost use Rattle.mpx_post.specs.Drafts.{asked_first, first_that_holds, has_bad_group, has_colour_and_key, has_its_counts, is_misfilled, is_rank as is_rank_of, most_steps, numbers_refusal, place_refusals, ranks_in, received_counts, sent_counts, stray_refusals};
 ghost use Rattle.mpx_post.specs.Kinds.{family_of, fields_of, kind_of, makes_communicators};
 ghost use Rattle.mpx_post.specs.Topologies.{most_neighbours};
@@ -11,7 +10,6 @@ use crate::graph_fields::{are_edges, edge_count};
 use crate::making_fields::{are_ranks, is_colour, is_key};
 use crate::post_fields::{are_all_of, is_misfill, is_rank, where_had};
 use mpx_kind::{Makes, Seat, Sent};
-use mpx_num::op_fits;
 
 impl Draft {
     // Why it is refused where it lacks a topology.
@@ -51,17 +49,17 @@ impl Draft {
         None
     }
 
-    // Why its root, its operation or its counts refuse it.
-    pub(crate) fn shape_refusal(&self, seat: &Seat) -> Option<PostError>
+    // Why its root, its operation, which is for its type or not, or its counts refuse it.
+    pub(crate) fn shape_refusal(&self, seat: &Seat, for_type: bool) -> Option<PostError>
         requires size { seat.now.size ≤ 64 }
         requires sources { seat.now.indegree ≤ most_neighbours }
         requires destinations { seat.now.outdegree ≤ most_neighbours }
-        ensures { result ≡ first_that_holds (asked_first seat.now self.now (is_misfilled seat.now self.now)) }
+        ensures { result ≡ first_that_holds (asked_first for_type seat.now self.now (is_misfilled seat.now self.now)) }
     {
         if self.has_wrong_root(seat.size) {
             return Some(PostError::RootOutOfRange);
         }
-        if self.has_wrong_op() {
+        if self.has_wrong_op(for_type) {
             return Some(PostError::OpNotForType);
         }
         if self.has_wrong_lengths(seat) {
@@ -106,10 +104,10 @@ impl Draft {
         self.call.kind().fields().root & !is_rank(size, self.root)
     }
 
-    pub(crate) fn has_wrong_op(&self) -> bool
-        ensures { result ≡ ((fields_of (kind_of self.now.call)).op && not (fits self.now.op self.now.ty)) }
+    pub(crate) fn has_wrong_op(&self, for_type: bool) -> bool
+        ensures { result ≡ ((fields_of (kind_of self.now.call)).op && not for_type) }
     {
-        self.call.kind().fields().op & !op_fits(self.op, self.ty)
+        self.call.kind().fields().op & !for_type
     }
 
     fn has_wrong_lengths(&self, seat: &Seat) -> bool

@@ -40,7 +40,7 @@ pub use mpx_kind::{
     Call, Exchange, Family, Fields, Kind, Makes, Mode, Neighbourhood, NewCommunicator, Number,
     Reduction, Seat, Sent,
 };
-pub use post::Post;
+pub use post::{Post, have_same_op};
 pub use ranks::Ranks;
 pub use row::Row;
 pub use value::Value;

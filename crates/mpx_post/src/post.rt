@@ -5,7 +5,7 @@ ghost use Rattle.mpx_num.specs.ItemList.{ItemList};
 ghost use Rattle.mpx_post.specs.Kinds.{fields_of};
 ghost use Rattle.mpx_post.specs.Ranks.{AreRanks};
 ghost use Rattle.mpx_post.specs.Posts.{AreCounts, Given, IsColour, IsPost, are_items_of, colour_of, count_of, destinations_of, edges_of, few_items, group_of, is_free, key_of, sources_of, weighted_of};
-ghost use Rattle.mpx_post.specs.Equality.{same_option, same_items};
+ghost use Rattle.mpx_post.specs.Equality.{same_option, same_items, same_operations};
 ghost use Rattle.mpx_post.specs.Graphs.{AreEdges, AreNeighbours};
 
 use crate::counts::Counts;
@@ -62,7 +62,7 @@ impl Exact for Post {
         (self.kind == other.kind)
             & (self.mode == other.mode)
             & (self.root == other.root)
-            & (self.op == other.op)
+            & have_same_op(self.op, other.op)
             & self.scounts.same(&other.scounts)
             & self.rcounts.same(&other.rcounts)
             & are_same(self.items(), other.items())
@@ -284,6 +284,18 @@ impl Post {
         } else {
             0
         }
+    }
+}
+
+/// Whether both have none, or the same operation: one of a job's own is the same at the same place.
+pub fn have_same_op(left: Option<Op>, right: Option<Op>) -> bool
+    ensures { result ≡ same_operations left right }
+{
+    match (left, right) {
+        (None, None) => true,
+        (None, Some(_)) => false,
+        (Some(_), None) => false,
+        (Some(left), Some(right)) => left.code() == right.code(),
     }
 }
 

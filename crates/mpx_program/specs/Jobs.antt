@@ -2,6 +2,7 @@
 use Rattle.std.specs.Prelude.{◌≡◌, ◌≢◌, ◌⊎◌, ℕ, List, Option, Some, None, Result, Err, codes}
 use Rattle.clap.specs.declared.error.kind.ErrorKind.{ErrorKind}
 use Rattle.clap.specs.declared.error.kind.ErrorKind.TheVariants as kind
+use Rattle.mpx_num.specs.declared.own.Operation.{Operation}
 use Rattle.mpx_threads.specs.Gates.{nowhere}
 use Rattle.mpx_run.specs.Texts.{Runs}
 use Rattle.mpx_run.specs.declared.end.End.{End}
@@ -11,10 +12,10 @@ use Rattle.mpx_run.specs.declared.texts.RunError.TheVariants.{GateGaveUp}
 use Rattle.mpx_program.specs.Status.{message, refusal_status, status}
 use Rattle.mpx_words.specs.Words.{job_in}
 
--- a job is done with a script, no gate ends it, and its answer gives the status and what is said
-pub record DoesWith (job : Job) (there left old new : Option (List ℕ)) (code : ℕ) (Says : List ℕ → Type 0) : Type 0 where
+-- a job is done with a script by its own operations, no gate ends it, and its answer gives the status and what is said
+pub record DoesWith (ops : List Operation) (job : Job) (there left old new : Option (List ℕ)) (code : ℕ) (Says : List ℕ → Type 0) : Type 0 where
   pub answer : Result End RunError
-  pub runs : Runs nowhere job there left old new answer
+  pub runs : Runs ops nowhere job there left old new answer
   pub ungated : answer ≢ Err GateGaveUp
   pub status : code ≡ status answer
   pub says : Says (message answer)
@@ -33,11 +34,11 @@ pub record Refuses (words : List (List ℕ)) (there left old new : Option (List 
   pub unwritten : new ≡ old
 
 -- the words ask for a job
-pub record DoesWords (words : List (List ℕ)) (there left old new : Option (List ℕ)) (code : ℕ) (Says : List ℕ → Type 0) : Type 0 where
+pub record DoesWords (ops : List Operation) (words : List (List ℕ)) (there left old new : Option (List ℕ)) (code : ℕ) (Says : List ℕ → Type 0) : Type 0 where
   pub job : Job
   pub asks : job_in words ≡ Some job
-  pub does : DoesWith job there left old new code Says
+  pub does : DoesWith ops job there left old new code Says
 
 -- the words ask for a job, or are refused
-abbrev pub Does : (words : List (List ℕ)) (there left old new : Option (List ℕ)) (code : ℕ) (Says : List ℕ → Type 0) → Type 0
-Does words there left old new code Says = DoesWords words there left old new code Says ⊎ Refuses words there left old new code Says
+abbrev pub Does : (ops : List Operation) (words : List (List ℕ)) (there left old new : Option (List ℕ)) (code : ℕ) (Says : List ℕ → Type 0) → Type 0
+Does ops words there left old new code Says = DoesWords ops words there left old new code Says ⊎ Refuses words there left old new code Says

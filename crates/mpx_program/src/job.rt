@@ -5,6 +5,7 @@ ghost use Rattle.clap.specs.Words.{kind_of};
 ghost use Rattle.mpx_program.specs.Jobs.{Does, IsRefused};
 
 use crate::status::{refusal_status, status_of, write_message, write_refusal};
+use mpx_num::{Listing, Ops};
 use mpx_run::{Observer, OpenGate, Unobserved, run_text_observed};
 use mpx_words::job_of;
 use std::alloc::Global;
@@ -30,11 +31,12 @@ pub fn run_job<T: Threads + Wait + Sync, R: Read, W: Write, E: Write>(
     reader: &mut R,
     out: &mut W,
     err: &mut E,
+    ops: &Ops,
 ) -> Exit
-    ensures { Does (map string_bytes words.now) (R.remaining reader.old) (R.remaining reader.new) (W.contents out.old) (W.contents out.new)
+    ensures { Does (⟦<Ops as Listing>⟧.operations ops.now) (map string_bytes words.now) (R.remaining reader.old) (R.remaining reader.new) (W.contents out.old) (W.contents out.new)
         result.status (λ said. OnOk result.told (Appends (E.contents err.old) (E.contents err.new) said)) }
 {
-    run_job_observed(rt, alloc, words, reader, out, err, &mut Unobserved)
+    run_job_observed(rt, alloc, words, reader, out, err, &mut Unobserved, ops)
 }
 
 /// The same, with somebody who looks on at the run, where the words ask for a simulated one.
@@ -46,13 +48,14 @@ pub fn run_job_observed<T: Threads + Wait + Sync, R: Read, W: Write, E: Write>(
     out: &mut W,
     err: &mut E,
     observer: &mut dyn Observer,
+    ops: &Ops,
 ) -> Exit
-    ensures { Does (map string_bytes words.now) (R.remaining reader.old) (R.remaining reader.new) (W.contents out.old) (W.contents out.new)
+    ensures { Does (⟦<Ops as Listing>⟧.operations ops.now) (map string_bytes words.now) (R.remaining reader.old) (R.remaining reader.new) (W.contents out.old) (W.contents out.new)
         result.status (λ said. OnOk result.told (Appends (E.contents err.old) (E.contents err.new) said)) }
 {
     match job_of(alloc, words) {
         Ok(job) => {
-            let answer = run_text_observed(rt, alloc, &job, reader, out, observer, &OpenGate);
+            let answer = run_text_observed(rt, alloc, &job, reader, out, observer, &OpenGate, ops);
             Exit {
                 status: status_of(&answer),
                 told: write_message(&answer, err),

@@ -4,6 +4,7 @@ use Rattle.std.specs.Prelude.{Ok, Err, is_some, slice_get}
 use Rattle.std.specs.Option.{option_map}
 use Rattle.std.proofs.lemmas.List.{map-append, append-nil}
 use Rattle.std.proofs.lemmas.Option.{same_Some}
+use Rattle.mpx_num.specs.declared.own.Operation.{Operation}
 use Rattle.mpx_name.specs.Name.{Name}
 use Rattle.mpx_post.specs.declared.draft.PostError.{PostError}
 use Rattle.mpx_post.specs.declared.draft.PostError.TheVariants.{OutOfMemory}
@@ -44,19 +45,19 @@ IsOn s posting on = (c : CommunicatorView) → on ≡ Some c → named s.bound (
 -- tells is known; the communicator that a call gave is that of the known answer; a communicator is closed where the rank has
 -- freed it, else known; and what is tried of the next statement comes to what the statement comes to. After a step of the rank
 -- the carrier fits as After says
-pub record GoesBy {C : Type 0} (terms : Terms C CommunicatorView) (known : Results) (me : ℕ) (s : Local) (Fits : C → Type 0) (After : Local → C → Type 0) : Type 0 where
+pub record GoesBy (ops : List Operation) {C : Type 0} (terms : Terms C CommunicatorView) (known : Results) (me : ℕ) (s : Local) (Fits : C → Type 0) (After : Local → C → Type 0) : Type 0 where
   pub hears : (c d : C) → Fits c → terms.hears c d → Fits d
   pub tells : (c : C) → Fits c → IsWithin (terms.tells c me) (outcomes_of known)
   pub gives : (c : C) → Fits c → (name : Name) (call : ℕ) (to : Option CommunicatorView) → terms.gives c me name call to → (answer : Answer) × (known name call ≡ Some answer) × (bound_as to ≡ bound_by answer.outcome answer.born)
   pub closes : (c : C) → Fits c → (communicator : CommunicatorView) → terms.closes c me communicator ≡ has_freed communicator.0 s.made
   pub knows : (c : C) → Fits c → (communicator : CommunicatorView) → terms.closes c me communicator ≡ false → terms.knows c communicator ≡ Some communicator
-  pub quiet : (c : C) → Fits c → (t : Local) → step known s ≡ Some t → t.made ≡ s.made → After t c
+  pub quiet : (c : C) → Fits c → (t : Local) → step ops known s ≡ Some t → t.made ≡ s.made → After t c
   pub posts : (c d : C) → Fits c → (posting : Posting) (rest : List Todo) → s.todo ≡ Do (Post posting) ∷ rest → (on : Option CommunicatorView) → IsOn s posting on
       → (name : Name) (call : ℕ) → terms.tries c me posting on (Ok (Some (name, call))) d
-      → (m : Made) × (attempt_by me s.made posting on ≡ Ok m) × (name ≡ m.name) × (call ≡ next_call m.name s.made) × ((t : Local) → step known s ≡ Some t → t.made ≡ s.made ++ m ∷ [] → After t d)
+      → (m : Made) × (attempt_by ops me s.made posting on ≡ Ok m) × (name ≡ m.name) × (call ≡ next_call m.name s.made) × ((t : Local) → step ops known s ≡ Some t → t.made ≡ s.made ++ m ∷ [] → After t d)
   pub refuses : (c d : C) → Fits c → (posting : Posting) (rest : List Todo) → s.todo ≡ Do (Post posting) ∷ rest → (on : Option CommunicatorView) → IsOn s posting on
       → (refusal : PostError) → (refusal ≡ OutOfMemory → ⊥) → terms.tries c me posting on (Err refusal) d
-      → (attempt_by me s.made posting on ≡ Err refusal) × ((t : Local) → step known s ≡ Some t → t.made ≡ s.made → After t d)
+      → (attempt_by ops me s.made posting on ≡ Err refusal) × ((t : Local) → step ops known s ≡ Some t → t.made ≡ s.made → After t d)
   pub not_now : (c d : C) → Fits c → (posting : Posting) (rest : List Todo) → s.todo ≡ Do (Post posting) ∷ rest → (on : Option CommunicatorView) → IsOn s posting on → terms.tries c me posting on (Ok None) d → Fits d
 
 -- what a carrier told a rank it still tells when it has heard of others, and when it has tried a post
@@ -69,16 +70,16 @@ abbrev pub TellsLines : {C : Type 0} → Terms C CommunicatorView → (me : ℕ)
 TellsLines terms me c s = (i : ℕ) (name : Name) (call : ℕ) (outcome : Outcome) → slice_get s.lines i ≡ Some (Told name call outcome) → terms.tells c me name call ≡ Some outcome
 
 -- the rank has made the step of its script, from there and the carrier c, and now stands at r, with the carrier d
-pub record Stepped {C : Type 0} (terms : Terms C CommunicatorView) (known : Results) (me : ℕ) (s : Local) (c : C) (After : Local → C → Type 0) (r : RankView CommunicatorView) (d : C) : Type 0 where
+pub record Stepped (ops : List Operation) {C : Type 0} (terms : Terms C CommunicatorView) (known : Results) (me : ℕ) (s : Local) (c : C) (After : Local → C → Type 0) (r : RankView CommunicatorView) (d : C) : Type 0 where
   pub to : Local
-  pub steps : step known s ≡ Some to
+  pub steps : step ops known s ≡ Some to
   pub stands : Stands r to
   pub fits : After to d
   pub tells : StaysTold terms me → TellsLines terms me c s → TellsLines terms me d to
 
 -- ONE MOVE
 
-module _ {C : Type 0} (terms : Terms C CommunicatorView) (known : Results) (r : RankView CommunicatorView) (s : Local) (stands : Stands r s) (local_me : s.me ≡ r.me) (Fits : C → Type 0) (After : Local → C → Type 0) (by : GoesBy terms known r.me s Fits After) where
+module _ (ops : List Operation) {C : Type 0} (terms : Terms C CommunicatorView) (known : Results) (r : RankView CommunicatorView) (s : Local) (stands : Stands r s) (local_me : s.me ≡ r.me) (Fits : C → Type 0) (After : Local → C → Type 0) (by : GoesBy ops terms known r.me s Fits After) where
   todo_is : (waits : Option WaitView) (todo : List Statement) → r.waits ≡ waits → r.todo ≡ todo → s.todo ≡ todo_of waits todo
   todo_is waits todo w e = stands.todo ∙ λ i. todo_of (w i) (e i)
 
@@ -92,7 +93,7 @@ module _ {C : Type 0} (terms : Terms C CommunicatorView) (known : Results) (r : 
   abbrev News : Act → C → Type 0
   News a d = (i : ℕ) (name : Name) (call : ℕ) (outcome : Outcome) → slice_get a.lines i ≡ Some (Told name call outcome) → terms.tells d r.me name call ≡ Some outcome
 
-  stepped : (c d : C) (new : RankView CommunicatorView) (a : Act) → step known s ≡ Some (done s a) → Stands new (done s a) → After (done s a) d → (StaysTold terms r.me → IsWithin (terms.tells c r.me) (terms.tells d r.me)) → (StaysTold terms r.me → News a d) → Stepped terms known r.me s c After new d
+  stepped : (c d : C) (new : RankView CommunicatorView) (a : Act) → step ops known s ≡ Some (done s a) → Stands new (done s a) → After (done s a) d → (StaysTold terms r.me → IsWithin (terms.tells c r.me) (terms.tells d r.me)) → (StaysTold terms r.me → News a d) → Stepped ops terms known r.me s c After new d
   stepped c d new a e there fits within news = record {
     to = done s a;
     steps = e;
@@ -119,21 +120,21 @@ module _ {C : Type 0} (terms : Terms C CommunicatorView) (known : Results) (r : 
   is_on : (posting : Posting) → IsOn s posting (communicator_in (r.bound (posted_on posting)))
   is_on posting c e = sym (stands.bound (posted_on posting)) ∙ bound_there (r.bound (posted_on posting)) c e
 
-  attempt_is : (posting : Posting) → attempt s.me s.bound s.made posting ≡ attempt_by r.me s.made posting (communicator_in (r.bound (posted_on posting)))
+  attempt_is : (posting : Posting) → attempt ops s.me s.bound s.made posting ≡ attempt_by ops r.me s.made posting (communicator_in (r.bound (posted_on posting)))
   attempt_is posting =
-      attempt_same s.me s.made posting (named s.bound (posted_on posting))
-      ∙ λ i. attempt_by (local_me i) s.made posting ((ap communicator_of (sym (stands.bound (posted_on posting))) ∙ communicator_same (r.bound (posted_on posting))) i)
+      attempt_same ops s.me s.made posting (named s.bound (posted_on posting))
+      ∙ λ i. attempt_by ops (local_me i) s.made posting ((ap communicator_of (sym (stands.bound (posted_on posting))) ∙ communicator_same (r.bound (posted_on posting))) i)
 
   -- it hears the outcome that it waits for
   hears_steps : (c d : C) → Fits c → (w : WaitView) (outcome : Outcome) (text : List ℕ) (to : Option CommunicatorView) → r.waits ≡ Some w → terms.hears c d → terms.tells d r.me w.name w.call ≡ Some outcome → text ≡ outcome_text outcome → terms.gives d r.me w.name w.call to
-      → Stepped terms known r.me s c After (heard r w text to) d
+      → Stepped ops terms known r.me s c After (heard r w text to) d
   hears_steps c d fits w outcome text to waits h tells said gives =
       let fits_now = by.hears c d fits h in
       let given = by.gives d fits_now w.name w.call to gives in
       let answer : Answer = given.0 in
       let same : answer.outcome ≡ outcome = same_Some answer.outcome outcome (sym (ap (option_map (λ (a : Answer). a.outcome)) given.1) ∙ by.tells d fits_now w.name w.call outcome tells) in
       let a : Act = S.heard s w.name w.call w.target (doing r.todo) answer in
-      let e : step known s ≡ Some (done s a) = S.step_hears known s w.name w.call w.target (doing r.todo) answer (todo_is (Some w) r.todo waits refl) given.1 in
+      let e : step ops known s ≡ Some (done s a) = S.step_hears ops known s w.name w.call w.target (doing r.todo) answer (todo_is (Some w) r.todo waits refl) given.1 in
       stepped c d (heard r w text to) a e
       (record { bound = λ word. bound_behind w.target to r.bound s.bound stands.bound word ∙ ap (λ x. named (bind w.target x s.bound) word) given.2; requests = stands.requests; todo = refl; lines = line_so text (Told w.name w.call answer.outcome) (said ∙ ap outcome_text (sym same)); origins = origins_so 1 1 refl })
       (by.quiet d fits_now (done s a) e (append-nil s.made))
@@ -142,12 +143,12 @@ module _ {C : Type 0} (terms : Terms C CommunicatorView) (known : Results) (r : 
 
   -- its question is answered
   asks_steps : (c : C) → Fits c → (question : Question) (rest : List Statement) (text : List ℕ) → r.waits ≡ None → r.todo ≡ Ask question ∷ rest → text ≡ line_text (answered_by r.me (found_by (terms.closes c r.me) (terms.knows c) r.bound) question)
-      → Stepped terms known r.me s c After (answered r rest text) c
+      → Stepped ops terms known r.me s c After (answered r rest text) c
   asks_steps c fits question rest text waits todo said =
       let there : (word : List ℕ) → found_by (terms.closes c r.me) (terms.knows c) r.bound word ≡ found_of s.made (named s.bound word) = λ word. found_behind s.made (terms.closes c r.me) (terms.knows c) (by.closes c fits) (by.knows c fits) (r.bound word) ∙ ap (found_of s.made) (stands.bound word) in
       let line : answered_by r.me (found_by (terms.closes c r.me) (terms.knows c) r.bound) question ≡ answer_line s.me s.bound s.made question = λ i. answered_by (sym local_me i) (λ word. there word i) question in
       let a : Act = S.told_at_once s question (doing rest) in
-      let e : step known s ≡ Some (done s a) = S.step_asks known s question (doing rest) (todo_is None (Ask question ∷ rest) waits todo) in
+      let e : step ops known s ≡ Some (done s a) = S.step_asks ops known s question (doing rest) (todo_is None (Ask question ∷ rest) waits todo) in
       stepped c c (answered r rest text) a e
       (record { bound = stands.bound; requests = stands.requests; todo = refl; lines = line_so text (answer_line s.me s.bound s.made question) (said ∙ ap line_text line); origins = origins_so 1 1 refl })
       (by.quiet c fits (done s a) e (append-nil s.made))
@@ -156,7 +157,7 @@ module _ {C : Type 0} (terms : Terms C CommunicatorView) (known : Results) (r : 
 
   -- it passes a wait
   passes_steps : (c mid d : C) → Fits c → (words : List (List ℕ)) (rest : List Statement) → r.waits ≡ None → r.todo ≡ Wait words ∷ rest → terms.hears c mid → are_done (terms.tells mid r.me) r.requests words ≡ true → terms.hears mid d
-      → Stepped terms known r.me s c After (waited r words rest (terms.tells mid r.me)) d
+      → Stepped ops terms known r.me s c After (waited r words rest (terms.tells mid r.me)) d
   passes_steps c mid d fits words rest waits todo before all after =
       let fits_then = by.hears c mid fits before in
       let within = by.tells mid fits_then in
@@ -167,7 +168,7 @@ module _ {C : Type 0} (terms : Terms C CommunicatorView) (known : Results) (r : 
       ∙ (λ i. wait_lines (outcomes_of known) (requests_are i) words)
       ∙ sym (lines_told known words s.requests told.0 told.1) in
       let a : Act = S.waited s words (doing rest) told.0 in
-      let e : step known s ≡ Some (done s a) = S.step_passes known s words (doing rest) told.0 (todo_is None (Wait words ∷ rest) waits todo) told.1 in
+      let e : step ops known s ≡ Some (done s a) = S.step_passes ops known s words (doing rest) told.0 (todo_is None (Wait words ∷ rest) waits todo) told.1 in
       stepped c d (waited r words rest (terms.tells mid r.me)) a e
       (record { bound = stands.bound; requests = named_without_all words s.requests r.requests stands.requests; todo = refl; lines = (λ i. stands.lines i ++ map line_text (lines i)) ∙ sym (map-append line_text s.lines (waited_lines s.requests words told.0)); origins = origins_so (length words) (length (waited_lines s.requests words told.0)) (sym (wait_lines-length (terms.tells mid r.me) r.requests words) ∙ ap length lines) })
       (by.quiet d (by.hears mid d fits_then after) (done s a) e (append-nil s.made))
@@ -182,12 +183,12 @@ module _ {C : Type 0} (terms : Terms C CommunicatorView) (known : Results) (r : 
     on = communicator_in (r.bound (posted_on posting))
 
     -- it posts, and waits
-    posts_steps : (name : Name) (call : ℕ) → started_as posting ≡ None → terms.tries c r.me posting on (Ok (Some (name, call))) d → Stepped terms known r.me s c After (posted r posting rest name call) d
+    posts_steps : (name : Name) (call : ℕ) → started_as posting ≡ None → terms.tries c r.me posting on (Ok (Some (name, call))) d → Stepped ops terms known r.me s c After (posted r posting rest name call) d
     posts_steps name call none tried =
         let came = by.posts c d fits posting (doing rest) next_is on (is_on posting) name call tried in
         let m : Made = came.0 in
         let a : Act = S.posted s (bound_to posting) (doing rest) m in
-        let e : step known s ≡ Some (done s a) = S.step_posts known s posting (doing rest) m next_is none (attempt_is posting ∙ came.1) in
+        let e : step ops known s ≡ Some (done s a) = S.step_posts ops known s posting (doing rest) m next_is none (attempt_is posting ∙ came.1) in
         stepped c d (posted r posting rest name call) a e
         (record { bound = stands.bound; requests = stands.requests; todo = λ i. todo_of (Some (record { name = sym came.2 i; call = sym came.3 i; target = bound_to posting })) rest; lines = stands.lines ∙ ap (map line_text) (sym (append-nil s.lines)); origins = stands.origins ∙ sym (append-nil s.origins) })
         (came.4 (done s a) e refl)
@@ -195,13 +196,13 @@ module _ {C : Type 0} (terms : Terms C CommunicatorView) (known : Results) (r : 
         (λ stay. no_news a d refl)
 
     -- it posts, and its request is open
-    starts_steps : (word : List ℕ) (name : Name) (call : ℕ) → started_as posting ≡ Some word → terms.tries c r.me posting on (Ok (Some (name, call))) d → Stepped terms known r.me s c After (started r word rest name call) d
+    starts_steps : (word : List ℕ) (name : Name) (call : ℕ) → started_as posting ≡ Some word → terms.tries c r.me posting on (Ok (Some (name, call))) d → Stepped ops terms known r.me s c After (started r word rest name call) d
     starts_steps word name call open_as tried =
         let came = by.posts c d fits posting (doing rest) next_is on (is_on posting) name call tried in
         let m : Made = came.0 in
         let place : (name, call) ≡ (m.name, next_call m.name s.made) = λ i. (came.2 i, came.3 i) in
         let a : Act = S.started s word (doing rest) m in
-        let e : step known s ≡ Some (done s a) = S.step_starts known s posting (doing rest) word m next_is open_as (attempt_is posting ∙ came.1) in
+        let e : step ops known s ≡ Some (done s a) = S.step_starts ops known s posting (doing rest) word m next_is open_as (attempt_is posting ∙ came.1) in
         stepped c d (started r word rest name call) a e
         (record { bound = stands.bound; requests = λ other. (λ i. binds (Some word) (place i) (requests_are i) other) ∙ sym (named_behind s.requests word (m.name, next_call m.name s.made) other); todo = refl; lines = stands.lines ∙ ap (map line_text) (sym (append-nil s.lines)); origins = stands.origins ∙ sym (append-nil s.origins) })
         (came.4 (done s a) e refl)
@@ -209,11 +210,11 @@ module _ {C : Type 0} (terms : Terms C CommunicatorView) (known : Results) (r : 
         (λ stay. no_news a d refl)
 
     -- it is refused
-    refused_steps : (refusal : PostError) (text : List ℕ) → (refusal ≡ OutOfMemory → ⊥) → terms.tries c r.me posting on (Err refusal) d → text ≡ line_text (Refused refusal) → Stepped terms known r.me s c After (refused r posting rest text) d
+    refused_steps : (refusal : PostError) (text : List ℕ) → (refusal ≡ OutOfMemory → ⊥) → terms.tries c r.me posting on (Err refusal) d → text ≡ line_text (Refused refusal) → Stepped ops terms known r.me s c After (refused r posting rest text) d
     refused_steps refusal text other tried said =
         let came = by.refuses c d fits posting (doing rest) next_is on (is_on posting) refusal other tried in
         let a : Act = S.turned_down s (bound_to posting) (doing rest) refusal in
-        let e : step known s ≡ Some (done s a) = S.step_refused known s posting (doing rest) refusal next_is (attempt_is posting ∙ came.0) in
+        let e : step ops known s ≡ Some (done s a) = S.step_refused ops known s posting (doing rest) refusal next_is (attempt_is posting ∙ came.0) in
         stepped c d (refused r posting rest text) a e
         (record { bound = bound_behind (bound_to posting) None r.bound s.bound stands.bound; requests = stands.requests; todo = refl; lines = line_so text (Refused refusal) said; origins = origins_so 1 1 refl })
         (came.1 (done s a) e (append-nil s.made))
@@ -221,7 +222,7 @@ module _ {C : Type 0} (terms : Terms C CommunicatorView) (known : Results) (r : 
         (λ stay. one_line a d (Refused refusal) refl (λ name call outcome is. cc is))
 
   -- a move is the step of its script
-  pub move_steps : (c : C) (new : RankView CommunicatorView) (d : C) → Fits c → Move terms r c new d → Stepped terms known r.me s c After new d
+  pub move_steps : (c : C) (new : RankView CommunicatorView) (d : C) → Fits c → Move terms r c new d → Stepped ops terms known r.me s c After new d
   move_steps c new d fits (hears w outcome text to waits h tells said gives) = hears_steps c d fits w outcome text to waits h tells said gives
   move_steps c new d fits (posts posting rest name call waits todo none tried) = posts_steps c d fits posting rest waits todo name call none tried
   move_steps c new d fits (starts posting rest word name call waits todo open_as tried) = starts_steps c d fits posting rest waits todo word name call open_as tried
@@ -254,46 +255,46 @@ move_keeps terms r c s d (passes words rest waits todo before all after) = refl
 move_keeps terms r c s d (asks question rest text waits todo said) = refl
 
 -- the rank has come there by steps of its script, from where it stood with the carrier c, and now stands at r, with the carrier d
-pub record Came {C : Type 0} (terms : Terms C CommunicatorView) (known : Results) (me : ℕ) (s : Local) (c : C) (Fits : Local → C → Type 0) (r : RankView CommunicatorView) (d : C) : Type 0 where
+pub record Came (ops : List Operation) {C : Type 0} (terms : Terms C CommunicatorView) (known : Results) (me : ℕ) (s : Local) (c : C) (Fits : Local → C → Type 0) (r : RankView CommunicatorView) (d : C) : Type 0 where
   pub to : Local
-  pub goes : Goes known s to
+  pub goes : Goes ops known s to
   pub me_is : r.me ≡ me
   pub local_me : to.me ≡ me
   pub stands : Stands r to
   pub fits : Fits to d
   pub tells : StaysTold terms me → TellsLines terms me c s → TellsLines terms me d to
 
-module _ {C : Type 0} (terms : Terms C CommunicatorView) (known : Results) (me : ℕ) (Fits : Local → C → Type 0) (by : (s : Local) → s.me ≡ me → GoesBy terms known me s (Fits s) Fits) where
+module _ (ops : List Operation) {C : Type 0} (terms : Terms C CommunicatorView) (known : Results) (me : ℕ) (Fits : Local → C → Type 0) (by : (s : Local) → s.me ≡ me → GoesBy ops terms known me s (Fits s) Fits) where
   module _ (r : RankView CommunicatorView) (s : Local) (me_is : r.me ≡ me) (local_me : s.me ≡ me) (stands : Stands r s) where
-    goes_by : GoesBy terms known r.me s (Fits s) Fits
-    goes_by = subst (λ p. GoesBy terms known p s (Fits s) Fits) (sym me_is) (by s local_me)
+    goes_by : GoesBy ops terms known r.me s (Fits s) Fits
+    goes_by = subst (λ p. GoesBy ops terms known p s (Fits s) Fits) (sym me_is) (by s local_me)
 
-    pub moves_once : (c : C) (new : RankView CommunicatorView) (d : C) → Fits s c → Move terms r c new d → Stepped terms known me s c Fits new d
-    moves_once c new d fits move = subst (λ p. Stepped terms known p s c Fits new d) me_is (move_steps terms known r s stands (local_me ∙ sym me_is) (Fits s) Fits goes_by c new d fits move)
+    pub moves_once : (c : C) (new : RankView CommunicatorView) (d : C) → Fits s c → Move terms r c new d → Stepped ops terms known me s c Fits new d
+    moves_once c new d fits move = subst (λ p. Stepped ops terms known p s c Fits new d) me_is (move_steps ops terms known r s stands (local_me ∙ sym me_is) (Fits s) Fits goes_by c new d fits move)
 
     pub stands_still : (c d : C) → Fits s c → Still terms r c d → Fits s d × (StaysTold terms me → IsWithin (terms.tells c me) (terms.tells d me))
-    stands_still c d fits still = subst (λ p. Fits s d × (StaysTold terms p → IsWithin (terms.tells c p) (terms.tells d p))) me_is (still_fits terms known r s stands (local_me ∙ sym me_is) (Fits s) Fits goes_by c d fits still)
+    stands_still c d fits still = subst (λ p. Fits s d × (StaysTold terms p → IsWithin (terms.tells c p) (terms.tells d p))) me_is (still_fits ops terms known r s stands (local_me ∙ sym me_is) (Fits s) Fits goes_by c d fits still)
 
   module _ (r : RankView CommunicatorView) (s : Local) (me_is : r.me ≡ me) (local_me : s.me ≡ me) (stands : Stands r s) where
     -- moves, one after the other
-    pub ran_goes : (c : C) (new : RankView CommunicatorView) (d : C) (moved : Bool) → Fits s c → Ran terms r c new d moved → Came terms known me s c Fits new d
+    pub ran_goes : (c : C) (new : RankView CommunicatorView) (d : C) (moved : Bool) → Fits s c → Ran terms r c new d moved → Came ops terms known me s c Fits new d
     ran_goes c new d moved fits stayed = record { to = s; goes = stays_there; me_is = me_is; local_me = local_me; stands = stands; fits = fits; tells = λ stay lines. lines }
     ran_goes c new d moved fits (moved_on {s = mid} {d = before} {moved = earlier} ran move) = then (ran_goes c mid before earlier fits ran) where
-      then : Came terms known me s c Fits mid before → Came terms known me s c Fits new d
+      then : Came ops terms known me s c Fits mid before → Came ops terms known me s c Fits new d
       then came =
           let one = moves_once mid came.to came.me_is came.local_me came.stands before new d came.fits move in
           record {
             to = one.to;
             goes = moves came.goes one.steps;
             me_is = move_keeps terms mid before new d move ∙ came.me_is;
-            local_me = S.step-keeps known came.to one.to one.steps ∙ came.local_me;
+            local_me = S.step-keeps ops known came.to one.to one.steps ∙ came.local_me;
             stands = one.stands;
             fits = one.fits;
             tells = λ stay lines. one.tells stay (came.tells stay lines);
           }
 
     -- and until there is none
-    pub goes_on_goes : (c : C) (new : RankView CommunicatorView) (d : C) (moved : Bool) → Fits s c → GoesOn terms r c new d moved → Came terms known me s c Fits new d
+    pub goes_on_goes : (c : C) (new : RankView CommunicatorView) (d : C) (moved : Bool) → Fits s c → GoesOn terms r c new d moved → Came ops terms known me s c Fits new d
     goes_on_goes c new d moved fits run =
         let came = ran_goes c new run.0 moved fits run.1 in
         let last = stands_still new came.to came.me_is came.local_me came.stands run.0 d came.fits run.2 in

@@ -4,6 +4,7 @@ use Rattle.std.specs.Prelude.{◌&&◌, is_some, bytes_eq, option_and_then}
 use Rattle.std.specs.List.{list_all}
 use Rattle.std.specs.Option.{option_map}
 use Rattle.std.proofs.lemmas.Option.{option_and_then_some, same_Some}
+use Rattle.mpx_num.specs.declared.own.Operation.{Operation}
 use Rattle.mpx_name.specs.Name.{Name}
 use Rattle.mpx_value.specs.Histories.{Answer, Made, Results, has_freed}
 use Rattle.mpx_statement.specs.declared.statement.Posting.{Posting}
@@ -37,10 +38,10 @@ bound_there (Some None) c e = cc e
 bound_there (Some (Some x)) c e = ap (λ o. option_map bound_as (Some o)) e
 
 -- what a statement comes to on that
-pub attempt_same : (me : ℕ) (made : List Made) (posting : Posting) (b : Option Bound) → attempt_on me made posting b ≡ attempt_by me made posting (communicator_of b)
-attempt_same me made posting None = refl
-attempt_same me made posting (Some NullCommunicator) = refl
-attempt_same me made posting (Some (Communicator name birth)) = refl
+pub attempt_same : (ops : List Operation) (me : ℕ) (made : List Made) (posting : Posting) (b : Option Bound) → attempt_on ops me made posting b ≡ attempt_by ops me made posting (communicator_of b)
+attempt_same ops me made posting None = refl
+attempt_same ops me made posting (Some NullCommunicator) = refl
+attempt_same ops me made posting (Some (Communicator name birth)) = refl
 
 -- what it stands for where it is asked about
 

@@ -1,6 +1,7 @@
 -- Where a rank stands in its script, whose communicators are names and births.
 use Rattle.std.specs.Prelude.{◌≡◌, ℕ, List, map, Option, Some, None, Result, Err}
 use Rattle.std.specs.Option.{option_map}
+use Rattle.mpx_num.specs.declared.own.Operation.{Operation}
 use Rattle.mpx_name.specs.Name.{Name}
 use Rattle.mpx_post.specs.declared.draft.PostError.{PostError}
 use Rattle.mpx_post.specs.declared.draft.PostError.TheVariants.{NotMember}
@@ -23,10 +24,10 @@ abbrev pub bound_as : Option CommunicatorView → Bound
 bound_as None = NullCommunicator
 bound_as (Some c) = Communicator c.0 c.1
 
--- what a statement that posts comes to on a communicator, where its word is bound to one
-abbrev pub attempt_by : (me : ℕ) → List Made → Posting → Option CommunicatorView → Result Made PostError
-attempt_by me made posting None = Err NotMember
-attempt_by me made posting (Some c) = attempt_in me made (draft_of posting) (gathers_of posting) c.0 c.1
+-- what a statement that posts comes to on a communicator, where its word is bound to one, by the job's own operations
+abbrev pub attempt_by : List Operation → (me : ℕ) → List Made → Posting → Option CommunicatorView → Result Made PostError
+attempt_by ops me made posting None = Err NotMember
+attempt_by ops me made posting (Some c) = attempt_in ops me made (draft_of posting) (gathers_of posting) c.0 c.1
 
 -- the rank stands there in its script
 pub record Stands (r : RankView CommunicatorView) (s : Local) : Type 0 where

@@ -11,6 +11,7 @@ use join_core::OutOfMemory;
 use mpx_evaluation::{Found, comparison_answer, neighbours_answer, translation_answer};
 use mpx_group::Proc;
 use mpx_name::Name;
+use mpx_num::{Listing, Ops};
 use mpx_post::Birth;
 use mpx_statement::{Question, Word};
 use std::alloc::Global;
@@ -24,32 +25,33 @@ pub(crate) fn answer<C: Carrier>(
     me: Proc,
     bound: &BTreeMap<Word, Option<C::Communicator>>,
     question: &Question,
+    ops: &Ops,
 ) -> Result<String, OutOfMemory>
-    ensures line { IfOk result (λ text. string_bytes text ≡ line_text (answered_by me (found_by (C.terms.closes carrier.old me) (C.terms.knows carrier.old) (looked_up bound.now)) question.now)) }
+    ensures line { IfOk result (λ text. string_bytes text ≡ line_text (answered_by me (found_by ((C.terms (⟦<Ops as Listing>⟧.operations ops.now)).closes carrier.old me) ((C.terms (⟦<Ops as Listing>⟧.operations ops.now)).knows carrier.old) (looked_up bound.now)) question.now)) }
     ensures same { carrier.new ≡ carrier.old }
 {
     match question {
         Question::Neighbours { on, side } => {
-            let freed = is_freed(carrier, me, bound, on);
-            neighbours_answer(alloc, me, *side, stands_for(carrier, bound, on, freed))
+            let freed = is_freed(carrier, me, bound, on, ops);
+            neighbours_answer(alloc, me, *side, stands_for(carrier, bound, on, freed, ops))
         }
         Question::Compare { first, second } => {
-            let freed = is_freed(carrier, me, bound, first);
-            let second_freed = is_freed(carrier, me, bound, second);
+            let freed = is_freed(carrier, me, bound, first, ops);
+            let second_freed = is_freed(carrier, me, bound, second, ops);
             comparison_answer(
                 alloc,
-                stands_for(carrier, bound, first, freed),
-                stands_for(carrier, bound, second, second_freed),
+                stands_for(carrier, bound, first, freed, ops),
+                stands_for(carrier, bound, second, second_freed, ops),
             )
         }
         Question::Translate { from, to, ranks } => {
-            let freed = is_freed(carrier, me, bound, from);
-            let to_freed = is_freed(carrier, me, bound, to);
+            let freed = is_freed(carrier, me, bound, from, ops);
+            let to_freed = is_freed(carrier, me, bound, to, ops);
             translation_answer(
                 alloc,
                 ranks.as_slice(),
-                stands_for(carrier, bound, from, freed),
-                stands_for(carrier, bound, to, to_freed),
+                stands_for(carrier, bound, from, freed, ops),
+                stands_for(carrier, bound, to, to_freed, ops),
             )
         }
     }
@@ -61,12 +63,13 @@ fn is_freed<C: Carrier>(
     me: Proc,
     bound: &BTreeMap<Word, Option<C::Communicator>>,
     word: &Word,
+    ops: &Ops,
 ) -> bool
-    ensures freed { result ≡ closed_by (C.terms.closes carrier.old me) (communicator_in (looked_up bound.now word.now)) }
+    ensures freed { result ≡ closed_by ((C.terms (⟦<Ops as Listing>⟧.operations ops.now)).closes carrier.old me) (communicator_in (looked_up bound.now word.now)) }
     ensures same { carrier.new ≡ carrier.old }
 {
     match communicator(bound, word) {
-        Some(communicator) => carrier.is_closed(me, communicator),
+        Some(communicator) => carrier.is_closed(me, communicator, ops),
         None => false,
     }
 }
@@ -77,8 +80,9 @@ fn stands_for<'m, C: Carrier>(
     bound: &'m BTreeMap<Word, Option<C::Communicator>>,
     word: &Word,
     freed: bool,
+    ops: &Ops,
 ) -> Found<(&'m Name, &'m Birth)>
-    ensures { found_map (λ c. (c.0.now, c.1.now)) result ≡ found_with freed (C.terms.knows carrier.now) (communicator_in (looked_up bound.now word.now)) }
+    ensures { found_map (λ c. (c.0.now, c.1.now)) result ≡ found_with freed ((C.terms (⟦<Ops as Listing>⟧.operations ops.now)).knows carrier.now) (communicator_in (looked_up bound.now word.now)) }
 {
     let Some(communicator) = communicator(bound, word) else {
         return Found::Null;
@@ -86,7 +90,7 @@ fn stands_for<'m, C: Carrier>(
     if freed {
         return Found::Freed;
     }
-    match carrier.known(communicator) {
+    match carrier.known(communicator, ops) {
         Some(known) => Found::Open(known),
         None => Found::Null,
     }

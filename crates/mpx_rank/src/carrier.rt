@@ -1,12 +1,14 @@
 //! Who carries a rank's posts, and tells what came of its calls.
-ghost use Rattle.std.specs.Prelude.{◌≡◌, ℕ, IfOk, OnOk};
+ghost use Rattle.std.specs.Prelude.{◌≡◌, ℕ, IfOk, List, OnOk};
 ghost use Rattle.std.specs.Option.{option_copied, option_map};
 ghost use Rattle.mpx_name.specs.Name.{Name as NameView};
+ghost use Rattle.mpx_num.specs.declared.own.Operation.{Operation};
 ghost use Rattle.mpx_rank.specs.Carriers.{HearsOf, IsWithin, Terms, is_told, placed};
 
 use join_core::OutOfMemory;
 use mpx_group::Proc;
 use mpx_name::Name;
+use mpx_num::{Listing, Ops};
 use mpx_post::{Birth, PostError};
 use mpx_statement::Posting;
 use std::alloc::Global;
@@ -36,8 +38,8 @@ pub trait Carrier: Drop {
     /// The context and the number of a call.
     ghost place: { Self.Call → NameView × ℕ };
 
-    /// What it says of itself.
-    ghost terms: { Terms Self Self.Communicator };
+    /// What it says of itself, by the job's own operations, which are lent to each call.
+    ghost terms: { List Operation → Terms Self Self.Communicator };
 
     /// Posts for a rank what the statement says, on the communicator that its word is bound to, where it is bound to one.
     /// None: not now, nothing was posted.
@@ -47,14 +49,21 @@ pub trait Carrier: Drop {
         me: Proc,
         on: Option<&Self::Communicator>,
         posting: &Posting,
+        ops: &Ops,
     ) -> Result<Option<Self::Call>, PostError>
-        requires { terms.may self.old me posting.now (option_copied on) }
-        ensures { terms.tries self.old me posting.now (option_copied on.entry) (placed place result) self.new };
+        requires { (terms (⟦<Ops as Listing>⟧.operations ops.now)).may self.old me posting.now (option_copied on) }
+        ensures { (terms (⟦<Ops as Listing>⟧.operations ops.now)).tries self.old me posting.now (option_copied on.entry) (placed place result) self.new };
 
     /// Whether the outcome of a rank's call can be told.
-    fn is_told(&mut self, alloc: Global, me: Proc, call: &Self::Call) -> Result<bool, OutOfMemory>
-        ensures hears { OnOk result (terms.hears self.old self.new) }
-        ensures told { IfOk result (λ told. told ≡ is_told (terms.tells self.new me) (place call.now)) };
+    fn is_told(
+        &mut self,
+        alloc: Global,
+        me: Proc,
+        call: &Self::Call,
+        ops: &Ops,
+    ) -> Result<bool, OutOfMemory>
+        ensures hears { OnOk result ((terms (⟦<Ops as Listing>⟧.operations ops.now)).hears self.old self.new) }
+        ensures told { IfOk result (λ told. told ≡ is_told ((terms (⟦<Ops as Listing>⟧.operations ops.now)).tells self.new me) (place call.now)) };
 
     /// What came of a rank's call.
     fn hear(
@@ -62,24 +71,29 @@ pub trait Carrier: Drop {
         alloc: Global,
         me: Proc,
         call: Self::Call,
+        ops: &Ops,
     ) -> Result<Heard<Self::Call, Self::Communicator>, OutOfMemory>
-        ensures hears { OnOk result (terms.hears self.old self.new) }
-        ensures told { IfOk result (HearsOf terms self.new me (place call) call) };
+        ensures hears { OnOk result ((terms (⟦<Ops as Listing>⟧.operations ops.now)).hears self.old self.new) }
+        ensures told { IfOk result (HearsOf (terms (⟦<Ops as Listing>⟧.operations ops.now)) self.new me (place call) call) };
 
     /// The communicator's name, and how it came to be, as far as that is known.
-    fn known<'m>(&'m self, communicator: &'m Self::Communicator) -> Option<(&'m Name, &'m Birth)>
-        ensures { option_map (λ c. (c.0.now, c.1.now)) result ≡ terms.knows self.now communicator.now };
+    fn known<'m>(
+        &'m self,
+        communicator: &'m Self::Communicator,
+        ops: &Ops,
+    ) -> Option<(&'m Name, &'m Birth)>
+        ensures { option_map (λ c. (c.0.now, c.1.now)) result ≡ (terms (⟦<Ops as Listing>⟧.operations ops.now)).knows self.now communicator.now };
 
     /// Whether the rank has posted a free on the communicator.
-    fn is_closed(&mut self, me: Proc, communicator: &Self::Communicator) -> bool
-        ensures closed { result ≡ terms.closes self.old me communicator.now }
+    fn is_closed(&mut self, me: Proc, communicator: &Self::Communicator, ops: &Ops) -> bool
+        ensures closed { result ≡ (terms (⟦<Ops as Listing>⟧.operations ops.now)).closes self.old me communicator.now }
         ensures same { self.new ≡ self.old };
 
     /// It may have heard nothing.
-    ghost hears_nothing: { (c : Self) → terms.hears c c };
+    ghost hears_nothing: { (operations : List Operation) (c : Self) → (terms operations).hears c c };
 
-    ghost hears_more: { (a b c : Self) → terms.hears a b → terms.hears b c → terms.hears a c };
+    ghost hears_more: { (operations : List Operation) (a b c : Self) → (terms operations).hears a b → (terms operations).hears b c → (terms operations).hears a c };
 
     /// What was told stays told.
-    ghost stays_told: { (a b : Self) → terms.hears a b → (me : ℕ) → IsWithin (terms.tells a me) (terms.tells b me) };
+    ghost stays_told: { (operations : List Operation) (a b : Self) → (terms operations).hears a b → (me : ℕ) → IsWithin ((terms operations).tells a me) ((terms operations).tells b me) };
 }

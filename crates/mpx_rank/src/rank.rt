@@ -15,6 +15,7 @@ use crate::waiting::{are_done, close_all};
 use join_core::OutOfMemory;
 use mpx_evaluation::{Origin, bind, refused_line};
 use mpx_group::Proc;
+use mpx_num::{Listing, Ops};
 use mpx_post::PostError;
 use mpx_statement::{Posting, Question, Statement, Word};
 use std::alloc::Global;
@@ -138,12 +139,12 @@ impl<'a, C: Carrier> Rank<'a, C> {
     }
 
     /// Goes on with the statements until an outcome is missing. It answers whether there was a move.
-    pub fn go_on(&mut self, alloc: Global, carrier: &mut C) -> Result<bool, OutOfMemory>
-        requires { MayGo C.terms (rank_of C.place self.old) carrier.old }
-        ensures { IfOk result (GoesOn C.terms (rank_of C.place self.old) carrier.old (rank_of C.place self.new) carrier.new) }
+    pub fn go_on(&mut self, alloc: Global, carrier: &mut C, ops: &Ops) -> Result<bool, OutOfMemory>
+        requires { MayGo (C.terms (⟦<Ops as Listing>⟧.operations ops.now)) (rank_of C.place self.old) carrier.old }
+        ensures { IfOk result (GoesOn (C.terms (⟦<Ops as Listing>⟧.operations ops.now)) (rank_of C.place self.old) carrier.old (rank_of C.place self.new) carrier.new) }
     {
         let mut moved = false;
-        while self.move_on(alloc, carrier)? {
+        while self.move_on(alloc, carrier, ops)? {
             moved = true;
         }
         Ok(moved)
@@ -151,13 +152,13 @@ impl<'a, C: Carrier> Rank<'a, C> {
 
     // One move: the line of the outcome that the rank waits for, once that is told, else the next statement. It answers
     // whether there was one.
-    fn move_on(&mut self, alloc: Global, carrier: &mut C) -> Result<bool, OutOfMemory>
-        requires { MayTry C.terms (rank_of C.place self.old) carrier.old }
-        ensures { IfOk result (Moves C.terms (rank_of C.place self.old) carrier.old (rank_of C.place self.new) carrier.new) }
+    fn move_on(&mut self, alloc: Global, carrier: &mut C, ops: &Ops) -> Result<bool, OutOfMemory>
+        requires { MayTry (C.terms (⟦<Ops as Listing>⟧.operations ops.now)) (rank_of C.place self.old) carrier.old }
+        ensures { IfOk result (Moves (C.terms (⟦<Ops as Listing>⟧.operations ops.now)) (rank_of C.place self.old) carrier.old (rank_of C.place self.new) carrier.new) }
     {
         match self.waits.take() {
-            Some(wait) => self.hear(alloc, carrier, wait),
-            None => self.do_next(alloc, carrier),
+            Some(wait) => self.hear(alloc, carrier, wait, ops),
+            None => self.do_next(alloc, carrier, ops),
         }
     }
 
@@ -167,12 +168,13 @@ impl<'a, C: Carrier> Rank<'a, C> {
         alloc: Global,
         carrier: &mut C,
         wait: Wait<'a, C::Call>,
+        ops: &Ops,
     ) -> Result<bool, OutOfMemory>
         requires { (rank_of C.place self.old).waits ≡ None }
-        ensures { IfOk result (Moves C.terms (record (rank_of C.place self.old) { waits = Some (wait_of C.place wait.entry) }) carrier.old (rank_of C.place self.new) carrier.new) }
+        ensures { IfOk result (Moves (C.terms (⟦<Ops as Listing>⟧.operations ops.now)) (record (rank_of C.place self.old) { waits = Some (wait_of C.place wait.entry) }) carrier.old (rank_of C.place self.new) carrier.new) }
     {
         let Wait { call, target } = wait;
-        match carrier.hear(alloc, self.me, call)? {
+        match carrier.hear(alloc, self.me, call, ops)? {
             Heard::NotYet(call) => {
                 self.waits = Some(Wait { call, target });
                 Ok(false)
@@ -187,19 +189,19 @@ impl<'a, C: Carrier> Rank<'a, C> {
     }
 
     // The next statement.
-    fn do_next(&mut self, alloc: Global, carrier: &mut C) -> Result<bool, OutOfMemory>
+    fn do_next(&mut self, alloc: Global, carrier: &mut C, ops: &Ops) -> Result<bool, OutOfMemory>
         requires waits { (rank_of C.place self.old).waits ≡ None }
-        requires may { MayTry C.terms (rank_of C.place self.old) carrier.old }
-        ensures { IfOk result (Moves C.terms (rank_of C.place self.old) carrier.old (rank_of C.place self.new) carrier.new) }
+        requires may { MayTry (C.terms (⟦<Ops as Listing>⟧.operations ops.now)) (rank_of C.place self.old) carrier.old }
+        ensures { IfOk result (Moves (C.terms (⟦<Ops as Listing>⟧.operations ops.now)) (rank_of C.place self.old) carrier.old (rank_of C.place self.new) carrier.new) }
     {
         let Some((statement, rest)) = self.todo.split_first() else {
             return Ok(false);
         };
         match statement {
-            Statement::Post(posting) => self.post_next(alloc, carrier, posting, rest),
-            Statement::Wait(words) => self.wait_next(alloc, carrier, words.as_slice(), rest),
+            Statement::Post(posting) => self.post_next(alloc, carrier, posting, rest, ops),
+            Statement::Wait(words) => self.wait_next(alloc, carrier, words.as_slice(), rest, ops),
             Statement::Ask(question) => {
-                self.ask_next(alloc, carrier, question, rest)?;
+                self.ask_next(alloc, carrier, question, rest, ops)?;
                 Ok(true)
             }
         }
@@ -213,14 +215,15 @@ impl<'a, C: Carrier> Rank<'a, C> {
         carrier: &mut C,
         posting: &'a Posting,
         rest: &'a [Statement],
+        ops: &Ops,
     ) -> Result<bool, OutOfMemory>
         requires waits { (rank_of C.place self.old).waits ≡ None }
         requires todo { (rank_of C.place self.old).todo ≡ Post posting.now ∷ rest.now }
-        requires may { MayTry C.terms (rank_of C.place self.old) carrier.old }
-        ensures { IfOk result (Moves C.terms (rank_of C.place self.old) carrier.old (rank_of C.place self.new) carrier.new) }
+        requires may { MayTry (C.terms (⟦<Ops as Listing>⟧.operations ops.now)) (rank_of C.place self.old) carrier.old }
+        ensures { IfOk result (Moves (C.terms (⟦<Ops as Listing>⟧.operations ops.now)) (rank_of C.place self.old) carrier.old (rank_of C.place self.new) carrier.new) }
     {
         let on = communicator(&self.bound, posting.on());
-        let call = match carrier.post(alloc, self.me, on, posting) {
+        let call = match carrier.post(alloc, self.me, on, posting, ops) {
             Ok(Some(call)) => call,
             Ok(None) => return Ok(false),
             Err(refusal) => {
@@ -270,12 +273,13 @@ impl<'a, C: Carrier> Rank<'a, C> {
         carrier: &mut C,
         words: &[Word],
         rest: &'a [Statement],
+        ops: &Ops,
     ) -> Result<bool, OutOfMemory>
         requires waits { (rank_of C.place self.old).waits ≡ None }
         requires todo { (rank_of C.place self.old).todo ≡ WaitFor words.now ∷ rest.now }
-        ensures { IfOk result (Moves C.terms (rank_of C.place self.old) carrier.old (rank_of C.place self.new) carrier.new) }
+        ensures { IfOk result (Moves (C.terms (⟦<Ops as Listing>⟧.operations ops.now)) (rank_of C.place self.old) carrier.old (rank_of C.place self.new) carrier.new) }
     {
-        if !are_done(alloc, carrier, self.me, &self.requests, words)? {
+        if !are_done(alloc, carrier, self.me, &self.requests, words, ops)? {
             return Ok(false);
         }
         close_all(
@@ -285,6 +289,7 @@ impl<'a, C: Carrier> Rank<'a, C> {
             &mut self.requests,
             &mut self.lines,
             words,
+            ops,
         )?;
         push_origins(&mut self.origins, 0, self.todo, words.len())?;
         self.todo = rest;
@@ -298,12 +303,13 @@ impl<'a, C: Carrier> Rank<'a, C> {
         carrier: &mut C,
         question: &Question,
         rest: &'a [Statement],
+        ops: &Ops,
     ) -> Result<(), OutOfMemory>
         requires waits { (rank_of C.place self.old).waits ≡ None }
         requires todo { (rank_of C.place self.old).todo ≡ Ask question.now ∷ rest.now }
-        ensures { OnOk result (Moves C.terms (rank_of C.place self.old) carrier.old (rank_of C.place self.new) carrier.new true) }
+        ensures { OnOk result (Moves (C.terms (⟦<Ops as Listing>⟧.operations ops.now)) (rank_of C.place self.old) carrier.old (rank_of C.place self.new) carrier.new true) }
     {
-        let text = answer(alloc, carrier, self.me, &self.bound, question)?;
+        let text = answer(alloc, carrier, self.me, &self.bound, question, ops)?;
         self.lines.push(text)?;
         push_origins(&mut self.origins, 0, self.todo, 1)?;
         self.todo = rest;

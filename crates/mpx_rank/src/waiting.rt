@@ -11,6 +11,7 @@ use crate::carrier::{Carrier, Heard};
 use join_core::OutOfMemory;
 use mpx_evaluation::idle_line;
 use mpx_group::Proc;
+use mpx_num::{Listing, Ops};
 use mpx_statement::Word;
 use std::alloc::Global;
 use std::collections::BTreeMap;
@@ -22,14 +23,15 @@ pub(crate) fn are_done<C: Carrier>(
     me: Proc,
     requests: &BTreeMap<Word, C::Call>,
     words: &[Word],
+    ops: &Ops,
 ) -> Result<bool, OutOfMemory>
-    ensures hears { OnOk result (C.terms.hears carrier.old carrier.new) }
-    ensures done { IfOk result (λ all. IsTrue all → are_done (C.terms.tells carrier.new me) (requests_of C.place requests.now) words.now ≡ true) }
-    ensures not_done { IfOk result (λ all. all ≡ false → WasNotDone C.terms me (requests_of C.place requests.now) words.now carrier.old carrier.new) }
+    ensures hears { OnOk result ((C.terms (⟦<Ops as Listing>⟧.operations ops.now)).hears carrier.old carrier.new) }
+    ensures done { IfOk result (λ all. IsTrue all → are_done ((C.terms (⟦<Ops as Listing>⟧.operations ops.now)).tells carrier.new me) (requests_of C.place requests.now) words.now ≡ true) }
+    ensures not_done { IfOk result (λ all. all ≡ false → WasNotDone (C.terms (⟦<Ops as Listing>⟧.operations ops.now)) me (requests_of C.place requests.now) words.now carrier.old carrier.new) }
 {
     let mut all = true;
     for word in words {
-        let done = is_done(alloc, carrier, me, requests.get(word))?;
+        let done = is_done(alloc, carrier, me, requests.get(word), ops)?;
         all &= done;
     }
     Ok(all)
@@ -41,13 +43,14 @@ fn is_done<C: Carrier>(
     carrier: &mut C,
     me: Proc,
     request: Option<&C::Call>,
+    ops: &Ops,
 ) -> Result<bool, OutOfMemory>
-    ensures hears { OnOk result (C.terms.hears carrier.old carrier.new) }
-    ensures done { IfOk result (λ done. done ≡ is_done (C.terms.tells carrier.new me) (option_map C.place (option_copied request.entry))) }
+    ensures hears { OnOk result ((C.terms (⟦<Ops as Listing>⟧.operations ops.now)).hears carrier.old carrier.new) }
+    ensures done { IfOk result (λ done. done ≡ is_done ((C.terms (⟦<Ops as Listing>⟧.operations ops.now)).tells carrier.new me) (option_map C.place (option_copied request.entry))) }
 {
     match request {
         None => Ok(true),
-        Some(call) => carrier.is_told(alloc, me, call),
+        Some(call) => carrier.is_told(alloc, me, call, ops),
     }
 }
 
@@ -59,14 +62,15 @@ pub(crate) fn close_all<C: Carrier>(
     requests: &mut BTreeMap<Word, C::Call>,
     lines: &mut Vec<String>,
     words: &[Word],
+    ops: &Ops,
 ) -> Result<(), OutOfMemory>
-    requires { are_done (C.terms.tells carrier.old me) (requests_of C.place requests.old) words.now ≡ true }
-    ensures hears { OnOk result (C.terms.hears carrier.old carrier.new) }
-    ensures lines { OnOk result (as_text lines.new ≡ as_text lines.old ++ map line_text (wait_lines (C.terms.tells carrier.old me) (requests_of C.place requests.old) words.now)) }
+    requires { are_done ((C.terms (⟦<Ops as Listing>⟧.operations ops.now)).tells carrier.old me) (requests_of C.place requests.old) words.now ≡ true }
+    ensures hears { OnOk result ((C.terms (⟦<Ops as Listing>⟧.operations ops.now)).hears carrier.old carrier.new) }
+    ensures lines { OnOk result (as_text lines.new ≡ as_text lines.old ++ map line_text (wait_lines ((C.terms (⟦<Ops as Listing>⟧.operations ops.now)).tells carrier.old me) (requests_of C.place requests.old) words.now)) }
     ensures requests { OnOk result ((word : List ℕ) → requests_of C.place requests.new word ≡ closed_all words.now (requests_of C.place requests.old) word) }
 {
     for word in words {
-        let text = close(alloc, carrier, me, requests, word)?;
+        let text = close(alloc, carrier, me, requests, word, ops)?;
         lines.push(text)?;
     }
     Ok(())
@@ -79,16 +83,17 @@ fn close<C: Carrier>(
     me: Proc,
     requests: &mut BTreeMap<Word, C::Call>,
     word: &Word,
+    ops: &Ops,
 ) -> Result<String, OutOfMemory>
-    requires { is_done (C.terms.tells carrier.old me) (requests_of C.place requests.old word.now) ≡ true }
-    ensures hears { OnOk result (C.terms.hears carrier.old carrier.new) }
-    ensures line { IfOk result (λ text. string_bytes text ≡ line_text (request_line (C.terms.tells carrier.old me) (requests_of C.place requests.old word.now))) }
+    requires { is_done ((C.terms (⟦<Ops as Listing>⟧.operations ops.now)).tells carrier.old me) (requests_of C.place requests.old word.now) ≡ true }
+    ensures hears { OnOk result ((C.terms (⟦<Ops as Listing>⟧.operations ops.now)).hears carrier.old carrier.new) }
+    ensures line { IfOk result (λ text. string_bytes text ≡ line_text (request_line ((C.terms (⟦<Ops as Listing>⟧.operations ops.now)).tells carrier.old me) (requests_of C.place requests.old word.now))) }
     ensures requests { OnOk result ((other : List ℕ) → requests_of C.place requests.new other ≡ closed word.now (requests_of C.place requests.old) other) }
 {
     let Some(call) = requests.remove(word) else {
         return idle_line(alloc);
     };
-    match carrier.hear(alloc, me, call)? {
+    match carrier.hear(alloc, me, call, ops)? {
         Heard::NotYet(_) => unreachable!(),
         Heard::Told { text, .. } => Ok(text),
     }

@@ -1,5 +1,5 @@
 -- What is read and written, piece by piece.
-use Rattle.std.proofs.Common.{◌≡◌, ℕ, ◌+◌, ◌-◌, ◌≤◌, List, [], ◌++◌, length, take, drop, Option, Some, None, refl, sym, ap, ◌∙◌, ◌<◌, arith, subst}
+use Rattle.std.proofs.Common.{◌≡◌, ℕ, ◌+◌, ◌-◌, ◌≤◌, List, [], ◌++◌, length, take, drop, Option, Some, None, sym, ap, ◌∙◌, ◌<◌, arith, subst}
 use Rattle.std.specs.Prelude.{IfSome}
 use Rattle.std.specs.Io.KnownBytes.{Appends, Keeps, Consumes, IsAtEnd}
 use Rattle.std.proofs.lemmas.List.{append-nil, append_assoc, take_all, length-drop, length-append, length-take, length-take-le, take-append-le}
@@ -7,11 +7,11 @@ use Rattle.std.proofs.Math.Nat.{min-le_left, min-le_right, le-min}
 use Rattle.std.specs.Prelude.{min, Result, Err, OnErr}
 use Rattle.std.proofs.Math.Seq.{take-add, take-append_seam}
 use Rattle.std.proofs.Common.{Ok}
+use Rattle.mpx_num.specs.declared.own.Operation.{Operation}
 use Rattle.mpx_run.specs.declared.end.End.{End}
 use Rattle.mpx_job.specs.declared.Job.{Job}
 use Rattle.mpx_script.specs.Words.{bytes_limit}
 use Rattle.mpx_threads.specs.declared.gate.Step.{Step}
-use Rattle.mpx_threads.specs.Gates.{nowhere}
 use Rattle.mpx_run.specs.Texts.{Prints, TakesInput, TakesPart, Runs}
 use Rattle.mpx_run.specs.declared.texts.RunError.{RunError}
 use Rattle.mpx_run.specs.declared.texts.RunError.TheVariants as E
@@ -127,11 +127,11 @@ takes_part None left text t = ([], omega arith, tt)
 takes_part (Some all) left text t = (text, subst (λ xs. length xs ≤ bytes_limit + 1) (sym t.0) (within_take (bytes_limit + 1) all), t.1)
 
 -- the answer of a text's run is that of a reader which gives the text
-pub runs_input : (gives_up : ℕ → Step → ℕ → Type 0) (job : Job) (there left old new : Option (List ℕ)) (text now : List ℕ) (answer : Result End RunError) → TakesInput there left text → now ≡ text → Prints gives_up job now old new answer → Runs gives_up job there left old new answer
-runs_input gives_up job there left old new text now (Ok end) t e p = record { text = text; taken = t; prints = subst (λ xs. Prints gives_up job xs old new (Ok end)) e p }
-runs_input gives_up job there left old new text now (Err (E.Script refusal)) t e p = record { text = text; taken = t; prints = subst (λ xs. Prints gives_up job xs old new (Err (E.Script refusal))) e p }
-runs_input gives_up job there left old new text now (Err E.TooManyProcesses) t e p = record { text = text; taken = t; prints = subst (λ xs. Prints gives_up job xs old new (Err E.TooManyProcesses)) e p }
-runs_input gives_up job there left old new text now (Err E.Memory) t e p = (takes_part there left text t, p)
-runs_input gives_up job there left old new text now (Err E.Read) t e p = absurd p
-runs_input gives_up job there left old new text now (Err E.Write) t e p = record { text = text; taken = t; prints = subst (λ xs. Prints gives_up job xs old new (Err E.Write)) e p }
-runs_input gives_up job there left old new text now (Err E.GateGaveUp) t e p = record { text = text; taken = t; prints = subst (λ xs. Prints gives_up job xs old new (Err E.GateGaveUp)) e p }
+pub runs_input : (ops : List Operation) (gives_up : ℕ → Step → ℕ → Type 0) (job : Job) (there left old new : Option (List ℕ)) (text now : List ℕ) (answer : Result End RunError) → TakesInput there left text → now ≡ text → Prints ops gives_up job now old new answer → Runs ops gives_up job there left old new answer
+runs_input ops gives_up job there left old new text now (Ok end) t e p = record { text = text; taken = t; prints = subst (λ xs. Prints ops gives_up job xs old new (Ok end)) e p }
+runs_input ops gives_up job there left old new text now (Err (E.Script refusal)) t e p = record { text = text; taken = t; prints = subst (λ xs. Prints ops gives_up job xs old new (Err (E.Script refusal))) e p }
+runs_input ops gives_up job there left old new text now (Err E.TooManyProcesses) t e p = record { text = text; taken = t; prints = subst (λ xs. Prints ops gives_up job xs old new (Err E.TooManyProcesses)) e p }
+runs_input ops gives_up job there left old new text now (Err E.Memory) t e p = (takes_part there left text t, p)
+runs_input ops gives_up job there left old new text now (Err E.Read) t e p = absurd p
+runs_input ops gives_up job there left old new text now (Err E.Write) t e p = record { text = text; taken = t; prints = subst (λ xs. Prints ops gives_up job xs old new (Err E.Write)) e p }
+runs_input ops gives_up job there left old new text now (Err E.GateGaveUp) t e p = record { text = text; taken = t; prints = subst (λ xs. Prints ops gives_up job xs old new (Err E.GateGaveUp)) e p }

@@ -1,7 +1,7 @@
 -- What is reported of a run.
-use Rattle.std.proofs.Common.{◌≡◌, ℕ, zero, suc, ◌<◌, List, [], ◌∷◌, ◌++◌, length, map, drop, Some, refl, ap, ◌∙◌, subst, arith, pos, codes}
+use Rattle.std.proofs.Common.{◌≡◌, ℕ, zero, suc, ◌<◌, List, [], ◌++◌, length, Some, refl, ap, ◌∙◌, subst, arith}
 use Rattle.std.specs.Prelude.{slice_get, unwrap_or, IfOk, Result, Ok, Err}
-use Rattle.mpx_num.specs.Text.{number_text}
+use Rattle.mpx_num.specs.declared.own.Operation.{Operation}
 use Rattle.atomic_table.specs.Seated.{TableId}
 use Rattle.mpx_node.specs.Nodes.{NodeView}
 use Rattle.mpx_bus.specs.Berths.{Berth}
@@ -39,10 +39,10 @@ nobody : (end : End) (waiting : List ℕ) → EndsSo end waiting → end ≡ Fin
 nobody Finished waiting h e = h
 nobody (Waiting ranks) waiting h e = cc e
 
-pub reported : (script : ScriptView) (relays : ℕ) (nodes : List NodeView) (transcripts : List (List (List ℕ))) (waiting : List ℕ) (end : End) (text : List ℕ) → IsRun script relays nodes transcripts waiting
-    → ((e : State) → IsEvaluation script.statements script.ranks e → Begin transcripts e) → ((e : State) → IsEvaluation script.statements script.ranks e → AreWhole transcripts waiting e)
-    → text ≡ text_upto (lines_at transcripts) script.ranks → EndsSo end waiting → IsReport script relays end text
-reported script relays nodes transcripts waiting end text run begins whole lines ends = record {
+pub reported : (ops : List Operation) (script : ScriptView) (relays : ℕ) (nodes : List NodeView) (transcripts : List (List (List ℕ))) (waiting : List ℕ) (end : End) (text : List ℕ) → IsRun ops script relays nodes transcripts waiting
+    → ((e : State) → IsEvaluation ops script.statements script.ranks e → Begin transcripts e) → ((e : State) → IsEvaluation ops script.statements script.ranks e → AreWhole transcripts waiting e)
+    → text ≡ text_upto (lines_at transcripts) script.ranks → EndsSo end waiting → IsReport ops script relays end text
+reported ops script relays nodes transcripts waiting end text run begins whole lines ends = record {
   nodes = nodes;
   transcripts = transcripts;
   waiting = waiting;
@@ -55,10 +55,10 @@ reported script relays nodes transcripts waiting end text run begins whole lines
       lines ∙ text_of_state transcripts e script.ranks run.ranks_are (λ p said at. whole e is p said at (λ place w. cc (w, none)));
 }
 
-pub threads_reported : (script : ScriptView) (relays : ℕ) (table : TableId) (ports : List Berth) (transcripts : List (List (List ℕ))) (waiting : List ℕ) (end : End) (text : List ℕ) → IsThreadRun script relays table ports transcripts waiting
-    → ((e : State) → IsEvaluation script.statements script.ranks e → Begin transcripts e) → ((e : State) → IsEvaluation script.statements script.ranks e → AreWhole transcripts waiting e)
-    → text ≡ text_upto (lines_at transcripts) script.ranks → EndsSo end waiting → IsThreadReport script relays end text
-threads_reported script relays table ports transcripts waiting end text run begins whole lines ends = record {
+pub threads_reported : (ops : List Operation) (script : ScriptView) (relays : ℕ) (table : TableId) (ports : List Berth) (transcripts : List (List (List ℕ))) (waiting : List ℕ) (end : End) (text : List ℕ) → IsThreadRun ops script relays table ports transcripts waiting
+    → ((e : State) → IsEvaluation ops script.statements script.ranks e → Begin transcripts e) → ((e : State) → IsEvaluation ops script.statements script.ranks e → AreWhole transcripts waiting e)
+    → text ≡ text_upto (lines_at transcripts) script.ranks → EndsSo end waiting → IsThreadReport ops script relays end text
+threads_reported ops script relays table ports transcripts waiting end text run begins whole lines ends = record {
   table = table;
   ports = ports;
   transcripts = transcripts;
@@ -72,9 +72,9 @@ threads_reported script relays table ports transcripts waiting end text run begi
       lines ∙ text_of_state transcripts e script.ranks run.ranks_are (λ p said at. whole e is p said at (λ place w. cc (w, none)));
 }
 
-pub evaluated : (script : ScriptView) (transcripts : List (List (List ℕ))) (waiting : List ℕ) (end : End) (text : List ℕ) → IsEvaluated script transcripts waiting
-    → text ≡ text_upto (lines_at transcripts) script.ranks → EndsSo end waiting → IsEvaluatedText script end text
-evaluated script transcripts waiting end text v lines ends = record {
+pub evaluated : (ops : List Operation) (script : ScriptView) (transcripts : List (List (List ℕ))) (waiting : List ℕ) (end : End) (text : List ℕ) → IsEvaluated ops script transcripts waiting
+    → text ≡ text_upto (lines_at transcripts) script.ranks → EndsSo end waiting → IsEvaluatedText ops script end text
+evaluated ops script transcripts waiting end text v lines ends = record {
   evaluation = v.end;
   is = v.evaluation;
   lines = lines ∙ text_of_state transcripts v.end script.ranks v.ranks_are v.lines;

@@ -1,6 +1,7 @@
 -- The text of a run and of an evaluation.
 use Rattle.std.specs.Prelude.{◌≡◌, ◌≢◌, ℕ, List, [], slice_get, unwrap_or}
 use Rattle.atomic_table.specs.Seated.{TableId}
+use Rattle.mpx_num.specs.declared.own.Operation.{Operation}
 use Rattle.mpx_node.specs.Nodes.{NodeView}
 use Rattle.mpx_bus.specs.Berths.{Berth}
 use Rattle.mpx_script.specs.ScriptView.{ScriptView}
@@ -20,33 +21,33 @@ abbrev pub EndsSo : End → List ℕ → Type 0
 EndsSo Finished waiting = waiting ≡ []
 EndsSo (Waiting ranks) waiting = (ranks.items ≡ waiting) × (waiting ≢ [])
 
--- the text and the end of a script's evaluation: all its lines rank by rank, and who waits there
-pub record IsEvaluatedText (script : ScriptView) (end : End) (text : List ℕ) : Type 0 where
+-- the text and the end of a script's evaluation by the job's own operations: all its lines rank by rank, and who waits there
+pub record IsEvaluatedText (ops : List Operation) (script : ScriptView) (end : End) (text : List ℕ) : Type 0 where
   pub evaluation : State
-  pub is : IsEvaluation script.statements script.ranks evaluation
+  pub is : IsEvaluation ops script.statements script.ranks evaluation
   pub lines : text ≡ text_upto (lines_in evaluation) script.ranks
   pub ends : EndsSo end (waiting_in evaluation script.ranks)
 
 -- the text and the end of a simulated run: its lines rank by rank, and who waits. It begins, and where nobody waits is, that of the
 -- evaluation
-pub record IsReport (script : ScriptView) (relays : ℕ) (end : End) (text : List ℕ) : Type 0 where
+pub record IsReport (ops : List Operation) (script : ScriptView) (relays : ℕ) (end : End) (text : List ℕ) : Type 0 where
   pub nodes : List NodeView
   pub transcripts : List (List (List ℕ))
   pub waiting : List ℕ
-  pub run : IsRun script relays nodes transcripts waiting
+  pub run : IsRun ops script relays nodes transcripts waiting
   pub lines : text ≡ text_upto (lines_at transcripts) script.ranks
   pub ends : EndsSo end waiting
-  pub begins : (evaluation : State) → IsEvaluation script.statements script.ranks evaluation → Begin transcripts evaluation
-  pub whole : (evaluation : State) → IsEvaluation script.statements script.ranks evaluation → end ≡ Finished → text ≡ text_upto (lines_in evaluation) script.ranks
+  pub begins : (evaluation : State) → IsEvaluation ops script.statements script.ranks evaluation → Begin transcripts evaluation
+  pub whole : (evaluation : State) → IsEvaluation ops script.statements script.ranks evaluation → end ≡ Finished → text ≡ text_upto (lines_in evaluation) script.ranks
 
 -- the same of a run in threads
-pub record IsThreadReport (script : ScriptView) (relays : ℕ) (end : End) (text : List ℕ) : Type 0 where
+pub record IsThreadReport (ops : List Operation) (script : ScriptView) (relays : ℕ) (end : End) (text : List ℕ) : Type 0 where
   pub table : TableId
   pub ports : List Berth
   pub transcripts : List (List (List ℕ))
   pub waiting : List ℕ
-  pub run : IsThreadRun script relays table ports transcripts waiting
+  pub run : IsThreadRun ops script relays table ports transcripts waiting
   pub lines : text ≡ text_upto (lines_at transcripts) script.ranks
   pub ends : EndsSo end waiting
-  pub begins : (evaluation : State) → IsEvaluation script.statements script.ranks evaluation → Begin transcripts evaluation
-  pub whole : (evaluation : State) → IsEvaluation script.statements script.ranks evaluation → end ≡ Finished → text ≡ text_upto (lines_in evaluation) script.ranks
+  pub begins : (evaluation : State) → IsEvaluation ops script.statements script.ranks evaluation → Begin transcripts evaluation
+  pub whole : (evaluation : State) → IsEvaluation ops script.statements script.ranks evaluation → end ≡ Finished → text ≡ text_upto (lines_in evaluation) script.ranks

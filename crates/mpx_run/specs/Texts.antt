@@ -1,6 +1,7 @@
 -- What a job reads and writes.
 use Rattle.std.specs.Prelude.{◌≡◌, Bool, true, false, ◌<◌, ◌≤◌, ℕ, zero, suc, pos, ◌+◌, List, [], ◌++◌, length, slice_index_or, codes, take, Option, Result, Ok, Err, IfSome}
 use Rattle.std.specs.Io.KnownBytes.{Appends, Consumes, Keeps}
+use Rattle.mpx_num.specs.declared.own.Operation.{Operation}
 use Rattle.mpx_num.specs.Text.{number_text}
 use Rattle.mpx_statement.specs.declared.statement.Statement.{Statement}
 use Rattle.mpx_script.specs.ScriptView.{ScriptView}
@@ -55,41 +56,41 @@ statements_upto statements (suc n) = statements_upto statements n + length (slic
 abbrev pub check_text : ScriptView → List ℕ
 check_text script = codes "ok " ++ number_text (pos script.ranks) ++ codes " ranks " ++ number_text (pos (statements_upto script.statements script.ranks)) ++ codes " statements\n"
 
--- to which end and text a run with so many relays comes, in threads or simulated
-abbrev pub RunsTo : (threads : Bool) (relays : ℕ) → ScriptView → End → List ℕ → Type 0
-RunsTo true relays script end out = IsThreadReport script relays end out
-RunsTo false relays script end out = IsReport script relays end out
+-- to which end and text a run with so many relays comes by the job's own operations, in threads or simulated
+abbrev pub RunsTo : (ops : List Operation) (threads : Bool) (relays : ℕ) → ScriptView → End → List ℕ → Type 0
+RunsTo ops true relays script end out = IsThreadReport ops script relays end out
+RunsTo ops false relays script end out = IsReport ops script relays end out
 
 -- to which end and text a script comes: a run, its evaluation, or the script alone
-abbrev pub ComesTo : Command → (threads : Bool) (relays : ℕ) → ScriptView → End → List ℕ → Type 0
-ComesTo Run threads relays script end out = (script.ranks + relays ≤ 64) × RunsTo threads relays script end out
-ComesTo Eval threads relays script end out = IsEvaluatedText script end out
-ComesTo Check threads relays script end out = (end ≡ Finished) × (out ≡ check_text script)
+abbrev pub ComesTo : List Operation → Command → (threads : Bool) (relays : ℕ) → ScriptView → End → List ℕ → Type 0
+ComesTo ops Run threads relays script end out = (script.ranks + relays ≤ 64) × RunsTo ops threads relays script end out
+ComesTo ops Eval threads relays script end out = IsEvaluatedText ops script end out
+ComesTo ops Check threads relays script end out = (end ≡ Finished) × (out ≡ check_text script)
 
 -- a text is read as a script, with which the job comes to that end and text
-pub record DoneTo (job : Job) (text : List ℕ) (end : End) (out : List ℕ) : Type 0 where
+pub record DoneTo (ops : List Operation) (job : Job) (text : List ℕ) (end : End) (out : List ℕ) : Type 0 where
   pub script : ScriptView
-  pub read : reading text ≡ Ok script
-  pub comes : ComesTo job.command job.options.threads job.options.relays script end out
+  pub read : reading ops text ≡ Ok script
+  pub comes : ComesTo ops job.command job.options.threads job.options.relays script end out
 
 -- a text is read as a script that has too many ranks to be run with so many relays
-pub record HasTooMany (job : Job) (text : List ℕ) : Type 0 where
+pub record HasTooMany (ops : List Operation) (job : Job) (text : List ℕ) : Type 0 where
   pub script : ScriptView
-  pub read : reading text ≡ Ok script
+  pub read : reading ops text ≡ Ok script
   pub runs : job.command ≡ Run
   pub many : 64 < script.ranks + job.options.relays
 
 -- all that comes of the text is out
-pub record PrintsWhole (job : Job) (text : List ℕ) (old new : Option (List ℕ)) (end : End) : Type 0 where
+pub record PrintsWhole (ops : List Operation) (job : Job) (text : List ℕ) (old new : Option (List ℕ)) (end : End) : Type 0 where
   pub out : List ℕ
-  pub comes : DoneTo job text end out
+  pub comes : DoneTo ops job text end out
   pub written : Appends old new out
 
 -- a beginning of it is out
-pub record PrintsPart (job : Job) (text : List ℕ) (old new : Option (List ℕ)) : Type 0 where
+pub record PrintsPart (ops : List Operation) (job : Job) (text : List ℕ) (old new : Option (List ℕ)) : Type 0 where
   pub end : End
   pub out : List ℕ
-  pub comes : DoneTo job text end out
+  pub comes : DoneTo ops job text end out
   pub count : ℕ
   pub written : Appends old new (take count out)
 
@@ -102,34 +103,34 @@ abbrev pub IsEndedByGate : (gives_up : ℕ → Step → ℕ → Type 0) (job : J
 IsEndedByGate gives_up job script = IsGated job × GivesUpAmong gives_up (script.ranks + job.options.relays) job.options.turns
 
 -- a text is read as a script that is run in threads, and the gate gives up at a step of one of its processes
-pub record IsGivenUp (gives_up : ℕ → Step → ℕ → Type 0) (job : Job) (text : List ℕ) : Type 0 where
+pub record IsGivenUp (ops : List Operation) (gives_up : ℕ → Step → ℕ → Type 0) (job : Job) (text : List ℕ) : Type 0 where
   pub script : ScriptView
-  pub read : reading text ≡ Ok script
+  pub read : reading ops text ≡ Ok script
   pub gated : IsGated job
   pub at : GivesUpAmong gives_up (script.ranks + job.options.relays) job.options.turns
 
 -- what is out after a job with a text, by the answer, where the gate gives up there
-abbrev pub Prints : (gives_up : ℕ → Step → ℕ → Type 0) (job : Job) (text : List ℕ) (old new : Option (List ℕ)) → Result End RunError → Type 0
-Prints gives_up job text old new (Ok end) = PrintsWhole job text old new end
-Prints gives_up job text old new (Err (E.Script refusal)) = (reading text ≡ Err refusal) × Keeps old new
-Prints gives_up job text old new (Err E.TooManyProcesses) = HasTooMany job text × Keeps old new
-Prints gives_up job text old new (Err E.Memory) = Keeps old new
-Prints gives_up job text old new (Err E.Read) = ⊥
-Prints gives_up job text old new (Err E.Write) = PrintsPart job text old new
-Prints gives_up job text old new (Err E.GateGaveUp) = IsGivenUp gives_up job text × Keeps old new
+abbrev pub Prints : (ops : List Operation) (gives_up : ℕ → Step → ℕ → Type 0) (job : Job) (text : List ℕ) (old new : Option (List ℕ)) → Result End RunError → Type 0
+Prints ops gives_up job text old new (Ok end) = PrintsWhole ops job text old new end
+Prints ops gives_up job text old new (Err (E.Script refusal)) = (reading ops text ≡ Err refusal) × Keeps old new
+Prints ops gives_up job text old new (Err E.TooManyProcesses) = HasTooMany ops job text × Keeps old new
+Prints ops gives_up job text old new (Err E.Memory) = Keeps old new
+Prints ops gives_up job text old new (Err E.Read) = ⊥
+Prints ops gives_up job text old new (Err E.Write) = PrintsPart ops job text old new
+Prints ops gives_up job text old new (Err E.GateGaveUp) = IsGivenUp ops gives_up job text × Keeps old new
 
 -- the reader's text is taken, and the job done with it
-pub record RunsInput (gives_up : ℕ → Step → ℕ → Type 0) (job : Job) (there left old new : Option (List ℕ)) (answer : Result End RunError) : Type 0 where
+pub record RunsInput (ops : List Operation) (gives_up : ℕ → Step → ℕ → Type 0) (job : Job) (there left old new : Option (List ℕ)) (answer : Result End RunError) : Type 0 where
   pub text : List ℕ
   pub taken : TakesInput there left text
-  pub prints : Prints gives_up job text old new answer
+  pub prints : Prints ops gives_up job text old new answer
 
 -- what a reader has left and what is out after a job, by the answer, where the gate gives up there
-abbrev pub Runs : (gives_up : ℕ → Step → ℕ → Type 0) (job : Job) (there left old new : Option (List ℕ)) → Result End RunError → Type 0
-Runs gives_up job there left old new (Ok end) = RunsInput gives_up job there left old new (Ok end)
-Runs gives_up job there left old new (Err (E.Script refusal)) = RunsInput gives_up job there left old new (Err (E.Script refusal))
-Runs gives_up job there left old new (Err E.TooManyProcesses) = RunsInput gives_up job there left old new (Err E.TooManyProcesses)
-Runs gives_up job there left old new (Err E.Memory) = TakesPart there left × Keeps old new
-Runs gives_up job there left old new (Err E.Read) = TakesPart there left × Keeps old new
-Runs gives_up job there left old new (Err E.Write) = RunsInput gives_up job there left old new (Err E.Write)
-Runs gives_up job there left old new (Err E.GateGaveUp) = RunsInput gives_up job there left old new (Err E.GateGaveUp)
+abbrev pub Runs : (ops : List Operation) (gives_up : ℕ → Step → ℕ → Type 0) (job : Job) (there left old new : Option (List ℕ)) → Result End RunError → Type 0
+Runs ops gives_up job there left old new (Ok end) = RunsInput ops gives_up job there left old new (Ok end)
+Runs ops gives_up job there left old new (Err (E.Script refusal)) = RunsInput ops gives_up job there left old new (Err (E.Script refusal))
+Runs ops gives_up job there left old new (Err E.TooManyProcesses) = RunsInput ops gives_up job there left old new (Err E.TooManyProcesses)
+Runs ops gives_up job there left old new (Err E.Memory) = TakesPart there left × Keeps old new
+Runs ops gives_up job there left old new (Err E.Read) = TakesPart there left × Keeps old new
+Runs ops gives_up job there left old new (Err E.Write) = RunsInput ops gives_up job there left old new (Err E.Write)
+Runs ops gives_up job there left old new (Err E.GateGaveUp) = RunsInput ops gives_up job there left old new (Err E.GateGaveUp)

@@ -10,7 +10,7 @@ use join_core::OutOfMemory;
 use mpx_eval::eval;
 use mpx_evaluation::Report;
 use mpx_job::Options;
-use mpx_num::push_number;
+use mpx_num::{Listing, Ops, push_number};
 use mpx_script::Script;
 use mpx_sim::{Observer, run_sim_observed};
 use mpx_threads::{Gate, ThreadsError, run_threads};
@@ -31,11 +31,12 @@ pub(crate) fn print(
     script: &Script,
     options: &Options,
     observer: &mut dyn Observer,
+    ops: &Ops,
 ) -> Result<Printed, OutOfMemory>
     requires { script.now.ranks + options.now.relays ≤ 64 }
-    ensures { IfOk result (λ printed. IsReport script.now options.now.relays printed.end (string_bytes printed.text)) }
+    ensures { IfOk result (λ printed. IsReport (⟦<Ops as Listing>⟧.operations ops.now) script.now options.now.relays printed.end (string_bytes printed.text)) }
 {
-    let run = run_sim_observed(alloc, script, options, observer)?;
+    let run = run_sim_observed(alloc, script, options, observer, ops)?;
     print_report(alloc, run.report, script.ranks())
 }
 
@@ -46,12 +47,13 @@ pub(crate) fn print_threads<T: Threads + Wait + Sync, G: Gate + Sync>(
     script: &Script,
     options: &Options,
     gate: &G,
+    ops: &Ops,
 ) -> Result<Printed, ThreadsError>
     requires { script.now.ranks + options.now.relays ≤ 64 }
-    ensures printed { IfOk result (λ printed. IsThreadReport script.now options.now.relays printed.end (string_bytes printed.text)) }
+    ensures printed { IfOk result (λ printed. IsThreadReport (⟦<Ops as Listing>⟧.operations ops.now) script.now options.now.relays printed.end (string_bytes printed.text)) }
     ensures gave_up { IfErr result (λ e. e ≡ ThreadsError.GateGaveUp → GivesUpAmong (G.gives_up gate.now) (script.now.ranks + options.now.relays) options.now.turns) }
 {
-    let run = run_threads(rt, alloc, script, options, gate)?;
+    let run = run_threads(rt, alloc, script, options, gate, ops)?;
     match print_report(alloc, run.report, script.ranks()) {
         Ok(printed) => Ok(printed),
         Err(_) => Err(ThreadsError::OutOfMemory),
@@ -59,10 +61,14 @@ pub(crate) fn print_threads<T: Threads + Wait + Sync, G: Gate + Sync>(
 }
 
 /// The same of a script's evaluation.
-pub(crate) fn print_evaluation(alloc: Global, script: &Script) -> Result<Printed, OutOfMemory>
-    ensures { IfOk result (λ printed. IsEvaluatedText script.now printed.end (string_bytes printed.text)) }
+pub(crate) fn print_evaluation(
+    alloc: Global,
+    script: &Script,
+    ops: &Ops,
+) -> Result<Printed, OutOfMemory>
+    ensures { IfOk result (λ printed. IsEvaluatedText (⟦<Ops as Listing>⟧.operations ops.now) script.now printed.end (string_bytes printed.text)) }
 {
-    let report = eval(alloc, script)?;
+    let report = eval(alloc, script, ops)?;
     print_report(alloc, report, script.ranks())
 }
 

@@ -9,6 +9,7 @@ use crate::end::End;
 use crate::report::{Printed, print, print_evaluation, print_threads};
 use join_core::OutOfMemory;
 use mpx_job::{Command, Job};
+use mpx_num::{Listing, Ops};
 use mpx_script::{ReadScriptError, Script, ScriptError, read_script};
 use mpx_sim::{Observer, Unobserved};
 use mpx_threads::{Gate, OpenGate, ThreadsError};
@@ -68,6 +69,7 @@ impl From<ReadFault> for RunError {
 
 /// Reads a script, and writes what it comes to: of [`Command::Run`] and [`Command::Eval`] each rank's lines as `RANK: LINE`,
 /// rank by rank, of [`Command::Check`] the line `ok N ranks M statements`, where M counts a statement once for each rank that has it.
+/// `ops` are the job's own operations, which a script names by their words.
 ///
 /// The reader is read to its end, or up to one byte more than a script may have, in at most 1,048,577 calls; a call that
 /// fails ends it. Nothing is written before all is computed; after `Write` a beginning of the text is out, and after
@@ -80,11 +82,21 @@ pub fn run_text<T: Threads + Wait + Sync, R: Read, W: Write>(
     job: &Job,
     reader: &mut R,
     writer: &mut W,
+    ops: &Ops,
 ) -> Result<End, RunError>
-    ensures runs { Runs nowhere job.now (R.remaining reader.old) (R.remaining reader.new) (W.contents writer.old) (W.contents writer.new) result }
+    ensures runs { Runs (⟦<Ops as Listing>⟧.operations ops.now) nowhere job.now (R.remaining reader.old) (R.remaining reader.new) (W.contents writer.old) (W.contents writer.new) result }
     ensures never { IfErr result (λ e. e ≢ RunError.GateGaveUp) }
 {
-    run_text_observed(rt, alloc, job, reader, writer, &mut Unobserved, &OpenGate)
+    run_text_observed(
+        rt,
+        alloc,
+        job,
+        reader,
+        writer,
+        &mut Unobserved,
+        &OpenGate,
+        ops,
+    )
 }
 
 /// The same, with somebody who looks on at a simulated run, and a gate for a run in threads, which then may answer `GateGaveUp`, where
@@ -97,11 +109,12 @@ pub fn run_text_observed<T: Threads + Wait + Sync, R: Read, W: Write, G: Gate + 
     writer: &mut W,
     observer: &mut dyn Observer,
     gate: &G,
+    ops: &Ops,
 ) -> Result<End, RunError>
-    ensures { Runs (G.gives_up gate.now) job.now (R.remaining reader.old) (R.remaining reader.new) (W.contents writer.old) (W.contents writer.new) result }
+    ensures { Runs (⟦<Ops as Listing>⟧.operations ops.now) (G.gives_up gate.now) job.now (R.remaining reader.old) (R.remaining reader.new) (W.contents writer.old) (W.contents writer.new) result }
 {
     let text = read_bytes(alloc, reader)?;
-    bytes_observed(rt, alloc, job, &text, writer, observer, gate)
+    bytes_observed(rt, alloc, job, &text, writer, observer, gate, ops)
 }
 
 /// Does the job with the script that the bytes are, as [`run_text`] does once it has read them. It never answers `Read` or `GateGaveUp`.
@@ -111,11 +124,21 @@ pub fn run_bytes<T: Threads + Wait + Sync, W: Write>(
     job: &Job,
     text: &[u8],
     writer: &mut W,
+    ops: &Ops,
 ) -> Result<End, RunError>
-    ensures prints { Prints nowhere job.now text.now (W.contents writer.old) (W.contents writer.new) result }
+    ensures prints { Prints (⟦<Ops as Listing>⟧.operations ops.now) nowhere job.now text.now (W.contents writer.old) (W.contents writer.new) result }
     ensures never { IfErr result (λ e. e ≢ RunError.GateGaveUp) }
 {
-    bytes_observed(rt, alloc, job, text, writer, &mut Unobserved, &OpenGate)
+    bytes_observed(
+        rt,
+        alloc,
+        job,
+        text,
+        writer,
+        &mut Unobserved,
+        &OpenGate,
+        ops,
+    )
 }
 
 // The same, with somebody who looks on, and a gate.
@@ -127,10 +150,11 @@ fn bytes_observed<T: Threads + Wait + Sync, W: Write, G: Gate + Sync>(
     writer: &mut W,
     observer: &mut dyn Observer,
     gate: &G,
+    ops: &Ops,
 ) -> Result<End, RunError>
-    ensures { Prints (G.gives_up gate.now) job.now text.now (W.contents writer.old) (W.contents writer.new) result }
+    ensures { Prints (⟦<Ops as Listing>⟧.operations ops.now) (G.gives_up gate.now) job.now text.now (W.contents writer.old) (W.contents writer.new) result }
 {
-    let script = match read_script(alloc, text) {
+    let script = match read_script(alloc, text, ops) {
         Ok(script) => script,
         Err(ReadScriptError::Refused(refusal)) => return Err(RunError::Script(refusal)),
         Err(ReadScriptError::OutOfMemory) => return Err(RunError::Memory),
@@ -138,7 +162,7 @@ fn bytes_observed<T: Threads + Wait + Sync, W: Write, G: Gate + Sync>(
     if has_too_many(job, script.ranks()) {
         return Err(RunError::TooManyProcesses);
     }
-    let printed = match printed_of(rt, alloc, &script, job, observer, gate) {
+    let printed = match printed_of(rt, alloc, &script, job, observer, gate, ops) {
         Ok(printed) => printed,
         Err(ThreadsError::OutOfMemory) => return Err(RunError::Memory),
         Err(ThreadsError::GateGaveUp) => return Err(RunError::GateGaveUp),
@@ -170,15 +194,16 @@ fn printed_of<T: Threads + Wait + Sync, G: Gate + Sync>(
     job: &Job,
     observer: &mut dyn Observer,
     gate: &G,
+    ops: &Ops,
 ) -> Result<Printed, ThreadsError>
     requires { job.now.command ≡ Command.Run → script.now.ranks + job.now.options.relays ≤ 64 }
-    ensures text { IfOk result (λ printed. ComesTo job.now.command job.now.options.threads job.now.options.relays script.now printed.end (string_bytes printed.text)) }
+    ensures text { IfOk result (λ printed. ComesTo (⟦<Ops as Listing>⟧.operations ops.now) job.now.command job.now.options.threads job.now.options.relays script.now printed.end (string_bytes printed.text)) }
     ensures gave_up { IfErr result (λ e. e ≡ ThreadsError.GateGaveUp → IsEndedByGate (G.gives_up gate.now) job.now script.now) }
 {
     if is_in_threads(job) {
-        return print_threads(rt, alloc, script, &job.options, gate);
+        return print_threads(rt, alloc, script, &job.options, gate, ops);
     }
-    match printed_alone(alloc, script, job, observer) {
+    match printed_alone(alloc, script, job, observer, ops) {
         Ok(printed) => Ok(printed),
         Err(_) => Err(ThreadsError::OutOfMemory),
     }
@@ -202,14 +227,15 @@ fn printed_alone(
     script: &Script,
     job: &Job,
     observer: &mut dyn Observer,
+    ops: &Ops,
 ) -> Result<Printed, OutOfMemory>
     requires few { job.now.command ≡ Command.Run → script.now.ranks + job.now.options.relays ≤ 64 }
     requires alone { job.now.command ≡ Command.Run → job.now.options.threads ≡ false }
-    ensures { IfOk result (λ printed. ComesTo job.now.command job.now.options.threads job.now.options.relays script.now printed.end (string_bytes printed.text)) }
+    ensures { IfOk result (λ printed. ComesTo (⟦<Ops as Listing>⟧.operations ops.now) job.now.command job.now.options.threads job.now.options.relays script.now printed.end (string_bytes printed.text)) }
 {
     match job.command {
-        Command::Run => print(alloc, script, &job.options, observer),
-        Command::Eval => print_evaluation(alloc, script),
+        Command::Run => print(alloc, script, &job.options, observer, ops),
+        Command::Eval => print_evaluation(alloc, script, ops),
         Command::Check => Ok(Printed {
             text: check_text(alloc, script)?,
             end: End::Finished,

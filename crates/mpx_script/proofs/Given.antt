@@ -8,6 +8,7 @@ use Rattle.std.proofs.lemmas.Bool.{or_parts}
 use Rattle.std.proofs.lemmas.List.{append-nil, take_more, drop-drop, get_or-drop, length-drop, map_push}
 use Rattle.std.proofs.lemmas.List.Elements.{filter-append}
 use Rattle.std.proofs.lemmas.List.FromFn.{get_or-map-range_with_len}
+use Rattle.mpx_num.specs.declared.own.Operation.{Operation}
 use Rattle.mpx_script.specs.Words.{words, counts, counting, script_lines, with_first_line, bytes_limit}
 use Rattle.mpx_script.specs.Syntax.{DirectiveSyntax, directive_in, form_in, label_in}
 use Rattle.mpx_script.specs.Refusals.{is_unknown, is_unknown_as}
@@ -93,18 +94,18 @@ none_holds (x ∷ asked) e i one f = by_test (none_holds asked) x.1 refl where
   by_test again false g = by_place (λ k h. again (sym (ap (λ b. cond b (Some x.0) (first_holding asked)) g) ∙ e) k one h) g i f
 
 -- a further line that counts and isn't refused has a statement
-known_line : (p : LineContext) (n : ℕ) → refusal p ≡ None → counts (words p.line) ≡ true → p.ranks ≡ Some n → is_unknown (directive_in (words p.line)) ≡ false
-known_line p n e c r =
-    let held : on_further p (λ ranks directive. is_unknown directive) ≡ false = none_holds (refusals p) e 5 (UnknownStatement, on_further p (λ ranks directive. is_unknown directive)) refl in
-    sym (ap (λ (o : Option ℕ). option_map_or (λ ranks. is_unknown (directive_in (words p.line))) o false) r)
-    ∙ sym (ap (λ b. b && option_map_or (λ ranks. is_unknown (directive_in (words p.line))) p.ranks false) c) ∙ held
+known_line : (ops : List Operation) (p : LineContext) (n : ℕ) → refusal ops p ≡ None → counts (words p.line) ≡ true → p.ranks ≡ Some n → is_unknown ops (directive_in (words p.line)) ≡ false
+known_line ops p n e c r =
+    let held : on_further p (λ ranks directive. is_unknown ops directive) ≡ false = none_holds (refusals ops p) e 5 (UnknownStatement, on_further p (λ ranks directive. is_unknown ops directive)) refl in
+    sym (ap (λ (o : Option ℕ). option_map_or (λ ranks. is_unknown ops (directive_in (words p.line))) o false) r)
+    ∙ sym (ap (λ b. b && option_map_or (λ ranks. is_unknown ops (directive_in (words p.line))) p.ranks false) c) ∙ held
 
-has_statement : (d : DirectiveSyntax) → is_unknown d ≡ false → (x : Statement) × (statement_in d ≡ Some x)
+has_statement : (ops : List Operation) (d : DirectiveSyntax) → is_unknown ops d ≡ false → (x : Statement) × (statement_in ops d ≡ Some x)
 unfolding is_unknown statement_in
-has_statement d e = by_form (form_in d) refl (or_parts (is_none (label_in d)) (option_map_or (λ form. is_unknown_as form d.behind) (form_in d) true) e).1 where
-  by_form : (o : Option Form) → form_in d ≡ o → option_map_or (λ form. is_unknown_as form d.behind) (form_in d) true ≡ false → (x : Statement) × (statement_in d ≡ Some x)
-  by_form None f g = let yes : true ≡ false = sym (ap (λ (o : Option Form). option_map_or (λ form. is_unknown_as form d.behind) o true) f) ∙ g in cc yes
-  by_form (Some form) f g = elim (statement_in d) as (λ o. statement_in d ≡ o → (x : Statement) × (statement_in d ≡ Some x)) [
+has_statement ops d e = by_form (form_in d) refl (or_parts (is_none (label_in d)) (option_map_or (λ form. is_unknown_as ops form d.behind) (form_in d) true) e).1 where
+  by_form : (o : Option Form) → form_in d ≡ o → option_map_or (λ form. is_unknown_as ops form d.behind) (form_in d) true ≡ false → (x : Statement) × (statement_in ops d ≡ Some x)
+  by_form None f g = let yes : true ≡ false = sym (ap (λ (o : Option Form). option_map_or (λ form. is_unknown_as ops form d.behind) o true) f) ∙ g in cc yes
+  by_form (Some form) f g = elim (statement_in ops d) as (λ o. statement_in ops d ≡ o → (x : Statement) × (statement_in ops d ≡ Some x)) [
     | None ↦ λ h. let none : form_in d ≡ None = mapped_none _ (form_in d) h in let no : Some form ≡ None = sym f ∙ none in cc no
     | Some x ↦ λ h. (x, h)
   ] refl
@@ -115,12 +116,12 @@ settled_some : (before : List (List (List ℕ))) → 0 < length before → (n : 
 settled_some [] l = absurd (omega (arith, l))
 settled_some (opening ∷ more) l = (ranks_told opening, refl)
 
-module _ (text : List ℕ) (rank : ℕ) (clean : (i : ℕ) → i < length (script_lines text) → refusal (context_at text i) ≡ None) where
+module _ (ops : List Operation) (text : List ℕ) (rank : ℕ) (clean : (i : ℕ) → i < length (script_lines text) → refusal ops (context_at ops text i) ≡ None) where
   abbrev all : List (List ℕ)
   all = script_lines text
 
   abbrev given : List (List ℕ) → Option Statement
-  given ws = given_to rank (directive_in ws)
+  given ws = given_to ops rank (directive_in ws)
 
   abbrev by_numbers : List ℕ → List (Option Statement)
   by_numbers numbers = map (λ number. given (words_at text number)) numbers
@@ -148,11 +149,11 @@ module _ (text : List ℕ) (rank : ℕ) (clean : (i : ℕ) → i < length (scrip
       }
 
   -- a further line that counts has a statement
-  stated : (i : ℕ) (line : List ℕ) (more : List (List ℕ)) → Here i line more → 0 < length (counting (take i all)) → counts (words line) ≡ true → (x : Statement) × (statement_in (directive_in (words line)) ≡ Some x)
+  stated : (i : ℕ) (line : List ℕ) (more : List (List ℕ)) → Here i line more → 0 < length (counting (take i all)) → counts (words line) ≡ true → (x : Statement) × (statement_in ops (directive_in (words line)) ≡ Some x)
   stated i line more h some c =
       let settled = settled_some (counting (take i all)) some in
-      let known : is_unknown (directive_in (words (get_or all i []))) ≡ false = known_line (context_at text i) settled.0 (clean i h.within) (ap (λ l. counts (words l)) h.is ∙ c) settled.1 in
-      has_statement (directive_in (words line)) (sym (ap (λ l. is_unknown (directive_in (words l))) h.is) ∙ known)
+      let known : is_unknown ops (directive_in (words (get_or all i []))) ≡ false = known_line ops (context_at ops text i) settled.0 (clean i h.within) (ap (λ l. counts (words l)) h.is ∙ c) settled.1 in
+      has_statement ops (directive_in (words line)) (sym (ap (λ l. is_unknown ops (directive_in (words l))) h.is) ∙ known)
 
   more_counted : (i : ℕ) (line : List ℕ) (more : List (List ℕ)) → Here i line more → 0 < length (counting (take i all)) → 0 < length (counting (take (i + 1) all))
   more_counted i line more h some = subst (λ xs. 0 < length xs) (sym h.counted) (longer (counting (take i all)) (filter counts (words line ∷ [])) some) where
@@ -178,7 +179,7 @@ module _ (text : List ℕ) (rank : ℕ) (clean : (i : ℕ) → i < length (scrip
     by_tests rest true false e f = rw (e, f) rest
     by_tests rest true true e f =
         let x = stated i line more h some e in
-        let gives : given (words line) ≡ Some x.0 = ap (λ b. cond b (statement_in (directive_in (words line))) None) f ∙ x.1 in
+        let gives : given (words line) ≡ Some x.0 = ap (λ b. cond b (statement_in ops (directive_in (words line))) None) f ∙ x.1 in
         let told : given (words_at text (i + 1)) ≡ Some x.0 = ap given h.numbered ∙ gives in
         rw (e, f, x.1) (λ j. told j ∷ rest j)
 
@@ -193,21 +194,21 @@ module _ (text : List ℕ) (rank : ℕ) (clean : (i : ℕ) → i < length (scrip
     by_test rest false e = rw e rest
     by_test rest true e = rw e (further_given (i + 1) more h.rest (first_counted i line more h e))
 
-statements_are : (lines : List (List (List ℕ))) (rank : ℕ) → rank < (script_of lines).ranks → get_or (script_of lines).statements rank [] ≡ filter_map (λ ws. given_to rank (directive_in ws)) (drop 1 lines)
-statements_are [] rank l = absurd (omega (arith, l))
-statements_are (opening ∷ more) rank l = get_or-map-range_with_len (λ k. filter_map (λ ws. given_to k (directive_in ws)) more) 0 (ranks_told opening) rank rank [] l (omega arith)
+statements_are : (ops : List Operation) (lines : List (List (List ℕ))) (rank : ℕ) → rank < (script_of ops lines).ranks → get_or (script_of ops lines).statements rank [] ≡ filter_map (λ ws. given_to ops rank (directive_in ws)) (drop 1 lines)
+statements_are ops [] rank l = absurd (omega (arith, l))
+statements_are ops (opening ∷ more) rank l = get_or-map-range_with_len (λ k. filter_map (λ ws. given_to ops k (directive_in ws)) more) 0 (ranks_told opening) rank rank [] l (omega arith)
 
 -- the numbers are those of the lines that give the statements
-pub give : (text : List ℕ) (rank : ℕ) (script : ScriptView) → reading text ≡ Ok script → rank < script.ranks → Give text rank (lines_given rank text) (slice_index_or script.statements rank [])
+pub give : (ops : List Operation) (text : List ℕ) (rank : ℕ) (script : ScriptView) → reading ops text ≡ Ok script → rank < script.ranks → Give ops text rank (lines_given rank text) (slice_index_or script.statements rank [])
 unfolding reading
-give text rank script read within =
+give ops text rank script read within =
     let counted = counting (script_lines text) in
-    let parts = reads (errors text) (script_of counted) script read in
-    let clean : (i : ℕ) → i < length (script_lines text) → refusal (context_at text i) ≡ None =
-    λ i l. mapped_none _ (refusal (context_at text i)) (none_there (error_at text) 0 (length (script_lines text)) parts.0 i (omega arith) (omega (arith, l))) in
-    let told = opening_given text rank clean 0 (script_lines text) refl in
-    let within_there : rank < (script_of counted).ranks = subst (λ (s : ScriptView). rank < s.ranks) (sym parts.1) within in
-    told ∙ ap (map Some) (sym (statements_are counted rank within_there) ∙ ap (λ (s : ScriptView). get_or s.statements rank []) parts.1)
+    let parts = reads (errors ops text) (script_of ops counted) script read in
+    let clean : (i : ℕ) → i < length (script_lines text) → refusal ops (context_at ops text i) ≡ None =
+    λ i l. mapped_none _ (refusal ops (context_at ops text i)) (none_there (error_at ops text) 0 (length (script_lines text)) parts.0 i (omega arith) (omega (arith, l))) in
+    let told = opening_given ops text rank clean 0 (script_lines text) refl in
+    let within_there : rank < (script_of ops counted).ranks = subst (λ (s : ScriptView). rank < s.ranks) (sym parts.1) within in
+    told ∙ ap (map Some) (sym (statements_are ops counted rank within_there) ∙ ap (λ (s : ScriptView). get_or s.statements rank []) parts.1)
 
 -- A LINE BY ITS NUMBER
 

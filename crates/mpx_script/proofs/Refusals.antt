@@ -2,6 +2,7 @@
 use Rattle.std.proofs.Common.{◌≡◌, ℕ, ℤ, pos, ◌+◌, Bool, true, false, cond, is_some, is_none, ◌⊎◌, inl, inr, nat_lt, ◌∙◌, List, [], ◌∷◌, ◌++◌, Option, Some, None, refl, sym, ap, subst}
 use Rattle.std.specs.Prelude.{option_and_then}
 use Rattle.std.specs.Option.{option_map}
+use Rattle.mpx_num.specs.declared.own.Operation.{Operation}
 use Rattle.mpx_num.specs.Text.{number_of}
 use Rattle.mpx_kind.specs.declared.kinds.Kind.{Kind}
 use Rattle.mpx_kind.specs.declared.kinds.Mode.{Mode}
@@ -23,28 +24,28 @@ use Rattle.mpx_script.specs.declared.faults.ScriptFault.TheVariants.{TooLarge, R
 use Rattle.mpx_script.proofs.Accepted.{read_nothing, read_says}
 
 -- a statement that is known is refused as one of its form
-pub refusal_of_form : (p : DirectiveSyntax) (form : Form) → is_none (label_in p) ≡ false → form_in p ≡ Some form → statement_refusal p ≡ form_refusal form p.behind
+pub refusal_of_form : (ops : List Operation) (p : DirectiveSyntax) (form : Form) → is_none (label_in p) ≡ false → form_in p ≡ Some form → statement_refusal ops p ≡ form_refusal ops form p.behind
 unfolding statement_refusal is_unknown has_wrong_words has_bad_number has_bad_list
-refusal_of_form p form label known = rw (label, known) refl
+refusal_of_form ops p form label known = rw (label, known) refl
 
-pub refusal_of_no_word : (p : DirectiveSyntax) → is_none (label_in p) ≡ false → form_in p ≡ None → statement_refusal p ≡ Some UnknownStatement
+pub refusal_of_no_word : (ops : List Operation) (p : DirectiveSyntax) → is_none (label_in p) ≡ false → form_in p ≡ None → statement_refusal ops p ≡ Some UnknownStatement
 unfolding statement_refusal is_unknown
-refusal_of_no_word p label no_form = rw (label, no_form) refl
+refusal_of_no_word ops p label no_form = rw (label, no_form) refl
 
-module _ (kind : Kind) (mode : Mode) (communicator : Option (List ℕ)) (new : NewSyntax) (call : CallSyntax) (known : has_unknown_word call ≡ false) (there : is_none communicator ≡ false) (named : has_wrong_new_words (shape_of kind) new ≡ false) (counted : has_wrong_count (fields_of kind) call ≡ false) (ended : has_wrong_end mode call ≡ false) where
+module _ (ops : List Operation) (kind : Kind) (mode : Mode) (communicator : Option (List ℕ)) (new : NewSyntax) (call : CallSyntax) (known : has_unknown_word ops call ≡ false) (there : is_none communicator ≡ false) (named : has_wrong_new_words (shape_of kind) new ≡ false) (counted : has_wrong_count (fields_of kind) call ≡ false) (ended : has_wrong_end mode call ≡ false) where
   -- a call whose words are as many as its kind asks for is refused for its tag
-  pub refusal_of_tag : read_at number_of (pos 0) new.tag ≡ None → call_refusal kind mode communicator new call ≡ Some BadNumber
+  pub refusal_of_tag : read_at number_of (pos 0) new.tag ≡ None → call_refusal ops kind mode communicator new call ≡ Some BadNumber
   refusal_of_tag tag = rw (known, there, named, counted, ended, read_nothing number_of (pos 0) new.tag tag) refl
 
   module _ (tag : ℤ) (numbered : read_at number_of (pos 0) new.tag ≡ Some tag) where
-    as_draft : call_refusal kind mode communicator new call ≡ draft_refusal kind new call
+    as_draft : call_refusal ops kind mode communicator new call ≡ draft_refusal kind new call
     as_draft = rw (known, there, named, counted, ended, read_says number_of (pos 0) new.tag tag numbered) refl
 
     -- and then as its draft
-    pub refusal_of_draft : (e : LineError) → IsRefusal (draft_refusal kind new call) e → IsRefusal (call_refusal kind mode communicator new call) e
+    pub refusal_of_draft : (e : LineError) → IsRefusal (draft_refusal kind new call) e → IsRefusal (call_refusal ops kind mode communicator new call) e
     refusal_of_draft e h = subst (λ found. IsRefusal found e) (sym as_draft) h
 
-    pub call_accepted : draft_refusal kind new call ≡ None → call_refusal kind mode communicator new call ≡ None
+    pub call_accepted : draft_refusal kind new call ≡ None → call_refusal ops kind mode communicator new call ≡ None
     call_accepted fine = as_draft ∙ fine
 
 -- the first refusal, or else the other
@@ -62,58 +63,58 @@ refusal_first found other OutOfMemory h = tt
 refusal_first found other (Fault what) h = rw h refl
 
 -- what the names of a line are refused for
-abbrev line_names_refusal : List BoundNames → ℕ → DirectiveSyntax → Option ScriptFault
-line_names_refusal bound n p = first_holding ((BadName, has_bad_name p) ∷ (NameUnknown, has_unknown_name bound n p) ∷ (NameTaken, has_taken_name bound n p) ∷ [])
+abbrev line_names_refusal : List Operation → List BoundNames → ℕ → DirectiveSyntax → Option ScriptFault
+line_names_refusal ops bound n p = first_holding ((BadName, has_bad_name ops p) ∷ (NameUnknown, has_unknown_name ops bound n p) ∷ (NameTaken, has_taken_name ops bound n p) ∷ [])
 
 -- what a further line is asked
-abbrev further_refusal : DirectiveSyntax → ℕ → ℕ → List BoundNames → Option ScriptFault
-further_refusal p n k bound =
+abbrev further_refusal : List Operation → DirectiveSyntax → ℕ → ℕ → List BoundNames → Option ScriptFault
+further_refusal ops p n k bound =
     cond (nat_lt statements_limit (k + statements_in n p)) (Some TooLarge)
-    (cond (has_rank_out_of_range n p) (Some RankOutOfRange) (first_of (statement_refusal p) (line_names_refusal bound n p)))
+    (cond (has_rank_out_of_range n p) (Some RankOutOfRange) (first_of (statement_refusal ops p) (line_names_refusal ops bound n p)))
 
-refusal_of_further : (line : List ℕ) (n k : ℕ) (bound : List BoundNames) → is_ascii line ≡ true → counts (words line) ≡ true → refusal (plain_context line (Some n) k bound) ≡ further_refusal (directive_in (words line)) n k bound
+refusal_of_further : (ops : List Operation) (line : List ℕ) (n k : ℕ) (bound : List BoundNames) → is_ascii line ≡ true → counts (words line) ≡ true → refusal ops (plain_context line (Some n) k bound) ≡ further_refusal ops (directive_in (words line)) n k bound
 unfolding statement_refusal
-refusal_of_further line n k bound ascii counted =
+refusal_of_further ops line n k bound ascii counted =
     let p : DirectiveSyntax = directive_in (words line) in
     rw (ascii, counted) (ap (λ rest. cond (nat_lt statements_limit (k + statements_in n p)) (Some TooLarge) (cond (has_rank_out_of_range n p) (Some RankOutOfRange) rest))
-    (first_of_both ((UnknownStatement, is_unknown p) ∷ (WrongWords, has_wrong_words p) ∷ (BadNumber, has_bad_number p) ∷ (BadList, has_bad_list p) ∷ []) ((BadName, has_bad_name p) ∷ (NameUnknown, has_unknown_name bound n p) ∷ (NameTaken, has_taken_name bound n p) ∷ [])))
+    (first_of_both ((UnknownStatement, is_unknown ops p) ∷ (WrongWords, has_wrong_words p) ∷ (BadNumber, has_bad_number p) ∷ (BadList, has_bad_list p) ∷ []) ((BadName, has_bad_name ops p) ∷ (NameUnknown, has_unknown_name ops bound n p) ∷ (NameTaken, has_taken_name ops bound n p) ∷ [])))
 
-module _ (line : List ℕ) (n k : ℕ) (bound : List BoundNames) (ascii : is_ascii line ≡ true) (counted : counts (words line) ≡ true) where
-  pub refusal_of_many : nat_lt statements_limit (k + statements_in n (directive_in (words line))) ≡ true → refusal (plain_context line (Some n) k bound) ≡ Some TooLarge
-  refusal_of_many many = refusal_of_further line n k bound ascii counted ∙ rw many
+module _ (ops : List Operation) (line : List ℕ) (n k : ℕ) (bound : List BoundNames) (ascii : is_ascii line ≡ true) (counted : counts (words line) ≡ true) where
+  pub refusal_of_many : nat_lt statements_limit (k + statements_in n (directive_in (words line))) ≡ true → refusal ops (plain_context line (Some n) k bound) ≡ Some TooLarge
+  refusal_of_many many = refusal_of_further ops line n k bound ascii counted ∙ rw many
 
   module _ (few : nat_lt statements_limit (k + statements_in n (directive_in (words line))) ≡ false) where
     -- no rank, or no label
-    pub refusal_of_label : (e : LineError) → ((e ≡ Fault RankOutOfRange) × (is_past n (label_in (directive_in (words line))) ≡ true)) ⊎ ((e ≡ Fault UnknownStatement) × (label_in (directive_in (words line)) ≡ None)) → IsRefusal (refusal (plain_context line (Some n) k bound)) e
+    pub refusal_of_label : (e : LineError) → ((e ≡ Fault RankOutOfRange) × (is_past n (label_in (directive_in (words line))) ≡ true)) ⊎ ((e ≡ Fault UnknownStatement) × (label_in (directive_in (words line)) ≡ None)) → IsRefusal (refusal ops (plain_context line (Some n) k bound)) e
     unfolding has_rank_out_of_range statement_refusal is_unknown
-    refusal_of_label e (inl h) = rw h.0 (refusal_of_further line n k bound ascii counted ∙ rw (few, h.1))
-    refusal_of_label e (inr h) = rw h.0 (refusal_of_further line n k bound ascii counted ∙ rw (few, h.1))
+    refusal_of_label e (inl h) = rw h.0 (refusal_of_further ops line n k bound ascii counted ∙ rw (few, h.1))
+    refusal_of_label e (inr h) = rw h.0 (refusal_of_further ops line n k bound ascii counted ∙ rw (few, h.1))
 
     module _ (there : is_past n (label_in (directive_in (words line))) ≡ false) where
-      refusal_of_words : refusal (plain_context line (Some n) k bound) ≡ first_of (statement_refusal (directive_in (words line))) (line_names_refusal bound n (directive_in (words line)))
+      refusal_of_words : refusal ops (plain_context line (Some n) k bound) ≡ first_of (statement_refusal ops (directive_in (words line))) (line_names_refusal ops bound n (directive_in (words line)))
       unfolding has_rank_out_of_range
-      refusal_of_words = refusal_of_further line n k bound ascii counted ∙ rw (few, there)
+      refusal_of_words = refusal_of_further ops line n k bound ascii counted ∙ rw (few, there)
 
       -- the words of its statement
-      pub refusal_of_statement : (e : LineError) → IsRefusal (statement_refusal (directive_in (words line))) e → IsRefusal (refusal (plain_context line (Some n) k bound)) e
+      pub refusal_of_statement : (e : LineError) → IsRefusal (statement_refusal ops (directive_in (words line))) e → IsRefusal (refusal ops (plain_context line (Some n) k bound)) e
       refusal_of_statement e h = subst (λ found. IsRefusal found e) (sym refusal_of_words) (refusal_first _ _ e h)
 
       -- then its names
-      pub refusal_of_names : statement_refusal (directive_in (words line)) ≡ None → refusal (plain_context line (Some n) k bound) ≡ line_names_refusal bound n (directive_in (words line))
+      pub refusal_of_names : statement_refusal ops (directive_in (words line)) ≡ None → refusal ops (plain_context line (Some n) k bound) ≡ line_names_refusal ops bound n (directive_in (words line))
       refusal_of_names fine = refusal_of_words ∙ rw fine refl
 
 -- which are asked of its statement at the ranks of the label
-pub names_asked : (p : DirectiveSyntax) (statement : Statement) (n : ℕ) (bound : List BoundNames) (ranks : List ℕ) → statement_in p ≡ Some statement → ranks_labelled n (label_in p) ≡ ranks → line_names_refusal bound n p ≡ names_refusal bound ranks statement
+pub names_asked : (ops : List Operation) (p : DirectiveSyntax) (statement : Statement) (n : ℕ) (bound : List BoundNames) (ranks : List ℕ) → statement_in ops p ≡ Some statement → ranks_labelled n (label_in p) ≡ ranks → line_names_refusal ops bound n p ≡ names_refusal bound ranks statement
 unfolding has_bad_name has_unknown_name has_taken_name
-names_asked p statement n bound ranks said labelled = rw (said, labelled) refl
+names_asked ops p statement n bound ranks said labelled = rw (said, labelled) refl
 
-has_word : (word : Option (List ℕ)) (words : List (List ℕ)) (statement : Statement) → option_map (λ form. statement_as form words) (option_and_then form_named word) ≡ Some statement → is_some word ≡ true
-has_word None words statement h = cc h
-has_word (Some word) words statement h = refl
+has_word : (ops : List Operation) (word : Option (List ℕ)) (words : List (List ℕ)) (statement : Statement) → option_map (λ form. statement_as ops form words) (option_and_then form_named word) ≡ Some statement → is_some word ≡ true
+has_word ops None words statement h = cc h
+has_word ops (Some word) words statement h = refl
 
 -- a line that says a statement has a word behind its label
-pub count_of_statement : (n : ℕ) (p : DirectiveSyntax) (statement : Statement) → statement_in p ≡ Some statement → statements_in n p ≡ ranks_meant n (label_in p)
+pub count_of_statement : (ops : List Operation) (n : ℕ) (p : DirectiveSyntax) (statement : Statement) → statement_in ops p ≡ Some statement → statements_in n p ≡ ranks_meant n (label_in p)
 unfolding statement_in statements_in
-count_of_statement n p statement h =
-    let there : is_some p.statement ≡ true = has_word p.statement p.behind statement h in
+count_of_statement ops n p statement h =
+    let there : is_some p.statement ≡ true = has_word ops p.statement p.behind statement h in
     rw there

@@ -4,6 +4,7 @@ use Rattle.std.specs.List.{filter_map, range_with_len}
 use Rattle.std.proofs.lemmas.List.Elements.{filter_map-append}
 use Rattle.std.proofs.lemmas.List.FromFn.{fill_by_all, get_or-map-range_with_len, length-map-range_with_len}
 use Rattle.std.proofs.lemmas.List.Sums.{sum_by_push}
+use Rattle.mpx_num.specs.declared.own.Operation.{Operation}
 use Rattle.mpx_script.specs.Words.{counts}
 use Rattle.mpx_script.specs.Syntax.{directive_in, statements_in}
 use Rattle.mpx_script.specs.Meanings.{given_to}
@@ -15,38 +16,38 @@ use Rattle.mpx_script.specs.declared.script_line.Assignment.{Assignment}
 use Rattle.mpx_script.specs.declared.reader.PartialScript.{PartialScript}
 
 -- what one more line gives a rank
-one_given : (rank n : ℕ) (ws : List (List ℕ)) (assignment : Assignment) → rank < n → IsAssignment n (directive_in ws) assignment → filter_map (λ line. given_to rank (directive_in line)) (ws ∷ []) ≡ cond (leb assignment.from rank && ltb rank assignment.to) (assignment.statement ∷ []) []
-one_given rank n ws assignment h is =
-    elim (leb assignment.from rank && ltb rank assignment.to) as (λ v. (leb assignment.from rank && ltb rank assignment.to) ≡ v → filter_map (λ line. given_to rank (directive_in line)) (ws ∷ []) ≡ cond v (assignment.statement ∷ []) [])
+one_given : (ops : List Operation) (rank n : ℕ) (ws : List (List ℕ)) (assignment : Assignment) → rank < n → IsAssignment ops n (directive_in ws) assignment → filter_map (λ line. given_to ops rank (directive_in line)) (ws ∷ []) ≡ cond (leb assignment.from rank && ltb rank assignment.to) (assignment.statement ∷ []) []
+one_given ops rank n ws assignment h is =
+    elim (leb assignment.from rank && ltb rank assignment.to) as (λ v. (leb assignment.from rank && ltb rank assignment.to) ≡ v → filter_map (λ line. given_to ops rank (directive_in line)) (ws ∷ []) ≡ cond v (assignment.statement ∷ []) [])
     [ true ↦ λ e. rw (is.named rank h ∙ e, is.statement) | false ↦ λ e. rw (is.named rank h ∙ e) ] refl
 
 -- the script of one line more
-script_more : (opening : List (List ℕ)) (further : List (List (List ℕ))) (ws : List (List ℕ)) (old new : ScriptView) (assignment : Assignment) → old ≡ script_of (opening ∷ further) → new.ranks ≡ old.ranks → Adds assignment.from assignment.to assignment.statement old.statements new.statements → IsAssignment old.ranks (directive_in ws) assignment → new ≡ script_of (opening ∷ (further ++ ws ∷ []))
-script_more opening further ws old new assignment is ranks adds gives =
+script_more : (ops : List Operation) (opening : List (List ℕ)) (further : List (List (List ℕ))) (ws : List (List ℕ)) (old new : ScriptView) (assignment : Assignment) → old ≡ script_of ops (opening ∷ further) → new.ranks ≡ old.ranks → Adds assignment.from assignment.to assignment.statement old.statements new.statements → IsAssignment ops old.ranks (directive_in ws) assignment → new ≡ script_of ops (opening ∷ (further ++ ws ∷ []))
+script_more ops opening further ws old new assignment is ranks adds gives =
     let n : ℕ = ranks_told opening in
     let same : old.ranks ≡ n = ap (λ s. s.ranks) is in
-    let lists_are : old.statements ≡ map (λ rank. filter_map (λ line. given_to rank (directive_in line)) further) (range_with_len 0 n) = ap (λ s. s.statements) is in
-    let long : length old.statements ≡ n = ap length lists_are ∙ length-map-range_with_len (λ rank. filter_map (λ line. given_to rank (directive_in line)) further) 0 n in
-    let filled : new.statements ≡ map (λ rank. filter_map (λ line. given_to rank (directive_in line)) (further ++ ws ∷ [])) (range_with_len 0 n) =
-    fill_by_all (λ rank. filter_map (λ line. given_to rank (directive_in line)) (further ++ ws ∷ [])) new.statements n [] (adds.len ∙ long) (λ rank h.
+    let lists_are : old.statements ≡ map (λ rank. filter_map (λ line. given_to ops rank (directive_in line)) further) (range_with_len 0 n) = ap (λ s. s.statements) is in
+    let long : length old.statements ≡ n = ap length lists_are ∙ length-map-range_with_len (λ rank. filter_map (λ line. given_to ops rank (directive_in line)) further) 0 n in
+    let filled : new.statements ≡ map (λ rank. filter_map (λ line. given_to ops rank (directive_in line)) (further ++ ws ∷ [])) (range_with_len 0 n) =
+    fill_by_all (λ rank. filter_map (λ line. given_to ops rank (directive_in line)) (further ++ ws ∷ [])) new.statements n [] (adds.len ∙ long) (λ rank h.
     let within : rank < length old.statements = omega arith in
-    let before : get_or old.statements rank [] ≡ filter_map (λ line. given_to rank (directive_in line)) further =
-    ap (λ xs. get_or xs rank []) lists_are ∙ get_or-map-range_with_len (λ k. filter_map (λ line. given_to k (directive_in line)) further) 0 n rank rank [] h (omega arith) in
+    let before : get_or old.statements rank [] ≡ filter_map (λ line. given_to ops rank (directive_in line)) further =
+    ap (λ xs. get_or xs rank []) lists_are ∙ get_or-map-range_with_len (λ k. filter_map (λ line. given_to ops k (directive_in line)) further) 0 n rank rank [] h (omega arith) in
     let inside : rank < old.ranks = omega arith in
     adds.at rank within ∙ ap (λ xs. xs ++ cond (leb assignment.from rank && ltb rank assignment.to) (assignment.statement ∷ []) []) before
-    ∙ ap (λ xs. filter_map (λ line. given_to rank (directive_in line)) further ++ xs) (sym (one_given rank old.ranks ws assignment inside gives))
-    ∙ sym (filter_map-append (λ line. given_to rank (directive_in line)) further (ws ∷ []))) in
+    ∙ ap (λ xs. filter_map (λ line. given_to ops rank (directive_in line)) further ++ xs) (sym (one_given ops rank old.ranks ws assignment inside gives))
+    ∙ sym (filter_map-append (λ line. given_to ops rank (directive_in line)) further (ws ∷ []))) in
     let ranks_are : new.ranks ≡ n = ranks ∙ same in
     λ i. record { ranks = ranks_are i; statements = filled i }
 
 -- the partial of one line more
-pub partial_more : (before : List (List (List ℕ))) (partial : PartialScript) (ws : List (List ℕ)) (old new : ScriptView) (assignment : Assignment) (count : ℕ) → IsSettled before partial → partial.script ≡ Some old → counts ws ≡ true → new.ranks ≡ old.ranks → Adds assignment.from assignment.to assignment.statement old.statements new.statements → IsAssignment old.ranks (directive_in ws) assignment → count ≡ assignment.to - assignment.from → IsSettled (before ++ cond (counts ws) (ws ∷ []) []) (record { script = Some new; statements = partial.statements + count })
-partial_more [] partial ws old new assignment count settled there counted ranks adds gives is = cc (settled.script, there)
-partial_more (opening ∷ further) partial ws old new assignment count settled there counted ranks adds gives is =
-    let old_is : old ≡ script_of (opening ∷ further) = cc (settled.script, there) in
+pub partial_more : (ops : List Operation) (before : List (List (List ℕ))) (partial : PartialScript) (ws : List (List ℕ)) (old new : ScriptView) (assignment : Assignment) (count : ℕ) → IsSettled ops before partial → partial.script ≡ Some old → counts ws ≡ true → new.ranks ≡ old.ranks → Adds assignment.from assignment.to assignment.statement old.statements new.statements → IsAssignment ops old.ranks (directive_in ws) assignment → count ≡ assignment.to - assignment.from → IsSettled ops (before ++ cond (counts ws) (ws ∷ []) []) (record { script = Some new; statements = partial.statements + count })
+partial_more ops [] partial ws old new assignment count settled there counted ranks adds gives is = cc (settled.script, there)
+partial_more ops (opening ∷ further) partial ws old new assignment count settled there counted ranks adds gives is =
+    let old_is : old ≡ script_of ops (opening ∷ further) = cc (settled.script, there) in
     let n : old.ranks ≡ ranks_told opening = ap (λ s. s.ranks) old_is in
     let one : count ≡ statements_in (ranks_told opening) (directive_in ws) = is ∙ sym gives.count ∙ ap (λ k. statements_in k (directive_in ws)) n in
     rw counted (record {
-      script = ap Some (script_more opening further ws old new assignment old_is ranks adds gives);
+      script = ap Some (script_more ops opening further ws old new assignment old_is ranks adds gives);
       statements = ap (λ k. k + count) settled.statements ∙ ap (λ k. sum_by (λ line. statements_in (ranks_told opening) (directive_in line)) further + k) one ∙ sym (sum_by_push (λ line. statements_in (ranks_told opening) (directive_in line)) further ws);
     })

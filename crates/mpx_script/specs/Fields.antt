@@ -3,6 +3,9 @@ use Rattle.std.specs.Prelude.{ℕ, Bool, true, false, ◌==◌, List, [], ◌∷
 use Rattle.std.specs.List.{slice_split}
 use Rattle.std.specs.Option.{option_map}
 use Rattle.mpx_num.specs.Text.{number_of}
+use Rattle.mpx_num.specs.OwnWords.{place_named}
+use Rattle.mpx_num.specs.declared.own.Operation.{Operation}
+use Rattle.mpx_num.specs.declared.own.Place.{Place}
 use Rattle.mpx_num.specs.declared.types.Ty.{Ty}
 use Rattle.mpx_num.specs.declared.types.Ty.TheVariants as T
 use Rattle.mpx_num.specs.declared.operations.Op.{Op}
@@ -12,8 +15,9 @@ use Rattle.mpx_kind.specs.declared.kinds.Number.TheVariants.{Zero, One, OneAtRoo
 use Rattle.mpx_post.specs.Rows.{all_of}
 use Rattle.mpx_statement.specs.Lookups.{named}
 
-unfoldable pub operation_named : List ℕ → Option Op
-operation_named word = named (
+-- a predefined operation
+unfoldable pub predefined_named : List ℕ → Option Op
+predefined_named word = named (
     (codes "max", O.Max)
     ∷ (codes "min", O.Min)
     ∷ (codes "sum", O.Sum)
@@ -27,6 +31,15 @@ operation_named word = named (
     ∷ (codes "maxloc", O.Maxloc)
     ∷ (codes "minloc", O.Minloc)
     ∷ []) word
+
+-- it, or else the one in this place of a job's own
+abbrev pub or_own : Option Op → Option Place → Option Op
+or_own (Some op) place = Some op
+or_own None place = option_map O.Own place
+
+-- an operation of the job, whose own ones are these
+unfoldable pub operation_named : List Operation → List ℕ → Option Op
+operation_named ops word = or_own (predefined_named word) (place_named ops word)
 
 unfoldable pub type_named : List ℕ → Option Ty
 type_named word = named (

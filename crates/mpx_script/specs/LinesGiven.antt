@@ -1,6 +1,7 @@
 -- Which lines of a script give a rank its statements, by their numbers.
 use Rattle.std.specs.Prelude.{◌≡◌, ℕ, ◌+◌, ◌-◌, List, [], ◌∷◌, drop, map, slice_index_or, Some}
 use Rattle.std.specs.List.{filter}
+use Rattle.mpx_num.specs.declared.own.Operation.{Operation}
 use Rattle.mpx_script.specs.Words.{counts, script_lines, words}
 use Rattle.mpx_script.specs.Syntax.{directive_in}
 use Rattle.mpx_script.specs.Meanings.{given_to, names_rank}
@@ -32,5 +33,5 @@ abbrev pub words_at : List ℕ → (number : ℕ) → List (List ℕ)
 words_at text number = words (slice_index_or (script_lines text) (number - 1) [])
 
 -- the lines with these numbers give the rank these statements, each line one, in this order
-abbrev pub Give : (text : List ℕ) (rank : ℕ) (numbers : List ℕ) → List Statement → Type 0
-Give text rank numbers statements = map (λ number. given_to rank (directive_in (words_at text number))) numbers ≡ map Some statements
+abbrev pub Give : List Operation → (text : List ℕ) (rank : ℕ) (numbers : List ℕ) → List Statement → Type 0
+Give ops text rank numbers statements = map (λ number. given_to ops rank (directive_in (words_at text number))) numbers ≡ map Some statements

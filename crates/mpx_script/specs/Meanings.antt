@@ -3,6 +3,7 @@ use Rattle.std.specs.Prelude.{ℕ, Bool, true, false, ◌==◌, List, [], Option
 use Rattle.std.specs.List.{filter_map}
 use Rattle.std.specs.Option.{option_map}
 use Rattle.mpx_num.specs.Text.{number_of}
+use Rattle.mpx_num.specs.declared.own.Operation.{Operation}
 use Rattle.mpx_num.specs.declared.types.Ty.TheVariants as T
 use Rattle.mpx_num.specs.declared.operations.Op.TheVariants as O
 use Rattle.mpx_kind.specs.declared.kinds.Kind.{Kind}
@@ -46,11 +47,11 @@ abbrev pub said : {A : Type 0} → (List ℕ → Option A) → A → Option (Lis
 said meaning other word = unwrap_or (option_and_then meaning word) other
 
 -- the draft of a call by its fields; a field that the kind hasn't is 0, sum, i8, no counts or no graph
-abbrev pub call_draft_in : Kind → Mode → CallSyntax → Draft
-call_draft_in kind mode call = record {
+abbrev pub call_draft_in : List Operation → Kind → Mode → CallSyntax → Draft
+call_draft_in ops kind mode call = record {
   call = call_with mode (family_of kind);
   root = said number_of (pos 0) call.root;
-  op = said operation_named O.Sum call.operation;
+  op = said (operation_named ops) O.Sum call.operation;
   ty = said type_named T.I8 call.ty;
   scounts = said (counts_named (fields_of kind).scounts) [] call.scounts;
   rcounts = said (counts_named (fields_of kind).rcounts) [] call.rcounts;
@@ -62,8 +63,8 @@ call_draft_in kind mode call = record {
 }
 
 -- with what it says of a new communicator
-abbrev pub draft_in : Kind → Mode → NewSyntax → CallSyntax → Draft
-draft_in kind mode new call = record (call_draft_in kind mode call) {
+abbrev pub draft_in : List Operation → Kind → Mode → NewSyntax → CallSyntax → Draft
+draft_in ops kind mode new call = record (call_draft_in ops kind mode call) {
   colour = said colour_named None new.colour;
   key = said number_of (pos 0) new.key;
   group = said list_named [] new.ranks;
@@ -93,8 +94,8 @@ posting_of (F.NewCommunicator new) mode on draft tag target request = new_posted
 posting_of (F.Neighbourhood exchange) mode on draft tag target request = call_posted mode on draft request
 posting_of F.Free mode on draft tag target request = call_posted mode on draft request
 
-abbrev pub posting_said : Kind → Mode → Option (List ℕ) → NewSyntax → CallSyntax → Posting
-posting_said kind mode communicator new call = posting_of (family_of kind) mode (unwrap_or communicator []) (draft_in kind mode new call) (said number_of (pos 0) new.tag) (unwrap_or new.target []) (unwrap_or call.request [])
+abbrev pub posting_said : List Operation → Kind → Mode → Option (List ℕ) → NewSyntax → CallSyntax → Posting
+posting_said ops kind mode communicator new call = posting_of (family_of kind) mode (unwrap_or communicator []) (draft_in ops kind mode new call) (said number_of (pos 0) new.tag) (unwrap_or new.target []) (unwrap_or call.request [])
 
 abbrev pub question_said : Asked → AskSyntax → Question
 question_said (A.Neighbours side) ask = Neighbours (unwrap_or ask.first []) side
@@ -102,14 +103,14 @@ question_said A.Compare ask = Compare (unwrap_or ask.first []) (unwrap_or ask.se
 question_said A.Translate ask = Translate (unwrap_or ask.first []) (unwrap_or ask.second []) (said ranks_named [] ask.ranks)
 
 -- the words behind a statement's word as a statement of that form
-abbrev pub statement_as : Form → List (List ℕ) → Statement
-statement_as (M.Call kind mode) words = Post (posting_said kind mode (communicator_in words) (new_of kind words) (call_of kind mode words))
-statement_as (M.Wait waited) words = Wait words
-statement_as (M.Ask asked) words = Ask (question_said asked (ask_in asked words))
+abbrev pub statement_as : List Operation → Form → List (List ℕ) → Statement
+statement_as ops (M.Call kind mode) words = Post (posting_said ops kind mode (communicator_in words) (new_of kind words) (call_of kind mode words))
+statement_as ops (M.Wait waited) words = Wait words
+statement_as ops (M.Ask asked) words = Ask (question_said asked (ask_in asked words))
 
-unfoldable pub statement_in : DirectiveSyntax → Option Statement
-statement_in directive = option_map (λ form. statement_as form directive.behind) (form_in directive)
+unfoldable pub statement_in : List Operation → DirectiveSyntax → Option Statement
+statement_in ops directive = option_map (λ form. statement_as ops form directive.behind) (form_in directive)
 
 -- what the line gives the rank
-abbrev pub given_to : ℕ → DirectiveSyntax → Option Statement
-given_to rank directive = if names_rank rank directive then statement_in directive else None
+abbrev pub given_to : List Operation → ℕ → DirectiveSyntax → Option Statement
+given_to ops rank directive = if names_rank rank directive then statement_in ops directive else None

@@ -1,26 +1,15 @@
--- Names: which words are some, which are bound, and what a line's names are refused for.
-use Rattle.std.specs.Prelude.{ℕ, nat_le, Bool, false, not, ◌==◌, ◌||◌, ◌&&◌, List, [], ◌∷◌, ◌++◌, length, map, slice_index_or, codes, bytes_eq, Option, Some, None, pos, negsuc}
-use Rattle.std.specs.List.{filter_map, list_all, list_any, range_with_len}
+-- Names: which are bound, and what a line's names are refused for.
+use Rattle.std.specs.Prelude.{ℕ, Bool, false, not, ◌||◌, List, [], ◌∷◌, ◌++◌, map, slice_index_or, codes, bytes_eq, Option, Some, None, pos, negsuc}
+use Rattle.std.specs.List.{filter_map, list_any, range_with_len}
 use Rattle.std.specs.Option.{option_map_or, option_to_list}
+use Rattle.mpx_num.specs.OwnWords.{is_name}
+use Rattle.mpx_num.specs.declared.own.Operation.{Operation}
 use Rattle.mpx_statement.specs.Statements.{communicators_of, requests_of, target_of, request_of}
 use Rattle.mpx_script.specs.Syntax.{DirectiveSyntax, label_in}
 use Rattle.mpx_script.specs.Meanings.{statement_in}
 use Rattle.mpx_script.specs.declared.grammar.Label.{Label}
 use Rattle.mpx_script.specs.declared.grammar.Label.TheVariants.{Every, Numbered}
 use Rattle.mpx_statement.specs.declared.statement.Statement.{Statement}
-
--- a to z
-abbrev pub is_small_letter : ℕ → Bool
-is_small_letter byte = nat_le 97 byte && nat_le byte 122
-
--- a to z, 0 to 9 or `_`
-abbrev pub is_name_byte : ℕ → Bool
-is_name_byte byte = is_small_letter byte || (nat_le 48 byte && nat_le byte 57) || byte == 95
-
--- a small letter, then small letters, digits or `_`, at most 32 bytes in all
-unfoldable pub is_name : List ℕ → Bool
-is_name [] = false
-is_name (first ∷ more) = is_small_letter first && list_all is_name_byte more && nat_le (length (first ∷ more)) 32
 
 -- the names that a rank has bound, to communicators and to requests
 pub record BoundNames : Type 0 where
@@ -77,11 +66,11 @@ at_some_rank bound ranks test = list_any (λ rank. test (slice_index_or bound ra
 
 -- What a line's names are refused for, where its words say a statement: `bound` has the names of each rank
 
-unfoldable pub has_bad_name : DirectiveSyntax → Bool
-has_bad_name directive = option_map_or misnames (statement_in directive) false
+unfoldable pub has_bad_name : List Operation → DirectiveSyntax → Bool
+has_bad_name ops directive = option_map_or misnames (statement_in ops directive) false
 
-unfoldable pub has_unknown_name : List BoundNames → ℕ → DirectiveSyntax → Bool
-has_unknown_name bound ranks directive = option_map_or (λ statement. at_some_rank bound (ranks_labelled ranks (label_in directive)) (lacks_name statement)) (statement_in directive) false
+unfoldable pub has_unknown_name : List Operation → List BoundNames → ℕ → DirectiveSyntax → Bool
+has_unknown_name ops bound ranks directive = option_map_or (λ statement. at_some_rank bound (ranks_labelled ranks (label_in directive)) (lacks_name statement)) (statement_in ops directive) false
 
-unfoldable pub has_taken_name : List BoundNames → ℕ → DirectiveSyntax → Bool
-has_taken_name bound ranks directive = option_map_or (λ statement. at_some_rank bound (ranks_labelled ranks (label_in directive)) (takes_name statement)) (statement_in directive) false
+unfoldable pub has_taken_name : List Operation → List BoundNames → ℕ → DirectiveSyntax → Bool
+has_taken_name ops bound ranks directive = option_map_or (λ statement. at_some_rank bound (ranks_labelled ranks (label_in directive)) (takes_name statement)) (statement_in ops directive) false

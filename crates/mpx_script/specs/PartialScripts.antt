@@ -1,6 +1,7 @@
 -- How far a script is read.
 use Rattle.std.specs.Prelude.{◌≡◌, ℕ, Bool, List, [], ◌∷◌, map, Option, Some, None}
 use Rattle.std.specs.Option.{option_map, option_map_or}
+use Rattle.mpx_num.specs.declared.own.Operation.{Operation}
 use Rattle.mpx_script.specs.ScriptView.{ScriptView}
 use Rattle.mpx_script.specs.Naming.{BoundNames, names_bound}
 use Rattle.mpx_script.specs.Reading.{LineContext, bounded_context, script_of, statements_settled}
@@ -19,11 +20,11 @@ abbrev pub context_behind : List ℕ → Bool → Option ScriptView → (stateme
 context_behind line is_cut script statements = bounded_context line is_cut (ranks_of_script script) statements (bound_of_script script)
 
 -- there is a script once a line counts
-abbrev pub script_settled : List (List (List ℕ)) → Option ScriptView
-script_settled [] = None
-script_settled (opening ∷ further) = Some (script_of (opening ∷ further))
+abbrev pub script_settled : List Operation → List (List (List ℕ)) → Option ScriptView
+script_settled ops [] = None
+script_settled ops (opening ∷ further) = Some (script_of ops (opening ∷ further))
 
 -- the partial script is what these lines that count say
-pub record IsSettled (lines : List (List (List ℕ))) (partial : PartialScript) : Type 0 where
-  pub script : partial.script ≡ script_settled lines
+pub record IsSettled (ops : List Operation) (lines : List (List (List ℕ))) (partial : PartialScript) : Type 0 where
+  pub script : partial.script ≡ script_settled ops lines
   pub statements : partial.statements ≡ statements_settled lines

@@ -1,7 +1,8 @@
--- What the text of a script says, or the least line that is refused, with its first refusal.
+-- What the text of a script says to a job with these operations of its own, or the least line that is refused, with its first refusal.
 use Rattle.std.specs.Prelude.{ℕ, ◌+◌, nat_lt, Bool, false, not, ◌==◌, ◌||◌, ◌&&◌, List, [], ◌∷◌, length, take, map, slice_index_or, Option, Some, None, is_none, unwrap_or, sum_by, Result, Ok, Err, if◌then◌else◌}
 use Rattle.std.specs.List.{filter_map, range_with_len}
 use Rattle.std.specs.Option.{option_map, option_map_or}
+use Rattle.mpx_num.specs.declared.own.Operation.{Operation}
 use Rattle.mpx_script.specs.Words.{words, counts, counting, is_ascii, is_over_limit, script_lines}
 use Rattle.mpx_script.specs.Syntax.{DirectiveSyntax, directive_in, statements_in, ranks_in}
 use Rattle.mpx_script.specs.Refusals.{lacks_ranks, has_ranks_out_of_range, has_rank_out_of_range, is_unknown, has_wrong_words, has_bad_number, has_bad_list}
@@ -39,20 +40,20 @@ abbrev pub on_further : LineContext → (ℕ → DirectiveSyntax → Bool) → B
 on_further p test = counts (words p.line) && option_map_or (λ ranks. test ranks (directive_in (words p.line))) p.ranks false
 
 -- what the line may be refused for, in the order in which that is asked
-abbrev pub refusals : LineContext → List (ScriptFault × Bool)
-refusals p =
+abbrev pub refusals : List Operation → LineContext → List (ScriptFault × Bool)
+refusals ops p =
     (NotAscii, not (is_ascii p.line))
     ∷ (TooLarge, p.is_cut || on_further p (λ ranks directive. nat_lt statements_limit (p.statements + statements_in ranks directive)))
     ∷ (NoRanksLine, p.is_bare || on_opening p lacks_ranks)
     ∷ (RanksOutOfRange, on_opening p has_ranks_out_of_range)
     ∷ (RankOutOfRange, on_further p has_rank_out_of_range)
-    ∷ (UnknownStatement, on_further p (λ ranks directive. is_unknown directive))
+    ∷ (UnknownStatement, on_further p (λ ranks directive. is_unknown ops directive))
     ∷ (WrongWords, on_further p (λ ranks directive. has_wrong_words directive))
     ∷ (BadNumber, on_further p (λ ranks directive. has_bad_number directive))
     ∷ (BadList, on_further p (λ ranks directive. has_bad_list directive))
-    ∷ (BadName, on_further p (λ ranks directive. has_bad_name directive))
-    ∷ (NameUnknown, on_further p (has_unknown_name p.bound))
-    ∷ (NameTaken, on_further p (has_taken_name p.bound))
+    ∷ (BadName, on_further p (λ ranks directive. has_bad_name ops directive))
+    ∷ (NameUnknown, on_further p (has_unknown_name ops p.bound))
+    ∷ (NameTaken, on_further p (has_taken_name ops p.bound))
     ∷ []
 
 -- the first of these that holds
@@ -60,8 +61,8 @@ abbrev pub first_holding : List (ScriptFault × Bool) → Option ScriptFault
 first_holding [] = None
 first_holding (asked ∷ more) = if asked.1 then Some asked.0 else first_holding more
 
-abbrev pub refusal : LineContext → Option ScriptFault
-refusal p = first_holding (refusals p)
+abbrev pub refusal : List Operation → LineContext → Option ScriptFault
+refusal ops p = first_holding (refusals ops p)
 
 -- a line of a script that isn't bare
 abbrev pub bounded_context : List ℕ → Bool → Option ℕ → ℕ → List BoundNames → LineContext
@@ -85,24 +86,24 @@ statements_settled [] = 0
 statements_settled (opening ∷ further) = sum_by (λ words. statements_in (ranks_told opening) (directive_in words)) further
 
 -- the ranks, and what the further lines give each of them, in the order of the lines
-abbrev pub script_of : List (List (List ℕ)) → ScriptView
-script_of [] = record { ranks = 0; statements = [] }
-script_of (opening ∷ further) = record {
+abbrev pub script_of : List Operation → List (List (List ℕ)) → ScriptView
+script_of ops [] = record { ranks = 0; statements = [] }
+script_of ops (opening ∷ further) = record {
   ranks = ranks_told opening;
-  statements = map (λ rank. filter_map (λ words. given_to rank (directive_in words)) further) (range_with_len 0 (ranks_told opening));
+  statements = map (λ rank. filter_map (λ words. given_to ops rank (directive_in words)) further) (range_with_len 0 (ranks_told opening));
 }
 
 -- the names that each rank has bound by the lines that count
-abbrev pub bound_settled : List (List (List ℕ)) → List BoundNames
-bound_settled lines = map names_bound (script_of lines).statements
+abbrev pub bound_settled : List Operation → List (List (List ℕ)) → List BoundNames
+bound_settled ops lines = map names_bound (script_of ops lines).statements
 
 -- no line of the script counts, though it is within its limit of bytes
 abbrev pub is_bare_script : List ℕ → Bool
 is_bare_script text = not (is_over_limit text) && (length (counting (script_lines text)) == 0)
 
 -- the line at a place from 0 on
-abbrev pub context_at : List ℕ → ℕ → LineContext
-context_at text i =
+abbrev pub context_at : List Operation → List ℕ → ℕ → LineContext
+context_at ops text i =
     let all = script_lines text in
     let before = counting (take i all) in
     record {
@@ -111,21 +112,21 @@ context_at text i =
       is_bare = (i == 0) && is_bare_script text;
       ranks = ranks_settled before;
       statements = statements_settled before;
-      bound = bound_settled before;
+      bound = bound_settled ops before;
     }
 
 -- the refusal of the line at a place, with the line's number from 1 on
-abbrev pub error_at : List ℕ → ℕ → Option ScriptError
-error_at text i = option_map (λ what. record { line = i + 1; what = what }) (refusal (context_at text i))
+abbrev pub error_at : List Operation → List ℕ → ℕ → Option ScriptError
+error_at ops text i = option_map (λ what. record { line = i + 1; what = what }) (refusal ops (context_at ops text i))
 
 -- the lines that are refused
-abbrev pub errors : List ℕ → List ScriptError
-errors text = filter_map (error_at text) (range_with_len 0 (length (script_lines text)))
+abbrev pub errors : List Operation → List ℕ → List ScriptError
+errors ops text = filter_map (error_at ops text) (range_with_len 0 (length (script_lines text)))
 
 -- the first error, or what the script says
 abbrev pub read_as : List ScriptError → ScriptView → Result ScriptView ScriptError
 read_as [] script = Ok script
 read_as (first ∷ more) script = Err first
 
-unfoldable pub reading : List ℕ → Result ScriptView ScriptError
-reading text = read_as (errors text) (script_of (counting (script_lines text)))
+unfoldable pub reading : List Operation → List ℕ → Result ScriptView ScriptError
+reading ops text = read_as (errors ops text) (script_of ops (counting (script_lines text)))

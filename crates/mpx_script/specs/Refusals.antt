@@ -2,6 +2,7 @@
 use Rattle.std.specs.Prelude.{ℕ, Bool, true, false, not, ◌==◌, ◌||◌, ◌&&◌, List, length, Option, Some, None, is_some, is_none}
 use Rattle.std.specs.List.{list_any}
 use Rattle.std.specs.Option.{option_map_or}
+use Rattle.mpx_num.specs.declared.own.Operation.{Operation}
 use Rattle.mpx_kind.specs.declared.kinds.Mode.{Mode}
 use Rattle.mpx_kind.specs.declared.kinds.Number.{Number}
 use Rattle.mpx_kind.specs.declared.kinds.Fields.{Fields}
@@ -40,17 +41,17 @@ unfoldable pub has_rank_out_of_range : ℕ → DirectiveSyntax → Bool
 has_rank_out_of_range ranks directive = is_past ranks (label_in directive)
 
 -- another operation or type
-abbrev pub has_unknown_word : CallSyntax → Bool
-has_unknown_word call = fails (λ word. is_some (operation_named word)) call.operation || fails (λ word. is_some (type_named word)) call.ty
+abbrev pub has_unknown_word : List Operation → CallSyntax → Bool
+has_unknown_word ops call = fails (λ word. is_some (operation_named ops word)) call.operation || fails (λ word. is_some (type_named word)) call.ty
 
-abbrev pub is_unknown_as : Form → List (List ℕ) → Bool
-is_unknown_as (M.Call kind mode) words = has_unknown_word (call_of kind mode words)
-is_unknown_as (M.Wait waited) words = false
-is_unknown_as (M.Ask asked) words = false
+abbrev pub is_unknown_as : List Operation → Form → List (List ℕ) → Bool
+is_unknown_as ops (M.Call kind mode) words = has_unknown_word ops (call_of kind mode words)
+is_unknown_as ops (M.Wait waited) words = false
+is_unknown_as ops (M.Ask asked) words = false
 
 -- no `R: STATEMENT`, or another statement, operation or type
-unfoldable pub is_unknown : DirectiveSyntax → Bool
-is_unknown directive = is_none (label_in directive) || option_map_or (λ form. is_unknown_as form directive.behind) (form_in directive) true
+unfoldable pub is_unknown : List Operation → DirectiveSyntax → Bool
+is_unknown ops directive = is_none (label_in directive) || option_map_or (λ form. is_unknown_as ops form directive.behind) (form_in directive) true
 
 -- a word is asked for and isn't there
 abbrev pub lacks : Bool → Option (List ℕ) → Bool

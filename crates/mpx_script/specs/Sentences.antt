@@ -1,5 +1,6 @@
 -- What the reader learns from one line.
 use Rattle.std.specs.Prelude.{◌≡◌, ℕ, ◌+◌, ◌-◌, ◌<◌, ◌≤◌, Bool, not, true, false, ◌&&◌, List, [], ◌∷◌, ◌||◌, is_none, nat_le, nat_lt, Option, Some, None, IsSomeAnd}
+use Rattle.mpx_num.specs.declared.own.Operation.{Operation}
 use Rattle.mpx_kind.specs.declared.kinds.Fields.{Fields}
 use Rattle.mpx_kind.specs.declared.kinds.Kind.{Kind}
 use Rattle.mpx_kind.specs.declared.kinds.Mode.{Mode}
@@ -23,18 +24,18 @@ use Rattle.mpx_script.specs.declared.faults.LineError.{LineError}
 use Rattle.mpx_script.specs.declared.faults.LineError.TheVariants.{Fault, OutOfMemory}
 
 -- the ranks from the one and below the other get the statement of a line
-pub record IsAssignment (ranks : ℕ) (directive : DirectiveSyntax) (assignment : Assignment) : Type 0 where
+pub record IsAssignment (ops : List Operation) (ranks : ℕ) (directive : DirectiveSyntax) (assignment : Assignment) : Type 0 where
   pub some : assignment.from < assignment.to
   pub within : assignment.to ≤ ranks
   pub named : (rank : ℕ) → rank < ranks → names_rank rank directive ≡ (nat_le assignment.from rank && nat_lt rank assignment.to)
   pub count : statements_in ranks directive ≡ assignment.to - assignment.from
-  pub statement : statement_in directive ≡ Some assignment.statement
+  pub statement : statement_in ops directive ≡ Some assignment.statement
 
 -- what a line says that isn't refused, with so many ranks and statements before it
-abbrev pub Says : Option ℕ → ℕ → List (List ℕ) → Sentence → Type 0
-Says ranks statements ws Passed = counts ws ≡ false
-Says ranks statements ws (Opening n) = (ranks ≡ None) × (counts ws ≡ true) × (ranks_in ws ≡ Some n) × (1 ≤ n) × (n ≤ 64)
-Says ranks statements ws (Further assignment) = (counts ws ≡ true) × (statements + (assignment.to - assignment.from) ≤ statements_limit) × IsSomeAnd ranks (λ n. IsAssignment n (directive_in ws) assignment)
+abbrev pub Says : List Operation → Option ℕ → ℕ → List (List ℕ) → Sentence → Type 0
+Says ops ranks statements ws Passed = counts ws ≡ false
+Says ops ranks statements ws (Opening n) = (ranks ≡ None) × (counts ws ≡ true) × (ranks_in ws ≡ Some n) × (1 ≤ n) × (n ≤ 64)
+Says ops ranks statements ws (Further assignment) = (counts ws ≡ true) × (statements + (assignment.to - assignment.from) ≤ statements_limit) × IsSomeAnd ranks (λ n. IsAssignment ops n (directive_in ws) assignment)
 
 -- the line is refused for that, unless memory ran out
 abbrev pub IsRefusal : Option ScriptFault → LineError → Type 0
@@ -42,18 +43,18 @@ IsRefusal found OutOfMemory = Unit {0}
 IsRefusal found (Fault what) = found ≡ Some what
 
 -- what the words behind the label are refused for
-unfoldable pub statement_refusal : DirectiveSyntax → Option ScriptFault
-statement_refusal directive = first_holding (
-    (UnknownStatement, is_unknown directive)
+unfoldable pub statement_refusal : List Operation → DirectiveSyntax → Option ScriptFault
+statement_refusal ops directive = first_holding (
+    (UnknownStatement, is_unknown ops directive)
     ∷ (WrongWords, has_wrong_words directive)
     ∷ (BadNumber, has_bad_number directive)
     ∷ (BadList, has_bad_list directive)
     ∷ [])
 
 -- the same of a statement of this form, with these words behind its own
-abbrev pub form_refusal : Form → List (List ℕ) → Option ScriptFault
-form_refusal form words = first_holding (
-    (UnknownStatement, is_unknown_as form words)
+abbrev pub form_refusal : List Operation → Form → List (List ℕ) → Option ScriptFault
+form_refusal ops form words = first_holding (
+    (UnknownStatement, is_unknown_as ops form words)
     ∷ (WrongWords, has_wrong_words_as form words)
     ∷ (BadNumber, has_bad_number_as form words)
     ∷ (BadList, has_bad_list_as form words)
@@ -100,9 +101,9 @@ draft_refusal kind new call = first_holding (
     ∷ [])
 
 -- what a statement of this kind is refused for, with this communicator and these words behind it
-abbrev pub call_refusal : Kind → Mode → Option (List ℕ) → NewSyntax → CallSyntax → Option ScriptFault
-call_refusal kind mode communicator new call = first_holding (
-    (UnknownStatement, has_unknown_word call)
+abbrev pub call_refusal : List Operation → Kind → Mode → Option (List ℕ) → NewSyntax → CallSyntax → Option ScriptFault
+call_refusal ops kind mode communicator new call = first_holding (
+    (UnknownStatement, has_unknown_word ops call)
     ∷ (WrongWords, is_none communicator || has_wrong_new_words (shape_of kind) new || has_wrong_count (fields_of kind) call || has_wrong_end mode call)
     ∷ (BadNumber, has_strange_new_number new || has_strange_number (fields_of kind) call)
     ∷ (BadList, has_strange_list (fields_of kind) call || has_strange_new_list new)

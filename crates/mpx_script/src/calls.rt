@@ -17,7 +17,7 @@ use crate::grammar::call_with;
 use crate::graphs::graph_in;
 use crate::syntax::{CallSyntax, NewSyntax};
 use crate::words::first_word;
-use mpx_num::{Numbers, Op, Ty, parse_number};
+use mpx_num::{Listing, Numbers, Op, Ops, Ty, parse_number};
 use mpx_post::{Draft, DraftedGraph, Fields, Kind, Mode, Number};
 use std::alloc::{AllocError, Global};
 
@@ -114,11 +114,11 @@ fn counts_fault(fields: Fields, no_scounts: bool, no_rcounts: bool) -> Option<Sc
 }
 
 // The operation of a word, the sum where there is none.
-fn operation_at(word: Option<&[u8]>) -> Op
-    ensures { result ≡ said operation_named Op.Sum (option_copied word.entry) }
+fn operation_at(word: Option<&[u8]>, ops: &Ops) -> Op
+    ensures { result ≡ said (operation_named (⟦<Ops as Listing>⟧.operations ops.now)) Op.Sum (option_copied word.entry) }
 {
     match word {
-        Some(word) => operation_named(word).unwrap_or(Op::Sum),
+        Some(word) => operation_named(word, ops).unwrap_or(Op::Sum),
         None => Op::Sum,
     }
 }
@@ -158,9 +158,10 @@ fn call_draft_in(
     kind: Kind,
     mode: Mode,
     call: &CallSyntax<'_>,
+    ops: &Ops,
 ) -> Result<Draft, LineError>
     ensures accepted { OnOk result (fields_refusal kind call.now ≡ None) }
-    ensures draft { IfOk result (λ draft. draft ≡ call_draft_in kind mode call.now) }
+    ensures draft { IfOk result (λ draft. draft ≡ call_draft_in (⟦<Ops as Listing>⟧.operations ops.now) kind mode call.now) }
     ensures refused { IfErr result (IsRefusal (fields_refusal kind call.now)) }
 {
     let Some(root) = number_at(call.root) else {
@@ -173,7 +174,7 @@ fn call_draft_in(
         Ok(counts) => counts,
         Err(e) => return Err(e),
     };
-    let draft = plain_draft(alloc, kind, mode, call, root, counts, items)?;
+    let draft = plain_draft(alloc, kind, mode, call, root, counts, items, ops)?;
     Ok(draft)
 }
 
@@ -186,11 +187,12 @@ fn plain_draft(
     root: i128,
     counts: (Numbers, Numbers),
     items: Numbers,
+    ops: &Ops,
 ) -> Result<Draft, AllocError>
     ensures { IfOk result (λ draft. draft ≡ record {
       call = call_with mode (family_of kind);
       root = root;
-      op = said operation_named Op.Sum call.now.operation;
+      op = said (operation_named (⟦<Ops as Listing>⟧.operations ops.now)) Op.Sum call.now.operation;
       ty = said type_named Ty.I8 call.now.ty;
       scounts = counts.0;
       rcounts = counts.1;
@@ -205,7 +207,7 @@ fn plain_draft(
     Ok(Draft {
         call: call_with(mode, kind),
         root,
-        op: operation_at(call.operation),
+        op: operation_at(call.operation, ops),
         ty: type_at(call.ty),
         scounts: counts.0,
         rcounts: counts.1,
@@ -225,9 +227,10 @@ pub fn draft_in(
     mode: Mode,
     new: &NewSyntax<'_>,
     call: &CallSyntax<'_>,
+    ops: &Ops,
 ) -> Result<Draft, LineError>
     ensures accepted { OnOk result (draft_refusal kind new.now call.now ≡ None) }
-    ensures draft { IfOk result (λ draft. draft ≡ draft_in kind mode new.now call.now) }
+    ensures draft { IfOk result (λ draft. draft ≡ draft_in (⟦<Ops as Listing>⟧.operations ops.now) kind mode new.now call.now) }
     ensures refused { IfErr result (IsRefusal (draft_refusal kind new.now call.now)) }
 {
     let Some(colour) = colour_at(new.colour) else {
@@ -236,7 +239,7 @@ pub fn draft_in(
     let Some(key) = number_at(new.key) else {
         return Err(LineError::Fault(ScriptFault::BadNumber));
     };
-    let draft = match call_draft_in(alloc, kind, mode, call) {
+    let draft = match call_draft_in(alloc, kind, mode, call, ops) {
         Ok(draft) => draft,
         Err(e) => return Err(e),
     };

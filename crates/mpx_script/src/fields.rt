@@ -1,16 +1,14 @@
-// What the words behind a statement's word mean: operations, types, numbers, lists and names.
+// What the words behind a statement's word mean: operations, types, numbers and lists.
 ghost use Rattle.std.specs.Prelude.{◌≡◌, IfOk};
-ghost use Rattle.std.specs.List.{list_all};
-ghost use Rattle.mpx_script.specs.Fields.{colour_named, is_arrow, is_one, list_named, operation_named, rank_named, ranks_named, type_named};
-ghost use Rattle.mpx_script.specs.Naming.{is_name, is_name_byte, is_small_letter};
+ghost use Rattle.mpx_script.specs.Fields.{colour_named, is_arrow, is_one, list_named, operation_named, predefined_named, rank_named, ranks_named, type_named};
 
 use crate::grammar::named;
-use mpx_num::{Numbers, Op, Ty, parse_number};
+use mpx_num::{Listing, Numbers, Op, Ops, Ty, parse_number};
 use mpx_post::Number;
 use mpx_statement::RankList;
 use std::alloc::{AllocError, Global};
 
-// The words of the operations.
+// The words of the predefined operations.
 const OPERATIONS: &[(&[u8], Op)] = &[
     (b"max", Op::Max),
     (b"min", Op::Min),
@@ -26,12 +24,23 @@ const OPERATIONS: &[(&[u8], Op)] = &[
     (b"minloc", Op::Minloc),
 ];
 
-/// The operation of a word.
-#[tactic(auto, unfolding(crate::specs::Fields::operation_named))]
-pub fn operation_named(word: &[u8]) -> Option<Op>
-    ensures { result ≡ operation_named word.now }
+// The predefined operation of a word.
+#[tactic(auto, unfolding(crate::specs::Fields::predefined_named))]
+fn predefined_named(word: &[u8]) -> Option<Op>
+    ensures { result ≡ predefined_named word.now }
 {
     named(OPERATIONS, word)
+}
+
+/// The operation of a word: a predefined one, or one of the job's own.
+#[tactic(auto, unfolding(crate::specs::Fields::operation_named))]
+pub fn operation_named(word: &[u8], ops: &Ops) -> Option<Op>
+    ensures { result ≡ operation_named (⟦<Ops as Listing>⟧.operations ops.now) word.now }
+{
+    match predefined_named(word) {
+        Some(op) => Some(op),
+        None => Some(Op::Own(ops.place_named(word)?)),
+    }
 }
 
 // The words of the types.
@@ -108,34 +117,6 @@ pub fn is_one(number: Number) -> bool
     ensures { result ≡ is_one number }
 {
     number == Number::One
-}
-
-fn is_small_letter(byte: u8) -> bool
-    ensures { result ≡ is_small_letter byte }
-{
-    b'a' <= byte && byte <= b'z'
-}
-
-fn is_name_byte(byte: u8) -> bool
-    ensures { result ≡ is_name_byte byte }
-{
-    is_small_letter(byte) || (b'0' <= byte && byte <= b'9') || byte == b'_'
-}
-
-fn are_name_bytes(word: &[u8]) -> bool
-    ensures { result ≡ list_all is_name_byte word.now }
-{
-    word.iter().all(|byte| is_name_byte(*byte))
-}
-
-#[tactic(auto, unfolding(crate::specs::Naming::is_name))]
-pub fn is_name(word: &[u8]) -> bool
-    ensures { result ≡ is_name word.now }
-{
-    match word {
-        [] => false,
-        [first, more @ ..] => is_small_letter(*first) && are_name_bytes(more) && word.len() <= 32,
-    }
 }
 
 /// The colour of a word: a number, or none for `undefined`.

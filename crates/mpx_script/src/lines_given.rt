@@ -1,6 +1,7 @@
 // Which lines of a script give a rank its statements.
-ghost use Rattle.std.specs.Prelude.{◌≡◌, ◌<◌, ◌&&◌, ◌++◌, ◌∷◌, cond, IfOk, Ok, OnOk, slice_get, slice_index_or, []};
+ghost use Rattle.std.specs.Prelude.{◌≡◌, ◌<◌, ◌&&◌, ◌++◌, ◌∷◌, cond, IfOk, List, Ok, OnOk, slice_get, slice_index_or, []};
 ghost use Rattle.std.specs.Option.{option_copied};
+ghost use Rattle.mpx_num.specs.declared.own.Operation.{Operation};
 ghost use Rattle.mpx_script.specs.Words.{counts, words};
 ghost use Rattle.mpx_script.specs.Syntax.{directive_in};
 ghost use Rattle.mpx_script.specs.Meanings.{names_rank};
@@ -19,8 +20,8 @@ use std::alloc::Global;
 /// accepts there are as many as the rank has statements, and the k-th line gives it the k-th one.
 pub fn statement_lines(alloc: Global, text: &[u8], rank: u8) -> Result<Vec<u32>, OutOfMemory>
     ensures numbers { IfOk result (λ numbers. numbers.items ≡ lines_given rank text.now) }
-    ensures give { IfOk result (λ numbers. (script : ScriptView) → reading text.now ≡ Ok script → rank < script.ranks
-        → Give text.now rank numbers.items (slice_index_or script.statements rank [])) }
+    ensures give { IfOk result (λ numbers. (operations : List Operation) (script : ScriptView) → reading operations text.now ≡ Ok script → rank < script.ranks
+        → Give operations text.now rank numbers.items (slice_index_or script.statements rank [])) }
 {
     let mut numbers = Vec::new(alloc);
     let mut number: u32 = 0;

@@ -3,12 +3,13 @@ ghost use Rattle.std.specs.Prelude.{◌≡◌, ◌-◌, ◌++◌, ◌||◌, not,
 ghost use Rattle.std.specs.List.{list_any, range_with_len};
 ghost use Rattle.std.specs.Option.{option_copied, option_to_list};
 ghost use Rattle.mpx_statement.specs.Statements.{communicators_of, requests_of};
-ghost use Rattle.mpx_script.specs.Naming.{at_some_rank, is_bound, is_name, lacks_name, misnames, names_at, names_bound, takes_name};
+ghost use Rattle.mpx_num.specs.OwnWords.{is_name};
+ghost use Rattle.mpx_script.specs.Naming.{at_some_rank, is_bound, lacks_name, misnames, names_at, names_bound, takes_name};
 ghost use Rattle.mpx_script.specs.Sentences.{names_refusal};
 
 use crate::faults::ScriptFault;
-use crate::fields::is_name;
 use crate::script::Script;
+use mpx_num::is_name;
 use mpx_statement::{Statement, Word};
 
 // The names of the communicators that a statement is on or asks about.

@@ -12,6 +12,7 @@ use crate::faults::{LineError, ReadScriptError, ScriptError, ScriptFault};
 use crate::script::Script;
 use crate::script_line::{STATEMENTS, Sentence, read_line};
 use crate::words::{counts, first_line, is_ascii};
+use mpx_num::{Listing, Ops};
 use std::alloc::Global;
 
 /// How many bytes a script may have.
@@ -31,17 +32,18 @@ fn with_line(
     partial: PartialScript,
     line: &[u8],
     cut: bool,
+    ops: &Ops,
 ) -> Result<PartialScript, LineError>
     requires { partial.statements ≤ STATEMENTS }
     ensures few { IfOk result (λ after. after.statements ≤ STATEMENTS) }
-    ensures accepted { OnOk result (refusal (context_behind line.now cut partial.script partial.statements) ≡ None) }
-    ensures settled { IfOk result (λ after. (before : List (List (List ℕ))) → IsSettled before partial
-        → IsSettled (before ++ filter counts (words line.now ∷ [])) after) }
-    ensures refused { IfErr result (IsRefusal (refusal (context_behind line.now cut partial.script partial.statements))) }
+    ensures accepted { OnOk result (refusal (⟦<Ops as Listing>⟧.operations ops.now) (context_behind line.now cut partial.script partial.statements) ≡ None) }
+    ensures settled { IfOk result (λ after. (before : List (List (List ℕ))) → IsSettled (⟦<Ops as Listing>⟧.operations ops.now) before partial
+        → IsSettled (⟦<Ops as Listing>⟧.operations ops.now) (before ++ filter counts (words line.now ∷ [])) after) }
+    ensures refused { IfErr result (IsRefusal (refusal (⟦<Ops as Listing>⟧.operations ops.now) (context_behind line.now cut partial.script partial.statements))) }
 {
     let PartialScript { script, statements } = partial;
     match (
-        read_line(alloc, line, cut, script.as_ref(), statements)?,
+        read_line(alloc, line, cut, script.as_ref(), statements, ops)?,
         script,
     ) {
         (Sentence::Passed, script) => Ok(PartialScript { script, statements }),
@@ -133,9 +135,9 @@ fn at_line(e: LineError, line: u32) -> ReadScriptError
 }
 
 /// Reads the lines one after the other.
-fn read_lines(alloc: Global, text: &[u8]) -> Result<Script, ReadScriptError>
+fn read_lines(alloc: Global, text: &[u8], ops: &Ops) -> Result<Script, ReadScriptError>
     requires { is_bare_script text.now ≡ false }
-    ensures { Answers result (reading text.now) }
+    ensures { Answers result (reading (⟦<Ops as Listing>⟧.operations ops.now) text.now) }
 {
     let mut partial = PartialScript {
         script: None,
@@ -147,7 +149,7 @@ fn read_lines(alloc: Global, text: &[u8]) -> Result<Script, ReadScriptError>
         let (line, after) = first_line(rest);
         let cut = passes_limit(text, after);
         number += 1;
-        partial = match with_line(alloc, partial, line, cut) {
+        partial = match with_line(alloc, partial, line, cut, ops) {
             Ok(partial) => partial,
             Err(e) => return Err(at_line(e, number)),
         };
@@ -174,17 +176,17 @@ fn read_lines(alloc: Global, text: &[u8]) -> Result<Script, ReadScriptError>
 /// - one that is answered at once: the rank's own neighbours in `C` on one side (section 8.5.5), `sources C` or
 ///   `destinations C`; `compare C C` (section 7.4.1); or `translate C C L` (section 7.3.1), where `L` may hold `null`.
 ///
-/// `C` is `world` or a name that an earlier statement of the rank binds to a communicator, as `-> D` does, `Q` one that it
-/// binds to a request; a new name is bound to neither (see `specs/Naming.antt`). A name is a small letter, then small letters,
-/// digits or `_`, at most 32 bytes.
+/// `OPERATION` is the word of a predefined operation or of one of the job's own. `C` is `world` or a name that an earlier
+/// statement of the rank binds to a communicator, as `-> D` does, `Q` one that it binds to a request; a new name is bound to
+/// neither (see `specs/Naming.antt`). A name is a small letter, then small letters, digits or `_`, at most 32 bytes.
 ///
 /// The refusal is that of the least line that has one, and the first of [`ScriptFault`] that holds of it.
-pub fn read_script(alloc: Global, text: &[u8]) -> Result<Script, ReadScriptError>
-    ensures { Answers result (reading text.now) }
+pub fn read_script(alloc: Global, text: &[u8], ops: &Ops) -> Result<Script, ReadScriptError>
+    ensures { Answers result (reading (⟦<Ops as Listing>⟧.operations ops.now) text.now) }
 {
     if is_bare(text) {
         let what = bare_fault(text);
         return Err(ReadScriptError::Refused(ScriptError { line: 1, what }));
     }
-    read_lines(alloc, text)
+    read_lines(alloc, text, ops)
 }

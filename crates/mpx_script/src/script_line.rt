@@ -23,6 +23,7 @@ use crate::syntax::{
 };
 use crate::words::{counts, first_word, is_ascii};
 use join_core::OutOfMemory;
+use mpx_num::{Listing, Ops};
 use mpx_post::{Draft, Family, Kind, Mode, NewCommunicator};
 use mpx_statement::{Posting, Question, RankList, Statement, Word, WordList};
 use std::alloc::{AllocError, Global};
@@ -48,14 +49,14 @@ pub enum Sentence {
     Further(Assignment),
 }
 
-// The number of ranks on the first line that counts.
+// The number of ranks on the first line that counts, in which no operation stands.
 #[tactic(auto, unfolding(crate::specs::Refusals::lacks_ranks, crate::specs::Refusals::has_ranks_out_of_range))]
 fn opening_line(line: &[u8]) -> Result<u8, LineError>
     requires ascii { is_ascii line.now ≡ true }
     requires counts { counts (words line.now) ≡ true }
-    ensures accepted { OnOk result (refusal (plain_context line.now None 0 []) ≡ None) }
+    ensures accepted { OnOk result (refusal [] (plain_context line.now None 0 []) ≡ None) }
     ensures ranks { IfOk result (λ n. (ranks_in (words line.now) ≡ Some n) × (1 ≤ n) × (n ≤ 64)) }
-    ensures refused { IfErr result (IsRefusal (refusal (plain_context line.now None 0 []))) }
+    ensures refused { IfErr result (IsRefusal (refusal [] (plain_context line.now None 0 []))) }
 {
     let Some(number) = ranks_number(line) else {
         return Err(LineError::Fault(ScriptFault::NoRanksLine));
@@ -120,12 +121,13 @@ fn call_of(
     communicator: Option<&[u8]>,
     new: &NewSyntax<'_>,
     call: &CallSyntax<'_>,
+    ops: &Ops,
 ) -> Result<Posting, LineError>
-    ensures accepted { OnOk result (call_refusal kind mode (option_copied communicator.entry) new.now call.now ≡ None) }
-    ensures posting { IfOk result (λ posting. posting ≡ posting_said kind mode (option_copied communicator.entry) new.now call.now) }
-    ensures refused { IfErr result (IsRefusal (call_refusal kind mode (option_copied communicator.entry) new.now call.now)) }
+    ensures accepted { OnOk result (call_refusal (⟦<Ops as Listing>⟧.operations ops.now) kind mode (option_copied communicator.entry) new.now call.now ≡ None) }
+    ensures posting { IfOk result (λ posting. posting ≡ posting_said (⟦<Ops as Listing>⟧.operations ops.now) kind mode (option_copied communicator.entry) new.now call.now) }
+    ensures refused { IfErr result (IsRefusal (call_refusal (⟦<Ops as Listing>⟧.operations ops.now) kind mode (option_copied communicator.entry) new.now call.now)) }
 {
-    if call.has_unknown_word() {
+    if call.has_unknown_word(ops) {
         return Err(LineError::Fault(ScriptFault::UnknownStatement));
     }
     if lacks(true, communicator)
@@ -138,7 +140,7 @@ fn call_of(
     let Some(tag) = number_at(new.tag) else {
         return Err(LineError::Fault(ScriptFault::BadNumber));
     };
-    let draft = match draft_in(alloc, kind, mode, new, call) {
+    let draft = match draft_in(alloc, kind, mode, new, call, ops) {
         Ok(draft) => draft,
         Err(e) => return Err(e),
     };
@@ -166,11 +168,11 @@ fn words_in(alloc: Global, line: &[u8]) -> Result<WordList, OutOfMemory>
     Ok(WordList::new(found))
 }
 
-// The requests of a wait by the line behind its word.
+// The requests of a wait by the line behind its word, in which no operation stands.
 fn requests_in(alloc: Global, waited: Waited, line: &[u8]) -> Result<WordList, LineError>
-    ensures accepted { OnOk result (form_refusal (Form.Wait waited) (words line.now) ≡ None) }
+    ensures accepted { OnOk result (form_refusal [] (Form.Wait waited) (words line.now) ≡ None) }
     ensures requests { IfOk result (λ requests. requests ≡ words line.now) }
-    ensures refused { IfErr result (IsRefusal (form_refusal (Form.Wait waited) (words line.now))) }
+    ensures refused { IfErr result (IsRefusal (form_refusal [] (Form.Wait waited) (words line.now))) }
 {
     let requests = words_in(alloc, line)?;
     let len = requests.as_slice().len();
@@ -213,11 +215,11 @@ fn question_of(
     })
 }
 
-// What a statement asks by the line behind its word.
+// What a statement asks by the line behind its word, in which no operation stands.
 fn question_in(alloc: Global, asked: Asked, line: &[u8]) -> Result<Question, LineError>
-    ensures accepted { OnOk result (form_refusal (Form.Ask asked) (words line.now) ≡ None) }
+    ensures accepted { OnOk result (form_refusal [] (Form.Ask asked) (words line.now) ≡ None) }
     ensures question { IfOk result (λ question. question ≡ question_said asked (ask_in asked (words line.now))) }
-    ensures refused { IfErr result (IsRefusal (form_refusal (Form.Ask asked) (words line.now))) }
+    ensures refused { IfErr result (IsRefusal (form_refusal [] (Form.Ask asked) (words line.now))) }
 {
     let ask = ask_in(asked, line);
     if ask.has_wrong_words(asked) {
@@ -230,17 +232,17 @@ fn question_in(alloc: Global, asked: Asked, line: &[u8]) -> Result<Question, Lin
 }
 
 // The statement of a form by the line behind its word.
-fn statement_as(alloc: Global, form: Form, line: &[u8]) -> Result<Statement, LineError>
-    ensures accepted { OnOk result (form_refusal form (words line.now) ≡ None) }
-    ensures statement { IfOk result (λ statement. statement ≡ statement_as form (words line.now)) }
-    ensures refused { IfErr result (IsRefusal (form_refusal form (words line.now))) }
+fn statement_as(alloc: Global, form: Form, line: &[u8], ops: &Ops) -> Result<Statement, LineError>
+    ensures accepted { OnOk result (form_refusal (⟦<Ops as Listing>⟧.operations ops.now) form (words line.now) ≡ None) }
+    ensures statement { IfOk result (λ statement. statement ≡ statement_as (⟦<Ops as Listing>⟧.operations ops.now) form (words line.now)) }
+    ensures refused { IfErr result (IsRefusal (form_refusal (⟦<Ops as Listing>⟧.operations ops.now) form (words line.now))) }
 {
     match form {
         Form::Call(kind, mode) => {
             let (communicator, rest) = first_word(line);
             let new = new_in(shape_of(kind), rest);
             let call = call_in(kind.fields(), mode, new.behind);
-            let posting = call_of(alloc, kind, mode, communicator, &new, &call)?;
+            let posting = call_of(alloc, kind, mode, communicator, &new, &call, ops)?;
             Ok(Statement::Post(posting))
         }
         Form::Wait(waited) => Ok(Statement::Wait(requests_in(alloc, waited, line)?)),
@@ -250,16 +252,20 @@ fn statement_as(alloc: Global, form: Form, line: &[u8]) -> Result<Statement, Lin
 
 // The statement behind a label.
 #[tactic(auto, using(crate::proofs::Refusals::refusal_of_form, crate::proofs::Refusals::refusal_of_no_word), unfolding(crate::specs::Meanings::statement_in))]
-fn statement_in(alloc: Global, directive: &DirectiveSyntax<'_>) -> Result<Statement, LineError>
+fn statement_in(
+    alloc: Global,
+    directive: &DirectiveSyntax<'_>,
+    ops: &Ops,
+) -> Result<Statement, LineError>
     requires { is_none (label_in directive.now) ≡ false }
-    ensures accepted { OnOk result (statement_refusal directive.now ≡ None) }
-    ensures statement { IfOk result (λ statement. statement_in directive.now ≡ Some statement) }
-    ensures refused { IfErr result (IsRefusal (statement_refusal directive.now)) }
+    ensures accepted { OnOk result (statement_refusal (⟦<Ops as Listing>⟧.operations ops.now) directive.now ≡ None) }
+    ensures statement { IfOk result (λ statement. statement_in (⟦<Ops as Listing>⟧.operations ops.now) directive.now ≡ Some statement) }
+    ensures refused { IfErr result (IsRefusal (statement_refusal (⟦<Ops as Listing>⟧.operations ops.now) directive.now)) }
 {
     let Some(form) = directive.form() else {
         return Err(LineError::Fault(ScriptFault::UnknownStatement));
     };
-    statement_as(alloc, form, directive.behind)
+    statement_as(alloc, form, directive.behind, ops)
 }
 
 // The statement of a further line.
@@ -269,14 +275,15 @@ fn further_line(
     line: &[u8],
     script: &Script,
     statements: u32,
+    ops: &Ops,
 ) -> Result<Assignment, LineError>
     requires ascii { is_ascii line.now ≡ true }
     requires counts { counts (words line.now) ≡ true }
     requires statements { statements ≤ STATEMENTS }
-    ensures accepted { OnOk result (refusal (plain_context line.now (Some script.now.ranks) statements (map names_bound script.now.statements)) ≡ None) }
-    ensures assignment { IfOk result (IsAssignment script.now.ranks (directive_in (words line.now))) }
+    ensures accepted { OnOk result (refusal (⟦<Ops as Listing>⟧.operations ops.now) (plain_context line.now (Some script.now.ranks) statements (map names_bound script.now.statements)) ≡ None) }
+    ensures assignment { IfOk result (IsAssignment (⟦<Ops as Listing>⟧.operations ops.now) script.now.ranks (directive_in (words line.now))) }
     ensures few { IfOk result (λ assignment. statements + (assignment.to - assignment.from) ≤ STATEMENTS) }
-    ensures refused { IfErr result (IsRefusal (refusal (plain_context line.now (Some script.now.ranks) statements (map names_bound script.now.statements)))) }
+    ensures refused { IfErr result (IsRefusal (refusal (⟦<Ops as Listing>⟧.operations ops.now) (plain_context line.now (Some script.now.ranks) statements (map names_bound script.now.statements)))) }
 {
     let ranks = script.ranks();
     let directive = directive_in(line);
@@ -287,7 +294,7 @@ fn further_line(
         Ok(named) => named,
         Err(e) => return Err(e),
     };
-    let statement = match statement_in(alloc, &directive) {
+    let statement = match statement_in(alloc, &directive, ops) {
         Ok(statement) => statement,
         Err(e) => return Err(e),
     };
@@ -326,11 +333,12 @@ pub fn read_line(
     cut: bool,
     script: Option<&Script>,
     statements: u32,
+    ops: &Ops,
 ) -> Result<Sentence, LineError>
     requires { statements ≤ STATEMENTS }
-    ensures accepted { OnOk result (refusal (context_behind line.now cut (option_copied script.entry) statements) ≡ None) }
-    ensures says { IfOk result (Says (ranks_of_script (option_copied script.entry)) statements (words line.now)) }
-    ensures refused { IfErr result (IsRefusal (refusal (context_behind line.now cut (option_copied script.entry) statements))) }
+    ensures accepted { OnOk result (refusal (⟦<Ops as Listing>⟧.operations ops.now) (context_behind line.now cut (option_copied script.entry) statements) ≡ None) }
+    ensures says { IfOk result (Says (⟦<Ops as Listing>⟧.operations ops.now) (ranks_of_script (option_copied script.entry)) statements (words line.now)) }
+    ensures refused { IfErr result (IsRefusal (refusal (⟦<Ops as Listing>⟧.operations ops.now) (context_behind line.now cut (option_copied script.entry) statements))) }
 {
     if !is_ascii(line) {
         return Err(LineError::Fault(ScriptFault::NotAscii));
@@ -343,6 +351,6 @@ pub fn read_line(
     }
     match script {
         None => Ok(Sentence::Opening(opening_line(line)?)),
-        Some(script) => Ok(Sentence::Further(further_line(alloc, line, script, statements)?)),
+        Some(script) => Ok(Sentence::Further(further_line(alloc, line, script, statements, ops)?)),
     }
 }

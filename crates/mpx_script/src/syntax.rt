@@ -13,6 +13,7 @@ use crate::faults::{LineError, ScriptFault};
 use crate::fields::{is_arrow, operation_named, type_named};
 use crate::grammar::{Asked, Form, Label, Shape, below, form_named, is_nonblocking, label_of};
 use crate::words::{first_word, last_word, next_word};
+use mpx_num::{Listing, Ops};
 use mpx_post::{Fields, Mode};
 use std::marker::Model;
 
@@ -223,10 +224,10 @@ pub fn call_in(fields: Fields, mode: Mode, line: &[u8]) -> CallSyntax<'_>
 
 impl CallSyntax<'_> {
     /// Whether the operation or the type is another word.
-    pub fn has_unknown_word(&self) -> bool
-        ensures { result ≡ has_unknown_word self.now }
+    pub fn has_unknown_word(&self, ops: &Ops) -> bool
+        ensures { result ≡ has_unknown_word (⟦<Ops as Listing>⟧.operations ops.now) self.now }
     {
-        is_no_operation(self.operation) || is_no_type(self.ty)
+        is_no_operation(self.operation, ops) || is_no_type(self.ty)
     }
 
     /// Whether words are missing, or there are more than the call has fields.
@@ -313,11 +314,11 @@ fn is_no_arrow(word: Option<&[u8]>) -> bool
 }
 
 // Whether the word is there and is no operation.
-fn is_no_operation(word: Option<&[u8]>) -> bool
-    ensures { result ≡ fails (λ word. is_some (operation_named word)) (option_copied word.entry) }
+fn is_no_operation(word: Option<&[u8]>, ops: &Ops) -> bool
+    ensures { result ≡ fails (λ word. is_some (operation_named (⟦<Ops as Listing>⟧.operations ops.now) word)) (option_copied word.entry) }
 {
     match word {
-        Some(word) => operation_named(word).is_none(),
+        Some(word) => operation_named(word, ops).is_none(),
         None => false,
     }
 }

@@ -6,6 +6,7 @@ use Rattle.join_core.specs.declared.memory.OutOfMemory.{OutOfMemory}
 use mathlib.Core.List.{IsPrefix}
 use Rattle.atomic_table.specs.Seated.{TableId}
 use Rattle.mpx_name.specs.Name.{Name}
+use Rattle.mpx_num.specs.declared.own.Operation.{Operation}
 use Rattle.mpx_post.specs.Posts.{Given}
 use Rattle.mpx_post.specs.Births.{BirthView, rank_in}
 use Rattle.mpx_post.specs.declared.draft.Draft.{Draft}
@@ -38,7 +39,7 @@ use Rattle.mpx_shared.specs.Laws.{IsBirth, IsFinished}
 use Rattle.mpx_shared.specs.Tickets.{GathersOne, PostsThen}
 use Rattle.mpx_shared.specs.declared.ticket.Ticket.{Ticket}
 use Rattle.mpx_shared.proofs.Dying.{gone_after, listed_living}
-use Rattle.mpx_shared.proofs.Plans.{plan_births, prefix_itself, prefix_next, prefix_take, prefix_then, ranks_of}
+use Rattle.mpx_shared.proofs.Plans.{operations_of, plan_births, prefix_itself, prefix_next, prefix_take, prefix_then, ranks_of}
 use Rattle.mpx_shared.proofs.Standing.{checked_parts, own_beside, stood_birth, stood_good, stood_member, stood_value, within}
 
 -- NO POSTS
@@ -114,15 +115,15 @@ gone_on_more {setup} {me} {opening} a b more g same grows made = record {
   journal = grows ∙ ap (λ (js : List Act). js ++ more) g.journal ∙ append_assoc opening g.since more;
   posts = prefix_then (made_at setup me opening) (made_in a) (made_in b) g.posts made;
   results = λ name call f e.
-      subst (λ (v : ProcessView). slice_get (results_on v.node name) call ≡ Some f) (sym (made_same a b same (a.journal ++ more) grows ∙ after-append a.journal more (at_start a.setup a.me)))
-      ((kept_after more (process_in a)).results_kept name call f (g.results name call f e));
+      subst (λ (v : ProcessView). slice_get (results_on v.node name) call ≡ Some f) (sym (made_same a b same (a.journal ++ more) grows ∙ after-append a.setup.operations a.journal more (at_start a.setup a.me)))
+      ((kept_after a.setup.operations more (process_in a)).results_kept name call f (g.results name call f e));
 }
 
 -- a context that is dead stays so
 dead_stays : (a b : Berth) (more : List Act) → IsSamePort a b → b.journal ≡ a.journal ++ more → (name : Name) → IsGone (node_in a).board name → IsGone (node_in b).board name
 dead_stays a b more same grows name dead =
-    subst (λ (v : ProcessView). IsGone v.node.board name) (sym (made_same a b same (a.journal ++ more) grows ∙ after-append a.journal more (at_start a.setup a.me)))
-    (gone_after more (process_in a) name dead)
+    subst (λ (v : ProcessView). IsGone v.node.board name) (sym (made_same a b same (a.journal ++ more) grows ∙ after-append a.setup.operations a.journal more (at_start a.setup a.me)))
+    (gone_after a.setup.operations more (process_in a) name dead)
 
 listed_more : (name : Name) (contexts : List Name) (new : Option Name) → IsListed name contexts → IsListed name (with_context contexts new)
 listed_more name contexts None (inl e) = inl e
@@ -217,10 +218,10 @@ pub stays : (a b : Berth) → b ≡ a → Goes b a
 stays a b is = subst (λ (x : Berth). Goes x a) (sym is) (record { same = record { table = refl; pass = refl; setup = refl; me = refl }; keeps = λ bytes may. may })
 
 -- a draft that was refused
-pub refused_then : {table : TableId} {setup : Setup} {me : ℕ} {opening : List Act} {before total : ℕ} {contexts : List Name} (amount : ℕ) (a : Berth) (node : NodeView) (name : Name) (draft : Draft) (refusal : PostError) (r : Result Ticket PostError)
-    → IsMoored table setup me opening before a total contexts → (KeepsPlan a → Stood a.setup a.me a.journal) → amount ≡ total → node ≡ node_in a → Posts name (checked_on node name draft) (Err refusal) node node → r ≡ Err refusal
+pub refused_then : {table : TableId} {setup : Setup} {me : ℕ} {opening : List Act} {before total : ℕ} {contexts : List Name} (ops : List Operation) (amount : ℕ) (a : Berth) (node : NodeView) (name : Name) (draft : Draft) (refusal : PostError) (r : Result Ticket PostError)
+    → IsMoored table setup me opening before a total contexts → (KeepsPlan a → Stood a.setup a.me a.journal) → amount ≡ total → node ≡ node_in a → ops ≡ setup.operations → Posts name (checked_on ops node name draft) (Err refusal) node node → r ≡ Err refusal
     → PostsThen table setup me opening (before + amount) name draft r
-refused_then {table} {setup} {me} {opening} {before} amount a node name draft refusal r m stood whole here refused is =
+refused_then {table} {setup} {me} {opening} {before} ops amount a node name draft refusal r m stood whole here list refused is =
     subst (PostsThen table setup me opening (before + amount) name draft) (sym is)
     (record {
       before = a;
@@ -229,7 +230,7 @@ refused_then {table} {setup} {me} {opening} {before} amount a node name draft re
       docked_after = docked_of a m stood;
       gone_on = m.gone_on;
       counted = omega (arith, m.counted, whole);
-      posts = subst (λ (n : NodeView). Posts name (checked_on n name draft) (Err refusal) n n) here refused;
+      posts = subst (λ (x : NodeView × List Operation). Posts name (checked_on x.1 x.0 name draft) (Err refusal) x.0 x.0) (λ i. (here i, list i)) refused;
       ticket = tt;
       goes = record { same = record { table = refl; pass = refl; setup = refl; me = refl }; keeps = λ bytes may. may };
       acts = refl;
@@ -238,27 +239,31 @@ refused_then {table} {setup} {me} {opening} {before} amount a node name draft re
 
 -- A POST
 
-made_posted : (setup : Setup) (me : ℕ) (journal : List Act) (name : Name) (draft : Draft) (given : Given) → checked_on (process_at setup me journal).node name draft ≡ Ok given
+-- a draft comes to the same by the same list and node
+pub checks_by : (ops setup_ops : List Operation) (seen node : NodeView) (name : Name) (draft : Draft) (given : Given) → ops ≡ setup_ops → seen ≡ node → checked_on ops seen name draft ≡ Ok given → checked_on setup_ops node name draft ≡ Ok given
+checks_by ops setup_ops seen node name draft given list here checks = subst (λ (x : NodeView × List Operation). checked_on x.1 x.0 name draft ≡ Ok given) (λ i. (here i, list i)) checks
+
+made_posted : (setup : Setup) (me : ℕ) (journal : List Act) (name : Name) (draft : Draft) (given : Given) → checked_on setup.operations (process_at setup me journal).node name draft ≡ Ok given
     → (process_at setup me (journal ++ A.Posted name draft ∷ [])).made ≡ (process_at setup me journal).made ++ record { name = name; given = given } ∷ []
 made_posted setup me journal name draft given is =
-    ap (λ (v : ProcessView). v.made) (after-append journal (A.Posted name draft ∷ []) (at_start setup me))
+    ap (λ (v : ProcessView). v.made) (after-append setup.operations journal (A.Posted name draft ∷ []) (at_start setup me))
     ∙ ap (λ r. (makes name r (process_at setup me journal)).made) is
 
 -- the post that a draft comes to is the next of the plan
 next_made : (setup : Setup) (me : ℕ) (journal : List Act) (count : ℕ) (name : Name) (draft : Draft) (given : Given) → Stood setup me journal → IsPlanned setup me journal → length (process_at setup me journal).made ≡ count
-    → IsNext setup me count name draft → checked_on (process_at setup me journal).node name draft ≡ Ok given → setup.planned ≡ true
+    → IsNext setup me count name draft → checked_on setup.operations (process_at setup me journal).node name draft ≡ Ok given → setup.planned ≡ true
     → slice_get (planned_posts setup me) count ≡ Some (record { name = name; given = given })
 next_made setup me journal count name draft given s plan counted next is planned =
     let v = process_at setup me journal in
     let good = stood_good setup me journal s in
-    let parts = checked_parts (v.node.opened name) (told (v.node.board.contexts name).birth) v.node.me name draft given is in
-    let born : planned_birth setup name ≡ Some parts.birth = plan_births setup (world_of setup s.happenings) planned s.planned (ranks_of setup s.happenings) name parts.birth (stood_birth setup me journal s name parts.birth parts.born) in
+    let parts = checked_parts setup.operations (v.node.opened name) (told (v.node.board.contexts name).birth) v.node.me name draft given is in
+    let born : planned_birth setup name ≡ Some parts.birth = plan_births setup (world_of setup s.happenings) planned s.planned (operations_of setup s.happenings) (ranks_of setup s.happenings) name parts.birth (stood_birth setup me journal s name parts.birth parts.born) in
     let first : v.made ≡ take count (planned_posts setup me) = prefix_take v.made (planned_posts setup me) (plan planned) ∙ ap (λ n. take n (planned_posts setup me)) counted in
     let call : posted_on v.node name ≡ next_call setup me count name = good.counted name ∙ ap (λ ms. length (posts_on name ms)) first in
     let unfreed : false ≡ is_closed setup me count name = sym parts.unfreed ∙ good.closed name ∙ ap (has_freed name) first in
-    next planned parts.birth given born (subst (λ (x : ℕ × (ℕ × Bool)). checked parts.birth x.0 (at name x.1.0 x.1.1) draft ≡ Ok given) (λ i. (good.me_is i, (call i, unfreed i))) parts.checks)
+    next planned parts.birth given born (subst (λ (x : ℕ × (ℕ × Bool)). checked setup.operations parts.birth x.0 (at name x.1.0 x.1.1) draft ≡ Ok given) (λ i. (good.me_is i, (call i, unfreed i))) parts.checks)
 
-planned_more : (setup : Setup) (me : ℕ) (journal : List Act) (name : Name) (draft : Draft) (given : Given) → checked_on (process_at setup me journal).node name draft ≡ Ok given → IsPlanned setup me journal
+planned_more : (setup : Setup) (me : ℕ) (journal : List Act) (name : Name) (draft : Draft) (given : Given) → checked_on setup.operations (process_at setup me journal).node name draft ≡ Ok given → IsPlanned setup me journal
     → (setup.planned ≡ true → slice_get (planned_posts setup me) (length (process_at setup me journal).made) ≡ Some (record { name = name; given = given })) → IsPlanned setup me (journal ++ A.Posted name draft ∷ [])
 planned_more setup me journal name draft given is plan next planned =
     let v = process_at setup me journal in
@@ -266,10 +271,11 @@ planned_more setup me journal name draft given is plan next planned =
 
 -- a moored port that makes its next post
 pub moored_posts : {table : TableId} {setup : Setup} {me : ℕ} {opening : List Act} {before total : ℕ} {contexts : List Name} (amount : ℕ) (name : Name) (draft : Draft) (given : Given) (new : Option Name) (a b : Berth) (total' : ℕ) (contexts' : List Name)
-    → IsMoored table setup me opening before a total contexts → (KeepsPlan a → Stood a.setup a.me a.journal) → amount ≡ total → total' ≡ total + 1 → IsNext setup me (before + amount) name draft → checked_on (node_in a) name draft ≡ Ok given
+    → IsMoored table setup me opening before a total contexts → (KeepsPlan a → Stood a.setup a.me a.journal) → amount ≡ total → total' ≡ total + 1 → IsNext setup me (before + amount) name draft → checked_on setup.operations (node_in a) name draft ≡ Ok given
     → IfSome new (λ context. context ≡ name) → IfNone new (IsListed name contexts) → contexts' ≡ with_context contexts new → IsSamePort a b → b.journal ≡ a.journal ++ A.Posted name draft ∷ []
     → IsMoored table setup me opening before b total' contexts'
-moored_posts {table} {setup} {me} {opening} {before} {total} {contexts} amount name draft given new a b total' contexts' m stood whole more next is some none listed same grows =
+moored_posts {table} {setup} {me} {opening} {before} {total} {contexts} amount name draft given new a b total' contexts' m stood whole more next checks some none listed same grows =
+    let is : checked_on a.setup.operations (node_in a) name draft ≡ Ok given = ap (λ (s : Setup). checked_on s.operations (node_in a) name draft) m.setup_is ∙ checks in
     let count : length (made_in a) ≡ before + amount = omega (arith, m.counted, whole) in
     let next' : IsNext a.setup a.me (length (made_in a)) name draft = subst (λ (x : Setup × (ℕ × ℕ)). IsNext x.0 x.1.0 x.1.1 name draft) (λ i. (sym m.setup_is i, (sym m.me_is i, sym count i))) next in
     let plan : IsPlanned a.setup a.me (a.journal ++ A.Posted name draft ∷ []) =

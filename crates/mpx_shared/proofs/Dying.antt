@@ -4,6 +4,7 @@ use Rattle.std.specs.Prelude.{◌||◌, filter, not}
 use Rattle.std.proofs.lemmas.Option.{same_Some}
 use Rattle.join_core.specs.Cases.{Answer, yes, no, answer}
 use Rattle.mpx_name.specs.Name.{Name}
+use Rattle.mpx_num.specs.declared.own.Operation.{Operation}
 use Rattle.mpx_post.specs.Posts.{Given}
 use Rattle.mpx_post.specs.Gatherings.{GatheringView}
 use Rattle.mpx_post.specs.declared.draft.PostError.{PostError}
@@ -47,9 +48,9 @@ gone_makes : (name : Name) (r : Result Given PostError) (v : ProcessView) (n : N
 gone_makes name (Ok given) v n e = gone_joined v.node.board (post_fact name given v.node) n e
 gone_makes name (Err refusal) v n e = e
 
-gone_stores : (name : Name) (r : Option Finished) (v : ProcessView) (n : Name) → IsGone v.node.board n → IsGone (stores name r v).node.board n
-gone_stores name None v n e = e
-gone_stores name (Some finished) v n e = gone_joined v.node.board (harvest_part name (made_next name v.node) v.node) n e
+gone_stores : (ops : List Operation) (name : Name) (r : Option Finished) (v : ProcessView) (n : Name) → IsGone v.node.board n → IsGone (stores ops name r v).node.board n
+gone_stores ops name None v n e = e
+gone_stores ops name (Some finished) v n e = gone_joined v.node.board (harvest_part name (made_next ops name v.node) v.node) n e
 
 gone_opens : (parent : Name) (r : Result GatheringView PostError) (v : ProcessView) (n : Name) → IsGone v.node.board n → IsGone (opens_gathering parent r v).node.board n
 gone_opens parent (Ok g) v n e = gone_joined v.node.board (gathering_fact parent g) n e
@@ -63,17 +64,17 @@ gone_drops : (name : Name) (number : ℕ) (r : Result (Unit {0}) PruneError) (v 
 gone_drops name number (Ok u) v n e = gone_takes (prune_part v.node name number) v n e
 gone_drops name number (Err refusal) v n e = e
 
-gone_act : (a : Act) (v : ProcessView) (n : Name) → IsGone v.node.board n → IsGone (act_on a v).node.board n
-gone_act (A.Posted name draft) v n e = gone_makes name (checked_on v.node name draft) v n e
-gone_act (A.Harvested name) v n e = gone_stores name (next_result v.node name) v n e
-gone_act (A.Gathered parent tag ranks) v n e = gone_opens parent (gathers_on v.node parent tag ranks) v n e
-gone_act (A.Pruned name number) v n e = gone_drops name number (pruned_on v.node.board name number) v n e
-gone_act (A.Took bytes) v n e = gone_joined v.node.board (part_of bytes) n e
-gone_act (A.StoppedTaking bytes left) v n e = gone_joined v.node.board (look left) n e
-gone_act (A.Acknowledged board) v n e = gone_joined v.node.board (own_acks v.node.me (said_on board v)) n e
-gone_act (A.Pushed bytes) v n e = e
-gone_act (A.Popped bytes) v n e = e
+gone_act : (ops : List Operation) (a : Act) (v : ProcessView) (n : Name) → IsGone v.node.board n → IsGone (act_on ops a v).node.board n
+gone_act ops (A.Posted name draft) v n e = gone_makes name (checked_on ops v.node name draft) v n e
+gone_act ops (A.Harvested name) v n e = gone_stores ops name (next_result ops v.node name) v n e
+gone_act ops (A.Gathered parent tag ranks) v n e = gone_opens parent (gathers_on v.node parent tag ranks) v n e
+gone_act ops (A.Pruned name number) v n e = gone_drops name number (pruned_on v.node.board name number) v n e
+gone_act ops (A.Took bytes) v n e = gone_joined v.node.board (part_of bytes) n e
+gone_act ops (A.StoppedTaking bytes left) v n e = gone_joined v.node.board (look left) n e
+gone_act ops (A.Acknowledged board) v n e = gone_joined v.node.board (own_acks v.node.me (said_on board v)) n e
+gone_act ops (A.Pushed bytes) v n e = e
+gone_act ops (A.Popped bytes) v n e = e
 
-pub gone_after : (acts : List Act) (v : ProcessView) (n : Name) → IsGone v.node.board n → IsGone (after acts v).node.board n
-gone_after [] v n e = e
-gone_after (a ∷ acts) v n e = gone_after acts (act_on a v) n (gone_act a v n e)
+pub gone_after : (ops : List Operation) (acts : List Act) (v : ProcessView) (n : Name) → IsGone v.node.board n → IsGone (after ops acts v).node.board n
+gone_after ops [] v n e = e
+gone_after ops (a ∷ acts) v n e = gone_after ops acts (act_on ops a v) n (gone_act ops a v n e)

@@ -7,13 +7,15 @@ use Rattle.std.proofs.lemmas.List.Elements.{All-append, All-cons, All-nil}
 use Rattle.join_core.specs.declared.memory.OutOfMemory.{OutOfMemory}
 use Rattle.atomic_table.specs.Seated.{TableId}
 use Rattle.mpx_name.specs.Name.{Name}
+use Rattle.mpx_num.specs.declared.own.Operation.{Operation}
 use Rattle.mpx_board.specs.Boards.{Look}
 use Rattle.mpx_board.specs.declared.errors.PruneError.{PruneError}
 use Rattle.mpx_node.specs.declared.finished.Finished.{Finished}
 use Rattle.mpx_node.specs.declared.node.Harvest.{Harvest}
 use Rattle.mpx_node.specs.declared.node.Harvest.TheVariants as H
-use Rattle.mpx_node.specs.Nodes.{NodeView, OpenedView, children_on, front_on, next_of, next_result, posted_on}
+use Rattle.mpx_node.specs.Nodes.{NodeView, OpenedView, children_on, front_on, next_of, next_result, posted_on, has_next as node_has_next}
 use Rattle.mpx_node.specs.Harvests.{Harvests}
+use Rattle.mpx_node.proofs.Nexts.{next_is_there, some_next}
 use Rattle.mpx_world.proofs.Kept.{front_added, posted_added}
 use Rattle.mpx_bus.specs.declared.act.Act.{Act}
 use Rattle.mpx_bus.specs.declared.act.Act.TheVariants as A
@@ -64,42 +66,51 @@ is_done H.NotYet = false
 is_done H.NotOpened = false
 
 -- a harvest that stored none found none
-no_next : (o : Option OpenedView) (name : Name) (next : Option Finished) (h : Harvest) (old new : NodeView) → (o ≡ None → next ≡ None) → Harvests (is_some o) name next (Ok h) old new → is_done h ≡ false → is_some next ≡ false
-no_next None name next h old new nothing hs stop = ap is_some (nothing refl)
-no_next (Some o) name None h old new nothing hs stop = refl
-no_next (Some o) name (Some f) (H.Done call) old new nothing hs stop = cc stop
-no_next (Some o) name (Some f) H.NotYet old new nothing hs stop = absurd hs
-no_next (Some o) name (Some f) H.NotOpened old new nothing hs stop = absurd hs
+no_next : (ops : List Operation) (o : Option OpenedView) (name : Name) (next : Option Finished) (h : Harvest) (old new : NodeView) → (o ≡ None → next ≡ None) → Harvests ops (is_some o) name next (Ok h) old new → is_done h ≡ false → is_some next ≡ false
+no_next ops None name next h old new nothing hs stop = ap is_some (nothing refl)
+no_next ops (Some o) name None h old new nothing hs stop = refl
+no_next ops (Some o) name (Some f) (H.Done call) old new nothing hs stop = cc stop
+no_next ops (Some o) name (Some f) H.NotYet old new nothing hs stop = absurd hs
+no_next ops (Some o) name (Some f) H.NotOpened old new nothing hs stop = absurd hs
 
-nothing_opened : (o : Option OpenedView) (board : Look) (name : Name) (me : ℕ) → o ≡ None → next_of o board name me ≡ None
-nothing_opened None board name me e = refl
-nothing_opened (Some o) board name me e = cc e
+nothing_opened : (ops : List Operation) (o : Option OpenedView) (board : Look) (name : Name) (me : ℕ) → o ≡ None → next_of ops o board name me ≡ None
+nothing_opened ops None board name me e = refl
+nothing_opened ops (Some o) board name me e = cc e
 
-stores_next : (o : Option OpenedView) (name : Name) (next : Option Finished) (call : ℕ) (old new : NodeView) → old.opened name ≡ o → Harvests (is_some o) name next (Ok (H.Done call)) old new
+stores_next : (ops : List Operation) (o : Option OpenedView) (name : Name) (next : Option Finished) (call : ℕ) (old new : NodeView) → old.opened name ≡ o → Harvests ops (is_some o) name next (Ok (H.Done call)) old new
     → (posted_on new name ≡ posted_on old name) × (front_on new name ≡ front_on old name + 1)
-stores_next None name next call old new is hs = let f : Ok (H.Done call) ≡ Ok H.NotOpened = hs.0 in absurd (cc f)
-stores_next (Some o) name None call old new is hs = absurd hs
-stores_next (Some o) name (Some f) call old new is hs =
-    let made = children_on old.board name (front_on old name) in (
+stores_next ops None name next call old new is hs = let f : Ok (H.Done call) ≡ Ok H.NotOpened = hs.0 in absurd (cc f)
+stores_next ops (Some o) name None call old new is hs = absurd hs
+stores_next ops (Some o) name (Some f) call old new is hs =
+    let made = children_on ops old.board name (front_on old name) in (
       ap (λ (n : NodeView). posted_on n name) hs.1 ∙ posted_added name f made old name,
       ap (λ (n : NodeView). front_on n name) hs.1 ∙ front_added name f made old o is,
     )
 
-none_stored : (h : Harvest) (name : Name) (a b : Berth) → b ≡ a → is_done h ≡ false → Harvests (is_some ((node_in a).opened name)) name (next_result (node_in a) name) (Ok h) (node_in a) (node_in b) → HarvestsNext false name a b
-none_stored h name a b same stop hs =
+none_stored : (ops : List Operation) (h : Harvest) (name : Name) (a b : Berth) → b ≡ a → is_done h ≡ false → Harvests ops (is_some ((node_in a).opened name)) name (next_result ops (node_in a) name) (Ok h) (node_in a) (node_in b) → HarvestsNext false name a b
+none_stored ops h name a b same stop hs =
     let n = node_in a in record {
       posted = ap (λ (x : Berth). posted_on (node_in x) name) same;
       stored = λ (e : false ≡ true). cc e;
-      none = λ e. ap (λ (x : Berth). has_next x name) same ∙ no_next (n.opened name) name (next_result n name) h n (node_in b) (nothing_opened (n.opened name) n.board name n.me) hs stop;
+      none = λ e. ap (λ (x : Berth). has_next x name) same ∙ sym (next_is_there ops n name) ∙ no_next ops (n.opened name) name (next_result ops n name) h n (node_in b) (nothing_opened ops (n.opened name) n.board name n.me) hs stop;
     }
 
-pub next_harvested : (h : Harvest) (name : Name) (a b : Berth) → HarvestsOne name (Ok h) a b → Harvests (is_some ((node_in a).opened name)) name (next_result (node_in a) name) (Ok h) (node_in a) (node_in b) → HarvestsNext (is_done h) name a b
-next_harvested (H.Done call) name a b one hs =
+pub next_harvested : (ops : List Operation) (h : Harvest) (name : Name) (a b : Berth) → HarvestsOne name (Ok h) a b → Harvests ops (is_some ((node_in a).opened name)) name (next_result ops (node_in a) name) (Ok h) (node_in a) (node_in b) → HarvestsNext (is_done h) name a b
+next_harvested ops (H.Done call) name a b one hs =
     let n = node_in a in
-    let x = stores_next (n.opened name) name (next_result n name) call n (node_in b) refl hs in
+    let x = stores_next ops (n.opened name) name (next_result ops n name) call n (node_in b) refl hs in
     record { posted = x.0; stored = λ e. x.1; none = λ (e : true ≡ false). cc e }
-next_harvested H.NotYet name a b one hs = none_stored H.NotYet name a b one refl hs
-next_harvested H.NotOpened name a b one hs = none_stored H.NotOpened name a b one refl hs
+next_harvested ops H.NotYet name a b one hs = none_stored ops H.NotYet name a b one refl hs
+next_harvested ops H.NotOpened name a b one hs = none_stored ops H.NotOpened name a b one refl hs
+
+wants_by : (ops : List Operation) (name : Name) (opened : Bool) (next : Option Finished) (e : OutOfMemory) (old new : NodeView) → next_result ops old name ≡ next → Harvests ops opened name next (Err e) old new → node_has_next new name ≡ true
+wants_by ops name false next e old new is h = cc (h.0)
+wants_by ops name true (Some f) e old new is h = ap (λ n. node_has_next n name) h ∙ some_next ops old name f is
+wants_by ops name true None e old new is h = absurd h
+
+-- memory is wanting only for a result that can be had
+pub wants_next : (ops : List Operation) (name : Name) (e : OutOfMemory) (a b : Berth) → Harvests ops (is_some ((node_in a).opened name)) name (next_result ops (node_in a) name) (Err e) (node_in a) (node_in b) → has_next b name ≡ true
+wants_next ops name e a b h = wants_by ops name (is_some ((node_in a).opened name)) (next_result ops (node_in a) name) e (node_in a) (node_in b) refl h
 
 -- so far it has harvested: the number of the next call is that of the results
 pub record IsHarvesting (name : Name) (call : ℕ) (old new : Berth) : Type 0 where

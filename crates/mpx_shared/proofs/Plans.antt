@@ -5,6 +5,7 @@ use Rattle.std.specs.Option.{option_map}
 use mathlib.Core.List.{IsPrefix}
 use Rattle.mpx_name.specs.Name.{Name}
 use Rattle.mpx_post.specs.Births.{BirthView}
+use Rattle.mpx_post.specs.Posts.{Given}
 use Rattle.mpx_value.specs.Histories.{Grows, answer_with, birth_of, outcome_of, outcomes_by, posts_on, row_of, value_for}
 use Rattle.mpx_value.proofs.Growth.{birth-grows, posts_on-append, row-grows, then_some}
 use Rattle.mpx_node.specs.declared.finished.Finished.{Finished}
@@ -47,13 +48,20 @@ prefix_take xs ys p = sym (ap (take (length xs)) (sym p.1) ∙ take_first xs p.0
 pub ranks_of : (setup : Setup) (hs : List Happening) → (world_of setup hs).ranks ≡ setup.ranks
 ranks_of setup hs = sym ((later_goes_on hs (start_of setup)).ranks)
 
-module _ (setup : Setup) (w : WorldView) (planned : setup.planned ≡ true) (begins : BeginsPlan setup w) where
-  pub plan_grows : Grows (history w) (plan_history setup)
-  plan_grows name k p given e =
+-- its operations
+pub operations_of : (setup : Setup) (hs : List Happening) → (world_of setup hs).operations ≡ setup.operations
+operations_of setup hs = sym ((later_goes_on hs (start_of setup)).operations)
+
+module _ (setup : Setup) (w : WorldView) (planned : setup.planned ≡ true) (begins : BeginsPlan setup w) (ops : w.operations ≡ setup.operations) where
+  posts_grow : (name : Name) (k p : ℕ) (given : Given) → (history w).post name k p ≡ Some given → (plan_history setup).post name k p ≡ Some given
+  posts_grow name k p given e =
       let b = begins planned p in
       ap (λ ms. slice_get (posts_on name ms) k) (sym b.1)
       ∙ ap (λ xs. slice_get xs k) (posts_on-append name ((w.each p).made) b.0)
       ∙ slice_get-append (posts_on name ((w.each p).made)) (posts_on name b.0) k given e
+
+  pub plan_grows : Grows (history w) (plan_history setup)
+  plan_grows = record { operations = ops; post = posts_grow }
 
   pub plan_births : w.ranks ≡ setup.ranks → (name : Name) (birth : BirthView) → births w name ≡ Some birth → planned_birth setup name ≡ Some birth
   plan_births ranks name birth e = birth-grows (history w) (plan_history setup) setup.ranks plan_grows name birth (subst (λ n. birth_of (history w) n name ≡ Some birth) ranks e)
@@ -64,14 +72,14 @@ module _ (setup : Setup) (w : WorldView) (planned : setup.planned ≡ true) (beg
       let row : row_of h name v.birth call ≡ Some v.row = row-grows (history w) h setup.ranks plan_grows name v.birth call v.row v.whole in
       let outcome : outcome_of h setup.ranks me name call ≡ Some f.outcome =
       then_some (λ birth. outcomes_by h name birth me call) (birth_of h setup.ranks name) v.birth f.outcome (plan_births ranks name v.birth v.born)
-      (then_some (λ r. value_for v.birth me r name call) (row_of h name v.birth call) v.row f.outcome row v.outcome) in
+      (then_some (λ r. value_for setup.operations v.birth me r name call) (row_of h name v.birth call) v.row f.outcome row (ap (λ o. value_for o v.birth me v.row name call) (sym ops) ∙ v.outcome)) in
       record {
         result = ap (option_map (answer_with (birth_of h setup.ranks))) outcome;
-        mine = plan_grows name call me f.mine v.mine;
+        mine = posts_grow name call me f.mine v.mine;
       }
 
 pub result_is_planned : (setup : Setup) (me : ℕ) (name : Name) (call : ℕ) (f : Finished) → setup.planned ≡ true → IsFinished setup me name call f → IsPlannedResult setup me name call f
-result_is_planned setup me name call f planned is = plan_result setup (world_of setup is.happenings) planned is.begins (ranks_of setup is.happenings) me name call f is.value
+result_is_planned setup me name call f planned is = plan_result setup (world_of setup is.happenings) planned is.begins (operations_of setup is.happenings) (ranks_of setup is.happenings) me name call f is.value
 
 pub birth_is_planned : (setup : Setup) (name : Name) (birth : BirthView) → setup.planned ≡ true → IsBirth setup name birth → planned_birth setup name ≡ Some birth
-birth_is_planned setup name birth planned is = plan_births setup (world_of setup is.happenings) planned is.begins (ranks_of setup is.happenings) name birth is.born
+birth_is_planned setup name birth planned is = plan_births setup (world_of setup is.happenings) planned is.begins (operations_of setup is.happenings) (ranks_of setup is.happenings) name birth is.born

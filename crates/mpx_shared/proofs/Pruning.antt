@@ -117,7 +117,7 @@ prunes_there : (name : Name) (floor : ℕ) (a b : Berth) → IsSamePort a b → 
 prunes_there name floor a b same told grows =
     let v = process_in a in
     let is : process_in b ≡ drops name floor (Ok tt) v =
-    made_same a b same (a.journal ++ A.Pruned name floor ∷ []) grows ∙ after-append a.journal (A.Pruned name floor ∷ []) (at_start a.setup a.me)
+    made_same a b same (a.journal ++ A.Pruned name floor ∷ []) grows ∙ after-append a.setup.operations a.journal (A.Pruned name floor ∷ []) (at_start a.setup a.me)
     ∙ ap (λ r. drops name floor r v) (pruned_there v.node.board name floor (sym told)) in
     subst (λ (u : ProcessView). (IsGone u.node.board name ⊎ (floor ≤ (u.node.board.contexts name).dropped)) × (is_past_free (results_on v.node name) floor ≡ true → IsGone u.node.board name)) (sym is)
     (prunes_to v name floor (v.node.board.contexts name).dead (is_past_free (results_on v.node name) floor) refl)

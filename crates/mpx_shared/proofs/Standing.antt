@@ -6,6 +6,7 @@ use Rattle.std.specs.Option.{option_map_or}
 use Rattle.std.proofs.lemmas.Option.{same_Some}
 use Rattle.join_core.specs.Flat.{FlatView, unknown, known, clash}
 use Rattle.mpx_name.specs.Name.{Name}
+use Rattle.mpx_num.specs.declared.own.Operation.{Operation}
 use Rattle.mpx_post.specs.Posts.{Given, is_free}
 use Rattle.mpx_post.specs.Births.{BirthView}
 use Rattle.mpx_post.specs.declared.draft.Draft.{Draft}
@@ -62,28 +63,28 @@ unfreed_last posts results none beside n = by_last (slice_get results (length re
   by_last (Some f) e = by_free f (beside (length results - 1) f e) (is_free f.mine) refl
 
 -- what a draft came to where it came to a post: no free stands before it
-pub record IsChecked (o : Option OpenedView) (b : Option BirthView) (me : ℕ) (name : Name) (draft : Draft) (given : Given) : Type 0 where
+pub record IsChecked (ops : List Operation) (o : Option OpenedView) (b : Option BirthView) (me : ℕ) (name : Name) (draft : Draft) (given : Given) : Type 0 where
   pub birth : BirthView
   pub born : b ≡ Some birth
   pub unfreed : freed_by o ≡ false
-  pub checks : checked birth me (at name (posted_by o) false) draft ≡ Ok given
+  pub checks : checked ops birth me (at name (posted_by o) false) draft ≡ Ok given
 
-opened_parts : (o : OpenedView) (b : Option BirthView) (me : ℕ) (name : Name) (draft : Draft) (given : Given) (freed : Bool) → o.freed ≡ freed
-    → (let r : Result Given PostError = cond freed (Err Closed) (checked_there o.posted b me name draft) in r) ≡ Ok given → IsChecked (Some o) b me name draft given
-opened_parts o b me name draft given true unfreed e = cc e
-opened_parts o None me name draft given false unfreed e = cc e
-opened_parts o (Some birth) me name draft given false unfreed e = record { birth = birth; born = refl; unfreed = unfreed; checks = e }
+opened_parts : (ops : List Operation) (o : OpenedView) (b : Option BirthView) (me : ℕ) (name : Name) (draft : Draft) (given : Given) (freed : Bool) → o.freed ≡ freed
+    → (let r : Result Given PostError = cond freed (Err Closed) (checked_there ops o.posted b me name draft) in r) ≡ Ok given → IsChecked ops (Some o) b me name draft given
+opened_parts ops o b me name draft given true unfreed e = cc e
+opened_parts ops o None me name draft given false unfreed e = cc e
+opened_parts ops o (Some birth) me name draft given false unfreed e = record { birth = birth; born = refl; unfreed = unfreed; checks = e }
 
-pub checked_parts : (o : Option OpenedView) (b : Option BirthView) (me : ℕ) (name : Name) (draft : Draft) (given : Given) → checked_by o b me name draft ≡ Ok given → IsChecked o b me name draft given
-checked_parts None b me name draft given e = cc e
-checked_parts (Some o) b me name draft given e = opened_parts o b me name draft given o.freed refl e
+pub checked_parts : (ops : List Operation) (o : Option OpenedView) (b : Option BirthView) (me : ℕ) (name : Name) (draft : Draft) (given : Given) → checked_by ops o b me name draft ≡ Ok given → IsChecked ops o b me name draft given
+checked_parts ops None b me name draft given e = cc e
+checked_parts ops (Some o) b me name draft given e = opened_parts ops o b me name draft given o.freed refl e
 
 module _ (setup : Setup) (me : ℕ) (journal : List Act) (s : Stood setup me journal) where
   abbrev w : WorldView
   w = world_of setup s.happenings
 
   well : IsWell w
-  well = well_by setup.ranks setup.size s.happenings s.may
+  well = well_by setup.operations setup.ranks setup.size s.happenings s.may
 
   pub stood_good : Good (world_of setup s.happenings) me (process_at setup me journal)
   stood_good = subst (Good w me) s.stands (well.holds.processes me)
@@ -93,7 +94,7 @@ module _ (setup : Setup) (me : ℕ) (journal : List Act) (s : Stood setup me jou
   stood_value name call f e = stood_good.values name call f e
 
   -- its own posts are those of the history
-  pub stood_history : (name : Name) (call : ℕ) → history (world_of setup s.happenings) name call me ≡ slice_get (posts_on name ((process_at setup me journal).made)) call
+  pub stood_history : (name : Name) (call : ℕ) → (history (world_of setup s.happenings)).post name call me ≡ slice_get (posts_on name ((process_at setup me journal).made)) call
   stood_history name call = ap (λ (v : ProcessView). slice_get (posts_on name v.made) call) s.stands
 
   -- a birth that its board tells is one

@@ -89,7 +89,7 @@ pub record MakesNoPost (old new : Berth) : Type 0 where
 
 -- what all processes post by the plan
 abbrev pub plan_history : Setup → History
-plan_history setup = history_of (planned_posts setup)
+plan_history setup = history_of setup.operations (planned_posts setup)
 
 -- how a communicator comes to be by the plan
 abbrev pub planned_birth : Setup → Name → Option BirthView
@@ -110,5 +110,5 @@ is_closed setup me count name = has_freed name (take count (planned_posts setup 
 -- where there is a plan: what the draft comes to on the context, by the plan, is the post that follows the first so many
 abbrev pub IsNext : Setup → (me count : ℕ) → Name → Draft → Type 0
 IsNext setup me count name draft = setup.planned ≡ true → (birth : BirthView) (given : Given)
-    → planned_birth setup name ≡ Some birth → checked birth me (at name (next_call setup me count name) (is_closed setup me count name)) draft ≡ Ok given
+    → planned_birth setup name ≡ Some birth → checked setup.operations birth me (at name (next_call setup me count name) (is_closed setup me count name)) draft ≡ Ok given
     → slice_get (planned_posts setup me) count ≡ Some (record { name = name; given = given })

@@ -1,9 +1,9 @@
 -- What a pull and a put do to a port.
-use Rattle.std.specs.Prelude.{◌≡◌, ◌+◌, ◌≤◌, ◌⊎◌, ℕ, All, Bool, true, false, List, [], None, Some, Result, Ok, Err, is_some, slice_get}
+use Rattle.std.specs.Prelude.{◌≡◌, ◌+◌, ◌≤◌, ◌⊎◌, ℕ, All, Bool, true, false, List, [], None, Some, Result, Ok, Err, slice_get}
 use Rattle.join_core.specs.declared.memory.OutOfMemory.{OutOfMemory}
 use Rattle.mpx_name.specs.Name.{Name}
 use Rattle.mpx_board.specs.Boards.{IsGone, floor_on}
-use Rattle.mpx_node.specs.Nodes.{front_on, is_past_free, next_result, posted_on, results_on}
+use Rattle.mpx_node.specs.Nodes.{front_on, has_next as node_has_next, is_past_free, posted_on, results_on}
 use Rattle.mpx_bus.specs.declared.act.Act.{Act}
 use Rattle.mpx_bus.specs.declared.act.Act.TheVariants as A
 use Rattle.mpx_bus.specs.declared.port.Pop.{Pop}
@@ -19,7 +19,7 @@ use Rattle.mpx_shared.specs.Docks.{IsListed, MakesNoPost}
 
 -- whether a next result can be had on the context
 abbrev pub has_next : Berth → Name → Bool
-has_next port name = is_some (next_result (node_in port) name)
+has_next port name = node_has_next (node_in port) name
 
 -- an act that stores a result, or drops posts
 abbrev pub IsHarvestOrPruning : Act → Type 0

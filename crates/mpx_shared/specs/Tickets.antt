@@ -2,6 +2,7 @@
 use Rattle.std.specs.Prelude.{◌≡◌, ◌≢◌, ℕ, ℤ, Bool, List, [], ◌∷◌, ◌++◌, length, Option, None, Some, Result, Ok, Err, IfOk, slice_get}
 use Rattle.atomic_table.specs.Seated.{TableId}
 use Rattle.mpx_name.specs.Name.{Name}
+use Rattle.mpx_num.specs.declared.own.Operation.{Operation}
 use Rattle.mpx_post.specs.Posts.{Given}
 use Rattle.mpx_post.specs.Births.{BirthView}
 use Rattle.mpx_post.specs.declared.draft.Draft.{Draft}
@@ -28,8 +29,8 @@ abbrev pub IsTicketOf : Name → Result Given PostError → Result Ticket PostEr
 IsTicketOf name checked result = IfOk result (λ ticket. (ticket.name ≡ name) × (checked ≡ Ok ticket.post))
 
 -- the ticket of the next post on the context, the draft's, by a node
-abbrev pub IsNextTicket : NodeView → Name → Draft → Ticket → Type 0
-IsNextTicket node name draft ticket = (ticket.name ≡ name) × ((ticket.call ≡ posted_on node name) × (checked_on node name draft ≡ Ok ticket.post))
+abbrev pub IsNextTicket : List Operation → NodeView → Name → Draft → Ticket → Type 0
+IsNextTicket ops node name draft ticket = (ticket.name ≡ name) × ((ticket.call ≡ posted_on node name) × (checked_on ops node name draft ≡ Ok ticket.post))
 
 -- the post stands in the journal as the one act of the call; a refusal leaves the port as it was
 abbrev pub PostsOne : Name → Draft → Result Ticket PostError → Berth → Berth → Type 0
@@ -44,8 +45,8 @@ pub record PostsThen (table : TableId) (setup : Setup) (me : ℕ) (opening : Lis
   pub docked_after : IsDocked table setup me after
   pub gone_on : HasGoneOn setup me opening before
   pub counted : length (made_in before) ≡ count
-  pub posts : Posts name (checked_on (node_in before) name draft) (call_of result) (node_in before) (node_in after)
-  pub ticket : IsTicketOf name (checked_on (node_in before) name draft) result
+  pub posts : Posts name (checked_on setup.operations (node_in before) name draft) (call_of result) (node_in before) (node_in after)
+  pub ticket : IsTicketOf name (checked_on setup.operations (node_in before) name draft) result
   pub goes : Goes before after
   pub acts : PostsOne name draft result before after
   pub kept : after.kept ≡ before.kept

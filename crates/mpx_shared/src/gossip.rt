@@ -12,6 +12,7 @@ use join_core::OutOfMemory;
 use mpx_bus::{Bus, Pop, Port};
 use mpx_name::Name;
 use mpx_node::{Harvest, Node};
+use mpx_num::{Listing, Ops};
 use std::alloc::Global;
 use std::sync::Wait;
 
@@ -22,7 +23,9 @@ pub(crate) fn pull_on<R: Wait>(
     bus: &Bus,
     port: &mut Port,
     contexts: &[Name],
+    ops: &Ops,
 ) -> Pull
+    requires list { ⟦<Ops as Listing>⟧.operations ops.now ≡ port.old.setup.operations }
     requires queue { port.old.table ≡ table_of bus.now }
     requires plan { KeepsPlan port.old }
     ensures port { MakesNoPost port.old port.new }
@@ -33,7 +36,7 @@ pub(crate) fn pull_on<R: Wait>(
         Pop::Took(_) => true,
         Pop::Empty => false,
     };
-    if settle(alloc, port, contexts).is_err() {
+    if settle(alloc, port, contexts, ops).is_err() {
         return Pull::OutOfMemory(None);
     }
     if took { Pull::Took } else { Pull::Empty }
@@ -41,48 +44,57 @@ pub(crate) fn pull_on<R: Wait>(
 
 // Stores the results of the world and of these contexts, until no further one can be had, and drops the posts that every member has
 // harvested, as far as the board knows.
-fn settle(alloc: Global, port: &mut Port, contexts: &[Name]) -> Result<(), OutOfMemory>
+fn settle(alloc: Global, port: &mut Port, contexts: &[Name], ops: &Ops) -> Result<(), OutOfMemory>
+    requires list { ⟦<Ops as Listing>⟧.operations ops.now ≡ port.old.setup.operations }
     requires plan { KeepsPlan port.old }
     ensures port { MakesNoPost port.old port.new }
     ensures ok { OnOk result (SettlesAll contexts.now port.old port.new) }
     ensures err { OnErr result (WantsResult port.old port.new) }
 {
     let world = Name::world(alloc);
-    settle_on(alloc, port, &world)?;
-    settle_each(alloc, port, contexts)
+    settle_on(alloc, port, &world, ops)?;
+    settle_each(alloc, port, contexts, ops)
 }
 
-fn settle_each(alloc: Global, port: &mut Port, contexts: &[Name]) -> Result<(), OutOfMemory>
+fn settle_each(
+    alloc: Global,
+    port: &mut Port,
+    contexts: &[Name],
+    ops: &Ops,
+) -> Result<(), OutOfMemory>
+    requires list { ⟦<Ops as Listing>⟧.operations ops.now ≡ port.old.setup.operations }
     requires plan { KeepsPlan port.old }
     ensures port { HarvestsAndPrunes port.old port.new }
     ensures ok { OnOk result (SettlesEach contexts.now port.old port.new) }
     ensures err { OnErr result (WantsResult port.old port.new) }
 {
     for name in contexts {
-        settle_on(alloc, port, name)?;
+        settle_on(alloc, port, name, ops)?;
     }
     Ok(())
 }
 
-fn settle_on(alloc: Global, port: &mut Port, name: &Name) -> Result<(), OutOfMemory>
+fn settle_on(alloc: Global, port: &mut Port, name: &Name, ops: &Ops) -> Result<(), OutOfMemory>
+    requires list { ⟦<Ops as Listing>⟧.operations ops.now ≡ port.old.setup.operations }
     requires plan { KeepsPlan port.old }
     ensures port { HarvestsAndPrunes port.old port.new }
     ensures ok { OnOk result (Settles name.now port.old port.new) }
     ensures err { OnErr result (has_next port.new name.now ≡ true) }
 {
-    harvest_on(alloc, port, name)?;
+    harvest_on(alloc, port, name, ops)?;
     prune_on(port, name);
     Ok(())
 }
 
 // Stores the results of one context, until no further one can be had.
-fn harvest_on(alloc: Global, port: &mut Port, name: &Name) -> Result<(), OutOfMemory>
+fn harvest_on(alloc: Global, port: &mut Port, name: &Name, ops: &Ops) -> Result<(), OutOfMemory>
+    requires list { ⟦<Ops as Listing>⟧.operations ops.now ≡ port.old.setup.operations }
     ensures port { HarvestsAndPrunes port.old port.new }
     ensures ok { OnOk result (has_next port.new name.now ≡ false) }
     ensures err { OnErr result (has_next port.new name.now ≡ true) }
 {
     for _call in port.node().front(name)..port.node().posted(name) {
-        if !harvest_next(alloc, port, name)? {
+        if !harvest_next(alloc, port, name, ops)? {
             return Ok(());
         }
     }
@@ -90,12 +102,13 @@ fn harvest_on(alloc: Global, port: &mut Port, name: &Name) -> Result<(), OutOfMe
 }
 
 // Stores the next result of a context, and answers whether there was one.
-fn harvest_next(alloc: Global, port: &mut Port, name: &Name) -> Result<bool, OutOfMemory>
+fn harvest_next(alloc: Global, port: &mut Port, name: &Name, ops: &Ops) -> Result<bool, OutOfMemory>
+    requires list { ⟦<Ops as Listing>⟧.operations ops.now ≡ port.old.setup.operations }
     ensures port { HarvestsAndPrunes port.old port.new }
     ensures next { IfOk result (λ had. HarvestsNext had name.now port.old port.new) }
     ensures err { OnErr result (has_next port.new name.now ≡ true) }
 {
-    match port.harvest(alloc, name)? {
+    match port.harvest(alloc, name, ops)? {
         Harvest::Done(_) => Ok(true),
         Harvest::NotYet => Ok(false),
         Harvest::NotOpened => Ok(false),

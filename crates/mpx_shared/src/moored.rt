@@ -19,6 +19,7 @@ use join_core::{Exact, OutOfMemory};
 use mpx_bus::{Bus, Port, Push};
 use mpx_group::Proc;
 use mpx_name::Name;
+use mpx_num::{Listing, Ops};
 use mpx_post::{Birth, Draft, PostError};
 use std::alloc::Global;
 use std::marker::Model;
@@ -74,22 +75,32 @@ impl<L: Dock> Moored<L> {
         share: &mut Share<L>,
         name: &Name,
         draft: Draft,
+        ops: &Ops,
     ) -> Result<Ticket, PostError>
+        requires list { ⟦<Ops as Listing>⟧.operations ops.now ≡ L.setup.operations }
         requires whole { (share.old.parts ≡ L.parts) × (0 < L.parts) }
         requires next { IsNext L.setup L.me (L.before + share.old.amount) name.now draft }
         ensures parts { share.new.parts ≡ share.old.parts }
         ensures ok { OnOk result (share.new.amount ≡ share.old.amount + 1) }
         ensures err { OnErr result ((share.new.amount ≡ share.old.amount) × (self.new ≡ self.old)) }
         ensures port { Goes self.old.0 self.new.0 }
-        ensures node { Posts name.now (checked_on (node_in self.old.0) name.now draft) (call_of result) (node_in self.old.0) (node_in self.new.0) }
+        ensures node { Posts name.now (checked_on self.old.0.setup.operations (node_in self.old.0) name.now draft) (call_of result) (node_in self.old.0) (node_in self.new.0) }
         ensures then { PostsThen L.table L.setup L.me L.opening (L.before + share.old.amount) name.now draft result }
     {
         self.book.audit(share);
-        let ticket = ticket_for(alloc, self.port.node(), self.me, name, &draft)?;
+        let ticket = ticket_for(alloc, self.port.node(), self.me, name, &draft, ops)?;
         let Ok(context) = new_context(&mut self.contexts, alloc, name) else {
             return Err(PostError::OutOfMemory);
         };
-        let _call = post_counted(alloc, &mut self.port, &mut self.book, share, name, draft)?;
+        let _call = post_counted(
+            alloc,
+            &mut self.port,
+            &mut self.book,
+            share,
+            name,
+            draft,
+            ops,
+        )?;
         add_context(&mut self.contexts, context);
         // so that the proof knows that the port stands where its journal says
         let _node = self.port.node();
@@ -165,7 +176,8 @@ impl<L: Dock> Moored<L> {
 
     /// Pops a frame and takes in its part; then stores the results that can be had, and drops what every member has harvested.
     /// Contexts that are dead then are looked at no more.
-    pub fn pull<R: Wait>(&mut self, rt: &R, alloc: Global, bus: &Bus) -> Pull
+    pub fn pull<R: Wait>(&mut self, rt: &R, alloc: Global, bus: &Bus, ops: &Ops) -> Pull
+        requires list { ⟦<Ops as Listing>⟧.operations ops.now ≡ L.setup.operations }
         requires queue { table_of bus.now ≡ L.table }
         ensures port { MakesNoPost self.old.0 self.new.0 }
         ensures pulls { Pulls result self.old.1.1 self.old.0 self.new.0 }
@@ -173,7 +185,14 @@ impl<L: Dock> Moored<L> {
     {
         // so that the proof knows that the port stands where its journal says, before and after
         let _before = self.port.node();
-        let pull = pull_on(rt, alloc, bus, &mut self.port, self.contexts.as_slice());
+        let pull = pull_on(
+            rt,
+            alloc,
+            bus,
+            &mut self.port,
+            self.contexts.as_slice(),
+            ops,
+        );
         let after = self.port.node();
         leave_dead(&mut self.contexts, after.board());
         pull
@@ -227,7 +246,9 @@ fn post_counted<L: Dock>(
     share: &mut Share<L>,
     name: &Name,
     draft: Draft,
+    ops: &Ops,
 ) -> Result<u32, PostError>
+    requires list { ⟦<Ops as Listing>⟧.operations ops.now ≡ port.old.setup.operations }
     requires some { 0 < share.old.parts }
     ensures port { Goes port.old port.new }
     ensures kept { port.new.kept ≡ port.old.kept }
@@ -236,9 +257,9 @@ fn post_counted<L: Dock>(
     ensures counted { OnOk result ((book.new.total ≡ book.old.total + 1) × (share.new.amount ≡ share.old.amount + 1)) }
     ensures err { OnErr result (port.new ≡ port.old) }
     ensures uncounted { OnErr result ((book.new.total ≡ book.old.total) × (share.new.amount ≡ share.old.amount)) }
-    ensures node { Posts name.now (checked_on (node_in port.old) name.now draft) result (node_in port.old) (node_in port.new) }
+    ensures node { Posts name.now (checked_on port.old.setup.operations (node_in port.old) name.now draft) result (node_in port.old) (node_in port.new) }
 {
-    let call = port.post(alloc, name, draft)?;
+    let call = port.post(alloc, name, draft, ops)?;
     book.add(share, 1);
     Ok(call)
 }

@@ -12,6 +12,7 @@ use join_core::OutOfMemory;
 use mpx_bus::{Bus, Port, Push};
 use mpx_group::Proc;
 use mpx_name::Name;
+use mpx_num::{Listing, Ops};
 use mpx_post::{Birth, Draft, PostError};
 use std::alloc::Global;
 use std::sync::ledger::{Blank, Share};
@@ -55,7 +56,9 @@ impl<L: Dock> SharedPort<L> {
         poster: &mut Poster<L>,
         name: &Name,
         draft: Draft,
+        ops: &Ops,
     ) -> Result<Ticket, PostError>
+        requires list { ⟦<Ops as Listing>⟧.operations ops.now ≡ L.setup.operations }
         requires ledger { (L.all ≡ L.parts) × (0 < L.parts) }
         requires next { IsNext L.setup L.me (L.before + poster.old.share.amount) name.now draft }
         ensures ok { OnOk result (poster.new.share.amount ≡ poster.old.share.amount + 1) }
@@ -64,7 +67,7 @@ impl<L: Dock> SharedPort<L> {
     {
         self.moored
             .lock(rt)
-            .post(alloc, &mut poster.share, name, draft)
+            .post(alloc, &mut poster.share, name, draft, ops)
     }
 
     /// What the port answers a ticket.
@@ -121,11 +124,12 @@ impl<L: Dock> SharedPort<L> {
     }
 
     /// Pops a frame and takes in its part; then stores the results that can be had, and drops what every member has harvested.
-    pub fn pull<R: Wait>(&self, rt: &R, alloc: Global, bus: &Bus) -> Pull
+    pub fn pull<R: Wait>(&self, rt: &R, alloc: Global, bus: &Bus, ops: &Ops) -> Pull
+        requires list { ⟦<Ops as Listing>⟧.operations ops.now ≡ L.setup.operations }
         requires queue { table_of bus.now ≡ L.table }
         ensures { PullsThen L.table L.setup L.me L.opening result }
     {
-        self.moored.lock(rt).pull(rt, alloc, bus)
+        self.moored.lock(rt).pull(rt, alloc, bus, ops)
     }
 
     /// Pushes the next frame of what others may lack.
@@ -150,12 +154,14 @@ impl<L: Dock> SharedPort<L> {
         alloc: Global,
         bus: &Bus,
         turns: u32,
+        ops: &Ops,
     ) -> Result<(), OutOfMemory>
+        requires list { ⟦<Ops as Listing>⟧.operations ops.now ≡ L.setup.operations }
         requires queue { table_of bus.now ≡ L.table }
         ensures { TurnsThen L.table L.setup L.me L.opening turns result }
     {
         for _turn in 0..turns {
-            if let Pull::OutOfMemory(_) = self.pull(rt, alloc, bus) {
+            if let Pull::OutOfMemory(_) = self.pull(rt, alloc, bus, ops) {
                 return Err(OutOfMemory);
             }
             let _ = self.put(rt, alloc, bus)?;

@@ -9,6 +9,7 @@ use mpx_bus::Frame;
 use mpx_group::Proc;
 use mpx_name::Name;
 use mpx_node::{Finished, Node};
+use mpx_num::{Listing, Ops};
 use mpx_post::{At, Draft, Post, PostError};
 use std::alloc::Global;
 
@@ -49,12 +50,13 @@ pub(crate) fn ticket_for(
     me: Proc,
     name: &Name,
     draft: &Draft,
+    ops: &Ops,
 ) -> Result<Ticket, PostError>
     requires { me ≡ (node_of node.now).me }
-    ensures ok { IfOk result (λ ticket. IsNextTicket (node_of node.now) name.now draft.now ticket) }
-    ensures err { IfErr result (λ refusal. Posts name.now (checked_on (node_of node.now) name.now draft.now) (Err refusal) (node_of node.now) (node_of node.now)) }
+    ensures ok { IfOk result (λ ticket. IsNextTicket (⟦<Ops as Listing>⟧.operations ops.now) (node_of node.now) name.now draft.now ticket) }
+    ensures err { IfErr result (λ refusal. Posts name.now (checked_on (⟦<Ops as Listing>⟧.operations ops.now) (node_of node.now) name.now draft.now) (Err refusal) (node_of node.now) (node_of node.now)) }
 {
-    if let Some(refusal) = node.refusal(name, draft) {
+    if let Some(refusal) = node.refusal(name, draft, ops) {
         return Err(refusal);
     }
     let Some(birth) = node.board().birth(name) else {
@@ -64,7 +66,7 @@ pub(crate) fn ticket_for(
     let Ok(draft) = draft.copy() else {
         return Err(PostError::OutOfMemory);
     };
-    let post = draft.check(alloc, birth, me, &At::on(name, call, false))?;
+    let post = draft.check(alloc, birth, me, &At::on(name, call, false), ops)?;
     match name.copy(alloc) {
         Ok(name) => Ok(Ticket { name, call, post }),
         Err(_) => Err(PostError::OutOfMemory),

@@ -3,6 +3,7 @@ use Rattle.std.proofs.Common.{◌≡◌, ℕ, Bool, true, false, List, [], ◌�
 use Rattle.std.specs.Prelude.{◌&&◌, is_some, slice_get, Ok, Err}
 use Rattle.std.specs.Option.{option_map}
 use Rattle.std.proofs.lemmas.Option.{same_Some}
+use Rattle.mpx_num.specs.declared.own.Operation.{Operation}
 use Rattle.mpx_name.specs.Name.{Name}
 use Rattle.mpx_comm.specs.declared.comm.Comm.{Comm}
 use Rattle.mpx_node.specs.declared.finished.Finished.{Finished}
@@ -65,61 +66,61 @@ module _ (node : NodeView) where
 -- MOVES
 
 -- a move of the rank is one of its process
-pub move_is : (r : RankView Comm) (c : RunDesk) (s : RankView Comm) (d : RunDesk) → Move desk_terms r c s d → Y.Moves (process_with r (node_of c.desk.host)) (process_with s (node_of d.desk.host))
-move_is r c s d (hears w outcome text to waits heard tells said gives) =
+pub move_is : (ops : List Operation) (r : RankView Comm) (c : RunDesk) (s : RankView Comm) (d : RunDesk) → Move (desk_terms ops) r c s d → Y.Moves ops (process_with r (node_of c.desk.host)) (process_with s (node_of d.desk.host))
+move_is ops r c s d (hears w outcome text to waits heard tells said gives) =
     let old = process_with r (node_of c.desk.host) in
     let node = node_of d.desk.host in
     let mid = process_with r node in
     let f = gives.0 in
     let same : outcome ≡ f.outcome = same_Some outcome f.outcome (sym tells ∙ ap (option_map (λ (f : Finished). f.outcome)) gives.1) in
     let bound : (word : List ℕ) → binds w.target (Y.given_name f.outcome) (names_of r.bound) word ≡ names_of s.bound word = λ word. ap (λ n. binds w.target n (names_of r.bound) word) (sym gives.2) ∙ sym (binds_seen name_in w.target to r.bound word) in
-    moves_then old mid (process_with s node) (moves_keeps old mid (keeps_harvested old.node node heard.0 old refl))
-    (subst (Y.Moves mid) (λ i. record { me = r.me; node = node; bound = λ word. bound word i; requests = r.requests; todo = r.todo; waits = None; lines = r.lines ++ text ∷ [] })
-    (moves_hears mid w f text waits gives.1 (said ∙ ap outcome_text same)))
-move_is r c s d (posts posting rest name call waits todo none tries) =
+    moves_then ops old mid (process_with s node) (moves_keeps ops old mid (keeps_harvested ops old.node node heard.0 old refl))
+    (subst (Y.Moves ops mid) (λ i. record { me = r.me; node = node; bound = λ word. bound word i; requests = r.requests; todo = r.todo; waits = None; lines = r.lines ++ text ∷ [] })
+    (moves_hears ops mid w f text waits gives.1 (said ∙ ap outcome_text same)))
+move_is ops r c s d (posts posting rest name call waits todo none tries) =
     let old = process_with r (node_of c.desk.host) in
-    let tried : Y.Tries (Y.tried posting (old.bound (posted_on posting)) old.node) (Ok (name, call)) (node_of d.desk.host) = subst (λ o. Y.Tries (Y.tried_on posting o old.node) (Ok (name, call)) (node_of d.desk.host)) (named_in (r.bound (posted_on posting))) tries in
-    subst (λ n. Y.Moves old (process_with s n)) (sym tried.1) (moves_posts old posting rest name call waits todo none tried.0)
-move_is r c s d (starts posting rest word name call waits todo open_as tries) =
+    let tried : Y.Tries (Y.tried ops posting (old.bound (posted_on posting)) old.node) (Ok (name, call)) (node_of d.desk.host) = subst (λ o. Y.Tries (Y.tried_on ops posting o old.node) (Ok (name, call)) (node_of d.desk.host)) (named_in (r.bound (posted_on posting))) tries in
+    subst (λ n. Y.Moves ops old (process_with s n)) (sym tried.1) (moves_posts ops old posting rest name call waits todo none tried.0)
+move_is ops r c s d (starts posting rest word name call waits todo open_as tries) =
     let old = process_with r (node_of c.desk.host) in
-    let tried : Y.Tries (Y.tried posting (old.bound (posted_on posting)) old.node) (Ok (name, call)) (node_of d.desk.host) = subst (λ o. Y.Tries (Y.tried_on posting o old.node) (Ok (name, call)) (node_of d.desk.host)) (named_in (r.bound (posted_on posting))) tries in
-    subst (λ n. Y.Moves old (process_with s n)) (sym tried.1) (moves_starts old posting rest word name call waits todo open_as tried.0)
-move_is r c s d (is_refused posting rest refusal text waits todo other tries said) =
+    let tried : Y.Tries (Y.tried ops posting (old.bound (posted_on posting)) old.node) (Ok (name, call)) (node_of d.desk.host) = subst (λ o. Y.Tries (Y.tried_on ops posting o old.node) (Ok (name, call)) (node_of d.desk.host)) (named_in (r.bound (posted_on posting))) tries in
+    subst (λ n. Y.Moves ops old (process_with s n)) (sym tried.1) (moves_starts ops old posting rest word name call waits todo open_as tried.0)
+move_is ops r c s d (is_refused posting rest refusal text waits todo other tries said) =
     let old = process_with r (node_of c.desk.host) in
-    let tried = (subst (λ o. Y.Tries (Y.tried_on posting o old.node) (Err refusal) (node_of d.desk.host)) (named_in (r.bound (posted_on posting))) tries) other in
-    subst (Y.Moves old) (λ i. record { me = r.me; node = sym tried.1 i; bound = λ word. sym (binds_seen name_in (bound_to posting) None r.bound word) i; requests = r.requests; todo = rest; waits = None; lines = r.lines ++ text ∷ [] })
-    (moves_refused old posting rest refusal text waits todo tried.0 said)
-move_is r c s d (passes {mid = between} words rest waits todo before done after) =
+    let tried = (subst (λ o. Y.Tries (Y.tried_on ops posting o old.node) (Err refusal) (node_of d.desk.host)) (named_in (r.bound (posted_on posting))) tries) other in
+    subst (Y.Moves ops old) (λ i. record { me = r.me; node = sym tried.1 i; bound = λ word. sym (binds_seen name_in (bound_to posting) None r.bound word) i; requests = r.requests; todo = rest; waits = None; lines = r.lines ++ text ∷ [] })
+    (moves_refused ops old posting rest refusal text waits todo tried.0 said)
+move_is ops r c s d (passes {mid = between} words rest waits todo before done after) =
     let old = process_with r (node_of c.desk.host) in
     let node = node_of between.desk.host in
     let mid = process_with r node in
     let last = process_with s node in
-    let kept = moves_keeps old mid (keeps_harvested old.node node before.0 old refl) in
-    let more = moves_keeps last (process_with s (node_of d.desk.host)) (keeps_harvested node (node_of d.desk.host) after.0 last refl) in
-    moves_then old mid (process_with s (node_of d.desk.host)) kept
-    (moves_then mid last (process_with s (node_of d.desk.host))
-    (subst (Y.Moves mid) (λ i. record { me = r.me; node = node; bound = names_of r.bound; requests = s.requests; todo = rest; waits = None; lines = r.lines ++ sym (lines_are node r.requests words done) i })
-    (moves_passes mid words rest waits todo (sym (are_held_is node r.requests words) ∙ done))) more)
-move_is r c s d (asks question rest text waits todo said) =
+    let kept = moves_keeps ops old mid (keeps_harvested ops old.node node before.0 old refl) in
+    let more = moves_keeps ops last (process_with s (node_of d.desk.host)) (keeps_harvested ops node (node_of d.desk.host) after.0 last refl) in
+    moves_then ops old mid (process_with s (node_of d.desk.host)) kept
+    (moves_then ops mid last (process_with s (node_of d.desk.host))
+    (subst (Y.Moves ops mid) (λ i. record { me = r.me; node = node; bound = names_of r.bound; requests = s.requests; todo = rest; waits = None; lines = r.lines ++ sym (lines_are node r.requests words done) i })
+    (moves_passes ops mid words rest waits todo (sym (are_held_is node r.requests words) ∙ done))) more)
+move_is ops r c s d (asks question rest text waits todo said) =
     let old = process_with r (node_of c.desk.host) in
-    moves_asks old question rest text waits todo (said ∙ ap line_text (λ i. answered_by r.me (λ word. found_so old.node (r.bound word) i) question))
+    moves_asks ops old question rest text waits todo (said ∙ ap line_text (λ i. answered_by r.me (λ word. found_so old.node (r.bound word) i) question))
 
 -- without a move it harvests at most
-pub still_is : (r : RankView Comm) (c d : RunDesk) → Still desk_terms r c d → Y.Moves (process_with r (node_of c.desk.host)) (process_with r (node_of d.desk.host))
-still_is r c d (has_ended waits todo) = moves_itself (process_with r (node_of c.desk.host))
-still_is r c d (waits_on w waits heard none) = let old = process_with r (node_of c.desk.host) in moves_keeps old (process_with r (node_of d.desk.host)) (keeps_harvested old.node (node_of d.desk.host) heard.0 old refl)
-still_is r c d (posts_not posting rest waits todo tried) = absurd tried
-still_is r c d (passes_not {mid = between} words rest waits todo before undone after) =
+pub still_is : (ops : List Operation) (r : RankView Comm) (c d : RunDesk) → Still (desk_terms ops) r c d → Y.Moves ops (process_with r (node_of c.desk.host)) (process_with r (node_of d.desk.host))
+still_is ops r c d (has_ended waits todo) = moves_itself ops (process_with r (node_of c.desk.host))
+still_is ops r c d (waits_on w waits heard none) = let old = process_with r (node_of c.desk.host) in moves_keeps ops old (process_with r (node_of d.desk.host)) (keeps_harvested ops old.node (node_of d.desk.host) heard.0 old refl)
+still_is ops r c d (posts_not posting rest waits todo tried) = absurd tried
+still_is ops r c d (passes_not {mid = between} words rest waits todo before undone after) =
     let old = process_with r (node_of c.desk.host) in
     let mid = process_with r (node_of between.desk.host) in
     let new = process_with r (node_of d.desk.host) in
-    moves_then old mid new (moves_keeps old mid (keeps_harvested old.node mid.node before.0 old refl)) (moves_keeps mid new (keeps_harvested mid.node new.node after.0 mid refl))
+    moves_then ops old mid new (moves_keeps ops old mid (keeps_harvested ops old.node mid.node before.0 old refl)) (moves_keeps ops mid new (keeps_harvested ops mid.node new.node after.0 mid refl))
 
-ran_is : (r : RankView Comm) (c : RunDesk) (s : RankView Comm) (d : RunDesk) (moved : Bool) → Ran desk_terms r c s d moved → Y.Moves (process_with r (node_of c.desk.host)) (process_with s (node_of d.desk.host))
-ran_is r c s d moved stayed = moves_itself (process_with r (node_of c.desk.host))
-ran_is r c s d moved (moved_on {s = mid} {d = before} {moved = earlier} ran move) =
-    moves_then (process_with r (node_of c.desk.host)) (process_with mid (node_of before.desk.host)) (process_with s (node_of d.desk.host)) (ran_is r c mid before earlier ran) (move_is mid before s d move)
+ran_is : (ops : List Operation) (r : RankView Comm) (c : RunDesk) (s : RankView Comm) (d : RunDesk) (moved : Bool) → Ran (desk_terms ops) r c s d moved → Y.Moves ops (process_with r (node_of c.desk.host)) (process_with s (node_of d.desk.host))
+ran_is ops r c s d moved stayed = moves_itself ops (process_with r (node_of c.desk.host))
+ran_is ops r c s d moved (moved_on {s = mid} {d = before} {moved = earlier} ran move) =
+    moves_then ops (process_with r (node_of c.desk.host)) (process_with mid (node_of before.desk.host)) (process_with s (node_of d.desk.host)) (ran_is ops r c mid before earlier ran) (move_is ops mid before s d move)
 
-pub goes_is : (r : RankView Comm) (c : RunDesk) (s : RankView Comm) (d : RunDesk) (moved : Bool) → GoesOn desk_terms r c s d moved → Y.Moves (process_with r (node_of c.desk.host)) (process_with s (node_of d.desk.host))
-goes_is r c s d moved goes =
-    moves_then (process_with r (node_of c.desk.host)) (process_with s (node_of goes.0.desk.host)) (process_with s (node_of d.desk.host)) (ran_is r c s goes.0 moved goes.1) (still_is s goes.0 d goes.2)
+pub goes_is : (ops : List Operation) (r : RankView Comm) (c : RunDesk) (s : RankView Comm) (d : RunDesk) (moved : Bool) → GoesOn (desk_terms ops) r c s d moved → Y.Moves ops (process_with r (node_of c.desk.host)) (process_with s (node_of d.desk.host))
+goes_is ops r c s d moved goes =
+    moves_then ops (process_with r (node_of c.desk.host)) (process_with s (node_of goes.0.desk.host)) (process_with s (node_of d.desk.host)) (ran_is ops r c s goes.0 moved goes.1) (still_is ops s goes.0 d goes.2)

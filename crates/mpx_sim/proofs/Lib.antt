@@ -3,3 +3,4 @@ pub mod Harvests
 pub mod Carried
 pub mod Sending
 pub mod Ends
+pub mod Spelled

@@ -1,18 +1,15 @@
 -- Frames, and the board whose bytes they are.
-use Rattle.std.proofs.Common.{◌≡◌, ◌≤◌, ◌<◌, ◌+◌, ℕ, zero, suc, true, false, cond, List, [], ◌∷◌, ◌++◌, length, map, take, set, get_or, Option, Some, Result, Err, refl, sym, ap, ◌∙◌, subst, arith}
-use Rattle.std.specs.Prelude.{All, IfSome, IsTrue, is_ok, slice_get}
-use Rattle.std.proofs.lemmas.List.{map-append, take_more}
+use Rattle.std.proofs.Common.{◌≡◌, ◌<◌, ℕ, zero, suc, true, false, List, [], ◌∷◌, ◌++◌, length, map, set, Some, Result, Err, refl, sym, ap, ◌∙◌, subst, arith}
+use Rattle.std.specs.Prelude.{All, IsTrue, is_ok, slice_get}
+use Rattle.std.proofs.lemmas.List.{map-append}
 use Rattle.std.proofs.lemmas.List.Elements.{All-nil, All-cons, All-head, All-tail, All-map}
-use Rattle.mpx_board.specs.declared.board.Board.{Board}
+use Rattle.mpx_num.specs.declared.own.Operation.{Operation}
 use Rattle.mpx_board.specs.Boards.{Look}
 use Rattle.mpx_board.specs.Contexts.{look_of}
-use Rattle.mpx_board.specs.Looks.{look}
 use Rattle.mpx_board.specs.Parts.{PartsView}
 use Rattle.mpx_format.specs.declared.faults.WireError.{WireError}
-use Rattle.mpx_format.specs.declared.faults.WireError.TheVariants as E
 use Rattle.mpx_format.specs.declared.versions.Version.{Version}
-use Rattle.mpx_format.specs.Decoding.{Spells, Refuses, most_bytes, decoded}
-use Rattle.mpx_format.specs.Encoding.{is_too_long, length_told}
+use Rattle.mpx_format.specs.Decoding.{Spells, decoded}
 use Rattle.mpx_format.proofs.Decoded.{decoded_again}
 use Rattle.mpx_parts.specs.Facts.{OnlyFactsOf}
 use Rattle.mpx_statement.specs.declared.statement.Statement.{Statement}
@@ -50,7 +47,11 @@ set_at (y ∷ ys) (suc p) x l = set_at ys p x (omega (arith, l))
 
 -- A FRAME GOES OUT
 
-pub goes_out : (script : List (List Statement)) (ranks size : ℕ) (processes : List RankView) (p : ℕ) (r : RankView) (frames : List Frame) (new : Frame) → slice_get processes p ≡ Some r → OnlyFactsOf (part_of new) r.node.board
-    → IsUnderWay script ranks size processes (map part_of frames) → IsUnderWay script ranks size processes (map part_of (frames ++ new ∷ []))
-goes_out script ranks size processes p r frames new at only run =
-    subst (λ (bs : List Look). IsUnderWay script ranks size processes bs) (sym (map-append part_of frames (new ∷ []))) (run_sends script ranks size processes (map part_of frames) p r (part_of new) at only run)
+pub goes_out : (ops : List Operation) (script : List (List Statement)) (ranks size : ℕ) (processes : List RankView) (p : ℕ) (r : RankView) (frames : List Frame) (new : Frame) → slice_get processes p ≡ Some r → OnlyFactsOf (part_of new) r.node.board
+    → IsUnderWay ops script ranks size processes (map part_of frames) → IsUnderWay ops script ranks size processes (map part_of (frames ++ new ∷ []))
+goes_out ops script ranks size processes p r frames new at only run =
+    subst (λ (bs : List Look). IsUnderWay ops script ranks size processes bs) (sym (map-append part_of frames (new ∷ []))) (run_sends ops script ranks size processes (map part_of frames) p r (part_of new) at only run)
+
+-- the same processes and frames
+pub run_same : (ops : List Operation) (script : List (List Statement)) (ranks size : ℕ) (ps qs : List RankView) (bs cs : List Look) → ps ≡ qs → bs ≡ cs → IsUnderWay ops script ranks size ps bs → IsUnderWay ops script ranks size qs cs
+run_same ops script ranks size ps qs bs cs p f run = subst (λ xs. IsUnderWay ops script ranks size xs cs) p (subst (λ xs. IsUnderWay ops script ranks size ps xs) f run)

@@ -1,6 +1,7 @@
 //! The desk of a run's process: it carries the posts of the process's rank, and looks at contexts.
-ghost use Rattle.std.specs.Prelude.{◌≡◌, ◌<◌, ◌≤◌, IfOk, OnOk};
+ghost use Rattle.std.specs.Prelude.{◌≡◌, ◌<◌, ◌≤◌, IfOk, List, OnOk};
 ghost use Rattle.std.specs.Option.{option_copied};
+ghost use Rattle.mpx_num.specs.declared.own.Operation.{Operation};
 ghost use Rattle.mpx_node.specs.Nodes.{checked_on, start_node};
 ghost use Rattle.mpx_node.specs.Shown.{node_of};
 ghost use Rattle.mpx_statement.specs.Statements.{draft_of};
@@ -13,7 +14,7 @@ use mpx_evaluation::line;
 use mpx_group::Proc;
 use mpx_name::Name;
 use mpx_node::{Harvest, Node};
-use mpx_num::Numbers;
+use mpx_num::{Listing, Numbers, Ops};
 use mpx_post::{Birth, PostError};
 use mpx_rank::{Carrier, Heard};
 use mpx_statement::Posting;
@@ -63,16 +64,16 @@ impl RunDesk {
     }
 
     /// Stores the results of each context that it looks at, until no further one can be had.
-    pub(crate) fn harvest(&mut self, alloc: Global) -> Result<(), OutOfMemory>
-        ensures { OnOk result (KeepsNode (node_of self.old.desk.host) (node_of self.new.desk.host)) }
+    pub(crate) fn harvest(&mut self, alloc: Global, ops: &Ops) -> Result<(), OutOfMemory>
+        ensures { OnOk result (KeepsNode (⟦<Ops as Listing>⟧.operations ops.now) (node_of self.old.desk.host) (node_of self.new.desk.host)) }
     {
-        harvest_all(alloc, &mut self.desk, &self.contexts)
+        harvest_all(alloc, &mut self.desk, &self.contexts, ops)
     }
 
     /// Drops the posts that every member has harvested, of each context that it looks at, by what its board knows of that. It
     /// answers whether there were any. Contexts that are dead then are looked at no more.
     pub(crate) fn prune(&mut self) -> bool
-        ensures { KeepsNode (node_of self.old.desk.host) (node_of self.new.desk.host) }
+        ensures { (operations : List Operation) → KeepsNode operations (node_of self.old.desk.host) (node_of self.new.desk.host) }
     {
         let changed = prune_all(&mut self.desk, &self.contexts);
         let board = self.desk.host().board();
@@ -99,8 +100,9 @@ impl Carrier for RunDesk {
         _me: Proc,
         on: Option<&Comm>,
         posting: &Posting,
+        ops: &Ops,
     ) -> Result<Option<Request>, PostError> {
-        let request = attempt(alloc, &mut self.desk, on, posting)?;
+        let request = attempt(alloc, &mut self.desk, on, posting, ops)?;
         match look_at_gathering(alloc, &mut self.contexts, &request) {
             Ok(()) => Ok(Some(request)),
             Err(_) => {
@@ -110,8 +112,14 @@ impl Carrier for RunDesk {
         }
     }
 
-    fn is_told(&mut self, alloc: Global, _me: Proc, call: &Request) -> Result<bool, OutOfMemory> {
-        self.desk.status(alloc, call)
+    fn is_told(
+        &mut self,
+        alloc: Global,
+        _me: Proc,
+        call: &Request,
+        ops: &Ops,
+    ) -> Result<bool, OutOfMemory> {
+        self.desk.status(alloc, call, ops)
     }
 
     fn hear(
@@ -119,8 +127,9 @@ impl Carrier for RunDesk {
         alloc: Global,
         _me: Proc,
         call: Request,
+        ops: &Ops,
     ) -> Result<Heard<Request, Comm>, OutOfMemory> {
-        match self.desk.test(alloc, call) {
+        match self.desk.test(alloc, call, ops) {
             Err(_) => Err(OutOfMemory),
             Ok(Tested::NotYet(request)) => Ok(Heard::NotYet(request)),
             Ok(Tested::Done(finished)) => {
@@ -133,12 +142,12 @@ impl Carrier for RunDesk {
         }
     }
 
-    fn known<'m>(&'m self, communicator: &'m Comm) -> Option<(&'m Name, &'m Birth)> {
+    fn known<'m>(&'m self, communicator: &'m Comm, _ops: &Ops) -> Option<(&'m Name, &'m Birth)> {
         let birth = self.desk.host().board().birth(communicator.name())?;
         Some((communicator.name(), birth))
     }
 
-    fn is_closed(&mut self, _me: Proc, communicator: &Comm) -> bool {
+    fn is_closed(&mut self, _me: Proc, communicator: &Comm, _ops: &Ops) -> bool {
         self.desk.host().has_freed(communicator.name())
     }
 
@@ -179,17 +188,20 @@ fn attempt(
     desk: &mut Desk<Node>,
     on: Option<&Comm>,
     posting: &Posting,
+    ops: &Ops,
 ) -> Result<Request, PostError>
-    ensures { Tries (tried_on posting.now (name_in (option_copied on.entry)) (node_of desk.old.host)) (call_in result) (node_of desk.new.host) }
+    ensures { Tries (tried_on (⟦<Ops as Listing>⟧.operations ops.now) posting.now (name_in (option_copied on.entry)) (node_of desk.old.host)) (call_in result) (node_of desk.new.host) }
 {
     let Some(on) = on else {
         return Err(PostError::NotMember);
     };
     match posting {
-        Posting::CreateGroup { tag, ranks, .. } => start_create_group(alloc, desk, on, tag, ranks),
-        Posting::Call { .. } => post_on(alloc, desk, on, posting),
-        Posting::Start { .. } => post_on(alloc, desk, on, posting),
-        Posting::New { .. } => post_on(alloc, desk, on, posting),
+        Posting::CreateGroup { tag, ranks, .. } => {
+            start_create_group(alloc, desk, on, tag, ranks, ops)
+        }
+        Posting::Call { .. } => post_on(alloc, desk, on, posting, ops),
+        Posting::Start { .. } => post_on(alloc, desk, on, posting, ops),
+        Posting::New { .. } => post_on(alloc, desk, on, posting, ops),
     }
 }
 
@@ -199,10 +211,11 @@ fn start_create_group(
     parent: &Comm,
     tag: &i128,
     ranks: &Numbers,
+    ops: &Ops,
 ) -> Result<Request, PostError>
-    ensures { Tries (tried_group parent.now.name tag.now ranks.now (node_of desk.old.host)) (call_in result) (node_of desk.new.host) }
+    ensures { Tries (tried_group (⟦<Ops as Listing>⟧.operations ops.now) parent.now.name tag.now ranks.now (node_of desk.old.host)) (call_in result) (node_of desk.new.host) }
 {
-    desk.start_create_group(alloc, parent, *tag, ranks.as_slice())
+    desk.start_create_group(alloc, parent, *tag, ranks.as_slice(), ops)
 }
 
 fn post_on(
@@ -210,13 +223,14 @@ fn post_on(
     desk: &mut Desk<Node>,
     on: &Comm,
     posting: &Posting,
+    ops: &Ops,
 ) -> Result<Request, PostError>
-    ensures { Tries (tried_post on.now.name (checked_on (node_of desk.old.host) on.now.name (draft_of posting.now)) (node_of desk.old.host)) (call_in result) (node_of desk.new.host) }
+    ensures { Tries (tried_post on.now.name (checked_on (⟦<Ops as Listing>⟧.operations ops.now) (node_of desk.old.host) on.now.name (draft_of posting.now)) (node_of desk.old.host)) (call_in result) (node_of desk.new.host) }
 {
     let Ok(draft) = posting.draft(alloc) else {
         return Err(PostError::OutOfMemory);
     };
-    desk.post(alloc, on, draft)
+    desk.post(alloc, on, draft, ops)
 }
 
 // Every process looks at the world.
@@ -227,21 +241,31 @@ fn contexts_at_start(alloc: Global) -> Result<Vec<Name>, OutOfMemory> {
 }
 
 // Stores the results of each context, until no further one can be had.
-fn harvest_all(alloc: Global, desk: &mut Desk<Node>, contexts: &[Name]) -> Result<(), OutOfMemory>
-    ensures { OnOk result (KeepsNode (node_of desk.old.host) (node_of desk.new.host)) }
+fn harvest_all(
+    alloc: Global,
+    desk: &mut Desk<Node>,
+    contexts: &[Name],
+    ops: &Ops,
+) -> Result<(), OutOfMemory>
+    ensures { OnOk result (KeepsNode (⟦<Ops as Listing>⟧.operations ops.now) (node_of desk.old.host) (node_of desk.new.host)) }
 {
     for name in contexts {
-        harvest_on(alloc, desk, name)?;
+        harvest_on(alloc, desk, name, ops)?;
     }
     Ok(())
 }
 
 // The same of one context: each of its posted calls is harvested at most once.
-fn harvest_on(alloc: Global, desk: &mut Desk<Node>, name: &Name) -> Result<(), OutOfMemory>
-    ensures { OnOk result (KeepsNode (node_of desk.old.host) (node_of desk.new.host)) }
+fn harvest_on(
+    alloc: Global,
+    desk: &mut Desk<Node>,
+    name: &Name,
+    ops: &Ops,
+) -> Result<(), OutOfMemory>
+    ensures { OnOk result (KeepsNode (⟦<Ops as Listing>⟧.operations ops.now) (node_of desk.old.host) (node_of desk.new.host)) }
 {
     for _call in desk.host().front(name)..desk.host().posted(name) {
-        match desk.harvest(alloc, name)? {
+        match desk.harvest(alloc, name, ops)? {
             Harvest::Done(_) => {}
             _ => return Ok(()),
         }
@@ -251,7 +275,7 @@ fn harvest_on(alloc: Global, desk: &mut Desk<Node>, name: &Name) -> Result<(), O
 
 // Drops on each context what all members have harvested. It answers whether there was anything.
 fn prune_all(desk: &mut Desk<Node>, contexts: &[Name]) -> bool
-    ensures { KeepsNode (node_of desk.old.host) (node_of desk.new.host) }
+    ensures { (operations : List Operation) → KeepsNode operations (node_of desk.old.host) (node_of desk.new.host) }
 {
     let mut changed = false;
     for name in contexts {
@@ -274,7 +298,7 @@ fn has_dropped(node: &Node, name: &Name, dropped: u32, floor: u32) -> bool {
 // Drops what every member has harvested, where that is more than is dropped. Where it is past a free, the context is dead then, whatever
 // others had dropped before.
 fn prune_on(desk: &mut Desk<Node>, name: &Name) -> bool
-    ensures { KeepsNode (node_of desk.old.host) (node_of desk.new.host) }
+    ensures { (operations : List Operation) → KeepsNode operations (node_of desk.old.host) (node_of desk.new.host) }
 {
     let dropped = desk.host().board().dropped(name);
     if has_none_to_drop(desk.host(), name, dropped) {

@@ -1,22 +1,21 @@
 //! A process of a run: a rank, which goes on with its statements, or a relay, which has none.
-ghost use Rattle.std.specs.Prelude.{◌≡◌, ◌<◌, ◌≤◌, ℕ, All, List, IfOk, OnOk, None, [], map, string_bytes};
-ghost use Rattle.mpx_board.specs.Boards.{join_all};
-ghost use Rattle.mpx_board.specs.Looks.{parts_of};
-ghost use Rattle.mpx_format.specs.Encoding.{length_told};
-ghost use Rattle.mpx_parts.specs.Facts.{OnlyFactsOf};
-ghost use Rattle.mpx_node.specs.Deltas.{lacking_on};
+ghost use Rattle.std.specs.Prelude.{◌≡◌, ◌<◌, ◌≤◌, ℕ, List, IfOk, OnOk, None, [], map, string_bytes};
+ghost use Rattle.mpx_num.specs.declared.own.Operation.{Operation};
+ghost use Rattle.mpx_node.specs.Deltas.{AreLacked};
 ghost use Rattle.mpx_node.specs.Shown.{node_of};
 ghost use Rattle.mpx_evaluation.specs.Evaluation.{bound_at_start};
 ghost use Rattle.mpx_system.specs.Running.{names_in};
-ghost use Rattle.mpx_sim.specs.Shown.{IsWorld};
+ghost use Rattle.mpx_sim.specs.Shown.{IsWorld, part_of};
 
 use crate::desk::RunDesk;
+use crate::frame::Frame;
 use crate::frames::MOST_BYTES;
 use join_core::OutOfMemory;
 use mpx_board::Board;
 use mpx_comm::Comm;
 use mpx_group::Proc;
 use mpx_node::Node;
+use mpx_num::{Listing, Ops};
 use mpx_rank::Rank;
 use mpx_statement::Statement;
 use std::alloc::Global;
@@ -74,36 +73,34 @@ impl<'a> Process<'a> {
 
     /// Goes on with the script until an outcome is missing. It first stores the results of each context that it looks at, until
     /// no further one can be had. It answers whether there was a move.
-    pub(crate) fn go_on(&mut self, alloc: Global) -> Result<bool, OutOfMemory>
-        ensures { OnOk result (Moves (process_of self.old) (process_of self.new)) }
+    pub(crate) fn go_on(&mut self, alloc: Global, ops: &Ops) -> Result<bool, OutOfMemory>
+        ensures { OnOk result (Moves (⟦<Ops as Listing>⟧.operations ops.now) (process_of self.old) (process_of self.new)) }
     {
-        self.desk.harvest(alloc)?;
-        self.rank.go_on(alloc, &mut self.desk)
+        self.desk.harvest(alloc, ops)?;
+        self.rank.go_on(alloc, &mut self.desk, ops)
     }
 
     /// Drops the posts that every member has harvested, of each context that it looks at, by what its board knows of that. It
     /// answers whether there were any.
     pub(crate) fn prune(&mut self) -> bool
-        ensures { Keeps (process_of self.old) (process_of self.new) }
+        ensures { (operations : List Operation) → Keeps operations (process_of self.old) (process_of self.new) }
     {
         self.desk.prune()
     }
 
-    /// Says what the process has, and gives what others may lack of its board, in parts.
-    pub(crate) fn deltas(&mut self, alloc: Global) -> Result<Vec<Board>, OutOfMemory>
-        ensures keeps { OnOk result (Keeps (process_of self.old) (process_of self.new)) }
-        ensures facts { IfOk result (λ made. All (λ part. OnlyFactsOf (look part) (process_of self.new).node.board) made.items) }
-        ensures fit { IfOk result (λ made. All (λ part. length_told (parts_of part) ≤ 1048576) made.items) }
-        ensures join { IfOk result (λ made. join_all (map look made.items) ≡ lacking_on (process_of self.new).node) }
+    /// Says what the process has, and gives the frames of what others may lack of its board.
+    pub(crate) fn deltas(&mut self, alloc: Global) -> Result<Vec<Vec<u8>>, OutOfMemory>
+        ensures keeps { OnOk result ((operations : List Operation) → Keeps operations (process_of self.old) (process_of self.new)) }
+        ensures frames { IfOk result (λ made. AreLacked 1048576 (process_of self.new).node (map (λ frame. frame.items) made.items)) }
     {
-        self.desk.desk.deltas(alloc, MOST_BYTES)
+        self.desk.desk.framed_deltas(alloc, MOST_BYTES)
     }
 
-    /// Takes a frame.
-    pub(crate) fn receive(&mut self, alloc: Global, part: &Board) -> Result<(), OutOfMemory>
-        ensures { OnOk result (Receives (look part.now) (process_of self.old) (process_of self.new)) }
+    /// Takes a frame: what its bytes say is joined to the board as they are read.
+    pub(crate) fn receive(&mut self, alloc: Global, frame: &Frame) -> Result<(), OutOfMemory>
+        ensures { OnOk result ((operations : List Operation) → Receives operations (part_of frame.now) (process_of self.old) (process_of self.new)) }
     {
-        self.desk.desk.take(alloc, part)?;
+        self.desk.desk.take_frame(alloc, frame.bytes.as_slice())?;
         Ok(())
     }
 

@@ -16,6 +16,7 @@ use join_core::OutOfMemory;
 use mpx_evaluation::Report;
 use mpx_job::Options;
 use mpx_node::Node;
+use mpx_num::{Listing, Ops};
 use mpx_rank::push_where;
 use mpx_script::Script;
 use std::alloc::Global;
@@ -37,14 +38,21 @@ pub struct Run {
 /// members have harvested, and sends its whole board to one process; then the turn's frames come in a drawn order, but for
 /// those that are lost. One in four of those that come is taken again, one to four turns later. The run ends once all ranks
 /// have finished, once no turn can change anything any more, or with the last turn. Equal options give equal runs.
-pub fn run_sim(alloc: Global, script: &Script, options: &Options) -> Result<Run, OutOfMemory>
+///
+/// `ops` are the job's own operations: the script was read with the same.
+pub fn run_sim(
+    alloc: Global,
+    script: &Script,
+    options: &Options,
+    ops: &Ops,
+) -> Result<Run, OutOfMemory>
     requires { script.now.ranks + options.now.relays ≤ 64 }
-    ensures run { IfOk result (λ run. IsRun script.now options.now.relays (map node_of run.nodes.items) (transcripts_of run.report) run.report.waiting.items) }
-    ensures begins { IfOk result (λ run. (evaluation : State) → IsEvaluationOf script.now evaluation → Begin (transcripts_of run.report) evaluation) }
-    ensures whole { IfOk result (λ run. (evaluation : State) → IsEvaluationOf script.now evaluation → AreWhole (transcripts_of run.report) run.report.waiting.items evaluation) }
+    ensures run { IfOk result (λ run. IsRun (⟦<Ops as Listing>⟧.operations ops.now) script.now options.now.relays (map node_of run.nodes.items) (transcripts_of run.report) run.report.waiting.items) }
+    ensures begins { IfOk result (λ run. (evaluation : State) → IsEvaluationOf (⟦<Ops as Listing>⟧.operations ops.now) script.now evaluation → Begin (transcripts_of run.report) evaluation) }
+    ensures whole { IfOk result (λ run. (evaluation : State) → IsEvaluationOf (⟦<Ops as Listing>⟧.operations ops.now) script.now evaluation → AreWhole (transcripts_of run.report) run.report.waiting.items evaluation) }
     ensures ended { IfOk result (λ run. AllMadeOr run.turns options.now.turns (IsOver options.now.loss (map node_of run.nodes.items) run.report.waiting.items)) }
 {
-    run_sim_observed(alloc, script, options, &mut Unobserved)
+    run_sim_observed(alloc, script, options, &mut Unobserved, ops)
 }
 
 /// The same run, at which somebody looks on: `observer` is told of each turn but the one that ends the run before its last.
@@ -53,14 +61,15 @@ pub fn run_sim_observed(
     script: &Script,
     options: &Options,
     observer: &mut dyn Observer,
+    ops: &Ops,
 ) -> Result<Run, OutOfMemory>
     requires { script.now.ranks + options.now.relays ≤ 64 }
-    ensures run { IfOk result (λ run. IsRun script.now options.now.relays (map node_of run.nodes.items) (transcripts_of run.report) run.report.waiting.items) }
-    ensures begins { IfOk result (λ run. (evaluation : State) → IsEvaluationOf script.now evaluation → Begin (transcripts_of run.report) evaluation) }
-    ensures whole { IfOk result (λ run. (evaluation : State) → IsEvaluationOf script.now evaluation → AreWhole (transcripts_of run.report) run.report.waiting.items evaluation) }
+    ensures run { IfOk result (λ run. IsRun (⟦<Ops as Listing>⟧.operations ops.now) script.now options.now.relays (map node_of run.nodes.items) (transcripts_of run.report) run.report.waiting.items) }
+    ensures begins { IfOk result (λ run. (evaluation : State) → IsEvaluationOf (⟦<Ops as Listing>⟧.operations ops.now) script.now evaluation → Begin (transcripts_of run.report) evaluation) }
+    ensures whole { IfOk result (λ run. (evaluation : State) → IsEvaluationOf (⟦<Ops as Listing>⟧.operations ops.now) script.now evaluation → AreWhole (transcripts_of run.report) run.report.waiting.items evaluation) }
     ensures ended { IfOk result (λ run. AllMadeOr run.turns options.now.turns (IsOver options.now.loss (map node_of run.nodes.items) run.report.waiting.items)) }
 {
-    let ran = simulate(alloc, script, options, observer);
+    let ran = simulate(alloc, script, options, observer, ops);
     observer.over();
     let (processes, turns) = ran?;
     let ranks = script.ranks();

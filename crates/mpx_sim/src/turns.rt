@@ -1,5 +1,6 @@
 // The turns of a run, and when it ends.
 ghost use Rattle.std.specs.Prelude.{◌≡◌, ◌<◌, ◌≤◌, ◌+◌, ◌++◌, ◌∷◌, [], ◌⊎◌, All, IfOk, OnOk, false, length, map, slice_get, true, List, Some, ℕ};
+ghost use Rattle.mpx_num.specs.declared.own.Operation.{Operation};
 ghost use Rattle.mpx_board.specs.Boards.{Look, join_all};
 ghost use Rattle.mpx_parts.specs.Facts.{OnlyFactsOf};
 ghost use Rattle.mpx_evaluation.specs.Evaluation.{Script as Statements};
@@ -9,13 +10,14 @@ ghost use Rattle.mpx_node.specs.Deltas.{lacking_on};
 ghost use Rattle.mpx_system.specs.Running.{AllReceive, AreOfRun, IsUnderWay, Keeps, RankView, Starts, StartsAt};
 
 use crate::frame::Frame;
-use crate::frames::{frames_of, opened};
+use crate::frames::frames_with;
 use crate::observer::Observer;
 use crate::process::Process;
 use crate::schedule::Schedule;
 use crate::sender::{Sender, senders};
 use join_core::{Exact, OutOfMemory};
 use mpx_job::Options;
+use mpx_num::{Listing, Ops};
 use mpx_script::Script;
 use std::alloc::Global;
 
@@ -26,9 +28,10 @@ pub(crate) fn simulate<'a>(
     script: &'a Script,
     options: &Options,
     observer: &mut dyn Observer,
+    ops: &Ops,
 ) -> Result<(Vec<Process<'a>>, u32), OutOfMemory>
     requires { script.now.ranks + options.now.relays ≤ 64 }
-    ensures run { IfOk result (λ ran. AreOfRun script.now options.now.relays (map process_of ran.0.items)) }
+    ensures run { IfOk result (λ ran. AreOfRun (⟦<Ops as Listing>⟧.operations ops.now) script.now options.now.relays (map process_of ran.0.items)) }
     ensures ended { IfOk result (λ ran. AllMadeOr ran.1 options.now.turns (RestsBy options.now.loss script.now.ranks (map process_of ran.0.items))) }
 {
     let mut processes = start(alloc, script, options.relays)?;
@@ -47,6 +50,7 @@ pub(crate) fn simulate<'a>(
             &mut schedule,
             loses_all,
             u64::from(number),
+            ops,
         )?;
         if !goes_on {
             return Ok((processes, made));
@@ -75,15 +79,16 @@ fn turn(
     schedule: &mut Schedule,
     loses_all: bool,
     number: u64,
+    ops: &Ops,
 ) -> Result<bool, OutOfMemory>
     requires few { count ≤ length processes.old }
     requires each { length processes.old ≤ length senders.old }
     requires number { number < 4294967296 }
-    ensures run { OnOk result ((script : Statements) (ranks size : ℕ) → count ≤ ranks → IsUnderWay script ranks size (map process_of processes.old) (map part_of frames.old.items)
-        → IsUnderWay script ranks size (map process_of processes.new) (map part_of frames.new.items)) }
+    ensures run { OnOk result ((script : Statements) (ranks size : ℕ) → count ≤ ranks → IsUnderWay (⟦<Ops as Listing>⟧.operations ops.now) script ranks size (map process_of processes.old) (map part_of frames.old.items)
+        → IsUnderWay (⟦<Ops as Listing>⟧.operations ops.now) script ranks size (map process_of processes.new) (map part_of frames.new.items)) }
     ensures rest { IfOk result (λ goes_on. goes_on ≡ false → IsAtRest loses_all count (map process_of processes.new)) }
 {
-    let moved = go_round(alloc, processes, count)?;
+    let moved = go_round(alloc, processes, count, ops)?;
     let pruned = prune_all(processes);
     if is_at_rest(processes, count, moved | pruned, loses_all) {
         return Ok(false);
@@ -96,14 +101,19 @@ fn turn(
 }
 
 // Every rank in order goes on until it must wait. It answers whether one moved.
-fn go_round(alloc: Global, processes: &mut [Process<'_>], count: usize) -> Result<bool, OutOfMemory>
+fn go_round(
+    alloc: Global,
+    processes: &mut [Process<'_>],
+    count: usize,
+    ops: &Ops,
+) -> Result<bool, OutOfMemory>
     requires { count ≤ length processes.old }
-    ensures { OnOk result ((script : Statements) (ranks size : ℕ) (frames : List Look) → count ≤ ranks → IsUnderWay script ranks size (map process_of processes.old) frames
-        → IsUnderWay script ranks size (map process_of processes.new) frames) }
+    ensures { OnOk result ((script : Statements) (ranks size : ℕ) (frames : List Look) → count ≤ ranks → IsUnderWay (⟦<Ops as Listing>⟧.operations ops.now) script ranks size (map process_of processes.old) frames
+        → IsUnderWay (⟦<Ops as Listing>⟧.operations ops.now) script ranks size (map process_of processes.new) frames) }
 {
     let mut changed = false;
     for p in 0..count {
-        let moved = processes[p].go_on(alloc)?;
+        let moved = processes[p].go_on(alloc, ops)?;
         changed |= moved;
     }
     Ok(changed)
@@ -111,8 +121,8 @@ fn go_round(alloc: Global, processes: &mut [Process<'_>], count: usize) -> Resul
 
 // Every process drops what it may. It answers whether one did.
 fn prune_all(processes: &mut [Process<'_>]) -> bool
-    ensures { (script : Statements) (ranks size : ℕ) (frames : List Look) → IsUnderWay script ranks size (map process_of processes.old) frames
-        → IsUnderWay script ranks size (map process_of processes.new) frames }
+    ensures { (operations : List Operation) (script : Statements) (ranks size : ℕ) (frames : List Look) → IsUnderWay operations script ranks size (map process_of processes.old) frames
+        → IsUnderWay operations script ranks size (map process_of processes.new) frames }
 {
     let mut changed = false;
     for p in 0..processes.len() {
@@ -180,12 +190,12 @@ fn sent(
     to: usize,
     turn: u64,
 ) -> Result<Vec<Frame>, OutOfMemory>
-    ensures keeps { OnOk result (Keeps (process_of process.old) (process_of process.new)) }
+    ensures keeps { OnOk result ((operations : List Operation) → Keeps operations (process_of process.old) (process_of process.new)) }
     ensures facts { IfOk result (λ made. All (λ frame. OnlyFactsOf (part_of frame) (process_of process.new).node.board) made.items) }
     ensures join { IfOk result (λ made. join_all (map part_of made.items) ≡ lacking_on (process_of process.new).node) }
 {
-    let parts = process.deltas(alloc)?;
-    frames_of(alloc, &parts, to, turn)
+    let lists = process.deltas(alloc)?;
+    frames_with(alloc, lists, to, turn)
 }
 
 // Every process sends the frames of what others may lack of its board, where those of its last list are out.
@@ -198,8 +208,8 @@ fn send_all(
     turn: u64,
 ) -> Result<(), OutOfMemory>
     requires { length processes.old ≤ length senders.old }
-    ensures { OnOk result ((script : Statements) (ranks size : ℕ) → IsUnderWay script ranks size (map process_of processes.old) (map part_of frames.old.items)
-        → IsUnderWay script ranks size (map process_of processes.new) (map part_of frames.new.items)) }
+    ensures { OnOk result ((operations : List Operation) (script : Statements) (ranks size : ℕ) → IsUnderWay operations script ranks size (map process_of processes.old) (map part_of frames.old.items)
+        → IsUnderWay operations script ranks size (map process_of processes.new) (map part_of frames.new.items)) }
 {
     for p in 0..processes.len() {
         if senders[p].is_free(turn) {
@@ -220,9 +230,9 @@ fn send_each(
 ) -> Result<(), OutOfMemory>
     ensures all { OnOk result (schedule.old.loss ≡ 0 → frames.new.items ≡ frames.old.items ++ made.items) }
     ensures loss { schedule.new.loss ≡ schedule.old.loss }
-    ensures run { OnOk result ((script : Statements) (ranks size : ℕ) (processes : List RankView) (p : ℕ) (r : RankView) → slice_get processes p ≡ Some r
-        → All (λ frame. OnlyFactsOf (part_of frame) r.node.board) made.items → IsUnderWay script ranks size processes (map part_of frames.old.items)
-        → IsUnderWay script ranks size processes (map part_of frames.new.items)) }
+    ensures run { OnOk result ((operations : List Operation) (script : Statements) (ranks size : ℕ) (processes : List RankView) (p : ℕ) (r : RankView) → slice_get processes p ≡ Some r
+        → All (λ frame. OnlyFactsOf (part_of frame) r.node.board) made.items → IsUnderWay operations script ranks size processes (map part_of frames.old.items)
+        → IsUnderWay operations script ranks size processes (map part_of frames.new.items)) }
 {
     for frame in made {
         send(frame, frames, schedule)?;
@@ -234,9 +244,9 @@ fn send_each(
 fn send(frame: Frame, frames: &mut Vec<Frame>, schedule: &mut Schedule) -> Result<(), OutOfMemory>
     ensures all { OnOk result (schedule.old.loss ≡ 0 → frames.new.items ≡ frames.old.items ++ frame ∷ []) }
     ensures loss { schedule.new.loss ≡ schedule.old.loss }
-    ensures run { OnOk result ((script : Statements) (ranks size : ℕ) (processes : List RankView) (p : ℕ) (r : RankView) → slice_get processes p ≡ Some r
-        → OnlyFactsOf (part_of frame) r.node.board → IsUnderWay script ranks size processes (map part_of frames.old.items)
-        → IsUnderWay script ranks size processes (map part_of frames.new.items)) }
+    ensures run { OnOk result ((operations : List Operation) (script : Statements) (ranks size : ℕ) (processes : List RankView) (p : ℕ) (r : RankView) → slice_get processes p ≡ Some r
+        → OnlyFactsOf (part_of frame) r.node.board → IsUnderWay operations script ranks size processes (map part_of frames.old.items)
+        → IsUnderWay operations script ranks size processes (map part_of frames.new.items)) }
 {
     if schedule.is_lost() {
         return Ok(());
@@ -252,8 +262,8 @@ fn deliver(
     frames: &[Frame],
     turn: u64,
 ) -> Result<(), OutOfMemory>
-    ensures { OnOk result ((script : Statements) (ranks size : ℕ) → IsUnderWay script ranks size (map process_of processes.old) (map part_of frames.now)
-        → IsUnderWay script ranks size (map process_of processes.new) (map part_of frames.now)) }
+    ensures { OnOk result ((operations : List Operation) (script : Statements) (ranks size : ℕ) → IsUnderWay operations script ranks size (map process_of processes.old) (map part_of frames.now)
+        → IsUnderWay operations script ranks size (map process_of processes.new) (map part_of frames.now)) }
 {
     for i in 0..frames.len() {
         arrive(alloc, processes, &frames[i], turn)?;
@@ -268,21 +278,20 @@ fn arrive(
     frame: &Frame,
     turn: u64,
 ) -> Result<(), OutOfMemory>
-    ensures { OnOk result (AllReceive (part_of frame.now) (map process_of processes.old) (map process_of processes.new)) }
+    ensures { OnOk result ((operations : List Operation) → AllReceive operations (part_of frame.now) (map process_of processes.old) (map process_of processes.new)) }
 {
     if frame.turn != turn || frame.to >= processes.len() {
         return Ok(());
     }
-    let part = opened(alloc, frame)?;
-    processes[frame.to].receive(alloc, &part)?;
+    processes[frame.to].receive(alloc, frame)?;
     Ok(())
 }
 
 // One in four of the turn's frames is taken again in a later turn, and the others are let go.
 fn keep_some(frames: &mut Vec<Frame>, schedule: &mut Schedule, turn: u64)
     requires { turn < 4294967296 }
-    ensures { (script : Statements) (ranks size : ℕ) (processes : List RankView) → IsUnderWay script ranks size processes (map part_of frames.old.items)
-        → IsUnderWay script ranks size processes (map part_of frames.new.items) }
+    ensures { (operations : List Operation) (script : Statements) (ranks size : ℕ) (processes : List RankView) → IsUnderWay operations script ranks size processes (map part_of frames.old.items)
+        → IsUnderWay operations script ranks size processes (map part_of frames.new.items) }
 {
     delay_some(frames, schedule, turn);
     frames.retain(|frame| frame.turn > turn);

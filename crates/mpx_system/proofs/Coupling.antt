@@ -4,6 +4,7 @@ use Rattle.std.specs.Prelude.{slice_get, nat_lt, is_some, IsTrue, Result, Ok, Er
 use Rattle.std.specs.Option.{option_map}
 use Rattle.std.specs.Str.{bytes_eq}
 use Rattle.std.proofs.lemmas.Bool.Decides.{nat_tests}
+use Rattle.mpx_num.specs.declared.own.Operation.{Operation}
 use Rattle.mpx_name.specs.Name.{Name}
 use Rattle.mpx_post.specs.Births.{BirthView}
 use Rattle.mpx_post.specs.declared.draft.PostError.{PostError}
@@ -42,21 +43,22 @@ use Rattle.mpx_system.proofs.Posting.{Upheld, upheld_happens, is_there, tells_at
 -- the posts of the world are those of the ranks, each communicator that a word is bound to is opened at its node, each rank
 -- has carried out the first of its statements by what its node holds, and moves of the evaluation lead to where the ranks
 -- stand
-pub record Couples (script : List (List Statement)) (ranks : ℕ) (s : System) : Type 0 where
+pub record Couples (ops : List Operation) (script : List (List Statement)) (ranks : ℕ) (s : System) : Type 0 where
   pub upheld : Upheld s.world
   pub size : s.world.ranks ≡ ranks
+  pub operations : s.world.operations ≡ ops
   pub opened : (p : ℕ) → p < ranks → (word : List ℕ) (name : Name) (birth : BirthView) → named (s.ranks p).bound word ≡ Some (Communicator name birth) → IsTrue (is_some ((s.world.each p).node.opened name))
   pub made : (p : ℕ) → (s.world.each p).made ≡ (s.ranks p).made
   pub relays : (p : ℕ) → ranks ≤ p → (s.ranks p).made ≡ []
-  pub told : (p : ℕ) → CarriesOut (world_tells s.world p) (bound_at_start ranks) (statements_of script p) (s.ranks p)
-  pub reached : IsReached script ranks s.ranks
+  pub told : (p : ℕ) → CarriesOut ops (world_tells s.world p) (bound_at_start ranks) (statements_of script p) (s.ranks p)
+  pub reached : IsReached ops script ranks s.ranks
 
-module _ (script : List (List Statement)) (ranks : ℕ) (s : System) (c : Couples script ranks s) where
-  one_history : history s.world ≡ history_of_ranks s.ranks
-  one_history = λ i. history_of_ranks (λ p. record (s.ranks p) { made = c.made p i })
+module _ (ops : List Operation) (script : List (List Statement)) (ranks : ℕ) (s : System) (c : Couples ops script ranks s) where
+  one_history : history s.world ≡ history_of_ranks ops s.ranks
+  one_history = λ i. history_of_ranks (c.operations i) (λ p. record (s.ranks p) { made = c.made p i })
 
   -- what a node tells is known in the evaluation
-  pub tells_known : (p : ℕ) → Within (world_tells s.world p) (known ranks s.ranks p)
+  pub tells_known : (p : ℕ) → Within (world_tells s.world p) (known ops ranks s.ranks p)
   tells_known p name k answer e =
       let found = tells_at s.world c.upheld p name k answer e in
       let value = (c.upheld.holds.processes p).values name k found.0 found.1 in
@@ -67,19 +69,22 @@ module _ (script : List (List Statement)) (ranks : ℕ) (s : System) (c : Couple
   pub bound_so : (p : ℕ) → p < ranks → (word : List ℕ) → IsBoundSo s.world p (named (s.ranks p).bound word)
   bound_so p l word name birth e = (
     c.opened p l word name birth e,
-    (λ i. birth_of (one_history i) (c.size i) name) ∙ (each-bound script ranks s.ranks c.reached p l word name birth e).born,
+    (λ i. birth_of (one_history i) (c.size i) name) ∙ (each-bound ops script ranks s.ranks c.reached p l word name birth e).born,
   )
 
   -- what a rank's next statement comes to, by the posts of its process
   abbrev pub attempt_at : ℕ → Posting → Result Made PostError
-  attempt_at p posting = attempt_on p (s.world.each p).made posting (named (s.ranks p).bound (word_of posting))
+  attempt_at p posting = attempt_on ops p (s.world.each p).made posting (named (s.ranks p).bound (word_of posting))
 
-  pub attempts_same : (p : ℕ) (posting : Posting) → attempt (s.ranks p).me (s.ranks p).bound (s.ranks p).made posting ≡ attempt_at p posting
-  attempts_same p posting = λ i. attempt_on (each-me script ranks s.ranks c.reached p i) (sym (c.made p) i) posting (named (s.ranks p).bound (word_of posting))
+  pub attempts_same : (p : ℕ) (posting : Posting) → attempt ops (s.ranks p).me (s.ranks p).bound (s.ranks p).made posting ≡ attempt_at p posting
+  attempts_same p posting = λ i. attempt_on ops (each-me ops script ranks s.ranks c.reached p i) (sym (c.made p) i) posting (named (s.ranks p).bound (word_of posting))
 
   pub driven : (p : ℕ) → p < ranks → (posting : Posting)
-      → Driven s.world p (posts_bound p (s.world.each p).made posting (named (s.ranks p).bound (word_of posting))) (attempt_at p posting) (tried posting (option_map name_of (named (s.ranks p).bound (word_of posting))) (s.world.each p).node)
-  driven p l posting = driven_bound s.world c.upheld p posting (named (s.ranks p).bound (word_of posting)) (bound_so p l (word_of posting))
+      → Driven s.world p (posts_bound p (s.world.each p).made posting (named (s.ranks p).bound (word_of posting))) (attempt_at p posting) (tried ops posting (option_map name_of (named (s.ranks p).bound (word_of posting))) (s.world.each p).node)
+  driven p l posting =
+      let to = named (s.ranks p).bound (word_of posting) in
+      subst (λ o. Driven s.world p (posts_bound p (s.world.each p).made posting to) (attempt_on o p (s.world.each p).made posting to) (tried o posting (option_map name_of to) (s.world.each p).node)) c.operations
+      (driven_bound s.world c.upheld p posting to (bound_so p l (word_of posting)))
 
   -- a rank that asks is answered by what its node knows
   pub answer_same : (p : ℕ) → p < ranks → (question : Question) → answered_on (s.ranks p).me (names_in (s.ranks p).bound) question (s.world.each p).node ≡ answered_rank (s.ranks p).me (s.ranks p).bound (s.ranks p).made question
@@ -95,74 +100,76 @@ by_rank P p q here there = by_test (q == p) refl where
   by_test true e = subst P (sym (same_number q p e)) here
   by_test false e = there e
 
-pub goes_on-other : (s : State) (p : ℕ) (r : Results) (q : ℕ) → (q == p) ≡ false → goes_on s p r q ≡ s q
-goes_on-other s p r q e = ap (λ b. cond b (or_stay (s q) (step r (s q))) (s q)) e
+pub goes_on-other : (ops : List Operation) (s : State) (p : ℕ) (r : Results) (q : ℕ) → (q == p) ≡ false → goes_on ops s p r q ≡ s q
+goes_on-other ops s p r q e = ap (λ b. cond b (or_stay (s q) (step ops r (s q))) (s q)) e
 
-moves-append : (ranks : ℕ) (ps qs : List ℕ) (s : State) → moves ranks (ps ++ qs) s ≡ moves ranks qs (moves ranks ps s)
-moves-append ranks [] qs s = refl
-moves-append ranks (p ∷ ps) qs s = moves-append ranks ps qs (move ranks s p)
+moves-append : (ops : List Operation) (ranks : ℕ) (ps qs : List ℕ) (s : State) → moves ops ranks (ps ++ qs) s ≡ moves ops ranks qs (moves ops ranks ps s)
+moves-append ops ranks [] qs s = refl
+moves-append ops ranks (p ∷ ps) qs s = moves-append ops ranks ps qs (move ops ranks s p)
 
 -- one more move
-reached-more : (script : List (List Statement)) (ranks : ℕ) (s : State) (p : ℕ) → IsReached script ranks s → IsReached script ranks (move ranks s p)
-reached-more script ranks s p r = record {
+reached-more : (ops : List Operation) (script : List (List Statement)) (ranks : ℕ) (s : State) (p : ℕ) → IsReached ops script ranks s → IsReached ops script ranks (move ops ranks s p)
+reached-more ops script ranks s p r = record {
   order = r.order ++ p ∷ [];
-  reached = moves-append ranks r.order (p ∷ []) (start script ranks) ∙ ap (λ u. move ranks u p) r.reached;
+  reached = moves-append ops ranks r.order (p ∷ []) (start script ranks) ∙ ap (λ u. move ops ranks u p) r.reached;
 }
 
 -- who can't move stays
-goes_on-none : (s : State) (p : ℕ) (r : Results) → step r (s p) ≡ None → s ≡ goes_on s p r
-goes_on-none s p r e = λ i q. goes_on_cases (λ j t. s j ≡ t) s p r (λ j. refl) (λ t f. cc (e, f)) q i
+goes_on-none : (ops : List Operation) (s : State) (p : ℕ) (r : Results) → step ops r (s p) ≡ None → s ≡ goes_on ops s p r
+goes_on-none ops s p r e = λ i q. goes_on_cases ops (λ j t. s j ≡ t) s p r (λ j. refl) (λ t f. cc (e, f)) q i
 
 -- who knows more makes the same move
-goes_on-same : (s : State) (p : ℕ) (r more : Results) (t : Local) → step r (s p) ≡ Some t → step more (s p) ≡ Some t → goes_on s p r ≡ goes_on s p more
-goes_on-same s p r more t e f = λ i q. by_rank (λ j. goes_on s p r j ≡ goes_on s p more j) p q (goes_on-at s p r t e ∙ sym (goes_on-at s p more t f)) (λ d. goes_on-other s p r q d ∙ sym (goes_on-other s p more q d)) i
+goes_on-same : (ops : List Operation) (s : State) (p : ℕ) (r more : Results) (t : Local) → step ops r (s p) ≡ Some t → step ops more (s p) ≡ Some t → goes_on ops s p r ≡ goes_on ops s p more
+goes_on-same ops s p r more t e f = λ i q. by_rank (λ j. goes_on ops s p r j ≡ goes_on ops s p more j) p q (goes_on-at ops s p r t e ∙ sym (goes_on-at ops s p more t f)) (λ d. goes_on-other ops s p r q d ∙ sym (goes_on-other ops s p more q d)) i
 
 -- A RANK'S DOINGS
 
-module _ (script : List (List Statement)) (ranks : ℕ) (s : System) (c : Couples script ranks s) where
+module _ (ops : List Operation) (script : List (List Statement)) (ranks : ℕ) (s : System) (c : Couples ops script ranks s) where
   -- the rank moves, and its posts are made
-  couples_move : (p : ℕ) → p < ranks → (new : WorldView) (added : List Made) (t : Local) → step (world_tells s.world p) (s.ranks p) ≡ Some t → t.made ≡ (s.ranks p).made ++ added → Follows p s.world new added
+  couples_move : (p : ℕ) → p < ranks → (new : WorldView) (added : List Made) (t : Local) → step ops (world_tells s.world p) (s.ranks p) ≡ Some t → t.made ≡ (s.ranks p).made ++ added → Follows p s.world new added
       → ((word : List ℕ) (name : Name) (birth : BirthView) → named t.bound word ≡ Some (Communicator name birth) → IsTrue (is_some ((new.each p).node.opened name)))
-      → Couples script ranks (record { world = new; ranks = goes_on s.ranks p (world_tells s.world p) })
+      → Couples ops script ranks (record { world = new; ranks = goes_on ops s.ranks p (world_tells s.world p) })
   couples_move p l new added t e more f bound =
       let r = world_tells s.world p in
-      let at : goes_on s.ranks p r p ≡ t = goes_on-at s.ranks p r t e in
-      let known_step : step (known ranks s.ranks p) (s.ranks p) ≡ Some t = step-grows r (known ranks s.ranks p) (tells_known script ranks s c p) (s.ranks p) t e in
+      let at : goes_on ops s.ranks p r p ≡ t = goes_on-at ops s.ranks p r t e in
+      let known_step : step ops (known ops ranks s.ranks p) (s.ranks p) ≡ Some t = step-grows ops r (known ops ranks s.ranks p) (tells_known ops script ranks s c p) (s.ranks p) t e in
       let told : (q : ℕ) → Within (world_tells s.world q) (world_tells new q) = tells_on s.world new f.later c.upheld f.upheld in
       record {
         upheld = f.upheld;
         size = sym f.later.ranks ∙ c.size;
-        opened = λ q m. by_rank (λ j. (word : List ℕ) (name : Name) (birth : BirthView) → named (goes_on s.ranks p r j).bound word ≡ Some (Communicator name birth) → IsTrue (is_some ((new.each j).node.opened name))) p q
+        operations = sym f.later.operations ∙ c.operations;
+        opened = λ q m. by_rank (λ j. (word : List ℕ) (name : Name) (birth : BirthView) → named (goes_on ops s.ranks p r j).bound word ≡ Some (Communicator name birth) → IsTrue (is_some ((new.each j).node.opened name))) p q
             (λ word name birth h. bound word name birth (ap (λ (u : Local). named u.bound word) (sym at) ∙ h))
-            (λ d word name birth h. (f.later.kept q).opened_kept name (c.opened q m word name birth (ap (λ (u : Local). named u.bound word) (sym (goes_on-other s.ranks p r q d)) ∙ h)));
-        made = λ q. by_rank (λ j. (new.each j).made ≡ (goes_on s.ranks p r j).made) p q
+            (λ d word name birth h. (f.later.kept q).opened_kept name (c.opened q m word name birth (ap (λ (u : Local). named u.bound word) (sym (goes_on-other ops s.ranks p r q d)) ∙ h)));
+        made = λ q. by_rank (λ j. (new.each j).made ≡ (goes_on ops s.ranks p r j).made) p q
             (f.here ∙ ap (λ xs. xs ++ added) (c.made p) ∙ sym more ∙ ap (λ (u : Local). u.made) (sym at))
-            (λ d. f.others q d ∙ c.made q ∙ ap (λ (u : Local). u.made) (sym (goes_on-other s.ranks p r q d)));
-        relays = λ q above. by_rank (λ j. ranks ≤ j → (goes_on s.ranks p r j).made ≡ []) p q
+            (λ d. f.others q d ∙ c.made q ∙ ap (λ (u : Local). u.made) (sym (goes_on-other ops s.ranks p r q d)));
+        relays = λ q above. by_rank (λ j. ranks ≤ j → (goes_on ops s.ranks p r j).made ≡ []) p q
             (λ over. absurd (omega (arith, over, l)))
-            (λ d over. ap (λ (u : Local). u.made) (goes_on-other s.ranks p r q d) ∙ c.relays q over) above;
-        told = goes_on_cases (λ q u. CarriesOut (world_tells new q) (bound_at_start ranks) (statements_of script q) u) s.ranks p r
-            (λ q. carries_out-grows (world_tells s.world q) (world_tells new q) (told q) (bound_at_start ranks) (statements_of script q) (s.ranks q) (c.told q))
-            (λ u g. carries_out-grows r (world_tells new p) (told p) (bound_at_start ranks) (statements_of script p) u (step-carries_out r (bound_at_start ranks) (statements_of script p) (s.ranks p) u (c.told p) g));
-        reached = subst (IsReached script ranks) (sym (goes_on-same s.ranks p r (known ranks s.ranks p) t e known_step)) (reached-more script ranks s.ranks p c.reached);
+            (λ d over. ap (λ (u : Local). u.made) (goes_on-other ops s.ranks p r q d) ∙ c.relays q over) above;
+        told = goes_on_cases ops (λ q u. CarriesOut ops (world_tells new q) (bound_at_start ranks) (statements_of script q) u) s.ranks p r
+            (λ q. carries_out-grows ops (world_tells s.world q) (world_tells new q) (told q) (bound_at_start ranks) (statements_of script q) (s.ranks q) (c.told q))
+            (λ u g. carries_out-grows ops r (world_tells new p) (told p) (bound_at_start ranks) (statements_of script p) u (step-carries_out ops r (bound_at_start ranks) (statements_of script p) (s.ranks p) u (c.told p) g));
+        reached = subst (IsReached ops script ranks) (sym (goes_on-same ops s.ranks p r (known ops ranks s.ranks p) t e known_step)) (reached-more ops script ranks s.ranks p c.reached);
       }
 
   -- it has no move
-  couples_stay : (p : ℕ) → step (world_tells s.world p) (s.ranks p) ≡ None → Couples script ranks (record { world = s.world; ranks = goes_on s.ranks p (world_tells s.world p) })
-  couples_stay p e = subst (λ u. Couples script ranks (record { world = s.world; ranks = u })) (goes_on-none s.ranks p (world_tells s.world p) e) c
+  couples_stay : (p : ℕ) → step ops (world_tells s.world p) (s.ranks p) ≡ None → Couples ops script ranks (record { world = s.world; ranks = goes_on ops s.ranks p (world_tells s.world p) })
+  couples_stay p e = subst (λ u. Couples ops script ranks (record { world = s.world; ranks = u })) (goes_on-none ops s.ranks p (world_tells s.world p) e) c
 
   -- what is no post
-  couples_net : (h : Happening) → IsNoPost h → MayHappen s.world h → Couples script ranks (record { world = happens s.world h; ranks = s.ranks })
+  couples_net : (h : Happening) → IsNoPost h → MayHappen s.world h → Couples ops script ranks (record { world = happens s.world h; ranks = s.ranks })
   couples_net h net m =
       let later = later_happens s.world h in
       let upheld = upheld_happens s.world h c.upheld m in
       record {
         upheld = upheld;
         size = sym later.ranks ∙ c.size;
+        operations = sym later.operations ∙ c.operations;
         opened = λ p l word name birth e. (later.kept p).opened_kept name (c.opened p l word name birth e);
         made = λ p. made_happens s.world h net p ∙ c.made p;
         relays = c.relays;
-        told = λ p. carries_out-grows (world_tells s.world p) (world_tells (happens s.world h) p) (tells_on s.world (happens s.world h) later c.upheld upheld p) (bound_at_start ranks) (statements_of script p) (s.ranks p) (c.told p);
+        told = λ p. carries_out-grows ops (world_tells s.world p) (world_tells (happens s.world h) p) (tells_on s.world (happens s.world h) later c.upheld upheld p) (bound_at_start ranks) (statements_of script p) (s.ranks p) (c.told p);
         reached = c.reached;
       }
 
@@ -175,38 +182,38 @@ module _ (script : List (List Statement)) (ranks : ℕ) (s : System) (c : Couple
   ]
 
   abbrev driven_to : (p : ℕ) → List Happening → System
-  driven_to p hs = record { world = goes_on_world s.world hs; ranks = goes_on s.ranks p (world_tells s.world p) }
+  driven_to p hs = record { world = goes_on_world s.world hs; ranks = goes_on ops s.ranks p (world_tells s.world p) }
 
   -- an accepted post, whose outcome is awaited or whose request is open from then on
-  couples_accepted : (p : ℕ) → p < ranks → (posting : Posting) (rest : List Todo) → (s.ranks p).todo ≡ Do (Post posting) ∷ rest → (hs : List Happening) (t : Tried) (m : Made) → attempt_at script ranks s c p posting ≡ Ok m → Driven s.world p hs (Ok m) t
-      → (request : Option (List ℕ)) → started_as posting ≡ request → Couples script ranks (driven_to p hs)
+  couples_accepted : (p : ℕ) → p < ranks → (posting : Posting) (rest : List Todo) → (s.ranks p).todo ≡ Do (Post posting) ∷ rest → (hs : List Happening) (t : Tried) (m : Made) → attempt_at ops script ranks s c p posting ≡ Ok m → Driven s.world p hs (Ok m) t
+      → (request : Option (List ℕ)) → started_as posting ≡ request → Couples ops script ranks (driven_to p hs)
   couples_accepted p l posting rest e hs t m f d None b =
       couples_move p l (goes_on_world s.world hs) (m ∷ []) (done (s.ranks p) (posted (s.ranks p) (bound_to posting) rest m))
-      (step_posts (world_tells s.world p) (s.ranks p) posting rest m e b (attempts_same script ranks s c p posting ∙ f)) refl d.follows
+      (step_posts ops (world_tells s.world p) (s.ranks p) posting rest m e b (attempts_same ops script ranks s c p posting ∙ f)) refl d.follows
       (λ word name birth h. (d.follows.later.kept p).opened_kept name (c.opened p l word name birth h))
   couples_accepted p l posting rest e hs t m f d (Some request) b =
       couples_move p l (goes_on_world s.world hs) (m ∷ []) (done (s.ranks p) (started (s.ranks p) request rest m))
-      (step_starts (world_tells s.world p) (s.ranks p) posting rest request m e b (attempts_same script ranks s c p posting ∙ f)) refl d.follows
+      (step_starts ops (world_tells s.world p) (s.ranks p) posting rest request m e b (attempts_same ops script ranks s c p posting ∙ f)) refl d.follows
       (λ word name birth h. (d.follows.later.kept p).opened_kept name (c.opened p l word name birth h))
 
-  couples_posts : (p : ℕ) → p < ranks → (posting : Posting) (rest : List Todo) → (s.ranks p).todo ≡ Do (Post posting) ∷ rest → (hs : List Happening) (t : Tried) (o : Result Made PostError) → attempt_at script ranks s c p posting ≡ o → Driven s.world p hs o t → Couples script ranks (driven_to p hs)
+  couples_posts : (p : ℕ) → p < ranks → (posting : Posting) (rest : List Todo) → (s.ranks p).todo ≡ Do (Post posting) ∷ rest → (hs : List Happening) (t : Tried) (o : Result Made PostError) → attempt_at ops script ranks s c p posting ≡ o → Driven s.world p hs o t → Couples ops script ranks (driven_to p hs)
   couples_posts p l posting rest e hs t (Ok m) f d = couples_accepted p l posting rest e hs t m f d (started_as posting) refl
   couples_posts p l posting rest e hs t (Err refusal) f d =
       couples_move p l (goes_on_world s.world hs) [] (done (s.ranks p) (turned_down (s.ranks p) (bound_to posting) rest refusal))
-      (step_refused (world_tells s.world p) (s.ranks p) posting rest refusal e (attempts_same script ranks s c p posting ∙ f)) refl d.follows
+      (step_refused ops (world_tells s.world p) (s.ranks p) posting rest refusal e (attempts_same ops script ranks s c p posting ∙ f)) refl d.follows
       (bound_more p l (goes_on_world s.world hs) d.follows.later (bound_to posting) NullCommunicator (λ name birth is. cc is))
 
-  couples_asks : (p : ℕ) → p < ranks → (question : Question) (rest : List Todo) → (s.ranks p).todo ≡ Do (Ask question) ∷ rest → Couples script ranks (driven_to p [])
+  couples_asks : (p : ℕ) → p < ranks → (question : Question) (rest : List Todo) → (s.ranks p).todo ≡ Do (Ask question) ∷ rest → Couples ops script ranks (driven_to p [])
   couples_asks p l question rest e =
       couples_move p l s.world [] (done (s.ranks p) (told_at_once (s.ranks p) question rest))
-      (step_asks (world_tells s.world p) (s.ranks p) question rest e) refl (follows_itself s.world c.upheld p)
+      (step_asks ops (world_tells s.world p) (s.ranks p) question rest e) refl (follows_itself s.world c.upheld p)
       (c.opened p l)
 
-  couples_passes : (p : ℕ) → p < ranks → (words : List (List ℕ)) (rest : List Todo) → (s.ranks p).todo ≡ Do (Wait words) ∷ rest → (o : Option (List Answer)) → answers (world_tells s.world p) (awaited_by (s.ranks p).requests words) ≡ o → Couples script ranks (driven_to p [])
-  couples_passes p l words rest e None f = couples_stay p (step_stays (world_tells s.world p) (s.ranks p) words rest e f)
+  couples_passes : (p : ℕ) → p < ranks → (words : List (List ℕ)) (rest : List Todo) → (s.ranks p).todo ≡ Do (Wait words) ∷ rest → (o : Option (List Answer)) → answers (world_tells s.world p) (awaited_by (s.ranks p).requests words) ≡ o → Couples ops script ranks (driven_to p [])
+  couples_passes p l words rest e None f = couples_stay p (step_stays ops (world_tells s.world p) (s.ranks p) words rest e f)
   couples_passes p l words rest e (Some told) f =
       couples_move p l s.world [] (done (s.ranks p) (waited (s.ranks p) words rest told))
-      (step_passes (world_tells s.world p) (s.ranks p) words rest told e f) refl (follows_itself s.world c.upheld p)
+      (step_passes ops (world_tells s.world p) (s.ranks p) words rest told e f) refl (follows_itself s.world c.upheld p)
       (c.opened p l)
 
   -- what an answer binds a word to is opened
@@ -224,35 +231,37 @@ module _ (script : List (List Statement)) (ranks : ℕ) (s : System) (c : Couple
       let x = is_there s.world c.upheld p new ((c.upheld.holds.processes p).opened_given from call found.0 found.1 new size rank same) in
       (x.birth, ap (λ (a : Answer). a.born) (sym found.2) ∙ ap (λ o. (answer_with (births s.world) o).born) same ∙ x.born)
 
-  couples_hears : (p : ℕ) → p < ranks → (name : Name) (call : ℕ) (target : Option (List ℕ)) (rest : List Todo) → (s.ranks p).todo ≡ Await name call target ∷ rest → (o : Option Answer) → world_tells s.world p name call ≡ o → Couples script ranks (driven_to p [])
-  couples_hears p l name call target rest e None f = couples_stay p (step_waits (world_tells s.world p) (s.ranks p) name call target rest e f)
+  couples_hears : (p : ℕ) → p < ranks → (name : Name) (call : ℕ) (target : Option (List ℕ)) (rest : List Todo) → (s.ranks p).todo ≡ Await name call target ∷ rest → (o : Option Answer) → world_tells s.world p name call ≡ o → Couples ops script ranks (driven_to p [])
+  couples_hears p l name call target rest e None f = couples_stay p (step_waits ops (world_tells s.world p) (s.ranks p) name call target rest e f)
   couples_hears p l name call target rest e (Some answer) f =
-      couples_move p l s.world [] (done (s.ranks p) (heard (s.ranks p) name call target rest answer)) (step_hears (world_tells s.world p) (s.ranks p) name call target rest answer e f) refl (follows_itself s.world c.upheld p)
+      couples_move p l s.world [] (done (s.ranks p) (heard (s.ranks p) name call target rest answer)) (step_hears ops (world_tells s.world p) (s.ranks p) name call target rest answer e f) refl (follows_itself s.world c.upheld p)
       (bound_more p l s.world (later_itself s.world) target (bound_by answer.outcome answer.born) (answer_opened p name call answer f))
 
-  couples_drive : (p : ℕ) → p < ranks → (todo : List Todo) → (s.ranks p).todo ≡ todo → Couples script ranks (driven_to p (posts_of p (s.world.each p).made (s.ranks p).bound todo))
-  couples_drive p l [] e = couples_stay p (step_ends (world_tells s.world p) (s.ranks p) e)
+  couples_drive : (p : ℕ) → p < ranks → (todo : List Todo) → (s.ranks p).todo ≡ todo → Couples ops script ranks (driven_to p (posts_of p (s.world.each p).made (s.ranks p).bound todo))
+  couples_drive p l [] e = couples_stay p (step_ends ops (world_tells s.world p) (s.ranks p) e)
   couples_drive p l (Await name call target ∷ rest) e = couples_hears p l name call target rest e (world_tells s.world p name call) refl
-  couples_drive p l (Do (Post posting) ∷ rest) e = couples_posts p l posting rest e _ _ (attempt_at script ranks s c p posting) refl (driven script ranks s c p l posting)
+  couples_drive p l (Do (Post posting) ∷ rest) e = couples_posts p l posting rest e _ _ (attempt_at ops script ranks s c p posting) refl (driven ops script ranks s c p l posting)
   couples_drive p l (Do (Wait words) ∷ rest) e = couples_passes p l words rest e (answers (world_tells s.world p) (awaited_by (s.ranks p).requests words)) refl
   couples_drive p l (Do (Ask question) ∷ rest) e = couples_asks p l question rest e
 
-  pub couples_does : (d : Doing) → MayDo ranks s d → Couples script ranks (does s d)
+  pub couples_does : (d : Doing) → MayDo ranks s d → Couples ops script ranks (does s d)
   couples_does (Nets h) m = couples_net h m.0 m.1
-  couples_does (Drives p) m = couples_drive p m (s.ranks p).todo refl
+  couples_does (Drives p) m =
+      let hs = posts_of p (s.world.each p).made (s.ranks p).bound (s.ranks p).todo in
+      subst (λ o. Couples ops script ranks (record { world = goes_on_world s.world hs; ranks = goes_on o s.ranks p (world_tells s.world p) })) (sym c.operations) (couples_drive p m (s.ranks p).todo refl)
 
   -- WHAT LINES TELL
 
   pub tells_results : (p : ℕ) → TellsResults (s.world.each p).node (s.ranks p)
   tells_results p i name call outcome e =
-      let tells = carried_out-tell (world_tells s.world p) (bound_at_start ranks) (statements_of script p) (s.ranks p) (c.told p) i name call outcome e in
+      let tells = carried_out-tell ops (world_tells s.world p) (bound_at_start ranks) (statements_of script p) (s.ranks p) (c.told p) i name call outcome e in
       let found = tells_at s.world c.upheld p name call tells.answer tells.known_as in
       let value = (c.upheld.holds.processes p).values name call found.0 found.1 in
       record { finished = found.0; held = found.1; is = ap (λ (a : Answer). a.outcome) found.2 ∙ tells.is; mine = ap (λ ms. slice_get (posts_on name ms) call) (sym (c.made p)) ∙ value.mine }
 
-pub couples_all : (script : List (List Statement)) (ranks : ℕ) (ds : List Doing) (s : System) → Couples script ranks s → MayDoAll ranks s ds → Couples script ranks (does_all s ds)
-couples_all script ranks [] s c m = c
-couples_all script ranks (d ∷ ds) s c m = couples_all script ranks ds (does s d) (couples_does script ranks s c d m.0) m.1
+pub couples_all : (ops : List Operation) (script : List (List Statement)) (ranks : ℕ) (ds : List Doing) (s : System) → Couples ops script ranks s → MayDoAll ranks s ds → Couples ops script ranks (does_all s ds)
+couples_all ops script ranks [] s c m = c
+couples_all ops script ranks (d ∷ ds) s c m = couples_all ops script ranks ds (does s d) (couples_does ops script ranks s c d m.0) m.1
 
 opened_first : (ranks p : ℕ) → p < ranks → IsTrue (is_some (opened_at_start p ranks []))
 opened_first ranks p l =
@@ -265,10 +274,11 @@ bound_first : (ranks : ℕ) (b : Bool) (name : Name) (birth : BirthView) → (if
 bound_first ranks true name birth e = cc e
 bound_first ranks false name birth e = cc e
 
-pub couples_start : (script : List (List Statement)) (ranks size : ℕ) → Couples script ranks (start_system script ranks size)
-couples_start script ranks size = record {
-  upheld = record { holds = holds_start ranks size; in_all = in_start ranks size };
+pub couples_start : (ops : List Operation) (script : List (List Statement)) (ranks size : ℕ) → Couples ops script ranks (start_system ops script ranks size)
+couples_start ops script ranks size = record {
+  upheld = record { holds = holds_start ops ranks size; in_all = in_start ops ranks size };
   size = refl;
+  operations = refl;
   opened = λ p l word name birth e. subst (λ n. IsTrue (is_some (opened_at_start p ranks n))) (sym (bound_first ranks (bytes_eq word (codes "world")) name birth e)) (opened_first ranks p l);
   made = λ p. refl;
   relays = λ p above. refl;

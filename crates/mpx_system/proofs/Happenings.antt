@@ -1,5 +1,6 @@
 -- What happens in the world of a system.
 use Rattle.std.proofs.Common.{ℕ, List, [], ◌∷◌, length, Option, Some, None, Ok, Err, Result, refl}
+use Rattle.mpx_num.specs.declared.own.Operation.{Operation}
 use Rattle.mpx_name.specs.Name.{Name}
 use Rattle.mpx_post.specs.Births.{BirthView}
 use Rattle.mpx_post.specs.Gatherings.{GatheringView, gathering}
@@ -49,5 +50,5 @@ doings_lead ranks [] s m = leads_nowhere s.world
 doings_lead ranks (d ∷ ds) s m = leads_on s.world (does s d).world (does_all (does s d) ds).world (doing_leads ranks s d m.0) (doings_lead ranks ds (does s d) m.1)
 
 -- the world of a run is one of happenings
-pub of_happenings : (script : List (List Statement)) (ranks size : ℕ) (ds : List Doing) → MayDoAll ranks (start_system script ranks size) ds → IsOfHappenings ranks size (does_all (start_system script ranks size) ds).world
-of_happenings script ranks size ds m = let x = doings_lead ranks ds (start_system script ranks size) m in record { happenings = x.happenings; may = x.may; reached = x.is }
+pub of_happenings : (ops : List Operation) (script : List (List Statement)) (ranks size : ℕ) (ds : List Doing) → MayDoAll ranks (start_system ops script ranks size) ds → IsOfHappenings ops ranks size (does_all (start_system ops script ranks size) ds).world
+of_happenings ops script ranks size ds m = let x = doings_lead ranks ds (start_system ops script ranks size) m in record { happenings = x.happenings; may = x.may; reached = x.is }

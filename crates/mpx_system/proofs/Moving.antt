@@ -1,16 +1,17 @@
 -- What the moves of a rank keep of a run.
-use Rattle.std.proofs.Common.{◌≡◌, ℕ, ◌+◌, ◌<◌, true, cond, List, [], ◌∷◌, ◌++◌, map, set, Option, Some, None, refl, sym, ap, ◌∙◌, subst}
+use Rattle.std.proofs.Common.{◌≡◌, ℕ, ◌<◌, true, cond, List, [], ◌∷◌, ◌++◌, map, set, Option, Some, None, refl, sym, ap, ◌∙◌, subst}
 use Rattle.std.specs.Prelude.{slice_get, Result, Ok, Err}
 use Rattle.std.proofs.lemmas.List.{map-append, append-nil}
 use Rattle.std.specs.Option.{option_map}
 use Rattle.std.specs.Str.{bytes_eq}
+use Rattle.mpx_num.specs.declared.own.Operation.{Operation}
 use Rattle.mpx_post.specs.declared.draft.PostError.{PostError}
 use Rattle.mpx_post.specs.Births.{BirthView}
 use Rattle.mpx_name.specs.Name.{Name}
 use Rattle.mpx_board.specs.Boards.{Look}
 use Rattle.mpx_value.specs.declared.outcomes.Outcome.{Outcome}
 use Rattle.mpx_value.specs.declared.outcomes.Outcome.TheVariants.{Nothing, Absent, Items, NewComm, Null, Fault}
-use Rattle.mpx_value.specs.Histories.{Answer, Made, Results, answer_with}
+use Rattle.mpx_value.specs.Histories.{Made, Results, answer_with}
 use Rattle.mpx_node.specs.declared.finished.Finished.{Finished}
 use Rattle.mpx_node.specs.Nodes.{NodeView, results_on}
 use Rattle.mpx_world.specs.Worlds.{WorldView, Happening, births}
@@ -23,6 +24,7 @@ use Rattle.mpx_statement.specs.Statements.{bound_to, posted_on as word_of, start
 use Rattle.mpx_statement.specs.Lookups.{named}
 use Rattle.mpx_evaluation.specs.Ranks.{answered as answered_rank}
 use Rattle.mpx_evaluation.specs.Ranks.{Await, Bindings, Bound, NullCommunicator, Line, Local, Told, Refused, answers, awaited_by, bind, bound_by, doing, done, next_call, step, waited_lines}
+use Rattle.mpx_evaluation.specs.Evaluation.{goes_on}
 use Rattle.mpx_evaluation.specs.Transcripts.{line_text, outcome_text}
 use Rattle.mpx_evaluation.proofs.Ends.{goes_on-at}
 use Rattle.mpx_evaluation.proofs.Steps.{heard, posted, started, told_at_once, turned_down, waited, step_asks, step_hears, step_passes, step_posts, step_refused, step_starts}
@@ -38,9 +40,9 @@ use Rattle.mpx_post.proofs.Lists.{set_twice, set_has}
 
 -- A RANK'S MOVES
 
-pub moves_then : (a b c : RankView) → Moves a b → Moves b c → Moves a c
-moves_then a b c f g script ranks size processes frames p l at run =
-    subst (λ rs. IsUnderWay script ranks size rs frames) (set_twice processes p b c)
+pub moves_then : (ops : List Operation) (a b c : RankView) → Moves ops a b → Moves ops b c → Moves ops a c
+moves_then ops a b c f g script ranks size processes frames p l at run =
+    subst (λ rs. IsUnderWay ops script ranks size rs frames) (set_twice processes p b c)
     (g script ranks size (set processes p b) frames p l (set_has processes p a b at) (f script ranks size processes frames p l at run))
 
 -- BINDINGS
@@ -70,7 +72,7 @@ answered_err : (made : List Made) (o : Result Made PostError) (refusal : PostErr
 answered_err made (Ok m) refusal e = cc e
 answered_err made (Err other) refusal e = let same : other ≡ refusal = cc e in ap (λ x. let r : Result Made PostError = Err x in r) same
 
-module _ (script : List (List Statement)) (ranks size : ℕ) (processes : List RankView) (frames : List Look) (p : ℕ) (l : p < ranks) (r : RankView) (at : slice_get processes p ≡ Some r) (run : IsUnderWay script ranks size processes frames) where
+module _ (ops : List Operation) (script : List (List Statement)) (ranks size : ℕ) (processes : List RankView) (frames : List Look) (p : ℕ) (l : p < ranks) (r : RankView) (at : slice_get processes p ≡ Some r) (run : IsUnderWay ops script ranks size processes frames) where
   abbrev told : Results
   told = world_tells run.system.world p
 
@@ -78,18 +80,19 @@ module _ (script : List (List Statement)) (ranks size : ℕ) (processes : List R
   made = (run.system.world.each p).made
 
   -- a move by what the node's results tell, after which the world is so
-  moved : (hs : List Happening) (t : Local) (new : RankView) → posts_of p made (run.system.ranks p).bound (run.system.ranks p).todo ≡ hs → step told (run.system.ranks p) ≡ Some t → Stands new t
+  moved : (hs : List Happening) (t : Local) (new : RankView) → posts_of p made (run.system.ranks p).bound (run.system.ranks p).todo ≡ hs → step ops told (run.system.ranks p) ≡ Some t → Stands new t
       → new.node ≡ ((goes_on_world run.system.world hs).each p).node
       → ((q : ℕ) → (q ≡ p → ⊥) → ((goes_on_world run.system.world hs).each q).node ≡ (run.system.world.each q).node)
       → (goes_on_world run.system.world hs).parts ≡ run.system.world.parts
-      → IsUnderWay script ranks size (set processes p new) frames
+      → IsUnderWay ops script ranks size (set processes p new) frames
   moved hs t new e step_is stands node nodes parts =
+      let by : run.system.world.operations ≡ ops = (coupled ops script ranks size processes frames run).operations in
       let world : goes_on_world run.system.world hs ≡ goes_on_world run.system.world (posts_of p made (run.system.ranks p).bound (run.system.ranks p).todo) = ap (goes_on_world run.system.world) (sym e) in
-      run_on script ranks size processes frames run p new (Drives p) l (record {
+      run_on ops script ranks size processes frames run p new (Drives p) l (record {
         node = node ∙ ap (λ (w : WorldView). (w.each p).node) world;
-        stands = λ m. subst (Stands new) (sym (goes_on-at run.system.ranks p told t step_is)) stands;
+        stands = λ m. subst (Stands new) (sym (ap (λ o. goes_on o run.system.ranks p told p) by ∙ goes_on-at ops run.system.ranks p told t step_is)) stands;
         nodes = λ q other. ap (λ (w : WorldView). (w.each q).node) (sym world) ∙ nodes q other;
-        ranks_stay = λ q other. goes_on-other run.system.ranks p told q (not_same q p other);
+        ranks_stay = λ q other. goes_on-other run.system.world.operations run.system.ranks p told q (not_same q p other);
         parts = ap (λ (w : WorldView). w.parts) (sym world) ∙ parts;
       })
 
@@ -104,60 +107,60 @@ module _ (script : List (List Statement)) (ranks size : ℕ) (processes : List R
 
   -- it hears a result that its node holds
   hears : (w : WaitView) (f : Finished) (text : List ℕ) → r.waits ≡ Some w → slice_get (results_on r.node w.name) w.call ≡ Some f → text ≡ outcome_text f.outcome
-      → IsUnderWay script ranks size (set processes p (record { me = r.me; node = r.node; bound = binds w.target (given_name f.outcome) r.bound; requests = r.requests; todo = r.todo; waits = None; lines = r.lines ++ text ∷ [] })) frames
+      → IsUnderWay ops script ranks size (set processes p (record { me = r.me; node = r.node; bound = binds w.target (given_name f.outcome) r.bound; requests = r.requests; todo = r.todo; waits = None; lines = r.lines ++ text ∷ [] })) frames
   hears w f text wait e t =
-      let c = coupled script ranks size processes frames run in
+      let c = coupled ops script ranks size processes frames run in
       let local = run.system.ranks p in
       let todo = stands_so (Some w) r.todo wait refl in
       let answer = answer_with (births run.system.world) f.outcome in
       let known : told w.name w.call ≡ Some answer = ap (λ (n : NodeView). node_tells (births run.system.world) n w.name w.call) (sym (run.shows.nodes p r at)) ∙ ap (option_map (λ (x : Finished). answer_with (births run.system.world) x.outcome)) e in
       let to = bound_by answer.outcome answer.born in
-      let name_is : name_of to ≡ given_name answer.outcome = named_so answer.outcome answer.born (answer_born script ranks run.system c p w.name w.call answer known) in
+      let name_is : name_of to ≡ given_name answer.outcome = named_so answer.outcome answer.born (answer_born ops script ranks run.system c p w.name w.call answer known) in
       moved [] (done local (heard local w.name w.call w.target (doing r.todo) answer)) (record { me = r.me; node = r.node; bound = binds w.target (given_name f.outcome) r.bound; requests = r.requests; todo = r.todo; waits = None; lines = r.lines ++ text ∷ [] })
       (ap (posts_of p made local.bound) todo)
-      (step_hears told local w.name w.call w.target (doing r.todo) answer todo known)
+      (step_hears ops told local w.name w.call w.target (doing r.todo) answer todo known)
       (record { me = (run.shows.stands p r at l).me; bound = λ word. ap (λ n. binds w.target n r.bound word) (sym name_is) ∙ bound_so w.target to word; requests = (run.shows.stands p r at l).requests; todo = refl; lines = lines_so text (Told w.name w.call answer.outcome) t })
       (run.shows.nodes p r at) (λ q other. refl) refl
 
   -- what its node has of its next statement
-  post_driven : (posting : Posting) → Driven run.system.world p (posts_bound p made posting (named (run.system.ranks p).bound (word_of posting))) (attempt_at script ranks run.system (coupled script ranks size processes frames run) p posting) (tried posting (r.bound (word_of posting)) r.node)
+  post_driven : (posting : Posting) → Driven run.system.world p (posts_bound p made posting (named (run.system.ranks p).bound (word_of posting))) (attempt_at ops script ranks run.system (coupled ops script ranks size processes frames run) p posting) (tried ops posting (r.bound (word_of posting)) r.node)
   post_driven posting =
-      let c = coupled script ranks size processes frames run in
-      subst (λ (t : Tried). Driven run.system.world p (posts_bound p made posting (named (run.system.ranks p).bound (word_of posting))) (attempt_at script ranks run.system c p posting) t)
-      (λ i. tried posting (sym ((run.shows.stands p r at l).bound (word_of posting)) i) (sym (run.shows.nodes p r at) i)) (driven script ranks run.system c p l posting)
+      let c = coupled ops script ranks size processes frames run in
+      subst (λ (t : Tried). Driven run.system.world p (posts_bound p made posting (named (run.system.ranks p).bound (word_of posting))) (attempt_at ops script ranks run.system c p posting) t)
+      (λ i. tried ops posting (sym ((run.shows.stands p r at l).bound (word_of posting)) i) (sym (run.shows.nodes p r at) i)) (driven ops script ranks run.system c p l posting)
 
   -- it posts
-  posts_next : (posting : Posting) (rest : List Statement) (name : Name) (call : ℕ) → r.waits ≡ None → r.todo ≡ Post posting ∷ rest → started_as posting ≡ None → (tried posting (r.bound (word_of posting)) r.node).answer ≡ Ok (name, call)
-      → IsUnderWay script ranks size (set processes p (record { me = r.me; node = (tried posting (r.bound (word_of posting)) r.node).node; bound = r.bound; requests = r.requests; todo = rest; waits = Some (record { name = name; call = call; target = bound_to posting }); lines = r.lines })) frames
+  posts_next : (posting : Posting) (rest : List Statement) (name : Name) (call : ℕ) → r.waits ≡ None → r.todo ≡ Post posting ∷ rest → started_as posting ≡ None → (tried ops posting (r.bound (word_of posting)) r.node).answer ≡ Ok (name, call)
+      → IsUnderWay ops script ranks size (set processes p (record { me = r.me; node = (tried ops posting (r.bound (word_of posting)) r.node).node; bound = r.bound; requests = r.requests; todo = rest; waits = Some (record { name = name; call = call; target = bound_to posting }); lines = r.lines })) frames
   posts_next posting rest name call w t b e =
-      let c = coupled script ranks size processes frames run in
+      let c = coupled ops script ranks size processes frames run in
       let local = run.system.ranks p in
       let todo = stands_so None (Post posting ∷ rest) w t in
       let d = post_driven posting in
-      let found = answered_ok (run.system.world.each p).made (attempt_at script ranks run.system c p posting) name call (sym d.answer ∙ e) in
+      let found = answered_ok (run.system.world.each p).made (attempt_at ops script ranks run.system c p posting) name call (sym d.answer ∙ e) in
       let m : Made = found.0 in
       let count : next_call m.name local.made ≡ call = ap (next_call m.name) (sym (c.made p)) ∙ found.3 in
-      moved (posts_bound p made posting (named local.bound (word_of posting))) (done local (posted local (bound_to posting) (doing rest) m)) (record { me = r.me; node = (tried posting (r.bound (word_of posting)) r.node).node; bound = r.bound; requests = r.requests; todo = rest; waits = Some (record { name = name; call = call; target = bound_to posting }); lines = r.lines })
+      moved (posts_bound p made posting (named local.bound (word_of posting))) (done local (posted local (bound_to posting) (doing rest) m)) (record { me = r.me; node = (tried ops posting (r.bound (word_of posting)) r.node).node; bound = r.bound; requests = r.requests; todo = rest; waits = Some (record { name = name; call = call; target = bound_to posting }); lines = r.lines })
       (ap (posts_of p made local.bound) todo)
-      (step_posts told local posting (doing rest) m todo b (attempts_same script ranks run.system c p posting ∙ found.1))
+      (step_posts ops told local posting (doing rest) m todo b (attempts_same ops script ranks run.system c p posting ∙ found.1))
       (record { me = (run.shows.stands p r at l).me; bound = (run.shows.stands p r at l).bound; requests = (run.shows.stands p r at l).requests; todo = λ i. Await (found.2 i) (count i) (bound_to posting) ∷ doing rest; lines = (run.shows.stands p r at l).lines ∙ ap (map line_text) (sym (append-nil local.lines)) })
       d.node d.nodes d.parts
 
   -- it posts, and goes on: the request is open
-  starts_next : (posting : Posting) (rest : List Statement) (word : List ℕ) (name : Name) (call : ℕ) → r.waits ≡ None → r.todo ≡ Post posting ∷ rest → started_as posting ≡ Some word → (tried posting (r.bound (word_of posting)) r.node).answer ≡ Ok (name, call)
-      → IsUnderWay script ranks size (set processes p (record { me = r.me; node = (tried posting (r.bound (word_of posting)) r.node).node; bound = r.bound; requests = binds (Some word) (name, call) r.requests; todo = rest; waits = None; lines = r.lines })) frames
+  starts_next : (posting : Posting) (rest : List Statement) (word : List ℕ) (name : Name) (call : ℕ) → r.waits ≡ None → r.todo ≡ Post posting ∷ rest → started_as posting ≡ Some word → (tried ops posting (r.bound (word_of posting)) r.node).answer ≡ Ok (name, call)
+      → IsUnderWay ops script ranks size (set processes p (record { me = r.me; node = (tried ops posting (r.bound (word_of posting)) r.node).node; bound = r.bound; requests = binds (Some word) (name, call) r.requests; todo = rest; waits = None; lines = r.lines })) frames
   starts_next posting rest word name call w t b e =
-      let c = coupled script ranks size processes frames run in
+      let c = coupled ops script ranks size processes frames run in
       let local = run.system.ranks p in
       let stands = run.shows.stands p r at l in
       let todo = stands_so None (Post posting ∷ rest) w t in
       let d = post_driven posting in
-      let found = answered_ok (run.system.world.each p).made (attempt_at script ranks run.system c p posting) name call (sym d.answer ∙ e) in
+      let found = answered_ok (run.system.world.each p).made (attempt_at ops script ranks run.system c p posting) name call (sym d.answer ∙ e) in
       let m : Made = found.0 in
       let count : next_call m.name local.made ≡ call = ap (next_call m.name) (sym (c.made p)) ∙ found.3 in
-      moved (posts_bound p made posting (named local.bound (word_of posting))) (done local (started local word (doing rest) m)) (record { me = r.me; node = (tried posting (r.bound (word_of posting)) r.node).node; bound = r.bound; requests = binds (Some word) (name, call) r.requests; todo = rest; waits = None; lines = r.lines })
+      moved (posts_bound p made posting (named local.bound (word_of posting))) (done local (started local word (doing rest) m)) (record { me = r.me; node = (tried ops posting (r.bound (word_of posting)) r.node).node; bound = r.bound; requests = binds (Some word) (name, call) r.requests; todo = rest; waits = None; lines = r.lines })
       (ap (posts_of p made local.bound) todo)
-      (step_starts told local posting (doing rest) word m todo b (attempts_same script ranks run.system c p posting ∙ found.1))
+      (step_starts ops told local posting (doing rest) word m todo b (attempts_same ops script ranks run.system c p posting ∙ found.1))
       (record {
         me = stands.me;
         bound = stands.bound;
@@ -168,23 +171,23 @@ module _ (script : List (List Statement)) (ranks size : ℕ) (processes : List R
       d.node d.nodes d.parts
 
   -- it is refused
-  is_refused : (posting : Posting) (rest : List Statement) (refusal : PostError) (text : List ℕ) → r.waits ≡ None → r.todo ≡ Post posting ∷ rest → (tried posting (r.bound (word_of posting)) r.node).answer ≡ Err refusal → text ≡ line_text (Refused refusal)
-      → IsUnderWay script ranks size (set processes p (record { me = r.me; node = (tried posting (r.bound (word_of posting)) r.node).node; bound = binds (bound_to posting) None r.bound; requests = r.requests; todo = rest; waits = None; lines = r.lines ++ text ∷ [] })) frames
+  is_refused : (posting : Posting) (rest : List Statement) (refusal : PostError) (text : List ℕ) → r.waits ≡ None → r.todo ≡ Post posting ∷ rest → (tried ops posting (r.bound (word_of posting)) r.node).answer ≡ Err refusal → text ≡ line_text (Refused refusal)
+      → IsUnderWay ops script ranks size (set processes p (record { me = r.me; node = (tried ops posting (r.bound (word_of posting)) r.node).node; bound = binds (bound_to posting) None r.bound; requests = r.requests; todo = rest; waits = None; lines = r.lines ++ text ∷ [] })) frames
   is_refused posting rest refusal text w t e u =
-      let c = coupled script ranks size processes frames run in
+      let c = coupled ops script ranks size processes frames run in
       let local = run.system.ranks p in
       let todo = stands_so None (Post posting ∷ rest) w t in
       let d = post_driven posting in
-      let is = answered_err (run.system.world.each p).made (attempt_at script ranks run.system c p posting) refusal (sym d.answer ∙ e) in
-      moved (posts_bound p made posting (named local.bound (word_of posting))) (done local (turned_down local (bound_to posting) (doing rest) refusal)) (record { me = r.me; node = (tried posting (r.bound (word_of posting)) r.node).node; bound = binds (bound_to posting) None r.bound; requests = r.requests; todo = rest; waits = None; lines = r.lines ++ text ∷ [] })
+      let is = answered_err (run.system.world.each p).made (attempt_at ops script ranks run.system c p posting) refusal (sym d.answer ∙ e) in
+      moved (posts_bound p made posting (named local.bound (word_of posting))) (done local (turned_down local (bound_to posting) (doing rest) refusal)) (record { me = r.me; node = (tried ops posting (r.bound (word_of posting)) r.node).node; bound = binds (bound_to posting) None r.bound; requests = r.requests; todo = rest; waits = None; lines = r.lines ++ text ∷ [] })
       (ap (posts_of p made local.bound) todo)
-      (step_refused told local posting (doing rest) refusal todo (attempts_same script ranks run.system c p posting ∙ is))
+      (step_refused ops told local posting (doing rest) refusal todo (attempts_same ops script ranks run.system c p posting ∙ is))
       (record { me = (run.shows.stands p r at l).me; bound = bound_so (bound_to posting) NullCommunicator; requests = (run.shows.stands p r at l).requests; todo = refl; lines = lines_so text (Refused refusal) u })
       d.node d.nodes d.parts
 
   -- it passes a wait whose results its node holds
   passes_next : (words : List (List ℕ)) (rest : List Statement) → r.waits ≡ None → r.todo ≡ Wait words ∷ rest → are_held r.node r.requests words ≡ true
-      → IsUnderWay script ranks size (set processes p (record { me = r.me; node = r.node; bound = r.bound; requests = closed_all words r.requests; todo = rest; waits = None; lines = r.lines ++ wait_lines r.node r.requests words })) frames
+      → IsUnderWay ops script ranks size (set processes p (record { me = r.me; node = r.node; bound = r.bound; requests = closed_all words r.requests; todo = rest; waits = None; lines = r.lines ++ wait_lines r.node r.requests words })) frames
   passes_next words rest w t h =
       let local = run.system.ranks p in
       let stands = run.shows.stands p r at l in
@@ -193,7 +196,7 @@ module _ (script : List (List Statement)) (ranks size : ℕ) (processes : List R
       let known : answers told (awaited_by local.requests words) ≡ Some comes.told = ap (λ (n : NodeView). answers (node_tells (births run.system.world) n) (awaited_by local.requests words)) (sym (run.shows.nodes p r at)) ∙ comes.known_as in
       moved [] (done local (waited local words (doing rest) comes.told)) (record { me = r.me; node = r.node; bound = r.bound; requests = closed_all words r.requests; todo = rest; waits = None; lines = r.lines ++ wait_lines r.node r.requests words })
       (ap (posts_of p made local.bound) todo)
-      (step_passes told local words (doing rest) comes.told todo known)
+      (step_passes ops told local words (doing rest) comes.told todo known)
       (record {
         me = stands.me;
         bound = stands.bound;
@@ -205,48 +208,48 @@ module _ (script : List (List Statement)) (ranks size : ℕ) (processes : List R
 
   -- it asks
   asks_next : (question : Question) (rest : List Statement) (text : List ℕ) → r.waits ≡ None → r.todo ≡ Ask question ∷ rest → text ≡ line_text (answered_on r.me r.bound question r.node)
-      → IsUnderWay script ranks size (set processes p (record { me = r.me; node = r.node; bound = r.bound; requests = r.requests; todo = rest; waits = None; lines = r.lines ++ text ∷ [] })) frames
+      → IsUnderWay ops script ranks size (set processes p (record { me = r.me; node = r.node; bound = r.bound; requests = r.requests; todo = rest; waits = None; lines = r.lines ++ text ∷ [] })) frames
   asks_next question rest text w t u =
-      let c = coupled script ranks size processes frames run in
+      let c = coupled ops script ranks size processes frames run in
       let local = run.system.ranks p in
       let stands = run.shows.stands p r at l in
       let todo = stands_so None (Ask question ∷ rest) w t in
-      let line : answered_on r.me r.bound question r.node ≡ answered_rank local.me local.bound local.made question = (λ i. answered_on (stands.me i) (λ word. stands.bound word i) question (run.shows.nodes p r at i)) ∙ answer_same script ranks run.system c p l question in
+      let line : answered_on r.me r.bound question r.node ≡ answered_rank local.me local.bound local.made question = (λ i. answered_on (stands.me i) (λ word. stands.bound word i) question (run.shows.nodes p r at i)) ∙ answer_same ops script ranks run.system c p l question in
       moved [] (done local (told_at_once local question (doing rest))) (record { me = r.me; node = r.node; bound = r.bound; requests = r.requests; todo = rest; waits = None; lines = r.lines ++ text ∷ [] })
       (ap (posts_of p made local.bound) todo)
-      (step_asks told local question (doing rest) todo)
+      (step_asks ops told local question (doing rest) todo)
       (record { me = stands.me; bound = stands.bound; requests = stands.requests; todo = refl; lines = lines_so text (answered_rank local.me local.bound local.made question) (u ∙ ap line_text line) })
       (run.shows.nodes p r at) (λ q other. refl) refl
 
-pub moves_hears : (r : RankView) (w : WaitView) (f : Finished) (text : List ℕ) → r.waits ≡ Some w → slice_get (results_on r.node w.name) w.call ≡ Some f → text ≡ outcome_text f.outcome
-    → Moves r (record { me = r.me; node = r.node; bound = binds w.target (given_name f.outcome) r.bound; requests = r.requests; todo = r.todo; waits = None; lines = r.lines ++ text ∷ [] })
-moves_hears r w f text wait e t script ranks size processes frames p l at run = hears script ranks size processes frames p l r at run w f text wait e t
+pub moves_hears : (ops : List Operation) (r : RankView) (w : WaitView) (f : Finished) (text : List ℕ) → r.waits ≡ Some w → slice_get (results_on r.node w.name) w.call ≡ Some f → text ≡ outcome_text f.outcome
+    → Moves ops r (record { me = r.me; node = r.node; bound = binds w.target (given_name f.outcome) r.bound; requests = r.requests; todo = r.todo; waits = None; lines = r.lines ++ text ∷ [] })
+moves_hears ops r w f text wait e t script ranks size processes frames p l at run = hears ops script ranks size processes frames p l r at run w f text wait e t
 
-pub moves_posts : (r : RankView) (posting : Posting) (rest : List Statement) (name : Name) (call : ℕ) → r.waits ≡ None → r.todo ≡ Post posting ∷ rest → started_as posting ≡ None → (tried posting (r.bound (word_of posting)) r.node).answer ≡ Ok (name, call)
-    → Moves r (record { me = r.me; node = (tried posting (r.bound (word_of posting)) r.node).node; bound = r.bound; requests = r.requests; todo = rest; waits = Some (record { name = name; call = call; target = bound_to posting }); lines = r.lines })
-moves_posts r posting rest name call w t b e script ranks size processes frames p l at run = posts_next script ranks size processes frames p l r at run posting rest name call w t b e
+pub moves_posts : (ops : List Operation) (r : RankView) (posting : Posting) (rest : List Statement) (name : Name) (call : ℕ) → r.waits ≡ None → r.todo ≡ Post posting ∷ rest → started_as posting ≡ None → (tried ops posting (r.bound (word_of posting)) r.node).answer ≡ Ok (name, call)
+    → Moves ops r (record { me = r.me; node = (tried ops posting (r.bound (word_of posting)) r.node).node; bound = r.bound; requests = r.requests; todo = rest; waits = Some (record { name = name; call = call; target = bound_to posting }); lines = r.lines })
+moves_posts ops r posting rest name call w t b e script ranks size processes frames p l at run = posts_next ops script ranks size processes frames p l r at run posting rest name call w t b e
 
-pub moves_refused : (r : RankView) (posting : Posting) (rest : List Statement) (refusal : PostError) (text : List ℕ) → r.waits ≡ None → r.todo ≡ Post posting ∷ rest → (tried posting (r.bound (word_of posting)) r.node).answer ≡ Err refusal → text ≡ line_text (Refused refusal)
-    → Moves r (record { me = r.me; node = (tried posting (r.bound (word_of posting)) r.node).node; bound = binds (bound_to posting) None r.bound; requests = r.requests; todo = rest; waits = None; lines = r.lines ++ text ∷ [] })
-moves_refused r posting rest refusal text w t e u script ranks size processes frames p l at run = is_refused script ranks size processes frames p l r at run posting rest refusal text w t e u
+pub moves_refused : (ops : List Operation) (r : RankView) (posting : Posting) (rest : List Statement) (refusal : PostError) (text : List ℕ) → r.waits ≡ None → r.todo ≡ Post posting ∷ rest → (tried ops posting (r.bound (word_of posting)) r.node).answer ≡ Err refusal → text ≡ line_text (Refused refusal)
+    → Moves ops r (record { me = r.me; node = (tried ops posting (r.bound (word_of posting)) r.node).node; bound = binds (bound_to posting) None r.bound; requests = r.requests; todo = rest; waits = None; lines = r.lines ++ text ∷ [] })
+moves_refused ops r posting rest refusal text w t e u script ranks size processes frames p l at run = is_refused ops script ranks size processes frames p l r at run posting rest refusal text w t e u
 
-pub moves_starts : (r : RankView) (posting : Posting) (rest : List Statement) (word : List ℕ) (name : Name) (call : ℕ) → r.waits ≡ None → r.todo ≡ Post posting ∷ rest → started_as posting ≡ Some word → (tried posting (r.bound (word_of posting)) r.node).answer ≡ Ok (name, call)
-    → Moves r (record { me = r.me; node = (tried posting (r.bound (word_of posting)) r.node).node; bound = r.bound; requests = binds (Some word) (name, call) r.requests; todo = rest; waits = None; lines = r.lines })
-moves_starts r posting rest word name call w t b e script ranks size processes frames p l at run = starts_next script ranks size processes frames p l r at run posting rest word name call w t b e
+pub moves_starts : (ops : List Operation) (r : RankView) (posting : Posting) (rest : List Statement) (word : List ℕ) (name : Name) (call : ℕ) → r.waits ≡ None → r.todo ≡ Post posting ∷ rest → started_as posting ≡ Some word → (tried ops posting (r.bound (word_of posting)) r.node).answer ≡ Ok (name, call)
+    → Moves ops r (record { me = r.me; node = (tried ops posting (r.bound (word_of posting)) r.node).node; bound = r.bound; requests = binds (Some word) (name, call) r.requests; todo = rest; waits = None; lines = r.lines })
+moves_starts ops r posting rest word name call w t b e script ranks size processes frames p l at run = starts_next ops script ranks size processes frames p l r at run posting rest word name call w t b e
 
-pub moves_passes : (r : RankView) (words : List (List ℕ)) (rest : List Statement) → r.waits ≡ None → r.todo ≡ Wait words ∷ rest → are_held r.node r.requests words ≡ true
-    → Moves r (record { me = r.me; node = r.node; bound = r.bound; requests = closed_all words r.requests; todo = rest; waits = None; lines = r.lines ++ wait_lines r.node r.requests words })
-moves_passes r words rest w t h script ranks size processes frames p l at run = passes_next script ranks size processes frames p l r at run words rest w t h
+pub moves_passes : (ops : List Operation) (r : RankView) (words : List (List ℕ)) (rest : List Statement) → r.waits ≡ None → r.todo ≡ Wait words ∷ rest → are_held r.node r.requests words ≡ true
+    → Moves ops r (record { me = r.me; node = r.node; bound = r.bound; requests = closed_all words r.requests; todo = rest; waits = None; lines = r.lines ++ wait_lines r.node r.requests words })
+moves_passes ops r words rest w t h script ranks size processes frames p l at run = passes_next ops script ranks size processes frames p l r at run words rest w t h
 
-pub moves_asks : (r : RankView) (question : Question) (rest : List Statement) (text : List ℕ) → r.waits ≡ None → r.todo ≡ Ask question ∷ rest → text ≡ line_text (answered_on r.me r.bound question r.node)
-    → Moves r (record { me = r.me; node = r.node; bound = r.bound; requests = r.requests; todo = rest; waits = None; lines = r.lines ++ text ∷ [] })
-moves_asks r question rest text w t u script ranks size processes frames p l at run = asks_next script ranks size processes frames p l r at run question rest text w t u
+pub moves_asks : (ops : List Operation) (r : RankView) (question : Question) (rest : List Statement) (text : List ℕ) → r.waits ≡ None → r.todo ≡ Ask question ∷ rest → text ≡ line_text (answered_on r.me r.bound question r.node)
+    → Moves ops r (record { me = r.me; node = r.node; bound = r.bound; requests = r.requests; todo = rest; waits = None; lines = r.lines ++ text ∷ [] })
+moves_asks ops r question rest text w t u script ranks size processes frames p l at run = asks_next ops script ranks size processes frames p l r at run question rest text w t u
 
-pub moves_keeps : (old new : RankView) → Keeps old new → Moves old new
-moves_keeps old new k script ranks size processes frames p l at run = k script ranks size processes frames p at run
+pub moves_keeps : (ops : List Operation) (old new : RankView) → Keeps ops old new → Moves ops old new
+moves_keeps ops old new k script ranks size processes frames p l at run = k script ranks size processes frames p at run
 
-pub moves_itself : (r : RankView) → Moves r r
-moves_itself r = moves_keeps r r (keeps_itself r)
+pub moves_itself : (ops : List Operation) (r : RankView) → Moves ops r r
+moves_itself ops r = moves_keeps ops r r (keeps_itself ops r)
 
 pub lines_push : {A : Type 0} (text_of : A → List ℕ) (lines new : List A) (line : A) (text : List ℕ) → new ≡ lines ++ line ∷ [] → text_of line ≡ text → map text_of new ≡ map text_of lines ++ text ∷ []
 lines_push text_of lines new line text e f = ap (map text_of) e ∙ map-append text_of lines (line ∷ []) ∙ ap (λ x. map text_of lines ++ x ∷ []) f

@@ -3,6 +3,7 @@ use Rattle.std.proofs.Common.{◌≡◌, ℕ, ℤ, Bool, true, false, cond, ◌=
 use Rattle.std.specs.Prelude.{slice_get, is_some, IsTrue, Result, Ok, Err, option_and_then}
 use Rattle.std.specs.Option.{option_map}
 use Rattle.std.proofs.lemmas.Option.{same_Some}
+use Rattle.mpx_num.specs.declared.own.Operation.{Operation}
 use Rattle.mpx_name.specs.Name.{Name}
 use Rattle.mpx_post.specs.Posts.{Given, is_free}
 use Rattle.mpx_post.specs.Births.{BirthView, of_members, rank_in}
@@ -46,14 +47,14 @@ upheld_happens w h u m = record { holds = holds_happens w h u.holds m; in_all = 
 
 -- of a member's draft and gathering on an opened context the node asks what the birth, its posts and its free say, where it is freed or
 -- the birth is told
-opened_checks : (o : Option OpenedView) (said : Option BirthView) (birth : BirthView) (me rank : ℕ) (name : Name) (draft : Draft) → IsTrue (is_some o) → rank_in me birth.members ≡ Some rank → (freed_by o ≡ true) ⊎ (said ≡ Some birth)
-    → checked_by o said me name draft ≡ checked birth me (at name (posted_by o) (freed_by o)) draft
-opened_checks None said birth me rank name draft e m known = cc e
-opened_checks (Some o) said birth me rank name draft e m known = by_freed o.freed known where
-  by_freed : (b : Bool) → (b ≡ true) ⊎ (said ≡ Some birth) → (let x : Result Given PostError = cond b (Err Closed) (checked_there o.posted said me name draft) in x) ≡ checked birth me (at name o.posted b) draft
-  by_freed true k = sym (closed_there birth me rank (at name o.posted true) draft m refl)
+opened_checks : (ops : List Operation) (o : Option OpenedView) (said : Option BirthView) (birth : BirthView) (me rank : ℕ) (name : Name) (draft : Draft) → IsTrue (is_some o) → rank_in me birth.members ≡ Some rank → (freed_by o ≡ true) ⊎ (said ≡ Some birth)
+    → checked_by ops o said me name draft ≡ checked ops birth me (at name (posted_by o) (freed_by o)) draft
+opened_checks ops None said birth me rank name draft e m known = cc e
+opened_checks ops (Some o) said birth me rank name draft e m known = by_freed o.freed known where
+  by_freed : (b : Bool) → (b ≡ true) ⊎ (said ≡ Some birth) → (let x : Result Given PostError = cond b (Err Closed) (checked_there ops o.posted said me name draft) in x) ≡ checked ops birth me (at name o.posted b) draft
+  by_freed true k = sym (closed_there ops birth me rank (at name o.posted true) draft m refl)
   by_freed false (inl never) = cc never
-  by_freed false (inr is) = ap (λ x. checked_there o.posted x me name draft) is
+  by_freed false (inr is) = ap (λ x. checked_there ops o.posted x me name draft) is
 
 opened_gathers : (o : Option OpenedView) (said : Option BirthView) (birth : BirthView) (me rank : ℕ) (name : Name) (tag : ℤ) (ranks : List ℤ) → IsTrue (is_some o) → rank_in me birth.members ≡ Some rank → (freed_by o ≡ true) ⊎ (said ≡ Some birth)
     → gathers_by o said me name tag ranks ≡ gathering birth me (length name) (freed_by o) tag ranks
@@ -98,7 +99,7 @@ module _ (w : WorldView) (u : Upheld w) (p : ℕ) where
       let i = is_in w u.holds u.in_all p name t in
       let f = ((board_so w p (w.each p) g).contexts_so name).dead_so dead in
       let same : i.birth ≡ f.birth = same_Some i.birth f.birth (sym i.born ∙ f.born) in
-      let own = all_of_at (history w name f.call) f.birth.members f.row f.whole i.rank p (subst (λ (b : BirthView). slice_get b.members i.rank ≡ Some p) same i.member) in
+      let own = all_of_at ((history w).post name f.call) f.birth.members f.row f.whole i.rank p (subst (λ (b : BirthView). slice_get b.members i.rank ≡ Some p) same i.member) in
       g.closed name ∙ any_at is_free (posts_on name (w.each p).made) f.call own.0 own.1 (f.frees i.rank own.0 own.2)
 
   -- a context that it has opened it has freed, or its board tells the birth
@@ -117,14 +118,14 @@ module _ (w : WorldView) (u : Upheld w) (p : ℕ) where
       (x.rank, ap (λ (y : BirthView). rank_in p y.members) (sym same) ∙ x.member)
 
   -- the node checks a draft as its birth and its posts say
-  checks_so : (name : Name) (birth : BirthView) → IsTrue (is_some ((w.each p).node.opened name)) → births w name ≡ Some birth → (draft : Draft) → checked_on (w.each p).node name draft ≡ checked birth p (at name (next_call name (w.each p).made) (has_freed name (w.each p).made)) draft
+  checks_so : (name : Name) (birth : BirthView) → IsTrue (is_some ((w.each p).node.opened name)) → births w name ≡ Some birth → (draft : Draft) → checked_on w.operations (w.each p).node name draft ≡ checked w.operations birth p (at name (next_call name (w.each p).made) (has_freed name (w.each p).made)) draft
   checks_so name birth t b draft =
       let node = (w.each p).node in
       let g = u.holds.processes p in
       let m = ranked_in name birth t b in
-      (λ i. checked_by (node.opened name) (told (node.board.contexts name).birth) (g.me_is i) name draft)
-      ∙ opened_checks (node.opened name) (told (node.board.contexts name).birth) birth p m.0 name draft t m.1 (freed_or_told name birth t b)
-      ∙ λ i. checked birth p (at name (g.counted name i) (g.closed name i)) draft
+      (λ i. checked_by w.operations (node.opened name) (told (node.board.contexts name).birth) (g.me_is i) name draft)
+      ∙ opened_checks w.operations (node.opened name) (told (node.board.contexts name).birth) birth p m.0 name draft t m.1 (freed_or_told name birth t b)
+      ∙ λ i. checked w.operations birth p (at name (g.counted name i) (g.closed name i)) draft
 
   gathers_so : (name : Name) (birth : BirthView) → IsTrue (is_some ((w.each p).node.opened name)) → births w name ≡ Some birth → (tag : ℤ) (ranks : List ℤ) → gathers_on (w.each p).node name tag ranks ≡ gathering birth p (length name) (has_freed name (w.each p).made) tag ranks
   gathers_so name birth t b tag ranks =
@@ -152,7 +153,7 @@ tells_on w new later u v q name k answer e =
 pub value_known : (w : WorldView) (p : ℕ) (name : Name) (k : ℕ) (f : Finished) → IsValue w p name k f → results_of (history w) w.ranks p name k ≡ Some (answer_with (births w) f.outcome)
 value_known w p name k f v = ap (option_map (answer_with (births w)))
     (ap (option_and_then (λ birth. outcomes_by (history w) name birth p k)) v.born
-    ∙ ap (option_and_then (λ row. value_for v.birth p row name k)) v.whole ∙ v.outcome)
+    ∙ ap (option_and_then (λ row. value_for w.operations v.birth p row name k)) v.whole ∙ v.outcome)
 
 -- A NODE'S POSTS
 
@@ -209,26 +210,26 @@ module _ (w : WorldView) (u : Upheld w) (p : ℕ) (name : Name) where
   answers_by (Ok given) v e = ap (λ k. let a : Result (Name × ℕ) PostError = Ok (name, k) in a) e
   answers_by (Err refusal) v e = refl
 
-  driven_checked : (draft : Draft) → Driven w p (Posts p name draft ∷ []) (made_on name (checked_on (w.each p).node name draft)) (tried_post name (checked_on (w.each p).node name draft) (w.each p).node)
+  driven_checked : (draft : Draft) → Driven w p (Posts p name draft ∷ []) (made_on name (checked_on w.operations (w.each p).node name draft)) (tried_post name (checked_on w.operations (w.each p).node name draft) (w.each p).node)
   driven_checked draft =
       let v = w.each p in
-      let r = checked_on v.node name draft in
+      let r = checked_on w.operations v.node name draft in
       record {
         follows = record {
           upheld = upheld_happens w (Posts p name draft) u tt;
           later = later_happens w (Posts p name draft);
-          here = ap (λ (x : ProcessView). x.made) (at_here w p (posts name draft)) ∙ made_by r v;
-          others = λ q d. ap (λ b. (cond b (posts name draft (w.each q)) (w.each q)).made) d;
+          here = ap (λ (x : ProcessView). x.made) (at_here w p (posts w.operations name draft)) ∙ made_by r v;
+          others = λ q d. ap (λ b. (cond b (posts w.operations name draft (w.each q)) (w.each q)).made) d;
         };
-        node = tries_by r v ∙ ap (λ (x : ProcessView). x.node) (sym (at_here w p (posts name draft)));
-        nodes = λ q other. ap (λ (x : ProcessView). x.node) (each_other w p (posts name draft) q other);
+        node = tries_by r v ∙ ap (λ (x : ProcessView). x.node) (sym (at_here w p (posts w.operations name draft)));
+        nodes = λ q other. ap (λ (x : ProcessView). x.node) (each_other w p (posts w.operations name draft) q other);
         parts = refl;
         answer = answers_by r v ((u.holds.processes p).counted name);
       }
 
   driven_post : (birth : BirthView) → IsTrue (is_some ((w.each p).node.opened name)) → births w name ≡ Some birth → (draft : Draft)
-      → Driven w p (Posts p name draft ∷ []) (post_on p (w.each p).made draft name birth) (tried_post name (checked_on (w.each p).node name draft) (w.each p).node)
-  driven_post birth t b draft = subst (λ x. Driven w p (Posts p name draft ∷ []) (made_on name x) (tried_post name (checked_on (w.each p).node name draft) (w.each p).node)) (checks_so w u p name birth t b draft) (driven_checked draft)
+      → Driven w p (Posts p name draft ∷ []) (post_on w.operations p (w.each p).made draft name birth) (tried_post name (checked_on w.operations (w.each p).node name draft) (w.each p).node)
+  driven_post birth t b draft = subst (λ x. Driven w p (Posts p name draft ∷ []) (made_on name x) (tried_post name (checked_on w.operations (w.each p).node name draft) (w.each p).node)) (checks_so w u p name birth t b draft) (driven_checked draft)
 
 -- A GATHERING, AND THE POST THERE
 
@@ -237,7 +238,7 @@ module _ (w : WorldView) (u : Upheld w) (p : ℕ) (name : Name) where
   gathers_node tag ranks g e = ap (λ (x : ProcessView). x.node) (at_here w p (gathers name tag ranks)) ∙ ap (λ r. (opens_gathering name r (w.each p)).node) e
 
   driven_gathering : (birth : BirthView) → IsTrue (is_some ((w.each p).node.opened name)) → births w name ≡ Some birth → (draft : Draft) (asked : Asked) (g : GatheringView) → gathering birth p (length name) (has_freed name (w.each p).made) asked.tag asked.ranks ≡ Ok g
-      → Driven w p (posts_gathered p draft name asked (Ok g)) (post_gathered p (w.each p).made draft name (Ok g)) (tried_gathered name draft (Ok g) (w.each p).node)
+      → Driven w p (posts_gathered p draft name asked (Ok g)) (post_gathered w.operations p (w.each p).made draft name (Ok g)) (tried_gathered w.operations name draft (Ok g) (w.each p).node)
   driven_gathering birth t b draft asked g e =
       let h : Happening = Gathers p name asked.tag asked.ranks in
       let new = happens w h in
@@ -249,33 +250,33 @@ module _ (w : WorldView) (u : Upheld w) (p : ℕ) (name : Name) where
       let there : IsTrue (is_some ((new.each p).node.opened at_new)) = gathering_opened w p name asked.tag asked.ranks g accepted in
       let born : births new at_new ≡ Some (of_members g.members) = ap (option_and_then (gathered g.members)) (births_grow w new later name birth b) ∙ gathered_there birth p (length name) (has_freed name (w.each p).made) asked.tag asked.ranks g e in
       let d = driven_post new (upheld_happens w h u tt) p at_new (of_members g.members) there born draft in
-      let moved : Driven new p (Posts p at_new draft ∷ []) (post_on p (w.each p).made draft at_new (of_members g.members)) (tried_gathered name draft (Ok g) (w.each p).node)
-      = subst (λ (n : NodeView). Driven new p (Posts p at_new draft ∷ []) (post_on p (w.each p).made draft at_new (of_members g.members)) (tried_post at_new (checked_on n at_new draft) n)) node_is
-      (subst (λ ms. Driven new p (Posts p at_new draft ∷ []) (post_on p ms draft at_new (of_members g.members)) (tried_post at_new (checked_on (new.each p).node at_new draft) (new.each p).node)) made_is d) in
+      let moved : Driven new p (Posts p at_new draft ∷ []) (post_on w.operations p (w.each p).made draft at_new (of_members g.members)) (tried_gathered w.operations name draft (Ok g) (w.each p).node)
+      = subst (λ (n : NodeView). Driven new p (Posts p at_new draft ∷ []) (post_on w.operations p (w.each p).made draft at_new (of_members g.members)) (tried_post at_new (checked_on w.operations n at_new draft) n)) node_is
+      (subst (λ ms. Driven new p (Posts p at_new draft ∷ []) (post_on w.operations p ms draft at_new (of_members g.members)) (tried_post at_new (checked_on w.operations (new.each p).node at_new draft) (new.each p).node)) made_is d) in
       record {
         follows = record {
           upheld = moved.follows.upheld;
           later = later_then w new (goes_on_world new (Posts p at_new draft ∷ [])) later moved.follows.later;
-          here = moved.follows.here ∙ ap (λ ms. ms ++ added_by (post_on p (w.each p).made draft at_new (of_members g.members))) made_is;
+          here = moved.follows.here ∙ ap (λ ms. ms ++ added_by (post_on w.operations p (w.each p).made draft at_new (of_members g.members))) made_is;
           others = λ q d. moved.follows.others q d ∙ made_happens w h tt q;
         };
         node = moved.node;
         nodes = λ q other. moved.nodes q other ∙ ap (λ (x : ProcessView). x.node) (each_other w p (gathers name asked.tag asked.ranks) q other);
         parts = moved.parts;
-        answer = moved.answer ∙ ap (λ ms. answered ms (post_on p (w.each p).made draft at_new (of_members g.members))) made_is;
+        answer = moved.answer ∙ ap (λ ms. answered ms (post_on w.operations p (w.each p).made draft at_new (of_members g.members))) made_is;
       }
 
   driven_gathers : (birth : BirthView) → IsTrue (is_some ((w.each p).node.opened name)) → births w name ≡ Some birth → (draft : Draft) (asked : Asked) (x : Result GatheringView PostError) → gathering birth p (length name) (has_freed name (w.each p).made) asked.tag asked.ranks ≡ x
-      → Driven w p (posts_gathered p draft name asked x) (post_gathered p (w.each p).made draft name x) (tried_gathered name draft x (w.each p).node)
+      → Driven w p (posts_gathered p draft name asked x) (post_gathered w.operations p (w.each p).made draft name x) (tried_gathered w.operations name draft x (w.each p).node)
   driven_gathers birth t b draft asked (Ok g) e = driven_gathering birth t b draft asked g e
   driven_gathers birth t b draft asked (Err refusal) e = driven_nothing w u p refusal
 
   driven_in : (birth : BirthView) → IsTrue (is_some ((w.each p).node.opened name)) → births w name ≡ Some birth → (draft : Draft) (asked : Option Asked)
-      → Driven w p (posts_in p (w.each p).made draft asked name birth) (attempt_in p (w.each p).made draft asked name birth) (tried_in draft asked name (w.each p).node)
+      → Driven w p (posts_in p (w.each p).made draft asked name birth) (attempt_in w.operations p (w.each p).made draft asked name birth) (tried_in w.operations draft asked name (w.each p).node)
   driven_in birth t b draft None = driven_post w u p name birth t b draft
   driven_in birth t b draft (Some asked) =
       let x = gathering birth p (length name) (has_freed name (w.each p).made) asked.tag asked.ranks in
-      subst (λ y. Driven w p (posts_gathered p draft name asked x) (post_gathered p (w.each p).made draft name x) (tried_gathered name draft y (w.each p).node)) (sym (gathers_so w u p name birth t b asked.tag asked.ranks)) (driven_gathers birth t b draft asked x refl)
+      subst (λ y. Driven w p (posts_gathered p draft name asked x) (post_gathered w.operations p (w.each p).made draft name x) (tried_gathered w.operations name draft y (w.each p).node)) (sym (gathers_so w u p name birth t b asked.tag asked.ranks)) (driven_gathers birth t b draft asked x refl)
 
 -- a word's communicator is opened, and came to be as its binding says
 abbrev pub IsBoundSo : WorldView → (p : ℕ) → Option Bound → Type 0
@@ -283,7 +284,7 @@ IsBoundSo w p bound = (name : Name) (birth : BirthView) → bound ≡ Some (Comm
 
 -- a statement on what its word is bound to
 pub driven_bound : (w : WorldView) → Upheld w → (p : ℕ) (posting : Posting) (bound : Option Bound) → IsBoundSo w p bound
-    → Driven w p (posts_bound p (w.each p).made posting bound) (attempt_on p (w.each p).made posting bound) (tried posting (option_map name_of bound) (w.each p).node)
+    → Driven w p (posts_bound p (w.each p).made posting bound) (attempt_on w.operations p (w.each p).made posting bound) (tried w.operations posting (option_map name_of bound) (w.each p).node)
 driven_bound w u p posting None h = driven_nothing w u p NotMember
 driven_bound w u p posting (Some NullCommunicator) h = driven_nothing w u p NotMember
 driven_bound w u p posting (Some (Communicator name birth)) h = let x = h name birth refl in driven_in w u p name birth x.0 x.1 (draft_of posting) (gathers_of posting)

@@ -4,6 +4,7 @@ use Rattle.std.specs.Prelude.{slice_get, nat_lt, ◌||◌, is_some}
 use Rattle.std.proofs.lemmas.List.{map-append, length-map}
 use Rattle.std.proofs.lemmas.Option.{slice_get-map}
 use Rattle.std.proofs.lemmas.Bool.Decides.{nat_tests}
+use Rattle.mpx_num.specs.declared.own.Operation.{Operation}
 use Rattle.mpx_node.specs.Nodes.{NodeView}
 use Rattle.mpx_board.specs.Boards.{Look}
 use Rattle.mpx_world.proofs.Lists.{slice_get-push}
@@ -91,7 +92,7 @@ left_todo None todo = left_doing todo
 pub prefix_map : (xs ys : List Line) → IsPrefixOf xs ys → IsPrefixOf (map line_text xs) (map line_text ys)
 prefix_map xs ys p = (map line_text p.0, sym (map-append line_text xs p.0) ∙ ap (map line_text) p.1)
 
-module _ (script : ScriptView) (relays : ℕ) (processes : List RankView) (frames : List Look) (run : IsUnderWay script.statements script.ranks (script.ranks + relays) processes frames) where
+module _ (ops : List Operation) (script : ScriptView) (relays : ℕ) (processes : List RankView) (frames : List Look) (run : IsUnderWay ops script.statements script.ranks (script.ranks + relays) processes frames) where
   abbrev nodes : List NodeView
   nodes = map (λ (r : RankView). r.node) processes
 
@@ -116,31 +117,31 @@ module _ (script : ScriptView) (relays : ℕ) (processes : List RankView) (frame
   waiting_so : waiting ≡ waiting_in run.system.ranks script.ranks
   waiting_so = which_same (λ p. is_waiting_at (slice_get processes p)) (λ p. is_left (run.system.ranks p).todo) script.ranks waits_at
 
-  pub is_run : IsRun script relays nodes transcripts waiting
+  pub is_run : IsRun ops script relays nodes transcripts waiting
   is_run =
-      let c = coupled script.statements script.ranks (script.ranks + relays) processes frames run in
+      let c = coupled ops script.statements script.ranks (script.ranks + relays) processes frames run in
       record {
         system = run.system;
         led = run.led;
-        world = subst (λ (s : System). IsOfHappenings script.ranks (script.ranks + relays) s.world) run.led.reached (of_happenings script.statements script.ranks (script.ranks + relays) run.led.doings run.led.may);
+        world = subst (λ (s : System). IsOfHappenings ops script.ranks (script.ranks + relays) s.world) run.led.reached (of_happenings ops script.statements script.ranks (script.ranks + relays) run.led.doings run.led.may);
         sound = sound_of run.system.world c.upheld.holds;
         processes = length-map processes (λ (r : RankView). r.node) ∙ run.shows.count;
         nodes_are = λ p node e. let found = mapped_at (λ (r : RankView). r.node) processes p node e in sym found.2 ∙ run.shows.nodes p found.0 found.1;
         posts = c.made;
         relays_post_nothing = λ p over. c.made p ∙ c.relays p over;
         carries_out = c.told;
-        told = tells_results script.statements script.ranks run.system c;
+        told = tells_results ops script.statements script.ranks run.system c;
         ranks_are = length_taken script.ranks (map (λ (r : RankView). r.lines) processes) (omega (arith, length-map processes (λ (r : RankView). r.lines), run.shows.count));
         lines = lines_so;
         waiting_are = waiting_so;
       }
 
-  module _ (end : State) (is : IsEvaluation script.statements script.ranks end) where
-    way : (p : ℕ) → Way (known script.ranks end p) (run.system.ranks p) (end p)
-    way p = (on_way-reached script.statements script.ranks end run.system.ranks is (coupled script.statements script.ranks (script.ranks + relays) processes frames run).reached).each p
+  module _ (end : State) (is : IsEvaluation ops script.statements script.ranks end) where
+    way : (p : ℕ) → Way ops (known ops script.ranks end p) (run.system.ranks p) (end p)
+    way p = (on_way-reached ops script.statements script.ranks end run.system.ranks is (coupled ops script.statements script.ranks (script.ranks + relays) processes frames run).reached).each p
 
     pub begin : Begin transcripts end
-    begin p lines e = subst (λ xs. IsPrefixOf xs (lines_in end p)) (sym (lines_so p lines e)) (prefix_map (run.system.ranks p).lines (end p).lines (way-adds (known script.ranks end p) (run.system.ranks p) (end p) (way p)).1)
+    begin p lines e = subst (λ xs. IsPrefixOf xs (lines_in end p)) (sym (lines_so p lines e)) (prefix_map (run.system.ranks p).lines (end p).lines (way-adds ops (known ops script.ranks end p) (run.system.ranks p) (end p) (way p)).1)
 
     pub are_whole : AreWhole transcripts waiting end
     are_whole p lines e other =
@@ -148,21 +149,21 @@ module _ (script : ScriptView) (relays : ℕ) (processes : List RankView) (frame
         let todo : (run.system.ranks p).todo ≡ [] = nothing_left (run.system.ranks p).todo (λ is.
         let found = which_has (λ q. is_left (run.system.ranks q).todo) script.ranks p l is in
         other found.0 (ap (λ ws. slice_get ws found.0) waiting_so ∙ found.1)) in
-        lines_so p lines e ∙ ap (λ (x : Local). map line_text x.lines) (finished (known script.ranks end p) (run.system.ranks p) (end p) (way p) todo)
+        lines_so p lines e ∙ ap (λ (x : Local). map line_text x.lines) (finished ops (known ops script.ranks end p) (run.system.ranks p) (end p) (way p) todo)
 
-module _ (script : ScriptView) (relays ranks : ℕ) (same : ranks ≡ script.ranks) (processes : List RankView) (frames : List Look) (run : IsUnderWay script.statements script.ranks (script.ranks + relays) processes frames)
+module _ (ops : List Operation) (script : ScriptView) (relays ranks : ℕ) (same : ranks ≡ script.ranks) (processes : List RankView) (frames : List Look) (run : IsUnderWay ops script.statements script.ranks (script.ranks + relays) processes frames)
     (told : List NodeView) (said : List (List (List ℕ))) (wait : List ℕ) (nodes_so : told ≡ map (λ (r : RankView). r.node) processes) (lines_said : said ≡ take ranks (map (λ (r : RankView). r.lines) processes)) (wait_so : wait ≡ which (λ p. is_waiting_at (slice_get processes p)) ranks) where
-  said_so : transcripts script relays processes frames run ≡ said
+  said_so : transcripts ops script relays processes frames run ≡ said
   said_so = sym (lines_said ∙ ap (λ n. take n (map (λ (r : RankView). r.lines) processes)) same)
 
-  waiting_is : waiting script relays processes frames run ≡ wait
+  waiting_is : waiting ops script relays processes frames run ≡ wait
   waiting_is = sym (wait_so ∙ ap (which (λ p. is_waiting_at (slice_get processes p))) same)
 
-  pub run_said : IsRun script relays told said wait
-  run_said = subst (λ ns. IsRun script relays ns said wait) (sym nodes_so) (subst (λ ls. IsRun script relays (nodes script relays processes frames run) ls wait) said_so (subst (IsRun script relays (nodes script relays processes frames run) (transcripts script relays processes frames run)) waiting_is (is_run script relays processes frames run)))
+  pub run_said : IsRun ops script relays told said wait
+  run_said = subst (λ ns. IsRun ops script relays ns said wait) (sym nodes_so) (subst (λ ls. IsRun ops script relays (nodes ops script relays processes frames run) ls wait) said_so (subst (IsRun ops script relays (nodes ops script relays processes frames run) (transcripts ops script relays processes frames run)) waiting_is (is_run ops script relays processes frames run)))
 
-  pub begin_said : (e : State) → IsEvaluation script.statements script.ranks e → Begin said e
-  begin_said e is = subst (λ ls. Begin ls e) said_so (begin script relays processes frames run e is)
+  pub begin_said : (e : State) → IsEvaluation ops script.statements script.ranks e → Begin said e
+  begin_said e is = subst (λ ls. Begin ls e) said_so (begin ops script relays processes frames run e is)
 
-  pub whole_said : (e : State) → IsEvaluation script.statements script.ranks e → AreWhole said wait e
-  whole_said e is = subst (λ ls. AreWhole ls wait e) said_so (subst (λ ws. AreWhole (transcripts script relays processes frames run) ws e) waiting_is (are_whole script relays processes frames run e is))
+  pub whole_said : (e : State) → IsEvaluation ops script.statements script.ranks e → AreWhole said wait e
+  whole_said e is = subst (λ ls. AreWhole ls wait e) said_so (subst (λ ws. AreWhole (transcripts ops script relays processes frames run) ws e) waiting_is (are_whole ops script relays processes frames run e is))

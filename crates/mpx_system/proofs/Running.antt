@@ -8,6 +8,7 @@ use Rattle.std.proofs.lemmas.List.Elements.{All-push}
 use Rattle.std.proofs.lemmas.Option.{slice_get-get_or, slice_get_within, same_Some}
 use Rattle.join_core.specs.declared.memory.OutOfMemory.{OutOfMemory}
 use Rattle.mpx_board.specs.declared.errors.PruneError.{PruneError}
+use Rattle.mpx_num.specs.declared.own.Operation.{Operation}
 use Rattle.mpx_name.specs.Name.{Name}
 use Rattle.mpx_board.specs.Boards.{Look}
 use Rattle.mpx_board.specs.Changes.{pruned_on}
@@ -61,8 +62,8 @@ leads_on ranks from to d l m = record {
   reached = does_all-push l.doings d from ∙ ap (λ s. does s d) l.reached;
 }
 
-pub coupled : (script : List (List Statement)) (ranks size : ℕ) (processes : List RankView) (frames : List Look) (run : IsUnderWay script ranks size processes frames) → Couples script ranks run.system
-coupled script ranks size processes frames run = subst (Couples script ranks) run.led.reached (couples_all script ranks run.led.doings (start_system script ranks size) (couples_start script ranks size) run.led.may)
+pub coupled : (ops : List Operation) (script : List (List Statement)) (ranks size : ℕ) (processes : List RankView) (frames : List Look) (run : IsUnderWay ops script ranks size processes frames) → Couples ops script ranks run.system
+coupled ops script ranks size processes frames run = subst (Couples ops script ranks) run.led.reached (couples_all ops script ranks run.led.doings (start_system ops script ranks size) (couples_start ops script ranks size) run.led.may)
 
 -- ONE PROCESS
 
@@ -74,13 +75,13 @@ pub record IsDoneAt (ranks : ℕ) (s t : System) (p : ℕ) (new : RankView) : Ty
   pub ranks_stay : (q : ℕ) → (q ≡ p → ⊥) → t.ranks q ≡ s.ranks q
   pub parts : t.world.parts ≡ s.world.parts
 
-pub run_on : (script : List (List Statement)) (ranks size : ℕ) (processes : List RankView) (frames : List Look) (run : IsUnderWay script ranks size processes frames) (p : ℕ) (new : RankView) (d : Doing)
-    → MayDo ranks run.system d → IsDoneAt ranks run.system (does run.system d) p new → IsUnderWay script ranks size (set processes p new) frames
-run_on script ranks size processes frames run p new d may is =
+pub run_on : (ops : List Operation) (script : List (List Statement)) (ranks size : ℕ) (processes : List RankView) (frames : List Look) (run : IsUnderWay ops script ranks size processes frames) (p : ℕ) (new : RankView) (d : Doing)
+    → MayDo ranks run.system d → IsDoneAt ranks run.system (does run.system d) p new → IsUnderWay ops script ranks size (set processes p new) frames
+run_on ops script ranks size processes frames run p new d may is =
     let t = does run.system d in
     record {
       system = t;
-      led = leads_on ranks (start_system script ranks size) run.system d run.led may;
+      led = leads_on ranks (start_system ops script ranks size) run.system d run.led may;
       shows = record {
         count = length-set processes p new ∙ run.shows.count;
         nodes = λ q r e. set_cases processes p q new r (λ x. x.node ≡ (t.world.each q).node) e
@@ -106,18 +107,19 @@ done_net ranks s p r new f stands e = record {
 
 -- A NODE'S STEPS
 
-stores_node : (name : Name) (o : Option Finished) (v : ProcessView) → (stores name o v).node ≡ stored name o v.node
-stores_node name None v = refl
-stores_node name (Some finished) v = refl
+stores_node : (ops : List Operation) (name : Name) (o : Option Finished) (v : ProcessView) → (stores ops name o v).node ≡ stored ops name o v.node
+stores_node ops name None v = refl
+stores_node ops name (Some finished) v = refl
 
-pub keeps_harvest : (name : Name) (r : RankView) → Keeps r (harvested name r)
-keeps_harvest name r script ranks size processes frames p at run =
+pub keeps_harvest : (ops : List Operation) (name : Name) (r : RankView) → Keeps ops r (harvested ops name r)
+keeps_harvest ops name r script ranks size processes frames p at run =
     let s = run.system in
     let v = s.world.each p in
     let same : r.node ≡ v.node = run.shows.nodes p r at in
-    run_on script ranks size processes frames run p (harvested name r) (Nets (Harvests p name)) (tt, tt)
-    (done_net ranks s p r (stored name (next_result r.node name) r.node) (harvests name) (run.shows.stands p r at)
-    (ap (λ n. stored name (next_result n name) n) same ∙ sym (stores_node name (next_result v.node name) v)))
+    let by : s.world.operations ≡ ops = (coupled ops script ranks size processes frames run).operations in
+    run_on ops script ranks size processes frames run p (harvested ops name r) (Nets (Harvests p name)) (tt, tt)
+    (done_net ranks s p r (stored ops name (next_result ops r.node name) r.node) (harvests s.world.operations name) (run.shows.stands p r at)
+    ((λ i. stored (sym by i) name (next_result (sym by i) (same i) name) (same i)) ∙ sym (stores_node s.world.operations name (next_result s.world.operations v.node name) v)))
 
 abbrev pub pruned_by : Name → Result (Unit {0}) PruneError → ℕ → NodeView → NodeView
 pruned_by name (Ok u) n node = learn_some (prune_part node name n) node
@@ -127,22 +129,22 @@ drops_node : (name : Name) (n : ℕ) (x : Result (Unit {0}) PruneError) (v : Pro
 drops_node name n (Ok u) v = taken_node (prune_part v.node name n) v
 drops_node name n (Err refusal) v = refl
 
-pub keeps_prune : (name : Name) (r : RankView) (n : ℕ) → Keeps r (record r { node = pruned_by name (pruned_on r.node.board name n) n r.node })
-keeps_prune name r n script ranks size processes frames p at run =
+pub keeps_prune : (ops : List Operation) (name : Name) (r : RankView) (n : ℕ) → Keeps ops r (record r { node = pruned_by name (pruned_on r.node.board name n) n r.node })
+keeps_prune ops name r n script ranks size processes frames p at run =
     let s = run.system in
     let v = s.world.each p in
     let same : r.node ≡ v.node = run.shows.nodes p r at in
     let new = pruned_by name (pruned_on r.node.board name n) n r.node in
-    run_on script ranks size processes frames run p (record r { node = new }) (Nets (Prunes p name n)) (tt, tt)
+    run_on ops script ranks size processes frames run p (record r { node = new }) (Nets (Prunes p name n)) (tt, tt)
     (done_net ranks s p r new (prunes name n) (run.shows.stands p r at)
     (ap (λ (m : NodeView). pruned_by name (pruned_on m.board name n) n m) same ∙ sym (drops_node name n (pruned_on v.node.board name n) v)))
 
 -- a process acknowledges what its board has
-pub keeps_acknowledge : (numbers : Numbers) (r : RankView) → ((name : Name) (m : ℕ) → HasUpTo r.node.board name m (numbers name m)) → Keeps r (record r { node = acknowledge numbers r.node })
-keeps_acknowledge numbers r has script ranks size processes frames p at run =
+pub keeps_acknowledge : (ops : List Operation) (numbers : Numbers) (r : RankView) → ((name : Name) (m : ℕ) → HasUpTo r.node.board name m (numbers name m)) → Keeps ops r (record r { node = acknowledge numbers r.node })
+keeps_acknowledge ops numbers r has script ranks size processes frames p at run =
     let s = run.system in
     let same : r.node ≡ (s.world.each p).node = run.shows.nodes p r at in
-    run_on script ranks size processes frames run p (record r { node = acknowledge numbers r.node }) (Nets (Acknowledges p numbers))
+    run_on ops script ranks size processes frames run p (record r { node = acknowledge numbers r.node }) (Nets (Acknowledges p numbers))
     (tt, subst (λ (n : NodeView). (name : Name) (m : ℕ) → HasUpTo n.board name m (numbers name m)) same has)
     (done_net ranks s p r (acknowledge numbers r.node) (acknowledges numbers) (run.shows.stands p r at) (ap (acknowledge numbers) same))
 
@@ -150,69 +152,69 @@ pub pruned_is : (name : Name) (r : Result (Unit {0}) PruneError) (n : ℕ) (old 
 pruned_is name (Ok u) n old new f g = f
 pruned_is name (Err refusal) n old new f g = g
 
-pub keeps_then : (a b c : RankView) → Keeps a b → Keeps b c → Keeps a c
-keeps_then a b c f g script ranks size processes frames p at run =
-    subst (λ rs. IsUnderWay script ranks size rs frames) (set_twice processes p b c)
+pub keeps_then : (ops : List Operation) (a b c : RankView) → Keeps ops a b → Keeps ops b c → Keeps ops a c
+keeps_then ops a b c f g script ranks size processes frames p at run =
+    subst (λ rs. IsUnderWay ops script ranks size rs frames) (set_twice processes p b c)
     (g script ranks size (set processes p b) frames p (set_has processes p a b at) (f script ranks size processes frames p at run))
 
-pub keeps_itself : (r : RankView) → Keeps r r
-keeps_itself r script ranks size processes frames p at run = subst (λ rs. IsUnderWay script ranks size rs frames) (sym (set_same processes p r at)) run
+pub keeps_itself : (ops : List Operation) (r : RankView) → Keeps ops r r
+keeps_itself ops r script ranks size processes frames p at run = subst (λ rs. IsUnderWay ops script ranks size rs frames) (sym (set_same processes p r at)) run
 
 -- A NODE ALONE
 
-pub keeps_node_itself : (old new : NodeView) → new ≡ old → KeepsNode old new
-keeps_node_itself old new e r is = subst (λ m. Keeps r (record r { node = m })) (is ∙ sym e) (keeps_itself r)
+pub keeps_node_itself : (ops : List Operation) (old new : NodeView) → new ≡ old → KeepsNode ops old new
+keeps_node_itself ops old new e r is = subst (λ m. Keeps ops r (record r { node = m })) (is ∙ sym e) (keeps_itself ops r)
 
-pub keeps_node_then : (a b c : NodeView) → KeepsNode a b → KeepsNode b c → KeepsNode a c
-keeps_node_then a b c f g r is = keeps_then r (record r { node = b }) (record r { node = c }) (f r is) (g (record r { node = b }) refl)
+pub keeps_node_then : (ops : List Operation) (a b c : NodeView) → KeepsNode ops a b → KeepsNode ops b c → KeepsNode ops a c
+keeps_node_then ops a b c f g r is = keeps_then ops r (record r { node = b }) (record r { node = c }) (f r is) (g (record r { node = b }) refl)
 
-keeps_stored : (name : Name) (old new : NodeView) → new ≡ stored name (next_result old name) old → KeepsNode old new
-keeps_stored name old new e r is = subst (λ m. Keeps r (record r { node = m })) (ap (λ n. stored name (next_result n name) n) is ∙ sym e) (keeps_harvest name r)
+keeps_stored : (ops : List Operation) (name : Name) (old new : NodeView) → new ≡ stored ops name (next_result ops old name) old → KeepsNode ops old new
+keeps_stored ops name old new e r is = subst (λ m. Keeps ops r (record r { node = m })) (ap (λ n. stored ops name (next_result ops n name) n) is ∙ sym e) (keeps_harvest ops name r)
 
-pub keeps_node_harvest : (opened : Bool) (name : Name) (next : Option Finished) (answer : Result Harvest OutOfMemory) (old new : NodeView) → next ≡ next_result old name → HarvestsOn opened name next answer old new → KeepsNode old new
-keeps_node_harvest false name next answer old new e x = keeps_node_itself old new x.1
-keeps_node_harvest true name (Some finished) (Ok (Done call)) old new e x = keeps_stored name old new (x.1 ∙ ap (λ o. stored name o old) e)
-keeps_node_harvest true name (Some finished) (Ok NotYet) old new e x = absurd x
-keeps_node_harvest true name (Some finished) (Ok NotOpened) old new e x = absurd x
-keeps_node_harvest true name (Some finished) (Err refused) old new e x = keeps_node_itself old new x
-keeps_node_harvest true name None (Ok (Done call)) old new e x = absurd x
-keeps_node_harvest true name None (Ok NotYet) old new e x = keeps_node_itself old new x
-keeps_node_harvest true name None (Ok NotOpened) old new e x = absurd x
-keeps_node_harvest true name None (Err refused) old new e x = absurd x
+pub keeps_node_harvest : (ops : List Operation) (opened : Bool) (name : Name) (next : Option Finished) (answer : Result Harvest OutOfMemory) (old new : NodeView) → next ≡ next_result ops old name → HarvestsOn ops opened name next answer old new → KeepsNode ops old new
+keeps_node_harvest ops false name next answer old new e x = keeps_node_itself ops old new x.1
+keeps_node_harvest ops true name (Some finished) (Ok (Done call)) old new e x = keeps_stored ops name old new (x.1 ∙ ap (λ o. stored ops name o old) e)
+keeps_node_harvest ops true name (Some finished) (Ok NotYet) old new e x = absurd x
+keeps_node_harvest ops true name (Some finished) (Ok NotOpened) old new e x = absurd x
+keeps_node_harvest ops true name (Some finished) (Err refused) old new e x = keeps_node_itself ops old new x
+keeps_node_harvest ops true name None (Ok (Done call)) old new e x = absurd x
+keeps_node_harvest ops true name None (Ok NotYet) old new e x = keeps_node_itself ops old new x
+keeps_node_harvest ops true name None (Ok NotOpened) old new e x = absurd x
+keeps_node_harvest ops true name None (Err refused) old new e x = absurd x
 
-pub keeps_node_acknowledge : (numbers : Numbers) (old new : NodeView) → ((name : Name) (m : ℕ) → HasUpTo old.board name m (numbers name m)) → new ≡ acknowledge numbers old → KeepsNode old new
-keeps_node_acknowledge numbers old new has e r is =
-    subst (λ m. Keeps r (record r { node = m })) (ap (acknowledge numbers) is ∙ sym e)
-    (keeps_acknowledge numbers r (subst (λ (n : NodeView). (name : Name) (m : ℕ) → HasUpTo n.board name m (numbers name m)) (sym is) has))
+pub keeps_node_acknowledge : (ops : List Operation) (numbers : Numbers) (old new : NodeView) → ((name : Name) (m : ℕ) → HasUpTo old.board name m (numbers name m)) → new ≡ acknowledge numbers old → KeepsNode ops old new
+keeps_node_acknowledge ops numbers old new has e r is =
+    subst (λ m. Keeps ops r (record r { node = m })) (ap (acknowledge numbers) is ∙ sym e)
+    (keeps_acknowledge ops numbers r (subst (λ (n : NodeView). (name : Name) (m : ℕ) → HasUpTo n.board name m (numbers name m)) (sym is) has))
 
-pub keeps_node_prune : (name : Name) (n : ℕ) (answer : Result (Unit {0}) PruneError) (old new : NodeView) → answer ≡ pruned_on old.board name n → OnOk answer (new ≡ learn_some (prune_part old name n) old) → OnErr answer (new ≡ old) → KeepsNode old new
-keeps_node_prune name n answer old new e f g r is =
+pub keeps_node_prune : (ops : List Operation) (name : Name) (n : ℕ) (answer : Result (Unit {0}) PruneError) (old new : NodeView) → answer ≡ pruned_on old.board name n → OnOk answer (new ≡ learn_some (prune_part old name n) old) → OnErr answer (new ≡ old) → KeepsNode ops old new
+keeps_node_prune ops name n answer old new e f g r is =
     let to : new ≡ pruned_by name (pruned_on r.node.board name n) n r.node = pruned_is name answer n old new f g ∙ ap (λ x. pruned_by name x n old) e ∙ ap (λ (m : NodeView). pruned_by name (pruned_on m.board name n) n m) (sym is) in
-    subst (λ m. Keeps r (record r { node = m })) (sym to) (keeps_prune name r n)
+    subst (λ m. Keeps ops r (record r { node = m })) (sym to) (keeps_prune ops name r n)
 
 -- a frame is taken
-pub run_takes : (script : List (List Statement)) (ranks size : ℕ) (processes : List RankView) (frames : List Look) (p : ℕ) (r : RankView) (i : ℕ) (b : Look) → slice_get processes p ≡ Some r → slice_get frames i ≡ Some b
-    → IsUnderWay script ranks size processes frames → IsUnderWay script ranks size (set processes p (record r { node = learn b r.node })) frames
-run_takes script ranks size processes frames p r i b at got run =
+pub run_takes : (ops : List Operation) (script : List (List Statement)) (ranks size : ℕ) (processes : List RankView) (frames : List Look) (p : ℕ) (r : RankView) (i : ℕ) (b : Look) → slice_get processes p ≡ Some r → slice_get frames i ≡ Some b
+    → IsUnderWay ops script ranks size processes frames → IsUnderWay ops script ranks size (set processes p (record r { node = learn b r.node })) frames
+run_takes ops script ranks size processes frames p r i b at got run =
     let s = run.system in
     let v = s.world.each p in
     let found = all_at (IsAmong s.world.parts) frames i b got run.shows.sent in
-    run_on script ranks size processes frames run p (record r { node = learn b r.node }) (Nets (Takes p found.0)) (tt, tt)
+    run_on ops script ranks size processes frames run p (record r { node = learn b r.node }) (Nets (Takes p found.0)) (tt, tt)
     (done_net ranks s p r (learn b r.node) (takes (slice_get s.world.parts found.0)) (run.shows.stands p r at)
     (ap (learn b) (run.shows.nodes p r at) ∙ ap (λ o. (takes o v).node) (sym found.1)))
 
 -- a part of a board is sent
-pub run_sends : (script : List (List Statement)) (ranks size : ℕ) (processes : List RankView) (frames : List Look) (p : ℕ) (r : RankView) (part : Look) → slice_get processes p ≡ Some r → OnlyFactsOf part r.node.board
-    → IsUnderWay script ranks size processes frames → IsUnderWay script ranks size processes (frames ++ part ∷ [])
-run_sends script ranks size processes frames p r part at only run =
+pub run_sends : (ops : List Operation) (script : List (List Statement)) (ranks size : ℕ) (processes : List RankView) (frames : List Look) (p : ℕ) (r : RankView) (part : Look) → slice_get processes p ≡ Some r → OnlyFactsOf part r.node.board
+    → IsUnderWay ops script ranks size processes frames → IsUnderWay ops script ranks size processes (frames ++ part ∷ [])
+run_sends ops script ranks size processes frames p r part at only run =
     let s = run.system in
-    let c = coupled script ranks size processes frames run in
+    let c = coupled ops script ranks size processes frames run in
     let d : Doing = Nets (Sends p part) in
     let new = s.world.parts ++ part ∷ [] in
     let here : OnlyFactsOf part (s.world.each p).node.board = subst (λ (n : NodeView). OnlyFactsOf part n.board) (run.shows.nodes p r at) only in
     record {
       system = does s d;
-      led = leads_on ranks (start_system script ranks size) s d run.led (tt, λ f has. may_happen s.world (E.Send p C.Whole) c.upheld.holds f (here f has));
+      led = leads_on ranks (start_system ops script ranks size) s d run.led (tt, λ f has. may_happen s.world (E.Send p C.Whole) c.upheld.holds f (here f has));
       shows = record {
         count = run.shows.count;
         nodes = run.shows.nodes;
@@ -224,9 +226,9 @@ run_sends script ranks size processes frames p r part at only run =
     }
 
 -- frames are lost, repeated or reordered
-pub run_fewer : (script : List (List Statement)) (ranks size : ℕ) (processes : List RankView) (frames fewer : List Look) → ((P : Look → Type 0) → All P frames → All P fewer)
-    → IsUnderWay script ranks size processes frames → IsUnderWay script ranks size processes fewer
-run_fewer script ranks size processes frames fewer among run = record {
+pub run_fewer : (ops : List Operation) (script : List (List Statement)) (ranks size : ℕ) (processes : List RankView) (frames fewer : List Look) → ((P : Look → Type 0) → All P frames → All P fewer)
+    → IsUnderWay ops script ranks size processes frames → IsUnderWay ops script ranks size processes fewer
+run_fewer ops script ranks size processes frames fewer among run = record {
   system = run.system;
   led = run.led;
   shows = record {
@@ -247,9 +249,9 @@ picked_map f (false ∷ bs) (x ∷ xs) = picked_map f bs xs
 pub all_picked : {A B : Type 0} (f : A → B) (P : B → Type 0) (bs : List Bool) (xs : List A) → All P (map f xs) → All P (map f (items_where_true bs xs))
 all_picked f P bs xs h = subst (All P) (sym (picked_map f bs xs)) (λ k d l. let found = get_or_picked bs (map f xs) k d l in subst P (sym found.1.2) (h found.1.0 d found.1.1))
 
-pub receives : (b : Look) (old new : RankView) → new ≡ record old { node = learn b old.node } → Receives b old new
-receives b old new e script ranks size processes frames p i at got run =
-    subst (λ (r : RankView). IsUnderWay script ranks size (set processes p r) frames) (sym e) (run_takes script ranks size processes frames p old i b at got run)
+pub receives : (ops : List Operation) (b : Look) (old new : RankView) → new ≡ record old { node = learn b old.node } → Receives ops b old new
+receives ops b old new e script ranks size processes frames p i at got run =
+    subst (λ (r : RankView). IsUnderWay ops script ranks size (set processes p r) frames) (sym e) (run_takes ops script ranks size processes frames p old i b at got run)
 
 -- THE CODE'S LISTS
 
@@ -276,9 +278,9 @@ one_more script ranks size count processes r s at = record {
   each = λ p x e. slice_get-push_cases (λ y j. StartsAt script ranks size j y) processes r p x e (s.each p x) (λ same last. subst (StartsAt script ranks size p) same (subst (λ j. StartsAt script ranks size j r) (sym (last ∙ s.count_is)) at));
 }
 
-pub run_starts : (script : List (List Statement)) (ranks size : ℕ) (processes : List RankView) → Starts script ranks size size processes → IsUnderWay script ranks size processes []
-run_starts script ranks size processes s = record {
-  system = start_system script ranks size;
+pub run_starts : (ops : List Operation) (script : List (List Statement)) (ranks size : ℕ) (processes : List RankView) → Starts script ranks size size processes → IsUnderWay ops script ranks size processes []
+run_starts ops script ranks size processes s = record {
+  system = start_system ops script ranks size;
   led = record { doings = []; may = tt; reached = refl };
   shows = record {
     count = s.count_is;

@@ -3,6 +3,7 @@ use Rattle.std.specs.Prelude.{◌≡◌, ℕ, ◌<◌, ◌+◌, ◌*◌, Bool, t
 use Rattle.std.proofs.Common.{set}
 use Rattle.std.specs.List.{All, list_all}
 use Rattle.std.specs.Option.{option_map}
+use Rattle.mpx_num.specs.declared.own.Operation.{Operation}
 use Rattle.mpx_name.specs.Name.{Name}
 use Rattle.mpx_post.specs.Posts.{Given}
 use Rattle.mpx_post.specs.declared.draft.Draft.{Draft}
@@ -77,30 +78,30 @@ abbrev pub tried_post : Name → Result Given PostError → NodeView → Tried
 tried_post name (Ok given) node = record { node = post_at name given node; answer = Ok (name, posted_on node name) }
 tried_post name (Err refusal) node = record { node = node; answer = Err refusal }
 
-abbrev pub tried_gathered : (parent : Name) → Draft → Result GatheringView PostError → NodeView → Tried
-tried_gathered parent draft (Ok g) node = tried_post (gathering_name parent g) (checked_on (open_gathering_node parent g node) (gathering_name parent g) draft) (open_gathering_node parent g node)
-tried_gathered parent draft (Err refusal) node = record { node = node; answer = Err refusal }
+abbrev pub tried_gathered : (ops : List Operation) (parent : Name) → Draft → Result GatheringView PostError → NodeView → Tried
+tried_gathered ops parent draft (Ok g) node = tried_post (gathering_name parent g) (checked_on ops (open_gathering_node parent g node) (gathering_name parent g) draft) (open_gathering_node parent g node)
+tried_gathered ops parent draft (Err refusal) node = record { node = node; answer = Err refusal }
 
 -- the same of `create_group`
-abbrev pub tried_group : (parent : Name) → (tag : ℤ) → (ranks : List ℤ) → NodeView → Tried
-tried_group parent tag ranks node = tried_gathered parent create_group_draft (gathers_on node parent tag ranks) node
+abbrev pub tried_group : (ops : List Operation) (parent : Name) → (tag : ℤ) → (ranks : List ℤ) → NodeView → Tried
+tried_group ops parent tag ranks node = tried_gathered ops parent create_group_draft (gathers_on node parent tag ranks) node
 
-abbrev pub tried_in : Draft → Option Asked → Name → NodeView → Tried
-tried_in draft None name node = tried_post name (checked_on node name draft) node
-tried_in draft (Some asked) name node = tried_gathered name draft (gathers_on node name asked.tag asked.ranks) node
+abbrev pub tried_in : List Operation → Draft → Option Asked → Name → NodeView → Tried
+tried_in ops draft None name node = tried_post name (checked_on ops node name draft) node
+tried_in ops draft (Some asked) name node = tried_gathered ops name draft (gathers_on node name asked.tag asked.ranks) node
 
 -- the communicator that a word is bound to, where it is one
 abbrev pub communicator_in : Option (Option Name) → Option Name
 communicator_in None = None
 communicator_in (Some to) = to
 
-abbrev pub tried_on : Posting → Option Name → NodeView → Tried
-tried_on posting None node = record { node = node; answer = Err NotMember }
-tried_on posting (Some name) node = tried_in (draft_of posting) (gathers_of posting) name node
+abbrev pub tried_on : List Operation → Posting → Option Name → NodeView → Tried
+tried_on ops posting None node = record { node = node; answer = Err NotMember }
+tried_on ops posting (Some name) node = tried_in ops (draft_of posting) (gathers_of posting) name node
 
 -- a statement is tried on what its word is bound to
-abbrev pub tried : Posting → Option (Option Name) → NodeView → Tried
-tried posting bound node = tried_on posting (communicator_in bound) node
+abbrev pub tried : List Operation → Posting → Option (Option Name) → NodeView → Tried
+tried ops posting bound node = tried_on ops posting (communicator_in bound) node
 
 -- it is answered so and done, or memory was wanting
 abbrev pub Tries : Tried → Result (Name × ℕ) PostError → NodeView → Type 0
@@ -162,12 +163,12 @@ is_waiting_at None = false
 is_waiting_at (Some r) = is_waiting r
 
 -- a node with its next result on a context stored, where there is one
-abbrev pub stored : Name → Option Finished → NodeView → NodeView
-stored name None node = node
-stored name (Some finished) node = add_result name finished (children_on node.board name (front_on node name)) node
+abbrev pub stored : List Operation → Name → Option Finished → NodeView → NodeView
+stored ops name None node = node
+stored ops name (Some finished) node = add_result name finished (children_on ops node.board name (front_on node name)) node
 
-abbrev pub harvested : Name → RankView → RankView
-harvested name r = record r { node = stored name (next_result r.node name) r.node }
+abbrev pub harvested : List Operation → Name → RankView → RankView
+harvested ops name r = record r { node = stored ops name (next_result ops r.node name) r.node }
 
 -- the rank stands there in its script
 pub record Stands (r : RankView) (s : Local) : Type 0 where
@@ -188,38 +189,38 @@ pub record Shows (ranks size : ℕ) (processes : List RankView) (frames : List L
   pub sent : All (IsAmong s.world.parts) frames
 
 -- the processes and frames of a run of the script: they show a system to which doings lead
-pub record IsUnderWay (script : Script) (ranks size : ℕ) (processes : List RankView) (frames : List Look) : Type 0 where
+pub record IsUnderWay (ops : List Operation) (script : Script) (ranks size : ℕ) (processes : List RankView) (frames : List Look) : Type 0 where
   pub system : System
-  pub led : Leads ranks (start_system script ranks size) system
+  pub led : Leads ranks (start_system ops script ranks size) system
   pub shows : Shows ranks size processes frames system
 
 -- these are the processes of a run of the script with so many relays, whatever its frames are
-abbrev pub AreOfRun : ScriptView → (relays : ℕ) → List RankView → Type 0
-AreOfRun script relays processes = (frames : List Look) × IsUnderWay script.statements script.ranks (script.ranks + relays) processes frames
+abbrev pub AreOfRun : List Operation → ScriptView → (relays : ℕ) → List RankView → Type 0
+AreOfRun ops script relays processes = (frames : List Look) × IsUnderWay ops script.statements script.ranks (script.ranks + relays) processes frames
 
 -- in place of the one in a run stands the other
-abbrev pub Keeps : RankView → RankView → Type 0
-Keeps old new = (script : Script) (ranks size : ℕ) (processes : List RankView) (frames : List Look) (p : ℕ) → slice_get processes p ≡ Some old
-    → IsUnderWay script ranks size processes frames → IsUnderWay script ranks size (set processes p new) frames
+abbrev pub Keeps : List Operation → RankView → RankView → Type 0
+Keeps ops old new = (script : Script) (ranks size : ℕ) (processes : List RankView) (frames : List Look) (p : ℕ) → slice_get processes p ≡ Some old
+    → IsUnderWay ops script ranks size processes frames → IsUnderWay ops script ranks size (set processes p new) frames
 
 -- the same of a process that changes just its node
-abbrev pub KeepsNode : NodeView → NodeView → Type 0
-KeepsNode old new = (r : RankView) → r.node ≡ old → Keeps r (record r { node = new })
+abbrev pub KeepsNode : List Operation → NodeView → NodeView → Type 0
+KeepsNode ops old new = (r : RankView) → r.node ≡ old → Keeps ops r (record r { node = new })
 
 -- the same of a rank
-abbrev pub Moves : RankView → RankView → Type 0
-Moves old new = (script : Script) (ranks size : ℕ) (processes : List RankView) (frames : List Look) (p : ℕ) → p < ranks → slice_get processes p ≡ Some old
-    → IsUnderWay script ranks size processes frames → IsUnderWay script ranks size (set processes p new) frames
+abbrev pub Moves : List Operation → RankView → RankView → Type 0
+Moves ops old new = (script : Script) (ranks size : ℕ) (processes : List RankView) (frames : List Look) (p : ℕ) → p < ranks → slice_get processes p ≡ Some old
+    → IsUnderWay ops script ranks size processes frames → IsUnderWay ops script ranks size (set processes p new) frames
 
 -- the same of a process that takes one of the frames
-abbrev pub Receives : Look → RankView → RankView → Type 0
-Receives b old new = (script : Script) (ranks size : ℕ) (processes : List RankView) (frames : List Look) (p i : ℕ) → slice_get processes p ≡ Some old → slice_get frames i ≡ Some b
-    → IsUnderWay script ranks size processes frames → IsUnderWay script ranks size (set processes p new) frames
+abbrev pub Receives : List Operation → Look → RankView → RankView → Type 0
+Receives ops b old new = (script : Script) (ranks size : ℕ) (processes : List RankView) (frames : List Look) (p i : ℕ) → slice_get processes p ≡ Some old → slice_get frames i ≡ Some b
+    → IsUnderWay ops script ranks size processes frames → IsUnderWay ops script ranks size (set processes p new) frames
 
 -- the same of all processes together, of which one may take that frame
-abbrev pub AllReceive : Look → (old new : List RankView) → Type 0
-AllReceive b old new = (script : Script) (ranks size : ℕ) (frames : List Look) (i : ℕ) → slice_get frames i ≡ Some b → IsUnderWay script ranks size old frames
-    → IsUnderWay script ranks size new frames
+abbrev pub AllReceive : List Operation → Look → (old new : List RankView) → Type 0
+AllReceive ops b old new = (script : Script) (ranks size : ℕ) (frames : List Look) (i : ℕ) → slice_get frames i ≡ Some b → IsUnderWay ops script ranks size old frames
+    → IsUnderWay ops script ranks size new frames
 
 -- process p at the start
 pub record StartsAt (script : Script) (ranks size p : ℕ) (r : RankView) : Type 0 where

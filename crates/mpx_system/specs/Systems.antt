@@ -1,6 +1,7 @@
 -- A world, and where the ranks that carry out their scripts in it stand.
 use Rattle.std.specs.Prelude.{◌≡◌, ℕ, ◌<◌, List, [], ◌∷◌, length, slice_get, Option, Some, None, Result, Ok, Err}
 use Rattle.std.specs.Option.{option_map}
+use Rattle.mpx_num.specs.declared.own.Operation.{Operation}
 use Rattle.mpx_name.specs.Name.{Name}
 use Rattle.mpx_post.specs.declared.draft.Draft.{Draft}
 use Rattle.mpx_post.specs.declared.draft.PostError.{PostError}
@@ -55,7 +56,8 @@ posts_of p made bound (Do (Wait requests) ∷ rest) = []
 posts_of p made bound (Do (Ask question) ∷ rest) = []
 posts_of p made bound (Await name call target ∷ rest) = []
 
--- something that makes no post, or a rank's next move by what its node's results tell, with the posts that it makes there
+-- something that makes no post, or a rank's next move by what its node's results tell and by the world's own operations, with the
+-- posts that it makes there
 pub data Doing : Type 0 where
   Nets : Happening → Doing
   Drives : (rank : ℕ) → Doing
@@ -64,7 +66,7 @@ abbrev pub does : System → Doing → System
 does s (Nets h) = record { world = happens s.world h; ranks = s.ranks }
 does s (Drives p) = record {
   world = goes_on_world s.world (posts_of p (s.world.each p).made (s.ranks p).bound (s.ranks p).todo);
-  ranks = goes_on s.ranks p (world_tells s.world p);
+  ranks = goes_on s.world.operations s.ranks p (world_tells s.world p);
 }
 
 abbrev pub does_all : System → List Doing → System
@@ -80,8 +82,8 @@ abbrev pub MayDoAll : (ranks : ℕ) → System → List Doing → Type 0
 MayDoAll ranks s [] = Unit {0}
 MayDoAll ranks s (d ∷ ds) = MayDo ranks s d × MayDoAll ranks (does s d) ds
 
-abbrev pub start_system : List (List Statement) → (ranks size : ℕ) → System
-start_system script ranks size = record { world = start_world ranks size; ranks = start script ranks }
+abbrev pub start_system : List Operation → List (List Statement) → (ranks size : ℕ) → System
+start_system ops script ranks size = record { world = start_world ops ranks size; ranks = start script ranks }
 
 -- some list of doings leads there
 pub record Leads (ranks : ℕ) (from to : System) : Type 0 where
@@ -90,10 +92,10 @@ pub record Leads (ranks : ℕ) (from to : System) : Type 0 where
   pub reached : does_all from doings ≡ to
 
 -- what can happen, from the start on, leads to the world: so what is so after all that can happen is so of it
-pub record IsOfHappenings (ranks size : ℕ) (w : WorldView) : Type 0 where
+pub record IsOfHappenings (ops : List Operation) (ranks size : ℕ) (w : WorldView) : Type 0 where
   pub happenings : List Happening
-  pub may : MayGoOn (start_world ranks size) happenings
-  pub reached : world_by ranks size happenings ≡ w
+  pub may : MayGoOn (start_world ops ranks size) happenings
+  pub reached : world_by ops ranks size happenings ≡ w
 
 -- the node holds a result of the call with this outcome, beside the rank's own post of that call
 pub record IsResultOf (node : NodeView) (s : Local) (name : Name) (call : ℕ) (outcome : Outcome) : Type 0 where

@@ -2,6 +2,7 @@
 use Rattle.std.proofs.Common.{◌≡◌, ℕ, zero, suc, ◌+◌, Bool, true, false, cond, List, [], ◌∷◌, ◌++◌, codes, take, Option, Some, None, refl, sym, ap, ◌∙◌, subst, arith}
 use Rattle.std.specs.Prelude.{slice_get, bytes_eq, is_some, ◌||◌, Ok, if◌then◌else◌}
 use Rattle.std.specs.Option.{option_map}
+use Rattle.mpx_num.specs.declared.own.Operation.{Operation}
 use Rattle.mpx_name.specs.Name.{Name}
 use Rattle.mpx_value.specs.Histories.{Answer, Made, Results, has_freed}
 use Rattle.mpx_statement.specs.declared.statement.Posting.{Posting}
@@ -57,12 +58,12 @@ outcomes_known known told name call outcome e = by_test (is_among told name call
   by_test true f = f
   by_test false f = cc f
 
-module _ (script : ScriptView) (relays : ℕ) (setup : Setup) (plan : Plans script relays setup) (me before : ℕ) (ledger : Type 0) where
+module _ (script : ScriptView) (relays : ℕ) (setup : Setup) (plan : Plans script relays setup) (me before : ℕ) (ledger : Type 0) (operations : List Operation) (lent : operations ≡ setup.operations) where
   abbrev by : Results
   by = planned_results setup me
 
   abbrev terms : Terms DeskView CommunicatorView
-  terms = thread_terms setup me before ledger
+  terms = thread_terms operations setup me before ledger
 
   abbrev first : Local
   first = start script.statements script.ranks me
@@ -70,18 +71,18 @@ module _ (script : ScriptView) (relays : ℕ) (setup : Setup) (plan : Plans scri
   -- the rank has come there, and the desk has made its posts
   record Fits (s : Local) (d : DeskView) : Type 0 where
     made : s.made ≡ first_posts setup me (before + d.1)
-    goes : Goes by first s
+    goes : Goes setup.operations by first s
 
-  goes_there : (s : Local) → Goes by first s → Goes (known script.ranks plan.end me) first s
-  goes_there s g = subst (λ r. Goes r first s) (results_are script relays setup plan me) g
+  goes_there : (s : Local) → Goes setup.operations by first s → Goes setup.operations (known setup.operations script.ranks plan.end me) first s
+  goes_there s g = subst (λ r. Goes setup.operations r first s) (results_are script relays setup plan me) g
 
   -- one post more, to which a step leads, is the plan's next
-  next_is : (s : Local) (d : DeskView) → Fits s d → (m : Made) (t : Local) → step by s ≡ Some t → t.made ≡ s.made ++ m ∷ [] → slice_get (planned_posts setup me) (before + d.1) ≡ Some m
+  next_is : (s : Local) (d : DeskView) → Fits s d → (m : Made) (t : Local) → step setup.operations by s ≡ Some t → t.made ≡ s.made ++ m ∷ [] → slice_get (planned_posts setup me) (before + d.1) ≡ Some m
   next_is s d fits m t e made =
-      let prefix : IsPrefixOf t.made (plan.end me).made = (goes-adds script.statements script.ranks plan.end plan.evaluation me t (goes_there t (moves fits.goes e))).0 in
+      let prefix : IsPrefixOf t.made (plan.end me).made = (goes-adds setup.operations script.statements script.ranks plan.end plan.evaluation me t (goes_there t (moves fits.goes e))).0 in
       taken_next (before + d.1) (planned_posts setup me) m prefix.0 (ap (λ l. (l ++ m ∷ []) ++ prefix.0) (sym fits.made) ∙ ap (λ l. l ++ prefix.0) (sym made) ∙ prefix.1 ∙ sym (posts_are script relays setup plan me))
 
-  fits_more : (s : Local) (c d : DeskView) → Fits s c → (m : Made) (t : Local) → step by s ≡ Some t → t.made ≡ s.made ++ m ∷ [] → d.1 ≡ c.1 + 1 → Fits t d
+  fits_more : (s : Local) (c d : DeskView) → Fits s c → (m : Made) (t : Local) → step setup.operations by s ≡ Some t → t.made ≡ s.made ++ m ∷ [] → d.1 ≡ c.1 + 1 → Fits t d
   fits_more s c d fits m t e made count =
       let more : before + d.1 ≡ suc (before + c.1) = omega (arith, count) in
       record {
@@ -92,10 +93,10 @@ module _ (script : ScriptView) (relays : ℕ) (setup : Setup) (plan : Plans scri
   fits_same : (s : Local) (c d : DeskView) → Fits s c → d.1 ≡ c.1 → Fits s d
   fits_same s c d fits count = record { made = fits.made ∙ ap (λ n. first_posts setup me (before + n)) (sym count); goes = fits.goes }
 
-  fits_quiet : (s : Local) (c d : DeskView) → Fits s c → (t : Local) → step by s ≡ Some t → t.made ≡ s.made → d.1 ≡ c.1 → Fits t d
+  fits_quiet : (s : Local) (c d : DeskView) → Fits s c → (t : Local) → step setup.operations by s ≡ Some t → t.made ≡ s.made → d.1 ≡ c.1 → Fits t d
   fits_quiet s c d fits t e made count = record { made = made ∙ fits.made ∙ ap (λ n. first_posts setup me (before + n)) (sym count); goes = moves fits.goes e }
 
-  goes_by : (s : Local) → s.me ≡ me → GoesBy terms by me s (Fits s) Fits
+  goes_by : (s : Local) → s.me ≡ me → GoesBy setup.operations terms by me s (Fits s) Fits
   goes_by s local_me = record {
     hears = λ c d fits h. fits_same s c d fits h.1;
     tells = λ c fits. outcomes_known by c.0;
@@ -105,10 +106,10 @@ module _ (script : ScriptView) (relays : ℕ) (setup : Setup) (plan : Plans scri
     quiet = λ c fits t e made. fits_quiet s c c fits t e made refl;
     posts = λ c d fits posting rest todo on is_on name call tried.
         let m : Made = tried.1.0 in
-        (m, ap (λ l. attempt_by me l posting on) fits.made ∙ tried.1.1, tried.1.2, tried.1.3 ∙ ap (next_call m.name) (sym fits.made), λ t e made. fits_more s c d fits m t e made tried.1.4);
+        (m, ap (λ l. attempt_by setup.operations me l posting on) fits.made ∙ tried.1.1, tried.1.2, tried.1.3 ∙ ap (next_call m.name) (sym fits.made), λ t e made. fits_more s c d fits m t e made tried.1.4);
     refuses = λ c d fits posting rest todo on is_on refusal other tried.
         let refused = tried.1 other in
-        (ap (λ l. attempt_by me l posting on) fits.made ∙ refused.0, λ t e made. fits_quiet s c d fits t e made refused.1);
+        (ap (λ l. attempt_by setup.operations me l posting on) fits.made ∙ refused.0, λ t e made. fits_quiet s c d fits t e made refused.1);
     not_now = λ c d fits posting rest todo on is_on tried. fits_same s c d fits tried.1;
   }
 
@@ -127,22 +128,22 @@ module _ (script : ScriptView) (relays : ℕ) (setup : Setup) (plan : Plans scri
     next_todo : s.todo ≡ Do (Post posting) ∷ doing rest
     next_todo = stands.todo ∙ λ i. todo_of (waits i) (todo i)
 
-    attempt_is : attempt s.me s.bound s.made posting ≡ attempt_by me s.made posting on
+    attempt_is : attempt setup.operations s.me s.bound s.made posting ≡ attempt_by setup.operations me s.made posting on
     attempt_is =
-        attempt_same s.me s.made posting (named s.bound (posted_on posting))
-        ∙ λ i. attempt_by (local_me i) s.made posting ((ap communicator_of (sym (stands.bound (posted_on posting))) ∙ communicator_same (r.bound (posted_on posting))) i)
+        attempt_same setup.operations s.me s.made posting (named s.bound (posted_on posting))
+        ∙ λ i. attempt_by setup.operations (local_me i) s.made posting ((ap communicator_of (sym (stands.bound (posted_on posting))) ∙ communicator_same (r.bound (posted_on posting))) i)
 
-    posts_next : (m : Made) → attempt_by me s.made posting on ≡ Ok m → (w : Option (List ℕ)) → started_as posting ≡ w → slice_get (planned_posts setup me) (before + d.1) ≡ Some m
-    posts_next m e None f = next_is s d fits m (done s (posted s (bound_to posting) (doing rest) m)) (step_posts by s posting (doing rest) m next_todo f (attempt_is ∙ e)) refl
-    posts_next m e (Some word) f = next_is s d fits m (done s (started s word (doing rest) m)) (step_starts by s posting (doing rest) word m next_todo f (attempt_is ∙ e)) refl
+    posts_next : (m : Made) → attempt_by setup.operations me s.made posting on ≡ Ok m → (w : Option (List ℕ)) → started_as posting ≡ w → slice_get (planned_posts setup me) (before + d.1) ≡ Some m
+    posts_next m e None f = next_is s d fits m (done s (posted s (bound_to posting) (doing rest) m)) (step_posts setup.operations by s posting (doing rest) m next_todo f (attempt_is ∙ e)) refl
+    posts_next m e (Some word) f = next_is s d fits m (done s (started s word (doing rest) m)) (step_starts setup.operations by s posting (doing rest) word m next_todo f (attempt_is ∙ e)) refl
 
     may_post : MayPost setup me (before + d.1) posting on
     may_post = record {
       planned = planned_is script relays setup plan;
       born = λ c e.
-          let there = goes-there script.statements script.ranks plan.end me s (goes_there s fits.goes) (posted_on posting) c.0 c.1 (sym (stands.bound (posted_on posting)) ∙ bound_there (r.bound (posted_on posting)) c e) in
+          let there = goes-there setup.operations script.statements script.ranks plan.end me s (goes_there s fits.goes) (posted_on posting) c.0 c.1 (sym (stands.bound (posted_on posting)) ∙ bound_there (r.bound (posted_on posting)) c e) in
           births_are script relays setup plan c.0 ∙ there.born;
-      next = λ m e. posts_next m (ap (λ l. attempt_by me l posting on) fits.made ∙ e) (started_as posting) refl;
+      next = λ m e. posts_next m (ap (λ l. attempt_by setup.operations me l posting on) fits.made ∙ e) (started_as posting) refl;
     }
 
   -- ALL MOVES
@@ -153,12 +154,12 @@ module _ (script : ScriptView) (relays : ℕ) (setup : Setup) (plan : Plans scri
 
     pub may_go : MayGo terms r c
     may_go s d moved ran posting rest waits todo =
-        let came : Came terms by me first c Fits s d = ran_goes terms by me Fits goes_by r first me_is refl stands c s d moved fits_first ran in
-        (whole, may_post came.to d came.fits s came.stands came.local_me posting rest waits todo)
+        let came : Came setup.operations terms by me first c Fits s d = ran_goes setup.operations terms by me Fits goes_by r first me_is refl stands c s d moved fits_first ran in
+        (whole, (lent, may_post came.to d came.fits s came.stands came.local_me posting rest waits todo))
 
     pub has_come : (s : RankView CommunicatorView) (d : DeskView) (moved : Bool) → GoesOn terms r c s d moved → (lines : List (List ℕ)) (left : Bool) → lines ≡ s.lines → left ≡ is_waiting s → HasCome script setup me d.0 d.1 lines left
     has_come s d moved on lines left lines_are waits_is =
-        let came : Came terms by me first c Fits s d = goes_on_goes terms by me Fits goes_by r first me_is refl stands c s d moved fits_first on in
+        let came : Came setup.operations terms by me first c Fits s d = goes_on_goes setup.operations terms by me Fits goes_by r first me_is refl stands c s d moved fits_first on in
         let count : before + d.1 ≡ d.1 = omega (arith, none) in
         record {
           to = came.to;

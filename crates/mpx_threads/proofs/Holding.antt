@@ -87,8 +87,8 @@ module _ (table : TableId) (setup : Setup) (me : ℕ) (port : Berth) (docked : I
       result_is name call found.0 found.1 ∙ ap Some found.2
 
   module _ (script : ScriptView) (relays : ℕ) (plan : Plans script relays setup) (ts : List ToldCall) (count : ℕ) (lines : List (List ℕ)) (waits : Bool) (come : HasCome script setup me ts count lines waits) (counted : length (made_in port) ≡ count) (held : AllHeld (node_in port) ts) where
-    goes_there : Goes (known script.ranks plan.end me) (start script.statements script.ranks me) come.to
-    goes_there = subst (λ r. Goes r (start script.statements script.ranks me) come.to) (results_are script relays setup plan me) come.goes
+    goes_there : Goes setup.operations (known setup.operations script.ranks plan.end me) (start script.statements script.ranks me) come.to
+    goes_there = subst (λ r. Goes setup.operations r (start script.statements script.ranks me) come.to) (results_are script relays setup plan me) come.goes
 
     -- the result of a line that tells an outcome
     line_held : (i : ℕ) (name : Name) (call : ℕ) (outcome : Outcome) → slice_get come.to.lines i ≡ Some (Told name call outcome) → (f : Finished) × (slice_get (results_on (node_in port) name) call ≡ Some f) × (f.outcome ≡ outcome)
@@ -103,17 +103,17 @@ module _ (table : TableId) (setup : Setup) (me : ℕ) (port : Berth) (docked : I
     made_same : made_in port ≡ come.to.made
     made_same = docked_posts table setup me port planned docked ∙ ap (first_posts setup me) counted ∙ sym come.made_is
 
-    have : Have (planned_results setup me) (node_tells (planned_birth setup) (node_in port)) tells_planned come.to.lines
+    have : Have setup.operations (planned_results setup me) (node_tells (planned_birth setup) (node_in port)) tells_planned come.to.lines
     have i name call outcome e =
         let there = line_held i name call outcome e in
         (answer_with (planned_birth setup) there.0.outcome, ap (option_map (λ (f : Finished). answer_with (planned_birth setup) f.outcome)) there.1)
 
-    pub is_done : IsDone script plan.end me port come.to
+    pub is_done : IsDone setup.operations script plan.end me port come.to
     is_done = record {
       goes = goes_there;
-      carries_out = subst (λ (born : Name → Option BirthView). CarriesOut (node_tells born (node_in port)) (bound_at_start script.ranks) (statements_of script.statements me) come.to) (λ i name. births_are script relays setup plan name i)
-          (carries_out_less (planned_results setup me) (node_tells (planned_birth setup) (node_in port)) tells_planned (bound_at_start script.ranks) (statements_of script.statements me) come.to
-          (subst (λ r. CarriesOut r (bound_at_start script.ranks) (statements_of script.statements me) come.to) (sym (results_are script relays setup plan me)) (goes-carries_out script.statements script.ranks plan.end me come.to goes_there))
+      carries_out = subst (λ (born : Name → Option BirthView). CarriesOut setup.operations (node_tells born (node_in port)) (bound_at_start script.ranks) (statements_of script.statements me) come.to) (λ i name. births_are script relays setup plan name i)
+          (carries_out_less setup.operations (planned_results setup me) (node_tells (planned_birth setup) (node_in port)) tells_planned (bound_at_start script.ranks) (statements_of script.statements me) come.to
+          (subst (λ r. CarriesOut setup.operations r (bound_at_start script.ranks) (statements_of script.statements me) come.to) (sym (results_are script relays setup plan me)) (goes-carries_out setup.operations script.statements script.ranks plan.end me come.to goes_there))
           have);
       told = λ i name call outcome e.
           let there = line_held i name call outcome e in

@@ -6,6 +6,7 @@ use Rattle.std.specs.Option.{option_map}
 use Rattle.std.proofs.lemmas.Option.{same_Some, slice_get-map}
 use Rattle.join_core.specs.declared.memory.OutOfMemory.{OutOfMemory}
 use Rattle.atomic_table.specs.Seated.{TableId}
+use Rattle.mpx_num.specs.declared.own.Operation.{Operation}
 use Rattle.mpx_world.proofs.Lists.{slice_get-push_cases}
 use Rattle.mpx_bus.specs.declared.act.Setup.{Setup}
 use Rattle.mpx_bus.specs.Berths.{Berth, IsFleet, IsNew}
@@ -66,6 +67,10 @@ are_ready script relays setup table processes ports jobs plan count fleet are = 
 -- a job is ready by its own port's setup
 pub ready_at : (script : ScriptView) (relays : ℕ) (setup : Setup) (table : TableId) (jobs : List Job) → AreReady script relays setup table jobs → (i : ℕ) (j : Job) → slice_get jobs i ≡ Some j → IsReady script relays j.port.setup table j
 ready_at script relays setup table jobs are i j e = let at = are.each i j e in subst (λ u. IsReady script relays u table j) (sym at.1.1) at.1.0
+
+-- and the operations of that are those of all
+pub list_at : (ops : List Operation) (script : ScriptView) (relays : ℕ) (setup : Setup) (table : TableId) (jobs : List Job) → AreReady script relays setup table jobs → ops ≡ setup.operations → (i : ℕ) (j : Job) → slice_get jobs i ≡ Some j → ops ≡ j.port.setup.operations
+list_at ops script relays setup table jobs are lent i j e = lent ∙ ap (λ (u : Setup). u.operations) (sym (are.each i j e).1.1)
 
 -- all have worked
 are_worked : (script : ScriptView) (relays : ℕ) (setup : Setup) (table : TableId) (jobs : List Job) (ws : List Worked) → AreReady script relays setup table jobs → length ws ≡ length jobs

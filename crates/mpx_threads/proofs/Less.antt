@@ -2,6 +2,7 @@
 use Rattle.std.proofs.Common.{◌≡◌, ℕ, suc, List, [], ◌∷◌, ◌++◌, Option, Some, None, refl, sym, ap, ◌∙◌, inl, inr}
 use Rattle.std.specs.Prelude.{slice_get, option_and_then}
 use Rattle.std.proofs.lemmas.Option.{option_and_then_some}
+use Rattle.mpx_num.specs.declared.own.Operation.{Operation}
 use Rattle.mpx_name.specs.Name.{Name}
 use Rattle.mpx_value.specs.declared.outcomes.Outcome.{Outcome}
 use Rattle.mpx_value.specs.Histories.{Answer, Made, Results, Within}
@@ -16,7 +17,7 @@ behind : {A : Type 0} (xs ys : List A) (k : ℕ) (x : A) → slice_get ys k ≡ 
 behind [] ys k x e = (k, e)
 behind (y ∷ xs) ys k x e = let there = behind xs ys k x e in (suc there.0, there.1)
 
-module _ (r less : Results) (within : Within less r) where
+module _ (ops : List Operation) (r less : Results) (within : Within less r) where
   -- the calls that lines tell are known by these
   abbrev pub Have : List Line → Type 0
   Have lines = (i : ℕ) (name : Name) (call : ℕ) (outcome : Outcome) → slice_get lines i ≡ Some (Told name call outcome) → (answer : Answer) × (less name call ≡ Some answer)
@@ -44,7 +45,7 @@ module _ (r less : Results) (within : Within less r) where
   waited_less [] requests told e have = e
   waited_less (word ∷ words) requests told e have = then_less (named requests word) (awaited_by (without word requests) words) told (waited_lines (without word requests) words) (waited_less words (without word requests)) e have
 
-  passes_less : {me : ℕ} {before after : Bindings} {requests left : Requests} {earlier ms : List Made} {xs : List Statement} {lines : List Line} → Passes r me before requests earlier xs after left ms lines → Have lines → Passes less me before requests earlier xs after left ms lines
+  passes_less : {me : ℕ} {before after : Bindings} {requests left : Requests} {earlier ms : List Made} {xs : List Statement} {lines : List Line} → Passes ops r me before requests earlier xs after left ms lines → Have lines → Passes ops less me before requests earlier xs after left ms lines
   passes_less none have = none
   passes_less (accepted {earlier = earlier} {m = m} {answer = answer} b a k p) have = accepted b a (has_same m.name (next_call m.name earlier) answer k (have 0 m.name (next_call m.name earlier) answer.outcome refl)) (passes_less p (λ i. have (suc i)))
   passes_less (started b a p) have = started b a (passes_less p have)
@@ -54,6 +55,6 @@ module _ (r less : Results) (within : Within less r) where
       (passes_less p (λ i name call outcome e. let there = behind (waited_lines requests words told) lines i (Told name call outcome) e in have there.0 name call outcome there.1))
   passes_less (asked p) have = asked (passes_less p (λ i. have (suc i)))
 
-  pub carries_out_less : (first : Bindings) (xs : List Statement) (s : Local) → CarriesOut r first xs s → Have s.lines → CarriesOut less first xs s
+  pub carries_out_less : (first : Bindings) (xs : List Statement) (s : Local) → CarriesOut ops r first xs s → Have s.lines → CarriesOut ops less first xs s
   carries_out_less first xs s (inl h) have = inl (record { passed = h.passed; left = h.left; all = h.all; todo = h.todo; passes = passes_less h.passes have })
   carries_out_less first xs s (inr h) have = inr (record { passed = h.passed; posting = h.posting; left = h.left; all = h.all; earlier = h.earlier; last = h.last; made = h.made; blocks = h.blocks; accepts = h.accepts; todo = h.todo; passes = passes_less h.passes have })

@@ -21,7 +21,7 @@ Unposted setup name old new = (birth : BirthView) → planned_birth setup name �
 module _ (setup : Setup) (me before : ℕ) (name : Name) (old now : ℕ) (same : Unposted setup name old now) where
   -- what is the plan's next still is
   pub next_still : (posting : Posting) → IsNextIn setup me (before + old) name posting → IsNextIn setup me (before + now) name posting
-  next_still posting next birth m born = subst (λ n. attempt_in me (first_posts setup me (before + n)) (draft_of posting) (gathers_of posting) name birth ≡ Ok m → slice_get (planned_posts setup me) (before + n) ≡ Some m) (sym (same birth born)) (next birth m born)
+  next_still posting next birth m born = subst (λ n. attempt_in setup.operations me (first_posts setup me (before + n)) (draft_of posting) (gathers_of posting) name birth ≡ Ok m → slice_get (planned_posts setup me) (before + n) ≡ Some m) (sym (same birth born)) (next birth m born)
 
   -- what an attempt comes to it would have come to at first
   pub tries_still : (outcome : List Made → BirthView → Result Made PostError) (result : Result (Option Ticket) PostError) (new : ℕ) → PostsAs setup me before name outcome result now new → PostsAs setup me before name outcome result old new

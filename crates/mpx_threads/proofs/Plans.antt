@@ -3,6 +3,7 @@ use Rattle.std.proofs.Common.{◌≡◌, ℕ, zero, suc, ◌<◌, ◌≤◌, ◌
 use Rattle.std.specs.Prelude.{unwrap_or}
 use Rattle.std.proofs.Math.Nat.{eq-or-lt_of_le}
 use Rattle.std.proofs.lemmas.Option.{slice_get_past}
+use Rattle.mpx_num.specs.declared.own.Operation.{Operation}
 use Rattle.mpx_name.specs.Name.{Name}
 use Rattle.mpx_value.specs.Histories.{Made, Results, birth_of, history_of, results_of}
 use Rattle.mpx_bus.specs.declared.act.Setup.{Setup}
@@ -66,7 +67,7 @@ plan_at end (suc n) p l =
     ]
 
 -- a rank with no statements posts nothing
-none_passed : {r : Results} {me : ℕ} {before after : Bindings} {requests left : Requests} {earlier ms : List Made} {xs : List Statement} {lines : List Line} → Passes r me before requests earlier xs after left ms lines → xs ≡ [] → ms ≡ []
+none_passed : {ops : List Operation} {r : Results} {me : ℕ} {before after : Bindings} {requests left : Requests} {earlier ms : List Made} {xs : List Statement} {lines : List Line} → Passes ops r me before requests earlier xs after left ms lines → xs ≡ [] → ms ≡ []
 none_passed none e = refl
 none_passed (accepted b a k p) e = cc e
 none_passed (started b a p) e = cc e
@@ -82,19 +83,19 @@ no_middle : {A : Type 0} (xs : List A) (y : A) (ys : List A) → xs ++ y ∷ ys 
 no_middle [] y ys e = cc e
 no_middle (x ∷ xs) y ys e = cc e
 
-posts_none : (r : Results) (first : Bindings) (s : Local) → CarriesOut r first [] s → s.made ≡ []
-posts_none r first s (inl h) = none_passed h.passes (no_first h.passed h.left h.all)
-posts_none r first s (inr h) = absurd (no_middle h.passed (Post h.posting) h.left h.all)
+posts_none : (ops : List Operation) (r : Results) (first : Bindings) (s : Local) → CarriesOut ops r first [] s → s.made ≡ []
+posts_none ops r first s (inl h) = none_passed h.passes (no_first h.passed h.left h.all)
+posts_none ops r first s (inr h) = absurd (no_middle h.passed (Post h.posting) h.left h.all)
 
 module _ (script : ScriptView) (relays : ℕ) (setup : Setup) (plan : Plans script relays setup) where
   made_past : (p : ℕ) → script.ranks ≤ p → (plan.end p).made ≡ []
   made_past p past =
       let no_statements : statements_of script.statements p ≡ [] = ap (λ o. unwrap_or o []) (slice_get_past script.statements p (omega (arith, plan.counted, past))) in
-      posts_none (known script.ranks plan.end p) (bound_at_start script.ranks) (plan.end p)
-      (subst (λ xs. CarriesOut (known script.ranks plan.end p) (bound_at_start script.ranks) xs (plan.end p)) no_statements (each-carries_out script.statements script.ranks plan.end plan.evaluation.reached p))
+      posts_none setup.operations (known setup.operations script.ranks plan.end p) (bound_at_start script.ranks) (plan.end p)
+      (subst (λ xs. CarriesOut setup.operations (known setup.operations script.ranks plan.end p) (bound_at_start script.ranks) xs (plan.end p)) no_statements (each-carries_out setup.operations script.statements script.ranks plan.end plan.evaluation.reached p))
 
   -- what a process posts by the plan it posts in the evaluation
-  posts_by : (p : ℕ) → planned_posts (setup_by script.ranks relays plan.end) p ≡ (plan.end p).made
+  posts_by : (p : ℕ) → planned_posts (setup_by setup.operations script.ranks relays plan.end) p ≡ (plan.end p).made
   posts_by p = elim (lt_or_ge p script.ranks) [
     | inl l ↦ ap (map made_of) (plan_at plan.end script.ranks p l) ∙ as_before (plan.end p).made
     | inr past ↦ ap (map made_of) (get_or-past (plan_upto plan.end script.ranks) p [] (omega (arith, plan_length plan.end script.ranks, past))) ∙ sym (made_past p past)
@@ -103,8 +104,8 @@ module _ (script : ScriptView) (relays : ℕ) (setup : Setup) (plan : Plans scri
   pub posts_are : (p : ℕ) → planned_posts setup p ≡ (plan.end p).made
   posts_are p = ap (λ (u : Setup). planned_posts u p) plan.setup_is ∙ posts_by p
 
-  pub history_is : plan_history setup ≡ history plan.end
-  history_is = λ i. history_of (λ p. posts_are p i)
+  pub history_is : plan_history setup ≡ history setup.operations plan.end
+  history_is = λ i. history_of setup.operations (λ p. posts_are p i)
 
   pub ranks_are : setup.ranks ≡ script.ranks
   ranks_are = ap (λ (u : Setup). u.ranks) plan.setup_is
@@ -113,10 +114,10 @@ module _ (script : ScriptView) (relays : ℕ) (setup : Setup) (plan : Plans scri
   planned_is = ap (λ (u : Setup). u.planned) plan.setup_is
 
   -- what the plan's posts give it the evaluation gives it
-  pub results_are : (p : ℕ) → planned_results setup p ≡ known script.ranks plan.end p
+  pub results_are : (p : ℕ) → planned_results setup p ≡ known setup.operations script.ranks plan.end p
   results_are p = λ i. results_of (history_is i) (ranks_are i) p
 
-  pub births_are : (name : Name) → planned_birth setup name ≡ birth_of (history plan.end) script.ranks name
+  pub births_are : (name : Name) → planned_birth setup name ≡ birth_of (history setup.operations plan.end) script.ranks name
   births_are name = λ i. birth_of (history_is i) (ranks_are i) name
 
 -- THE END OF THE EVALUATION
@@ -132,5 +133,5 @@ take_whole (suc n) [] e = refl
 take_whole zero (x ∷ xs) e = absurd (omega (arith, e))
 take_whole (suc n) (x ∷ xs) e = ap (λ l. x ∷ l) (take_whole n xs (omega (arith, e)))
 
-abbrev pub end_of : ScriptView → State
-end_of script = (eval_of (take script.ranks script.statements) script.ranks (take_few script.ranks script.statements)).0
+abbrev pub end_of : List Operation → ScriptView → State
+end_of ops script = (eval_of ops (take script.ranks script.statements) script.ranks (take_few script.ranks script.statements)).0

@@ -3,6 +3,7 @@ use Rattle.std.proofs.Common.{◌≡◌, ℕ, ℤ, ◌+◌, ◌⊎◌, Bool, tru
 use Rattle.std.specs.Prelude.{slice_get, option_and_then, IsTrue, is_some, Result, Ok, Err}
 use Rattle.std.proofs.lemmas.Option.{same_Some}
 use Rattle.atomic_table.specs.Seated.{TableId}
+use Rattle.mpx_num.specs.declared.own.Operation.{Operation}
 use Rattle.mpx_name.specs.Name.{Name}
 use Rattle.mpx_post.specs.Posts.{Given}
 use Rattle.mpx_post.specs.Births.{BirthView, of_members, rank_in}
@@ -34,25 +35,25 @@ use Rattle.mpx_shared.proofs.Standing.{stood_good}
 use Rattle.mpx_threads.specs.Told.{ComesTo, IsNextGathered, IsNextIn, Tried, first_posts, planned_birth}
 
 -- what a draft and a gathering come to on an opened context
-abbrev opened_draft : (freed : Bool) → (call : ℕ) → Option BirthView → (me : ℕ) → Name → Draft → Result Given PostError
-opened_draft freed call b me name draft = cond freed (Err Closed) (checked_there call b me name draft)
+abbrev opened_draft : (ops : List Operation) (freed : Bool) → (call : ℕ) → Option BirthView → (me : ℕ) → Name → Draft → Result Given PostError
+opened_draft ops freed call b me name draft = cond freed (Err Closed) (checked_there ops call b me name draft)
 
 abbrev opened_gathering : (freed : Bool) → Option BirthView → (me : ℕ) → Name → (tag : ℤ) → List ℤ → Result GatheringView PostError
 opened_gathering freed b me parent tag ranks = cond freed (Err Closed) (gathers_there b me parent tag ranks)
 
 -- a draft on an opened context comes to what it comes to by the plan, where its birth is known or it is freed; else it is refused for
 -- that
-draft_is : (freed : Bool) (call : ℕ) (b : Option BirthView) (me rank : ℕ) (name : Name) (draft : Draft) (made : List Made) (birth : BirthView) → call ≡ next_call name made → freed ≡ has_freed name made → rank_in me birth.members ≡ Some rank → ((x : BirthView) → b ≡ Some x → x ≡ birth)
-    → (opened_draft freed call b me name draft ≡ Err NotMember) ⊎ (opened_draft freed call b me name draft ≡ checked birth me (at name (next_call name made) (has_freed name made)) draft)
-draft_is true call b me rank name draft made birth count closed member same = inr (sym (closed_there birth me rank (at name (next_call name made) (has_freed name made)) draft member (sym closed)))
-draft_is false call None me rank name draft made birth count closed member same = inl refl
-draft_is false call (Some x) me rank name draft made birth count closed member same = inr (λ i. checked (same x refl i) me (at name (count i) (closed i)) draft)
+draft_is : (ops : List Operation) (freed : Bool) (call : ℕ) (b : Option BirthView) (me rank : ℕ) (name : Name) (draft : Draft) (made : List Made) (birth : BirthView) → call ≡ next_call name made → freed ≡ has_freed name made → rank_in me birth.members ≡ Some rank → ((x : BirthView) → b ≡ Some x → x ≡ birth)
+    → (opened_draft ops freed call b me name draft ≡ Err NotMember) ⊎ (opened_draft ops freed call b me name draft ≡ checked ops birth me (at name (next_call name made) (has_freed name made)) draft)
+draft_is ops true call b me rank name draft made birth count closed member same = inr (sym (closed_there ops birth me rank (at name (next_call name made) (has_freed name made)) draft member (sym closed)))
+draft_is ops false call None me rank name draft made birth count closed member same = inl refl
+draft_is ops false call (Some x) me rank name draft made birth count closed member same = inr (λ i. checked ops (same x refl i) me (at name (count i) (closed i)) draft)
 
 -- so does one on any context, of whose members the process is one where it is opened
-checked_is : (o : Option OpenedView) (b : Option BirthView) (me : ℕ) (name : Name) (draft : Draft) (made : List Made) (birth : BirthView) → posted_by o ≡ next_call name made → freed_by o ≡ has_freed name made → (IsTrue (is_some o) → (rank : ℕ) × (rank_in me birth.members ≡ Some rank)) → ((x : BirthView) → b ≡ Some x → x ≡ birth)
-    → (checked_by o b me name draft ≡ Err NotMember) ⊎ (checked_by o b me name draft ≡ checked birth me (at name (next_call name made) (has_freed name made)) draft)
-checked_is None b me name draft made birth count closed member same = inl refl
-checked_is (Some o) b me name draft made birth count closed member same = let ranked = member refl in draft_is o.freed o.posted b me ranked.0 name draft made birth count closed ranked.1 same
+checked_is : (ops : List Operation) (o : Option OpenedView) (b : Option BirthView) (me : ℕ) (name : Name) (draft : Draft) (made : List Made) (birth : BirthView) → posted_by o ≡ next_call name made → freed_by o ≡ has_freed name made → (IsTrue (is_some o) → (rank : ℕ) × (rank_in me birth.members ≡ Some rank)) → ((x : BirthView) → b ≡ Some x → x ≡ birth)
+    → (checked_by ops o b me name draft ≡ Err NotMember) ⊎ (checked_by ops o b me name draft ≡ checked ops birth me (at name (next_call name made) (has_freed name made)) draft)
+checked_is ops None b me name draft made birth count closed member same = inl refl
+checked_is ops (Some o) b me name draft made birth count closed member same = let ranked = member refl in draft_is ops o.freed o.posted b me ranked.0 name draft made birth count closed ranked.1 same
 
 -- and a gathering
 gathering_is : (freed : Bool) (b : Option BirthView) (me rank : ℕ) (parent : Name) (tag : ℤ) (ranks : List ℤ) (made : List Made) (birth : BirthView) → freed ≡ has_freed parent made → rank_in me birth.members ≡ Some rank → ((x : BirthView) → b ≡ Some x → x ≡ birth)
@@ -80,7 +81,7 @@ gathers_born (Some o) b me parent tag ranks g e = gathering_born o.freed b me pa
 module _ (table : TableId) (setup : Setup) (me : ℕ) (planned : setup.planned ≡ true) where
   -- what they come to by the plan, after its first so many posts
   abbrev planned_check : (count : ℕ) → Name → Draft → BirthView → Result Given PostError
-  planned_check count name draft birth = checked birth me (at name (next_call name (first_posts setup me count)) (has_freed name (first_posts setup me count))) draft
+  planned_check count name draft birth = checked setup.operations birth me (at name (next_call name (first_posts setup me count)) (has_freed name (first_posts setup me count))) draft
 
   abbrev planned_gathering : (count : ℕ) → Name → (tag : ℤ) → List ℤ → BirthView → Result GatheringView PostError
   planned_gathering count parent tag ranks birth = gathering birth me (length parent) (has_freed parent (first_posts setup me count)) tag ranks
@@ -114,10 +115,10 @@ module _ (table : TableId) (setup : Setup) (me : ℕ) (planned : setup.planned �
         (m.1.0, ap (λ (x : BirthView). rank_in me x.members) (sym same) ∙ m.1.1.1)
 
     checked_port : (count : ℕ) → length (made_in port) ≡ count → (name : Name) (draft : Draft) (birth : BirthView) → planned_birth setup name ≡ Some birth
-        → (checked_on (node_in port) name draft ≡ Err NotMember) ⊎ (checked_on (node_in port) name draft ≡ planned_check count name draft birth)
+        → (checked_on setup.operations (node_in port) name draft ≡ Err NotMember) ⊎ (checked_on setup.operations (node_in port) name draft ≡ planned_check count name draft birth)
     checked_port count counted name draft birth born =
-        subst (λ p. (checked_by ((node_in port).opened name) (told ((node_in port).board.contexts name).birth) p name draft ≡ Err NotMember) ⊎ (checked_by ((node_in port).opened name) (told ((node_in port).board.contexts name).birth) p name draft ≡ planned_check count name draft birth)) (sym node_me)
-        (checked_is ((node_in port).opened name) (told ((node_in port).board.contexts name).birth) me name draft (first_posts setup me count) birth (posted_count count counted name) (freed_is count counted name) (ranked_in name birth born) (birth_same name birth born))
+        subst (λ p. (checked_by setup.operations ((node_in port).opened name) (told ((node_in port).board.contexts name).birth) p name draft ≡ Err NotMember) ⊎ (checked_by setup.operations ((node_in port).opened name) (told ((node_in port).board.contexts name).birth) p name draft ≡ planned_check count name draft birth)) (sym node_me)
+        (checked_is setup.operations ((node_in port).opened name) (told ((node_in port).board.contexts name).birth) me name draft (first_posts setup me count) birth (posted_count count counted name) (freed_is count counted name) (ranked_in name birth born) (birth_same name birth born))
 
     gathers_port : (count : ℕ) → length (made_in port) ≡ count → (parent : Name) (tag : ℤ) (ranks : List ℤ) (birth : BirthView) → planned_birth setup parent ≡ Some birth
         → (gathers_on (node_in port) parent tag ranks ≡ Err NotMember) ⊎ (gathers_on (node_in port) parent tag ranks ≡ planned_gathering count parent tag ranks birth)
@@ -133,35 +134,35 @@ module _ (table : TableId) (setup : Setup) (me : ℕ) (planned : setup.planned �
 
   module _ (count : ℕ) (name : Name) (draft : Draft) (birth : BirthView) (born : planned_birth setup name ≡ Some birth) where
     abbrev outcome : Result Made PostError
-    outcome = post_on me (first_posts setup me count) draft name birth
+    outcome = post_on setup.operations me (first_posts setup me count) draft name birth
 
     pub posted_so : {opening : List Act} (ticket : Ticket) → PostsThen table setup me opening count name draft (Ok ticket) → (old new : ℕ) → new ≡ old + 1 → Tried (first_posts setup me count) outcome (Ok (Some (ticket.name, ticket.call))) old new
     posted_so ticket then old new more = by_check (checked_port then.before then.docked_before count then.counted name draft birth born) where
-      by_check : (checked_on (node_in then.before) name draft ≡ Err NotMember) ⊎ (checked_on (node_in then.before) name draft ≡ planned_check count name draft birth) → Tried (first_posts setup me count) outcome (Ok (Some (ticket.name, ticket.call))) old new
+      by_check : (checked_on setup.operations (node_in then.before) name draft ≡ Err NotMember) ⊎ (checked_on setup.operations (node_in then.before) name draft ≡ planned_check count name draft birth) → Tried (first_posts setup me count) outcome (Ok (Some (ticket.name, ticket.call))) old new
       by_check (inl shut) = let is = then.ticket.1 in cc (shut, is)
       by_check (inr e) =
           let posts = subst (λ x. Posts name x (Ok ticket.call) (node_in then.before) (node_in then.after)) then.ticket.1 then.posts in
           (record { name = name; given = ticket.post }, ap (made_on name) (sym e ∙ then.ticket.1), then.ticket.0, posts.0 ∙ posted_count then.before then.docked_before count then.counted name, more)
 
     pub refused_so : {opening : List Act} (refusal : PostError) → (refusal ≡ NotMember → ⊥) → PostsThen table setup me opening count name draft (Err refusal) → (old new : ℕ) → new ≡ old → Tried (first_posts setup me count) outcome (Err refusal) old new
-    refused_so refusal member then old new same other = (by_answer (checked_on (node_in then.before) name draft) refl then.posts, same) where
-      by_check : (checked_on (node_in then.before) name draft ≡ Err NotMember) ⊎ (checked_on (node_in then.before) name draft ≡ planned_check count name draft birth) → checked_on (node_in then.before) name draft ≡ Err refusal → outcome ≡ Err refusal
+    refused_so refusal member then old new same other = (by_answer (checked_on setup.operations (node_in then.before) name draft) refl then.posts, same) where
+      by_check : (checked_on setup.operations (node_in then.before) name draft ≡ Err NotMember) ⊎ (checked_on setup.operations (node_in then.before) name draft ≡ planned_check count name draft birth) → checked_on setup.operations (node_in then.before) name draft ≡ Err refusal → outcome ≡ Err refusal
       by_check (inl shut) e = absurd (member (let same : refusal ≡ NotMember = cc (shut, e) in same))
       by_check (inr is) e = ap (made_on name) (sym is ∙ e)
 
-      by_answer : (x : Result Given PostError) → checked_on (node_in then.before) name draft ≡ x → Posts name x (Err refusal) (node_in then.before) (node_in then.after) → outcome ≡ Err refusal
+      by_answer : (x : Result Given PostError) → checked_on setup.operations (node_in then.before) name draft ≡ x → Posts name x (Err refusal) (node_in then.before) (node_in then.after) → outcome ≡ Err refusal
       by_answer (Ok given) e posts = absurd (other posts.0)
       by_answer (Err r) e posts = by_check (checked_port then.before then.docked_before count then.counted name draft birth born) (let same : refusal ≡ r = cc (posts.0) in e ∙ ap Err (sym same))
 
   -- where what it comes to is the plan's next, so is the post
-  pub next_on : (count : ℕ) (name : Name) (draft : Draft) → ((birth : BirthView) (m : Made) → planned_birth setup name ≡ Some birth → post_on me (first_posts setup me count) draft name birth ≡ Ok m → slice_get (planned_posts setup me) count ≡ Some m) → IsNext setup me count name draft
+  pub next_on : (count : ℕ) (name : Name) (draft : Draft) → ((birth : BirthView) (m : Made) → planned_birth setup name ≡ Some birth → post_on setup.operations me (first_posts setup me count) draft name birth ≡ Ok m → slice_get (planned_posts setup me) count ≡ Some m) → IsNext setup me count name draft
   next_on count name draft next plan birth given born checks = next birth (record { name = name; given = given }) born (ap (made_on name) checks)
 
   pub next_posted : (count : ℕ) (name : Name) (posting : Posting) → gathers_of posting ≡ None → IsNextIn setup me count name posting → IsNext setup me count name (draft_of posting)
-  next_posted count name posting none next = next_on count name (draft_of posting) (λ birth m born e. next birth m born (ap (λ o. attempt_in me (first_posts setup me count) (draft_of posting) o name birth) none ∙ e))
+  next_posted count name posting none next = next_on count name (draft_of posting) (λ birth m born e. next birth m born (ap (λ o. attempt_in setup.operations me (first_posts setup me count) (draft_of posting) o name birth) none ∙ e))
 
   pub next_gathered : (count : ℕ) (name : Name) (posting : Posting) (g : Gathers) → gathers_of posting ≡ Some g → IsNextIn setup me count name posting → IsNextGathered setup me count name g.tag g.ranks (draft_of posting)
-  next_gathered count name posting g some next birth m born e = next birth m born (ap (λ o. attempt_in me (first_posts setup me count) (draft_of posting) o name birth) some ∙ e)
+  next_gathered count name posting g some next birth m born e = next birth m born (ap (λ o. attempt_in setup.operations me (first_posts setup me count) (draft_of posting) o name birth) some ∙ e)
 
   -- A GATHERING
 
@@ -204,32 +205,32 @@ module _ (table : TableId) (setup : Setup) (me : ℕ) (planned : setup.planned �
         let o = opened_so name then in
         let members = of_members o.gathering_view.members in
         let same : birth ≡ members = same_Some birth members (sym born ∙ o.born_below) in
-        let below : post_on me (first_posts setup me count) draft name members ≡ Ok (record { name = name; given = given }) = ap (made_on name) (ap (planned_check count name draft) (sym same) ∙ checks) in
-        let there : post_on me (first_posts setup me count) draft (gathering_name parent o.gathering_view) members ≡ Ok (record { name = name; given = given }) = subst (λ n. post_on me (first_posts setup me count) draft n members ≡ Ok (record { name = name; given = given })) o.name_is below in
-        next o.birth (record { name = name; given = given }) o.born (ap (post_gathered me (first_posts setup me count) draft parent) o.gathers ∙ there)
+        let below : post_on setup.operations me (first_posts setup me count) draft name members ≡ Ok (record { name = name; given = given }) = ap (made_on name) (ap (planned_check count name draft) (sym same) ∙ checks) in
+        let there : post_on setup.operations me (first_posts setup me count) draft (gathering_name parent o.gathering_view) members ≡ Ok (record { name = name; given = given }) = subst (λ n. post_on setup.operations me (first_posts setup me count) draft n members ≡ Ok (record { name = name; given = given })) o.name_is below in
+        next o.birth (record { name = name; given = given }) o.born (ap (post_gathered setup.operations me (first_posts setup me count) draft parent) o.gathers ∙ there)
 
     -- and what comes of it
     pub comes_below : {opening : List Act} (name : Name) → OpensThen table setup me opening count parent tag ranks (Ok name) → (result : Result (Option (Name × ℕ)) PostError) (old new : ℕ)
-        → ComesTo setup name (λ birth. post_on me (first_posts setup me count) draft name birth) (first_posts setup me count) result old new
-        → ComesTo setup parent (λ birth. post_gathered me (first_posts setup me count) draft parent (planned_gathering count parent tag ranks birth)) (first_posts setup me count) result old new
+        → ComesTo setup name (λ birth. post_on setup.operations me (first_posts setup me count) draft name birth) (first_posts setup me count) result old new
+        → ComesTo setup parent (λ birth. post_gathered setup.operations me (first_posts setup me count) draft parent (planned_gathering count parent tag ranks birth)) (first_posts setup me count) result old new
     comes_below name then result old new comes birth born =
         let o = opened_so name then in
         let members = of_members o.gathering_view.members in
         let same : o.birth ≡ birth = same_Some o.birth birth (sym o.born ∙ born) in
         let gathers : planned_gathering count parent tag ranks birth ≡ Ok o.gathering_view = ap (planned_gathering count parent tag ranks) (sym same) ∙ o.gathers in
-        let is : post_on me (first_posts setup me count) draft name members ≡ post_gathered me (first_posts setup me count) draft parent (planned_gathering count parent tag ranks birth) =
-        ap (λ n. post_on me (first_posts setup me count) draft n members) o.name_is ∙ ap (post_gathered me (first_posts setup me count) draft parent) (sym gathers) in
+        let is : post_on setup.operations me (first_posts setup me count) draft name members ≡ post_gathered setup.operations me (first_posts setup me count) draft parent (planned_gathering count parent tag ranks birth) =
+        ap (λ n. post_on setup.operations me (first_posts setup me count) draft n members) o.name_is ∙ ap (post_gathered setup.operations me (first_posts setup me count) draft parent) (sym gathers) in
         subst (λ x. Tried (first_posts setup me count) x result old new) is (comes members o.born_below)
 
     pub gathering_refused : {opening : List Act} (refusal : PostError) → (refusal ≡ NotMember → ⊥) → OpensThen table setup me opening count parent tag ranks (Err refusal) → (old new : ℕ) → new ≡ old
-        → ComesTo setup parent (λ birth. post_gathered me (first_posts setup me count) draft parent (planned_gathering count parent tag ranks birth)) (first_posts setup me count) (Err refusal) old new
+        → ComesTo setup parent (λ birth. post_gathered setup.operations me (first_posts setup me count) draft parent (planned_gathering count parent tag ranks birth)) (first_posts setup me count) (Err refusal) old new
     gathering_refused refusal member then old new same birth born other = (by_answer (gathers_on (node_in then.before) parent tag ranks) refl then.opens, same) where
       by_gathers : (gathers_on (node_in then.before) parent tag ranks ≡ Err NotMember) ⊎ (gathers_on (node_in then.before) parent tag ranks ≡ planned_gathering count parent tag ranks birth) → gathers_on (node_in then.before) parent tag ranks ≡ Err refusal
-          → post_gathered me (first_posts setup me count) draft parent (planned_gathering count parent tag ranks birth) ≡ Err refusal
+          → post_gathered setup.operations me (first_posts setup me count) draft parent (planned_gathering count parent tag ranks birth) ≡ Err refusal
       by_gathers (inl shut) e = absurd (member (let same : refusal ≡ NotMember = cc (shut, e) in same))
-      by_gathers (inr is) e = ap (post_gathered me (first_posts setup me count) draft parent) (sym is ∙ e)
+      by_gathers (inr is) e = ap (post_gathered setup.operations me (first_posts setup me count) draft parent) (sym is ∙ e)
 
       by_answer : (x : Result GatheringView PostError) → gathers_on (node_in then.before) parent tag ranks ≡ x → Opens parent x (Err refusal) (node_in then.before) (node_in then.after)
-          → post_gathered me (first_posts setup me count) draft parent (planned_gathering count parent tag ranks birth) ≡ Err refusal
+          → post_gathered setup.operations me (first_posts setup me count) draft parent (planned_gathering count parent tag ranks birth) ≡ Err refusal
       by_answer (Ok g) e opens = absurd (other opens.0)
       by_answer (Err r) e opens = by_gathers (gathers_port then.before then.docked_before count then.counted parent tag ranks birth born) (let same : refusal ≡ r = cc (opens.0) in e ∙ ap Err (sym same))

@@ -4,6 +4,7 @@ use Rattle.std.specs.Prelude.{slice_get}
 use Rattle.std.proofs.lemmas.List.{length-map}
 use Rattle.std.proofs.lemmas.Option.{same_Some}
 use Rattle.atomic_table.specs.Seated.{TableId}
+use Rattle.mpx_num.specs.declared.own.Operation.{Operation}
 use Rattle.mpx_bus.specs.declared.act.Setup.{Setup}
 use Rattle.mpx_bus.specs.Berths.{Berth}
 use Rattle.mpx_shared.specs.Docks.{IsDocked, made_in}
@@ -30,7 +31,7 @@ module _ (script : ScriptView) (relays : ℕ) (setup : Setup) (table : TableId) 
 
   -- the rank stands there
   record IsAt (p : ℕ) (w : Worked) (s : Local) : Type 0 where
-    done : IsDone script end p w.port s
+    done : IsDone setup.operations script end p w.port s
     lines : lines_in w ≡ map line_text s.lines
     waits : w.waits ≡ is_left s.todo
 
@@ -68,34 +69,34 @@ module _ (script : ScriptView) (relays : ℕ) (setup : Setup) (table : TableId) 
     waiting_so = waiting_are ∙ which_same (λ p. waits_at (slice_get ws p)) (λ p. is_left (local p).todo) script.ranks (λ p l.
         let found = worked_at p l in ap waits_at found.1.0 ∙ (at_local p found.0 found.1.0 l).waits)
 
-    pub is_thread_run : IsThreadRun script relays table ports said waiting
+    pub is_thread_run : IsThreadRun setup.operations script relays table ports said waiting
     is_thread_run = record {
       end = end;
       evaluation = are.plan.evaluation;
       count = ap length ports_are ∙ length-map ws (λ (w : Worked). w.port) ∙ are.count;
       docked = λ p port e.
           let found = port_at p port e in
-          subst (λ b. IsDocked table (setup_by script.ranks relays end) p b) found.2 (subst (λ u. IsDocked table u p found.0.port) are.plan.setup_is (are.each p found.0 found.1).docked);
+          subst (λ b. IsDocked table (setup_by setup.operations script.ranks relays end) p b) found.2 (subst (λ u. IsDocked table u p found.0.port) are.plan.setup_is (are.each p found.0 found.1).docked);
       relays_post_nothing = λ p port e past. let found = port_at p port e in ap made_in (sym found.2) ∙ (are.each p found.0 found.1).relay past;
       ranks = local;
-      done = λ p port e l. let found = port_at p port e in subst (λ b. IsDone script end p b (local p)) found.2 (at_local p found.0 found.1 l).done;
+      done = λ p port e l. let found = port_at p port e in subst (λ b. IsDone setup.operations script end p b (local p)) found.2 (at_local p found.0 found.1 l).done;
       ranks_are = ap length lines_are ∙ length_taken script.ranks (map lines_in ws) (omega (arith, length-map ws lines_in, are.count));
       lines = λ p lines e. (lines_at p lines e).1;
       waiting_are = waiting_so;
     }
 
-    module _ (evaluation : State) (is : IsEvaluation script.statements script.ranks evaluation) where
+    module _ (evaluation : State) (is : IsEvaluation setup.operations script.statements script.ranks evaluation) where
       one_end : end ≡ evaluation
-      one_end = confluent script.statements script.ranks end evaluation are.plan.evaluation is
+      one_end = confluent setup.operations script.statements script.ranks end evaluation are.plan.evaluation is
 
-      goes_at : (p : ℕ) → p < script.ranks → Goes (known script.ranks end p) (start script.statements script.ranks p) (local p)
+      goes_at : (p : ℕ) → p < script.ranks → Goes setup.operations (known setup.operations script.ranks end p) (start script.statements script.ranks p) (local p)
       goes_at p l = let found = worked_at p l in (at_local p found.0 found.1.0 l).done.goes
 
       pub begins : Begin said evaluation
       begins p lines e =
           let here = lines_at p lines e in
           subst (λ xs. IsPrefixOf xs (lines_of evaluation p)) (sym here.1)
-          (subst (λ (s : State). IsPrefixOf (lines_of local p) (lines_of s p)) one_end (prefix_map (local p).lines (end p).lines (goes-adds script.statements script.ranks end are.plan.evaluation p (local p) (goes_at p here.0)).1))
+          (subst (λ (s : State). IsPrefixOf (lines_of local p) (lines_of s p)) one_end (prefix_map (local p).lines (end p).lines (goes-adds setup.operations script.statements script.ranks end are.plan.evaluation p (local p) (goes_at p here.0)).1))
 
       pub are_whole : AreWhole said waiting evaluation
       are_whole p lines e other =
@@ -103,4 +104,19 @@ module _ (script : ScriptView) (relays : ℕ) (setup : Setup) (table : TableId) 
           let todo : (local p).todo ≡ [] = nothing_left (local p).todo (λ left.
           let found = which_has (λ q. is_left (local q).todo) script.ranks p here.0 left in
           other found.0 (ap (λ xs. slice_get xs found.0) waiting_so ∙ found.1)) in
-          here.1 ∙ ap (λ (s : Local). map line_text s.lines) (goes-whole script.statements script.ranks end are.plan.evaluation p (local p) (goes_at p here.0) todo) ∙ ap (λ (s : State). lines_of s p) one_end
+          here.1 ∙ ap (λ (s : Local). map line_text s.lines) (goes-whole setup.operations script.statements script.ranks end are.plan.evaluation p (local p) (goes_at p here.0) todo) ∙ ap (λ (s : State). lines_of s p) one_end
+
+-- the same by the operations that are lent, which are the setup's
+module _ (ops : List Operation) (script : ScriptView) (relays : ℕ) (setup : Setup) (table : TableId) (ws : List Worked) (are : AreWorked script relays setup table ws) (lent : ops ≡ setup.operations)
+    (ports : List Berth) (said : List (List (List ℕ))) (waiting : List ℕ) (ports_are : ports ≡ map (λ (w : Worked). w.port) ws) (lines_are : said ≡ take script.ranks (map lines_in ws)) (waiting_are : waiting ≡ which (λ p. waits_at (slice_get ws p)) script.ranks) where
+  by_setup : (evaluation : State) → IsEvaluation ops script.statements script.ranks evaluation → IsEvaluation setup.operations script.statements script.ranks evaluation
+  by_setup evaluation is = subst (λ o. IsEvaluation o script.statements script.ranks evaluation) lent is
+
+  pub run_lent : IsThreadRun ops script relays table ports said waiting
+  run_lent = subst (λ o. IsThreadRun o script relays table ports said waiting) (sym lent) (is_thread_run script relays setup table ws are ports said waiting ports_are lines_are waiting_are)
+
+  pub begins_lent : (evaluation : State) → IsEvaluation ops script.statements script.ranks evaluation → Begin said evaluation
+  begins_lent evaluation is = begins script relays setup table ws are ports said waiting ports_are lines_are waiting_are evaluation (by_setup evaluation is)
+
+  pub whole_lent : (evaluation : State) → IsEvaluation ops script.statements script.ranks evaluation → AreWhole said waiting evaluation
+  whole_lent evaluation is = are_whole script relays setup table ws are ports said waiting ports_are lines_are waiting_are evaluation (by_setup evaluation is)

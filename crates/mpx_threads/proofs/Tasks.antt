@@ -9,10 +9,10 @@ use Rattle.std.specs.declared.thread.PromisedHandle.{PromisedHandle}
 use denote.Param.Members.{Shared}
 use Rattle.mpx_threads.specs.declared.task.Calling.{Calling}
 use Rattle.mpx_threads.specs.declared.task.TaskPromise.{TaskPromise}
-use Rattle.mpx_threads.specs.Tasks.{AllCan, AllGive, beside, tasks_of}
+use Rattle.mpx_threads.specs.Tasks.{AllGive, beside, tasks_of}
 
-module _ {T A : Type 0} (gives : T → A → Type 0) where
-  pub one_more_gives : (hs : List (PromisedHandle A (TaskPromise T))) (rs : List A) (h : PromisedHandle A (TaskPromise T)) (r : A) → AllGive gives (tasks_of hs) rs → gives h.promise.task.value r → AllGive gives (tasks_of (hs ++ h ∷ [])) (rs ++ r ∷ [])
+module _ {L T A : Type 0} (gives : T → A → Type 0) where
+  pub one_more_gives : (hs : List (PromisedHandle A (TaskPromise L T))) (rs : List A) (h : PromisedHandle A (TaskPromise L T)) (r : A) → AllGive gives (tasks_of hs) rs → gives h.promise.task.value r → AllGive gives (tasks_of (hs ++ h ∷ [])) (rs ++ r ∷ [])
   one_more_gives [] [] h r all gave = record { count = refl; each = λ i t x e f. last i t x e f } where
     last : (i : ℕ) (t : T) (x : A) → slice_get (h.promise.task.value ∷ []) i ≡ Some t → slice_get (r ∷ []) i ≡ Some x → gives t x
     last zero t x e f = subst (λ y. gives t y) (same_Some r x f) (subst (λ y. gives y r) (same_Some h.promise.task.value t e) gave)
@@ -61,7 +61,7 @@ module _ {F J X : Type 0} (called : Shared F (J × Unit {0}) X) (f : F) (jobs : 
   seen t = beside t.f.now t.job
 
   -- what may be called with each job may be called so
-  pub accepted : AcceptsJobs called f jobs → AllCan (λ (t : Calling F J). called.pre t.f.now (t.job, tt)) calls
+  pub accepted : AcceptsJobs called f jobs → (i : ℕ) (t : Calling F J) → slice_get calls i ≡ Some t → called.pre t.f.now (t.job, tt)
   accepted accepts = λ i t e.
       let found = mapped_at (beside f) jobs i (seen t) (ap (λ vs. slice_get vs i) (sym made) ∙ slice_get-map seen calls i ∙ ap (option_map seen) e) in
       subst (λ v. called.pre v.0 (v.1, tt)) found.1.1 (accepts i found.0 (within_get jobs i found.0 found.1.0) (sym (read_any jobs i found.0 found.0 found.1.0)))

@@ -1,6 +1,7 @@
 -- What a run in threads comes to.
 use Rattle.std.specs.Prelude.{◌≡◌, ℕ, ◌<◌, ◌≤◌, ◌+◌, List, [], length, slice_get, Some}
 use Rattle.atomic_table.specs.Seated.{TableId}
+use Rattle.mpx_num.specs.declared.own.Operation.{Operation}
 use Rattle.mpx_bus.specs.Berths.{Berth, node_in}
 use Rattle.mpx_shared.specs.Docks.{IsDocked, made_in}
 use Rattle.mpx_value.specs.Histories.{birth_of}
@@ -16,22 +17,22 @@ use Rattle.mpx_threads.specs.Plans.{setup_by}
 -- the rank has come there by answers of the evaluation, each of which is that of a result that its port's node holds, where
 -- communicators came to be as they do there; each line that tells an outcome tells that of a stored result, beside the rank's own
 -- post; and the port has made its posts
-pub record IsDone (script : ScriptView) (end : State) (p : ℕ) (port : Berth) (s : Local) : Type 0 where
-  pub goes : Goes (known script.ranks end p) (start script.statements script.ranks p) s
-  pub carries_out : CarriesOut (node_tells (birth_of (history end) script.ranks) (node_in port)) (bound_at_start script.ranks) (statements_of script.statements p) s
+pub record IsDone (ops : List Operation) (script : ScriptView) (end : State) (p : ℕ) (port : Berth) (s : Local) : Type 0 where
+  pub goes : Goes ops (known ops script.ranks end p) (start script.statements script.ranks p) s
+  pub carries_out : CarriesOut ops (node_tells (birth_of (history ops end) script.ranks) (node_in port)) (bound_at_start script.ranks) (statements_of script.statements p) s
   pub told : TellsResults (node_in port) s
   pub posts : IsPrefixOf s.made (made_in port)
 
--- all ports are of one bus, and what they posted is planned by the script's evaluation, relays none; each rank has come so far in its
+-- all ports are of one bus, and what they posted is planned by the script's evaluation by the job's own operations, relays none; each rank has come so far in its
 -- statements, and has these lines; and these ranks have something left
-pub record IsThreadRun (script : ScriptView) (relays : ℕ) (table : TableId) (ports : List Berth) (transcripts : List (List (List ℕ))) (waiting : List ℕ) : Type 0 where
+pub record IsThreadRun (ops : List Operation) (script : ScriptView) (relays : ℕ) (table : TableId) (ports : List Berth) (transcripts : List (List (List ℕ))) (waiting : List ℕ) : Type 0 where
   pub end : State
-  pub evaluation : IsEvaluation script.statements script.ranks end
+  pub evaluation : IsEvaluation ops script.statements script.ranks end
   pub count : length ports ≡ script.ranks + relays
-  pub docked : (p : ℕ) (port : Berth) → slice_get ports p ≡ Some port → IsDocked table (setup_by script.ranks relays end) p port
+  pub docked : (p : ℕ) (port : Berth) → slice_get ports p ≡ Some port → IsDocked table (setup_by ops script.ranks relays end) p port
   pub relays_post_nothing : (p : ℕ) (port : Berth) → slice_get ports p ≡ Some port → script.ranks ≤ p → made_in port ≡ []
   pub ranks : State
-  pub done : (p : ℕ) (port : Berth) → slice_get ports p ≡ Some port → p < script.ranks → IsDone script end p port (ranks p)
+  pub done : (p : ℕ) (port : Berth) → slice_get ports p ≡ Some port → p < script.ranks → IsDone ops script end p port (ranks p)
   pub ranks_are : length transcripts ≡ script.ranks
   pub lines : (p : ℕ) (lines : List (List ℕ)) → slice_get transcripts p ≡ Some lines → lines ≡ lines_in ranks p
   pub waiting_are : waiting ≡ waiting_in ranks script.ranks

@@ -2,6 +2,7 @@
 use Rattle.std.specs.Prelude.{◌≡◌, ℕ, ℤ, string_bytes, ◌+◌, ◌==◌, Bool, true, false, ◌&&◌, ◌||◌, cond, List, [], ◌∷◌, ◌++◌, length, take, Option, Some, None, Result, Ok, Err, IsTrue, is_some, slice_get}
 use Rattle.std.proofs.Common.{refl, sym, ap, ◌∙◌, subst}
 use Rattle.std.specs.Option.{option_map}
+use Rattle.mpx_num.specs.declared.own.Operation.{Operation}
 use Rattle.mpx_name.specs.Name.{Name, same_name}
 use Rattle.mpx_post.specs.Births.{BirthView}
 use Rattle.mpx_post.specs.Gatherings.{gathering}
@@ -65,17 +66,17 @@ first_posts setup me count = take count (planned_posts setup me)
 pub record MayPost (setup : Setup) (me count : ℕ) (posting : Posting) (on : Option CommunicatorView) : Type 0 where
   pub planned : setup.planned ≡ true
   pub born : (c : CommunicatorView) → on ≡ Some c → planned_birth setup c.0 ≡ Some c.1
-  pub next : (m : Made) → attempt_by me (first_posts setup me count) posting on ≡ Ok m → slice_get (planned_posts setup me) count ≡ Some m
+  pub next : (m : Made) → attempt_by setup.operations me (first_posts setup me count) posting on ≡ Ok m → slice_get (planned_posts setup me) count ≡ Some m
 
 -- where the post on a gathering of these ranks below the context comes to a post, by the plan, that is the plan's next
 abbrev pub IsNextGathered : Setup → (me count : ℕ) → (parent : Name) → (tag : ℤ) → (ranks : List ℤ) → Draft → Type 0
 IsNextGathered setup me count parent tag ranks draft = (birth : BirthView) (m : Made) → planned_birth setup parent ≡ Some birth
-    → post_gathered me (first_posts setup me count) draft parent (gathering birth me (length parent) (has_freed parent (first_posts setup me count)) tag ranks) ≡ Ok m → slice_get (planned_posts setup me) count ≡ Some m
+    → post_gathered setup.operations me (first_posts setup me count) draft parent (gathering birth me (length parent) (has_freed parent (first_posts setup me count)) tag ranks) ≡ Ok m → slice_get (planned_posts setup me) count ≡ Some m
 
 -- where the statement comes to a post on the context, or on a gathering below it, by the plan, that is the plan's next
 abbrev pub IsNextIn : Setup → (me count : ℕ) → Name → Posting → Type 0
 IsNextIn setup me count name posting = (birth : BirthView) (m : Made) → planned_birth setup name ≡ Some birth
-    → attempt_in me (first_posts setup me count) (draft_of posting) (gathers_of posting) name birth ≡ Ok m → slice_get (planned_posts setup me) count ≡ Some m
+    → attempt_in setup.operations me (first_posts setup me count) (draft_of posting) (gathers_of posting) name birth ≡ Ok m → slice_get (planned_posts setup me) count ≡ Some m
 
 -- after the first posts of a plan the outcome of an attempt is told, and one post more is made; or nothing was posted, now; or it is
 -- refused; or memory was wanting
@@ -95,14 +96,14 @@ PostsAs setup me before name outcome result old new =
 
 -- what a statement comes to after these posts: on a context that came to be so, on a gathering of these ranks below it, or on the
 -- one of these that it asks for
-abbrev pub on_context : (me : ℕ) → Posting → Name → List Made → BirthView → Result Made PostError
-on_context me posting name made birth = post_on me made (draft_of posting) name birth
+abbrev pub on_context : List Operation → (me : ℕ) → Posting → Name → List Made → BirthView → Result Made PostError
+on_context ops me posting name made birth = post_on ops me made (draft_of posting) name birth
 
-abbrev pub on_gathering : (me : ℕ) → Posting → (parent : Name) → (tag : ℤ) → (ranks : List ℤ) → List Made → BirthView → Result Made PostError
-on_gathering me posting parent tag ranks made birth = post_gathered me made (draft_of posting) parent (gathering birth me (length parent) (has_freed parent made) tag ranks)
+abbrev pub on_gathering : List Operation → (me : ℕ) → Posting → (parent : Name) → (tag : ℤ) → (ranks : List ℤ) → List Made → BirthView → Result Made PostError
+on_gathering ops me posting parent tag ranks made birth = post_gathered ops me made (draft_of posting) parent (gathering birth me (length parent) (has_freed parent made) tag ranks)
 
-abbrev pub on_either : (me : ℕ) → Posting → Name → List Made → BirthView → Result Made PostError
-on_either me posting name made birth = attempt_in me made (draft_of posting) (gathers_of posting) name birth
+abbrev pub on_either : List Operation → (me : ℕ) → Posting → Name → List Made → BirthView → Result Made PostError
+on_either ops me posting name made birth = attempt_in ops me made (draft_of posting) (gathers_of posting) name birth
 
 -- more may be told, and nothing is posted
 abbrev pub HearsMore : DeskView → DeskView → Type 0
@@ -114,15 +115,16 @@ Tells known told name call (Some said) = (answer : Answer) × (told_of known tol
 Tells known told name call None = told_of known told name call ≡ None
 
 -- what was told is of the plan's posts; a communicator is its name and its birth, and is closed where a free is among the first so many
--- posts of the plan; a post is tried after these, where the ledger is whole and it is the plan's next; and more may be told
-abbrev pub thread_terms : Setup → (me before : ℕ) → (ledger : Type 0) → Terms DeskView CommunicatorView
-thread_terms setup me before ledger = record {
+-- posts of the plan; a post is tried after these, where the ledger is whole, the operations that are lent are the setup's, and it is the
+-- plan's next; and more may be told
+abbrev pub thread_terms : List Operation → Setup → (me before : ℕ) → (ledger : Type 0) → Terms DeskView CommunicatorView
+thread_terms operations setup me before ledger = record {
   tells = λ d p. outcomes_of (told_of (planned_results setup me) d.0);
   gives = λ d p name call to. (answer : Answer) × (told_of (planned_results setup me) d.0 name call ≡ Some answer) × (bound_as to ≡ bound_by answer.outcome answer.born);
   knows = λ d c. Some c;
   closes = λ d p c. has_freed c.0 (first_posts setup me (before + d.1));
-  may = λ d p posting on. ledger × MayPost setup me (before + d.1) posting on;
-  tries = λ d p posting on result e. (e.0 ≡ d.0) × Tried (first_posts setup me (before + d.1)) (attempt_by me (first_posts setup me (before + d.1)) posting on) result d.1 e.1;
+  may = λ d p posting on. ledger × ((operations ≡ setup.operations) × MayPost setup me (before + d.1) posting on);
+  tries = λ d p posting on result e. (e.0 ≡ d.0) × Tried (first_posts setup me (before + d.1)) (attempt_by setup.operations me (first_posts setup me (before + d.1)) posting on) result d.1 e.1;
   hears = HearsMore;
 }
 

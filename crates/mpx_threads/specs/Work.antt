@@ -28,7 +28,7 @@ use Rattle.mpx_threads.specs.Told.{first_posts, told_of}
 -- many of the plan; and of each line that tells an outcome it was told that
 pub record HasCome (script : ScriptView) (setup : Setup) (me : ℕ) (told : List ToldCall) (count : ℕ) (lines : List (List ℕ)) (waits : Bool) : Type 0 where
   pub to : Local
-  pub goes : Goes (planned_results setup me) (start script.statements script.ranks me) to
+  pub goes : Goes setup.operations (planned_results setup me) (start script.statements script.ranks me) to
   pub lines_are : lines ≡ map line_text to.lines
   pub waits_is : waits ≡ is_left to.todo
   pub made_is : to.made ≡ first_posts setup me count
@@ -37,7 +37,7 @@ pub record HasCome (script : ScriptView) (setup : Setup) (me : ℕ) (told : List
 -- the rank has come so far, and its port holds what it was told
 pub record HasWorked (script : ScriptView) (relays : ℕ) (setup : Setup) (me : ℕ) (port : Berth) (lines : List (List ℕ)) (waits : Bool) : Type 0 where
   pub to : Local
-  pub done : (plan : Plans script relays setup) → IsDone script plan.end me port to
+  pub done : (plan : Plans script relays setup) → IsDone setup.operations script plan.end me port to
   pub lines_are : lines ≡ map line_text to.lines
   pub waits_is : waits ≡ is_left to.todo
 

@@ -7,6 +7,7 @@ ghost use Rattle.mpx_threads.specs.Tasks.{AllCan, AllGive, beside, tasks_of};
 use crate::task::{Calling, Task, TaskPromise};
 use crate::watch::Watch;
 use join_core::OutOfMemory;
+use mpx_num::Listing;
 use std::alloc::Global;
 use std::snapshot::Snapshot;
 use std::sync::Wait;
@@ -15,12 +16,13 @@ use std::thread::{PromisedHandle, Scope, Threads, scope, scope_env};
 /// Does the first task in a thread of its own, and the second in this one. Where that thread is refused neither is done.
 pub(crate) fn both<
     R: Threads + Wait,
+    L: Listing + Sync,
     A: Send + Drop,
     B: Drop,
-    T: Task<Output = A> + Send + Drop,
-    U: Task<Output = B> + Drop,
->(rt: &R, first: T, second: U) -> Result<(A, B), OutOfMemory>
-    requires { T.can_run first × U.can_run second }
+    T: Task<L, Output = A> + Send + Drop,
+    U: Task<L, Output = B> + Drop,
+>(rt: &R, first: T, second: U, ops: &L) -> Result<(A, B), OutOfMemory>
+    requires { T.can_run first (L.operations ops.now) × U.can_run second (L.operations ops.now) }
     ensures first { IfOk result (λ r. T.gives first r.0) }
     ensures second { IfOk result (λ r. U.gives second r.1) }
 {
@@ -28,11 +30,11 @@ pub(crate) fn both<
         scope_env(),
         rt,
         move |scope| -> Result<(A, B), OutOfMemory>
-            requires { T.can_run first × U.can_run second }
+            requires { T.can_run first (L.operations ops.now) × U.can_run second (L.operations ops.now) }
             ensures { IfOk result (λ r. T.gives first r.0 × U.gives second r.1) }
         {
-            let handle = start(scope, first)?;
-            let other = second.run();
+            let handle = start(scope, first, ops)?;
+            let other = second.run(ops);
             Ok((handle.join(rt), other))
         },
     )
@@ -40,19 +42,19 @@ pub(crate) fn both<
 
 /// Calls f with each job, each time in a thread of its own, and gives the results in their order. Where a thread is refused, or memory
 /// is wanting, the others are told to stop.
-pub(crate) fn map_at_once<R: Threads + Wait, J: Send + Drop, X: Send + Drop, F: Fn(J) -> X + Sync>(
-    rt: &R,
-    alloc: Global,
-    watch: &Watch,
-    jobs: Vec<J>,
-    f: &F,
-) -> Result<Vec<X>, OutOfMemory>
+pub(crate) fn map_at_once<
+    R: Threads + Wait,
+    L: Listing + Sync,
+    J: Send + Drop,
+    X: Send + Drop,
+    F: Fn(J) -> X + Sync,
+>(rt: &R, alloc: Global, watch: &Watch, jobs: Vec<J>, f: &F, ops: &L) -> Result<Vec<X>, OutOfMemory>
     requires { AcceptsJobs F.Fn f.now jobs.items }
     ensures len { IfOk result (λ all. length all.items ≡ length jobs.items) }
     ensures each { IfOk result (λ all. GivesJobs F.Fn f.now jobs.items all.items) }
 {
     let calls = calls_of(alloc, f, jobs)?;
-    all_at_once(rt, alloc, watch, calls)
+    all_at_once(rt, alloc, watch, calls, ops)
 }
 
 // A task for each job.
@@ -71,23 +73,23 @@ fn calls_of<'a, J: Drop, F>(
 }
 
 // Does all tasks, each in a thread of its own.
-fn all_at_once<R: Threads + Wait, A: Send + Drop, T: Task<Output = A> + Send + Drop>(
-    rt: &R,
-    alloc: Global,
-    watch: &Watch,
-    tasks: Vec<T>,
-) -> Result<Vec<A>, OutOfMemory>
-    requires { AllCan T.can_run tasks.items }
+fn all_at_once<
+    R: Threads + Wait,
+    L: Listing + Sync,
+    A: Send + Drop,
+    T: Task<L, Output = A> + Send + Drop,
+>(rt: &R, alloc: Global, watch: &Watch, tasks: Vec<T>, ops: &L) -> Result<Vec<A>, OutOfMemory>
+    requires { AllCan T.can_run (L.operations ops.now) tasks.items }
     ensures { IfOk result (λ all. AllGive T.gives tasks.items all.items) }
 {
     scope(
         scope_env(),
         rt,
         move |scope| -> Result<Vec<A>, OutOfMemory>
-            requires { AllCan T.can_run tasks.items }
+            requires { AllCan T.can_run (L.operations ops.now) tasks.items }
             ensures { IfOk result (λ all. AllGive T.gives tasks.items all.items) }
         {
-            let joined = match start_all(scope, alloc, tasks) {
+            let joined = match start_all(scope, alloc, tasks, ops) {
                 Ok(handles) => join_all(rt, alloc, handles),
                 Err(OutOfMemory) => Err(OutOfMemory),
             };
@@ -100,20 +102,28 @@ fn all_at_once<R: Threads + Wait, A: Send + Drop, T: Task<Output = A> + Send + D
 }
 
 // A thread for the task.
-fn start<'s, E, A: Send + Drop + 's, T: Task<Output = A> + Send + Drop + 's>(
+fn start<
+    's,
+    E,
+    L: Listing + Sync + 's,
+    A: Send + Drop + 's,
+    T: Task<L, Output = A> + Send + Drop + 's,
+>(
     scope: &Scope<'s, E>,
     task: T,
-) -> Result<PromisedHandle<A, TaskPromise<T>>, OutOfMemory>
-    requires { T.can_run task }
+    ops: &'s L,
+) -> Result<PromisedHandle<A, TaskPromise<L, T>>, OutOfMemory>
+    requires { T.can_run task (L.operations ops.now) }
     ensures { IfOk result (λ handle. handle.promise.task.value ≡ task) }
 {
     let promise = TaskPromise {
         task: Snapshot::of(&task),
+        ops: Snapshot::of(ops),
     };
     let running = move || -> A
-        requires { T.can_run task }
+        requires { T.can_run task (L.operations ops.now) }
         ensures { T.gives task result }
-    { task.run() };
+    { task.run(ops) };
     match scope.spawn_with(promise, running) {
         Ok(handle) => Ok(handle),
         Err(_) => Err(OutOfMemory),
@@ -121,26 +131,33 @@ fn start<'s, E, A: Send + Drop + 's, T: Task<Output = A> + Send + Drop + 's>(
 }
 
 // A thread for each task.
-fn start_all<'s, E, A: Send + Drop + 's, T: Task<Output = A> + Send + Drop + 's>(
+fn start_all<
+    's,
+    E,
+    L: Listing + Sync + 's,
+    A: Send + Drop + 's,
+    T: Task<L, Output = A> + Send + Drop + 's,
+>(
     scope: &Scope<'s, E>,
     alloc: Global,
     tasks: Vec<T>,
-) -> Result<Vec<PromisedHandle<A, TaskPromise<T>>>, OutOfMemory>
-    requires { AllCan T.can_run tasks.items }
+    ops: &'s L,
+) -> Result<Vec<PromisedHandle<A, TaskPromise<L, T>>>, OutOfMemory>
+    requires { AllCan T.can_run (L.operations ops.now) tasks.items }
     ensures { IfOk result (λ handles. tasks_of handles.items ≡ tasks.items) }
 {
     let mut handles = Vec::new(alloc);
     for task in tasks {
-        handles.push(start(scope, task)?)?;
+        handles.push(start(scope, task, ops)?)?;
     }
     Ok(handles)
 }
 
 // What each thread gave.
-fn join_all<R: Threads, A: Send + Drop, T: Task<Output = A>>(
+fn join_all<R: Threads, L: Listing, A: Send + Drop, T: Task<L, Output = A>>(
     rt: &R,
     alloc: Global,
-    handles: Vec<PromisedHandle<A, TaskPromise<T>>>,
+    handles: Vec<PromisedHandle<A, TaskPromise<L, T>>>,
 ) -> Result<Vec<A>, OutOfMemory>
     ensures { IfOk result (λ all. AllGive T.gives (tasks_of handles.items) all.items) }
 {

@@ -9,6 +9,7 @@ use crate::told::Told;
 use join_core::OutOfMemory;
 use mpx_group::Proc;
 use mpx_name::Name;
+use mpx_num::{Listing, Ops};
 use mpx_post::Birth;
 use mpx_rank::Rank;
 use mpx_script::Script;
@@ -34,7 +35,9 @@ pub(crate) fn carry_out<L: Dock, R: Wait>(
     port: &SharedPort<L>,
     looks: &Looks<'_>,
     poster: Poster<L>,
+    ops: &Ops,
 ) -> Result<Carried<L>, OutOfMemory>
+    requires list { ⟦<Ops as Listing>⟧.operations ops.now ≡ L.setup.operations }
     requires ledger { (L.all ≡ L.parts) × (0 < L.parts) }
     requires me { (me ≡ L.me) × (me < script.now.ranks) }
     requires new { (L.before ≡ 0) × (poster.share.amount ≡ 0) }
@@ -44,7 +47,7 @@ pub(crate) fn carry_out<L: Dock, R: Wait>(
     let world = (Name::world(alloc), Birth::world(alloc, script.ranks())?);
     let mut rank = Rank::new(alloc, me, Some(world), script.statements(me.number()))?;
     let mut desk = ThreadDesk::new(alloc, rt, port, looks, poster);
-    rank.go_on(alloc, &mut desk)?;
+    rank.go_on(alloc, &mut desk, ops)?;
     let waits = rank.is_waiting();
     let lines = rank.into_lines();
     let (told, poster) = desk.into_parts();

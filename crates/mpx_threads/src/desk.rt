@@ -15,6 +15,7 @@ use mpx_evaluation::line;
 use mpx_group::Proc;
 use mpx_name::Name;
 use mpx_node::Finished;
+use mpx_num::{Listing, Ops};
 use mpx_post::{Birth, PostError};
 use mpx_rank::{Answered, Carrier, Heard};
 use mpx_shared::{Dock, Poster, SharedPort, Tested, Ticket};
@@ -188,7 +189,7 @@ impl<'a, L: Dock, R: Wait> Carrier for ThreadDesk<'a, L, R> {
 
     ghost place = { place_of };
 
-    ghost terms = { thread_terms L.setup L.me L.before ((L.all ≡ L.parts) × (0 < L.parts)) };
+    ghost terms = { λ operations. thread_terms operations L.setup L.me L.before ((L.all ≡ L.parts) × (0 < L.parts)) };
 
     fn post(
         &mut self,
@@ -196,6 +197,7 @@ impl<'a, L: Dock, R: Wait> Carrier for ThreadDesk<'a, L, R> {
         _me: Proc,
         on: Option<&(Name, Birth)>,
         posting: &Posting,
+        ops: &Ops,
     ) -> Result<Option<Ticket>, PostError> {
         let Some(on) = on else {
             return Err(PostError::NotMember);
@@ -207,10 +209,16 @@ impl<'a, L: Dock, R: Wait> Carrier for ThreadDesk<'a, L, R> {
             poster,
             ..
         } = self;
-        attempt(*rt, alloc, *port, *looks, poster, &on.0, posting)
+        attempt(*rt, alloc, *port, *looks, poster, &on.0, posting, ops)
     }
 
-    fn is_told(&mut self, alloc: Global, _me: Proc, call: &Ticket) -> Result<bool, OutOfMemory> {
+    fn is_told(
+        &mut self,
+        alloc: Global,
+        _me: Proc,
+        call: &Ticket,
+        _ops: &Ops,
+    ) -> Result<bool, OutOfMemory> {
         Ok(self.tell(alloc, call)?.is_some())
     }
 
@@ -219,6 +227,7 @@ impl<'a, L: Dock, R: Wait> Carrier for ThreadDesk<'a, L, R> {
         alloc: Global,
         _me: Proc,
         call: Ticket,
+        _ops: &Ops,
     ) -> Result<Heard<Ticket, (Name, Birth)>, OutOfMemory> {
         match self.tell(alloc, &call)? {
             Some(Said { text, given }) => Ok(Heard::Told { text, given }),
@@ -226,21 +235,25 @@ impl<'a, L: Dock, R: Wait> Carrier for ThreadDesk<'a, L, R> {
         }
     }
 
-    fn known<'m>(&'m self, communicator: &'m (Name, Birth)) -> Option<(&'m Name, &'m Birth)> {
+    fn known<'m>(
+        &'m self,
+        communicator: &'m (Name, Birth),
+        _ops: &Ops,
+    ) -> Option<(&'m Name, &'m Birth)> {
         let (name, birth) = communicator;
         Some((name, birth))
     }
 
-    fn is_closed(&mut self, _me: Proc, communicator: &(Name, Birth)) -> bool {
+    fn is_closed(&mut self, _me: Proc, communicator: &(Name, Birth), _ops: &Ops) -> bool {
         let (name, _) = communicator;
         self.port.is_closed(self.rt, &mut self.poster, name)
     }
 
-    ghost hears_nothing = { hears_nothing };
+    ghost hears_nothing = { λ operations. hears_nothing };
 
-    ghost hears_more = { hears_more };
+    ghost hears_more = { λ operations. hears_more };
 
-    ghost stays_told = { stays_told L.setup L.me };
+    ghost stays_told = { λ operations. stays_told L.setup L.me };
 }
 
 // What a statement comes to on a context, once it isn't refused since the board doesn't know yet that the rank is a member: until then it
@@ -253,15 +266,17 @@ fn attempt<L: Dock, R: Wait>(
     poster: &mut Poster<L>,
     name: &Name,
     posting: &Posting,
+    ops: &Ops,
 ) -> Result<Option<Ticket>, PostError>
+    requires list { ⟦<Ops as Listing>⟧.operations ops.now ≡ L.setup.operations }
     requires ledger { (L.all ≡ L.parts) × (0 < L.parts) }
     requires planned { L.setup.planned ≡ true }
     requires next { IsNextIn L.setup L.me (L.before + poster.old.share.amount) name.now posting.now }
-    ensures { PostsAs L.setup L.me L.before name.now (on_either L.me posting.now name.now) result poster.old.share.amount poster.new.share.amount }
+    ensures { PostsAs L.setup L.me L.before name.now (on_either L.setup.operations L.me posting.now name.now) result poster.old.share.amount poster.new.share.amount }
 {
     for _look in 0..looks.count {
         let look = looks.begin();
-        match attempt_now(rt, alloc, port, poster, name, posting)? {
+        match attempt_now(rt, alloc, port, poster, name, posting, ops)? {
             Some(ticket) => {
                 looks.has_posted();
                 return Ok(Some(ticket));
@@ -283,11 +298,13 @@ fn attempt_now<L: Dock, R: Wait>(
     poster: &mut Poster<L>,
     name: &Name,
     posting: &Posting,
+    ops: &Ops,
 ) -> Result<Option<Ticket>, PostError>
+    requires list { ⟦<Ops as Listing>⟧.operations ops.now ≡ L.setup.operations }
     requires ledger { (L.all ≡ L.parts) × (0 < L.parts) }
     requires planned { L.setup.planned ≡ true }
     requires next { IsNextIn L.setup L.me (L.before + poster.old.share.amount) name.now posting.now }
-    ensures { PostsAs L.setup L.me L.before name.now (on_either L.me posting.now name.now) result poster.old.share.amount poster.new.share.amount }
+    ensures { PostsAs L.setup L.me L.before name.now (on_either L.setup.operations L.me posting.now name.now) result poster.old.share.amount poster.new.share.amount }
 {
     match posting {
         Posting::CreateGroup { tag, ranks, .. } => post_gathered(
@@ -299,10 +316,11 @@ fn attempt_now<L: Dock, R: Wait>(
             tag,
             ranks.as_slice(),
             posting,
+            ops,
         ),
-        Posting::Call { .. } => post_on(rt, alloc, port, poster, name, posting),
-        Posting::Start { .. } => post_on(rt, alloc, port, poster, name, posting),
-        Posting::New { .. } => post_on(rt, alloc, port, poster, name, posting),
+        Posting::Call { .. } => post_on(rt, alloc, port, poster, name, posting, ops),
+        Posting::Start { .. } => post_on(rt, alloc, port, poster, name, posting, ops),
+        Posting::New { .. } => post_on(rt, alloc, port, poster, name, posting, ops),
     }
 }
 
@@ -315,16 +333,18 @@ fn post_on<L: Dock, R: Wait>(
     poster: &mut Poster<L>,
     name: &Name,
     posting: &Posting,
+    ops: &Ops,
 ) -> Result<Option<Ticket>, PostError>
+    requires list { ⟦<Ops as Listing>⟧.operations ops.now ≡ L.setup.operations }
     requires ledger { (L.all ≡ L.parts) × (0 < L.parts) }
     requires planned { L.setup.planned ≡ true }
     requires next { IsNext L.setup L.me (L.before + poster.old.share.amount) name.now (draft_of posting.now) }
-    ensures { PostsAs L.setup L.me L.before name.now (on_context L.me posting.now name.now) result poster.old.share.amount poster.new.share.amount }
+    ensures { PostsAs L.setup L.me L.before name.now (on_context L.setup.operations L.me posting.now name.now) result poster.old.share.amount poster.new.share.amount }
 {
     let Ok(draft) = posting.draft(alloc) else {
         return Err(PostError::OutOfMemory);
     };
-    match port.post(rt, alloc, poster, name, draft) {
+    match port.post(rt, alloc, poster, name, draft, ops) {
         Ok(ticket) => Ok(Some(ticket)),
         Err(refusal) => {
             if refusal.is_no_member() {
@@ -345,14 +365,16 @@ fn gather_and_post<L: Dock, R: Wait>(
     tag: i128,
     ranks: &[i128],
     posting: &Posting,
+    ops: &Ops,
 ) -> Result<Option<Ticket>, PostError>
+    requires list { ⟦<Ops as Listing>⟧.operations ops.now ≡ L.setup.operations }
     requires ledger { (L.all ≡ L.parts) × (0 < L.parts) }
     requires planned { L.setup.planned ≡ true }
     requires next { IsNextGathered L.setup L.me (L.before + poster.old.share.amount) parent.now tag ranks.now (draft_of posting.now) }
-    ensures { PostsAs L.setup L.me L.before parent.now (on_gathering L.me posting.now parent.now tag ranks.now) result poster.old.share.amount poster.new.share.amount }
+    ensures { PostsAs L.setup L.me L.before parent.now (on_gathering L.setup.operations L.me posting.now parent.now tag ranks.now) result poster.old.share.amount poster.new.share.amount }
 {
     match port.open_gathering(rt, alloc, poster, parent, tag, ranks) {
-        Ok(name) => post_on(rt, alloc, port, poster, &name, posting),
+        Ok(name) => post_on(rt, alloc, port, poster, &name, posting, ops),
         Err(refusal) => {
             if refusal.is_no_member() {
                 return Ok(None);
@@ -372,11 +394,13 @@ fn post_gathered<L: Dock, R: Wait>(
     tag: &i128,
     ranks: &[i128],
     posting: &Posting,
+    ops: &Ops,
 ) -> Result<Option<Ticket>, PostError>
+    requires list { ⟦<Ops as Listing>⟧.operations ops.now ≡ L.setup.operations }
     requires ledger { (L.all ≡ L.parts) × (0 < L.parts) }
     requires planned { L.setup.planned ≡ true }
     requires next { IsNextGathered L.setup L.me (L.before + poster.old.share.amount) parent.now tag.now ranks.now (draft_of posting.now) }
-    ensures { PostsAs L.setup L.me L.before parent.now (on_gathering L.me posting.now parent.now tag.now ranks.now) result poster.old.share.amount poster.new.share.amount }
+    ensures { PostsAs L.setup L.me L.before parent.now (on_gathering L.setup.operations L.me posting.now parent.now tag.now ranks.now) result poster.old.share.amount poster.new.share.amount }
 {
-    gather_and_post(rt, alloc, port, poster, parent, *tag, ranks, posting)
+    gather_and_post(rt, alloc, port, poster, parent, *tag, ranks, posting, ops)
 }

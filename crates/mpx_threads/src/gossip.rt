@@ -9,6 +9,7 @@ use crate::watch::{Signal, Watch};
 use join_core::OutOfMemory;
 use mpx_bus::Bus;
 use mpx_group::Proc;
+use mpx_num::{Listing, Ops};
 use mpx_shared::{Dock, Pull, SharedPort};
 use std::alloc::Global;
 use std::sync::Wait;
@@ -43,11 +44,13 @@ pub(crate) fn gossip<L: Dock, G: Gate, R: Wait>(
     me: Proc,
     port: &SharedPort<L>,
     signal: &Signal,
+    ops: &Ops,
 ) -> Result<GossipEnd, OutOfMemory>
-    requires { table_of bench.now.bus.now ≡ L.table }
+    requires list { ⟦<Ops as Listing>⟧.operations ops.now ≡ L.setup.operations }
+    requires queue { table_of bench.now.bus.now ≡ L.table }
     ensures { IfOk result (λ end. end ≡ GossipEnd.GaveUp → GivesUpWithin (G.gives_up bench.now.gate.now) me bench.now.turns) }
 {
-    let gossiped = make_turns(rt, alloc, bench, me, port, signal);
+    let gossiped = make_turns(rt, alloc, bench, me, port, signal, ops);
     match gossiped {
         Ok(GossipEnd::Over) => bench.watch.gossip_ends(me),
         Ok(GossipEnd::GaveUp) => bench.watch.stop(),
@@ -64,8 +67,10 @@ fn make_turns<L: Dock, G: Gate, R: Wait>(
     me: Proc,
     port: &SharedPort<L>,
     signal: &Signal,
+    ops: &Ops,
 ) -> Result<GossipEnd, OutOfMemory>
-    requires { table_of bench.now.bus.now ≡ L.table }
+    requires list { ⟦<Ops as Listing>⟧.operations ops.now ≡ L.setup.operations }
+    requires queue { table_of bench.now.bus.now ≡ L.table }
     ensures { IfOk result (λ end. end ≡ GossipEnd.GaveUp → GivesUpWithin (G.gives_up bench.now.gate.now) me bench.now.turns) }
 {
     let mut calm = Calm::new(port.fingerprint(rt));
@@ -73,7 +78,7 @@ fn make_turns<L: Dock, G: Gate, R: Wait>(
         if bench.watch.is_over(bench.ranks) {
             return Ok(GossipEnd::Over);
         }
-        match turn(rt, alloc, bench, me, port, signal, nth)? {
+        match turn(rt, alloc, bench, me, port, signal, nth, ops)? {
             Pass::Go => {}
             Pass::GiveUp => return Ok(GossipEnd::GaveUp),
         }
@@ -92,15 +97,17 @@ fn turn<L: Dock, G: Gate, R: Wait>(
     port: &SharedPort<L>,
     signal: &Signal,
     nth: u32,
+    ops: &Ops,
 ) -> Result<Pass, OutOfMemory>
-    requires { table_of bench.now.bus.now ≡ L.table }
+    requires list { ⟦<Ops as Listing>⟧.operations ops.now ≡ L.setup.operations }
+    requires queue { table_of bench.now.bus.now ≡ L.table }
     ensures { IfOk result (λ pass. pass ≡ Pass.GiveUp → GivesUpAt (G.gives_up bench.now.gate.now) me nth) }
 {
     match ask(bench.gate, me, Step::Pop, nth) {
         Pass::Go => {}
         Pass::GiveUp => return Ok(Pass::GiveUp),
     }
-    let pulled = port.pull(rt, alloc, bench.bus);
+    let pulled = port.pull(rt, alloc, bench.bus, ops);
     signal.tell();
     match pulled {
         Pull::OutOfMemory(_) => return Err(OutOfMemory),

@@ -1,5 +1,6 @@
 //! All processes of a run at work, each in a thread of its own.
 ghost use Rattle.std.specs.Prelude.{◌≡◌, ◌+◌, ◌≤◌, IfOk, Ok, map};
+ghost use Rattle.mpx_num.specs.Own.{operation_of};
 ghost use Rattle.mpx_bus.specs.Buses.{table_of};
 ghost use Rattle.mpx_bus.specs.declared.act.Setup.{Setup};
 ghost use Rattle.mpx_threads.specs.Work.{AreGivenUpBy, AreReady, AreWorked, EndsSo, IsReady, IsWorked};
@@ -12,6 +13,7 @@ use crate::worker::{Job, Worked, work};
 use join_core::OutOfMemory;
 use mpx_bus::Bus;
 use mpx_job::Options;
+use mpx_num::{Listing, Ops};
 use mpx_script::Script;
 use std::alloc::Global;
 use std::sync::Wait;
@@ -26,48 +28,78 @@ pub(crate) fn work_all<G: Gate + Sync, R: Threads + Wait + Sync>(
     script: &Script,
     options: &Options,
     jobs: Vec<Job>,
+    ops: &Ops,
 ) -> Result<Vec<Worked>, OutOfMemory>
-    requires ready { (setup : Setup) × AreReady script.now options.now.relays setup (table_of bus.now) jobs.items }
+    requires ready { (setup : Setup) × (AreReady script.now options.now.relays setup (table_of bus.now) jobs.items × (⟦<Ops as Listing>⟧.operations ops.now ≡ setup.operations)) }
     requires few { script.now.ranks + options.now.relays ≤ 64 }
-    ensures worked { IfOk result (λ worked. (setup : Setup) × AreWorked script.now options.now.relays setup (table_of bus.now) worked.items) }
+    ensures worked { IfOk result (λ worked. (setup : Setup) × (AreWorked script.now options.now.relays setup (table_of bus.now) worked.items × (⟦<Ops as Listing>⟧.operations ops.now ≡ setup.operations))) }
     ensures gate { IfOk result (λ worked. AreGivenUpBy (G.gives_up gate.now) options.now.turns worked.items) }
 {
     let ranks = script.ranks();
     let watch = Watch::new(alloc, ranks, ranks + options.relays)?;
-    work_each(rt, alloc, bus, gate, &watch, script, options, jobs)
-}
-
-// The same, where their threads see this.
-fn work_each<G: Gate + Sync, R: Threads + Wait + Sync>(
-    rt: &R,
-    alloc: Global,
-    bus: &Bus,
-    gate: &G,
-    watch: &Watch,
-    script: &Script,
-    options: &Options,
-    jobs: Vec<Job>,
-) -> Result<Vec<Worked>, OutOfMemory>
-    requires ready { (setup : Setup) × AreReady script.now options.now.relays setup (table_of bus.now) jobs.items }
-    requires few { script.now.ranks + options.now.relays ≤ 64 }
-    ensures worked { IfOk result (λ worked. (setup : Setup) × AreWorked script.now options.now.relays setup (table_of bus.now) worked.items) }
-    ensures gate { IfOk result (λ worked. AreGivenUpBy (G.gives_up gate.now) options.now.turns worked.items) }
-{
     let bench = Bench {
         bus,
         gate,
-        watch,
-        ranks: script.ranks(),
+        watch: &watch,
+        ranks,
         relays: options.relays,
         turns: options.turns,
     };
-    let bench = &bench;
+    work_each(rt, alloc, &bench, script, jobs, ops)
+}
+
+// The job's own operations, lent to threads: that they may share these is plain of this type alone, whatever else they see.
+#[derive(Drop)]
+struct Lent<'a> {
+    ops: &'a Ops,
+}
+
+// What threads see beside that.
+#[derive(Drop)]
+struct Around<'a, G, R> {
+    rt: &'a R,
+    alloc: Global,
+    bench: &'a Bench<'a, G>,
+    script: &'a Script,
+}
+
+// The same at what their threads share.
+fn work_each<G: Gate + Sync, R: Threads + Wait + Sync>(
+    rt: &R,
+    alloc: Global,
+    bench: &Bench<'_, G>,
+    script: &Script,
+    jobs: Vec<Job>,
+    ops: &Ops,
+) -> Result<Vec<Worked>, OutOfMemory>
+    requires ready { (setup : Setup) × (AreReady script.now bench.now.relays setup (table_of bench.now.bus.now) jobs.items × (⟦<Ops as Listing>⟧.operations ops.now ≡ setup.operations)) }
+    requires ranks { bench.now.ranks ≡ script.now.ranks }
+    requires few { bench.now.ranks + bench.now.relays ≤ 64 }
+    ensures worked { IfOk result (λ worked. (setup : Setup) × (AreWorked script.now bench.now.relays setup (table_of bench.now.bus.now) worked.items × (⟦<Ops as Listing>⟧.operations ops.now ≡ setup.operations))) }
+    ensures gate { IfOk result (λ worked. AreGivenUpBy (G.gives_up bench.now.gate.now) bench.now.turns worked.items) }
+{
+    let around = &Around {
+        rt,
+        alloc,
+        bench,
+        script,
+    };
+    let lent = &Lent { ops };
     let at_work = |job: Job| -> Result<Worked, OutOfMemory>
-        requires { IsReady script.now bench.now.relays job.port.setup (table_of bench.now.bus.now) job × ((bench.now.ranks ≡ script.now.ranks) × (bench.now.ranks + bench.now.relays ≤ 64)) }
-        ensures worked { IfOk result (λ worked. IsWorked script.entry.now bench.entry.now.relays job.port.setup (table_of bench.entry.now.bus.now) job.me worked) }
-        ensures gate { IfOk result (λ worked. EndsSo (G.gives_up bench.entry.now.gate.now) job.me bench.entry.now.turns worked.gossip) }
-    { work(rt, alloc, bench, script, job) };
-    let worked = map_at_once(rt, alloc, watch, jobs, &at_work)?;
+        requires { IsReady around.now.script.now around.now.bench.now.relays job.port.setup (table_of around.now.bench.now.bus.now) job × ((around.now.bench.now.ranks ≡ around.now.script.now.ranks) × ((around.now.bench.now.ranks + around.now.bench.now.relays ≤ 64) × (map (λ b. operation_of (word_bytes (b.vtable, b.value)) (fits_type (b.vtable, b.value)) (combination (b.vtable, b.value))) lent.now.ops.now.list.items ≡ job.port.setup.operations))) }
+        ensures worked { IfOk result (λ worked. IsWorked around.entry.now.script.now around.entry.now.bench.now.relays job.port.setup (table_of around.entry.now.bench.now.bus.now) job.me worked) }
+        ensures gate { IfOk result (λ worked. EndsSo (G.gives_up around.entry.now.bench.now.gate.now) job.me around.entry.now.bench.now.turns worked.gossip) }
+    {
+        work(
+            around.rt,
+            around.alloc,
+            around.bench,
+            around.script,
+            job,
+            lent.ops,
+        )
+    };
+    let worked = map_at_once(rt, alloc, bench.watch, jobs, &at_work, ops)?;
     all_worked(alloc, worked)
 }
 

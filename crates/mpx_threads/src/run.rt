@@ -20,6 +20,7 @@ use join_core::OutOfMemory;
 use mpx_bus::{Bus, Named, Port};
 use mpx_evaluation::Report;
 use mpx_job::Options;
+use mpx_num::{Listing, Ops};
 use mpx_rank::push_where;
 use mpx_script::Script;
 use std::alloc::Global;
@@ -63,7 +64,8 @@ impl From<OutOfMemory> for ThreadsError {
 /// Runs a script's ranks, and relays, in threads of this program, over one queue of frames: each rank has one that carries out its
 /// statements and one that gossips, each relay one that gossips. A turn of a gossip takes a frame out of the queue and puts one in; each
 /// process makes at most `options.turns` of them, and none once all ranks have ended, or nobody can hear anything new. The gate is asked
-/// before each step. The seed and the loss aren't used. It may wait.
+/// before each step. The seed and the loss aren't used. `ops` are the job's own operations, which all threads read: the script was read
+/// with the same. It may wait.
 ///
 /// # Errors
 /// `OutOfMemory` where memory was wanting in some thread, or the system refused one; `GateGaveUp` where the gate gave up at some
@@ -74,15 +76,16 @@ pub fn run_threads<G: Gate + Sync, R: Threads + Wait + Sync>(
     script: &Script,
     options: &Options,
     gate: &G,
+    ops: &Ops,
 ) -> Result<ThreadRun, ThreadsError>
     requires { script.now.ranks + options.now.relays ≤ 64 }
     ensures gate { IfErr result (λ e. e ≡ ThreadsError.GateGaveUp → GivesUpAmong (G.gives_up gate.now) (script.now.ranks + options.now.relays) options.now.turns) }
-    ensures run { IfOk result (λ run. IsThreadRun script.now options.now.relays (table_of run.bus) run.ports.items (transcripts_of run.report) run.report.waiting.items) }
-    ensures begins { IfOk result (λ run. (evaluation : State) → IsEvaluationOf script.now evaluation → Begin (transcripts_of run.report) evaluation) }
-    ensures whole { IfOk result (λ run. (evaluation : State) → IsEvaluationOf script.now evaluation → AreWhole (transcripts_of run.report) run.report.waiting.items evaluation) }
+    ensures run { IfOk result (λ run. IsThreadRun (⟦<Ops as Listing>⟧.operations ops.now) script.now options.now.relays (table_of run.bus) run.ports.items (transcripts_of run.report) run.report.waiting.items) }
+    ensures begins { IfOk result (λ run. (evaluation : State) → IsEvaluationOf (⟦<Ops as Listing>⟧.operations ops.now) script.now evaluation → Begin (transcripts_of run.report) evaluation) }
+    ensures whole { IfOk result (λ run. (evaluation : State) → IsEvaluationOf (⟦<Ops as Listing>⟧.operations ops.now) script.now evaluation → AreWhole (transcripts_of run.report) run.report.waiting.items evaluation) }
 {
-    let (bus, jobs) = planned_bus(alloc, script, options.relays)?;
-    let worked = work_all(rt, alloc, &bus, gate, script, options, jobs)?;
+    let (bus, jobs) = planned_bus(alloc, script, options.relays, ops)?;
+    let worked = work_all(rt, alloc, &bus, gate, script, options, jobs, ops)?;
     if has_given_up(worked.as_slice()) {
         return Err(ThreadsError::GateGaveUp);
     }
@@ -100,23 +103,31 @@ pub fn run_threads<G: Gate + Sync, R: Threads + Wait + Sync>(
 }
 
 // The bus, and a job for each process, whose plan is the script's evaluation.
-fn planned_bus(alloc: Global, script: &Script, relays: u8) -> Result<(Bus, Vec<Job>), OutOfMemory>
+fn planned_bus(
+    alloc: Global,
+    script: &Script,
+    relays: u8,
+    ops: &Ops,
+) -> Result<(Bus, Vec<Job>), OutOfMemory>
     requires { script.now.ranks + relays ≤ 64 }
-    ensures { IfOk result (λ r. (setup : Setup) × AreReady script.now relays setup (table_of r.0) r.1.items) }
+    ensures { IfOk result (λ r. (setup : Setup) × (AreReady script.now relays setup (table_of r.0) r.1.items × (⟦<Ops as Listing>⟧.operations ops.now ≡ setup.operations))) }
 {
     let _ = script.ranks();
-    bus_by::<Brand>(alloc, script, relays)
+    bus_by::<Brand>(alloc, script, relays, ops)
 }
 
+// The same by the setup that the call picks, which reads the operations.
 fn bus_by<N: Named>(
     alloc: Global,
     script: &Script,
     relays: u8,
+    ops: &Ops,
 ) -> Result<(Bus, Vec<Job>), OutOfMemory>
     requires few { script.now.ranks + relays ≤ 64 }
     requires plan { Plans script.now relays N.setup }
     ensures { IfOk result (λ r. AreReady script.now relays N.setup (table_of r.0) r.1.items) }
 {
+    let _ = ops;
     let ranks = script.ranks();
     let (bus, ports) = Bus::new::<N>(alloc, ROOM, ranks, ranks + relays)?;
     let jobs = jobs_of(alloc, ports)?;

@@ -1,27 +1,33 @@
 //! A task: work that a thread does once, and what is known of what it gives.
+ghost use Rattle.std.specs.Prelude.{List};
+ghost use Rattle.mpx_num.specs.declared.own.Operation.{Operation};
+
+use mpx_num::Listing;
 use std::snapshot::Snapshot;
 use std::thread::Promise;
 
-/// Work that is done once.
-pub(crate) trait Task {
+/// Work that is done once, where such a list of the job's own operations is lent.
+pub(crate) trait Task<L: Listing> {
     type Output;
 
-    ghost can_run: { Self → Type 0 };
+    /// Whether it can be done where these are the job's own operations.
+    ghost can_run: { Self → List Operation → Type 0 };
 
     ghost gives: { Self → Self.Output → Type 0 };
 
-    fn run(self) -> Self::Output
-        requires { can_run self }
+    fn run(self, ops: &L) -> Self::Output
+        requires { can_run self (L.operations ops.now) }
         ensures { gives self result };
 }
 
-/// That a thread gives what its task does.
+/// That a thread gives what its task does with the list that it is lent.
 #[derive(Drop)]
-pub(crate) struct TaskPromise<T> {
+pub(crate) struct TaskPromise<L, T> {
     pub(crate) task: Snapshot<T>,
+    pub(crate) ops: Snapshot<L>,
 }
 
-impl<A, T: Task<Output = A>> Promise<A> for TaskPromise<T> {
+impl<L: Listing, A, T: Task<L, Output = A>> Promise<A> for TaskPromise<L, T> {
     ghost kept_by = { λ p r. T.gives p.task.value r };
 }
 
@@ -32,14 +38,14 @@ pub(crate) struct Calling<'a, F, J> {
     pub(crate) job: J,
 }
 
-impl<'a, J, X, F: Fn(J) -> X> Task for Calling<'a, F, J> {
+impl<'a, L: Listing, J, X, F: Fn(J) -> X> Task<L> for Calling<'a, F, J> {
     type Output = X;
 
-    ghost can_run = { λ t. F.pre t.f.now t.job };
+    ghost can_run = { λ t operations. F.pre t.f.now t.job };
 
     ghost gives = { λ t r. F.post t.f.now t.job r };
 
-    fn run(self) -> X {
+    fn run(self, _ops: &L) -> X {
         let Calling { f, job } = self;
         f(job)
     }

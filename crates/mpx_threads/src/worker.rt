@@ -17,6 +17,7 @@ use crate::watch::Signal;
 use join_core::OutOfMemory;
 use mpx_bus::Port;
 use mpx_group::Proc;
+use mpx_num::{Listing, Ops};
 use mpx_script::Script;
 use mpx_shared::{Dock, Poster, SharedPort};
 use std::alloc::Global;
@@ -48,18 +49,25 @@ pub(crate) fn work<G: Gate + Sync, R: Threads + Wait + Sync>(
     bench: &Bench<'_, G>,
     script: &Script,
     job: Job,
+    ops: &Ops,
 ) -> Result<Worked, OutOfMemory>
-    requires ready { IsReady script.now bench.now.relays job.port.setup (table_of bench.now.bus.now) job }
-    requires ranks { bench.now.ranks ≡ script.now.ranks }
-    requires few { bench.now.ranks + bench.now.relays ≤ 64 }
-    ensures worked { IfOk result (λ worked. IsWorked script.now bench.now.relays job.port.setup (table_of bench.now.bus.now) job.me worked) }
-    ensures gate { IfOk result (λ worked. worked.gossip ≡ GossipEnd.GaveUp → GivesUpWithin (G.gives_up bench.now.gate.now) job.me bench.now.turns) }
+    requires { IsReady script.now bench.now.relays job.port.setup (table_of bench.now.bus.now) job × ((bench.now.ranks ≡ script.now.ranks) × ((bench.now.ranks + bench.now.relays ≤ 64) × (⟦<Ops as Listing>⟧.operations ops.now ≡ job.port.setup.operations))) }
+    ensures { IfOk result (λ worked. IsWorked script.now bench.now.relays job.port.setup (table_of bench.now.bus.now) job.me worked × EndsSo (G.gives_up bench.now.gate.now) job.me bench.now.turns worked.gossip) }
 {
     let Job { me, port } = job;
     if me < bench.ranks {
-        work_as_rank::<Brand, G, R>(rt, alloc, bench, script, Proc::new(me), port, Blank::new(1))
+        work_as_rank::<Brand, G, R>(
+            rt,
+            alloc,
+            bench,
+            script,
+            Proc::new(me),
+            port,
+            Blank::new(1),
+            ops,
+        )
     } else {
-        work_as_relay::<Brand, G, R>(rt, alloc, bench, Proc::new(me), port, Blank::new(1))
+        work_as_relay::<Brand, G, R>(rt, alloc, bench, Proc::new(me), port, Blank::new(1), ops)
     }
 }
 
@@ -72,7 +80,9 @@ fn work_as_rank<L: Dock + Send + Sync, G: Gate + Sync, R: Threads + Wait + Sync>
     me: Proc,
     port: Port,
     blank: Blank,
+    ops: &Ops,
 ) -> Result<Worked, OutOfMemory>
+    requires list { ⟦<Ops as Listing>⟧.operations ops.now ≡ L.setup.operations }
     requires ledger { (blank.name ≡ L.name) × ((blank.parts ≡ L.parts) × ((L.all ≡ L.parts) × (0 < L.parts))) }
     requires me { (me ≡ L.me) × (me < script.now.ranks) }
     requires port { IsDocked L.table L.setup L.me port }
@@ -87,7 +97,7 @@ fn work_as_rank<L: Dock + Send + Sync, G: Gate + Sync, R: Threads + Wait + Sync>
     let (shared, poster) = SharedPort::<L>::new(alloc, port, me, blank);
     let signal = Signal::new();
     let (carried, gossip) = carry_and_gossip(
-        rt, alloc, bench, script, me, &shared, &signal, poster,
+        rt, alloc, bench, script, me, &shared, &signal, poster, ops,
     )?;
     let Carried {
         lines,
@@ -109,7 +119,9 @@ fn carry_and_gossip<L: Dock + Send + Sync, G: Gate + Sync, R: Threads + Wait + S
     port: &SharedPort<L>,
     signal: &Signal,
     poster: Poster<L>,
+    ops: &Ops,
 ) -> Result<(Carried<L>, GossipEnd), OutOfMemory>
+    requires list { ⟦<Ops as Listing>⟧.operations ops.now ≡ L.setup.operations }
     requires ledger { (L.all ≡ L.parts) × (0 < L.parts) }
     requires me { (me ≡ L.me) × (me < script.now.ranks) }
     requires new { (L.before ≡ 0) × (poster.share.amount ≡ 0) }
@@ -136,7 +148,7 @@ fn carry_and_gossip<L: Dock + Send + Sync, G: Gate + Sync, R: Threads + Wait + S
         port,
         signal,
     };
-    match both(rt, carrying, gossiping) {
+    match both(rt, carrying, gossiping, ops) {
         Ok((carried, gossiped)) => Ok((carried?, gossiped?)),
         Err(OutOfMemory) => {
             bench.watch.stop();
@@ -158,14 +170,14 @@ struct Carrying<'a, L: Dock, G, R> {
     poster: Poster<L>,
 }
 
-impl<'a, L: Dock, G: Gate, R: Wait> Task for Carrying<'a, L, G, R> {
+impl<'a, L: Dock, G: Gate, R: Wait> Task<Ops> for Carrying<'a, L, G, R> {
     type Output = Result<Carried<L>, OutOfMemory>;
 
-    ghost can_run = { λ t. IsNewLedger L.all L.parts L.before t.poster.share.amount × ((t.me ≡ L.me) × ((t.me < t.script.now.ranks) × Plans t.script.now t.bench.now.relays L.setup)) };
+    ghost can_run = { λ t operations. (operations ≡ L.setup.operations) × (IsNewLedger L.all L.parts L.before t.poster.share.amount × ((t.me ≡ L.me) × ((t.me < t.script.now.ranks) × Plans t.script.now t.bench.now.relays L.setup))) };
 
     ghost gives = { λ t r. IfOk r (λ carried. HasCome t.script.now L.setup t.me carried.told carried.poster.share.amount (map string_bytes carried.lines.items) carried.waits) };
 
-    fn run(self) -> Result<Carried<L>, OutOfMemory> {
+    fn run(self, ops: &Ops) -> Result<Carried<L>, OutOfMemory> {
         let Carrying {
             rt,
             alloc,
@@ -176,7 +188,7 @@ impl<'a, L: Dock, G: Gate, R: Wait> Task for Carrying<'a, L, G, R> {
             signal,
             poster,
         } = self;
-        carry(rt, alloc, bench, script, me, port, signal, poster)
+        carry(rt, alloc, bench, script, me, port, signal, poster, ops)
     }
 }
 
@@ -191,14 +203,14 @@ struct Gossiping<'a, L: Dock, G, R> {
     signal: &'a Signal,
 }
 
-impl<'a, L: Dock, G: Gate, R: Wait> Task for Gossiping<'a, L, G, R> {
+impl<'a, L: Dock, G: Gate, R: Wait> Task<Ops> for Gossiping<'a, L, G, R> {
     type Output = Result<GossipEnd, OutOfMemory>;
 
-    ghost can_run = { λ t. table_of t.bench.now.bus.now ≡ L.table };
+    ghost can_run = { λ t operations. (operations ≡ L.setup.operations) × (table_of t.bench.now.bus.now ≡ L.table) };
 
     ghost gives = { λ t r. IfOk r (EndsSo (G.gives_up t.bench.now.gate.now) t.me t.bench.now.turns) };
 
-    fn run(self) -> Result<GossipEnd, OutOfMemory> {
+    fn run(self, ops: &Ops) -> Result<GossipEnd, OutOfMemory> {
         let Gossiping {
             rt,
             alloc,
@@ -207,7 +219,7 @@ impl<'a, L: Dock, G: Gate, R: Wait> Task for Gossiping<'a, L, G, R> {
             port,
             signal,
         } = self;
-        gossip(rt, alloc, bench, me, port, signal)
+        gossip(rt, alloc, bench, me, port, signal, ops)
     }
 }
 
@@ -221,7 +233,9 @@ fn carry<L: Dock, G: Gate, R: Wait>(
     port: &SharedPort<L>,
     signal: &Signal,
     poster: Poster<L>,
+    ops: &Ops,
 ) -> Result<Carried<L>, OutOfMemory>
+    requires list { ⟦<Ops as Listing>⟧.operations ops.now ≡ L.setup.operations }
     requires ledger { (L.all ≡ L.parts) × (0 < L.parts) }
     requires me { (me ≡ L.me) × (me < script.now.ranks) }
     requires new { (L.before ≡ 0) × (poster.share.amount ≡ 0) }
@@ -234,7 +248,7 @@ fn carry<L: Dock, G: Gate, R: Wait>(
         me,
         count: u64::from(bench.turns) + 2,
     };
-    let carried = carry_out(rt, alloc, script, me, port, &looks, poster);
+    let carried = carry_out(rt, alloc, script, me, port, &looks, poster, ops);
     if carried.is_err() {
         bench.watch.stop();
     }
@@ -286,7 +300,9 @@ fn work_as_relay<L: Dock, G: Gate, R: Wait>(
     me: Proc,
     port: Port,
     blank: Blank,
+    ops: &Ops,
 ) -> Result<Worked, OutOfMemory>
+    requires list { ⟦<Ops as Listing>⟧.operations ops.now ≡ L.setup.operations }
     requires ledger { (blank.name ≡ L.name) × ((blank.parts ≡ L.parts) × (L.all ≡ L.parts)) }
     requires me { me ≡ L.me }
     requires port { IsDocked L.table L.setup L.me port }
@@ -298,7 +314,7 @@ fn work_as_relay<L: Dock, G: Gate, R: Wait>(
     ensures gate { IfOk result (λ worked. worked.gossip ≡ GossipEnd.GaveUp → GivesUpWithin (G.gives_up bench.now.gate.now) me bench.now.turns) }
 {
     let (shared, poster) = SharedPort::<L>::new(alloc, port, me, blank);
-    let gossip = gossip(rt, alloc, bench, me, &shared, &Signal::new())?;
+    let gossip = gossip(rt, alloc, bench, me, &shared, &Signal::new(), ops)?;
     Ok(Worked {
         port: shared.into_port(poster),
         gossip,

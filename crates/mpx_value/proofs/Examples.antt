@@ -36,7 +36,7 @@ plain kind = given kind M.Nothing
 
 -- what call 3 on the world of so many ranks gives this rank
 abbrev told : ℕ → RowView → (rank : ℕ) → Outcome
-told ranks row rank = value (of (upto ranks)) row [] 3 rank
+told ranks row rank = value [] (of (upto ranks)) row [] 3 rank
 
 -- the communicator of this colour that call 3 on the world makes
 abbrev comm : (colour size rank : ℕ) → Outcome
@@ -102,46 +102,46 @@ record Examples : Type 0 where
   split1 : told 4 by_colour 1 ≡ comm 0 1 0
   split2 : told 4 by_colour 2 ≡ comm 1 2 1
   split3 : told 4 by_colour 3 ≡ Null
-  splits : children (of (upto 4)) by_colour [] 3 ≡ record { colour = 0; birth = of (1 ∷ []) } ∷ record { colour = 1; birth = of (0 ∷ 2 ∷ []) } ∷ []
+  splits : children [] (of (upto 4)) by_colour [] 3 ≡ record { colour = 0; birth = of (1 ∷ []) } ∷ record { colour = 1; birth = of (0 ∷ 2 ∷ []) } ∷ []
   -- by keys, and by ranks only where these are equal
   reversed0 : told 3 reversed 0 ≡ comm 7 3 2
   reversed1 : told 3 reversed 1 ≡ comm 7 3 1
   reversed2 : told 3 reversed 2 ≡ comm 7 3 0
   -- the members of the birth, where they aren't their ranks
-  members : children (of (4 ∷ 5 ∷ 9 ∷ [])) reversed [] 3 ≡ record { colour = 7; birth = of (9 ∷ 5 ∷ 4 ∷ []) } ∷ []
-  equal : children (of (upto 3)) (split (Some 7) (pos 1) ∷ split (Some 7) (pos 1) ∷ split (Some 7) (pos 1) ∷ []) [] 3 ≡ record { colour = 7; birth = of (0 ∷ 1 ∷ 2 ∷ []) } ∷ []
+  members : children [] (of (4 ∷ 5 ∷ 9 ∷ [])) reversed [] 3 ≡ record { colour = 7; birth = of (9 ∷ 5 ∷ 4 ∷ []) } ∷ []
+  equal : children [] (of (upto 3)) (split (Some 7) (pos 1) ∷ split (Some 7) (pos 1) ∷ split (Some 7) (pos 1) ∷ []) [] 3 ≡ record { colour = 7; birth = of (0 ∷ 1 ∷ 2 ∷ []) } ∷ []
   -- rank 0 gives 0 1, rank 1 gives 1 0: all are told
   differ0 : told 3 groups_that_differ 0 ≡ fault Groups 0
   differ1 : told 3 groups_that_differ 1 ≡ fault Groups 0
   differ2 : told 3 groups_that_differ 2 ≡ fault Groups 0
-  none : children (of (upto 3)) groups_that_differ [] 3 ≡ []
+  none : children [] (of (upto 3)) groups_that_differ [] 3 ≡ []
   -- ranks 0 and 2 give 2 0: the colour is the rank of the first, in the parent
   create0 : told 3 one_group 0 ≡ comm 2 2 1
   create1 : told 3 one_group 1 ≡ Null
   create2 : told 3 one_group 2 ≡ comm 2 2 0
-  creates : children (of (4 ∷ 5 ∷ 9 ∷ [])) two_groups [] 3 ≡ record { colour = 1; birth = of (5 ∷ []) } ∷ record { colour = 2; birth = of (9 ∷ 4 ∷ []) } ∷ []
+  creates : children [] (of (4 ∷ 5 ∷ 9 ∷ [])) two_groups [] 3 ≡ record { colour = 1; birth = of (5 ∷ []) } ∷ record { colour = 2; birth = of (9 ∷ 4 ∷ []) } ∷ []
   -- a group that only one outside it names
   outside : told 2 (create (1 ∷ []) ∷ create [] ∷ []) 1 ≡ fault Groups 0
   dup0 : told 2 (plain Dup ∷ plain Dup ∷ []) 0 ≡ comm 0 2 0
   dup1 : told 2 (plain Dup ∷ plain Dup ∷ []) 1 ≡ comm 0 2 1
   mixed : told 2 (plain Dup ∷ split None (pos 0) ∷ []) 0 ≡ fault Kind 1
   -- below the gathering of processes 4 and 2 with tag 9
-  gathered : value (of (4 ∷ 2 ∷ [])) (plain CreateGroup ∷ plain CreateGroup ∷ []) (Gathering 9 (4 ∷ 2 ∷ []) ∷ []) 0 1 ≡ NewComm (Child 0 0 ∷ Gathering 9 (4 ∷ 2 ∷ []) ∷ []) 2 1
+  gathered : value [] (of (4 ∷ 2 ∷ [])) (plain CreateGroup ∷ plain CreateGroup ∷ []) (Gathering 9 (4 ∷ 2 ∷ []) ∷ []) 0 1 ≡ NewComm (Child 0 0 ∷ Gathering 9 (4 ∷ 2 ∷ []) ∷ []) 2 1
   -- a graph has its parent's members, and its topology has their ranks
   graph1 : told 3 edges_of_others 1 ≡ comm 0 3 1
-  graphs : children (of (4 ∷ 5 ∷ 9 ∷ [])) edges_of_others [] 3 ≡ record { colour = 0; birth = graph } ∷ []
+  graphs : children [] (of (4 ∷ 5 ∷ 9 ∷ [])) edges_of_others [] 3 ≡ record { colour = 0; birth = graph } ∷ []
   adjacent1 : told 2 own_neighbours 1 ≡ comm 0 2 1
-  adjacents : children (of (9 ∷ 4 ∷ [])) own_neighbours [] 3 ≡ record { colour = 0; birth = record { members = 9 ∷ 4 ∷ []; topology = Some one_way } } ∷ []
+  adjacents : children [] (of (9 ∷ 4 ∷ [])) own_neighbours [] 3 ≡ record { colour = 0; birth = record { members = 9 ∷ 4 ∷ []; topology = Some one_way } } ∷ []
   -- dup keeps the topology, and no other keeps it
-  graph_dup : children graph (plain Dup ∷ plain Dup ∷ plain Dup ∷ []) [] 3 ≡ record { colour = 0; birth = graph } ∷ []
-  graph_split : children graph reversed [] 3 ≡ record { colour = 7; birth = of (9 ∷ 5 ∷ 4 ∷ []) } ∷ []
-  graph_create : children graph one_group [] 3 ≡ record { colour = 2; birth = of (9 ∷ 4 ∷ []) } ∷ []
-  graph_group : children graph (plain CreateGroup ∷ plain CreateGroup ∷ plain CreateGroup ∷ []) [] 3 ≡ record { colour = 0; birth = of (4 ∷ 5 ∷ 9 ∷ []) } ∷ []
-  graph_anew : children graph (dist_graph [] ∷ dist_graph [] ∷ dist_graph [] ∷ []) [] 3 ≡ record { colour = 0; birth = record { members = 4 ∷ 5 ∷ 9 ∷ []; topology = Some (record { weighted = false; ranks = near [] [] ∷ near [] [] ∷ near [] [] ∷ [] }) } } ∷ []
+  graph_dup : children [] graph (plain Dup ∷ plain Dup ∷ plain Dup ∷ []) [] 3 ≡ record { colour = 0; birth = graph } ∷ []
+  graph_split : children [] graph reversed [] 3 ≡ record { colour = 7; birth = of (9 ∷ 5 ∷ 4 ∷ []) } ∷ []
+  graph_create : children [] graph one_group [] 3 ≡ record { colour = 2; birth = of (9 ∷ 4 ∷ []) } ∷ []
+  graph_group : children [] graph (plain CreateGroup ∷ plain CreateGroup ∷ plain CreateGroup ∷ []) [] 3 ≡ record { colour = 0; birth = of (4 ∷ 5 ∷ 9 ∷ []) } ∷ []
+  graph_anew : children [] graph (dist_graph [] ∷ dist_graph [] ∷ dist_graph [] ∷ []) [] 3 ≡ record { colour = 0; birth = record { members = 4 ∷ 5 ∷ 9 ∷ []; topology = Some (record { weighted = false; ranks = near [] [] ∷ near [] [] ∷ near [] [] ∷ [] }) } } ∷ []
   -- the eighth step, and no ninth
-  eighth : value (of (upto 2)) (plain Dup ∷ plain Dup ∷ []) (deep 7) 0 1 ≡ NewComm (deep 8) 2 1
-  ninth : value (of (upto 2)) (plain Dup ∷ plain Dup ∷ []) (deep 8) 0 1 ≡ fault Amount 0
-  no_ninth : children (of (upto 2)) (plain Dup ∷ plain Dup ∷ []) (deep 8) 0 ≡ []
+  eighth : value [] (of (upto 2)) (plain Dup ∷ plain Dup ∷ []) (deep 7) 0 1 ≡ NewComm (deep 8) 2 1
+  ninth : value [] (of (upto 2)) (plain Dup ∷ plain Dup ∷ []) (deep 8) 0 1 ≡ fault Amount 0
+  no_ninth : children [] (of (upto 2)) (plain Dup ∷ plain Dup ∷ []) (deep 8) 0 ≡ []
 
 examples : Examples
 unfolding value children verdict general adjacent

@@ -1,5 +1,6 @@
 -- A call that gives nothing has a row that is fine.
-use Rattle.std.proofs.Common.{◌≡◌, ℕ, refl}
+use Rattle.std.proofs.Common.{◌≡◌, ℕ, List, refl}
+use Rattle.mpx_num.specs.declared.own.Operation.{Operation}
 use Rattle.mpx_match.specs.declared.faults.Verdict.{Verdict}
 use Rattle.mpx_match.specs.declared.faults.Verdict.TheVariants as V
 use Rattle.mpx_match.specs.Verdicts.{verdict}
@@ -16,6 +17,6 @@ by_verdict : (v : Verdict) (given : Outcome) → or_fault v given ≡ Nothing �
 by_verdict V.Fine given e = refl
 by_verdict (V.Fault fault) given e = cc e
 
-pub nothing-fine : (birth : BirthView) (row : RowView) (name : Name) (call rank : ℕ) → value birth row name call rank ≡ Nothing → IsFineWith birth.topology row
+pub nothing-fine : (ops : List Operation) (birth : BirthView) (row : RowView) (name : Name) (call rank : ℕ) → value ops birth row name call rank ≡ Nothing → IsFineWith birth.topology row
 unfolding value
-nothing-fine birth row name call rank e = verdict-fine birth.topology row (by_verdict (verdict birth.topology row) (given_to birth row name call rank) e)
+nothing-fine ops birth row name call rank e = verdict-fine ops birth.topology row (by_verdict (verdict ops birth.topology row) (given_to ops birth row name call rank) e)

@@ -46,7 +46,7 @@ all_of-grows f g grows (p ∷ ps) xs h =
 
 module _ (h later : History) (ranks : ℕ) (grows : Grows h later) where
   pub row-grows : (name : Name) (birth : BirthView) (k : ℕ) (row : RowView) → row_of h name birth k ≡ Some row → row_of later name birth k ≡ Some row
-  row-grows name birth k row e = all_of-grows (h name k) (later name k) (grows name k) birth.members row e
+  row-grows name birth k row e = all_of-grows (h.post name k) (later.post name k) (grows.post name k) birth.members row e
 
   -- what was born stays so
   pub birth-grows : (name : Name) (birth : BirthView) → birth_of h ranks name ≡ Some birth → birth_of later ranks name ≡ Some birth
@@ -54,8 +54,8 @@ module _ (h later : History) (ranks : ℕ) (grows : Grows h later) where
   birth-grows (Child call colour ∷ parent) birth e =
       option_and_then_some (child_of h parent call colour) (birth_of h ranks parent) birth e (λ b eb r.
       then_some (child_of later parent call colour) (birth_of later ranks parent) b birth (birth-grows parent b eb)
-      (option_and_then_some (λ row. child b row parent call colour) (row_of h parent b call) birth r (λ row er s.
-      then_some (λ x. child b x parent call colour) (row_of later parent b call) row birth (row-grows parent b call row er) s)))
+      (option_and_then_some (λ row. child h.operations b row parent call colour) (row_of h parent b call) birth r (λ row er s.
+      then_some (λ x. child later.operations b x parent call colour) (row_of later parent b call) row birth (row-grows parent b call row er) (ap (λ o. child o b row parent call colour) (sym grows.operations) ∙ s))))
   birth-grows (Gathering tag members ∷ parent) birth e =
       option_and_then_some (gathered members) (birth_of h ranks parent) birth e (λ b eb r.
       then_some (gathered members) (birth_of later ranks parent) b birth (birth-grows parent b eb) r)
@@ -65,8 +65,8 @@ module _ (h later : History) (ranks : ℕ) (grows : Grows h later) where
   outcomes-grow me name k outcome e =
       option_and_then_some (λ birth. outcomes_by h name birth me k) (birth_of h ranks name) outcome e (λ birth eb r.
       then_some (λ b. outcomes_by later name b me k) (birth_of later ranks name) birth outcome (birth-grows name birth eb)
-      (option_and_then_some (λ row. value_for birth me row name k) (row_of h name birth k) outcome r (λ row er s.
-      then_some (λ row. value_for birth me row name k) (row_of later name birth k) row outcome (row-grows name birth k row er) s)))
+      (option_and_then_some (λ row. value_for h.operations birth me row name k) (row_of h name birth k) outcome r (λ row er s.
+      then_some (λ row. value_for later.operations birth me row name k) (row_of later name birth k) row outcome (row-grows name birth k row er) (ap (λ o. value_for o birth me row name k) (sym grows.operations) ∙ s))))
 
 -- a communicator that the history has given a process: its birth is known there, and has the process
 pub record IsBornWith (births : Name → Option BirthView) (me : ℕ) (name : Name) (size rank : ℕ) : Type 0 where
@@ -78,13 +78,13 @@ pub record IsBornWith (births : Name → Option BirthView) (me : ℕ) (name : Na
 pub new-born : (h : History) (ranks me : ℕ) (name : Name) (k : ℕ) (new : Name) (size rank : ℕ) → outcome_of h ranks me name k ≡ Some (NewComm new size rank) → IsBornWith (birth_of h ranks) me new size rank
 new-born h ranks me name k new size rank e =
     option_and_then_some (λ birth. outcomes_by h name birth me k) (birth_of h ranks name) (NewComm new size rank) e (λ birth eb r.
-    option_and_then_some (λ row. value_for birth me row name k) (row_of h name birth k) (NewComm new size rank) r (λ row er s.
-    let i = new_communicator birth me row name k new size rank s in
+    option_and_then_some (λ row. value_for h.operations birth me row name k) (row_of h name birth k) (NewComm new size rank) r (λ row er s.
+    let i = new_communicator h.operations birth me row name k new size rank s in
     record {
       birth = i.child.birth;
       born = ap (birth_of h ranks) i.named
           ∙ then_some (child_of h name k i.child.colour) (birth_of h ranks name) birth i.child.birth eb
-          (then_some (λ x. child birth x name k i.child.colour) (row_of h name birth k) row i.child.birth er (children_exact birth row name k i.place i.child i.among));
+          (then_some (λ x. child h.operations birth x name k i.child.colour) (row_of h name birth k) row i.child.birth er (children_exact h.operations birth row name k i.place i.child i.among));
       counted = i.counted;
       member = i.member;
     }))

@@ -9,6 +9,7 @@ use Rattle.std.proofs.lemmas.List.Quantifiers.{position-Some}
 use Rattle.std.proofs.lemmas.Option.{get_or_from_slice_get, option_and_then_some, slice_get_within}
 use Rattle.mpx_name.specs.declared.steps.Step.TheVariants.{Child}
 use Rattle.mpx_name.specs.Name.{Name}
+use Rattle.mpx_num.specs.declared.own.Operation.{Operation}
 use Rattle.mpx_match.specs.declared.faults.FaultKind.TheVariants.{Amount}
 use Rattle.mpx_match.specs.declared.faults.Verdict.{Verdict}
 use Rattle.mpx_match.specs.declared.faults.Verdict.TheVariants as V
@@ -29,8 +30,8 @@ use Rattle.mpx_post.specs.Rows.{RowView}
 use Rattle.mpx_post.specs.Agreement.{first_of}
 use Rattle.mpx_value.specs.declared.outcomes.Outcome.{Outcome}
 use Rattle.mpx_value.specs.declared.outcomes.Outcome.TheVariants.{NewComm, Fault}
-use Rattle.mpx_value.specs.Children.{ChildView, children, children_by, children_in, child, colours_of, group_child, has_room, IsNewCommunicator, leads, named_children, of_colour, split_child, unless_fault}
-use Rattle.mpx_value.specs.Values.{given_in, new_communicator as told_new, or_fault, outcome_of, told, value}
+use Rattle.mpx_value.specs.Children.{ChildView, children, children_by, children_in, children_made, child, colours_of, group_child, has_room, IsNewCommunicator, leads, named_children, of_colour, split_child, unless_fault}
+use Rattle.mpx_value.specs.Values.{given_in, given_to, new_communicator as told_new, or_fault, outcome_of, told, value}
 use Rattle.mpx_value.specs.Histories.{value_for}
 use Rattle.mpx_value.proofs.Rising.{AllPairs-map, rise-rising, rise-upto}
 
@@ -71,10 +72,10 @@ rise_where : (b : Bool) (made : List ChildView) → Rise made → Rise (cond b m
 rise_where true made rise = rise
 rise_where false made rise = none
 
-pub colours_rise : (birth : BirthView) (row : RowView) (name : Name) (call : ℕ) → Rise (children birth row name call)
+pub colours_rise : (ops : List Operation) (birth : BirthView) (row : RowView) (name : Name) (call : ℕ) → Rise (children ops birth row name call)
 unfolding children
-colours_rise birth row name call =
-    rise_where (has_room name) _ (rise_unless (verdict birth.topology row) _ (rise_in (family_of (first_of row).kind) birth row))
+colours_rise ops birth row name call =
+    rise_where (has_room name) _ (rise_unless (verdict ops birth.topology row) _ (rise_in (family_of (first_of row).kind) birth row))
 
 exact : (made : List ChildView) (place : ℕ) (x : ChildView) → Rise made → slice_get made place ≡ Some x → of_colour x.colour made ≡ Some x.birth
 exact [] place x rise e = cc e
@@ -87,8 +88,15 @@ exact (y ∷ rest) (suc place) x rise e =
     cond-false (y.colour == x.colour) (Some y.birth) (of_colour x.colour rest) (ne_eqb y.colour x.colour (λ same. absurd (omega (arith, below, same, ap (λ (c : ChildView). c.colour) later))))
     ∙ exact rest place x (λ i j d l m. rise (suc i) (suc j) d (omega arith) (omega arith)) e
 
-pub children_exact : (birth : BirthView) (row : RowView) (name : Name) (call place : ℕ) (x : ChildView) → slice_get (children birth row name call) place ≡ Some x → child birth row name call x.colour ≡ Some x.birth
-children_exact birth row name call place x e = exact (children birth row name call) place x (colours_rise birth row name call) e
+pub children_exact : (ops : List Operation) (birth : BirthView) (row : RowView) (name : Name) (call place : ℕ) (x : ChildView) → slice_get (children ops birth row name call) place ≡ Some x → child ops birth row name call x.colour ≡ Some x.birth
+children_exact ops birth row name call place x e = exact (children ops birth row name call) place x (colours_rise ops birth row name call) e
+
+-- where the name has room, a fine row makes all that it may
+pub children_are : (ops : List Operation) (birth : BirthView) (row : RowView) (name : Name) (call : ℕ) → has_room name ≡ true → verdict ops birth.topology row ≡ V.Fine → children ops birth row name call ≡ children_made birth row
+unfolding children
+children_are ops birth row name call room fine =
+    ap (λ (b : Bool). cond b (unless_fault (verdict ops birth.topology row) (children_made birth row)) []) room
+    ∙ ap (λ (v : Verdict). unless_fault v (children_made birth row)) fine
 
 -- WHAT IS TOLD
 
@@ -115,32 +123,33 @@ by_value G.Nothing new size rank e = cc e
 by_value G.Absent new size rank e = cc e
 by_value (G.Items items) new size rank e = cc e
 
-by_room : (b : Bool) (birth : BirthView) (row : RowView) (name : Name) (call process : ℕ) (new : Name) (size rank : ℕ) → cond b (told (named_children name call (children birth row name call)) process) (Fault (record { what = Amount; rank = 0 })) ≡ NewComm new size rank → told (named_children name call (children birth row name call)) process ≡ NewComm new size rank
-by_room true birth row name call process new size rank e = e
-by_room false birth row name call process new size rank e = cc e
+by_room : (b : Bool) (made : List ChildView) (name : Name) (call process : ℕ) (new : Name) (size rank : ℕ) → cond b (told (named_children name call made) process) (Fault (record { what = Amount; rank = 0 })) ≡ NewComm new size rank → (b ≡ true) × (told (named_children name call made) process ≡ NewComm new size rank)
+by_room true made name call process new size rank e = (refl, e)
+by_room false made name call process new size rank e = cc e
 
-by_family : (family : Family) (birth : BirthView) (row : RowView) (name : Name) (call at : ℕ) (new : Name) (size rank : ℕ) → given_in family birth row name call at ≡ NewComm new size rank → told_new birth row name call (get_or birth.members at 0) ≡ NewComm new size rank
-by_family (F.Exchange exchange) birth row name call at new size rank e = absurd (by_value (move_value row at) new size rank e)
-by_family (F.Reduction reduction) birth row name call at new size rank e = absurd (by_value (fold_value row at) new size rank e)
-by_family (F.Neighbourhood exchange) birth row name call at new size rank e = absurd (by_value (neigh_value birth.topology row at) new size rank e)
-by_family (F.NewCommunicator made) birth row name call at new size rank e = e
-by_family F.Free birth row name call at new size rank e = cc e
+by_family : (ops : List Operation) (family : Family) (birth : BirthView) (row : RowView) (name : Name) (call at : ℕ) (new : Name) (size rank : ℕ) → given_in ops family birth row name call at ≡ NewComm new size rank → told_new birth row name call (get_or birth.members at 0) ≡ NewComm new size rank
+by_family ops (F.Exchange exchange) birth row name call at new size rank e = absurd (by_value (move_value row at) new size rank e)
+by_family ops (F.Reduction reduction) birth row name call at new size rank e = absurd (by_value (fold_value ops row at) new size rank e)
+by_family ops (F.Neighbourhood exchange) birth row name call at new size rank e = absurd (by_value (neigh_value birth.topology row at) new size rank e)
+by_family ops (F.NewCommunicator made) birth row name call at new size rank e = e
+by_family ops F.Free birth row name call at new size rank e = cc e
 
-by_verdict : (v : Verdict) (given : Outcome) (new : Name) (size rank : ℕ) → or_fault v given ≡ NewComm new size rank → given ≡ NewComm new size rank
-by_verdict V.Fine given new size rank e = e
+by_verdict : (v : Verdict) (given : Outcome) (new : Name) (size rank : ℕ) → or_fault v given ≡ NewComm new size rank → (v ≡ V.Fine) × (given ≡ NewComm new size rank)
+by_verdict V.Fine given new size rank e = (refl, e)
 by_verdict (V.Fault fault) given new size rank e = cc e
 
-at_rank : (birth : BirthView) (row : RowView) (name : Name) (call at : ℕ) (new : Name) (size rank : ℕ) → value birth row name call at ≡ NewComm new size rank → told (named_children name call (children birth row name call)) (get_or birth.members at 0) ≡ NewComm new size rank
+at_rank : (ops : List Operation) (birth : BirthView) (row : RowView) (name : Name) (call at : ℕ) (new : Name) (size rank : ℕ) → value ops birth row name call at ≡ NewComm new size rank → told (named_children name call (children ops birth row name call)) (get_or birth.members at 0) ≡ NewComm new size rank
 unfolding value
-at_rank birth row name call at new size rank e =
-    by_room (has_room name) birth row name call (get_or birth.members at 0) new size rank
-    (by_family (family_of (first_of row).kind) birth row name call at new size rank (by_verdict (verdict birth.topology row) _ new size rank e))
+at_rank ops birth row name call at new size rank e =
+    let given = by_verdict (verdict ops birth.topology row) (given_to ops birth row name call at) new size rank e in
+    let found = by_room (has_room name) (children_made birth row) name call (get_or birth.members at 0) new size rank (by_family ops (family_of (first_of row).kind) birth row name call at new size rank given.1) in
+    ap (λ (made : List ChildView). told (named_children name call made) (get_or birth.members at 0)) (children_are ops birth row name call found.0 given.0) ∙ found.1
 
 -- what a row gives a process as its new communicator is one of the children
-pub new_communicator : (birth : BirthView) (me : ℕ) (row : RowView) (name : Name) (call : ℕ) (new : Name) (size rank : ℕ) → value_for birth me row name call ≡ Some (NewComm new size rank) → IsNewCommunicator birth row name call me new size rank
-new_communicator birth me row name call new size rank e =
-    option_and_then_some (λ at. Some (value birth row name call at)) (rank_in me birth.members) (NewComm new size rank) e (λ at place f.
-    let given : value birth row name call at ≡ NewComm new size rank = cc f in
+pub new_communicator : (ops : List Operation) (birth : BirthView) (me : ℕ) (row : RowView) (name : Name) (call : ℕ) (new : Name) (size rank : ℕ) → value_for ops birth me row name call ≡ Some (NewComm new size rank) → IsNewCommunicator ops birth row name call me new size rank
+new_communicator ops birth me row name call new size rank e =
+    option_and_then_some (λ at. Some (value ops birth row name call at)) (rank_in me birth.members) (NewComm new size rank) e (λ at place f.
+    let given : value ops birth row name call at ≡ NewComm new size rank = cc f in
     let process : get_or birth.members at 0 ≡ me = eqb-true _ _ (position-Some (λ q. q == me) birth.members at 0 place).1 in
-    let i = one_of (children birth row name call) name call me new size rank (ap (told (named_children name call (children birth row name call))) (sym process) ∙ at_rank birth row name call at new size rank given) in
+    let i = one_of (children ops birth row name call) name call me new size rank (ap (told (named_children name call (children ops birth row name call))) (sym process) ∙ at_rank ops birth row name call at new size rank given) in
     record { place = i.place; child = i.child; among = i.among; named = i.named; counted = i.counted; member = i.member })

@@ -5,6 +5,7 @@ use Rattle.std.specs.List.{All}
 use Rattle.std.proofs.lemmas.List.Elements.{All-cons, All-filter, All-map, All-nil, All-weaker}
 use Rattle.mpx_group.specs.Group.{has}
 use Rattle.mpx_name.specs.Name.{Name}
+use Rattle.mpx_num.specs.declared.own.Operation.{Operation}
 use Rattle.mpx_match.specs.declared.faults.Verdict.{Verdict}
 use Rattle.mpx_match.specs.declared.faults.Verdict.TheVariants as V
 use Rattle.mpx_match.specs.Verdicts.{verdict}
@@ -64,7 +65,7 @@ module _ (birth : BirthView) (row : RowView) (long : length row ≡ length birth
   by_room true made all = all
   by_room false made all = All-nil Within
 
-pub children_within : (birth : BirthView) (row : RowView) (name : Name) (call : ℕ) → length row ≡ length birth.members → All (λ (x : ChildView). All (λ p. has birth.members p ≡ true) x.birth.members) (children birth row name call)
+pub children_within : (ops : List Operation) (birth : BirthView) (row : RowView) (name : Name) (call : ℕ) → length row ≡ length birth.members → All (λ (x : ChildView). All (λ p. has birth.members p ≡ true) x.birth.members) (children ops birth row name call)
 unfolding children
-children_within birth row name call long =
-    by_room birth row long (has_room name) _ (by_verdict birth row long (verdict birth.topology row) (λ e. fine_with birth.topology row (verdict-fine birth.topology row e)))
+children_within ops birth row name call long =
+    by_room birth row long (has_room name) _ (by_verdict birth row long (verdict ops birth.topology row) (λ e. fine_with birth.topology row (verdict-fine ops birth.topology row e)))

@@ -6,6 +6,7 @@ use Rattle.std.specs.Ordering.{int_cmp, is_lt}
 use Rattle.mpx_group.specs.Group.{has}
 use Rattle.mpx_name.specs.declared.steps.Step.TheVariants.{Child}
 use Rattle.mpx_name.specs.Name.{Name}
+use Rattle.mpx_num.specs.declared.own.Operation.{Operation}
 use Rattle.mpx_kind.specs.declared.kinds.Family.{Family}
 use Rattle.mpx_kind.specs.declared.kinds.Family.TheVariants as F
 use Rattle.mpx_kind.specs.declared.kinds.NewCommunicator.{NewCommunicator}
@@ -113,14 +114,18 @@ unless_fault (V.Fault fault) made = []
 abbrev pub has_room : Name → Bool
 has_room name = nat_lt (length name) most_steps
 
--- what the call with this row makes, in rising order of colours
-unfoldable pub children : BirthView → RowView → Name → (call : ℕ) → List ChildView
-children birth row name call = cond (has_room name) (unless_fault (verdict birth.topology row) (children_in (family_of (first_of row).kind) birth row)) []
+-- what a fine row makes, in rising order of colours
+abbrev pub children_made : BirthView → RowView → List ChildView
+children_made birth row = children_in (family_of (first_of row).kind) birth row
+
+-- what the call with this row makes, by the job's own operations
+unfoldable pub children : List Operation → BirthView → RowView → Name → (call : ℕ) → List ChildView
+children ops birth row name call = cond (has_room name) (unless_fault (verdict ops birth.topology row) (children_made birth row)) []
 
 -- the kind makes communicators, the posts fit together, and the name can have one step more
-pub record MakesSome (birth : BirthView) (row : RowView) (name : Name) : Type 0 where
+pub record MakesSome (ops : List Operation) (birth : BirthView) (row : RowView) (name : Name) : Type 0 where
   pub kind : makes_communicators (family_of (first_of row).kind) ≡ true
-  pub fine : verdict birth.topology row ≡ V.Fine
+  pub fine : verdict ops birth.topology row ≡ V.Fine
   pub room : has_room name ≡ true
 
 -- the one of this colour
@@ -129,26 +134,26 @@ of_colour colour [] = None
 of_colour colour (x ∷ rest) = cond (x.colour == colour) (Some x.birth) (of_colour colour rest)
 
 -- the child of this colour that the call with this row makes
-abbrev pub child : BirthView → RowView → Name → (call colour : ℕ) → Option BirthView
-child birth row name call colour = of_colour colour (children birth row name call)
+abbrev pub child : List Operation → BirthView → RowView → Name → (call colour : ℕ) → Option BirthView
+child ops birth row name call colour = of_colour colour (children ops birth row name call)
 
 -- their names below the context of the call, with their births
 abbrev pub named_children : Name → ℕ → List ChildView → List (Name × BirthView)
 named_children name call made = map (λ (x : ChildView). (Child call x.colour ∷ name, x.birth)) made
 
 -- each child is the one of its colour
-abbrev pub AreOfTheirColours : BirthView → RowView → Name → (call : ℕ) → Type 0
-AreOfTheirColours birth row name call = (place : ℕ) (x : ChildView) → slice_get (children birth row name call) place ≡ Some x → child birth row name call x.colour ≡ Some x.birth
+abbrev pub AreOfTheirColours : List Operation → BirthView → RowView → Name → (call : ℕ) → Type 0
+AreOfTheirColours ops birth row name call = (place : ℕ) (x : ChildView) → slice_get (children ops birth row name call) place ≡ Some x → child ops birth row name call x.colour ≡ Some x.birth
 
 -- the child's members are members of the communicator
 abbrev pub IsWithin : BirthView → ChildView → Type 0
 IsWithin birth x = All (λ p. has birth.members p ≡ true) x.birth.members
 
 -- a communicator with this name and size, in which the process has this rank, is one of what the call makes
-pub record IsNewCommunicator (birth : BirthView) (row : RowView) (name : Name) (call process : ℕ) (new : Name) (size rank : ℕ) : Type 0 where
+pub record IsNewCommunicator (ops : List Operation) (birth : BirthView) (row : RowView) (name : Name) (call process : ℕ) (new : Name) (size rank : ℕ) : Type 0 where
   pub place : ℕ
   pub child : ChildView
-  pub among : slice_get (children birth row name call) place ≡ Some child
+  pub among : slice_get (children ops birth row name call) place ≡ Some child
   pub named : new ≡ Child call child.colour ∷ name
   pub counted : size ≡ length child.birth.members
   pub member : rank_in process child.birth.members ≡ Some rank

@@ -3,6 +3,7 @@ use Rattle.std.specs.Prelude.{◌≡◌, ℕ, Bool, cond, not, ◌&&◌, nat_lt,
 use Rattle.std.specs.List.{list_all, list_any}
 use Rattle.std.specs.Option.{option_map}
 use Rattle.mpx_group.specs.Group.{has, has_twice}
+use Rattle.mpx_num.specs.declared.own.Operation.{Operation}
 use Rattle.mpx_name.specs.declared.steps.Step.TheVariants.{Child, Gathering}
 use Rattle.mpx_name.specs.Name.{Name, same_name}
 use Rattle.mpx_post.specs.Posts.{Given, is_free}
@@ -30,27 +31,29 @@ posts_on name (m ∷ rest) = cond (same_name name m.name) (m.given ∷ posts_on 
 abbrev pub has_freed : Name → List Made → Bool
 has_freed name made = list_any is_free (posts_on name made)
 
--- what a process posted on a context as its call of this number, where it did
-abbrev pub History : Type 0
-History = Name → (call process : ℕ) → Option Given
+-- the job's own operations, and what a process posted on a context as its call of this number, where it did
+pub record History : Type 0 where
+  pub operations : List Operation
+  pub post : Name → (call process : ℕ) → Option Given
 
 -- the history that these posts of each process make
-abbrev pub history_of : ((process : ℕ) → List Made) → History
-history_of made name k p = slice_get (posts_on name (made p)) k
+abbrev pub history_of : List Operation → ((process : ℕ) → List Made) → History
+history_of ops made = record { operations = ops; post = λ name k p. slice_get (posts_on name (made p)) k }
 
--- a later history has what an earlier one has
-abbrev pub Grows : History → History → Type 0
-Grows h later = (name : Name) (k p : ℕ) (given : Given) → h name k p ≡ Some given → later name k p ≡ Some given
+-- a later history has what an earlier one has, and the same operations
+pub record Grows (h later : History) : Type 0 where
+  pub operations : h.operations ≡ later.operations
+  pub post : (name : Name) (k p : ℕ) (given : Given) → h.post name k p ≡ Some given → later.post name k p ≡ Some given
 
 -- the posts of all members to a call, where all are there
 abbrev pub row_of : History → Name → BirthView → (call : ℕ) → Option RowView
-row_of h name birth k = all_of (h name k) birth.members
+row_of h name birth k = all_of (h.post name k) birth.members
 
 -- BIRTHS
 
 -- the child of this colour of a call, where its row is whole
 abbrev pub child_of : History → Name → (call colour : ℕ) → BirthView → Option BirthView
-child_of h name call colour birth = option_and_then (λ row. child birth row name call colour) (row_of h name birth call)
+child_of h name call colour birth = option_and_then (λ row. child h.operations birth row name call colour) (row_of h name birth call)
 
 -- whether these can gather below a context with this birth: some of its members, each once
 abbrev pub may_gather : List ℕ → BirthView → Bool
@@ -75,17 +78,17 @@ whole_row h ranks name k = option_and_then (λ birth. row_of h name birth k) (bi
 
 -- OUTCOMES
 
--- what a row gives a member, by the member's rank
-abbrev pub value_for : BirthView → ℕ → RowView → Name → (call : ℕ) → Option Outcome
-value_for birth me row name call = option_and_then (λ rank. Some (value birth row name call rank)) (rank_in me birth.members)
+-- what a row gives a member, by the job's own operations and the member's rank
+abbrev pub value_for : List Operation → BirthView → ℕ → RowView → Name → (call : ℕ) → Option Outcome
+value_for ops birth me row name call = option_and_then (λ rank. Some (value ops birth row name call rank)) (rank_in me birth.members)
 
 -- a new communicator that this gives the process is one that the call makes, with its size, and has the process at this rank
-abbrev pub GivesItsChildren : BirthView → ℕ → RowView → Name → (call : ℕ) → Type 0
-GivesItsChildren birth me row name call = (new : Name) (size rank : ℕ) → value_for birth me row name call ≡ Some (NewComm new size rank) → IsNewCommunicator birth row name call me new size rank
+abbrev pub GivesItsChildren : List Operation → BirthView → ℕ → RowView → Name → (call : ℕ) → Type 0
+GivesItsChildren ops birth me row name call = (new : Name) (size rank : ℕ) → value_for ops birth me row name call ≡ Some (NewComm new size rank) → IsNewCommunicator ops birth row name call me new size rank
 
 -- what the whole rows of a context with this birth give a process
 abbrev pub outcomes_by : History → Name → BirthView → (me call : ℕ) → Option Outcome
-outcomes_by h name birth me k = option_and_then (λ row. value_for birth me row name k) (row_of h name birth k)
+outcomes_by h name birth me k = option_and_then (λ row. value_for h.operations birth me row name k) (row_of h name birth k)
 
 -- what the rows that are whole give a process
 abbrev pub outcome_of : History → (ranks me : ℕ) → Name → (call : ℕ) → Option Outcome

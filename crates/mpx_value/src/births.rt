@@ -3,12 +3,11 @@ ghost use Rattle.std.specs.Prelude.{◌≡◌, ◌<◌, ◌≤◌, ◌^◌, ◌�
 ghost use Rattle.std.specs.List.{All};
 ghost use Rattle.mpx_group.specs.Group.{has_twice};
 ghost use Rattle.mpx_name.specs.declared.steps.Step.TheVariants.{Child};
-ghost use Rattle.mpx_match.specs.Verdicts.{verdict};
 ghost use Rattle.mpx_post.specs.Agreement.{IsFine};
 ghost use Rattle.mpx_post.specs.Births.{of_members};
 ghost use Rattle.mpx_post.specs.Drafts.{most_calls, most_steps};
 ghost use Rattle.mpx_graph.specs.Graphs.{adjacent, general};
-ghost use Rattle.mpx_value.specs.Children.{MakesSome, children, has_room as has_room_for, named_children, only_child, processes, with_topology};
+ghost use Rattle.mpx_value.specs.Children.{MakesSome, children, children_made, has_room as has_room_for, named_children, only_child, processes, with_topology};
 
 use crate::groups::created;
 use crate::splits::split;
@@ -17,6 +16,7 @@ use mpx_graph::{topology_adjacent, topology_general};
 use mpx_group::Proc;
 use mpx_match::{Verdict, verdict};
 use mpx_name::{Name, NameError};
+use mpx_num::{Listing, Ops};
 use mpx_post::{Birth, Family, NewCommunicator, Row};
 use std::alloc::Global;
 
@@ -33,17 +33,18 @@ pub fn children(
     row: &Row<'_>,
     name: &Name,
     call: u32,
+    ops: &Ops,
 ) -> Result<Vec<(Name, Birth)>, OutOfMemory>
     requires members { length row.now ≡ length birth.now.members }
     requires call { call < most_calls }
-    ensures made { IfOk result (λ made. made.items ≡ named_children name.now call (children birth.now row.now name.now call)) }
-    ensures memory { OnErr result (MakesSome birth.now row.now name.now) }
+    ensures made { IfOk result (λ made. made.items ≡ named_children name.now call (children (⟦<Ops as Listing>⟧.operations ops.now) birth.now row.now name.now call)) }
+    ensures memory { OnErr result (MakesSome (⟦<Ops as Listing>⟧.operations ops.now) birth.now row.now name.now) }
 {
     prove!(0 < row.len());
     if !row.post(0).kind().makes_communicators() {
         return Ok(Vec::new(alloc));
     }
-    match verdict(birth, row) {
+    match verdict(birth, row, ops) {
         Verdict::Fault(_) => Ok(Vec::new(alloc)),
         Verdict::Fine => {
             if has_room(name) {
@@ -63,7 +64,6 @@ pub(crate) fn has_room(name: &Name) -> bool
 }
 
 // What a fine row makes.
-#[tactic(auto, unfolding(crate::specs::Children::children))]
 pub(crate) fn made(
     alloc: Global,
     birth: &Birth,
@@ -72,11 +72,10 @@ pub(crate) fn made(
     call: u32,
 ) -> Result<Vec<(Name, Birth)>, OutOfMemory>
     requires fine { IsFine row.now }
-    requires verdict { verdict birth.now.topology row.now ≡ Verdict.Fine }
     requires room { length name.now < most_steps }
     requires members { length row.now ≡ length birth.now.members }
     requires call { call < most_calls }
-    ensures { IfOk result (λ made. made.items ≡ named_children name.now call (children birth.now row.now name.now call)) }
+    ensures { IfOk result (λ made. made.items ≡ named_children name.now call (children_made birth.now row.now)) }
 {
     prove!(0 < row.len());
     match row.post(0).kind().family() {

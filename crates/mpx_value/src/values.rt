@@ -1,7 +1,6 @@
 // What a call gives each member.
 ghost use Rattle.std.specs.Prelude.{◌≡◌, ◌<◌, length};
-ghost use Rattle.mpx_match.specs.Verdicts.{verdict};
-ghost use Rattle.mpx_post.specs.Agreement.{IsFine, IsFineWith};
+ghost use Rattle.mpx_post.specs.Agreement.{AllSuit, IsFine, IsFineWith};
 ghost use Rattle.mpx_post.specs.Drafts.{most_calls};
 ghost use Rattle.mpx_value.specs.Values.{GivesOutcome, given_to, new_communicator, outcome_of, told, value};
 
@@ -14,11 +13,12 @@ use mpx_match::{Fault, FaultKind, Verdict, verdict};
 use mpx_move::move_value;
 use mpx_name::Name;
 use mpx_neigh::neigh_value;
+use mpx_num::{Listing, Ops};
 use mpx_post::{Birth, Family, Row, Value};
 use std::alloc::Global;
 
 /// What the call with this number on a context with this name and birth, of which this is the row of posts, gives the
-/// member with this rank. Memory is wanting only where that has items, or tells of new communicators.
+/// member with this rank, by the job's own operations. Memory is wanting only where that has items, or tells of new communicators.
 #[tactic(auto, unfolding(crate::specs::Values::value))]
 pub fn outcome(
     alloc: Global,
@@ -27,15 +27,16 @@ pub fn outcome(
     name: &Name,
     call: u32,
     rank: u8,
+    ops: &Ops,
 ) -> Result<Outcome, OutOfMemory>
     requires members { length row.now ≡ length birth.now.members }
     requires rank { rank < length row.now }
     requires call { call < most_calls }
-    ensures { GivesOutcome (value birth.now row.now name.now call rank) result }
+    ensures { GivesOutcome (value (⟦<Ops as Listing>⟧.operations ops.now) birth.now row.now name.now call rank) result }
 {
-    match verdict(birth, row) {
+    match verdict(birth, row, ops) {
         Verdict::Fault(fault) => Ok(Outcome::Fault(fault)),
-        Verdict::Fine => given_to(alloc, birth, row, name, call, rank),
+        Verdict::Fine => given_to(alloc, birth, row, name, call, rank, ops),
     }
 }
 
@@ -47,17 +48,18 @@ fn given_to(
     name: &Name,
     call: u32,
     rank: u8,
+    ops: &Ops,
 ) -> Result<Outcome, OutOfMemory>
     requires fine { IsFineWith birth.now.topology row.now }
-    requires verdict { verdict birth.now.topology row.now ≡ Verdict.Fine }
+    requires suits { AllSuit (⟦<Ops as Listing>⟧.operations ops.now) row.now }
     requires members { length row.now ≡ length birth.now.members }
     requires rank { rank < length row.now }
     requires call { call < most_calls }
-    ensures { GivesOutcome (given_to birth.now row.now name.now call rank) result }
+    ensures { GivesOutcome (given_to (⟦<Ops as Listing>⟧.operations ops.now) birth.now row.now name.now call rank) result }
 {
     match row.post(0).kind().family() {
         Family::Exchange(_) => Ok(outcome_of(move_value(alloc, row, rank)?)),
-        Family::Reduction(_) => Ok(outcome_of(fold_value(alloc, row, rank)?)),
+        Family::Reduction(_) => Ok(outcome_of(fold_value(alloc, row, rank, ops)?)),
         Family::Neighbourhood(_) => Ok(outcome_of(neigh_value(alloc, birth, row, rank)?)),
         Family::NewCommunicator(_) => {
             let process = birth.members()[usize::from(rank)];
@@ -87,7 +89,6 @@ fn new_communicator(
     process: Proc,
 ) -> Result<Outcome, OutOfMemory>
     requires fine { IsFine row.now }
-    requires verdict { verdict birth.now.topology row.now ≡ Verdict.Fine }
     requires members { length row.now ≡ length birth.now.members }
     requires call { call < most_calls }
     ensures { GivesOutcome (new_communicator birth.now row.now name.now call process) result }

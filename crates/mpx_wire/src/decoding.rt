@@ -1,15 +1,18 @@
 // Frames to boards.
-ghost use Rattle.std.specs.Prelude.{◌≡◌, IfOk, IfErr, Ok};
-ghost use Rattle.mpx_board.specs.Parts.{PartsView};
-ghost use Rattle.mpx_board.specs.Looks.{parts_of};
+ghost use Rattle.std.specs.Prelude.{◌≡◌, IfOk, IfErr, Ok, OnErr, OnOk};
+ghost use Rattle.mpx_board.specs.Boards.{IsBetween, join};
+ghost use Rattle.mpx_board.specs.Contexts.{look_of};
+ghost use Rattle.mpx_board.specs.Parts.{PartsView, parts_between, parts_joining};
+ghost use Rattle.mpx_board.specs.Looks.{look, parts_of};
 ghost use Rattle.mpx_format.specs.Format.{Gives, both, mark_at};
 ghost use Rattle.mpx_format.specs.Codes.{version_byte};
 ghost use Rattle.mpx_format.specs.Contexts.{frame, parts as parts_format};
 ghost use Rattle.mpx_format.specs.Decoding.{IsSpelled, Decodes, Refuses, decoded};
+ghost use Rattle.mpx_wire.specs.Reading.{front};
 
-use join_core::Exact;
+use join_core::{Exact, OutOfMemory};
 use mpx_board::{Board, Parts};
-use mpx_decode::{read_parts, read_version};
+use mpx_decode::{read_parts, read_version, take_parts};
 use mpx_format::{Fault, ReadError, SHORT, Version, WireError, placed};
 use std::alloc::Global;
 
@@ -84,4 +87,32 @@ pub fn decode(alloc: Global, bytes: &[u8]) -> Result<Board, WireError>
 {
     let parts = parts_of(alloc, bytes)?;
     Ok(Board::from_tidy(parts))
+}
+
+/// Joins the board that these bytes spell to the board, in place, as [`decode`] and then [`Board::take`] do, without a board of
+/// its own for what they say: the numbers of acknowledgements are raised as they are read. An `Err` leaves a board between the old
+/// one and the join, each fact of which is one of the board, of the spelled one or of their join.
+pub fn take_spelled(alloc: Global, board: &mut Board, bytes: &[u8]) -> Result<(), OutOfMemory>
+    requires { (v : PartsView) × IsSpelled bytes.now v }
+    ensures ok { OnOk result ((v : PartsView) → IsSpelled bytes.now v → look board.new ≡ join (look board.old) (look_of v)) }
+    ensures err { OnErr result ((v : PartsView) → IsSpelled bytes.now v → IsBetween (look board.old) (look_of v) (look board.new)) }
+{
+    match read_front(bytes) {
+        Err(_) => Err(OutOfMemory),
+        Ok((version, rest)) => {
+            let _after = take_parts(version, alloc, board, rest)?;
+            Ok(())
+        }
+    }
+}
+
+// What stands before the parts: the magic and the version.
+fn read_front(bytes: &[u8]) -> Result<(Version, &[u8]), ReadError>
+    ensures { Gives (λ x. (x.0, x.1.now)) result (front.read bytes.now) }
+{
+    let rest = read_mark(Fault::BadMagic, 0x4d, bytes)?;
+    let rest = read_mark(Fault::BadMagic, 0x50, rest)?;
+    let rest = read_mark(Fault::BadMagic, 0x58, rest)?;
+    let rest = read_mark(Fault::BadMagic, 0x47, rest)?;
+    read_version(rest)
 }

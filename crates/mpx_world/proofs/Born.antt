@@ -10,6 +10,7 @@ use Rattle.join_core.specs.Flat.{known}
 use Rattle.mpx_group.specs.Group.{has}
 use Rattle.mpx_name.specs.declared.steps.Step.TheVariants.{Child}
 use Rattle.mpx_name.specs.Name.{Name, same_name}
+use Rattle.mpx_num.specs.declared.own.Operation.{Operation}
 use Rattle.mpx_post.specs.Births.{BirthView, of_members, rank_in}
 use Rattle.mpx_post.specs.Gatherings.{GatheringView, gathering}
 use Rattle.mpx_post.specs.declared.draft.PostError.{PostError}
@@ -39,14 +40,14 @@ row_told board name k birth row eb er = ap (option_and_then (λ (b : BirthView).
 -- on a board that tells the truth it is whole
 pub row_whole : (w : WorldView) (board : Look) (name : Name) (k : ℕ) (birth : BirthView) (row : RowView) → LookSo w board → told (board.contexts name).birth ≡ Some birth → row_on board name k ≡ Some row → row_of (history w) name birth k ≡ Some row
 row_whole w board name k birth row s eb er =
-    all_of-grows (λ q. told ((board.contexts name).posts k q)) (history w name k) (λ q x h. told_agrees ((board.contexts name).posts k q) (history w name k q) x ((s.contexts_so name).posts_so k q) h) birth.members row (row_told board name k birth row eb er)
+    all_of-grows (λ q. told ((board.contexts name).posts k q)) ((history w).post name k) (λ q x h. told_agrees ((board.contexts name).posts k q) ((history w).post name k q) x ((s.contexts_so name).posts_so k q) h) birth.members row (row_told board name k birth row eb er)
 
 -- CHILDREN
 
 -- what a whole row makes is born
-child_born : (h : History) (ranks : ℕ) (parent : Name) (call colour : ℕ) (birth made : BirthView) (row : RowView) → birth_of h ranks parent ≡ Some birth → row_of h parent birth call ≡ Some row → child birth row parent call colour ≡ Some made → birth_of h ranks (Child call colour ∷ parent) ≡ Some made
+child_born : (h : History) (ranks : ℕ) (parent : Name) (call colour : ℕ) (birth made : BirthView) (row : RowView) → birth_of h ranks parent ≡ Some birth → row_of h parent birth call ≡ Some row → child h.operations birth row parent call colour ≡ Some made → birth_of h ranks (Child call colour ∷ parent) ≡ Some made
 child_born h ranks parent call colour birth made row eb er em =
-    then_some (child_of h parent call colour) (birth_of h ranks parent) birth made eb (then_some (λ x. child birth x parent call colour) (row_of h parent birth call) row made er em)
+    then_some (child_of h parent call colour) (birth_of h ranks parent) birth made eb (then_some (λ x. child h.operations birth x parent call colour) (row_of h parent birth call) row made er em)
 
 or_none_is : {A : Type 0} (o : Option (List A)) (i : ℕ) (x : A) → slice_get (or_none o) i ≡ Some x → (xs : List A) × (o ≡ Some xs) × (slice_get xs i ≡ Some x)
 or_none_is None i x e = cc e
@@ -58,16 +59,16 @@ named_born w name k made born i y e =
     (λ x is same. subst (λ (z : Name × BirthView). births w z.0 ≡ Some z.1) same (born i x is))
 
 -- what a board that tells the truth makes of a call is born
-pub children_born : (w : WorldView) (board : Look) (name : Name) (k : ℕ) → LookSo w board → (i : ℕ) (y : Name × BirthView) → slice_get (children_on board name k) i ≡ Some y → births w y.0 ≡ Some y.1
+pub children_born : (w : WorldView) (board : Look) (name : Name) (k : ℕ) → LookSo w board → (i : ℕ) (y : Name × BirthView) → slice_get (children_on w.operations board name k) i ≡ Some y → births w y.0 ≡ Some y.1
 children_born w board name k s i y e =
-    let some = or_none_is (option_and_then (λ birth. option_map (λ row. named_children name k (children birth row name k)) (row_on board name k)) (told (board.contexts name).birth)) i y e in
+    let some = or_none_is (option_and_then (λ birth. option_map (λ row. named_children name k (children w.operations birth row name k)) (row_on board name k)) (told (board.contexts name).birth)) i y e in
     option_and_then_some _ (told (board.contexts name).birth) some.0 some.1 (λ birth eb f.
-    option_map_some (λ row. named_children name k (children birth row name k)) (row_on board name k) some.0 f (λ row er same.
-    named_born w name k (children birth row name k)
+    option_map_some (λ row. named_children name k (children w.operations birth row name k)) (row_on board name k) some.0 f (λ row er same.
+    named_born w name k (children w.operations birth row name k)
     (λ j x is. child_born (history w) w.ranks name k x.colour birth x.birth row
     (told_agrees (board.contexts name).birth (births w name) birth (s.contexts_so name).birth_so eb)
     (row_whole w board name k birth row s eb er)
-    (children_exact birth row name k j x is))
+    (children_exact w.operations birth row name k j x is))
     i y (subst (λ xs. slice_get xs i ≡ Some y) (sym same) some.2)))
 
 -- and to tell so is true
@@ -83,20 +84,20 @@ ranked_has p ps rank e =
     list_any_at (λ q. q == p) ps rank 0 at.0 at.1
 
 -- the new communicator that a result gives a process is new to it
-pub given_is_new : (board : Look) (name : Name) (me k : ℕ) (finished : Finished) (new : Name) (size rank : ℕ) → result_of board name me k ≡ Some finished → finished.outcome ≡ NewComm new size rank → is_new_to me (children_on board name k) new ≡ true
-given_is_new board name me k finished new size rank e given =
+pub given_is_new : (ops : List Operation) (board : Look) (name : Name) (me k : ℕ) (finished : Finished) (new : Name) (size rank : ℕ) → result_of ops board name me k ≡ Some finished → finished.outcome ≡ NewComm new size rank → is_new_to me (children_on ops board name k) new ≡ true
+given_is_new ops board name me k finished new size rank e given =
     option_and_then_some _ (told ((board.contexts name).posts k me)) finished e (λ mine em f.
-    option_map_some _ (outcome_on board name me k) finished f (λ outcome eo same.
+    option_map_some _ (outcome_on ops board name me k) finished f (λ outcome eo same.
     option_and_then_some _ (told (board.contexts name).birth) outcome eo (λ birth eb r.
-    option_and_then_some (λ row. value_for birth me row name k) (row_on board name k) outcome r (λ row er ev.
+    option_and_then_some (λ row. value_for ops birth me row name k) (row_on board name k) outcome r (λ row er ev.
     let is : outcome ≡ NewComm new size rank = ap (λ (x : Finished). x.outcome) same ∙ given in
-    let i : IsNewCommunicator birth row name k me new size rank = new_communicator birth me row name k new size rank (ev ∙ ap Some is) in
-    let made : List (Name × BirthView) = named_children name k (children birth row name k) in
+    let i : IsNewCommunicator ops birth row name k me new size rank = new_communicator ops birth me row name k new size rank (ev ∙ ap Some is) in
+    let made : List (Name × BirthView) = named_children name k (children ops birth row name k) in
     let y : Name × BirthView = (Child k i.child.colour ∷ name, i.child.birth) in
-    let among : slice_get made i.place ≡ Some y = slice_get-map (λ (x : ChildView). let z : Name × BirthView = (Child k x.colour ∷ name, x.birth) in z) (children birth row name k) i.place ∙ ap (option_map (λ (x : ChildView). let z : Name × BirthView = (Child k x.colour ∷ name, x.birth) in z)) i.among in
-    let listed : children_on board name k ≡ made =
-    ap or_none (ap (option_and_then (λ b. option_map (λ row. named_children name k (children b row name k)) (row_on board name k))) eb
-    ∙ ap (option_map (λ row. named_children name k (children birth row name k))) er) in
+    let among : slice_get made i.place ≡ Some y = slice_get-map (λ (x : ChildView). let z : Name × BirthView = (Child k x.colour ∷ name, x.birth) in z) (children ops birth row name k) i.place ∙ ap (option_map (λ (x : ChildView). let z : Name × BirthView = (Child k x.colour ∷ name, x.birth) in z)) i.among in
+    let listed : children_on ops board name k ≡ made =
+    ap or_none (ap (option_and_then (λ b. option_map (λ row. named_children name k (children ops b row name k)) (row_on board name k))) eb
+    ∙ ap (option_map (λ row. named_children name k (children ops birth row name k))) er) in
     let new_to : is_new_to me made new ≡ true = any_at (λ (x : Name × BirthView). same_name new x.0 && has x.1.members me) made i.place y among
     (and_from _ _ (ap (same_name new) (sym i.named) ∙ name_itself new) (ranked_has me i.child.birth.members rank i.member)) in
     ap (λ xs. is_new_to me xs new) listed ∙ new_to))))

@@ -33,14 +33,14 @@ told_agree (known x) unknown o some a t b = cc t
 told_agree (known x) clash o some a t b = absurd b
 told_agree (known x) (known y) o some a t b = subst (λ z. same_given x z ≡ true) (same_Some x y (sym a ∙ b)) (given_equality.reflexive x)
 
-had_stands : (w : WorldView) (b : Look) → LookSo w b → (name : Name) (k p : ℕ) (v : FlatView Given) → v ≢ unknown → Agrees v (history w name k p) → (nat_lt k (b.contexts name).dropped || not (is_unknown ((b.contexts name).posts k p))) ≡ true
+had_stands : (w : WorldView) (b : Look) → LookSo w b → (name : Name) (k p : ℕ) (v : FlatView Given) → v ≢ unknown → Agrees v ((history w).post name k p) → (nat_lt k (b.contexts name).dropped || not (is_unknown ((b.contexts name).posts k p))) ≡ true
     → (k < (b.contexts name).dropped) ⊎ (flat_leq same_given v ((b.contexts name).posts k p) ≡ true)
 had_stands w b so name k p v some a h = by_answer (nat_lt k (b.contexts name).dropped) refl h where
   by_answer : (x : Bool) → nat_lt k (b.contexts name).dropped ≡ x → (x || not (is_unknown ((b.contexts name).posts k p))) ≡ true → (k < (b.contexts name).dropped) ⊎ (flat_leq same_given v ((b.contexts name).posts k p) ≡ true)
   by_answer true t g = inl (grind (arith, nat_tests, t))
-  by_answer false t g = inr (told_agree v ((b.contexts name).posts k p) (history w name k p) some a g ((so.contexts_so name).posts_so k p))
+  by_answer false t g = inr (told_agree v ((b.contexts name).posts k p) ((history w).post name k p) some a g ((so.contexts_so name).posts_so k p))
 
-posted_stands : (w : WorldView) (b : Look) → LookSo w b → (name : Name) (k p : ℕ) (v : FlatView Given) → v ≢ unknown → Agrees v (history w name k p) → is_posted (b.contexts name) k p ≡ true → Stands b (Held name k p v)
+posted_stands : (w : WorldView) (b : Look) → LookSo w b → (name : Name) (k p : ℕ) (v : FlatView Given) → v ≢ unknown → Agrees v ((history w).post name k p) → is_posted (b.contexts name) k p ≡ true → Stands b (Held name k p v)
 posted_stands w b so name k p v some a h = by_dead (b.contexts name).dead refl h where
   by_dead : (x : Bool) → (b.contexts name).dead ≡ x → (x || (nat_lt k (b.contexts name).dropped || not (is_unknown ((b.contexts name).posts k p)))) ≡ true → Stands b (Held name k p v)
   by_dead true t g = inl t
@@ -55,7 +55,7 @@ own_covers old new s t l p q name k r v lt has =
     let had : HasUpTo c name r (b.acks q name r) = has_above (old.each q).node.board c (l.kept q).board_kept name r (b.acks q name r) (so.acks_so q name r) in
     let later : LookSo new b = look_later old new l b so in
     posted_stands new c (board_so new q (new.each q) (t.processes q)) name k r v has.0
-    (subst (λ z. Agrees z (history new name k r)) has.1 ((later.contexts_so name).posts_so k r))
+    (subst (λ z. Agrees z ((history new).post name k r)) has.1 ((later.contexts_so name).posts_so k r))
     (had k lt)
 
 -- what covers below some numbers covers below lesser ones

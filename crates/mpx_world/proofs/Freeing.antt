@@ -4,6 +4,7 @@ use Rattle.std.specs.Prelude.{slice_get, option_and_then}
 use Rattle.std.proofs.lemmas.List.Quantifiers.{position-Some}
 use Rattle.std.proofs.lemmas.Option.{get_or_from_slice_get, option_and_then_some, same_Some, slice_get-get_or, slice_get_within}
 use Rattle.mpx_name.specs.Name.{Name}
+use Rattle.mpx_num.specs.declared.own.Operation.{Operation}
 use Rattle.mpx_post.specs.Posts.{Given, is_free, nothing_given}
 use Rattle.mpx_post.specs.Births.{BirthView, rank_in}
 use Rattle.mpx_post.specs.Rows.{RowView, all_of}
@@ -59,10 +60,10 @@ nothing_is Null t = cc t
 nothing_is (Fault fault) t = cc t
 
 -- who is given nothing has a rank, and the row is fine
-given_nothing : (birth : BirthView) (p : ℕ) (row : RowView) (name : Name) (k : ℕ) → value_for birth p row name k ≡ Some Nothing → (rank : ℕ) × (rank_in p birth.members ≡ Some rank) × IsFineWith birth.topology row
-given_nothing birth p row name k e =
-    option_and_then_some (λ rank. let o : Option Outcome = Some (value birth row name k rank) in o) (rank_in p birth.members) Nothing e (λ rank is given.
-    (rank, is, nothing-fine birth row name k rank (same_Some (value birth row name k rank) Nothing given)))
+given_nothing : (ops : List Operation) (birth : BirthView) (p : ℕ) (row : RowView) (name : Name) (k : ℕ) → value_for ops birth p row name k ≡ Some Nothing → (rank : ℕ) × (rank_in p birth.members ≡ Some rank) × IsFineWith birth.topology row
+given_nothing ops birth p row name k e =
+    option_and_then_some (λ rank. let o : Option Outcome = Some (value ops birth row name k rank) in o) (rank_in p birth.members) Nothing e (λ rank is given.
+    (rank, is, nothing-fine ops birth row name k rank (same_Some (value ops birth row name k rank) Nothing given)))
 
 -- the process at a rank
 ranked_at : (p : ℕ) (ps : List ℕ) (rank : ℕ) → rank_in p ps ≡ Some rank → slice_get ps rank ≡ Some p
@@ -74,8 +75,8 @@ ranked_at p ps rank e =
 pub free_done : (w : WorldView) (p : ℕ) (name : Name) (k n : ℕ) (r : Finished) → IsValue w p name k r → is_fine_free r ≡ true → k < n → HaveHarvested w name n (births w name) → IsFreed w name
 free_done w p name k n r v t l done =
     let both = both_true (is_free r.mine) (is_nothing r.outcome) t in
-    let nothing = given_nothing v.birth p v.row name k (v.outcome ∙ ap Some (nothing_is r.outcome both.1)) in
-    let own = all_of_at (history w name k) v.birth.members v.row v.whole nothing.0 p (ranked_at p v.birth.members nothing.0 nothing.1) in
+    let nothing = given_nothing w.operations v.birth p v.row name k (v.outcome ∙ ap Some (nothing_is r.outcome both.1)) in
+    let own = all_of_at ((history w).post name k) v.birth.members v.row v.whole nothing.0 p (ranked_at p v.birth.members nothing.0 nothing.1) in
     let mine : own.0 ≡ r.mine = same_Some own.0 r.mine (sym own.1 ∙ v.mine) in
     record {
       birth = v.birth;

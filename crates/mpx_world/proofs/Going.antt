@@ -4,6 +4,7 @@ use Rattle.std.specs.Prelude.{◌⊎◌, ℤ, All, slice_get, is_some, Result, O
 use Rattle.std.proofs.lemmas.Option.{same_Some}
 use Rattle.join_core.specs.declared.memory.OutOfMemory.{OutOfMemory}
 use Rattle.mpx_name.specs.Name.{Name}
+use Rattle.mpx_num.specs.declared.own.Operation.{Operation}
 use Rattle.mpx_post.specs.Posts.{Given}
 use Rattle.mpx_post.specs.Gatherings.{GatheringView}
 use Rattle.mpx_post.specs.declared.draft.Draft.{Draft}
@@ -26,7 +27,7 @@ use Rattle.mpx_world.specs.Soundness.{AgreeAcross, BoardsAgree}
 use Rattle.mpx_world.specs.Networks.{AllAgree, AreAmong, AreKept, AreNew, DeadStaysOn, Gives, GoesOn, HasPruned, IsNetwork, IsStep, IsTake, Network, NodesAgree, network_of, new_network, world_in}
 use Rattle.mpx_world.proofs.Lists.{cond_cases, itself, same_number, slice_get-push}
 use Rattle.mpx_world.proofs.Kept.{taken_node}
-use Rattle.mpx_world.proofs.Later.{Later}
+use Rattle.mpx_world.proofs.Later.{Later, later_goes_on}
 use Rattle.mpx_world.proofs.Reached.{agree_across, all_agree, dead_stays, own_seen}
 use Rattle.mpx_world.proofs.Covering.{digest_had}
 use Rattle.mpx_post.proofs.Lists.{set_cases, slice_get-append}
@@ -39,7 +40,7 @@ abbrev AreOf : WorldView → List NodeView → Type 0
 AreOf w nodes = (p : ℕ) (node : NodeView) → slice_get nodes p ≡ Some node → node ≡ (w.each p).node
 
 pub well : (n : Network) → IsNetwork n → IsWell (world_in n)
-well n s = well_by n.ranks n.size n.happenings s.may
+well n s = well_by n.operations n.ranks n.size n.happenings s.may
 
 -- nothing has happened
 by_nothing : (n : Network) (nodes : List NodeView) (parts : List Look) → IsNetwork n → AreOf (world_in n) nodes → AreAmong parts (world_in n).parts → GoesOn n nodes parts
@@ -48,20 +49,20 @@ by_nothing n nodes parts s each sent =
     record {
       later = [];
       network = record {
-        may = subst (MayGoOn (start n.ranks n.size)) same s.may;
-        each = subst (λ hs. AreOf (world_by n.ranks n.size hs) nodes) same each;
-        sent = subst (λ hs. AreAmong parts (world_by n.ranks n.size hs).parts) same sent;
+        may = subst (MayGoOn (start n.operations n.ranks n.size)) same s.may;
+        each = subst (λ hs. AreOf (world_by n.operations n.ranks n.size hs) nodes) same each;
+        sent = subst (λ hs. AreAmong parts (world_by n.operations n.ranks n.size hs).parts) same sent;
       };
     }
 
 -- this has happened
 by_happening : (n : Network) (h : Happening) (nodes : List NodeView) (parts : List Look) → IsNetwork n → MayHappen (world_in n) h → AreOf (happens (world_in n) h) nodes → AreAmong parts (happens (world_in n) h).parts → GoesOn n nodes parts
 by_happening n h nodes parts s m each sent =
-    let is : happens (world_in n) h ≡ world_by n.ranks n.size (n.happenings ++ h ∷ []) = sym (goes_on-append n.happenings (h ∷ []) (start n.ranks n.size)) in
+    let is : happens (world_in n) h ≡ world_by n.operations n.ranks n.size (n.happenings ++ h ∷ []) = sym (goes_on-append n.happenings (h ∷ []) (start n.operations n.ranks n.size)) in
     record {
       later = h ∷ [];
       network = record {
-        may = may_append n.happenings (h ∷ []) (start n.ranks n.size) s.may (m, tt);
+        may = may_append n.happenings (h ∷ []) (start n.operations n.ranks n.size) s.may (m, tt);
         each = subst (λ w. AreOf w nodes) is each;
         sent = subst (λ (w : WorldView). AreAmong parts w.parts) is sent;
       };
@@ -83,13 +84,17 @@ fewer_sent n nodes parts fewer among on = record {
   };
 }
 
-pub begins : (ranks size : ℕ) (nodes : List NodeView) → AreNew ranks size nodes → IsNetwork (new_network ranks size nodes)
-begins ranks size nodes new = record { may = tt; each = new; sent = λ i part e. cc e }
+pub begins : (ops : List Operation) (ranks size : ℕ) (nodes : List NodeView) → AreNew ranks size nodes → IsNetwork (new_network ops ranks size nodes)
+begins ops ranks size nodes new = record { may = tt; each = new; sent = λ i part e. cc e }
+
+-- its world has its operations
+operations_in : (n : Network) → (world_in n).operations ≡ n.operations
+operations_in n = sym (later_goes_on n.happenings (start n.operations n.ranks n.size)).operations
 
 -- ONE NODE CHANGES
 
-pub unchanged_step : (old new : NodeView) → new ≡ old → IsStep old new
-unchanged_step old new is n s p at =
+pub unchanged_step : (ops : List Operation) (old new : NodeView) → new ≡ old → IsStep ops old new
+unchanged_step ops old new is n s with_ops p at =
     let w = world_in n in
     by_nothing n (set n.nodes p new) n.parts s
     (λ q node e. set_cases n.nodes p q new node (λ v. v ≡ (w.each q).node) e (λ same. is ∙ s.each p old at ∙ ap (λ i. (w.each i).node) (sym same)) (λ there other. s.each q node there))
@@ -112,32 +117,32 @@ post_cases name (Err refusal) result old new h = inl h.1
 post_cases name (Ok given) (Ok call) old new h = inr (given, refl, h.1)
 post_cases name (Ok given) (Err e) old new h = inl h.1
 
-pub post_step : (old new : NodeView) (name : Name) (draft : Draft) (result : Result ℕ PostError) → MakesPost name (checked_on old name draft) result old new → IsStep old new
-post_step old new name draft result h n s p at = elim (post_cases name (checked_on old name draft) result old new h) [
-  | inl same ↦ unchanged_step old new same n s p at
-  | inr made ↦ by_step n p old new (posts name draft) (Posts p name draft) s at tt refl (let v = (world_in n).each p in let here = s.each p old at in
-      made.2 ∙ ap (post_at name made.0) here ∙ ap (λ r. (makes name r v).node) (sym (ap (λ x. checked_on x name draft) (sym here) ∙ made.1)))
+pub post_step : (ops : List Operation) (old new : NodeView) (name : Name) (draft : Draft) (result : Result ℕ PostError) → MakesPost name (checked_on ops old name draft) result old new → IsStep ops old new
+post_step ops old new name draft result h n s with_ops p at = elim (post_cases name (checked_on ops old name draft) result old new h) [
+  | inl same ↦ unchanged_step ops old new same n s with_ops p at
+  | inr made ↦ by_step n p old new (posts (world_in n).operations name draft) (Posts p name draft) s at tt refl (let v = (world_in n).each p in let here = s.each p old at in
+      made.2 ∙ ap (post_at name made.0) here ∙ ap (λ r. (makes name r v).node) (sym (ap (λ x. checked_on (world_in n).operations x name draft) (sym here) ∙ ap (λ o. checked_on o old name draft) (operations_in n ∙ with_ops) ∙ made.1)))
 ]
 
-opened_cases : (name : Name) (next : Option Finished) (result : Result Harvest OutOfMemory) (old new : NodeView) → HarvestsOpened name next result old new → (new ≡ old) ⊎ ((finished : Finished) × (next ≡ Some finished) × (new ≡ add_result name finished (made_next name old) old))
-opened_cases name (Some finished) (Ok (H.Done call)) old new h = inr (finished, refl, h.1)
-opened_cases name (Some finished) (Ok H.NotYet) old new h = absurd h
-opened_cases name (Some finished) (Ok H.NotOpened) old new h = absurd h
-opened_cases name (Some finished) (Err e) old new h = inl h
-opened_cases name None (Ok (H.Done call)) old new h = absurd h
-opened_cases name None (Ok H.NotYet) old new h = inl h
-opened_cases name None (Ok H.NotOpened) old new h = absurd h
-opened_cases name None (Err e) old new h = absurd h
+opened_cases : (ops : List Operation) (name : Name) (next : Option Finished) (result : Result Harvest OutOfMemory) (old new : NodeView) → HarvestsOpened ops name next result old new → (new ≡ old) ⊎ ((finished : Finished) × (next ≡ Some finished) × (new ≡ add_result name finished (made_next ops name old) old))
+opened_cases ops name (Some finished) (Ok (H.Done call)) old new h = inr (finished, refl, h.1)
+opened_cases ops name (Some finished) (Ok H.NotYet) old new h = absurd h
+opened_cases ops name (Some finished) (Ok H.NotOpened) old new h = absurd h
+opened_cases ops name (Some finished) (Err e) old new h = inl h
+opened_cases ops name None (Ok (H.Done call)) old new h = absurd h
+opened_cases ops name None (Ok H.NotYet) old new h = inl h
+opened_cases ops name None (Ok H.NotOpened) old new h = absurd h
+opened_cases ops name None (Err e) old new h = absurd h
 
-harvest_cases : (is_opened : Bool) (name : Name) (next : Option Finished) (result : Result Harvest OutOfMemory) (old new : NodeView) → Harvests is_opened name next result old new → (new ≡ old) ⊎ ((finished : Finished) × (next ≡ Some finished) × (new ≡ add_result name finished (made_next name old) old))
-harvest_cases false name next result old new h = inl h.1
-harvest_cases true name next result old new h = opened_cases name next result old new h
+harvest_cases : (ops : List Operation) (is_opened : Bool) (name : Name) (next : Option Finished) (result : Result Harvest OutOfMemory) (old new : NodeView) → Harvests ops is_opened name next result old new → (new ≡ old) ⊎ ((finished : Finished) × (next ≡ Some finished) × (new ≡ add_result name finished (made_next ops name old) old))
+harvest_cases ops false name next result old new h = inl h.1
+harvest_cases ops true name next result old new h = opened_cases ops name next result old new h
 
-pub harvest_step : (old new : NodeView) (name : Name) (result : Result Harvest OutOfMemory) → Harvests (is_some (old.opened name)) name (next_result old name) result old new → IsStep old new
-harvest_step old new name result h n s p at = elim (harvest_cases (is_some (old.opened name)) name (next_result old name) result old new h) [
-  | inl same ↦ unchanged_step old new same n s p at
-  | inr made ↦ by_step n p old new (harvests name) (HappensHarvest p name) s at tt refl (let v = (world_in n).each p in let here = s.each p old at in
-      made.2 ∙ ap (λ x. add_result name made.0 (made_next name x) x) here ∙ ap (λ o. (stores name o v).node) (sym (ap (λ x. next_result x name) (sym here) ∙ made.1)))
+pub harvest_step : (ops : List Operation) (old new : NodeView) (name : Name) (result : Result Harvest OutOfMemory) → Harvests ops (is_some (old.opened name)) name (next_result ops old name) result old new → IsStep ops old new
+harvest_step ops old new name result h n s with_ops p at = elim (harvest_cases ops (is_some (old.opened name)) name (next_result ops old name) result old new h) [
+  | inl same ↦ unchanged_step ops old new same n s with_ops p at
+  | inr made ↦ by_step n p old new (harvests (world_in n).operations name) (HappensHarvest p name) s at tt refl (let v = (world_in n).each p in let here = s.each p old at in let same = operations_in n ∙ with_ops in
+      made.2 ∙ ap (λ o. add_result name made.0 (made_next o name old) old) (sym same) ∙ ap (λ x. add_result name made.0 (made_next (world_in n).operations name x) x) here ∙ ap (λ o. (stores (world_in n).operations name o v).node) (sym (ap (λ x. next_result (world_in n).operations x name) (sym here) ∙ ap (λ o. next_result o old name) same ∙ made.1)))
 ]
 
 gather_cases : (parent : Name) (r : Result GatheringView PostError) (result : Result Name PostError) (old new : NodeView) → Opens parent r result old new → (new ≡ old) ⊎ ((g : GatheringView) × (r ≡ Ok g) × (new ≡ open_gathering_node parent g old))
@@ -145,19 +150,19 @@ gather_cases parent (Err refusal) result old new h = inl h.1
 gather_cases parent (Ok g) (Ok name) old new h = inr (g, refl, h.1)
 gather_cases parent (Ok g) (Err e) old new h = inl h.1
 
-pub gather_step : (old new : NodeView) (parent : Name) (tag : ℤ) (ranks : List ℤ) (result : Result Name PostError) → Opens parent (gathers_on old parent tag ranks) result old new → IsStep old new
-gather_step old new parent tag ranks result h n s p at = elim (gather_cases parent (gathers_on old parent tag ranks) result old new h) [
-  | inl same ↦ unchanged_step old new same n s p at
+pub gather_step : (ops : List Operation) (old new : NodeView) (parent : Name) (tag : ℤ) (ranks : List ℤ) (result : Result Name PostError) → Opens parent (gathers_on old parent tag ranks) result old new → IsStep ops old new
+gather_step ops old new parent tag ranks result h n s with_ops p at = elim (gather_cases parent (gathers_on old parent tag ranks) result old new h) [
+  | inl same ↦ unchanged_step ops old new same n s with_ops p at
   | inr made ↦ by_step n p old new (gathers parent tag ranks) (Gathers p parent tag ranks) s at tt refl (let v = (world_in n).each p in let here = s.each p old at in
       made.2 ∙ ap (open_gathering_node parent made.0) here ∙ ap (λ r. (opens_gathering parent r v).node) (sym (ap (λ x. gathers_on x parent tag ranks) (sym here) ∙ made.1)))
 ]
 
-pub prune_step : (old new : NodeView) (name : Name) (m : ℕ) (result : Result (Unit {0}) PruneError) → HasPruned name m result old new → IsStep old new
-prune_step old new name m (Ok u) h n s p at =
+pub prune_step : (ops : List Operation) (old new : NodeView) (name : Name) (m : ℕ) (result : Result (Unit {0}) PruneError) → HasPruned name m result old new → IsStep ops old new
+prune_step ops old new name m (Ok u) h n s with_ops p at =
     let v = (world_in n).each p in
     let here = s.each p old at in
     by_step n p old new (prunes name m) (Prunes p name m) s at tt refl (h.1 ∙ ap (λ x. learn_some (prune_part x name m) x) here ∙ sym (taken_node (prune_part v.node name m) v) ∙ ap (λ r. (drops name m r v).node) (h.0 ∙ ap (λ (x : NodeView). pruned_on x.board name m) here))
-prune_step old new name m (Err refusal) h n s p at = unchanged_step old new h.2 n s p at
+prune_step ops old new name m (Err refusal) h n s with_ops p at = unchanged_step ops old new h.2 n s with_ops p at
 
 pub take_step : (old new : NodeView) (part : Look) (result : Result (Unit {0}) OutOfMemory) → OnOk result (new ≡ learn part old) → OnErr result (StopsTaking part old new) → IsTake part old new
 take_step old new part (Ok u) ok err n s p at place sent =
@@ -172,8 +177,8 @@ take_step old new part (Err e) ok err n s p at place sent =
     let may : MayLeave v.node.board (slice_get (world_in n).parts there.0) new.board = subst (λ o. MayLeave v.node.board o new.board) (sym there.1) (subst (λ (x : NodeView). IsBetween x.board part new.board) here err.1) in
     by_step n p old new (learns new.board) (TakesPartly p there.0 new.board) s at may refl (err.0 ∙ sym (ap (λ b. record old { board = b }) err.1.joined) ∙ ap (learn new.board) here)
 
-pub deltas_step : (old new : NodeView) → SaysWhatItHas old new → IsStep old new
-deltas_step old new says n s p at =
+pub deltas_step : (ops : List Operation) (old new : NodeView) → SaysWhatItHas old new → IsStep ops old new
+deltas_step ops old new says n s with_ops p at =
     let here = s.each p old at in
     let may : MayHappen (world_in n) (Acknowledges p says.numbers) = subst (λ (x : NodeView). (name : Name) (m : ℕ) → HasUpTo x.board name m (says.numbers name m)) here (digest_had says.numbers old.board says.digest) in
     by_step n p old new (acknowledges says.numbers) (Acknowledges p says.numbers) s at may refl (says.learnt ∙ ap (acknowledge says.numbers) here)
@@ -211,7 +216,7 @@ parts_given node made all n s p at = gives_all made n p node s at (all_facts nod
 -- AGREEMENT
 
 pub later_on : (n : Network) (nodes : List NodeView) (parts : List Look) (on : GoesOn n nodes parts) → Later (world_in n) (world_in (network_of on))
-later_on n nodes parts on = later_by n.ranks n.size n.happenings on.later
+later_on n nodes parts on = later_by n.operations n.ranks n.size n.happenings on.later
 
 pub across : (n : Network) (nodes : List NodeView) (parts : List Look) → IsNetwork n → (on : GoesOn n nodes parts) → (p q : ℕ) → AgreeAcross (world_in n) (world_in (network_of on)) p q
 across n nodes parts s on = agree_across (world_in n) (world_in (network_of on)) (later_on n nodes parts on) (well n s).holds (well (network_of on) on.network).holds

@@ -8,6 +8,7 @@ use Rattle.mpx_post.specs.declared.draft.Draft.{Draft}
 use Rattle.mpx_post.specs.declared.draft.PostError.{PostError}
 use Rattle.mpx_post.specs.declared.draft.PostError.TheVariants.{Closed}
 use Rattle.mpx_name.specs.Name.{Name, same_name}
+use Rattle.mpx_num.specs.declared.own.Operation.{Operation}
 use Rattle.mpx_board.specs.Boards.{Look, join, join_all, told}
 use Rattle.mpx_value.specs.declared.outcomes.Outcome.TheVariants.{NewComm}
 use Rattle.mpx_value.specs.Histories.{Made, has_freed, posts_on}
@@ -93,7 +94,7 @@ ends_push xs x none k given e = slice_get-push_cases (λ y j. is_free y ≡ true
     (λ is last free. length-append xs (x ∷ []) ∙ omega (arith, last))
 
 -- the new post is there in the new world
-made_there : (w : WorldView) (p : ℕ) (name : Name) (given : Given) (v : ProcessView) → w.each p ≡ makes name (Ok given) v → Good w p v → history w name (posted_on v.node name) p ≡ Some given
+made_there : (w : WorldView) (p : ℕ) (name : Name) (given : Given) (v : ProcessView) → w.each p ≡ makes name (Ok given) v → Good w p v → (history w).post name (posted_on v.node name) p ≡ Some given
 made_there w p name given v here g =
     let new : Made = record { name = name; given = given } in
     let k = posted_on v.node name in
@@ -105,7 +106,7 @@ made_there w p name given v here g =
 pub good_makes : (w : WorldView) (p : ℕ) (name : Name) (given : Given) (v : ProcessView) (o : OpenedView) → w.each p ≡ makes name (Ok given) v → v.node.opened name ≡ Some o → o.freed ≡ false → Good w p v → Good w p (makes name (Ok given) v)
 good_makes w p name given v o here open' unfreed g =
     let new : Made = record { name = name; given = given } in
-    let there : history w name (posted_on v.node name) v.node.me ≡ Some given = ap (history w name (posted_on v.node name)) g.me_is ∙ made_there w p name given v here g in
+    let there : (history w).post name (posted_on v.node name) v.node.me ≡ Some given = ap ((history w).post name (posted_on v.node name)) g.me_is ∙ made_there w p name given v here g in
     record {
       me_is = g.me_is;
       joined = joined_more w p v (post_fact name given v.node) g;
@@ -126,14 +127,14 @@ not_closed true r given e = cc e
 not_closed false r given e = refl
 
 -- a post is made on an opened context alone, and behind no own free
-checked_opened : (x : Option OpenedView) (birth : Option BirthView) (me : ℕ) (name : Name) (draft : Draft) (given : Given) → checked_by x birth me name draft ≡ Ok given → (o : OpenedView) × (x ≡ Some o) × (o.freed ≡ false)
-checked_opened None birth me name draft given e = cc e
-checked_opened (Some o) birth me name draft given e = (o, refl, not_closed o.freed (checked_there o.posted birth me name draft) given e)
+checked_opened : (ops : List Operation) (x : Option OpenedView) (birth : Option BirthView) (me : ℕ) (name : Name) (draft : Draft) (given : Given) → checked_by ops x birth me name draft ≡ Ok given → (o : OpenedView) × (x ≡ Some o) × (o.freed ≡ false)
+checked_opened ops None birth me name draft given e = cc e
+checked_opened ops (Some o) birth me name draft given e = (o, refl, not_closed o.freed (checked_there ops o.posted birth me name draft) given e)
 
-pub good_posts : (w : WorldView) (p : ℕ) (name : Name) (draft : Draft) (v : ProcessView) → w.each p ≡ posts name draft v → Good w p v → Good w p (posts name draft v)
-good_posts w p name draft v here g = by_answer (checked_on v.node name draft) refl here where
-  by_answer : (r : Result Given PostError) → checked_on v.node name draft ≡ r → w.each p ≡ makes name r v → Good w p (makes name r v)
+pub good_posts : (w : WorldView) (p : ℕ) (name : Name) (draft : Draft) (v : ProcessView) → w.each p ≡ posts w.operations name draft v → Good w p v → Good w p (posts w.operations name draft v)
+good_posts w p name draft v here g = by_answer (checked_on w.operations v.node name draft) refl here where
+  by_answer : (r : Result Given PostError) → checked_on w.operations v.node name draft ≡ r → w.each p ≡ makes name r v → Good w p (makes name r v)
   by_answer (Ok given) e h =
-      let o = checked_opened (v.node.opened name) (told (v.node.board.contexts name).birth) v.node.me name draft given e in
+      let o = checked_opened w.operations (v.node.opened name) (told (v.node.board.contexts name).birth) v.node.me name draft given e in
       good_makes w p name given v o.0 h o.1 o.2 g
   by_answer (Err refusal) e h = g

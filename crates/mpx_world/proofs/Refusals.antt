@@ -1,7 +1,8 @@
 -- What is refused changes nothing.
-use Rattle.std.proofs.Common.{◌≡◌, ℕ, Bool, true, false, cond, Option, Some, None, refl}
+use Rattle.std.proofs.Common.{◌≡◌, ℕ, Bool, true, false, cond, List, Option, Some, None, refl}
 use Rattle.std.specs.Prelude.{slice_get, nat_lt, is_some, IsTrue, Result, Ok, Err}
 use Rattle.mpx_name.specs.Name.{Name}
+use Rattle.mpx_num.specs.declared.own.Operation.{Operation}
 use Rattle.mpx_post.specs.Gatherings.{GatheringView}
 use Rattle.mpx_post.specs.Posts.{Given}
 use Rattle.mpx_post.specs.declared.draft.PostError.{PostError}
@@ -21,13 +22,13 @@ post_same : (call : ℕ) (name : Name) (r : Result Given PostError) (v : Process
 post_same call name (Ok given) v t = cc t
 post_same call name (Err refusal) v t = refl
 
-next_same : (front : ℕ) (name : Name) (next : Option Finished) (v : ProcessView) → IsTrue (is_refusal (reply_to_harvest true front next)) → stores name next v ≡ v
-next_same front name None v t = refl
-next_same front name (Some finished) v t = cc t
+next_same : (ops : List Operation) (front : ℕ) (name : Name) (next : Option Finished) (v : ProcessView) → IsTrue (is_refusal (reply_to_harvest true front next)) → stores ops name next v ≡ v
+next_same ops front name None v t = refl
+next_same ops front name (Some finished) v t = cc t
 
-harvest_same : (front : ℕ) (name : Name) (x : Option OpenedView) (board : Look) (me : ℕ) (v : ProcessView) → IsTrue (is_refusal (reply_to_harvest (is_some x) front (next_of x board name me))) → stores name (next_of x board name me) v ≡ v
-harvest_same front name None board me v t = refl
-harvest_same front name (Some o) board me v t = next_same front name (next_of (Some o) board name me) v t
+harvest_same : (ops : List Operation) (front : ℕ) (name : Name) (x : Option OpenedView) (board : Look) (me : ℕ) (v : ProcessView) → IsTrue (is_refusal (reply_to_harvest (is_some x) front (next_of ops x board name me))) → stores ops name (next_of ops x board name me) v ≡ v
+harvest_same ops front name None board me v t = refl
+harvest_same ops front name (Some o) board me v t = next_same ops front name (next_of ops (Some o) board name me) v t
 
 gather_same : (parent : Name) (r : Result GatheringView PostError) (v : ProcessView) → IsTrue (is_refusal (reply_to_gather parent r)) → opens_gathering parent r v ≡ v
 gather_same parent (Ok g) v t = cc t
@@ -45,8 +46,8 @@ same_at : (w : WorldView) (p : ℕ) (step : ProcessView → ProcessView) → ste
 same_at w p step e = record { each = at_cases p step w.each (λ q v. v ≡ w.each q) e (λ q. refl); parts = refl }
 
 there_same : (w : WorldView) (e : Event) → IsTrue (is_refusal (reply_of w e)) → IsSame w (happens w (happening_of w e))
-there_same w (E.Post p name draft) t = same_at w p (posts name draft) (post_same (posted_on (w.each p).node name) name (checked_on (w.each p).node name draft) (w.each p) t)
-there_same w (E.Harvest p name) t = same_at w p (harvests name) (harvest_same (front_on (w.each p).node name) name ((w.each p).node.opened name) (w.each p).node.board (w.each p).node.me (w.each p) t)
+there_same w (E.Post p name draft) t = same_at w p (posts w.operations name draft) (post_same (posted_on (w.each p).node name) name (checked_on w.operations (w.each p).node name draft) (w.each p) t)
+there_same w (E.Harvest p name) t = same_at w p (harvests w.operations name) (harvest_same w.operations (front_on (w.each p).node name) name ((w.each p).node.opened name) (w.each p).node.board (w.each p).node.me (w.each p) t)
 there_same w (E.Gather p parent tag ranks) t = same_at w p (gathers parent tag ranks) (gather_same parent (gathers_on (w.each p).node parent tag ranks) (w.each p) t)
 there_same w (E.Prune p name n) t = same_at w p (prunes name n) (prune_same name n (pruned_on (w.each p).node.board name n) (w.each p) t)
 there_same w (E.Send p cut) t = cc t

@@ -1,12 +1,11 @@
 -- Boards that were told the same facts are one board.
-use Rattle.std.proofs.Common.{◌≡◌, ℕ, ◌<◌, ◌≤◌, max, Bool, true, false, ◌||◌, List, [], ◌∷◌, inl, inr, refl, sym, ◌∙◌, arith}
+use Rattle.std.proofs.Common.{◌≡◌, ℕ, ◌<◌, ◌≤◌, max, true, false, ◌||◌, List, [], ◌∷◌, inl, inr, refl, sym, ◌∙◌, arith}
 use Rattle.std.specs.Prelude.{◌⊎◌, nat_le}
 use Rattle.std.specs.List.{fold}
 use Rattle.std.proofs.lemmas.Bool.Decides.{nat_tests}
 use Rattle.join_core.specs.Flat.{FlatView, unknown, flat_leq}
 use Rattle.mpx_post.specs.Births.{BirthView, same_birth}
 use Rattle.mpx_post.specs.Posts.{Given}
-use Rattle.mpx_post.specs.Equality.{same_given}
 use Rattle.mpx_name.specs.Name.{Name}
 use Rattle.mpx_board.specs.Boards.{Context, Look, IsGone, gone, join, join_all, join_live, empty, Fact, Born, Held, Front, Dropped, Dead, Acknowledged, Stands, IsBelow}
 use Rattle.mpx_board.proofs.Facts.{IsPostUnder, IsLiveUnder, IsContextUnder, IsUnder, looks_below, facts_below, join_all_is_least, births_order, posts_order}

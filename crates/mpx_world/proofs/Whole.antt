@@ -1,6 +1,7 @@
 -- All that is kept along lists of events and of what happens.
 use Rattle.std.proofs.Common.{◌≡◌, ℕ, List, [], ◌∷◌, ◌++◌, refl, sym, ap, ◌∙◌, subst}
 use Rattle.std.specs.Prelude.{nat_lt}
+use Rattle.mpx_num.specs.declared.own.Operation.{Operation}
 use Rattle.mpx_world.specs.declared.events.Event.{Event}
 use Rattle.mpx_world.specs.Worlds.{WorldView, Happening, happens, MayHappen, goes_on, MayGoOn, start, world_by}
 use Rattle.mpx_world.specs.Events.{process_of, happening_of, does, does_all, world_after}
@@ -17,8 +18,8 @@ pub record IsWell (w : WorldView) : Type 0 where
   pub stores : AllStore w
   pub members : AllIn w
 
-pub well_start : (ranks size : ℕ) → IsWell (start ranks size)
-well_start ranks size = record { holds = holds_start ranks size; stores = stores_start ranks size; members = in_start ranks size }
+pub well_start : (ops : List Operation) (ranks size : ℕ) → IsWell (start ops ranks size)
+well_start ops ranks size = record { holds = holds_start ops ranks size; stores = stores_start ops ranks size; members = in_start ops ranks size }
 
 pub well_happens : (w : WorldView) (h : Happening) → MayHappen w h → IsWell w → IsWell (happens w h)
 well_happens w h m s = record {
@@ -84,14 +85,14 @@ leads_all (e ∷ es) w s = leads_on w (does w e) (does_all (does w e) es) (leads
 
 -- FROM THE START
 
-pub well_after : (ranks size : ℕ) (es : List Event) → IsWell (world_after ranks size es)
-well_after ranks size es = well_does_all es (start ranks size) (well_start ranks size)
+pub well_after : (ops : List Operation) (ranks size : ℕ) (es : List Event) → IsWell (world_after ops ranks size es)
+well_after ops ranks size es = well_does_all es (start ops ranks size) (well_start ops ranks size)
 
-pub well_by : (ranks size : ℕ) (hs : List Happening) → MayGoOn (start ranks size) hs → IsWell (world_by ranks size hs)
-well_by ranks size hs m = well_goes_on hs (start ranks size) m (well_start ranks size)
+pub well_by : (ops : List Operation) (ranks size : ℕ) (hs : List Happening) → MayGoOn (start ops ranks size) hs → IsWell (world_by ops ranks size hs)
+well_by ops ranks size hs m = well_goes_on hs (start ops ranks size) m (well_start ops ranks size)
 
-pub later_after : (ranks size : ℕ) (es later : List Event) → Later (world_after ranks size es) (world_after ranks size (es ++ later))
-later_after ranks size es later = let old = world_after ranks size es in subst (Later old) (sym (does_all-append es later (start ranks size))) (later_does_all later old)
+pub later_after : (ops : List Operation) (ranks size : ℕ) (es later : List Event) → Later (world_after ops ranks size es) (world_after ops ranks size (es ++ later))
+later_after ops ranks size es later = let old = world_after ops ranks size es in subst (Later old) (sym (does_all-append es later (start ops ranks size))) (later_does_all later old)
 
-pub later_by : (ranks size : ℕ) (hs later : List Happening) → Later (world_by ranks size hs) (world_by ranks size (hs ++ later))
-later_by ranks size hs later = let old = world_by ranks size hs in subst (Later old) (sym (goes_on-append hs later (start ranks size))) (later_goes_on later old)
+pub later_by : (ops : List Operation) (ranks size : ℕ) (hs later : List Happening) → Later (world_by ops ranks size hs) (world_by ops ranks size (hs ++ later))
+later_by ops ranks size hs later = let old = world_by ops ranks size hs in subst (Later old) (sym (goes_on-append hs later (start ops ranks size))) (later_goes_on later old)

@@ -4,6 +4,7 @@ use Rattle.join_core.specs.Flat.{known}
 use Rattle.join_core.specs.declared.memory.OutOfMemory.{OutOfMemory}
 use Rattle.mpx_post.specs.Births.{BirthView}
 use Rattle.mpx_name.specs.Name.{Name}
+use Rattle.mpx_num.specs.declared.own.Operation.{Operation}
 use Rattle.mpx_board.specs.Boards.{Look, IsBelow, join_all}
 use Rattle.mpx_delta.specs.Digests.{Numbers, without}
 use Rattle.mpx_node.specs.declared.node.Harvest.{Harvest}
@@ -35,22 +36,22 @@ pub record IsEnough (earlier : WorldView → Type 0) (node : NodeView) (name : N
   pub each : (birth : BirthView) → (node.board.contexts name).birth ≡ known birth → (rank q : ℕ) → slice_get birth.members rank ≡ Some q → (q ≡ node.me) ⊎ HasAllOf earlier node.board q name k
 
 -- the moments on the way to the world after these events, of which it is one
-pub record WasAfter (ranks size : ℕ) (es : List Event) (w : WorldView) : Type 0 where
+pub record WasAfter (ops : List Operation) (ranks size : ℕ) (es : List Event) (w : WorldView) : Type 0 where
   pub early : List Event
   pub late : List Event
   pub all : early ++ late ≡ es
-  pub is : world_after ranks size early ≡ w
+  pub is : world_after ops ranks size early ≡ w
 
 -- those on the way to the world to which what happened leads
-pub record WasBy (ranks size : ℕ) (hs : List Happening) (w : WorldView) : Type 0 where
+pub record WasBy (ops : List Operation) (ranks size : ℕ) (hs : List Happening) (w : WorldView) : Type 0 where
   pub early : List Happening
   pub late : List Happening
   pub all : early ++ late ≡ hs
-  pub is : world_by ranks size early ≡ w
+  pub is : world_by ops ranks size early ≡ w
 
 -- those of a network
 abbrev pub was_in : Network → WorldView → Type 0
-was_in n = WasBy n.ranks n.size n.happenings
+was_in n = WasBy n.operations n.ranks n.size n.happenings
 
 -- at one of these moments a process's node was this one
 pub record WasNode (n : Network) (q : ℕ) (node : NodeView) : Type 0 where
@@ -63,21 +64,21 @@ pub record WasNode (n : Network) (q : ℕ) (node : NodeView) : Type 0 where
 -- so many harvests on a context in turn, each of which finds the next result
 abbrev pub AreDone : WorldView → ℕ → Name → (count : ℕ) → Type 0
 AreDone w p name zero = Unit {0}
-AreDone w p name (suc n) = IsTrue (is_some (next_result (w.each p).node name)) × AreDone (happens w (Harvests p name)) p name n
+AreDone w p name (suc n) = IsTrue (is_some (next_result w.operations (w.each p).node name)) × AreDone (happens w (Harvests p name)) p name n
 
 -- a process's harvests on a context are done up to call k
 abbrev pub AreDoneUpTo : WorldView → ℕ → Name → ℕ → Type 0
 AreDoneUpTo w p name k = (count : ℕ) → own_front w name p + count ≤ k + 1 → AreDone w p name count
 
 -- so many harvests of a node on a context in turn: each that has the memory answers that the next call is done, and so do the others then
-abbrev pub AnswerDone : NodeView → Name → (count : ℕ) → Type 0
-AnswerDone node name zero = Unit {0}
-AnswerDone node name (suc n) = (new : NodeView) (result : Result Harvest OutOfMemory) → AnswersHarvest (is_some (node.opened name)) name (next_result node name) result node new
-    → IfOk result (λ answer. (answer ≡ Done (front_on node name)) × AnswerDone new name n)
+abbrev pub AnswerDone : List Operation → NodeView → Name → (count : ℕ) → Type 0
+AnswerDone ops node name zero = Unit {0}
+AnswerDone ops node name (suc n) = (new : NodeView) (result : Result Harvest OutOfMemory) → AnswersHarvest ops (is_some (node.opened name)) name (next_result ops node name) result node new
+    → IfOk result (λ answer. (answer ≡ Done (front_on node name)) × AnswerDone ops new name n)
 
 -- a node's harvests on a context answer so up to call k
-abbrev pub AnswerDoneUpTo : NodeView → Name → ℕ → Type 0
-AnswerDoneUpTo node name k = (count : ℕ) → front_on node name + count ≤ k + 1 → AnswerDone node name count
+abbrev pub AnswerDoneUpTo : List Operation → NodeView → Name → ℕ → Type 0
+AnswerDoneUpTo ops node name k = (count : ℕ) → front_on node name + count ≤ k + 1 → AnswerDone ops node name count
 
 -- so many harvests on a context
 abbrev pub harvests_on : Name → (process count : ℕ) → List Event
@@ -106,5 +107,5 @@ abbrev pub StandOn : (parts : List Look) → (board : Look) → Type 0
 StandOn parts board = (i : ℕ) (part : Look) → slice_get parts i ≡ Some part → IsBelow part board
 
 -- first a process sent its whole board, and then another took that part
-abbrev pub sends_and_takes : (ranks size : ℕ) → (early : List Event) → (q : ℕ) → (middle : List Event) → (p : ℕ) → (late : List Event) → List Event
-sends_and_takes ranks size early q middle p late = early ++ E.Send q C.Whole ∷ (middle ++ E.Take p (length (world_after ranks size early).parts) ∷ late)
+abbrev pub sends_and_takes : List Operation → (ranks size : ℕ) → (early : List Event) → (q : ℕ) → (middle : List Event) → (p : ℕ) → (late : List Event) → List Event
+sends_and_takes ops ranks size early q middle p late = early ++ E.Send q C.Whole ∷ (middle ++ E.Take p (length (world_after ops ranks size early).parts) ∷ late)

@@ -1,6 +1,7 @@
 -- Networks: nodes of one's own, and the parts of boards that go between them by one's own means.
 use Rattle.std.specs.Prelude.{◌≡◌, ℕ, List, [], ◌++◌, set, slice_get, Some, Result, OnOk, OnErr}
 use Rattle.mpx_name.specs.Name.{Name}
+use Rattle.mpx_num.specs.declared.own.Operation.{Operation}
 use Rattle.mpx_board.specs.declared.errors.PruneError.{PruneError}
 use Rattle.mpx_board.specs.Boards.{Look, IsGone, gone}
 use Rattle.mpx_board.specs.Changes.{pruned_on}
@@ -9,17 +10,18 @@ use Rattle.mpx_node.specs.Nodes.{NodeView, learn_some, prune_part, start_node, r
 use Rattle.mpx_world.specs.Worlds.{WorldView, Happening, MayGoOn, start, world_by}
 use Rattle.mpx_world.specs.Soundness.{BoardsAgree, OfOneRow}
 
--- so many processes, of which the first are the ranks, what has happened, nodes, each at the place of its number, and parts of boards
+-- so many processes, of which the first are the ranks, the operations of the job's own, what has happened, nodes, each at the place of its number, and parts of boards
 pub record Network : Type 0 where
   pub ranks : ℕ
   pub size : ℕ
+  pub operations : List Operation
   pub happenings : List Happening
   pub nodes : List NodeView
   pub parts : List Look
 
 -- the world that this leads to from the start
 abbrev pub world_in : Network → WorldView
-world_in n = world_by n.ranks n.size n.happenings
+world_in n = world_by n.operations n.ranks n.size n.happenings
 
 -- each of these boards is one of those
 abbrev pub AreAmong : (these those : List Look) → Type 0
@@ -27,13 +29,13 @@ AreAmong these those = (i : ℕ) (part : Look) → slice_get these i ≡ Some pa
 
 -- the nodes are those of the processes of one world to which what can happen leads, and the parts were sent in it
 pub record IsNetwork (n : Network) : Type 0 where
-  pub may : MayGoOn (start n.ranks n.size) n.happenings
+  pub may : MayGoOn (start n.operations n.ranks n.size) n.happenings
   pub each : (p : ℕ) (node : NodeView) → slice_get n.nodes p ≡ Some node → node ≡ ((world_in n).each p).node
   pub sent : AreAmong n.parts (world_in n).parts
 
 -- at the start, where nothing has happened and nothing was sent
-abbrev pub new_network : (ranks size : ℕ) → List NodeView → Network
-new_network ranks size nodes = record { ranks = ranks; size = size; happenings = []; nodes = nodes; parts = [] }
+abbrev pub new_network : List Operation → (ranks size : ℕ) → List NodeView → Network
+new_network ops ranks size nodes = record { ranks = ranks; size = size; operations = ops; happenings = []; nodes = nodes; parts = [] }
 
 -- each of these nodes is the process of its number before any post
 abbrev pub AreNew : (ranks size : ℕ) → List NodeView → Type 0
@@ -54,9 +56,9 @@ pub record GoesOn (n : Network) (nodes : List NodeView) (parts : List Look) : Ty
 abbrev pub network_of : {n : Network} {nodes : List NodeView} {parts : List Look} → GoesOn n nodes parts → Network
 network_of {n} {nodes} {parts} on = later_network n on.later nodes parts
 
--- a step of one node: each network that has the node goes on by it
-abbrev pub IsStep : (old new : NodeView) → Type 0
-IsStep old new = (n : Network) → IsNetwork n → (p : ℕ) → slice_get n.nodes p ≡ Some old → GoesOn n (set n.nodes p new) n.parts
+-- a step of one node, with these operations: each network with them that has the node goes on by it
+abbrev pub IsStep : List Operation → (old new : NodeView) → Type 0
+IsStep ops old new = (n : Network) → IsNetwork n → n.operations ≡ ops → (p : ℕ) → slice_get n.nodes p ≡ Some old → GoesOn n (set n.nodes p new) n.parts
 
 -- what a pruning leaves: just these calls are dropped, where they may be, or the context is dead
 abbrev pub HasPruned : Name → ℕ → Result (Unit {0}) PruneError → (old new : NodeView) → Type 0

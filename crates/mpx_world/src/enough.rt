@@ -1,6 +1,7 @@
 //! How a process comes to have all that another one told, as a call that a contract can name: it does nothing.
 ghost use Rattle.std.specs.Prelude.{◌≡◌, ◌<◌, List, ◌∷◌, ◌++◌, IsTrue, is_some, slice_get, Some, ℕ};
 ghost use Rattle.mpx_name.specs.Name.{Name};
+ghost use Rattle.mpx_num.specs.declared.own.Operation.{Operation};
 ghost use Rattle.mpx_board.specs.Boards.{Look, IsBelow, join_all};
 ghost use Rattle.mpx_node.specs.Deltas.{lacking_on};
 ghost use Rattle.mpx_node.specs.Nodes.{NodeView, learn, posted_on};
@@ -24,24 +25,24 @@ ghost use Rattle.mpx_world.specs.Enough.{AnswerDoneUpTo, AreDoneUpTo, HasAllOf, 
 pub fn one_part_of_each_is_enough()
     ensures deltas { (node : NodeView) (p : ℕ) (parts : List Look) → p < node.processes → join_all parts ≡ lacking_on node
         → TellAll p node.board parts }
-    ensures sent { (ranks size : ℕ) (es early middle late : List Event) (p q : ℕ) → p < size → q < size
-        → sends_and_takes ranks size early q middle p late ≡ es
-        → IsBelow ((world_after ranks size early).each q).node.board ((world_after ranks size es).each p).node.board }
-    ensures taken_by_event { (ranks size : ℕ) (es early late : List Event) (p place : ℕ) (part : Look) → p < size
-        → early ++ E.Take p place ∷ late ≡ es → slice_get (world_after ranks size early).parts place ≡ Some part
-        → IsBelow part ((world_after ranks size es).each p).node.board }
-    ensures told_by_events { (ranks size : ℕ) (es early late : List Event) → early ++ late ≡ es → (p q : ℕ) (parts : List Look)
-        → TellAll p ((world_after ranks size early).each q).node.board parts
-        → StandOn parts ((world_after ranks size es).each p).node.board
-        → IsBelow ((world_after ranks size early).each q).node.board ((world_after ranks size es).each p).node.board }
-    ensures taken { (ranks size : ℕ) (hs early late : List Happening) → MayGoOn (start ranks size) hs
+    ensures sent { (ops : List Operation) (ranks size : ℕ) (es early middle late : List Event) (p q : ℕ) → p < size → q < size
+        → sends_and_takes ops ranks size early q middle p late ≡ es
+        → IsBelow ((world_after ops ranks size early).each q).node.board ((world_after ops ranks size es).each p).node.board }
+    ensures taken_by_event { (ops : List Operation) (ranks size : ℕ) (es early late : List Event) (p place : ℕ) (part : Look) → p < size
+        → early ++ E.Take p place ∷ late ≡ es → slice_get (world_after ops ranks size early).parts place ≡ Some part
+        → IsBelow part ((world_after ops ranks size es).each p).node.board }
+    ensures told_by_events { (ops : List Operation) (ranks size : ℕ) (es early late : List Event) → early ++ late ≡ es → (p q : ℕ) (parts : List Look)
+        → TellAll p ((world_after ops ranks size early).each q).node.board parts
+        → StandOn parts ((world_after ops ranks size es).each p).node.board
+        → IsBelow ((world_after ops ranks size early).each q).node.board ((world_after ops ranks size es).each p).node.board }
+    ensures taken { (ops : List Operation) (ranks size : ℕ) (hs early late : List Happening) → MayGoOn (start ops ranks size) hs
         → (p place : ℕ) (part : Look) → early ++ Takes p place ∷ late ≡ hs
-        → slice_get (world_by ranks size early).parts place ≡ Some part
-        → IsBelow part ((world_by ranks size hs).each p).node.board }
-    ensures told { (ranks size : ℕ) (hs early late : List Happening) → MayGoOn (start ranks size) hs → early ++ late ≡ hs
-        → (p q : ℕ) (parts : List Look) → TellAll p ((world_by ranks size early).each q).node.board parts
-        → StandOn parts ((world_by ranks size hs).each p).node.board
-        → IsBelow ((world_by ranks size early).each q).node.board ((world_by ranks size hs).each p).node.board }
+        → slice_get (world_by ops ranks size early).parts place ≡ Some part
+        → IsBelow part ((world_by ops ranks size hs).each p).node.board }
+    ensures told { (ops : List Operation) (ranks size : ℕ) (hs early late : List Happening) → MayGoOn (start ops ranks size) hs → early ++ late ≡ hs
+        → (p q : ℕ) (parts : List Look) → TellAll p ((world_by ops ranks size early).each q).node.board parts
+        → StandOn parts ((world_by ops ranks size hs).each p).node.board
+        → IsBelow ((world_by ops ranks size early).each q).node.board ((world_by ops ranks size hs).each p).node.board }
     ensures now { (n : Network) → IsNetwork n → (q : ℕ) (node : NodeView) → slice_get n.nodes q ≡ Some node → WasNode n q node }
     ensures since { (n : Network) (nodes : List NodeView) (parts : List Look) (on : GoesOn n nodes parts) (q : ℕ) (node : NodeView)
         → WasNode n q node → WasNode (network_of on) q node }
@@ -53,5 +54,5 @@ pub fn one_part_of_each_is_enough()
         → WasNode n q sender → (parts : List Look) → TellAll p sender.board parts → StandOn parts node.board
         → (name : Name) (k : ℕ) → k < posted_on sender name → HasAllOf (was_in n) node.board q name k }
     ensures answers { (w : WorldView) (p : ℕ) (name : Name) (k : ℕ) → IsTrue (is_some ((w.each p).node.opened name))
-        → AreDoneUpTo w p name k → AnswerDoneUpTo (w.each p).node name k }
+        → AreDoneUpTo w p name k → AnswerDoneUpTo w.operations (w.each p).node name k }
 {}

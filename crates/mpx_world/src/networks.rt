@@ -2,6 +2,7 @@
 ghost use Rattle.std.specs.Prelude.{◌≡◌, All, List, [], ◌∷◌, map, slice_get, Some, ℕ, ℤ, OnErr, OnOk, Result, is_some};
 ghost use Rattle.join_core.specs.declared.memory.OutOfMemory.{OutOfMemory};
 ghost use Rattle.mpx_name.specs.Name.{Name};
+ghost use Rattle.mpx_num.specs.declared.own.Operation.{Operation};
 ghost use Rattle.mpx_post.specs.declared.draft.Draft.{Draft};
 ghost use Rattle.mpx_post.specs.declared.draft.PostError.{PostError};
 ghost use Rattle.mpx_board.specs.declared.board.Board.{Board};
@@ -20,7 +21,8 @@ ghost use Rattle.mpx_world.specs.Networks.{AllAgree, AreAmong, AreKept, AreNew, 
 /// Nodes that were just made, each at the place of its number and all for the same numbers of ranks and processes, are a network in
 /// which nothing has happened.
 pub fn networks_begin()
-    ensures { (ranks size : ℕ) (nodes : List NodeView) → AreNew ranks size nodes → IsNetwork (new_network ranks size nodes) }
+    ensures { (ops : List Operation) (ranks size : ℕ) (nodes : List NodeView) → AreNew ranks size nodes
+        → IsNetwork (new_network ops ranks size nodes) }
 {}
 
 /// What a call of a node leaves is a network again, whatever it answered: [`Node::post`](mpx_node::Node::post), `harvest`,
@@ -28,18 +30,18 @@ pub fn networks_begin()
 /// looked at it. Parts that `part`, `parts` or `deltas` gave were sent then. The premises are what the calls promise. Parts that were
 /// sent may be left out, and of two steps the second goes on where the first ended.
 pub fn networks_go_on()
-    ensures post { (old new : NodeView) (name : Name) (draft : Draft) (result : Result ℕ PostError)
-        → Posts name (checked_on old name draft) result old new → IsStep old new }
-    ensures harvest { (old new : NodeView) (name : Name) (result : Result Harvest OutOfMemory)
-        → Harvests (is_some (old.opened name)) name (next_result old name) result old new → IsStep old new }
-    ensures open_gathering { (old new : NodeView) (parent : Name) (tag : ℤ) (ranks : List ℤ) (result : Result Name PostError)
-        → Opens parent (gathers_on old parent tag ranks) result old new → IsStep old new }
-    ensures prune { (old new : NodeView) (name : Name) (m : ℕ) (result : Result (Unit {0}) PruneError)
-        → HasPruned name m result old new → IsStep old new }
+    ensures post { (ops : List Operation) (old new : NodeView) (name : Name) (draft : Draft) (result : Result ℕ PostError)
+        → Posts name (checked_on ops old name draft) result old new → IsStep ops old new }
+    ensures harvest { (ops : List Operation) (old new : NodeView) (name : Name) (result : Result Harvest OutOfMemory)
+        → Harvests ops (is_some (old.opened name)) name (next_result ops old name) result old new → IsStep ops old new }
+    ensures open_gathering { (ops : List Operation) (old new : NodeView) (parent : Name) (tag : ℤ) (ranks : List ℤ) (result : Result Name PostError)
+        → Opens parent (gathers_on old parent tag ranks) result old new → IsStep ops old new }
+    ensures prune { (ops : List Operation) (old new : NodeView) (name : Name) (m : ℕ) (result : Result (Unit {0}) PruneError)
+        → HasPruned name m result old new → IsStep ops old new }
     ensures take { (old new : NodeView) (part : Look) (result : Result (Unit {0}) OutOfMemory)
         → OnOk result (new ≡ learn part old) → OnErr result (StopsTaking part old new) → IsTake part old new }
-    ensures deltas { (old new : NodeView) → SaysWhatItHas old new → IsStep old new }
-    ensures unchanged { (old new : NodeView) → new ≡ old → IsStep old new }
+    ensures deltas { (ops : List Operation) (old new : NodeView) → SaysWhatItHas old new → IsStep ops old new }
+    ensures unchanged { (ops : List Operation) (old new : NodeView) → new ≡ old → IsStep ops old new }
     ensures part { (node : NodeView) (part : Look) → part ≡ node.board → Gives node (part ∷ []) }
     ensures parts { (node : NodeView) (made : List Board) → All (λ part. OnlyFactsOf (look part) node.board) made
         → Gives node (map look made) }
@@ -68,7 +70,7 @@ pub fn networks_are_sound()
         → ArePermanent (world_in n) (world_in (network_of on)) }
     ensures retained { (n : Network) → IsNetwork n → Retains (world_in n) }
     ensures enough { (n : Network) → IsNetwork n → (p : ℕ) (node : NodeView) → slice_get n.nodes p ≡ Some node
-        → (name : Name) (k : ℕ) → IsEnough (was_in n) node name k → AnswerDoneUpTo node name k }
+        → (name : Name) (k : ℕ) → IsEnough (was_in n) node name k → AnswerDoneUpTo n.operations node name k }
     ensures nodes { (n : Network) → IsNetwork n → AllAgree (world_in n) n.nodes n.nodes }
     ensures later_nodes { (n : Network) (nodes : List NodeView) (parts : List Look) → IsNetwork n → GoesOn n nodes parts
         → AllAgree (world_in n) n.nodes nodes }

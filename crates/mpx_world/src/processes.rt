@@ -1,7 +1,8 @@
 // The processes of a world, each by itself.
-ghost use Rattle.std.specs.Prelude.{◌≡◌, ◌<◌, ◌≤◌, ◌++◌, ◌∷◌, [], Ok, IfOk, IfErr, OnOk, OnErr};
+ghost use Rattle.std.specs.Prelude.{◌≡◌, ◌<◌, ◌≤◌, ◌++◌, ◌∷◌, [], List, Ok, IfOk, IfErr, OnOk, OnErr};
 ghost use Rattle.std.specs.Option.{option_copied};
 ghost use Rattle.mpx_board.specs.Looks.{look};
+ghost use Rattle.mpx_num.specs.declared.own.Operation.{Operation};
 ghost use Rattle.mpx_world.specs.declared.events.Event.TheVariants as E;
 ghost use Rattle.mpx_world.specs.Events.{part_of as part_cut, reply as reply_to, does};
 ghost use Rattle.mpx_world.specs.Shown.{reply_of_harvest};
@@ -13,7 +14,7 @@ use mpx_board::Board;
 use mpx_group::Proc;
 use mpx_name::Name;
 use mpx_node::{Harvest, Node};
-use mpx_num::Numbers;
+use mpx_num::{Listing, Numbers, Ops};
 use mpx_post::Draft;
 use std::alloc::Global;
 
@@ -26,14 +27,14 @@ pub struct Processes {
 
 impl Processes {
     ghost use Rattle.mpx_node.specs.Shown.{node_of};
-    ghost use Rattle.mpx_world.specs.Shown.{Does, IsNodeOf, RunsAll, Shows, Stops, StopsAt};
+    ghost use Rattle.mpx_world.specs.Shown.{Does, DoesWith, IsNodeOf, RunsAll, Shows, Stops, StopsAt};
 
     // So many processes, of which the first are ranks, before any event.
     pub fn new(alloc: Global, ranks: u8, processes: u8) -> Result<Processes, OutOfMemory>
         requires some { 0 < ranks }
         requires ranks { ranks ≤ processes }
         requires few { processes ≤ 64 }
-        ensures { IfOk result (λ world. Shows world (start ranks processes)) }
+        ensures { IfOk result (λ world. (operations : List Operation) → Shows world (start operations ranks processes)) }
     {
         let mut nodes = Vec::new(alloc);
         for me in 0..processes {
@@ -46,15 +47,15 @@ impl Processes {
     }
 
     // The events in order, with a reply for each. An event that is refused changes nothing.
-    pub fn run(&mut self, alloc: Global, events: &[Event]) -> Result<Vec<Reply>, Stopped>
-        ensures ok { IfOk result (λ replies. (w : WorldView) → Shows self.old w
+    pub fn run(&mut self, alloc: Global, events: &[Event], ops: &Ops) -> Result<Vec<Reply>, Stopped>
+        ensures ok { IfOk result (λ replies. (w : WorldView) → w.operations ≡ ⟦<Ops as Listing>⟧.operations ops.now → Shows self.old w
             → RunsAll events.now replies.items self.new w) }
-        ensures stopped { IfErr result (λ stopped. (w : WorldView) → Shows self.old w
+        ensures stopped { IfErr result (λ stopped. (w : WorldView) → w.operations ≡ ⟦<Ops as Listing>⟧.operations ops.now → Shows self.old w
             → StopsAt stopped.at events.now self.new w) }
     {
         let mut replies = Vec::new(alloc);
         for at in 0..events.len() {
-            match self.tell(alloc, &events[at], &mut replies) {
+            match self.tell(alloc, &events[at], &mut replies, ops) {
                 Ok(()) => {}
                 Err(_) => return Err(Stopped { at }),
             }
@@ -75,25 +76,28 @@ impl Processes {
         alloc: Global,
         event: &Event,
         replies: &mut Vec<Reply>,
+        ops: &Ops,
     ) -> Result<(), OutOfMemory>
-        ensures ok { OnOk result ((w : WorldView) → Shows self.old w → Shows self.new (does w event.now)) }
-        ensures answered { OnOk result ((w : WorldView) → Shows self.old w
+        ensures ok { OnOk result ((w : WorldView) → w.operations ≡ ⟦<Ops as Listing>⟧.operations ops.now → Shows self.old w
+            → Shows self.new (does w event.now)) }
+        ensures answered { OnOk result ((w : WorldView) → w.operations ≡ ⟦<Ops as Listing>⟧.operations ops.now → Shows self.old w
             → replies.new.items ≡ replies.old.items ++ reply_to w event.now ∷ []) }
-        ensures err { OnErr result ((w : WorldView) → Shows self.old w → Stops event.now self.new w) }
+        ensures err { OnErr result ((w : WorldView) → w.operations ≡ ⟦<Ops as Listing>⟧.operations ops.now → Shows self.old w
+            → Stops event.now self.new w) }
     {
         replies.reserve(1)?;
-        let reply = self.step(alloc, event)?;
+        let reply = self.step(alloc, event, ops)?;
         replies.push_reserved(reply);
         Ok(())
     }
 
     // One event. An `Err` changes nothing, or leaves what a take may leave.
-    fn step(&mut self, alloc: Global, event: &Event) -> Result<Reply, OutOfMemory>
-        ensures { Does event.now result self.old self.new }
+    fn step(&mut self, alloc: Global, event: &Event, ops: &Ops) -> Result<Reply, OutOfMemory>
+        ensures { DoesWith (⟦<Ops as Listing>⟧.operations ops.now) event.now result self.old self.new }
     {
         match event {
-            Event::Post { proc, name, draft } => self.post(alloc, *proc, name, draft),
-            Event::Harvest { proc, name } => self.harvest(alloc, *proc, name),
+            Event::Post { proc, name, draft } => self.post(alloc, *proc, name, draft, ops),
+            Event::Harvest { proc, name } => self.harvest(alloc, *proc, name, ops),
             Event::Gather {
                 proc,
                 parent,
@@ -112,15 +116,16 @@ impl Processes {
         proc: Proc,
         name: &Name,
         draft: &Draft,
+        ops: &Ops,
     ) -> Result<Reply, OutOfMemory>
-        ensures { Does (E.Post proc name.now draft.now) result self.old self.new }
+        ensures { DoesWith (⟦<Ops as Listing>⟧.operations ops.now) (E.Post proc name.now draft.now) result self.old self.new }
     {
         let at = usize::from(proc.number());
         if at >= self.nodes.len() {
             return Ok(Reply::NoSuchProcess);
         }
         let draft = draft.copy()?;
-        match self.nodes[at].post(alloc, name, draft) {
+        match self.nodes[at].post(alloc, name, draft, ops) {
             Ok(call) => Ok(Reply::Posted(call)),
             Err(refusal) => {
                 if refusal.is_want_of_memory() {
@@ -131,14 +136,20 @@ impl Processes {
         }
     }
 
-    fn harvest(&mut self, alloc: Global, proc: Proc, name: &Name) -> Result<Reply, OutOfMemory>
-        ensures { Does (E.Harvest proc name.now) result self.old self.new }
+    fn harvest(
+        &mut self,
+        alloc: Global,
+        proc: Proc,
+        name: &Name,
+        ops: &Ops,
+    ) -> Result<Reply, OutOfMemory>
+        ensures { DoesWith (⟦<Ops as Listing>⟧.operations ops.now) (E.Harvest proc name.now) result self.old self.new }
     {
         let at = usize::from(proc.number());
         if at >= self.nodes.len() {
             return Ok(Reply::NoSuchProcess);
         }
-        let harvest = self.nodes[at].harvest(alloc, name)?;
+        let harvest = self.nodes[at].harvest(alloc, name, ops)?;
         Ok(harvested(harvest))
     }
 

@@ -5,12 +5,13 @@ use Rattle.mpx_bus.specs.declared.port.Bus.{Bus}
 use Rattle.mpx_bus.specs.Berths.{Berth}
 use Rattle.mpx_bus.specs.Buses.{table_of}
 
--- the port is of this bus, and by this setup, which is without a plan
+-- the port is of this bus, and by this setup, which is without operations and a plan
 pub record IsHome (bus : Bus) (setup : Setup) (b : Berth) : Type 0 where
   pub table : b.table ≡ table_of bus
   pub setup_is : b.setup ≡ setup
   pub plan : b.setup.planned ≡ false
+  pub list : [] ≡ b.setup.operations
 
--- eight ranks, which are all processes, without a plan
+-- eight ranks, which are all processes, without operations of the job's own and a plan
 abbrev pub eight : Setup
-eight = record { ranks = 8; size = 8; planned = false; plan = [] }
+eight = record { ranks = 8; size = 8; operations = []; planned = false; plan = [] }

@@ -7,6 +7,7 @@ use mpx_delta::{Digest, common, delta_for, digest_of};
 use mpx_group::Proc;
 use mpx_name::Name;
 use mpx_node::Node;
+use mpx_num::Ops;
 use mpx_post::Kind;
 use std::alloc::Global;
 use std::process::Abort;
@@ -140,9 +141,9 @@ fn takes(alloc: Global, one: &mut Node, other: &mut Node) -> Result<usize, OutOf
     Ok(with_post)
 }
 
-fn posts_a_barrier(alloc: Global, node: &mut Node) -> Result<(), Fail> {
+fn posts_a_barrier(alloc: Global, node: &mut Node, ops: &Ops) -> Result<(), Fail> {
     let draft = draft(alloc, &just(Kind::Barrier))?;
-    node.post(alloc, &Name::world(alloc), draft)?;
+    node.post(alloc, &Name::world(alloc), draft, ops)?;
     Ok(())
 }
 
@@ -152,8 +153,9 @@ fn tell_each_other(
     alloc: Global,
     left: &mut Node,
     right: &mut Node,
+    ops: &Ops,
 ) -> Result<(), Fail> {
-    posts_a_barrier(alloc, left)?;
+    posts_a_barrier(alloc, left, ops)?;
     assert_eq!(rt; takes(alloc, right, left)?, 1);
     // from here on never again
     for _ in 0..100 {
@@ -168,9 +170,10 @@ fn tell_each_other(
 #[test]
 fn what_both_acknowledge_is_not_sent_again(rt: HostRuntime) -> Result<(), Fail> {
     let alloc = rt.alloc();
+    let ops = Ops::none(alloc);
     let mut left = Node::new(alloc, Proc::new(0), 2, 2)?;
     let mut right = Node::new(alloc, Proc::new(1), 2, 2)?;
-    let told = tell_each_other(&rt, alloc, &mut left, &mut right);
+    let told = tell_each_other(&rt, alloc, &mut left, &mut right, &ops);
     drop(left);
     drop(right);
     told

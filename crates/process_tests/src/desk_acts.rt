@@ -2,7 +2,7 @@
 use crate::desks::numbers;
 use mpx_comm::{CallError, Comm, Desk, Request};
 use mpx_node::{Finished, Node};
-use mpx_num::{Op, Ty};
+use mpx_num::{Op, Ops, Ty};
 use mpx_post::PostError;
 use std::alloc::Global;
 
@@ -33,9 +33,10 @@ fn create(
     desk: &mut Desk<Node>,
     comm: &Comm,
     ranks: &[i128],
+    ops: &Ops,
 ) -> Result<Finished, CallError> {
     match numbers(alloc, ranks) {
-        Ok(ranks) => desk.create(alloc, comm, ranks, 0),
+        Ok(ranks) => desk.create(alloc, comm, ranks, 0, ops),
         Err(_) => Err(CallError::Refused(PostError::OutOfMemory)),
     }
 }
@@ -46,14 +47,15 @@ pub fn make_call(
     desk: &mut Desk<Node>,
     comm: &Comm,
     call: Call,
+    ops: &Ops,
 ) -> Result<Finished, CallError> {
     match call {
-        Call::Barrier => desk.barrier(alloc, comm, 0),
-        Call::Dup => desk.dup(alloc, comm, 0),
-        Call::Split(colour, key) => desk.split(alloc, comm, colour, key, 0),
-        Call::Create(ranks) => create(alloc, desk, comm, ranks),
-        Call::CreateGroup(tag, ranks) => desk.create_group(alloc, comm, tag, ranks, 0),
-        Call::Free => desk.free(alloc, comm, 0),
+        Call::Barrier => desk.barrier(alloc, comm, 0, ops),
+        Call::Dup => desk.dup(alloc, comm, 0, ops),
+        Call::Split(colour, key) => desk.split(alloc, comm, colour, key, 0, ops),
+        Call::Create(ranks) => create(alloc, desk, comm, ranks, ops),
+        Call::CreateGroup(tag, ranks) => desk.create_group(alloc, comm, tag, ranks, 0, ops),
+        Call::Free => desk.free(alloc, comm, 0, ops),
     }
 }
 
@@ -62,6 +64,7 @@ pub fn post_call(
     desk: &mut Desk<Node>,
     comm: &Comm,
     start: Start,
+    ops: &Ops,
 ) -> Result<Request, PostError> {
     let list = match start {
         Start::Sum(number) => numbers(alloc, &[number]),
@@ -71,7 +74,7 @@ pub fn post_call(
         return Err(PostError::OutOfMemory);
     };
     match start {
-        Start::Sum(_) => desk.iallreduce(alloc, comm, Op::Sum, Ty::I64, list),
-        Start::Tell(_) => desk.ibcast(alloc, comm, 0, Ty::U8, 2, list),
+        Start::Sum(_) => desk.iallreduce(alloc, comm, Op::Sum, Ty::I64, list, ops),
+        Start::Tell(_) => desk.ibcast(alloc, comm, 0, Ty::U8, 2, list, ops),
     }
 }

@@ -1,6 +1,7 @@
 //! Rows of desks: calls that give communicators, gatherings, calls that overlap, requests that are tested, and own posts.
 use crate::desk_acts::{Call, Start};
 use crate::desk_rows::{Act, Row, Told, run};
+use mpx_num::Ops;
 use mpx_post::PostError;
 use std::test::Fail;
 
@@ -140,8 +141,9 @@ const DESKS: [(&str, u8, &[Row]); 6] = [
 
 #[test]
 fn desks_go_so(rt: HostRuntime) -> Result<(), Fail> {
+    let ops = Ops::none(rt.alloc());
     for (shown, ranks, rows) in DESKS {
-        run(&rt, rt.alloc(), shown, ranks, rows)?;
+        run(&rt, rt.alloc(), shown, ranks, rows, &ops)?;
     }
     Ok(())
 }

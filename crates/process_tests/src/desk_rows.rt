@@ -7,7 +7,7 @@ use crate::desks::{desk_of, gathering};
 use join_core::Exact;
 use mpx_comm::{CallError, Comm, Desk, Request, Tested, WaitError};
 use mpx_node::{Finished, Harvest, Node};
-use mpx_num::Items;
+use mpx_num::{Items, Ops};
 use mpx_post::{Call, Mode, PostError, Reduction};
 use mpx_value::Outcome;
 use std::alloc::Global;
@@ -131,11 +131,12 @@ fn calls(
     at: usize,
     called: Called,
     told: Told,
+    ops: &Ops,
 ) -> Result<bool, Fail> {
     let Some(comm) = member.comms.get(at) else {
         return Ok(false);
     };
-    match make_call(alloc, &mut member.desk, comm, called) {
+    match make_call(alloc, &mut member.desk, comm, called, ops) {
         Ok(finished) => gave(alloc, member, &finished, told),
         Err(CallError::StillWaiting(request)) => {
             keeps(member, request, matches!(told, Told::Open))
@@ -153,11 +154,12 @@ fn starts(
     at: usize,
     started: Start,
     told: Told,
+    ops: &Ops,
 ) -> Result<bool, Fail> {
     let Some(comm) = member.comms.get(at) else {
         return Ok(false);
     };
-    match post_call(alloc, &mut member.desk, comm, started) {
+    match post_call(alloc, &mut member.desk, comm, started, ops) {
         Ok(request) => keeps(member, request, matches!(told, Told::Open)),
         Err(_) => Ok(false),
     }
@@ -171,18 +173,30 @@ fn taken(member: &mut Member, at: usize) -> Result<Request, Fail> {
     Err(Fail::from("no request"))
 }
 
-fn tests(alloc: Global, member: &mut Member, at: usize, told: Told) -> Result<bool, Fail> {
+fn tests(
+    alloc: Global,
+    member: &mut Member,
+    at: usize,
+    told: Told,
+    ops: &Ops,
+) -> Result<bool, Fail> {
     let request = taken(member, at)?;
-    match member.desk.test(alloc, request) {
+    match member.desk.test(alloc, request, ops) {
         Ok(Tested::Done(finished)) => gave(alloc, member, &finished, told),
         Ok(Tested::NotYet(request)) => keeps(member, request, matches!(told, Told::NotYet)),
         Err(_) => Ok(false),
     }
 }
 
-fn waits(alloc: Global, member: &mut Member, at: usize, told: Told) -> Result<bool, Fail> {
+fn waits(
+    alloc: Global,
+    member: &mut Member,
+    at: usize,
+    told: Told,
+    ops: &Ops,
+) -> Result<bool, Fail> {
     let request = taken(member, at)?;
-    match member.desk.wait(alloc, request, 0) {
+    match member.desk.wait(alloc, request, 0, ops) {
         Ok(finished) => gave(alloc, member, &finished, told),
         Err(WaitError::StillWaiting(request)) => {
             keeps(member, request, matches!(told, Told::NotYet))
@@ -205,9 +219,9 @@ fn all_gave(
     Ok(!all.is_empty())
 }
 
-fn tests_all(alloc: Global, member: &mut Member, told: Told) -> Result<bool, Fail> {
+fn tests_all(alloc: Global, member: &mut Member, told: Told, ops: &Ops) -> Result<bool, Fail> {
     let requests = mem::replace(&mut member.requests, Vec::new(alloc));
-    match member.desk.testall(alloc, requests) {
+    match member.desk.testall(alloc, requests, ops) {
         Ok(Tested::Done(all)) => all_gave(alloc, member, &all, told),
         Ok(Tested::NotYet(requests)) => {
             member.requests = requests;
@@ -217,9 +231,9 @@ fn tests_all(alloc: Global, member: &mut Member, told: Told) -> Result<bool, Fai
     }
 }
 
-fn waits_all(alloc: Global, member: &mut Member, told: Told) -> Result<bool, Fail> {
+fn waits_all(alloc: Global, member: &mut Member, told: Told, ops: &Ops) -> Result<bool, Fail> {
     let requests = mem::replace(&mut member.requests, Vec::new(alloc));
-    match member.desk.waitall(alloc, requests, 1) {
+    match member.desk.waitall(alloc, requests, 1, ops) {
         Ok(all) => all_gave(alloc, member, &all, told),
         Err(WaitError::StillWaiting(requests)) => {
             member.requests = requests;
@@ -246,8 +260,8 @@ fn is_first(
     }
 }
 
-fn tests_any(alloc: Global, member: &mut Member, told: Told) -> Result<bool, Fail> {
-    match member.desk.testany(alloc)? {
+fn tests_any(alloc: Global, member: &mut Member, told: Told, ops: &Ops) -> Result<bool, Fail> {
+    match member.desk.testany(alloc, ops)? {
         None => Ok(matches!(told, Told::NoneIsDone)),
         Some((request, finished)) => is_first(member, request, &finished, told),
     }
@@ -259,10 +273,11 @@ fn harvests_gathering(
     at: usize,
     tag: u16,
     told: Told,
+    ops: &Ops,
 ) -> Result<bool, Fail> {
     let comm = member.comms.get(at).ok_or("no communicator")?;
     let name = gathering(alloc, comm.name(), tag)?;
-    match member.desk.harvest(alloc, &name)? {
+    match member.desk.harvest(alloc, &name, ops)? {
         Harvest::Done(_) => Ok(false),
         Harvest::NotYet => Ok(matches!(told, Told::NotYet)),
         Harvest::NotOpened => Ok(matches!(told, Told::NotOpened)),
@@ -270,16 +285,16 @@ fn harvests_gathering(
 }
 
 // Whether the rank gets that when it does this.
-fn gets(alloc: Global, member: &mut Member, act: Act, told: Told) -> Result<bool, Fail> {
+fn gets(alloc: Global, member: &mut Member, act: Act, told: Told, ops: &Ops) -> Result<bool, Fail> {
     match act {
-        Act::Calls(at, called) => calls(alloc, member, at, called, told),
-        Act::Starts(at, started) => starts(alloc, member, at, started, told),
-        Act::Tests(at) => tests(alloc, member, at, told),
-        Act::Waits(at) => waits(alloc, member, at, told),
-        Act::TestsAll => tests_all(alloc, member, told),
-        Act::WaitsAll => waits_all(alloc, member, told),
-        Act::TestsAny => tests_any(alloc, member, told),
-        Act::HarvestsGathering(at, tag) => harvests_gathering(alloc, member, at, tag, told),
+        Act::Calls(at, called) => calls(alloc, member, at, called, told, ops),
+        Act::Starts(at, started) => starts(alloc, member, at, started, told, ops),
+        Act::Tests(at) => tests(alloc, member, at, told, ops),
+        Act::Waits(at) => waits(alloc, member, at, told, ops),
+        Act::TestsAll => tests_all(alloc, member, told, ops),
+        Act::WaitsAll => waits_all(alloc, member, told, ops),
+        Act::TestsAny => tests_any(alloc, member, told, ops),
+        Act::HarvestsGathering(at, tag) => harvests_gathering(alloc, member, at, tag, told, ops),
     }
 }
 
@@ -296,11 +311,12 @@ fn go_on(
     right: &mut Member,
     shown: &str,
     rows: &[Row],
+    ops: &Ops,
 ) -> Result<(), Fail> {
     for (at, row) in rows.iter().enumerate() {
         let is_right = match *row {
-            Row::Left(act, told) => gets(alloc, left, act, told)?,
-            Row::Right(act, told) => gets(alloc, right, act, told)?,
+            Row::Left(act, told) => gets(alloc, left, act, told, ops)?,
+            Row::Right(act, told) => gets(alloc, right, act, told, ops)?,
             Row::Swap => swap(alloc, &mut left.desk, &mut right.desk)?,
         };
         assert!(rt; is_right, "{shown}: row {at}");
@@ -315,13 +331,14 @@ pub fn run(
     shown: &str,
     ranks: u8,
     rows: &[Row],
+    ops: &Ops,
 ) -> Result<(), Fail> {
     if ranks == 0 || ranks > 64 {
         return Err(Fail::from("no ranks"));
     }
     let mut left = member_of(alloc, 0, ranks)?;
     let mut right = member_of(alloc, ranks - 1, ranks)?;
-    let answer = go_on(rt, alloc, &mut left, &mut right, shown, rows);
+    let answer = go_on(rt, alloc, &mut left, &mut right, shown, rows, ops);
     drop(left);
     drop(right);
     answer

@@ -2,7 +2,7 @@
 use crate::desks::{desk_of, made, numbers, waited};
 use mpx_comm::{CallError, Comm, Desk, Request};
 use mpx_node::{Finished, Node};
-use mpx_num::{Numbers, Op, Ty};
+use mpx_num::{Numbers, Op, Ops, Ty};
 use mpx_post::{DraftedEdge, DraftedNeighbour, Kind, PostError};
 use mpx_value::Outcome;
 use std::alloc::Global;
@@ -45,22 +45,23 @@ fn call_of_items(
     comm: &Comm,
     kind: Kind,
     items: Numbers,
+    ops: &Ops,
 ) -> Result<Finished, CallError> {
     match kind {
-        Kind::Bcast => desk.bcast(alloc, comm, 0, Ty::I64, 1, items, 0),
-        Kind::Gather => desk.gather(alloc, comm, 0, Ty::I64, items, 0),
-        Kind::Scatter => desk.scatter(alloc, comm, 0, Ty::I64, 1, items, 0),
-        Kind::Allgather => desk.allgather(alloc, comm, Ty::U8, items, 0),
-        Kind::Alltoall => desk.alltoall(alloc, comm, Ty::U8, 1, items, 0),
-        Kind::Reduce => desk.reduce(alloc, comm, 0, Op::Sum, Ty::I64, items, 0),
-        Kind::Allreduce => desk.allreduce(alloc, comm, Op::Sum, Ty::I64, items, 0),
+        Kind::Bcast => desk.bcast(alloc, comm, 0, Ty::I64, 1, items, 0, ops),
+        Kind::Gather => desk.gather(alloc, comm, 0, Ty::I64, items, 0, ops),
+        Kind::Scatter => desk.scatter(alloc, comm, 0, Ty::I64, 1, items, 0, ops),
+        Kind::Allgather => desk.allgather(alloc, comm, Ty::U8, items, 0, ops),
+        Kind::Alltoall => desk.alltoall(alloc, comm, Ty::U8, 1, items, 0, ops),
+        Kind::Reduce => desk.reduce(alloc, comm, 0, Op::Sum, Ty::I64, items, 0, ops),
+        Kind::Allreduce => desk.allreduce(alloc, comm, Op::Sum, Ty::I64, items, 0, ops),
         Kind::ReduceScatterBlock => {
-            desk.reduce_scatter_block(alloc, comm, Op::Sum, Ty::I64, 1, items, 0)
+            desk.reduce_scatter_block(alloc, comm, Op::Sum, Ty::I64, 1, items, 0, ops)
         }
-        Kind::Scan => desk.scan(alloc, comm, Op::Sum, Ty::I64, items, 0),
-        Kind::Exscan => desk.exscan(alloc, comm, Op::Sum, Ty::I64, items, 0),
-        Kind::NeighborAllgather => desk.neighbor_allgather(alloc, comm, Ty::I8, 1, items, 0),
-        Kind::NeighborAlltoall => desk.neighbor_alltoall(alloc, comm, Ty::I8, 1, 1, items, 0),
+        Kind::Scan => desk.scan(alloc, comm, Op::Sum, Ty::I64, items, 0, ops),
+        Kind::Exscan => desk.exscan(alloc, comm, Op::Sum, Ty::I64, items, 0, ops),
+        Kind::NeighborAllgather => desk.neighbor_allgather(alloc, comm, Ty::I8, 1, items, 0, ops),
+        Kind::NeighborAlltoall => desk.neighbor_alltoall(alloc, comm, Ty::I8, 1, 1, items, 0, ops),
         _ => Err(CallError::Refused(PostError::NotMember)),
     }
 }
@@ -71,22 +72,23 @@ fn start_of_items(
     comm: &Comm,
     kind: Kind,
     items: Numbers,
+    ops: &Ops,
 ) -> Result<Request, PostError> {
     match kind {
-        Kind::Bcast => desk.ibcast(alloc, comm, 0, Ty::I64, 1, items),
-        Kind::Gather => desk.igather(alloc, comm, 0, Ty::I64, items),
-        Kind::Scatter => desk.iscatter(alloc, comm, 0, Ty::I64, 1, items),
-        Kind::Allgather => desk.iallgather(alloc, comm, Ty::U8, items),
-        Kind::Alltoall => desk.ialltoall(alloc, comm, Ty::U8, 1, items),
-        Kind::Reduce => desk.ireduce(alloc, comm, 0, Op::Sum, Ty::I64, items),
-        Kind::Allreduce => desk.iallreduce(alloc, comm, Op::Sum, Ty::I64, items),
+        Kind::Bcast => desk.ibcast(alloc, comm, 0, Ty::I64, 1, items, ops),
+        Kind::Gather => desk.igather(alloc, comm, 0, Ty::I64, items, ops),
+        Kind::Scatter => desk.iscatter(alloc, comm, 0, Ty::I64, 1, items, ops),
+        Kind::Allgather => desk.iallgather(alloc, comm, Ty::U8, items, ops),
+        Kind::Alltoall => desk.ialltoall(alloc, comm, Ty::U8, 1, items, ops),
+        Kind::Reduce => desk.ireduce(alloc, comm, 0, Op::Sum, Ty::I64, items, ops),
+        Kind::Allreduce => desk.iallreduce(alloc, comm, Op::Sum, Ty::I64, items, ops),
         Kind::ReduceScatterBlock => {
-            desk.ireduce_scatter_block(alloc, comm, Op::Sum, Ty::I64, 1, items)
+            desk.ireduce_scatter_block(alloc, comm, Op::Sum, Ty::I64, 1, items, ops)
         }
-        Kind::Scan => desk.iscan(alloc, comm, Op::Sum, Ty::I64, items),
-        Kind::Exscan => desk.iexscan(alloc, comm, Op::Sum, Ty::I64, items),
-        Kind::NeighborAllgather => desk.ineighbor_allgather(alloc, comm, Ty::I8, 1, items),
-        Kind::NeighborAlltoall => desk.ineighbor_alltoall(alloc, comm, Ty::I8, 1, 1, items),
+        Kind::Scan => desk.iscan(alloc, comm, Op::Sum, Ty::I64, items, ops),
+        Kind::Exscan => desk.iexscan(alloc, comm, Op::Sum, Ty::I64, items, ops),
+        Kind::NeighborAllgather => desk.ineighbor_allgather(alloc, comm, Ty::I8, 1, items, ops),
+        Kind::NeighborAlltoall => desk.ineighbor_alltoall(alloc, comm, Ty::I8, 1, 1, items, ops),
         _ => Err(PostError::NotMember),
     }
 }
@@ -98,16 +100,17 @@ fn call_of_counts(
     kind: Kind,
     counts: Numbers,
     items: Numbers,
+    ops: &Ops,
 ) -> Result<Finished, CallError> {
     match kind {
-        Kind::Gatherv => desk.gatherv(alloc, comm, 0, Ty::I64, counts, items, 0),
-        Kind::Scatterv => desk.scatterv(alloc, comm, 0, Ty::I64, counts, 1, items, 0),
-        Kind::Allgatherv => desk.allgatherv(alloc, comm, Ty::U8, counts, items, 0),
+        Kind::Gatherv => desk.gatherv(alloc, comm, 0, Ty::I64, counts, items, 0, ops),
+        Kind::Scatterv => desk.scatterv(alloc, comm, 0, Ty::I64, counts, 1, items, 0, ops),
+        Kind::Allgatherv => desk.allgatherv(alloc, comm, Ty::U8, counts, items, 0, ops),
         Kind::ReduceScatter => {
-            desk.reduce_scatter(alloc, comm, Op::Sum, Ty::I64, counts, items, 0)
+            desk.reduce_scatter(alloc, comm, Op::Sum, Ty::I64, counts, items, 0, ops)
         }
         Kind::NeighborAllgatherv => {
-            desk.neighbor_allgatherv(alloc, comm, Ty::I8, counts, items, 0)
+            desk.neighbor_allgatherv(alloc, comm, Ty::I8, counts, items, 0, ops)
         }
         _ => Err(CallError::Refused(PostError::NotMember)),
     }
@@ -120,16 +123,17 @@ fn start_of_counts(
     kind: Kind,
     counts: Numbers,
     items: Numbers,
+    ops: &Ops,
 ) -> Result<Request, PostError> {
     match kind {
-        Kind::Gatherv => desk.igatherv(alloc, comm, 0, Ty::I64, counts, items),
-        Kind::Scatterv => desk.iscatterv(alloc, comm, 0, Ty::I64, counts, 1, items),
-        Kind::Allgatherv => desk.iallgatherv(alloc, comm, Ty::U8, counts, items),
+        Kind::Gatherv => desk.igatherv(alloc, comm, 0, Ty::I64, counts, items, ops),
+        Kind::Scatterv => desk.iscatterv(alloc, comm, 0, Ty::I64, counts, 1, items, ops),
+        Kind::Allgatherv => desk.iallgatherv(alloc, comm, Ty::U8, counts, items, ops),
         Kind::ReduceScatter => {
-            desk.ireduce_scatter(alloc, comm, Op::Sum, Ty::I64, counts, items)
+            desk.ireduce_scatter(alloc, comm, Op::Sum, Ty::I64, counts, items, ops)
         }
         Kind::NeighborAllgatherv => {
-            desk.ineighbor_allgatherv(alloc, comm, Ty::I8, counts, items)
+            desk.ineighbor_allgatherv(alloc, comm, Ty::I8, counts, items, ops)
         }
         _ => Err(PostError::NotMember),
     }
@@ -142,11 +146,12 @@ fn call_of_both_counts(
     kind: Kind,
     counts: (Numbers, Numbers),
     items: Numbers,
+    ops: &Ops,
 ) -> Result<Finished, CallError> {
     let (scounts, rcounts) = counts;
     match kind {
-        Kind::Alltoallv => desk.alltoallv(alloc, comm, Ty::U8, scounts, rcounts, items, 0),
-        _ => desk.neighbor_alltoallv(alloc, comm, Ty::I8, scounts, rcounts, items, 0),
+        Kind::Alltoallv => desk.alltoallv(alloc, comm, Ty::U8, scounts, rcounts, items, 0, ops),
+        _ => desk.neighbor_alltoallv(alloc, comm, Ty::I8, scounts, rcounts, items, 0, ops),
     }
 }
 
@@ -157,11 +162,12 @@ fn start_of_both_counts(
     kind: Kind,
     counts: (Numbers, Numbers),
     items: Numbers,
+    ops: &Ops,
 ) -> Result<Request, PostError> {
     let (scounts, rcounts) = counts;
     match kind {
-        Kind::Alltoallv => desk.ialltoallv(alloc, comm, Ty::U8, scounts, rcounts, items),
-        _ => desk.ineighbor_alltoallv(alloc, comm, Ty::I8, scounts, rcounts, items),
+        Kind::Alltoallv => desk.ialltoallv(alloc, comm, Ty::U8, scounts, rcounts, items, ops),
+        _ => desk.ineighbor_alltoallv(alloc, comm, Ty::I8, scounts, rcounts, items, ops),
     }
 }
 
@@ -188,11 +194,12 @@ fn gives_later(
     desk: &mut Desk<Node>,
     kind: Kind,
     answer: Result<Request, PostError>,
+    ops: &Ops,
 ) -> bool {
     let Ok(request) = answer else {
         return false;
     };
-    match desk.wait(alloc, request, 0) {
+    match desk.wait(alloc, request, 0, ops) {
         Ok(finished) => is_right(kind, &finished),
         Err(_) => false,
     }
@@ -204,12 +211,13 @@ fn calls_of_items(
     desk: &mut Desk<Node>,
     comm: &Comm,
     kind: Kind,
+    ops: &Ops,
 ) -> Result<bool, Fail> {
     let items = numbers(alloc, SEVEN)?;
-    let called = gives(kind, call_of_items(alloc, desk, comm, kind, items));
+    let called = gives(kind, call_of_items(alloc, desk, comm, kind, items, ops));
     let items = numbers(alloc, SEVEN)?;
-    let answer = start_of_items(alloc, desk, comm, kind, items);
-    Ok(gives_later(alloc, desk, kind, answer) && called)
+    let answer = start_of_items(alloc, desk, comm, kind, items, ops);
+    Ok(gives_later(alloc, desk, kind, answer, ops) && called)
 }
 
 fn calls_of_counts(
@@ -217,12 +225,16 @@ fn calls_of_counts(
     desk: &mut Desk<Node>,
     comm: &Comm,
     kind: Kind,
+    ops: &Ops,
 ) -> Result<bool, Fail> {
     let (counts, items) = (numbers(alloc, &[1])?, numbers(alloc, SEVEN)?);
-    let called = gives(kind, call_of_counts(alloc, desk, comm, kind, counts, items));
+    let called = gives(
+        kind,
+        call_of_counts(alloc, desk, comm, kind, counts, items, ops),
+    );
     let (counts, items) = (numbers(alloc, &[1])?, numbers(alloc, SEVEN)?);
-    let answer = start_of_counts(alloc, desk, comm, kind, counts, items);
-    Ok(gives_later(alloc, desk, kind, answer) && called)
+    let answer = start_of_counts(alloc, desk, comm, kind, counts, items, ops);
+    Ok(gives_later(alloc, desk, kind, answer, ops) && called)
 }
 
 fn calls_of_both_counts(
@@ -230,57 +242,63 @@ fn calls_of_both_counts(
     desk: &mut Desk<Node>,
     comm: &Comm,
     kind: Kind,
+    ops: &Ops,
 ) -> Result<bool, Fail> {
     let (counts, items) = (ones(alloc)?, numbers(alloc, SEVEN)?);
     let called = gives(
         kind,
-        call_of_both_counts(alloc, desk, comm, kind, counts, items),
+        call_of_both_counts(alloc, desk, comm, kind, counts, items, ops),
     );
     let (counts, items) = (ones(alloc)?, numbers(alloc, SEVEN)?);
-    let answer = start_of_both_counts(alloc, desk, comm, kind, counts, items);
-    Ok(gives_later(alloc, desk, kind, answer) && called)
+    let answer = start_of_both_counts(alloc, desk, comm, kind, counts, items, ops);
+    Ok(gives_later(alloc, desk, kind, answer, ops) && called)
 }
 
 fn ones(alloc: Global) -> Result<(Numbers, Numbers), Fail> {
     Ok((numbers(alloc, &[1])?, numbers(alloc, &[1])?))
 }
 
-fn barriers(alloc: Global, desk: &mut Desk<Node>, comm: &Comm) -> bool {
-    let called = gives(Kind::Barrier, desk.barrier(alloc, comm, 0));
-    let answer = desk.ibarrier(alloc, comm);
-    gives_later(alloc, desk, Kind::Barrier, answer) && called
+fn barriers(alloc: Global, desk: &mut Desk<Node>, comm: &Comm, ops: &Ops) -> bool {
+    let called = gives(Kind::Barrier, desk.barrier(alloc, comm, 0, ops));
+    let answer = desk.ibarrier(alloc, comm, ops);
+    gives_later(alloc, desk, Kind::Barrier, answer, ops) && called
 }
 
 // A free, behind which the communicator is closed.
-fn frees(alloc: Global, desk: &mut Desk<Node>, comm: &Comm) -> bool {
-    let called = gives(Kind::Free, desk.free(alloc, comm, 0));
-    let answer = desk.ibarrier(alloc, comm);
+fn frees(alloc: Global, desk: &mut Desk<Node>, comm: &Comm, ops: &Ops) -> bool {
+    let called = gives(Kind::Free, desk.free(alloc, comm, 0, ops));
+    let answer = desk.ibarrier(alloc, comm, ops);
     called && matches!(answer, Err(PostError::Closed))
 }
 
 // By any edges.
-fn of_edges(alloc: Global, desk: &mut Desk<Node>, comm: &Comm) -> Result<Comm, Fail> {
+fn of_edges(alloc: Global, desk: &mut Desk<Node>, comm: &Comm, ops: &Ops) -> Result<Comm, Fail> {
     let edge = DraftedEdge {
         source: 0,
         destination: 0,
         weight: 0,
     };
     let edges = vec![in alloc; edge]?;
-    let finished = waited(desk.dist_graph(alloc, comm, false, edges, 0))?;
+    let finished = waited(desk.dist_graph(alloc, comm, false, edges, 0, ops))?;
     made(alloc, finished)
 }
 
 // By the own neighbours.
-fn of_neighbours(alloc: Global, desk: &mut Desk<Node>, comm: &Comm) -> Result<Comm, Fail> {
+fn of_neighbours(
+    alloc: Global,
+    desk: &mut Desk<Node>,
+    comm: &Comm,
+    ops: &Ops,
+) -> Result<Comm, Fail> {
     let near = DraftedNeighbour { rank: 0, weight: 4 };
     let (sources, destinations) = (vec![in alloc; near]?, vec![in alloc; near]?);
-    let answer = desk.dist_graph_adjacent(alloc, comm, true, sources, destinations, 0);
+    let answer = desk.dist_graph_adjacent(alloc, comm, true, sources, destinations, 0, ops);
     made(alloc, waited(answer)?)
 }
 
-fn with_edges(alloc: Global, desk: &mut Desk<Node>) -> Result<Comm, Fail> {
-    let general = of_edges(alloc, desk, &Comm::world(alloc, 1, 0))?;
-    of_neighbours(alloc, desk, &general)
+fn with_edges(alloc: Global, desk: &mut Desk<Node>, ops: &Ops) -> Result<Comm, Fail> {
+    let general = of_edges(alloc, desk, &Comm::world(alloc, 1, 0), ops)?;
+    of_neighbours(alloc, desk, &general, ops)
 }
 
 fn all_calls(
@@ -288,31 +306,36 @@ fn all_calls(
     alloc: Global,
     desk: &mut Desk<Node>,
     comm: &Comm,
+    ops: &Ops,
 ) -> Result<(), Fail> {
-    assert!(rt; barriers(alloc, desk, comm));
+    assert!(rt; barriers(alloc, desk, comm, ops));
     for kind in OF_ITEMS {
-        assert!(rt; calls_of_items(alloc, desk, comm, kind)?, "{kind:?}");
+        assert!(rt; calls_of_items(alloc, desk, comm, kind, ops)?, "{kind:?}");
     }
     for kind in OF_COUNTS {
-        assert!(rt; calls_of_counts(alloc, desk, comm, kind)?, "{kind:?}");
+        assert!(rt; calls_of_counts(alloc, desk, comm, kind, ops)?, "{kind:?}");
     }
     for kind in OF_BOTH_COUNTS {
-        assert!(rt; calls_of_both_counts(alloc, desk, comm, kind)?, "{kind:?}");
+        assert!(rt;
+            calls_of_both_counts(alloc, desk, comm, kind, ops)?,
+            "{kind:?}"
+        );
     }
-    assert!(rt; frees(alloc, desk, comm));
+    assert!(rt; frees(alloc, desk, comm, ops));
     Ok(())
 }
 
-fn calls(rt: &impl Abort, alloc: Global, desk: &mut Desk<Node>) -> Result<(), Fail> {
-    let comm = with_edges(alloc, desk)?;
-    all_calls(rt, alloc, desk, &comm)
+fn calls(rt: &impl Abort, alloc: Global, desk: &mut Desk<Node>, ops: &Ops) -> Result<(), Fail> {
+    let comm = with_edges(alloc, desk, ops)?;
+    all_calls(rt, alloc, desk, &comm, ops)
 }
 
 #[test]
 fn calls_by_name(rt: HostRuntime) -> Result<(), Fail> {
     let alloc = rt.alloc();
+    let ops = Ops::none(alloc);
     let mut desk = desk_of(alloc, 0, 1)?;
-    let answer = calls(&rt, alloc, &mut desk);
+    let answer = calls(&rt, alloc, &mut desk, &ops);
     drop(desk);
     answer
 }

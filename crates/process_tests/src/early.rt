@@ -1,4 +1,6 @@
 //! Posts on a communicator that come before its birth.
+ghost use Rattle.std.specs.Prelude.{◌≡◌, []};
+
 use crate::contexts::{On, WORLD, name_of};
 use crate::looks::{Look, is_seen};
 use crate::world_acts::{Act, Told};
@@ -8,9 +10,11 @@ use mpx_board::{Board, PruneError};
 use mpx_group::Proc;
 use mpx_name::Name;
 use mpx_node::{Harvest, Node};
+use mpx_num::{Listing, Ops};
 use mpx_post::{Kind, PostError};
 use mpx_world::World;
 use std::alloc::Global;
+use std::marker::Brand;
 use std::process::Abort;
 use std::test::Fail;
 use test_drafts::{draft, just, proc};
@@ -45,7 +49,7 @@ const AHEAD: &[Row] = &[
 fn add_early(
     alloc: Global,
     posts: &mut Board,
-    world: &World,
+    world: &World<Brand>,
     child: &Name,
     process: u8,
 ) -> Result<(), Fail> {
@@ -56,7 +60,12 @@ fn add_early(
 }
 
 // The posts on the child of ranks 0 and 1.
-fn take_early(alloc: Global, node: &mut Node, world: &World, child: &Name) -> Result<(), Fail> {
+fn take_early(
+    alloc: Global,
+    node: &mut Node,
+    world: &World<Brand>,
+    child: &Name,
+) -> Result<(), Fail> {
     let mut posts = Board::new(alloc);
     add_early(alloc, &mut posts, world, child, 0)?;
     add_early(alloc, &mut posts, world, child, 1)?;
@@ -64,7 +73,7 @@ fn take_early(alloc: Global, node: &mut Node, world: &World, child: &Name) -> Re
 }
 
 // All that ranks 0 and 1 tell.
-fn take_both(alloc: Global, node: &mut Node, world: &World) -> Result<(), Fail> {
+fn take_both(alloc: Global, node: &mut Node, world: &World<Brand>) -> Result<(), Fail> {
     for process in [0, 1] {
         let other = world.node(proc(process)).ok_or("no node")?;
         node.take(alloc, other.board())?;
@@ -72,9 +81,9 @@ fn take_both(alloc: Global, node: &mut Node, world: &World) -> Result<(), Fail> 
     Ok(())
 }
 
-fn dup(alloc: Global, node: &mut Node, name: &Name) -> Result<u32, PostError> {
+fn dup(alloc: Global, node: &mut Node, name: &Name, ops: &Ops) -> Result<u32, PostError> {
     match draft(alloc, &just(Kind::Dup)) {
-        Ok(draft) => node.post(alloc, name, draft),
+        Ok(draft) => node.post(alloc, name, draft, ops),
         Err(_) => Err(PostError::OutOfMemory),
     }
 }
@@ -93,6 +102,7 @@ fn has_posts_alone(
     alloc: Global,
     node: &mut Node,
     child: &Name,
+    ops: &Ops,
 ) -> Result<(), Fail> {
     sees(
         rt,
@@ -101,7 +111,7 @@ fn has_posts_alone(
         CHILD,
         &[Look::Holds(0, 0), Look::Holds(0, 1), Look::Unborn],
     )?;
-    assert_eq!(rt; node.harvest(alloc, child), Ok(Harvest::NotOpened));
+    assert_eq!(rt; node.harvest(alloc, child, ops), Ok(Harvest::NotOpened));
     assert_eq!(rt; node.prune(child, 0), Err(PruneError::NoBirth));
     Ok(())
 }
@@ -112,15 +122,16 @@ fn goes_on_below(
     alloc: Global,
     node: &mut Node,
     child: &Name,
+    ops: &Ops,
 ) -> Result<(), Fail> {
     assert_eq!(rt;
-        node.harvest(alloc, &Name::world(alloc)),
+        node.harvest(alloc, &Name::world(alloc), ops),
         Ok(Harvest::Done(0))
     );
     sees(rt, alloc, node, WORLD, &[Look::Made(0, CHILD, 3, 2)])?;
-    assert_eq!(rt; node.harvest(alloc, child), Ok(Harvest::NotYet));
-    assert_eq!(rt; dup(alloc, node, child), Ok(0));
-    assert_eq!(rt; node.harvest(alloc, child), Ok(Harvest::Done(0)));
+    assert_eq!(rt; node.harvest(alloc, child, ops), Ok(Harvest::NotYet));
+    assert_eq!(rt; dup(alloc, node, child, ops), Ok(0));
+    assert_eq!(rt; node.harvest(alloc, child, ops), Ok(Harvest::Done(0)));
     sees(
         rt,
         alloc,
@@ -135,20 +146,23 @@ fn comes_behind(
     rt: &impl Abort,
     alloc: Global,
     node: &mut Node,
-    world: &World,
+    world: &World<Brand>,
+    ops: &Ops,
 ) -> Result<(), Fail> {
     let child = name_of(alloc, CHILD)?;
-    assert_eq!(rt; dup(alloc, node, &Name::world(alloc)), Ok(0));
+    assert_eq!(rt; dup(alloc, node, &Name::world(alloc), ops), Ok(0));
     take_early(alloc, node, world, &child)?;
-    has_posts_alone(rt, alloc, node, &child)?;
+    has_posts_alone(rt, alloc, node, &child, ops)?;
     take_both(alloc, node, world)?;
-    goes_on_below(rt, alloc, node, &child)
+    goes_on_below(rt, alloc, node, &child, ops)
 }
 
-fn meets(rt: &impl Abort, alloc: Global, world: &mut World) -> Result<(), Fail> {
-    go_on(rt, alloc, world, "two are ahead", AHEAD)?;
+fn meets(rt: &impl Abort, alloc: Global, world: &mut World<Brand>, ops: &Ops) -> Result<(), Fail>
+    requires list { ⟦<Ops as Listing>⟧.operations ops.now ≡ [] }
+{
+    go_on(rt, alloc, world, "two are ahead", AHEAD, ops)?;
     let mut node = Node::new(alloc, Proc::new(2), 3, 3)?;
-    let answer = comes_behind(rt, alloc, &mut node, world);
+    let answer = comes_behind(rt, alloc, &mut node, world, ops);
     drop(node);
     answer
 }
@@ -156,8 +170,9 @@ fn meets(rt: &impl Abort, alloc: Global, world: &mut World) -> Result<(), Fail> 
 #[test]
 fn posts_on_a_child_may_come_before_its_birth(rt: HostRuntime) -> Result<(), Fail> {
     let alloc = rt.alloc();
-    let mut world = World::new(alloc, 3, 3)?;
-    let answer = meets(&rt, alloc, &mut world);
+    let ops = Ops::none(alloc);
+    let mut world = World::<Brand>::new(alloc, 3, 3)?;
+    let answer = meets(&rt, alloc, &mut world, &ops);
     drop(world);
     answer
 }

@@ -1,11 +1,12 @@
 //! Eight ports on a queue with room for one frame, and on one with room for 256. A frame that comes back is pushed on later, and each that a
 //! port pops in its turn goes in three times more. Results are the same.
-ghost use Rattle.std.specs.Prelude.{◌≡◌, ◌<◌, ◌≤◌, All};
+ghost use Rattle.std.specs.Prelude.{◌≡◌, ◌<◌, ◌≤◌, All, []};
 ghost use Rattle.mpx_bus.specs.Berths.{CanPush, GoesOn, IsSamePort};
 ghost use Rattle.process_tests.specs.Homes.{IsHome, eight};
 
 use crate::ports::{LIMIT, harvests, posts, sum_at};
 use mpx_bus::{Bus, Frame, Pop, Port, Push};
+use mpx_num::{Listing, Ops};
 use std::alloc::Global;
 use std::marker::Brand;
 use std::sync::Wait;
@@ -106,14 +107,15 @@ fn turns<R: Wait>(
 }
 
 // Each port posts its number.
-fn post_all(alloc: Global, bus: &Bus, ports: &mut [Port]) -> Result<bool, Fail>
-    requires { All (IsHome bus.now eight) ports.old }
+fn post_all(alloc: Global, bus: &Bus, ports: &mut [Port], ops: &Ops) -> Result<bool, Fail>
+    requires list { ⟦<Ops as Listing>⟧.operations ops.now ≡ [] }
+    requires homes { All (IsHome bus.now eight) ports.old }
     ensures { All (IsHome bus.now eight) ports.new }
 {
     let _ = bus;
     let mut all = true;
     for i in 0..ports.len() {
-        all = posts(alloc, &mut ports[i], i as i128)? && all;
+        all = posts(alloc, &mut ports[i], i as i128, ops)? && all;
     }
     Ok(all)
 }
@@ -124,13 +126,15 @@ fn harvest_all(
     bus: &Bus,
     ports: &mut [Port],
     sums: &mut Vec<Option<i128>>,
+    ops: &Ops,
 ) -> Result<(), Fail>
-    requires { All (IsHome bus.now eight) ports.old }
+    requires list { ⟦<Ops as Listing>⟧.operations ops.now ≡ [] }
+    requires homes { All (IsHome bus.now eight) ports.old }
     ensures { All (IsHome bus.now eight) ports.new }
 {
     let _ = bus;
     for i in 0..ports.len() {
-        harvests(alloc, &mut ports[i])?;
+        harvests(alloc, &mut ports[i], ops)?;
         sums.push(sum_at(alloc, &ports[i]))?;
     }
     Ok(())
@@ -152,33 +156,37 @@ fn sum_up<R: Wait>(
     bus: &Bus,
     ports: &mut [Port],
     sums: &mut Vec<Option<i128>>,
+    ops: &Ops,
 ) -> Result<(), Fail>
-    requires { All (IsHome bus.now eight) ports.old }
+    requires list { ⟦<Ops as Listing>⟧.operations ops.now ≡ [] }
+    requires homes { All (IsHome bus.now eight) ports.old }
     ensures { All (IsHome bus.now eight) ports.new }
 {
-    let posted = post_all(alloc, bus, ports)?;
+    let posted = post_all(alloc, bus, ports, ops)?;
     let turned = turns(rt, alloc, bus, ports, 100)?;
     if !posted || !turned {
         return Err(Fail::from("a turn failed"));
     }
-    harvest_all(alloc, bus, ports, sums)
+    harvest_all(alloc, bus, ports, sums, ops)
 }
 
-fn all_results<R: Wait>(rt: &R, alloc: Global, room: usize) -> Result<Results, Fail>
+fn all_results<R: Wait>(rt: &R, alloc: Global, room: usize, ops: &Ops) -> Result<Results, Fail>
+    requires list { ⟦<Ops as Listing>⟧.operations ops.now ≡ [] }
     requires some { 0 < room }
     requires most { room ≤ 65536 }
 {
     let (bus, mut ports) = Bus::new::<Brand>(alloc, room, 8, 8)?;
     let mut sums = Vec::new(alloc);
-    sum_up(rt, alloc, &bus, ports.as_mut_slice(), &mut sums)?;
+    sum_up(rt, alloc, &bus, ports.as_mut_slice(), &mut sums, ops)?;
     let both = meet_last(&bus, ports).ok_or("no ports")?;
     Ok(Results { sums, both })
 }
 
 #[test]
 fn eight_ports_have_one_sum_whatever_the_room(rt: HostRuntime) -> Result<(), Fail> {
-    let narrow = all_results(&rt, rt.alloc(), 1)?;
-    let wide = all_results(&rt, rt.alloc(), 256)?;
+    let ops = Ops::none(rt.alloc());
+    let narrow = all_results(&rt, rt.alloc(), 1, &ops)?;
+    let wide = all_results(&rt, rt.alloc(), 256, &ops)?;
     assert!(rt; narrow.sums.len() == 8 && narrow.sums == wide.sums);
     assert!(rt; narrow.sums.iter().all(|sum| *sum == Some(28)));
     assert_eq!(rt; (narrow.both, wide.both), (1, 1));

@@ -6,6 +6,7 @@ ghost use Rattle.mpx_bus.specs.Buses.{table_of};
 use crate::fleets::two_ports;
 use crate::ports::{LIMIT, harvests, posts, sum_at};
 use mpx_bus::{Bus, Pop, Port, Push};
+use mpx_num::{Listing, Ops};
 use std::alloc::Global;
 use std::sync::Wait;
 use std::test::Fail;
@@ -52,15 +53,17 @@ fn harvest_both(
     first: &mut Port,
     second: &mut Port,
     harvest: bool,
+    ops: &Ops,
 ) -> Result<bool, Fail>
+    requires list { (⟦<Ops as Listing>⟧.operations ops.now ≡ first.old.setup.operations) × (⟦<Ops as Listing>⟧.operations ops.now ≡ second.old.setup.operations) }
     ensures first { IsSamePort first.old first.new }
     ensures second { IsSamePort second.old second.new }
 {
     if !harvest {
         return Ok(true);
     }
-    let one = harvests(alloc, first)?;
-    let two = harvests(alloc, second)?;
+    let one = harvests(alloc, first, ops)?;
+    let two = harvests(alloc, second, ops)?;
     let sums = (sum_at(alloc, first), sum_at(alloc, second));
     Ok(one && two && sums == (Some(3), Some(3)))
 }
@@ -73,29 +76,32 @@ fn meet_after<R: Wait>(
     mut first: Port,
     mut second: Port,
     harvest: bool,
+    ops: &Ops,
 ) -> Result<u64, Fail>
+    requires list { ⟦<Ops as Listing>⟧.operations ops.now ≡ first.setup.operations }
     requires first { (first.table ≡ table_of bus.now) × (first.setup.planned ≡ false) }
     requires second { (second.table ≡ table_of bus.now) × (second.setup.planned ≡ false) }
     requires setup { second.setup ≡ first.setup }
 {
-    let one = posts(alloc, &mut first, 1)?;
-    let two = posts(alloc, &mut second, 2)?;
+    let one = posts(alloc, &mut first, 1, ops)?;
+    let two = posts(alloc, &mut second, 2, ops)?;
     let exchanged = exchange(rt, alloc, bus, &mut first, &mut second)?;
-    let done = harvest_both(alloc, &mut first, &mut second, harvest)?;
+    let done = harvest_both(alloc, &mut first, &mut second, harvest, ops)?;
     if !(one && two && exchanged && done) {
         return Err(Fail::from("not done"));
     }
     Ok(bus.meet(first, second).both)
 }
 
-fn meet_two<R: Wait>(rt: &R, alloc: Global, harvest: bool) -> Result<u64, Fail> {
-    let (bus, first, second) = two_ports(alloc, 1)?;
-    meet_after(rt, alloc, &bus, first, second, harvest)
+fn meet_two<R: Wait>(rt: &R, alloc: Global, harvest: bool, ops: &Ops) -> Result<u64, Fail> {
+    let (bus, first, second) = two_ports(alloc, 1, ops)?;
+    meet_after(rt, alloc, &bus, first, second, harvest, ops)
 }
 
 #[test]
 fn two_ports_meet_with_what_both_finished(rt: HostRuntime) -> Result<(), Fail> {
-    assert_eq!(rt; meet_two(&rt, rt.alloc(), true)?, 1);
-    assert_eq!(rt; meet_two(&rt, rt.alloc(), false)?, 0);
+    let ops = Ops::none(rt.alloc());
+    assert_eq!(rt; meet_two(&rt, rt.alloc(), true, &ops)?, 1);
+    assert_eq!(rt; meet_two(&rt, rt.alloc(), false, &ops)?, 0);
     Ok(())
 }

@@ -9,6 +9,7 @@ use crate::ports::LIMIT;
 use mpx_bus::{Bus, Pop, Port, Push};
 use mpx_encode::frame_len;
 use mpx_name::Name;
+use mpx_num::{Listing, Ops};
 use std::alloc::Global;
 use std::sync::Wait;
 use std::test::Fail;
@@ -33,29 +34,31 @@ fn pushed_until_full<R: Wait>(
 }
 
 // The same of the only port of a new bus with room for so many.
-fn room_of<R: Wait>(rt: &R, alloc: Global, room: usize) -> Result<usize, Fail>
+fn room_of<R: Wait>(rt: &R, alloc: Global, room: usize, ops: &Ops) -> Result<usize, Fail>
     requires some { 0 < room }
     requires most { room ≤ 65536 }
 {
-    let (bus, mut port) = one_port(alloc, room)?;
+    let (bus, mut port) = one_port(alloc, room, ops)?;
     pushed_until_full(rt, alloc, &bus, &mut port)
 }
 
 #[test]
 fn a_bus_has_room_for_so_many_frames(rt: HostRuntime) -> Result<(), Fail> {
-    assert_eq!(rt; room_of(&rt, rt.alloc(), 1)?, 1);
-    assert_eq!(rt; room_of(&rt, rt.alloc(), 256)?, 256);
+    let ops = Ops::none(rt.alloc());
+    assert_eq!(rt; room_of(&rt, rt.alloc(), 1, &ops)?, 1);
+    assert_eq!(rt; room_of(&rt, rt.alloc(), 256, &ops)?, 256);
     Ok(())
 }
 
 // The port posts 20 calls of 4,096 items of 64 bits, which are 655,360 bytes of items.
-fn posts_much(alloc: Global, port: &mut Port) -> Result<(), Fail>
+fn posts_much(alloc: Global, port: &mut Port, ops: &Ops) -> Result<(), Fail>
+    requires list { ⟦<Ops as Listing>⟧.operations ops.now ≡ port.old.setup.operations }
     ensures { IsSamePort port.old port.new }
 {
     let items = vec![in alloc; -5i128; 4096]?;
     let drafted = sum_of(&items);
     for _ in 0..20 {
-        port.post(alloc, &Name::world(alloc), draft(alloc, &drafted)?)?;
+        port.post(alloc, &Name::world(alloc), draft(alloc, &drafted)?, ops)?;
     }
     Ok(())
 }
@@ -89,12 +92,17 @@ fn carries<R: Wait>(
 }
 
 // Whether the second port has all posts of the first after the first frame, and after the second one; and how long the first one was.
-fn comes_to<R: Wait>(rt: &R, alloc: Global, limit: usize) -> Result<(usize, bool, bool), Fail>
+fn comes_to<R: Wait>(
+    rt: &R,
+    alloc: Global,
+    limit: usize,
+    ops: &Ops,
+) -> Result<(usize, bool, bool), Fail>
     requires least { 524288 ≤ limit }
     requires most { limit ≤ 1048576 }
 {
-    let (bus, mut first, mut second) = two_ports(alloc, 4)?;
-    posts_much(alloc, &mut first)?;
+    let (bus, mut first, mut second) = two_ports(alloc, 4, ops)?;
+    posts_much(alloc, &mut first, ops)?;
     let length = carries(rt, alloc, &bus, &mut first, &mut second, limit)?;
     let once = has_all(alloc, &second);
     carries(rt, alloc, &bus, &mut first, &mut second, limit)?;
@@ -104,9 +112,10 @@ fn comes_to<R: Wait>(rt: &R, alloc: Global, limit: usize) -> Result<(usize, bool
 // Twenty long posts are one frame of more than half a MiB, and two where that is the limit.
 #[test]
 fn frames_are_within_the_limit(rt: HostRuntime) -> Result<(), Fail> {
-    let (long, once, twice) = comes_to(&rt, rt.alloc(), 1_048_576)?;
+    let ops = Ops::none(rt.alloc());
+    let (long, once, twice) = comes_to(&rt, rt.alloc(), 1_048_576, &ops)?;
     assert!(rt; long > 524_288 && once && twice);
-    let (short, once, twice) = comes_to(&rt, rt.alloc(), 524_288)?;
+    let (short, once, twice) = comes_to(&rt, rt.alloc(), 524_288, &ops)?;
     assert!(rt; short <= 524_288 && !once && twice);
     Ok(())
 }

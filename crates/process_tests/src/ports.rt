@@ -5,6 +5,7 @@ ghost use Rattle.mpx_bus.specs.Berths.{IsSamePort};
 use mpx_bus::Port;
 use mpx_name::Name;
 use mpx_node::{Finished, Harvest};
+use mpx_num::{Listing, Ops};
 use mpx_value::Outcome;
 use std::alloc::Global;
 use std::test::Fail;
@@ -14,18 +15,20 @@ use test_drafts::a_sum;
 pub const LIMIT: usize = 1_048_576;
 
 // The port posts its number to the first sum of all.
-pub fn posts(alloc: Global, port: &mut Port, number: i128) -> Result<bool, Fail>
+pub fn posts(alloc: Global, port: &mut Port, number: i128, ops: &Ops) -> Result<bool, Fail>
+    requires list { ⟦<Ops as Listing>⟧.operations ops.now ≡ port.old.setup.operations }
     ensures { IsSamePort port.old port.new }
 {
     let draft = a_sum(alloc, number)?;
-    Ok(port.post(alloc, &Name::world(alloc), draft)? == 0)
+    Ok(port.post(alloc, &Name::world(alloc), draft, ops)? == 0)
 }
 
 // Whether the first sum of all is done.
-pub fn harvests(alloc: Global, port: &mut Port) -> Result<bool, Fail>
+pub fn harvests(alloc: Global, port: &mut Port, ops: &Ops) -> Result<bool, Fail>
+    requires list { ⟦<Ops as Listing>⟧.operations ops.now ≡ port.old.setup.operations }
     ensures { IsSamePort port.old port.new }
 {
-    Ok(port.harvest(alloc, &Name::world(alloc))? == Harvest::Done(0))
+    Ok(port.harvest(alloc, &Name::world(alloc), ops)? == Harvest::Done(0))
 }
 
 // The sum that a call gave, where it gave one.

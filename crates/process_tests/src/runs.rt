@@ -4,6 +4,7 @@ use crate::looks::Look;
 use crate::world_acts::{Act, Told};
 use crate::world_rows::{Row, run};
 use mpx_board::PruneError;
+use mpx_num::Ops;
 use mpx_post::PostError;
 use std::test::Fail;
 
@@ -206,8 +207,9 @@ const WORLDS: [(&str, u8, u8, &[Row]); 7] = [
 
 #[test]
 fn worlds_go_so(rt: HostRuntime) -> Result<(), Fail> {
+    let ops = Ops::none(rt.alloc());
     for (shown, ranks, processes, rows) in WORLDS {
-        run(&rt, rt.alloc(), shown, ranks, processes, rows)?;
+        run(&rt, rt.alloc(), shown, ranks, processes, rows, &ops)?;
     }
     Ok(())
 }

@@ -1,9 +1,13 @@
 //! Hostile schedules of worlds: parts of which none is taken, and a rank that stops.
+ghost use Rattle.std.specs.Prelude.{◌≡◌, []};
+
 use crate::contexts::WORLD;
 use crate::world_acts::{Act, Told, is_told};
 use mpx_board::PruneError;
+use mpx_num::{Listing, Ops};
 use mpx_world::World;
 use std::alloc::Global;
+use std::marker::Brand;
 use std::process::Abort;
 use std::test::Fail;
 
@@ -82,10 +86,12 @@ fn later(told: Told, times: u32) -> Told {
 }
 
 // Whether each time comes out so.
-fn are_told(alloc: Global, world: &mut World, row: Times) -> Result<bool, Fail> {
+fn are_told(alloc: Global, world: &mut World<Brand>, row: Times, ops: &Ops) -> Result<bool, Fail>
+    requires list { ⟦<Ops as Listing>⟧.operations ops.now ≡ [] }
+{
     let Times(count, number, act, told) = row;
     for times in 0..count {
-        if !is_told(alloc, world, number, act, later(told, times))? {
+        if !is_told(alloc, world, number, act, later(told, times), ops)? {
             return Ok(false);
         }
     }
@@ -95,27 +101,33 @@ fn are_told(alloc: Global, world: &mut World, row: Times) -> Result<bool, Fail> 
 fn go_on(
     rt: &impl Abort,
     alloc: Global,
-    world: &mut World,
+    world: &mut World<Brand>,
     shown: &str,
     rows: &[Times],
-) -> Result<(), Fail> {
+    ops: &Ops,
+) -> Result<(), Fail>
+    requires list { ⟦<Ops as Listing>⟧.operations ops.now ≡ [] }
+{
     for (at, row) in rows.iter().enumerate() {
-        assert!(rt; are_told(alloc, world, *row)?, "{shown}: row {at}");
+        assert!(rt; are_told(alloc, world, *row, ops)?, "{shown}: row {at}");
     }
     Ok(())
 }
 
-fn run(rt: &impl Abort, alloc: Global, shown: &str, rows: &[Times]) -> Result<(), Fail> {
-    let mut world = World::new(alloc, 3, 3)?;
-    let answer = go_on(rt, alloc, &mut world, shown, rows);
+fn run(rt: &impl Abort, alloc: Global, shown: &str, rows: &[Times], ops: &Ops) -> Result<(), Fail>
+    requires list { ⟦<Ops as Listing>⟧.operations ops.now ≡ [] }
+{
+    let mut world = World::<Brand>::new(alloc, 3, 3)?;
+    let answer = go_on(rt, alloc, &mut world, shown, rows, ops);
     drop(world);
     answer
 }
 
 #[test]
 fn hostile_schedules_of_worlds(rt: HostRuntime) -> Result<(), Fail> {
+    let ops = Ops::none(rt.alloc());
     for (shown, rows) in SCHEDULES {
-        run(&rt, rt.alloc(), shown, rows)?;
+        run(&rt, rt.alloc(), shown, rows, &ops)?;
     }
     Ok(())
 }

@@ -8,6 +8,7 @@ use crate::shared_ports::{Shared, post, share};
 use mpx_bus::{Bus, Port, Push};
 use mpx_name::Name;
 use mpx_node::Finished;
+use mpx_num::{Listing, Ops};
 use mpx_post::{Kind, PostError};
 use mpx_shared::{Dock, Poster, Pull, SharedPort, Tested};
 use mpx_value::Outcome;
@@ -50,13 +51,15 @@ fn frames<L: Dock, R: Wait>(
     alloc: Global,
     bus: &Bus,
     port: &SharedPort<L>,
+    ops: &Ops,
 ) -> Result<bool, Fail>
-    requires { table_of bus.now ≡ L.table }
+    requires list { ⟦<Ops as Listing>⟧.operations ops.now ≡ L.setup.operations }
+    requires queue { table_of bus.now ≡ L.table }
 {
-    let empty = matches!(port.pull(rt, alloc, bus), Pull::Empty);
+    let empty = matches!(port.pull(rt, alloc, bus, ops), Pull::Empty);
     let pushed = matches!(port.put(rt, alloc, bus)?, Push::Pushed);
     let full = matches!(port.put(rt, alloc, bus)?, Push::Full(_));
-    let took = matches!(port.pull(rt, alloc, bus), Pull::Took);
+    let took = matches!(port.pull(rt, alloc, bus, ops), Pull::Took);
     Ok(empty && pushed && full && took)
 }
 
@@ -80,13 +83,15 @@ fn gathers<L: Dock, R: Wait>(
     port: &SharedPort<L>,
     poster: &mut Poster<L>,
     gathering: &Name,
+    ops: &Ops,
 ) -> Result<bool, Fail>
+    requires list { ⟦<Ops as Listing>⟧.operations ops.now ≡ L.setup.operations }
     requires ledger { (L.all ≡ L.parts) × (0 < L.parts) }
     requires bus { (L.setup.planned ≡ false) × (table_of bus.now ≡ L.table) }
 {
     let drafted = draft(alloc, &just(Kind::CreateGroup))?;
-    let ticket = post(rt, alloc, port, poster, gathering, drafted)?;
-    port.pull(rt, alloc, bus);
+    let ticket = post(rt, alloc, port, poster, gathering, drafted, ops)?;
+    port.pull(rt, alloc, bus, ops);
     match port.test(rt, alloc, &ticket)? {
         Tested::Done(finished) => Ok(is_alone(&finished)),
         _ => Ok(false),
@@ -101,12 +106,14 @@ fn is_refused<L: Dock, R: Wait>(
     poster: &mut Poster<L>,
     name: &Name,
     kind: Kind,
+    ops: &Ops,
 ) -> Result<bool, Fail>
+    requires list { ⟦<Ops as Listing>⟧.operations ops.now ≡ L.setup.operations }
     requires ledger { (L.all ≡ L.parts) × (0 < L.parts) }
     requires plan { L.setup.planned ≡ false }
 {
     let drafted = draft(alloc, &just(kind))?;
-    let answer = post(rt, alloc, port, poster, name, drafted);
+    let answer = post(rt, alloc, port, poster, name, drafted, ops);
     Ok(matches!(answer, Err(PostError::Closed)))
 }
 
@@ -117,15 +124,17 @@ fn frees<L: Dock, R: Wait>(
     port: &SharedPort<L>,
     poster: &mut Poster<L>,
     gathering: &Name,
+    ops: &Ops,
 ) -> Result<bool, Fail>
+    requires list { ⟦<Ops as Listing>⟧.operations ops.now ≡ L.setup.operations }
     requires ledger { (L.all ≡ L.parts) × (0 < L.parts) }
     requires plan { L.setup.planned ≡ false }
 {
     let world = Name::world(alloc);
     let open = !port.is_closed(rt, poster, &world);
-    let freed = !is_refused(rt, alloc, port, poster, &world, Kind::Free)?;
+    let freed = !is_refused(rt, alloc, port, poster, &world, Kind::Free, ops)?;
     let closed = port.is_closed(rt, poster, &world) && !port.is_closed(rt, poster, gathering);
-    let refused = is_refused(rt, alloc, port, poster, &world, Kind::Barrier)?;
+    let refused = is_refused(rt, alloc, port, poster, &world, Kind::Barrier, ops)?;
     Ok(open && freed && closed && refused)
 }
 
@@ -136,28 +145,31 @@ fn all_told<L: Dock, R: Wait>(
     bus: &Bus,
     port: Port,
     blank: Blank,
+    ops: &Ops,
 ) -> Result<AllTold, Fail>
+    requires list { ⟦<Ops as Listing>⟧.operations ops.now ≡ L.setup.operations }
     requires ledger { (blank.name ≡ L.name) × ((blank.parts ≡ L.parts) × ((L.all ≡ L.parts) × (0 < L.parts))) }
     requires port { (0 ≡ L.me) × (IsDocked L.table L.setup L.me port × ((port.journal ≡ L.opening) × (length (made_in port) ≡ L.before))) }
     requires bus { (L.setup.planned ≡ false) × (table_of bus.now ≡ L.table) }
 {
     let Shared { port, mut poster } = share::<L>(alloc, port, 0, blank);
-    let framed = frames(rt, alloc, bus, &port)?;
+    let framed = frames(rt, alloc, bus, &port, ops)?;
     let gathering = port.open_gathering(rt, alloc, &mut poster, &Name::world(alloc), 3, &[0])?;
-    let gathered = gathers(rt, alloc, bus, &port, &mut poster, &gathering)?;
+    let gathered = gathers(rt, alloc, bus, &port, &mut poster, &gathering, ops)?;
     let born = births(rt, alloc, &port, &gathering)?;
-    let freed = frees(rt, alloc, &port, &mut poster, &gathering)?;
+    let freed = frees(rt, alloc, &port, &mut poster, &gathering, ops)?;
     Ok((framed, gathered, born, freed))
 }
 
 // The same of the only port of a bus with room for one frame.
-fn alone<R: Wait>(rt: &R, alloc: Global) -> Result<AllTold, Fail> {
-    let (bus, port) = one_port(alloc, 1)?;
-    all_told::<Brand, R>(rt, alloc, &bus, port, Blank::new(1))
+fn alone<R: Wait>(rt: &R, alloc: Global, ops: &Ops) -> Result<AllTold, Fail> {
+    let (bus, port) = one_port(alloc, 1, ops)?;
+    all_told::<Brand, R>(rt, alloc, &bus, port, Blank::new(1), ops)
 }
 
 #[test]
 fn a_port_alone(rt: HostRuntime) -> Result<(), Fail> {
-    assert_eq!(rt; alone(&rt, rt.alloc())?, (true, true, true, true));
+    let ops = Ops::none(rt.alloc());
+    assert_eq!(rt; alone(&rt, rt.alloc(), &ops)?, (true, true, true, true));
     Ok(())
 }

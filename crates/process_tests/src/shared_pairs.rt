@@ -10,6 +10,7 @@ use join_core::Exact;
 use mpx_bus::{Bus, Port};
 use mpx_name::Name;
 use mpx_node::Finished;
+use mpx_num::{Listing, Ops};
 use mpx_shared::{Dock, SharedPort, Tested, Ticket};
 use std::alloc::Global;
 use std::marker::Brand;
@@ -56,13 +57,15 @@ fn gossip_on<M: Dock, N: Dock, R: Wait>(
     bus: &Bus,
     first: (&SharedPort<M>, &Ticket),
     second: (&SharedPort<N>, &Ticket),
+    ops: &Ops,
 ) -> Result<bool, Fail>
+    requires list { (⟦<Ops as Listing>⟧.operations ops.now ≡ M.setup.operations) × (⟦<Ops as Listing>⟧.operations ops.now ≡ N.setup.operations) }
     requires first { table_of bus.now ≡ M.table }
     requires second { table_of bus.now ≡ N.table }
 {
     for _ in 0..20 {
-        first.0.gossip(rt, alloc, bus, 10)?;
-        second.0.gossip(rt, alloc, bus, 10)?;
+        first.0.gossip(rt, alloc, bus, 10, ops)?;
+        second.0.gossip(rt, alloc, bus, 10, ops)?;
         let one = told(rt, alloc, first.0, first.1)?;
         let two = told(rt, alloc, second.0, second.1)?;
         if one.is_some() && two.is_some() {
@@ -78,12 +81,22 @@ fn post_sum<L: Dock, R: Wait>(
     alloc: Global,
     shared: &mut Shared<L>,
     number: i128,
+    ops: &Ops,
 ) -> Result<Ticket, Fail>
+    requires list { ⟦<Ops as Listing>⟧.operations ops.now ≡ L.setup.operations }
     requires ledger { (L.all ≡ L.parts) × (0 < L.parts) }
     requires plan { L.setup.planned ≡ false }
 {
     let (world, drafted) = (Name::world(alloc), a_sum(alloc, number)?);
-    Ok(post(rt, alloc, &shared.port, &mut shared.poster, &world, drafted)?)
+    Ok(post(
+        rt,
+        alloc,
+        &shared.port,
+        &mut shared.poster,
+        &world,
+        drafted,
+        ops,
+    )?)
 }
 
 // Both post a number. Whether the first port's ticket is strange to the second, before and after its own post, and whether both
@@ -94,15 +107,24 @@ fn sum_up<M: Dock, N: Dock, R: Wait>(
     bus: &Bus,
     mut first: Shared<M>,
     mut second: Shared<N>,
+    ops: &Ops,
 ) -> Result<(bool, bool), Fail>
+    requires list { (⟦<Ops as Listing>⟧.operations ops.now ≡ M.setup.operations) × (⟦<Ops as Listing>⟧.operations ops.now ≡ N.setup.operations) }
     requires first { ((M.all ≡ M.parts) × (0 < M.parts)) × ((M.setup.planned ≡ false) × (table_of bus.now ≡ M.table)) }
     requires second { ((N.all ≡ N.parts) × (0 < N.parts)) × ((N.setup.planned ≡ false) × (table_of bus.now ≡ N.table)) }
 {
-    let one = post_sum(rt, alloc, &mut first, 7)?;
+    let one = post_sum(rt, alloc, &mut first, 7, ops)?;
     let unposted = is_strange(rt, alloc, &second.port, &one)?;
-    let two = post_sum(rt, alloc, &mut second, 8)?;
+    let two = post_sum(rt, alloc, &mut second, 8, ops)?;
     let posted = is_strange(rt, alloc, &second.port, &one)?;
-    let summed = gossip_on(rt, alloc, bus, (&first.port, &one), (&second.port, &two))?;
+    let summed = gossip_on(
+        rt,
+        alloc,
+        bus,
+        (&first.port, &one),
+        (&second.port, &two),
+        ops,
+    )?;
     Ok((unposted && posted, summed))
 }
 
@@ -113,7 +135,9 @@ fn share_two<M: Dock, N: Dock, R: Wait>(
     bus: &Bus,
     first: (Port, Blank),
     second: (Port, Blank),
+    ops: &Ops,
 ) -> Result<(bool, bool), Fail>
+    requires list { (⟦<Ops as Listing>⟧.operations ops.now ≡ M.setup.operations) × (⟦<Ops as Listing>⟧.operations ops.now ≡ N.setup.operations) }
     requires first_ledger { (first.1.name ≡ M.name) × ((first.1.parts ≡ M.parts) × ((M.all ≡ M.parts) × (0 < M.parts))) }
     requires first_port { (0 ≡ M.me) × (IsDocked M.table M.setup M.me first.0 × ((first.0.journal ≡ M.opening) × (length (made_in first.0) ≡ M.before))) }
     requires first_bus { (M.setup.planned ≡ false) × (table_of bus.now ≡ M.table) }
@@ -123,19 +147,20 @@ fn share_two<M: Dock, N: Dock, R: Wait>(
 {
     let first = share::<M>(alloc, first.0, 0, first.1);
     let second = share::<N>(alloc, second.0, 1, second.1);
-    sum_up(rt, alloc, bus, first, second)
+    sum_up(rt, alloc, bus, first, second, ops)
 }
 
 // Whether a ticket is strange to the other port, and whether both are told the sum.
-fn meet<R: Wait>(rt: &R, alloc: Global) -> Result<(bool, bool), Fail> {
-    let (bus, first, second) = two_ports(alloc, 16)?;
+fn meet<R: Wait>(rt: &R, alloc: Global, ops: &Ops) -> Result<(bool, bool), Fail> {
+    let (bus, first, second) = two_ports(alloc, 16, ops)?;
     let first = (first, Blank::new(1));
     let second = (second, Blank::new(1));
-    share_two::<Brand, Brand, R>(rt, alloc, &bus, first, second)
+    share_two::<Brand, Brand, R>(rt, alloc, &bus, first, second, ops)
 }
 
 #[test]
 fn two_shared_ports_have_one_sum(rt: HostRuntime) -> Result<(), Fail> {
-    assert_eq!(rt; meet(&rt, rt.alloc())?, (true, true));
+    let ops = Ops::none(rt.alloc());
+    assert_eq!(rt; meet(&rt, rt.alloc(), &ops)?, (true, true));
     Ok(())
 }

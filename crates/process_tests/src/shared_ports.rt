@@ -5,6 +5,7 @@ ghost use Rattle.mpx_shared.specs.Docks.{IsDocked, made_in};
 use mpx_bus::Port;
 use mpx_group::Proc;
 use mpx_name::Name;
+use mpx_num::{Listing, Ops};
 use mpx_post::{Draft, PostError};
 use mpx_shared::{Dock, Poster, SharedPort, Ticket};
 use std::alloc::Global;
@@ -38,9 +39,11 @@ pub fn post<L: Dock, R: Wait>(
     poster: &mut Poster<L>,
     name: &Name,
     draft: Draft,
+    ops: &Ops,
 ) -> Result<Ticket, PostError>
+    requires list { ⟦<Ops as Listing>⟧.operations ops.now ≡ L.setup.operations }
     requires ledger { (L.all ≡ L.parts) × (0 < L.parts) }
     requires plan { L.setup.planned ≡ false }
 {
-    port.post(rt, alloc, poster, name, draft)
+    port.post(rt, alloc, poster, name, draft, ops)
 }

@@ -1,5 +1,6 @@
 //! One thread posts, while another gossips.
-ghost use Rattle.std.specs.Prelude.{◌≡◌, ◌<◌, false, length};
+ghost use Rattle.std.specs.Prelude.{◌≡◌, ◌<◌, false, length, map};
+ghost use Rattle.mpx_num.specs.Own.{operation_of};
 ghost use Rattle.mpx_bus.specs.Buses.{table_of};
 ghost use Rattle.mpx_shared.specs.Docks.{IsDocked, made_in};
 
@@ -7,6 +8,7 @@ use crate::fleets::one_port;
 use crate::shared_ports::{Shared, post, share};
 use mpx_bus::{Bus, Port};
 use mpx_name::Name;
+use mpx_num::{Listing, Ops};
 use mpx_post::{Kind, PostError};
 use mpx_shared::{Dock, Poster, SharedPort};
 use std::alloc::Global;
@@ -22,14 +24,16 @@ fn post_barrier<L: Dock, R: Wait>(
     alloc: Global,
     port: &SharedPort<L>,
     poster: &mut Poster<L>,
+    ops: &Ops,
 ) -> Result<(), PostError>
+    requires list { ⟦<Ops as Listing>⟧.operations ops.now ≡ L.setup.operations }
     requires ledger { (L.all ≡ L.parts) × (0 < L.parts) }
     requires plan { L.setup.planned ≡ false }
 {
     let Ok(draft) = draft(alloc, &just(Kind::Barrier)) else {
         return Err(PostError::OutOfMemory);
     };
-    let _ticket = post(rt, alloc, port, poster, &Name::world(alloc), draft)?;
+    let _ticket = post(rt, alloc, port, poster, &Name::world(alloc), draft, ops)?;
     Ok(())
 }
 
@@ -40,12 +44,14 @@ fn post_barriers<L: Dock, R: Wait>(
     port: &SharedPort<L>,
     mut poster: Poster<L>,
     count: u32,
+    ops: &Ops,
 ) -> Poster<L>
+    requires list { ⟦<Ops as Listing>⟧.operations ops.now ≡ L.setup.operations }
     requires ledger { (L.all ≡ L.parts) × (0 < L.parts) }
     requires plan { L.setup.planned ≡ false }
 {
     for _ in 0..count {
-        if post_barrier(rt, alloc, port, &mut poster).is_err() {
+        if post_barrier(rt, alloc, port, &mut poster, ops).is_err() {
             return poster;
         }
     }
@@ -59,7 +65,9 @@ fn post_and_gossip<L: Dock + Send + Sync, R: Threads + Wait + Sync>(
     bus: &Bus,
     port: &SharedPort<L>,
     poster: Poster<L>,
+    ops: &Ops,
 ) -> (Poster<L>, bool)
+    requires list { ⟦<Ops as Listing>⟧.operations ops.now ≡ L.setup.operations }
     requires ledger { (L.all ≡ L.parts) × (0 < L.parts) }
     requires plan { L.setup.planned ≡ false }
     requires queue { table_of bus.now ≡ L.table }
@@ -67,11 +75,11 @@ fn post_and_gossip<L: Dock + Send + Sync, R: Threads + Wait + Sync>(
     join(
         rt,
         move || -> Poster<L>
-            requires { ((L.all ≡ L.parts) × (0 < L.parts)) × (L.setup.planned ≡ false) }
-        { post_barriers(rt, alloc, port, poster, 1_000) },
+            requires { (((L.all ≡ L.parts) × (0 < L.parts)) × (L.setup.planned ≡ false)) × (map (λ b. operation_of (word_bytes (b.vtable, b.value)) (fits_type (b.vtable, b.value)) (combination (b.vtable, b.value))) ops.now.list.items ≡ L.setup.operations) }
+        { post_barriers(rt, alloc, port, poster, 1_000, ops) },
         || -> bool
-            requires { table_of bus.now ≡ L.table }
-        { port.gossip(rt, alloc, bus, 1_000).is_ok() },
+            requires { (table_of bus.now ≡ L.table) × (map (λ b. operation_of (word_bytes (b.vtable, b.value)) (fits_type (b.vtable, b.value)) (combination (b.vtable, b.value))) ops.now.list.items ≡ L.setup.operations) }
+        { port.gossip(rt, alloc, bus, 1_000, ops).is_ok() },
     )
 }
 
@@ -82,26 +90,29 @@ fn work<L: Dock + Send + Sync, R: Threads + Wait + Sync>(
     bus: &Bus,
     port: Port,
     blank: Blank,
+    ops: &Ops,
 ) -> Result<u32, Fail>
+    requires list { ⟦<Ops as Listing>⟧.operations ops.now ≡ L.setup.operations }
     requires ledger { (blank.name ≡ L.name) × ((blank.parts ≡ L.parts) × ((L.all ≡ L.parts) × (0 < L.parts))) }
     requires port { (0 ≡ L.me) × (IsDocked L.table L.setup L.me port × ((port.journal ≡ L.opening) × (length (made_in port) ≡ L.before))) }
     requires bus { (L.setup.planned ≡ false) × (table_of bus.now ≡ L.table) }
 {
     let Shared { port, poster } = share::<L>(alloc, port, 0, blank);
-    let (poster, gossiped) = post_and_gossip(rt, alloc, bus, &port, poster);
+    let (poster, gossiped) = post_and_gossip(rt, alloc, bus, &port, poster, ops);
     if !gossiped {
         return Err(Fail::from("out of memory"));
     }
     Ok(port.into_port(poster).node().posted(&Name::world(alloc)))
 }
 
-fn posted<R: Threads + Wait + Sync>(rt: &R, alloc: Global) -> Result<u32, Fail> {
-    let (bus, port) = one_port(alloc, 16)?;
-    work::<Brand, R>(rt, alloc, &bus, port, Blank::new(1))
+fn posted<R: Threads + Wait + Sync>(rt: &R, alloc: Global, ops: &Ops) -> Result<u32, Fail> {
+    let (bus, port) = one_port(alloc, 16, ops)?;
+    work::<Brand, R>(rt, alloc, &bus, port, Blank::new(1), ops)
 }
 
 #[test]
 fn one_thread_posts_beside_gossip(rt: HostRuntime) -> Result<(), Fail> {
-    assert_eq!(rt; posted(&rt, rt.alloc())?, 1_000);
+    let ops = Ops::none(rt.alloc());
+    assert_eq!(rt; posted(&rt, rt.alloc(), &ops)?, 1_000);
     Ok(())
 }

@@ -1,7 +1,11 @@
 //! A long list of events.
+ghost use Rattle.std.specs.Prelude.{◌≡◌, []};
+
 use crate::world_acts::{Act, event};
+use mpx_num::{Listing, Ops};
 use mpx_world::{Event, Reply, World};
 use std::alloc::Global;
+use std::marker::Brand;
 use std::test::Fail;
 use test_drafts::proc;
 
@@ -29,17 +33,20 @@ fn are_right(replies: &[Reply]) -> bool {
 }
 
 // Whether all of the many are answered so.
-fn takes_many(alloc: Global, world: &mut World) -> Result<bool, Fail> {
+fn takes_many(alloc: Global, world: &mut World<Brand>, ops: &Ops) -> Result<bool, Fail>
+    requires list { ⟦<Ops as Listing>⟧.operations ops.now ≡ [] }
+{
     let events = many_takes(alloc)?;
-    let replies = world.run(alloc, &events)?;
+    let replies = world.run(alloc, &events, ops)?;
     Ok(replies.len() == 10_000 && are_right(&replies))
 }
 
 #[test]
 fn ten_thousand_events(rt: HostRuntime) -> Result<(), Fail> {
     let alloc = rt.alloc();
-    let mut world = World::new(alloc, 2, 2)?;
-    let answer = takes_many(alloc, &mut world);
+    let ops = Ops::none(alloc);
+    let mut world = World::<Brand>::new(alloc, 2, 2)?;
+    let answer = takes_many(alloc, &mut world, &ops);
     drop(world);
     assert!(rt; answer?);
     Ok(())

@@ -9,6 +9,7 @@ use mpx_board::PruneError;
 use mpx_group::Proc;
 use mpx_name::Name;
 use mpx_node::{Harvest, Node};
+use mpx_num::Ops;
 use mpx_post::PostError;
 use mpx_wire::decode;
 use std::alloc::Global;
@@ -214,9 +215,10 @@ fn posts(
     node: &mut Node,
     world: &Name,
     number: i128,
+    ops: &Ops,
 ) -> Result<Result<u32, PostError>, Fail> {
     let draft = draft(alloc, &sum_of(&[number]))?;
-    Ok(node.post(alloc, world, draft))
+    Ok(node.post(alloc, world, draft, ops))
 }
 
 fn opens(alloc: Global, node: &mut Node, world: &Name) -> Result<(), PostError> {
@@ -234,12 +236,18 @@ fn tells(alloc: Global, node: &mut Node, world: &Name) -> Result<bool, Fail> {
 }
 
 // Does what the step says, and answers whether it comes out so.
-fn is_so(alloc: Global, node: &mut Node, world: &Name, step: Step) -> Result<bool, Fail> {
+fn is_so(
+    alloc: Global,
+    node: &mut Node,
+    world: &Name,
+    step: Step,
+    ops: &Ops,
+) -> Result<bool, Fail> {
     match step {
         Step::Takes(frame) => takes(alloc, node, frame),
-        Step::Posts(number, told) => Ok(posts(alloc, node, world, number)? == told),
+        Step::Posts(number, told) => Ok(posts(alloc, node, world, number, ops)? == told),
         Step::Opens(told) => Ok(opens(alloc, node, world) == told),
-        Step::Harvests(told) => Ok(node.harvest(alloc, world)? == told),
+        Step::Harvests(told) => Ok(node.harvest(alloc, world, ops)? == told),
         Step::Prunes(number, told) => Ok(node.prune(world, number) == told),
         Step::Tells(told) => Ok(tells(alloc, node, world)? == told),
         Step::Sees(look) => is_seen(alloc, node, world, look),
@@ -252,25 +260,30 @@ fn go_on(
     node: &mut Node,
     shown: &str,
     steps: &[Step],
+    ops: &Ops,
 ) -> Result<(), Fail> {
     let world = Name::world(alloc);
     for (at, step) in steps.iter().enumerate() {
-        assert!(rt; is_so(alloc, node, &world, *step)?, "{shown}: step {at}");
+        assert!(rt;
+            is_so(alloc, node, &world, *step, ops)?,
+            "{shown}: step {at}"
+        );
     }
     Ok(())
 }
 
-fn run(rt: &impl Abort, alloc: Global, shown: &str, steps: &[Step]) -> Result<(), Fail> {
+fn run(rt: &impl Abort, alloc: Global, shown: &str, steps: &[Step], ops: &Ops) -> Result<(), Fail> {
     let mut node = Node::new(alloc, Proc::new(0), 2, 2)?;
-    let answer = go_on(rt, alloc, &mut node, shown, steps);
+    let answer = go_on(rt, alloc, &mut node, shown, steps, ops);
     drop(node);
     answer
 }
 
 #[test]
 fn nodes_take_frames_that_no_process_sent(rt: HostRuntime) -> Result<(), Fail> {
+    let ops = Ops::none(rt.alloc());
     for (shown, steps) in NODES {
-        run(&rt, rt.alloc(), shown, steps)?;
+        run(&rt, rt.alloc(), shown, steps, &ops)?;
     }
     Ok(())
 }

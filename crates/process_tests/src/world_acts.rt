@@ -1,12 +1,15 @@
 //! What processes of a world do, and what they are told.
+ghost use Rattle.std.specs.Prelude.{◌≡◌, []};
+
 use crate::contexts::{On, WORLD, name_of, sum_of};
 use mpx_board::PruneError;
 use mpx_group::Proc;
 use mpx_name::Name;
-use mpx_num::Numbers;
+use mpx_num::{Listing, Numbers, Ops};
 use mpx_post::{Kind, PostError};
 use mpx_world::{Cut, Event, Names, Reply, World};
 use std::alloc::Global;
+use std::marker::Brand;
 use std::test::Fail;
 use test_drafts::{Drafted, draft, just, proc};
 
@@ -122,20 +125,31 @@ fn reply_of(alloc: Global, told: Told) -> Result<Reply, Fail> {
 }
 
 // What the process is told when it does this.
-fn reply(alloc: Global, world: &mut World, number: u8, act: Act) -> Result<Reply, Fail> {
+fn reply(
+    alloc: Global,
+    world: &mut World<Brand>,
+    number: u8,
+    act: Act,
+    ops: &Ops,
+) -> Result<Reply, Fail>
+    requires list { ⟦<Ops as Listing>⟧.operations ops.now ≡ [] }
+{
     let events = vec![in alloc; event(alloc, number, act)?]?;
-    let mut replies = world.run(alloc, &events)?;
+    let mut replies = world.run(alloc, &events, ops)?;
     Ok(replies.pop().ok_or("no reply")?)
 }
 
 // Whether it is told that.
 pub fn is_told(
     alloc: Global,
-    world: &mut World,
+    world: &mut World<Brand>,
     number: u8,
     act: Act,
     told: Told,
-) -> Result<bool, Fail> {
+    ops: &Ops,
+) -> Result<bool, Fail>
+    requires list { ⟦<Ops as Listing>⟧.operations ops.now ≡ [] }
+{
     let wanted = reply_of(alloc, told)?;
-    Ok(reply(alloc, world, number, act)? == wanted)
+    Ok(reply(alloc, world, number, act, ops)? == wanted)
 }

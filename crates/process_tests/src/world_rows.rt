@@ -1,10 +1,14 @@
 //! Rows of what processes of a world do and what is then seen.
+ghost use Rattle.std.specs.Prelude.{◌≡◌, []};
+
 use crate::contexts::{On, name_of};
 use crate::looks::{Look, is_seen};
 use crate::world_acts::{Act, Told, is_told};
 use join_core::Exact;
+use mpx_num::{Listing, Ops};
 use mpx_world::World;
 use std::alloc::Global;
+use std::marker::Brand;
 use std::process::Abort;
 use std::test::Fail;
 use test_drafts::proc;
@@ -21,13 +25,13 @@ pub enum Row {
     Nobody(u8),
 }
 
-fn sees(alloc: Global, world: &World, number: u8, on: On, look: Look) -> Result<bool, Fail> {
+fn sees(alloc: Global, world: &World<Brand>, number: u8, on: On, look: Look) -> Result<bool, Fail> {
     let node = world.node(proc(number)).ok_or("no node")?;
     let name = name_of(alloc, on)?;
     is_seen(alloc, node, &name, look)
 }
 
-fn have_the_same(world: &World, one: u8, other: u8) -> bool {
+fn have_the_same(world: &World<Brand>, one: u8, other: u8) -> bool {
     match (world.node(proc(one)), world.node(proc(other))) {
         (Some(one), Some(other)) => one.board().same(other.board()),
         _ => false,
@@ -35,9 +39,11 @@ fn have_the_same(world: &World, one: u8, other: u8) -> bool {
 }
 
 // Does what the row says, and answers whether it comes out so.
-fn is_so(alloc: Global, world: &mut World, row: Row) -> Result<bool, Fail> {
+fn is_so(alloc: Global, world: &mut World<Brand>, row: Row, ops: &Ops) -> Result<bool, Fail>
+    requires list { ⟦<Ops as Listing>⟧.operations ops.now ≡ [] }
+{
     match row {
-        Row::Does(number, act, told) => is_told(alloc, world, number, act, told),
+        Row::Does(number, act, told) => is_told(alloc, world, number, act, told, ops),
         Row::Sees(number, on, look) => sees(alloc, world, number, on, look),
         Row::Same(one, other) => Ok(have_the_same(world, one, other)),
         Row::Nobody(number) => Ok(world.node(proc(number)).is_none()),
@@ -48,12 +54,15 @@ fn is_so(alloc: Global, world: &mut World, row: Row) -> Result<bool, Fail> {
 pub fn go_on(
     rt: &impl Abort,
     alloc: Global,
-    world: &mut World,
+    world: &mut World<Brand>,
     shown: &str,
     rows: &[Row],
-) -> Result<(), Fail> {
+    ops: &Ops,
+) -> Result<(), Fail>
+    requires list { ⟦<Ops as Listing>⟧.operations ops.now ≡ [] }
+{
     for (at, row) in rows.iter().enumerate() {
-        assert!(rt; is_so(alloc, world, *row)?, "{shown}: row {at}");
+        assert!(rt; is_so(alloc, world, *row, ops)?, "{shown}: row {at}");
     }
     Ok(())
 }
@@ -66,12 +75,15 @@ pub fn run(
     ranks: u8,
     processes: u8,
     rows: &[Row],
-) -> Result<(), Fail> {
+    ops: &Ops,
+) -> Result<(), Fail>
+    requires list { ⟦<Ops as Listing>⟧.operations ops.now ≡ [] }
+{
     if ranks == 0 || ranks > processes || processes > 64 {
         return Err(Fail::from("no world"));
     }
-    let mut world = World::new(alloc, ranks, processes)?;
-    let answer = go_on(rt, alloc, &mut world, shown, rows);
+    let mut world = World::<Brand>::new(alloc, ranks, processes)?;
+    let answer = go_on(rt, alloc, &mut world, shown, rows, ops);
     drop(world);
     answer
 }

@@ -4,6 +4,7 @@ use crate::trial::Trial;
 use crate::trouble::{Trouble, both, filled, taken};
 use join_core::Exact;
 use mpx_group::Proc;
+use mpx_num::Ops;
 use mpx_post::{Birth, Neighbour, Neighbours, Topology};
 use std::alloc::Global;
 
@@ -101,7 +102,7 @@ impl Trial for BirthCall {
 
     type Made = BirthMade;
 
-    fn start(&self, alloc: Global) -> Result<Born, Trouble> {
+    fn start(&self, alloc: Global, _ops: &Ops) -> Result<Born, Trouble> {
         let (birth, near) = both(all_near(alloc), near(alloc))?;
         let mut born = Born {
             birth,
@@ -113,7 +114,7 @@ impl Trial for BirthCall {
         filled(born, done)
     }
 
-    fn call(&self, alloc: Global, born: &mut Born) -> Result<BirthMade, Trouble> {
+    fn call(&self, alloc: Global, born: &mut Born, _ops: &Ops) -> Result<BirthMade, Trouble> {
         match self {
             BirthCall::World => Ok(BirthMade::Birth(Birth::world(alloc, 3)?)),
             BirthCall::New => {

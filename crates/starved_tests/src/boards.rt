@@ -8,6 +8,7 @@ use mpx_board::Board;
 use mpx_delta::{deltas, digest_of};
 use mpx_group::Proc;
 use mpx_name::Name;
+use mpx_num::Ops;
 use mpx_post::{Birth, Kind, Post};
 use std::alloc::Global;
 use test_drafts::proc;
@@ -135,7 +136,7 @@ impl Trial for BoardCall {
 
     type Made = ();
 
-    fn start(&self, alloc: Global) -> Result<Told, Trouble> {
+    fn start(&self, alloc: Global, _ops: &Ops) -> Result<Told, Trouble> {
         let (board, child) = both(some_board(alloc), child(alloc))?;
         let mut told = Told {
             board,
@@ -148,7 +149,7 @@ impl Trial for BoardCall {
         filled(told, done)
     }
 
-    fn call(&self, alloc: Global, told: &mut Told) -> Result<(), Trouble> {
+    fn call(&self, alloc: Global, told: &mut Told, _ops: &Ops) -> Result<(), Trouble> {
         match self {
             BoardCall::JoinPost => join_post(alloc, told),
             BoardCall::AddPost => add_post(alloc, told),

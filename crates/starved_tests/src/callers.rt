@@ -1,7 +1,7 @@
 //! Each call of a desk by its name.
 use mpx_comm::{CallError, Comm, Desk, Request};
 use mpx_node::{Finished, Node};
-use mpx_num::{Numbers, Op, Ty};
+use mpx_num::{Numbers, Op, Ops, Ty};
 use mpx_post::{Kind, PostError};
 use std::alloc::Global;
 
@@ -19,24 +19,25 @@ pub fn plain(
     desk: &mut Desk<Node>,
     comm: &Comm,
     kind: Kind,
+    ops: &Ops,
 ) -> Result<Finished, CallError> {
     match kind {
-        Kind::Barrier => desk.barrier(alloc, comm, 0),
-        Kind::Free => desk.free(alloc, comm, 0),
-        Kind::Bcast => desk.bcast(alloc, comm, 0, Ty::I64, 1, seven(), 0),
-        Kind::Gather => desk.gather(alloc, comm, 0, Ty::I64, seven(), 0),
-        Kind::Scatter => desk.scatter(alloc, comm, 0, Ty::I64, 1, seven(), 0),
-        Kind::Allgather => desk.allgather(alloc, comm, Ty::U8, seven(), 0),
-        Kind::Alltoall => desk.alltoall(alloc, comm, Ty::U8, 1, seven(), 0),
-        Kind::Reduce => desk.reduce(alloc, comm, 0, Op::Sum, Ty::I64, seven(), 0),
-        Kind::Allreduce => desk.allreduce(alloc, comm, Op::Sum, Ty::I64, seven(), 0),
+        Kind::Barrier => desk.barrier(alloc, comm, 0, ops),
+        Kind::Free => desk.free(alloc, comm, 0, ops),
+        Kind::Bcast => desk.bcast(alloc, comm, 0, Ty::I64, 1, seven(), 0, ops),
+        Kind::Gather => desk.gather(alloc, comm, 0, Ty::I64, seven(), 0, ops),
+        Kind::Scatter => desk.scatter(alloc, comm, 0, Ty::I64, 1, seven(), 0, ops),
+        Kind::Allgather => desk.allgather(alloc, comm, Ty::U8, seven(), 0, ops),
+        Kind::Alltoall => desk.alltoall(alloc, comm, Ty::U8, 1, seven(), 0, ops),
+        Kind::Reduce => desk.reduce(alloc, comm, 0, Op::Sum, Ty::I64, seven(), 0, ops),
+        Kind::Allreduce => desk.allreduce(alloc, comm, Op::Sum, Ty::I64, seven(), 0, ops),
         Kind::ReduceScatterBlock => {
-            desk.reduce_scatter_block(alloc, comm, Op::Sum, Ty::I64, 1, seven(), 0)
+            desk.reduce_scatter_block(alloc, comm, Op::Sum, Ty::I64, 1, seven(), 0, ops)
         }
-        Kind::Scan => desk.scan(alloc, comm, Op::Sum, Ty::I64, seven(), 0),
-        Kind::Exscan => desk.exscan(alloc, comm, Op::Sum, Ty::I64, seven(), 0),
-        Kind::NeighborAllgather => desk.neighbor_allgather(alloc, comm, Ty::I8, 1, seven(), 0),
-        _ => desk.neighbor_alltoall(alloc, comm, Ty::I8, 1, 1, seven(), 0),
+        Kind::Scan => desk.scan(alloc, comm, Op::Sum, Ty::I64, seven(), 0, ops),
+        Kind::Exscan => desk.exscan(alloc, comm, Op::Sum, Ty::I64, seven(), 0, ops),
+        Kind::NeighborAllgather => desk.neighbor_allgather(alloc, comm, Ty::I8, 1, seven(), 0, ops),
+        _ => desk.neighbor_alltoall(alloc, comm, Ty::I8, 1, 1, seven(), 0, ops),
     }
 }
 
@@ -46,19 +47,20 @@ pub fn counted(
     desk: &mut Desk<Node>,
     comm: &Comm,
     kind: Kind,
+    ops: &Ops,
 ) -> Result<Finished, CallError> {
     match kind {
-        Kind::Gatherv => desk.gatherv(alloc, comm, 0, Ty::I64, one(), seven(), 0),
-        Kind::Scatterv => desk.scatterv(alloc, comm, 0, Ty::I64, one(), 1, seven(), 0),
-        Kind::Allgatherv => desk.allgatherv(alloc, comm, Ty::U8, one(), seven(), 0),
-        Kind::Alltoallv => desk.alltoallv(alloc, comm, Ty::U8, one(), one(), seven(), 0),
+        Kind::Gatherv => desk.gatherv(alloc, comm, 0, Ty::I64, one(), seven(), 0, ops),
+        Kind::Scatterv => desk.scatterv(alloc, comm, 0, Ty::I64, one(), 1, seven(), 0, ops),
+        Kind::Allgatherv => desk.allgatherv(alloc, comm, Ty::U8, one(), seven(), 0, ops),
+        Kind::Alltoallv => desk.alltoallv(alloc, comm, Ty::U8, one(), one(), seven(), 0, ops),
         Kind::ReduceScatter => {
-            desk.reduce_scatter(alloc, comm, Op::Sum, Ty::I64, one(), seven(), 0)
+            desk.reduce_scatter(alloc, comm, Op::Sum, Ty::I64, one(), seven(), 0, ops)
         }
         Kind::NeighborAllgatherv => {
-            desk.neighbor_allgatherv(alloc, comm, Ty::I8, one(), seven(), 0)
+            desk.neighbor_allgatherv(alloc, comm, Ty::I8, one(), seven(), 0, ops)
         }
-        _ => desk.neighbor_alltoallv(alloc, comm, Ty::I8, one(), one(), seven(), 0),
+        _ => desk.neighbor_alltoallv(alloc, comm, Ty::I8, one(), one(), seven(), 0, ops),
     }
 }
 
@@ -68,23 +70,24 @@ pub fn start_plain(
     desk: &mut Desk<Node>,
     comm: &Comm,
     kind: Kind,
+    ops: &Ops,
 ) -> Result<Request, PostError> {
     match kind {
-        Kind::Barrier => desk.ibarrier(alloc, comm),
-        Kind::Bcast => desk.ibcast(alloc, comm, 0, Ty::I64, 1, seven()),
-        Kind::Gather => desk.igather(alloc, comm, 0, Ty::I64, seven()),
-        Kind::Scatter => desk.iscatter(alloc, comm, 0, Ty::I64, 1, seven()),
-        Kind::Allgather => desk.iallgather(alloc, comm, Ty::U8, seven()),
-        Kind::Alltoall => desk.ialltoall(alloc, comm, Ty::U8, 1, seven()),
-        Kind::Reduce => desk.ireduce(alloc, comm, 0, Op::Sum, Ty::I64, seven()),
-        Kind::Allreduce => desk.iallreduce(alloc, comm, Op::Sum, Ty::I64, seven()),
+        Kind::Barrier => desk.ibarrier(alloc, comm, ops),
+        Kind::Bcast => desk.ibcast(alloc, comm, 0, Ty::I64, 1, seven(), ops),
+        Kind::Gather => desk.igather(alloc, comm, 0, Ty::I64, seven(), ops),
+        Kind::Scatter => desk.iscatter(alloc, comm, 0, Ty::I64, 1, seven(), ops),
+        Kind::Allgather => desk.iallgather(alloc, comm, Ty::U8, seven(), ops),
+        Kind::Alltoall => desk.ialltoall(alloc, comm, Ty::U8, 1, seven(), ops),
+        Kind::Reduce => desk.ireduce(alloc, comm, 0, Op::Sum, Ty::I64, seven(), ops),
+        Kind::Allreduce => desk.iallreduce(alloc, comm, Op::Sum, Ty::I64, seven(), ops),
         Kind::ReduceScatterBlock => {
-            desk.ireduce_scatter_block(alloc, comm, Op::Sum, Ty::I64, 1, seven())
+            desk.ireduce_scatter_block(alloc, comm, Op::Sum, Ty::I64, 1, seven(), ops)
         }
-        Kind::Scan => desk.iscan(alloc, comm, Op::Sum, Ty::I64, seven()),
-        Kind::Exscan => desk.iexscan(alloc, comm, Op::Sum, Ty::I64, seven()),
-        Kind::NeighborAllgather => desk.ineighbor_allgather(alloc, comm, Ty::I8, 1, seven()),
-        _ => desk.ineighbor_alltoall(alloc, comm, Ty::I8, 1, 1, seven()),
+        Kind::Scan => desk.iscan(alloc, comm, Op::Sum, Ty::I64, seven(), ops),
+        Kind::Exscan => desk.iexscan(alloc, comm, Op::Sum, Ty::I64, seven(), ops),
+        Kind::NeighborAllgather => desk.ineighbor_allgather(alloc, comm, Ty::I8, 1, seven(), ops),
+        _ => desk.ineighbor_alltoall(alloc, comm, Ty::I8, 1, 1, seven(), ops),
     }
 }
 
@@ -94,19 +97,20 @@ pub fn start_counted(
     desk: &mut Desk<Node>,
     comm: &Comm,
     kind: Kind,
+    ops: &Ops,
 ) -> Result<Request, PostError> {
     match kind {
-        Kind::Gatherv => desk.igatherv(alloc, comm, 0, Ty::I64, one(), seven()),
-        Kind::Scatterv => desk.iscatterv(alloc, comm, 0, Ty::I64, one(), 1, seven()),
-        Kind::Allgatherv => desk.iallgatherv(alloc, comm, Ty::U8, one(), seven()),
-        Kind::Alltoallv => desk.ialltoallv(alloc, comm, Ty::U8, one(), one(), seven()),
+        Kind::Gatherv => desk.igatherv(alloc, comm, 0, Ty::I64, one(), seven(), ops),
+        Kind::Scatterv => desk.iscatterv(alloc, comm, 0, Ty::I64, one(), 1, seven(), ops),
+        Kind::Allgatherv => desk.iallgatherv(alloc, comm, Ty::U8, one(), seven(), ops),
+        Kind::Alltoallv => desk.ialltoallv(alloc, comm, Ty::U8, one(), one(), seven(), ops),
         Kind::ReduceScatter => {
-            desk.ireduce_scatter(alloc, comm, Op::Sum, Ty::I64, one(), seven())
+            desk.ireduce_scatter(alloc, comm, Op::Sum, Ty::I64, one(), seven(), ops)
         }
         Kind::NeighborAllgatherv => {
-            desk.ineighbor_allgatherv(alloc, comm, Ty::I8, one(), seven())
+            desk.ineighbor_allgatherv(alloc, comm, Ty::I8, one(), seven(), ops)
         }
-        _ => desk.ineighbor_alltoallv(alloc, comm, Ty::I8, one(), one(), seven()),
+        _ => desk.ineighbor_alltoallv(alloc, comm, Ty::I8, one(), one(), seven(), ops),
     }
 }
 

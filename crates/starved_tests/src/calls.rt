@@ -9,7 +9,7 @@ use NamedCall::{Blocking, Nonblocking, StartCreateGroup};
 use mpx_comm::{CallError, Comm, Desk, Request, WaitError};
 use mpx_name::Name;
 use mpx_node::{Finished, Node};
-use mpx_num::Numbers;
+use mpx_num::{Numbers, Ops};
 use mpx_post::{DraftedEdge, DraftedNeighbour, Kind, PostError};
 use mpx_value::Outcome;
 use std::alloc::Global;
@@ -61,17 +61,17 @@ fn made(alloc: Global, finished: Result<Finished, Trouble>) -> Result<Comm, Trou
 }
 
 // A communicator with an edge from the rank to itself.
-fn with_loop(alloc: Global, desk: &mut Desk<Node>) -> Result<Comm, Trouble> {
+fn with_loop(alloc: Global, desk: &mut Desk<Node>, ops: &Ops) -> Result<Comm, Trouble> {
     let edges = edges(alloc)?;
     let world = Comm::world(alloc, 1, 0);
-    let finished = answered(desk.dist_graph(alloc, &world, false, edges, 0));
+    let finished = answered(desk.dist_graph(alloc, &world, false, edges, 0, ops));
     drop(world);
     made(alloc, finished)
 }
 
-fn desk_with_loop(alloc: Global) -> Result<(Desk<Node>, Comm), Trouble> {
+fn desk_with_loop(alloc: Global, ops: &Ops) -> Result<(Desk<Node>, Comm), Trouble> {
     let mut desk = desk_alone(alloc)?;
-    match with_loop(alloc, &mut desk) {
+    match with_loop(alloc, &mut desk, ops) {
         Ok(comm) => Ok((desk, comm)),
         Err(e) => {
             drop(desk);
@@ -81,33 +81,38 @@ fn desk_with_loop(alloc: Global) -> Result<(Desk<Node>, Comm), Trouble> {
 }
 
 // Of the kinds that make communicators.
-fn making(alloc: Global, caller: &mut Caller, kind: Kind) -> Result<Finished, CallError> {
+fn making(
+    alloc: Global,
+    caller: &mut Caller,
+    kind: Kind,
+    ops: &Ops,
+) -> Result<Finished, CallError> {
     let (desk, comm) = (&mut caller.desk, &caller.comm);
     match kind {
-        Kind::Dup => desk.dup(alloc, comm, 0),
-        Kind::Split => desk.split(alloc, comm, Some(3), -1, 0),
-        Kind::Create => desk.create(alloc, comm, Numbers::one(0), 0),
-        Kind::CreateGroup => desk.create_group(alloc, comm, 5, &[0], 0),
+        Kind::Dup => desk.dup(alloc, comm, 0, ops),
+        Kind::Split => desk.split(alloc, comm, Some(3), -1, 0, ops),
+        Kind::Create => desk.create(alloc, comm, Numbers::one(0), 0, ops),
+        Kind::CreateGroup => desk.create_group(alloc, comm, 5, &[0], 0, ops),
         Kind::DistGraph => match caller.edges.pop() {
-            Some(edges) => desk.dist_graph(alloc, comm, false, edges, 0),
+            Some(edges) => desk.dist_graph(alloc, comm, false, edges, 0, ops),
             None => Err(CallError::Refused(PostError::NotMember)),
         },
         _ => match caller.nears.pop() {
             Some((sources, destinations)) => {
-                desk.dist_graph_adjacent(alloc, comm, true, sources, destinations, 0)
+                desk.dist_graph_adjacent(alloc, comm, true, sources, destinations, 0, ops)
             }
             None => Err(CallError::Refused(PostError::NotMember)),
         },
     }
 }
 
-fn make(alloc: Global, caller: &mut Caller, kind: Kind) -> Result<Finished, CallError> {
+fn make(alloc: Global, caller: &mut Caller, kind: Kind, ops: &Ops) -> Result<Finished, CallError> {
     if kind.makes_communicators() {
-        making(alloc, caller, kind)
+        making(alloc, caller, kind, ops)
     } else if has_counts(kind) {
-        counted(alloc, &mut caller.desk, &caller.comm, kind)
+        counted(alloc, &mut caller.desk, &caller.comm, kind, ops)
     } else {
-        plain(alloc, &mut caller.desk, &caller.comm, kind)
+        plain(alloc, &mut caller.desk, &caller.comm, kind, ops)
     }
 }
 
@@ -126,8 +131,13 @@ fn settled(
 }
 
 // Waits for the call that is posted.
-fn wait(alloc: Global, caller: &mut Caller, request: Request) -> Result<Finished, Trouble> {
-    match caller.desk.wait(alloc, request, 0) {
+fn wait(
+    alloc: Global,
+    caller: &mut Caller,
+    request: Request,
+    ops: &Ops,
+) -> Result<Finished, Trouble> {
+    match caller.desk.wait(alloc, request, 0, ops) {
         Ok(finished) => Ok(finished),
         Err(WaitError::StillWaiting(request)) => {
             drop(request);
@@ -140,31 +150,36 @@ fn wait(alloc: Global, caller: &mut Caller, request: Request) -> Result<Finished
     }
 }
 
-fn start(alloc: Global, caller: &mut Caller, kind: Kind) -> Result<Request, PostError> {
+fn start(alloc: Global, caller: &mut Caller, kind: Kind, ops: &Ops) -> Result<Request, PostError> {
     let (desk, comm) = (&mut caller.desk, &caller.comm);
     if has_counts(kind) {
-        start_counted(alloc, desk, comm, kind)
+        start_counted(alloc, desk, comm, kind, ops)
     } else {
-        start_plain(alloc, desk, comm, kind)
+        start_plain(alloc, desk, comm, kind, ops)
     }
 }
 
 // The call, and of one that doesn't block its wait.
-fn begin(alloc: Global, caller: &mut Caller, call: &NamedCall) -> Result<Finished, Trouble> {
+fn begin(
+    alloc: Global,
+    caller: &mut Caller,
+    call: &NamedCall,
+    ops: &Ops,
+) -> Result<Finished, Trouble> {
     match call {
         Blocking(kind) => {
-            let answer = make(alloc, caller, *kind);
+            let answer = make(alloc, caller, *kind, ops);
             settled(&mut caller.pending, answer)
         }
         Nonblocking(kind) => {
-            let request = start(alloc, caller, *kind)?;
-            wait(alloc, caller, request)
+            let request = start(alloc, caller, *kind, ops)?;
+            wait(alloc, caller, request, ops)
         }
         StartCreateGroup => {
             let request = caller
                 .desk
-                .start_create_group(alloc, &caller.comm, 5, &[0])?;
-            wait(alloc, caller, request)
+                .start_create_group(alloc, &caller.comm, 5, &[0], ops)?;
+            wait(alloc, caller, request, ops)
         }
     }
 }
@@ -207,8 +222,8 @@ impl Trial for NamedCall {
 
     type Made = Finished;
 
-    fn start(&self, alloc: Global) -> Result<Caller, Trouble> {
-        let (desk, comm) = desk_with_loop(alloc)?;
+    fn start(&self, alloc: Global, ops: &Ops) -> Result<Caller, Trouble> {
+        let (desk, comm) = desk_with_loop(alloc, ops)?;
         let mut caller = Caller {
             desk,
             comm,
@@ -221,10 +236,10 @@ impl Trial for NamedCall {
         filled(caller, done)
     }
 
-    fn call(&self, alloc: Global, caller: &mut Caller) -> Result<Finished, Trouble> {
+    fn call(&self, alloc: Global, caller: &mut Caller, ops: &Ops) -> Result<Finished, Trouble> {
         match caller.pending.take() {
-            Some(request) => wait(alloc, caller, request),
-            None => begin(alloc, caller, self),
+            Some(request) => wait(alloc, caller, request, ops),
+            None => begin(alloc, caller, self, ops),
         }
     }
 

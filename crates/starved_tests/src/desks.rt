@@ -10,7 +10,7 @@ use mpx_comm::{CallError, Comm, Desk, Gathering, Request, Tested, WaitError};
 use mpx_group::Proc;
 use mpx_name::Name;
 use mpx_node::{Finished, Harvest, Node};
-use mpx_num::{Numbers, Op, Ty};
+use mpx_num::{Numbers, Op, Ops, Ty};
 use mpx_post::{Draft, Kind};
 use std::alloc::{AllocFailed, Global};
 use std::mem;
@@ -80,28 +80,35 @@ pub fn answered(answer: Result<Finished, CallError>) -> Result<Finished, Trouble
     }
 }
 
-fn begin_sum(alloc: Global, desk: &mut Desk<Node>, comm: &Comm) -> Result<Request, Trouble> {
-    Ok(desk.iallreduce(alloc, comm, Op::Sum, Ty::I64, Numbers::one(7))?)
+fn begin_sum(
+    alloc: Global,
+    desk: &mut Desk<Node>,
+    comm: &Comm,
+    ops: &Ops,
+) -> Result<Request, Trouble> {
+    Ok(desk.iallreduce(alloc, comm, Op::Sum, Ty::I64, Numbers::one(7), ops)?)
 }
 
-fn begin(alloc: Global, alone: &mut Alone) -> Result<(), Trouble> {
+fn begin(alloc: Global, alone: &mut Alone, ops: &Ops) -> Result<(), Trouble> {
     let (desk, comm) = (&mut alone.desk, &alone.comm);
-    alone.finished.push(answered(desk.dup(alloc, comm, 0))?)?;
-    alone.requests.push(begin_sum(alloc, desk, comm)?)?;
-    alone.requests.push(begin_sum(alloc, desk, comm)?)?;
+    alone
+        .finished
+        .push(answered(desk.dup(alloc, comm, 0, ops))?)?;
+    alone.requests.push(begin_sum(alloc, desk, comm, ops)?)?;
+    alone.requests.push(begin_sum(alloc, desk, comm, ops)?)?;
     let gathering = desk.open_gathering(alloc, comm, 5, &[0])?;
     alone.gatherings.push(gathering)?;
     Ok(())
 }
 
-fn fill(alloc: Global, alone: &mut Alone, kind: Kind) -> Result<(), Trouble> {
+fn fill(alloc: Global, alone: &mut Alone, kind: Kind, ops: &Ops) -> Result<(), Trouble> {
     add_drafts(alloc, &mut alone.drafts, kind)?;
     add_contexts(alloc, &mut alone.names)?;
     put(&mut alone.part, other_board(alloc))?;
-    begin(alloc, alone)
+    begin(alloc, alone, ops)
 }
 
-fn ready(alloc: Global, kind: Kind) -> Result<Alone, Trouble> {
+fn ready(alloc: Global, kind: Kind, ops: &Ops) -> Result<Alone, Trouble> {
     let mut alone = Alone {
         desk: desk_alone(alloc)?,
         comm: Comm::world(alloc, 1, 0),
@@ -112,21 +119,21 @@ fn ready(alloc: Global, kind: Kind) -> Result<Alone, Trouble> {
         part: Board::new(alloc),
         names: Vec::new(alloc),
     };
-    let done = fill(alloc, &mut alone, kind);
+    let done = fill(alloc, &mut alone, kind, ops);
     filled(alone, done)
 }
 
-fn post(alloc: Global, alone: &mut Alone) -> Result<DeskMade, Trouble> {
+fn post(alloc: Global, alone: &mut Alone, ops: &Ops) -> Result<DeskMade, Trouble> {
     let draft = taken(&mut alone.drafts)?;
-    Ok(DeskMade::Request(alone.desk.post(alloc, &alone.comm, draft)?))
+    Ok(DeskMade::Request(alone.desk.post(alloc, &alone.comm, draft, ops)?))
 }
 
-fn post_gathered(alloc: Global, alone: &mut Alone) -> Result<DeskMade, Trouble> {
+fn post_gathered(alloc: Global, alone: &mut Alone, ops: &Ops) -> Result<DeskMade, Trouble> {
     let Some(gathering) = alone.gatherings.last() else {
         return Err(Trouble::Refused);
     };
     let draft = taken(&mut alone.drafts)?;
-    let request = alone.desk.post_gathered(alloc, gathering, draft)?;
+    let request = alone.desk.post_gathered(alloc, gathering, draft, ops)?;
     Ok(DeskMade::Request(request))
 }
 
@@ -136,18 +143,18 @@ fn give_back(alone: &mut Alone, request: Request, trouble: Trouble) -> Result<De
     Err(trouble)
 }
 
-fn test(alloc: Global, alone: &mut Alone) -> Result<DeskMade, Trouble> {
+fn test(alloc: Global, alone: &mut Alone, ops: &Ops) -> Result<DeskMade, Trouble> {
     let request = taken(&mut alone.requests)?;
-    match alone.desk.test(alloc, request) {
+    match alone.desk.test(alloc, request, ops) {
         Ok(Tested::Done(finished)) => Ok(DeskMade::Finished(finished)),
         Ok(Tested::NotYet(request)) => give_back(alone, request, Trouble::Refused),
         Err(AllocFailed { value: request }) => give_back(alone, request, Trouble::OutOfMemory),
     }
 }
 
-fn wait(alloc: Global, alone: &mut Alone) -> Result<DeskMade, Trouble> {
+fn wait(alloc: Global, alone: &mut Alone, ops: &Ops) -> Result<DeskMade, Trouble> {
     let request = taken(&mut alone.requests)?;
-    match alone.desk.wait(alloc, request, 1) {
+    match alone.desk.wait(alloc, request, 1, ops) {
         Ok(finished) => Ok(DeskMade::Finished(finished)),
         Err(WaitError::StillWaiting(request)) => give_back(alone, request, Trouble::Refused),
         Err(WaitError::OutOfMemory(request)) => give_back(alone, request, Trouble::OutOfMemory),
@@ -164,9 +171,9 @@ fn give_all_back(
     Err(trouble)
 }
 
-fn test_all(alloc: Global, alone: &mut Alone) -> Result<DeskMade, Trouble> {
+fn test_all(alloc: Global, alone: &mut Alone, ops: &Ops) -> Result<DeskMade, Trouble> {
     let requests = mem::replace(&mut alone.requests, Vec::new(alloc));
-    match alone.desk.testall(alloc, requests) {
+    match alone.desk.testall(alloc, requests, ops) {
         Ok(Tested::Done(all)) => Ok(DeskMade::All(all)),
         Ok(Tested::NotYet(requests)) => give_all_back(alone, requests, Trouble::Refused),
         Err(AllocFailed { value: requests }) => {
@@ -175,9 +182,9 @@ fn test_all(alloc: Global, alone: &mut Alone) -> Result<DeskMade, Trouble> {
     }
 }
 
-fn wait_all(alloc: Global, alone: &mut Alone) -> Result<DeskMade, Trouble> {
+fn wait_all(alloc: Global, alone: &mut Alone, ops: &Ops) -> Result<DeskMade, Trouble> {
     let requests = mem::replace(&mut alone.requests, Vec::new(alloc));
-    match alone.desk.waitall(alloc, requests, 1) {
+    match alone.desk.waitall(alloc, requests, 1, ops) {
         Ok(all) => Ok(DeskMade::All(all)),
         Err(WaitError::StillWaiting(requests)) => {
             give_all_back(alone, requests, Trouble::Refused)
@@ -188,15 +195,15 @@ fn wait_all(alloc: Global, alone: &mut Alone) -> Result<DeskMade, Trouble> {
     }
 }
 
-fn status(alloc: Global, alone: &mut Alone) -> Result<DeskMade, Trouble> {
+fn status(alloc: Global, alone: &mut Alone, ops: &Ops) -> Result<DeskMade, Trouble> {
     match alone.requests.last() {
-        Some(request) => Ok(DeskMade::Is(alone.desk.status(alloc, request)?)),
+        Some(request) => Ok(DeskMade::Is(alone.desk.status(alloc, request, ops)?)),
         None => Err(Trouble::Refused),
     }
 }
 
-fn test_any(alloc: Global, desk: &mut Desk<Node>) -> Result<DeskMade, Trouble> {
-    match desk.testany(alloc)? {
+fn test_any(alloc: Global, desk: &mut Desk<Node>, ops: &Ops) -> Result<DeskMade, Trouble> {
+    match desk.testany(alloc, ops)? {
         Some((request, finished)) => Ok(DeskMade::First(request, finished)),
         None => Err(Trouble::Refused),
     }
@@ -232,33 +239,33 @@ impl Trial for DeskCall {
 
     type Made = DeskMade;
 
-    fn start(&self, alloc: Global) -> Result<Alone, Trouble> {
+    fn start(&self, alloc: Global, ops: &Ops) -> Result<Alone, Trouble> {
         match self {
-            DeskCall::PostGathered => ready(alloc, Kind::CreateGroup),
-            _ => ready(alloc, Kind::Allreduce),
+            DeskCall::PostGathered => ready(alloc, Kind::CreateGroup, ops),
+            _ => ready(alloc, Kind::Allreduce, ops),
         }
     }
 
-    fn call(&self, alloc: Global, alone: &mut Alone) -> Result<DeskMade, Trouble> {
+    fn call(&self, alloc: Global, alone: &mut Alone, ops: &Ops) -> Result<DeskMade, Trouble> {
         match self {
-            DeskCall::Post => post(alloc, alone),
+            DeskCall::Post => post(alloc, alone, ops),
             DeskCall::OpenGathering => {
                 let gathering = alone.desk.open_gathering(alloc, &alone.comm, 9, &[0])?;
                 Ok(DeskMade::Gathering(gathering))
             }
-            DeskCall::PostGathered => post_gathered(alloc, alone),
-            DeskCall::Test => test(alloc, alone),
-            DeskCall::Status => status(alloc, alone),
-            DeskCall::TestAll => test_all(alloc, alone),
-            DeskCall::TestAny => test_any(alloc, &mut alone.desk),
-            DeskCall::Wait => wait(alloc, alone),
-            DeskCall::WaitAll => wait_all(alloc, alone),
+            DeskCall::PostGathered => post_gathered(alloc, alone, ops),
+            DeskCall::Test => test(alloc, alone, ops),
+            DeskCall::Status => status(alloc, alone, ops),
+            DeskCall::TestAll => test_all(alloc, alone, ops),
+            DeskCall::TestAny => test_any(alloc, &mut alone.desk, ops),
+            DeskCall::Wait => wait(alloc, alone, ops),
+            DeskCall::WaitAll => wait_all(alloc, alone, ops),
             DeskCall::Take => {
                 alone.desk.take(alloc, &alone.part)?;
                 Ok(DeskMade::Nothing)
             }
             DeskCall::Harvest => {
-                Ok(DeskMade::Harvest(alone.desk.harvest(alloc, alone.comm.name())?))
+                Ok(DeskMade::Harvest(alone.desk.harvest(alloc, alone.comm.name(), ops)?))
             }
             DeskCall::Deltas => Ok(DeskMade::Boards(alone.desk.deltas(alloc, 524_288)?)),
             DeskCall::CommOf => comm_of(alloc, &alone.finished),

@@ -1,5 +1,5 @@
 //! New buses and their ports.
-ghost use Rattle.std.specs.Prelude.{◌≡◌, false, IfOk};
+ghost use Rattle.std.specs.Prelude.{◌≡◌, false, IfOk, []};
 ghost use Rattle.mpx_bus.specs.Berths.{IsNew};
 ghost use Rattle.mpx_bus.specs.Buses.{table_of};
 ghost use Rattle.starved_tests.specs.Setups.{alone};
@@ -11,8 +11,8 @@ use std::marker::Brand;
 
 /// A bus of two ranks, and its ports.
 pub fn two_ports(alloc: Global) -> Result<(Bus, Port, Port), Trouble>
-    ensures { IfOk result (λ r. ((r.1.table ≡ table_of r.0) × (r.1.setup.planned ≡ false))
-        × ((r.2.table ≡ table_of r.0) × (r.2.setup.planned ≡ false))) }
+    ensures { IfOk result (λ r. ((r.1.table ≡ table_of r.0) × ((r.1.setup.planned ≡ false) × ([] ≡ r.1.setup.operations)))
+        × ((r.2.table ≡ table_of r.0) × ((r.2.setup.planned ≡ false) × ([] ≡ r.2.setup.operations)))) }
 {
     let (bus, mut ports) = Bus::new::<Brand>(alloc, 4, 2, 2)?;
     let Some(second) = ports.pop() else {

@@ -8,7 +8,7 @@ use join_core::Exact;
 use mpx_board::Board;
 use mpx_delta::{Digest, common, delta_for, digest_of};
 use mpx_name::Name;
-use mpx_num::Ty;
+use mpx_num::{Ops, Ty};
 use mpx_parts::parts;
 use mpx_post::{Kind, Post};
 use mpx_wire::{decode, encode};
@@ -144,7 +144,7 @@ impl Trial for FrameCall {
 
     type Made = FrameMade;
 
-    fn start(&self, alloc: Global) -> Result<Frames, Trouble> {
+    fn start(&self, alloc: Global, _ops: &Ops) -> Result<Frames, Trouble> {
         let board = match self {
             FrameCall::LongParts => long_board(alloc),
             FrameCall::TakeAll => other_board(alloc),
@@ -162,7 +162,7 @@ impl Trial for FrameCall {
         filled(frames, done)
     }
 
-    fn call(&self, alloc: Global, frames: &mut Frames) -> Result<FrameMade, Trouble> {
+    fn call(&self, alloc: Global, frames: &mut Frames, _ops: &Ops) -> Result<FrameMade, Trouble> {
         let board = &frames.board;
         match self {
             FrameCall::OnlyAcks => Ok(FrameMade::Board(board.only_acks(alloc)?)),

@@ -3,6 +3,7 @@ use crate::trial::Trial;
 use crate::trouble::{Trouble, both};
 use join_core::Exact;
 use mpx_group::{Group, Proc, Rank, Triplet};
+use mpx_num::Ops;
 use std::alloc::Global;
 use test_drafts::proc;
 
@@ -55,12 +56,12 @@ impl Trial for GroupCall {
 
     type Made = GroupMade;
 
-    fn start(&self, alloc: Global) -> Result<Groups, Trouble> {
+    fn start(&self, alloc: Global, _ops: &Ops) -> Result<Groups, Trouble> {
         let (one, other) = both(group(alloc, &[5, 6, 7]), group(alloc, &[7, 3, 5]))?;
         Ok(Groups { one, other })
     }
 
-    fn call(&self, alloc: Global, groups: &mut Groups) -> Result<GroupMade, Trouble> {
+    fn call(&self, alloc: Global, groups: &mut Groups, _ops: &Ops) -> Result<GroupMade, Trouble> {
         let (one, other) = (&groups.one, &groups.other);
         match self {
             GroupCall::Union => Ok(GroupMade::Group(one.union(alloc, other)?)),

@@ -1,8 +1,11 @@
 //! Copies, joins and deltas of two values, whatever they are.
+ghost use Rattle.std.specs.Prelude.{◌≡◌, []};
+
 use crate::notes::Called;
 use crate::trial::{Trial, tries};
 use crate::trouble::{Trouble, both};
 use join_core::Join;
+use mpx_num::{Listing, Ops};
 use std::alloc::Global;
 use std::marker::PhantomData;
 use std::process::Abort;
@@ -33,11 +36,11 @@ impl<J: Sample> Trial for Joining<J> {
 
     type Made = Option<J>;
 
-    fn start(&self, alloc: Global) -> Result<(J, J), Trouble> {
+    fn start(&self, alloc: Global, _ops: &Ops) -> Result<(J, J), Trouble> {
         both(J::sample(alloc, false), J::sample(alloc, true))
     }
 
-    fn call(&self, alloc: Global, state: &mut (J, J)) -> Result<Option<J>, Trouble> {
+    fn call(&self, alloc: Global, state: &mut (J, J), _ops: &Ops) -> Result<Option<J>, Trouble> {
         match self.call {
             JoinCall::Copy => Ok(Some(state.0.copy(alloc)?)),
             JoinCall::Joined => Ok(Some(state.0.joined(alloc, &state.1)?)),
@@ -78,19 +81,29 @@ fn tries_one<J: Sample, R: Abort>(
     alloc: Global,
     name: Called<'_>,
     call: JoinCall,
-) -> Result<(), Fail> {
+    ops: &Ops,
+) -> Result<(), Fail>
+    requires list { ⟦<Ops as Listing>⟧.operations ops.now ≡ [] }
+{
     let of = PhantomData;
-    tries(rt, alloc, name, &Joining::<J> { call, of })
+    tries(rt, alloc, name, &Joining::<J> { call, of }, ops)
 }
 
 /// The calls of this type.
-pub fn joins_stay<J: Sample, R: Abort>(rt: &R, alloc: Global, of: &str) -> Result<(), Fail> {
+pub fn joins_stay<J: Sample, R: Abort>(
+    rt: &R,
+    alloc: Global,
+    of: &str,
+    ops: &Ops,
+) -> Result<(), Fail>
+    requires list { ⟦<Ops as Listing>⟧.operations ops.now ≡ [] }
+{
     let name = "copy";
-    tries_one::<J, R>(rt, alloc, Called { of, name }, JoinCall::Copy)?;
+    tries_one::<J, R>(rt, alloc, Called { of, name }, JoinCall::Copy, ops)?;
     let name = "joined";
-    tries_one::<J, R>(rt, alloc, Called { of, name }, JoinCall::Joined)?;
+    tries_one::<J, R>(rt, alloc, Called { of, name }, JoinCall::Joined, ops)?;
     let name = "delta";
-    tries_one::<J, R>(rt, alloc, Called { of, name }, JoinCall::Delta)?;
+    tries_one::<J, R>(rt, alloc, Called { of, name }, JoinCall::Delta, ops)?;
     let name = "join_in";
-    tries_one::<J, R>(rt, alloc, Called { of, name }, JoinCall::JoinIn)
+    tries_one::<J, R>(rt, alloc, Called { of, name }, JoinCall::JoinIn, ops)
 }

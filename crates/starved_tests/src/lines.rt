@@ -10,7 +10,7 @@ use mpx_evaluation::{
 };
 use mpx_group::Proc;
 use mpx_name::Name;
-use mpx_num::{Items, Numbers, Ty};
+use mpx_num::{Items, Numbers, Ops, Ty};
 use mpx_post::{Birth, Neighbour, PostError};
 use mpx_rank::push_where;
 use mpx_statement::{Side, Word};
@@ -148,7 +148,7 @@ impl Trial for LineCall {
 
     type Made = Option<String>;
 
-    fn start(&self, alloc: Global) -> Result<Told, Trouble> {
+    fn start(&self, alloc: Global, _ops: &Ops) -> Result<Told, Trouble> {
         let (birth, word) = both(all_near(alloc), word(alloc))?;
         let mut told = Told {
             birth,
@@ -162,7 +162,7 @@ impl Trial for LineCall {
         filled(told, done)
     }
 
-    fn call(&self, alloc: Global, told: &mut Told) -> Result<Option<String>, Trouble> {
+    fn call(&self, alloc: Global, told: &mut Told, _ops: &Ops) -> Result<Option<String>, Trouble> {
         match self {
             LineCall::Bind => {
                 bind(alloc, &mut told.bound, Some(&told.word), 5)?;

@@ -4,6 +4,7 @@ use crate::trial::Trial;
 use crate::trouble::{Trouble, both};
 use join_core::{Exact, Max};
 use join_nest::{Keyed, Trunc, push_copy};
+use mpx_num::Ops;
 use std::alloc::Global;
 
 pub enum MapCall {
@@ -25,7 +26,7 @@ impl Trial for MapCall {
 
     type Made = ();
 
-    fn start(&self, alloc: Global) -> Result<Maps, Trouble> {
+    fn start(&self, alloc: Global, _ops: &Ops) -> Result<Maps, Trouble> {
         let (map, calls) = both(
             map_of(alloc, &[(1, 3), (2, 4), (5, 6), (7, 8)]),
             calls_of(alloc, 2, &[2, 4, 5, 7], &[(1, 3)]),
@@ -34,7 +35,7 @@ impl Trial for MapCall {
         Ok(Maps { map, calls, list })
     }
 
-    fn call(&self, alloc: Global, maps: &mut Maps) -> Result<(), Trouble> {
+    fn call(&self, alloc: Global, maps: &mut Maps, _ops: &Ops) -> Result<(), Trouble> {
         match self {
             MapCall::PutKeyed => maps.map.put(4, Max(1))?,
             MapCall::PutTrunc => put_call(alloc, &mut maps.calls, 6, &[])?,

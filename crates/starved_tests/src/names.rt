@@ -5,6 +5,7 @@ use crate::trouble::{Trouble, both};
 use join_core::Exact;
 use mpx_group::Group;
 use mpx_name::{Name, Step};
+use mpx_num::Ops;
 use std::alloc::Global;
 
 pub enum NameCall {
@@ -66,12 +67,12 @@ impl Trial for NameCall {
 
     type Made = NameMade;
 
-    fn start(&self, alloc: Global) -> Result<Named, Trouble> {
+    fn start(&self, alloc: Global, _ops: &Ops) -> Result<Named, Trouble> {
         let (name, members) = both(deep(alloc), group(alloc, &[3, 1]))?;
         Ok(Named { name, members })
     }
 
-    fn call(&self, alloc: Global, named: &mut Named) -> Result<NameMade, Trouble> {
+    fn call(&self, alloc: Global, named: &mut Named, _ops: &Ops) -> Result<NameMade, Trouble> {
         let name = &named.name;
         match self {
             NameCall::Child => Ok(NameMade::Name(name.child(alloc, 7, 1)?)),

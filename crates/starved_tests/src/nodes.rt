@@ -10,6 +10,7 @@ use mpx_board::Board;
 use mpx_group::Proc;
 use mpx_name::Name;
 use mpx_node::{Finished, Harvest, Node};
+use mpx_num::Ops;
 use mpx_post::{Draft, Kind};
 use std::alloc::Global;
 
@@ -59,8 +60,14 @@ pub fn node_of(alloc: Global, is_first: bool) -> Result<Node, Trouble> {
     }
 }
 
-fn post(alloc: Global, world: &Name, node: &mut Node, kind: Kind) -> Result<(), Trouble> {
-    node.post(alloc, world, draft_of(alloc, kind)?)?;
+fn post(
+    alloc: Global,
+    world: &Name,
+    node: &mut Node,
+    kind: Kind,
+    ops: &Ops,
+) -> Result<(), Trouble> {
+    node.post(alloc, world, draft_of(alloc, kind)?, ops)?;
     Ok(())
 }
 
@@ -71,19 +78,20 @@ fn exchange(
     node: &mut Node,
     other: &mut Node,
     kind: Kind,
+    ops: &Ops,
 ) -> Result<Board, Trouble> {
-    post(alloc, world, node, kind)?;
-    post(alloc, world, other, kind)?;
+    post(alloc, world, node, kind, ops)?;
+    post(alloc, world, other, kind, ops)?;
     node.take(alloc, other.board())?;
-    post(alloc, world, other, Kind::Barrier)?;
+    post(alloc, world, other, Kind::Barrier, ops)?;
     Ok(other.board().copy(alloc)?)
 }
 
 // The part with more of another node, which has exchanged with this one.
-fn exchanged(alloc: Global, node: &mut Node, kind: Kind) -> Result<Board, Trouble> {
+fn exchanged(alloc: Global, node: &mut Node, kind: Kind, ops: &Ops) -> Result<Board, Trouble> {
     let mut other = node_of(alloc, false)?;
     let world = Name::world(alloc);
-    let part = exchange(alloc, &world, node, &mut other, kind);
+    let part = exchange(alloc, &world, node, &mut other, kind, ops);
     drop(world);
     drop(other);
     part
@@ -122,18 +130,18 @@ fn kind_of(call: &NodeCall) -> Kind {
 }
 
 // The draft is the next call on the world.
-fn post_next(alloc: Global, stand: &mut Stand) -> Result<NodeMade, Trouble> {
+fn post_next(alloc: Global, stand: &mut Stand, ops: &Ops) -> Result<NodeMade, Trouble> {
     let draft = taken(&mut stand.drafts)?;
     let world = Name::world(alloc);
-    let call = stand.node.post(alloc, &world, draft);
+    let call = stand.node.post(alloc, &world, draft, ops);
     drop(world);
     Ok(NodeMade::Call(call?))
 }
 
 // The next call on the world.
-fn harvest(alloc: Global, node: &mut Node) -> Result<Harvest, Trouble> {
+fn harvest(alloc: Global, node: &mut Node, ops: &Ops) -> Result<Harvest, Trouble> {
     let world = Name::world(alloc);
-    let harvest = node.harvest(alloc, &world);
+    let harvest = node.harvest(alloc, &world, ops);
     drop(world);
     Ok(harvest?)
 }
@@ -162,10 +170,16 @@ fn copy_finished(alloc: Global, node: &Node) -> Result<NodeMade, Trouble> {
 }
 
 // Stores the result of the first call, or takes the part, where the call asks for that.
-fn prepared(alloc: Global, call: &NodeCall, node: &mut Node, part: &Board) -> Result<(), Trouble> {
+fn prepared(
+    alloc: Global,
+    call: &NodeCall,
+    node: &mut Node,
+    part: &Board,
+    ops: &Ops,
+) -> Result<(), Trouble> {
     match call {
         NodeCall::CopyFinished => {
-            harvest(alloc, node)?;
+            harvest(alloc, node, ops)?;
             Ok(())
         }
         NodeCall::TakeAgain => Ok(node.take(alloc, part)?),
@@ -173,12 +187,12 @@ fn prepared(alloc: Global, call: &NodeCall, node: &mut Node, part: &Board) -> Re
     }
 }
 
-fn fill(alloc: Global, call: &NodeCall, stand: &mut Stand) -> Result<(), Trouble> {
+fn fill(alloc: Global, call: &NodeCall, stand: &mut Stand, ops: &Ops) -> Result<(), Trouble> {
     add_drafts(alloc, &mut stand.drafts, Kind::Allreduce)?;
     add_contexts(alloc, &mut stand.names)?;
-    let part = exchanged(alloc, &mut stand.node, kind_of(call));
+    let part = exchanged(alloc, &mut stand.node, kind_of(call), ops);
     put(&mut stand.part, part)?;
-    prepared(alloc, call, &mut stand.node, &stand.part)
+    prepared(alloc, call, &mut stand.node, &stand.part, ops)
 }
 
 impl Trial for NodeCall {
@@ -186,24 +200,24 @@ impl Trial for NodeCall {
 
     type Made = NodeMade;
 
-    fn start(&self, alloc: Global) -> Result<Stand, Trouble> {
+    fn start(&self, alloc: Global, ops: &Ops) -> Result<Stand, Trouble> {
         let mut stand = Stand {
             node: node_of(alloc, true)?,
             part: Board::new(alloc),
             drafts: Vec::new(alloc),
             names: Vec::new(alloc),
         };
-        let done = fill(alloc, self, &mut stand);
+        let done = fill(alloc, self, &mut stand, ops);
         filled(stand, done)
     }
 
-    fn call(&self, alloc: Global, stand: &mut Stand) -> Result<NodeMade, Trouble> {
+    fn call(&self, alloc: Global, stand: &mut Stand, ops: &Ops) -> Result<NodeMade, Trouble> {
         match self {
             NodeCall::New => Ok(NodeMade::Node(node_of(alloc, false)?)),
-            NodeCall::Post => post_next(alloc, stand),
+            NodeCall::Post => post_next(alloc, stand, ops),
             NodeCall::OpenGathering => open(alloc, &mut stand.node),
-            NodeCall::Harvest => Ok(NodeMade::Harvest(harvest(alloc, &mut stand.node)?)),
-            NodeCall::HarvestChild => Ok(NodeMade::Harvest(harvest(alloc, &mut stand.node)?)),
+            NodeCall::Harvest => Ok(NodeMade::Harvest(harvest(alloc, &mut stand.node, ops)?)),
+            NodeCall::HarvestChild => Ok(NodeMade::Harvest(harvest(alloc, &mut stand.node, ops)?)),
             NodeCall::Take => take(alloc, stand),
             NodeCall::TakeAgain => take(alloc, stand),
             NodeCall::Part => Ok(NodeMade::Board(stand.node.part(alloc, 524_288)?)),

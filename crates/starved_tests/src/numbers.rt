@@ -1,7 +1,7 @@
 //! Numbers, items, and numbers as text.
 use crate::trial::Trial;
 use crate::trouble::{Trouble, filled, put, taken};
-use mpx_num::{Items, Numbers, Op, Ty, apply, op_fits, print_number, push_number};
+use mpx_num::{Items, Numbers, Op, Ops, Ty, apply, op_fits, print_number, push_number};
 use std::alloc::Global;
 
 pub enum NumberCall {
@@ -72,18 +72,18 @@ fn extend(alloc: Global, items: &mut Items, more: &Items) -> Result<NumberMade, 
 }
 
 // Combines both, item by item.
-fn combine(items: &mut Items, more: &Items) -> Result<NumberMade, Trouble> {
+fn combine(items: &mut Items, more: &Items, ops: &Ops) -> Result<NumberMade, Trouble> {
     let ty = items.ty();
     if more.ty() != ty {
         return Err(Trouble::Refused);
     }
-    if !op_fits(Op::Max, ty) {
+    if !op_fits(Op::Max, ty, ops) {
         return Err(Trouble::Refused);
     }
     if items.nums().len() != more.nums().len() {
         return Err(Trouble::Refused);
     }
-    apply(Op::Max, ty, items, more)?;
+    apply(Op::Max, ty, items, more, ops)?;
     Ok(NumberMade::Nothing)
 }
 
@@ -99,7 +99,7 @@ impl Trial for NumberCall {
 
     type Made = NumberMade;
 
-    fn start(&self, alloc: Global) -> Result<Given, Trouble> {
+    fn start(&self, alloc: Global, _ops: &Ops) -> Result<Given, Trouble> {
         let mut given = Given {
             items: Items::empty(Ty::I64),
             twin: Items::empty(Ty::I64),
@@ -112,7 +112,7 @@ impl Trial for NumberCall {
         filled(given, done)
     }
 
-    fn call(&self, alloc: Global, given: &mut Given) -> Result<NumberMade, Trouble> {
+    fn call(&self, alloc: Global, given: &mut Given, ops: &Ops) -> Result<NumberMade, Trouble> {
         match self {
             NumberCall::New => {
                 let list = taken(&mut given.lists)?;
@@ -121,7 +121,7 @@ impl Trial for NumberCall {
             NumberCall::Copy => Ok(NumberMade::Numbers(given.numbers.copy()?)),
             NumberCall::CopyItems => Ok(NumberMade::Items(given.items.copy()?)),
             NumberCall::Extend => extend(alloc, &mut given.items, &given.more),
-            NumberCall::Apply => combine(&mut given.items, &given.more),
+            NumberCall::Apply => combine(&mut given.items, &given.more, ops),
             NumberCall::Print => Ok(NumberMade::Text(print_number(alloc, -123_456_789)?)),
             NumberCall::Push => push(&mut given.text),
         }

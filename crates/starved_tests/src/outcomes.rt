@@ -7,6 +7,7 @@ use crate::trouble::{Trouble, both, tight};
 use join_core::Exact;
 use mpx_board::Board;
 use mpx_name::Name;
+use mpx_num::Ops;
 use mpx_post::{Birth, Kind, Row};
 use mpx_value::{Outcome, children, outcome};
 use std::alloc::Global;
@@ -60,22 +61,27 @@ fn board_of(alloc: Global, kind: Kind) -> Result<Board, Trouble> {
 }
 
 // What the row gives the second rank.
-fn outcome_of(alloc: Global, birth: &Birth, row: &Row<'_>) -> Result<Outcome, Trouble> {
+fn outcome_of(alloc: Global, birth: &Birth, row: &Row<'_>, ops: &Ops) -> Result<Outcome, Trouble> {
     if row.len() != birth.members().len() || row.len() < 2 {
         return Err(Trouble::Refused);
     }
     let world = Name::world(alloc);
-    let given = outcome(alloc, birth, row, &world, 0, 1);
+    let given = outcome(alloc, birth, row, &world, 0, 1, ops);
     drop(world);
     Ok(given?)
 }
 
-fn children_of(alloc: Global, birth: &Birth, row: &Row<'_>) -> Result<Vec<(Name, Birth)>, Trouble> {
+fn children_of(
+    alloc: Global,
+    birth: &Birth,
+    row: &Row<'_>,
+    ops: &Ops,
+) -> Result<Vec<(Name, Birth)>, Trouble> {
     if row.len() != birth.members().len() {
         return Err(Trouble::Refused);
     }
     let world = Name::world(alloc);
-    let made = children(alloc, birth, row, &world, 0);
+    let made = children(alloc, birth, row, &world, 0, ops);
     drop(world);
     Ok(made?)
 }
@@ -91,16 +97,21 @@ fn row_of(alloc: Global, board: &Board) -> Result<Row<'_>, Trouble> {
     }
 }
 
-fn given_by(alloc: Global, board: &Board, birth: &Birth) -> Result<Outcome, Trouble> {
+fn given_by(alloc: Global, board: &Board, birth: &Birth, ops: &Ops) -> Result<Outcome, Trouble> {
     let row = row_of(alloc, board)?;
-    let given = outcome_of(alloc, birth, &row);
+    let given = outcome_of(alloc, birth, &row, ops);
     drop(row);
     given
 }
 
-fn made_by(alloc: Global, board: &Board, birth: &Birth) -> Result<Vec<(Name, Birth)>, Trouble> {
+fn made_by(
+    alloc: Global,
+    board: &Board,
+    birth: &Birth,
+    ops: &Ops,
+) -> Result<Vec<(Name, Birth)>, Trouble> {
     let row = row_of(alloc, board)?;
-    let made = children_of(alloc, birth, &row);
+    let made = children_of(alloc, birth, &row, ops);
     drop(row);
     made
 }
@@ -139,19 +150,19 @@ impl Trial for ValueCall {
 
     type Made = ValueMade;
 
-    fn start(&self, alloc: Global) -> Result<Posted, Trouble> {
+    fn start(&self, alloc: Global, ops: &Ops) -> Result<Posted, Trouble> {
         let kind = kind_of(self);
         let (board, birth) = both(board_of(alloc, kind), all_near(alloc))?;
-        let given = given_by(alloc, &board, &birth);
+        let given = given_by(alloc, &board, &birth, ops);
         with_given(board, birth, given)
     }
 
-    fn call(&self, alloc: Global, posted: &mut Posted) -> Result<ValueMade, Trouble> {
+    fn call(&self, alloc: Global, posted: &mut Posted, ops: &Ops) -> Result<ValueMade, Trouble> {
         let (board, birth) = (&posted.board, &posted.birth);
         match self {
-            ValueCall::Outcome(_) => Ok(ValueMade::Outcome(given_by(alloc, board, birth)?)),
+            ValueCall::Outcome(_) => Ok(ValueMade::Outcome(given_by(alloc, board, birth, ops)?)),
             ValueCall::Copy(_) => Ok(ValueMade::Outcome(posted.given.copy(alloc)?)),
-            ValueCall::Children(_) => Ok(ValueMade::Children(made_by(alloc, board, birth)?)),
+            ValueCall::Children(_) => Ok(ValueMade::Children(made_by(alloc, board, birth, ops)?)),
         }
     }
 

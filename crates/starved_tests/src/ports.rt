@@ -1,5 +1,5 @@
 //! Ports on a bus.
-ghost use Rattle.std.specs.Prelude.{◌≡◌, false};
+ghost use Rattle.std.specs.Prelude.{◌≡◌, false, []};
 ghost use Rattle.mpx_bus.specs.Berths.{IsSamePort};
 ghost use Rattle.mpx_bus.specs.Buses.{table_of};
 
@@ -13,6 +13,7 @@ use crate::trouble::{Trouble, both, taken};
 use mpx_bus::{Bus, Frame, Pop, Port, Push};
 use mpx_name::Name;
 use mpx_node::Harvest;
+use mpx_num::{Listing, Ops};
 use mpx_post::{Draft, Kind};
 use std::alloc::Global;
 use std::marker::Model;
@@ -46,7 +47,7 @@ struct Fleet {
 }
 
 impl Model for Fleet {
-    ghost use Rattle.std.specs.Prelude.{◌≡◌, false};
+    ghost use Rattle.std.specs.Prelude.{◌≡◌, false, []};
     ghost use Rattle.atomic_table.specs.Seated.{TableId};
     ghost use Rattle.mpx_bus.specs.Buses.{table_of};
 
@@ -54,8 +55,8 @@ impl Model for Fleet {
 
     ghost view = { λ f. table_of f.bus };
 
-    ghost invariant = { λ f. ((f.first.table ≡ table_of f.bus) × (f.first.setup.planned ≡ false))
-        × ((f.second.table ≡ table_of f.bus) × (f.second.setup.planned ≡ false)) };
+    ghost invariant = { λ f. ((f.first.table ≡ table_of f.bus) × ((f.first.setup.planned ≡ false) × ([] ≡ f.first.setup.operations)))
+        × ((f.second.table ≡ table_of f.bus) × ((f.second.setup.planned ≡ false) × ([] ≡ f.second.setup.operations))) };
 }
 
 #[derive(Drop)]
@@ -91,20 +92,22 @@ fn new_fleet(alloc: Global) -> Result<Fleet, Trouble> {
     }
 }
 
-fn post(alloc: Global, port: &mut Port, draft: Draft) -> Result<PortMade, Trouble>
+fn post(alloc: Global, port: &mut Port, draft: Draft, ops: &Ops) -> Result<PortMade, Trouble>
+    requires list { ⟦<Ops as Listing>⟧.operations ops.now ≡ port.old.setup.operations }
     ensures { IsSamePort port.old port.new }
 {
     let world = Name::world(alloc);
-    let call = port.post(alloc, &world, draft);
+    let call = port.post(alloc, &world, draft, ops);
     drop(world);
     Ok(PortMade::Call(call?))
 }
 
-fn post_first(alloc: Global, port: &mut Port) -> Result<(), Trouble>
+fn post_first(alloc: Global, port: &mut Port, ops: &Ops) -> Result<(), Trouble>
+    requires list { ⟦<Ops as Listing>⟧.operations ops.now ≡ port.old.setup.operations }
     ensures { IsSamePort port.old port.new }
 {
     let draft = draft_of(alloc, Kind::Allreduce)?;
-    drop(post(alloc, port, draft)?);
+    drop(post(alloc, port, draft, ops)?);
     Ok(())
 }
 
@@ -135,11 +138,12 @@ fn pop<R: Wait>(rt: &R, alloc: Global, bus: &Bus, port: &mut Port) -> Result<Fra
     }
 }
 
-fn harvest(alloc: Global, port: &mut Port) -> Result<PortMade, Trouble>
+fn harvest(alloc: Global, port: &mut Port, ops: &Ops) -> Result<PortMade, Trouble>
+    requires list { ⟦<Ops as Listing>⟧.operations ops.now ≡ port.old.setup.operations }
     ensures { IsSamePort port.old port.new }
 {
     let world = Name::world(alloc);
-    let harvest = port.harvest(alloc, &world);
+    let harvest = port.harvest(alloc, &world, ops);
     drop(world);
     Ok(PortMade::Harvest(harvest?))
 }
@@ -160,14 +164,16 @@ fn exchange<R: Wait>(
     bus: &Bus,
     first: &mut Port,
     second: &mut Port,
+    ops: &Ops,
 ) -> Result<Frame, Trouble>
+    requires list { (⟦<Ops as Listing>⟧.operations ops.now ≡ first.old.setup.operations) × (⟦<Ops as Listing>⟧.operations ops.now ≡ second.old.setup.operations) }
     requires first { (first.old.table ≡ table_of bus.now) × (first.old.setup.planned ≡ false) }
     requires second { (second.old.table ≡ table_of bus.now) × (second.old.setup.planned ≡ false) }
     ensures first { IsSamePort first.old first.new }
     ensures second { IsSamePort second.old second.new }
 {
-    post_first(alloc, first)?;
-    post_first(alloc, second)?;
+    post_first(alloc, first, ops)?;
+    post_first(alloc, second, ops)?;
     push_own(rt, alloc, bus, second)?;
     let frame = pop(rt, alloc, bus, first);
     match push_own(rt, alloc, bus, first) {
@@ -180,16 +186,20 @@ fn exchange<R: Wait>(
 }
 
 // The fleet has exchanged frames.
-fn begin<R: Wait>(rt: &R, alloc: Global, fleet: &mut Fleet) -> Result<(), Trouble> {
+fn begin<R: Wait>(rt: &R, alloc: Global, fleet: &mut Fleet, ops: &Ops) -> Result<(), Trouble>
+    requires list { ⟦<Ops as Listing>⟧.operations ops.now ≡ [] }
+{
     let (first, second) = (&mut fleet.first, &mut fleet.second);
-    let frame = exchange(rt, alloc, &fleet.bus, first, second)?;
+    let frame = exchange(rt, alloc, &fleet.bus, first, second, ops)?;
     fleet.frame = Some(frame);
     Ok(())
 }
 
-fn ready<R: Wait>(rt: &R, alloc: Global) -> Result<Fleet, Trouble> {
+fn ready<R: Wait>(rt: &R, alloc: Global, ops: &Ops) -> Result<Fleet, Trouble>
+    requires list { ⟦<Ops as Listing>⟧.operations ops.now ≡ [] }
+{
     let mut fleet = new_fleet(alloc)?;
-    match begin(rt, alloc, &mut fleet) {
+    match begin(rt, alloc, &mut fleet, ops) {
         Ok(()) => Ok(fleet),
         Err(e) => {
             drop(fleet);
@@ -214,9 +224,11 @@ fn copy_frame(frame: &Option<Frame>) -> Result<PortMade, Trouble> {
     }
 }
 
-fn post_next(alloc: Global, fleet: &mut Fleet) -> Result<PortMade, Trouble> {
+fn post_next(alloc: Global, fleet: &mut Fleet, ops: &Ops) -> Result<PortMade, Trouble>
+    requires list { ⟦<Ops as Listing>⟧.operations ops.now ≡ [] }
+{
     let draft = taken(&mut fleet.drafts)?;
-    post(alloc, &mut fleet.first, draft)
+    post(alloc, &mut fleet.first, draft, ops)
 }
 
 impl<'a, R: Wait> Trial for PortTrial<'a, R> {
@@ -224,11 +236,11 @@ impl<'a, R: Wait> Trial for PortTrial<'a, R> {
 
     type Made = PortMade;
 
-    fn start(&self, alloc: Global) -> Result<Fleet, Trouble> {
-        ready(self.rt, alloc)
+    fn start(&self, alloc: Global, ops: &Ops) -> Result<Fleet, Trouble> {
+        ready(self.rt, alloc, ops)
     }
 
-    fn call(&self, alloc: Global, fleet: &mut Fleet) -> Result<PortMade, Trouble> {
+    fn call(&self, alloc: Global, fleet: &mut Fleet, ops: &Ops) -> Result<PortMade, Trouble> {
         match self.call {
             PortCall::New => make_another(alloc),
             PortCall::PushOwn => {
@@ -240,8 +252,8 @@ impl<'a, R: Wait> Trial for PortTrial<'a, R> {
                 Ok(PortMade::Nothing)
             }
             PortCall::CopyFrame => copy_frame(&fleet.frame),
-            PortCall::Post => post_next(alloc, fleet),
-            PortCall::Harvest => harvest(alloc, &mut fleet.first),
+            PortCall::Post => post_next(alloc, fleet, ops),
+            PortCall::Harvest => harvest(alloc, &mut fleet.first, ops),
             PortCall::OpenGathering => open(alloc, &mut fleet.first),
         }
     }
@@ -286,10 +298,11 @@ const PORT_CALLS: [(&str, PortCall); 7] = [
 // Ports are as before, or a frame that was popped is handed back.
 #[test]
 fn ports_stay(rt: HostRuntime) -> Result<(), Fail> {
+    let ops = Ops::none(rt.alloc());
     let of = "mpx_bus ";
     for (name, call) in PORT_CALLS {
         let trial = PortTrial { rt: &rt, call };
-        tries(&rt, rt.alloc(), Called { of, name }, &trial)?;
+        tries(&rt, rt.alloc(), Called { of, name }, &trial, &ops)?;
     }
     Ok(())
 }

@@ -5,6 +5,7 @@ use crate::trial::Trial;
 use crate::trouble::{Trouble, both, filled, taken};
 use join_core::Exact;
 use mpx_name::Name;
+use mpx_num::Ops;
 use mpx_post::{Birth, Draft, Gathering, Kind, Post};
 use std::alloc::Global;
 use test_drafts::{proc, says};
@@ -68,9 +69,9 @@ fn with_gathering(
     }
 }
 
-fn check(alloc: Global, birth: &Birth, draft: Draft) -> Result<Post, Trouble> {
+fn check(alloc: Global, birth: &Birth, draft: Draft, ops: &Ops) -> Result<Post, Trouble> {
     let world = Name::world(alloc);
-    let post = draft.check_call(alloc, birth, proc(0), &world, 0, false);
+    let post = draft.check_call(alloc, birth, proc(0), &world, 0, false, ops);
     drop(world);
     Ok(post?)
 }
@@ -84,7 +85,7 @@ impl Trial for PostCall {
 
     type Made = PostMade;
 
-    fn start(&self, alloc: Global) -> Result<Drafts, Trouble> {
+    fn start(&self, alloc: Global, _ops: &Ops) -> Result<Drafts, Trouble> {
         let kind = kind_of(self);
         let (birth, post) = both(all_near(alloc), post_of(alloc, kind))?;
         let gathering = gathers(alloc, &birth);
@@ -93,11 +94,11 @@ impl Trial for PostCall {
         filled(given, done)
     }
 
-    fn call(&self, alloc: Global, given: &mut Drafts) -> Result<PostMade, Trouble> {
+    fn call(&self, alloc: Global, given: &mut Drafts, ops: &Ops) -> Result<PostMade, Trouble> {
         match self {
             PostCall::Check(_) => {
                 let draft = taken(&mut given.drafts)?;
-                Ok(PostMade::Post(check(alloc, &given.birth, draft)?))
+                Ok(PostMade::Post(check(alloc, &given.birth, draft, ops)?))
             }
             PostCall::Bare => {
                 let draft = taken(&mut given.drafts)?;

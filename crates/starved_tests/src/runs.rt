@@ -4,6 +4,7 @@ use crate::same::same_reports;
 use crate::trouble::{Trouble, both};
 use mpx_evaluation::Report;
 use mpx_job::{Command, Job, Options};
+use mpx_num::Ops;
 use mpx_run::{End, run_bytes, run_text};
 use mpx_script::{Script, read_script};
 use mpx_threads::{OpenGate, run_threads};
@@ -65,11 +66,12 @@ fn run_in_threads<T: Threads + Wait + Sync>(
     rt: &T,
     alloc: Global,
     script: &Script,
+    ops: &Ops,
 ) -> Result<Report, Trouble> {
     if script.ranks() > 64 {
         return Err(Trouble::Refused);
     }
-    let run = run_threads(rt, alloc, script, &OPTIONS, &OpenGate)?;
+    let run = run_threads(rt, alloc, script, &OPTIONS, &OpenGate, ops)?;
     Ok(run.report)
 }
 
@@ -78,9 +80,10 @@ fn run_reader<T: Threads + Wait + Sync>(
     alloc: Global,
     job: &Job,
     out: &mut Sink,
+    ops: &Ops,
 ) -> Result<End, Trouble> {
     let mut reader = TEXT;
-    Ok(run_text(rt, alloc, job, &mut reader, out)?)
+    Ok(run_text(rt, alloc, job, &mut reader, out, ops)?)
 }
 
 fn same_ends(one: &End, other: &End) -> bool {
@@ -105,16 +108,17 @@ fn make<T: Threads + Wait + Sync>(
     call: RunCall,
     script: &Script,
     out: &mut Sink,
+    ops: &Ops,
 ) -> Result<RunMade, Trouble> {
     match call {
-        RunCall::InThreads => Ok(RunMade::Report(run_in_threads(rt, alloc, script)?)),
+        RunCall::InThreads => Ok(RunMade::Report(run_in_threads(rt, alloc, script, ops)?)),
         RunCall::Bytes(command) => {
             let job = job_of(command);
-            Ok(RunMade::End(run_bytes(rt, alloc, &job, TEXT, out)?))
+            Ok(RunMade::End(run_bytes(rt, alloc, &job, TEXT, out, ops)?))
         }
         RunCall::Text(command) => {
             let job = job_of(command);
-            Ok(RunMade::End(run_reader(rt, alloc, &job, out)?))
+            Ok(RunMade::End(run_reader(rt, alloc, &job, out, ops)?))
         }
     }
 }
@@ -127,15 +131,16 @@ fn makes<T: Abort + Threads + Wait + Sync>(
     call: RunCall,
     script: &Script,
     out: &mut Sink,
+    ops: &Ops,
 ) -> Result<RunMade, Trouble> {
     note(alloc, "begins ", name);
-    let first = make(rt, alloc, call, script, out);
+    let first = make(rt, alloc, call, script, out, ops);
     note(alloc, "ends ", name);
     match first {
         Err(Trouble::OutOfMemory) => {
             assert!(rt; out.count == 0, "{}: something is written", name.name);
             note(alloc, "kept ", name);
-            make(rt, alloc, call, script, out)
+            make(rt, alloc, call, script, out, ops)
         }
         answer => answer,
     }
@@ -148,10 +153,11 @@ fn tries_run<T: Abort + Threads + Wait + Sync>(
     name: Called<'_>,
     call: RunCall,
     script: &Script,
+    ops: &Ops,
 ) -> Result<(), Trouble> {
     let (mut whole, mut out) = (Sink { count: 0 }, Sink { count: 0 });
-    let wanted = make(rt, alloc, call, script, &mut whole);
-    let made = makes(rt, alloc, name, call, script, &mut out);
+    let wanted = make(rt, alloc, call, script, &mut whole, ops);
+    let made = makes(rt, alloc, name, call, script, &mut out, ops);
     let (made, wanted) = both(made, wanted)?;
     let is_same = are_alike(&made, &wanted) && out.count == whole.count;
     drop(made);
@@ -165,9 +171,10 @@ fn tries_runs<T: Abort + Threads + Wait + Sync>(
     alloc: Global,
     of: &str,
     calls: &[(&str, RunCall)],
+    ops: &Ops,
 ) -> Result<(), Trouble> {
-    let script = read_script(alloc, TEXT)?;
-    let done = tries_calls(rt, alloc, of, calls, &script);
+    let script = read_script(alloc, TEXT, ops)?;
+    let done = tries_calls(rt, alloc, of, calls, &script, ops);
     drop(script);
     done
 }
@@ -178,9 +185,10 @@ fn tries_calls<T: Abort + Threads + Wait + Sync>(
     of: &str,
     calls: &[(&str, RunCall)],
     script: &Script,
+    ops: &Ops,
 ) -> Result<(), Trouble> {
     for (name, call) in calls {
-        tries_run(rt, alloc, Called { of, name: *name }, *call, script)?;
+        tries_run(rt, alloc, Called { of, name: *name }, *call, script, ops)?;
     }
     Ok(())
 }
@@ -195,7 +203,8 @@ const RUN_CALLS: &[(&str, RunCall)] = &[
 // Nothing is written where memory was refused.
 #[test]
 fn runs_stay(rt: HostRuntime) -> Result<(), Fail> {
-    Ok(tries_runs(&rt, rt.alloc(), "mpx_run ", RUN_CALLS)?)
+    let ops = Ops::none(rt.alloc());
+    Ok(tries_runs(&rt, rt.alloc(), "mpx_run ", RUN_CALLS, &ops)?)
 }
 
 const THREAD_CALLS: &[(&str, RunCall)] = &[("run_threads", RunCall::InThreads)];
@@ -203,5 +212,6 @@ const THREAD_CALLS: &[(&str, RunCall)] = &[("run_threads", RunCall::InThreads)];
 // A run in threads has ended where memory was refused in one of them, and can be made again.
 #[test]
 fn threads_stay(rt: HostRuntime) -> Result<(), Fail> {
-    Ok(tries_runs(&rt, rt.alloc(), "mpx_threads ", THREAD_CALLS)?)
+    let ops = Ops::none(rt.alloc());
+    Ok(tries_runs(&rt, rt.alloc(), "mpx_threads ", THREAD_CALLS, &ops)?)
 }

@@ -5,6 +5,7 @@ use crate::trouble::Trouble;
 use mpx_eval::{Findings, eval, examine};
 use mpx_evaluation::Report;
 use mpx_job::Options;
+use mpx_num::Ops;
 use mpx_script::{Script, Statement, Word, read_script, statement_lines};
 use mpx_sim::{Run, run_sim};
 use std::alloc::Global;
@@ -51,8 +52,8 @@ const OPTIONS: Options = Options {
     turns: 50,
 };
 
-fn script(alloc: Global) -> Result<Script, Trouble> {
-    Ok(read_script(alloc, TEXT)?)
+fn script(alloc: Global, ops: &Ops) -> Result<Script, Trouble> {
+    Ok(read_script(alloc, TEXT, ops)?)
 }
 
 fn has_draft(alloc: Global, statement: &Statement) -> Result<bool, Trouble> {
@@ -89,11 +90,11 @@ fn copied(alloc: Global, statements: &[Statement]) -> Result<ScriptMade, Trouble
     Ok(ScriptMade::Count(count))
 }
 
-fn run(alloc: Global, script: &Script) -> Result<Run, Trouble> {
+fn run(alloc: Global, script: &Script, ops: &Ops) -> Result<Run, Trouble> {
     if script.ranks() > 60 {
         return Err(Trouble::Refused);
     }
-    Ok(run_sim(alloc, script, &OPTIONS)?)
+    Ok(run_sim(alloc, script, &OPTIONS, ops)?)
 }
 
 // Whether the same was found, as far as numbers tell it.
@@ -113,8 +114,8 @@ impl Trial for ScriptCall {
 
     type Made = ScriptMade;
 
-    fn start(&self, alloc: Global) -> Result<Reading, Trouble> {
-        let script = script(alloc)?;
+    fn start(&self, alloc: Global, ops: &Ops) -> Result<Reading, Trouble> {
+        let script = script(alloc, ops)?;
         match Word::new(alloc, b"world") {
             Ok(word) => Ok(Reading { script, word }),
             Err(_) => {
@@ -124,18 +125,18 @@ impl Trial for ScriptCall {
         }
     }
 
-    fn call(&self, alloc: Global, reading: &mut Reading) -> Result<ScriptMade, Trouble> {
+    fn call(&self, alloc: Global, reading: &mut Reading, ops: &Ops) -> Result<ScriptMade, Trouble> {
         let script_read = &reading.script;
         match self {
-            ScriptCall::Read => Ok(ScriptMade::Script(script(alloc)?)),
+            ScriptCall::Read => Ok(ScriptMade::Script(script(alloc, ops)?)),
             ScriptCall::Lines => Ok(ScriptMade::Numbers(statement_lines(alloc, TEXT, 1)?)),
             ScriptCall::Drafts => drafted(alloc, script_read.statements(1)),
             ScriptCall::Copies => copied(alloc, script_read.statements(1)),
             ScriptCall::NewWord => Ok(ScriptMade::Word(Word::new(alloc, b"another")?)),
             ScriptCall::CopyWord => Ok(ScriptMade::Word(reading.word.copy(alloc)?)),
-            ScriptCall::Eval => Ok(ScriptMade::Report(eval(alloc, script_read)?)),
-            ScriptCall::Examine => Ok(ScriptMade::Findings(examine(alloc, script_read)?)),
-            ScriptCall::RunSim => Ok(ScriptMade::Run(run(alloc, script_read)?)),
+            ScriptCall::Eval => Ok(ScriptMade::Report(eval(alloc, script_read, ops)?)),
+            ScriptCall::Examine => Ok(ScriptMade::Findings(examine(alloc, script_read, ops)?)),
+            ScriptCall::RunSim => Ok(ScriptMade::Run(run(alloc, script_read, ops)?)),
         }
     }
 

@@ -1,6 +1,6 @@
 //! A port under a lock: each of its calls is made where memory may be wanting, and again where it was. What the port's board says is the
 //! same before and after, but for what a pull has stored and for the frame that it has lost.
-ghost use Rattle.std.specs.Prelude.{◌≡◌, ◌<◌, false, length};
+ghost use Rattle.std.specs.Prelude.{◌≡◌, ◌<◌, false, length, []};
 ghost use Rattle.mpx_bus.specs.Buses.{table_of};
 ghost use Rattle.mpx_shared.specs.Docks.{IsDocked, made_in};
 
@@ -11,6 +11,7 @@ use crate::trouble::{Trouble, taken};
 use mpx_bus::{Bus, Port, Push};
 use mpx_group::Proc;
 use mpx_name::Name;
+use mpx_num::{Listing, Ops};
 use mpx_post::{Birth, Draft, Kind, PostError};
 use mpx_shared::{Dock, Poster, Pull, SharedPort, Tested, Ticket};
 use std::alloc::Global;
@@ -49,21 +50,23 @@ fn posts<L: Dock, R: Abort + Wait>(
     poster: &mut Poster<L>,
     world: &Name,
     drafts: &mut Vec<Draft>,
+    ops: &Ops,
 ) -> Result<Ticket, Trouble>
+    requires list { ⟦<Ops as Listing>⟧.operations ops.now ≡ L.setup.operations }
     requires ledger { (L.all ≡ L.parts) × (0 < L.parts) }
     requires plan { L.setup.planned ≡ false }
 {
     let draft = taken(drafts)?;
     let before = port.fingerprint(rt);
     note(alloc, "begins ", POST);
-    let first = port.post(rt, alloc, poster, world, draft);
+    let first = port.post(rt, alloc, poster, world, draft, ops);
     note(alloc, "ends ", POST);
     match first {
         Ok(ticket) => Ok(ticket),
         Err(PostError::OutOfMemory) => {
             keeps(rt, alloc, port, POST, before);
             let draft = taken(drafts)?;
-            Ok(port.post(rt, alloc, poster, world, draft)?)
+            Ok(port.post(rt, alloc, poster, world, draft, ops)?)
         }
         Err(_) => Err(Trouble::Refused),
     }
@@ -207,11 +210,13 @@ fn pulls<L: Dock, R: Abort + Wait>(
     bus: &Bus,
     port: &SharedPort<L>,
     ticket: &Ticket,
+    ops: &Ops,
 ) -> Result<bool, Trouble>
-    requires { table_of bus.now ≡ L.table }
+    requires list { ⟦<Ops as Listing>⟧.operations ops.now ≡ L.setup.operations }
+    requires queue { table_of bus.now ≡ L.table }
 {
     note(alloc, "begins ", PULL);
-    let first = port.pull(rt, alloc, bus);
+    let first = port.pull(rt, alloc, bus, ops);
     note(alloc, "ends ", PULL);
     match first {
         Pull::Took => Ok(true),
@@ -219,7 +224,7 @@ fn pulls<L: Dock, R: Abort + Wait>(
         Pull::OutOfMemory(frame) => {
             drop(frame);
             stands(rt, alloc, port, PULL, ticket)?;
-            Ok(is_empty(port.pull(rt, alloc, bus)))
+            Ok(is_empty(port.pull(rt, alloc, bus, ops)))
         }
     }
 }
@@ -241,17 +246,19 @@ fn gossips<L: Dock, R: Abort + Wait>(
     bus: &Bus,
     port: &SharedPort<L>,
     ticket: &Ticket,
+    ops: &Ops,
 ) -> Result<(), Trouble>
-    requires { table_of bus.now ≡ L.table }
+    requires list { ⟦<Ops as Listing>⟧.operations ops.now ≡ L.setup.operations }
+    requires queue { table_of bus.now ≡ L.table }
 {
     note(alloc, "begins ", GOSSIP);
-    let first = port.gossip(rt, alloc, bus, 3);
+    let first = port.gossip(rt, alloc, bus, 3, ops);
     note(alloc, "ends ", GOSSIP);
     match first {
         Ok(()) => Ok(()),
         Err(_) => {
             stands(rt, alloc, port, GOSSIP, ticket)?;
-            Ok(port.gossip(rt, alloc, bus, 3)?)
+            Ok(port.gossip(rt, alloc, bus, 3, ops)?)
         }
     }
 }
@@ -265,12 +272,14 @@ fn makes_each<L: Dock, R: Abort + Wait>(
     poster: &mut Poster<L>,
     world: &Name,
     drafts: &mut Vec<Draft>,
+    ops: &Ops,
 ) -> Result<bool, Trouble>
+    requires list { ⟦<Ops as Listing>⟧.operations ops.now ≡ L.setup.operations }
     requires ledger { (L.all ≡ L.parts) × (0 < L.parts) }
     requires bus { (L.setup.planned ≡ false) × (table_of bus.now ≡ L.table) }
 {
-    let ticket = posts(rt, alloc, port, poster, world, drafts)?;
-    let answer = goes_on(rt, alloc, bus, port, poster, world, &ticket);
+    let ticket = posts(rt, alloc, port, poster, world, drafts, ops)?;
+    let answer = goes_on(rt, alloc, bus, port, poster, world, &ticket, ops);
     drop(ticket);
     answer
 }
@@ -301,16 +310,18 @@ fn goes_on<L: Dock, R: Abort + Wait>(
     poster: &mut Poster<L>,
     world: &Name,
     ticket: &Ticket,
+    ops: &Ops,
 ) -> Result<bool, Trouble>
+    requires list { ⟦<Ops as Listing>⟧.operations ops.now ≡ L.setup.operations }
     requires ledger { L.all ≡ L.parts }
     requires bus { table_of bus.now ≡ L.table }
 {
     let put = puts(rt, alloc, bus, port)?;
-    let pulled = pulls(rt, alloc, bus, port, ticket)?;
+    let pulled = pulls(rt, alloc, bus, port, ticket, ops)?;
     let done = is_done(tests(rt, alloc, port, ticket)?);
     let opened = is_below_world(opens(rt, alloc, port, poster, world)?);
     let born = is_known(birth_of(rt, alloc, port, world)?);
-    gossips(rt, alloc, bus, port, ticket)?;
+    gossips(rt, alloc, bus, port, ticket, ops)?;
     Ok(put && pulled && done && opened && born)
 }
 
@@ -323,7 +334,9 @@ fn of_new_port<L: Dock, R: Abort + Wait>(
     me: u8,
     blank: Blank,
     drafts: &mut Vec<Draft>,
+    ops: &Ops,
 ) -> Result<bool, Trouble>
+    requires list { ⟦<Ops as Listing>⟧.operations ops.now ≡ L.setup.operations }
     requires ledger { (blank.name ≡ L.name) × ((blank.parts ≡ L.parts) × ((L.all ≡ L.parts) × (0 < L.parts))) }
     requires me { (me < 64) × (me ≡ L.me) }
     requires port { IsDocked L.table L.setup L.me port × ((port.journal ≡ L.opening) × (length (made_in port) ≡ L.before)) }
@@ -331,7 +344,7 @@ fn of_new_port<L: Dock, R: Abort + Wait>(
 {
     let (port, mut poster) = SharedPort::<L>::new(alloc, port, Proc::new(me), blank);
     let world = Name::world(alloc);
-    let answer = makes_each(rt, alloc, bus, &port, &mut poster, &world, drafts);
+    let answer = makes_each(rt, alloc, bus, &port, &mut poster, &world, drafts, ops);
     drop(world);
     drop(poster);
     drop(port);
@@ -342,14 +355,17 @@ fn of_one_port<R: Abort + Wait>(
     rt: &R,
     alloc: Global,
     drafts: &mut Vec<Draft>,
-) -> Result<bool, Trouble> {
+    ops: &Ops,
+) -> Result<bool, Trouble>
+    requires list { ⟦<Ops as Listing>⟧.operations ops.now ≡ [] }
+{
     let (bus, port, me) = one_port(alloc)?;
     if me >= 64 {
         drop(port);
         drop(bus);
         return Err(Trouble::Refused);
     }
-    let answer = of_new_port::<Brand, R>(rt, alloc, &bus, port, me, Blank::new(1), drafts);
+    let answer = of_new_port::<Brand, R>(rt, alloc, &bus, port, me, Blank::new(1), drafts, ops);
     drop(bus);
     answer
 }
@@ -358,7 +374,8 @@ fn of_one_port<R: Abort + Wait>(
 #[test]
 fn shared_ports_stay(rt: HostRuntime) -> Result<(), Fail> {
     let alloc = rt.alloc();
+    let ops = Ops::none(alloc);
     let mut drafts = two_drafts(alloc, Kind::Dup)?;
-    assert!(rt; of_one_port(&rt, alloc, &mut drafts)?);
+    assert!(rt; of_one_port(&rt, alloc, &mut drafts, &ops)?);
     Ok(())
 }

@@ -1,11 +1,14 @@
 //! A call that may lack memory, tried on a state of its own.
+ghost use Rattle.std.specs.Prelude.{◌≡◌, []};
+
 use crate::notes::{Called, note};
 use crate::trouble::Trouble;
+use mpx_num::{Listing, Ops};
 use std::alloc::Global;
 use std::process::Abort;
 use std::test::Fail;
 
-/// A call of the library, with the state that it is made on.
+/// A call of the library, with the state that it is made on. Each is lent the empty list of a job's own operations.
 pub trait Trial {
     /// What the call is made on.
     type State: Drop;
@@ -14,10 +17,12 @@ pub trait Trial {
     type Made: Drop;
 
     /// The state before the call, the same each time.
-    fn start(&self, alloc: Global) -> Result<Self::State, Trouble>;
+    fn start(&self, alloc: Global, ops: &Ops) -> Result<Self::State, Trouble>
+        requires list { ⟦<Ops as Listing>⟧.operations ops.now ≡ [] };
 
     /// The call.
-    fn call(&self, alloc: Global, state: &mut Self::State) -> Result<Self::Made, Trouble>;
+    fn call(&self, alloc: Global, state: &mut Self::State, ops: &Ops) -> Result<Self::Made, Trouble>
+        requires list { ⟦<Ops as Listing>⟧.operations ops.now ≡ [] };
 
     /// Whether two states are the same.
     fn are_same(&self, one: &Self::State, other: &Self::State) -> bool;
@@ -39,12 +44,15 @@ pub fn tries<T: Trial, R: Abort>(
     alloc: Global,
     name: Called<'_>,
     trial: &T,
-) -> Result<(), Fail> {
-    let before = trial.start(alloc)?;
-    let mut whole = trial.start(alloc)?;
-    let wanted = trial.call(alloc, &mut whole)?;
-    let mut state = trial.start(alloc)?;
-    let made = called(rt, alloc, name, trial, &mut state, &before, &whole)?;
+    ops: &Ops,
+) -> Result<(), Fail>
+    requires list { ⟦<Ops as Listing>⟧.operations ops.now ≡ [] }
+{
+    let before = trial.start(alloc, ops)?;
+    let mut whole = trial.start(alloc, ops)?;
+    let wanted = trial.call(alloc, &mut whole, ops)?;
+    let mut state = trial.start(alloc, ops)?;
+    let made = called(rt, alloc, name, trial, &mut state, &before, &whole, ops)?;
     assert!(rt;
         trial.are_alike(&made, &wanted),
         "{}: another answer",
@@ -67,9 +75,12 @@ fn called<T: Trial, R: Abort>(
     state: &mut T::State,
     before: &T::State,
     whole: &T::State,
-) -> Result<T::Made, Fail> {
+    ops: &Ops,
+) -> Result<T::Made, Fail>
+    requires list { ⟦<Ops as Listing>⟧.operations ops.now ≡ [] }
+{
     note(alloc, "begins ", name);
-    let first = trial.call(alloc, state);
+    let first = trial.call(alloc, state, ops);
     note(alloc, "ends ", name);
     match first {
         Ok(made) => Ok(made),
@@ -80,7 +91,7 @@ fn called<T: Trial, R: Abort>(
                 name.name
             );
             note(alloc, "kept ", name);
-            Ok(trial.call(alloc, state)?)
+            Ok(trial.call(alloc, state, ops)?)
         }
         Err(Trouble::Refused) => Err(Fail::from("refused")),
     }
@@ -92,9 +103,12 @@ pub fn tries_each<T: Trial, R: Abort>(
     alloc: Global,
     of: &str,
     trials: &[(&str, T)],
-) -> Result<(), Fail> {
+    ops: &Ops,
+) -> Result<(), Fail>
+    requires list { ⟦<Ops as Listing>⟧.operations ops.now ≡ [] }
+{
     for (name, trial) in trials {
-        tries(rt, alloc, Called { of, name: *name }, trial)?;
+        tries(rt, alloc, Called { of, name: *name }, trial, ops)?;
     }
     Ok(())
 }

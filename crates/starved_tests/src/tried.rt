@@ -1,4 +1,6 @@
 //! The tests of all calls that are tried by tables.
+ghost use Rattle.std.specs.Prelude.{◌≡◌, []};
+
 use crate::births::BIRTH_CALLS;
 use crate::boards::BOARD_CALLS;
 use crate::calls::NAMED_CALLS;
@@ -20,6 +22,7 @@ use join_core::{Flat, Max, Pair};
 use join_nest::{Keyed, Lift, Trunc};
 use mpx_board::Board;
 use mpx_group::Group;
+use mpx_num::{Listing, Ops};
 use std::alloc::Global;
 use std::process::Abort;
 use std::test::Fail;
@@ -28,78 +31,95 @@ use std::test::Fail;
 #[test]
 fn values_stay(rt: HostRuntime) -> Result<(), Fail> {
     let alloc = rt.alloc();
-    tries_each(&rt, alloc, "mpx_num ", NUMBER_CALLS)?;
-    tries_each(&rt, alloc, "mpx_group Group::", GROUP_CALLS)?;
-    tries_each(&rt, alloc, "mpx_name ", NAME_CALLS)?;
-    tries_each(&rt, alloc, "mpx_birth ", BIRTH_CALLS)?;
-    tries_each(&rt, alloc, "mpx_post ", POST_CALLS)
+    let ops = Ops::none(alloc);
+    tries_each(&rt, alloc, "mpx_num ", NUMBER_CALLS, &ops)?;
+    tries_each(&rt, alloc, "mpx_group Group::", GROUP_CALLS, &ops)?;
+    tries_each(&rt, alloc, "mpx_name ", NAME_CALLS, &ops)?;
+    tries_each(&rt, alloc, "mpx_birth ", BIRTH_CALLS, &ops)?;
+    tries_each(&rt, alloc, "mpx_post ", POST_CALLS, &ops)
 }
 
-fn pairs<R: Abort>(rt: &R, alloc: Global) -> Result<(), Fail> {
-    joins_stay::<Pair<Flat<Group>, Flat<Group>>, R>(rt, alloc, "join_core Pair and Flat: ")
+fn pairs<R: Abort>(rt: &R, alloc: Global, ops: &Ops) -> Result<(), Fail>
+    requires list { ⟦<Ops as Listing>⟧.operations ops.now ≡ [] }
+{
+    joins_stay::<Pair<Flat<Group>, Flat<Group>>, R>(rt, alloc, "join_core Pair and Flat: ", ops)
 }
 
-fn keyed<R: Abort>(rt: &R, alloc: Global) -> Result<(), Fail> {
-    joins_stay::<Keyed<u32, Max>, R>(rt, alloc, "join_nest Keyed::")
+fn keyed<R: Abort>(rt: &R, alloc: Global, ops: &Ops) -> Result<(), Fail>
+    requires list { ⟦<Ops as Listing>⟧.operations ops.now ≡ [] }
+{
+    joins_stay::<Keyed<u32, Max>, R>(rt, alloc, "join_nest Keyed::", ops)
 }
 
-fn lifts<R: Abort>(rt: &R, alloc: Global) -> Result<(), Fail> {
-    joins_stay::<Lift<Keyed<u32, Max>>, R>(rt, alloc, "join_nest Lift::")
+fn lifts<R: Abort>(rt: &R, alloc: Global, ops: &Ops) -> Result<(), Fail>
+    requires list { ⟦<Ops as Listing>⟧.operations ops.now ≡ [] }
+{
+    joins_stay::<Lift<Keyed<u32, Max>>, R>(rt, alloc, "join_nest Lift::", ops)
 }
 
-fn truncs<R: Abort>(rt: &R, alloc: Global) -> Result<(), Fail> {
-    joins_stay::<Trunc<Keyed<u32, Max>>, R>(rt, alloc, "join_nest Trunc::")
+fn truncs<R: Abort>(rt: &R, alloc: Global, ops: &Ops) -> Result<(), Fail>
+    requires list { ⟦<Ops as Listing>⟧.operations ops.now ≡ [] }
+{
+    joins_stay::<Trunc<Keyed<u32, Max>>, R>(rt, alloc, "join_nest Trunc::", ops)
 }
 
-fn boards<R: Abort>(rt: &R, alloc: Global) -> Result<(), Fail> {
-    joins_stay::<Board, R>(rt, alloc, "mpx_board Board::")
+fn boards<R: Abort>(rt: &R, alloc: Global, ops: &Ops) -> Result<(), Fail>
+    requires list { ⟦<Ops as Listing>⟧.operations ops.now ≡ [] }
+{
+    joins_stay::<Board, R>(rt, alloc, "mpx_board Board::", ops)
 }
 
 // Copies, joins and deltas. A generic call at a nested type stands in a function of its own, which is proved sooner.
 #[test]
 fn joins_stay_between(rt: HostRuntime) -> Result<(), Fail> {
     let alloc = rt.alloc();
-    pairs(&rt, alloc)?;
-    keyed(&rt, alloc)?;
-    lifts(&rt, alloc)?;
-    truncs(&rt, alloc)?;
-    boards(&rt, alloc)
+    let ops = Ops::none(alloc);
+    pairs(&rt, alloc, &ops)?;
+    keyed(&rt, alloc, &ops)?;
+    lifts(&rt, alloc, &ops)?;
+    truncs(&rt, alloc, &ops)?;
+    boards(&rt, alloc, &ops)
 }
 
 // Maps and boards, and what is made of them.
 #[test]
 fn boards_stay(rt: HostRuntime) -> Result<(), Fail> {
     let alloc = rt.alloc();
-    tries_each(&rt, alloc, "join_nest ", MAP_CALLS)?;
-    tries_each(&rt, alloc, "", BOARD_CALLS)?;
-    tries_each(&rt, alloc, "", FRAME_CALLS)
+    let ops = Ops::none(alloc);
+    tries_each(&rt, alloc, "join_nest ", MAP_CALLS, &ops)?;
+    tries_each(&rt, alloc, "", BOARD_CALLS, &ops)?;
+    tries_each(&rt, alloc, "", FRAME_CALLS, &ops)
 }
 
 // What calls give, and the steps of nodes and worlds.
 #[test]
 fn nodes_stay(rt: HostRuntime) -> Result<(), Fail> {
     let alloc = rt.alloc();
-    tries_each(&rt, alloc, "mpx_value ", VALUE_CALLS)?;
-    tries_each(&rt, alloc, "mpx_node ", NODE_CALLS)?;
-    tries_each(&rt, alloc, "mpx_world World::", WORLD_CALLS)
+    let ops = Ops::none(alloc);
+    tries_each(&rt, alloc, "mpx_value ", VALUE_CALLS, &ops)?;
+    tries_each(&rt, alloc, "mpx_node ", NODE_CALLS, &ops)?;
+    tries_each(&rt, alloc, "mpx_world World::", WORLD_CALLS, &ops)
 }
 
 // The user's calls.
 #[test]
 fn desks_stay(rt: HostRuntime) -> Result<(), Fail> {
-    tries_each(&rt, rt.alloc(), "mpx_comm ", DESK_CALLS)
+    let ops = Ops::none(rt.alloc());
+    tries_each(&rt, rt.alloc(), "mpx_comm ", DESK_CALLS, &ops)
 }
 
 // The user's calls by their names.
 #[test]
 fn calls_by_name_stay(rt: HostRuntime) -> Result<(), Fail> {
-    tries_each(&rt, rt.alloc(), "mpx_comm Desk::", NAMED_CALLS)
+    let ops = Ops::none(rt.alloc());
+    tries_each(&rt, rt.alloc(), "mpx_comm Desk::", NAMED_CALLS, &ops)
 }
 
 // Scripts, their lines, evaluations and runs.
 #[test]
 fn scripts_stay(rt: HostRuntime) -> Result<(), Fail> {
     let alloc = rt.alloc();
-    tries_each(&rt, alloc, "", SCRIPT_CALLS)?;
-    tries_each(&rt, alloc, "", LINE_CALLS)
+    let ops = Ops::none(alloc);
+    tries_each(&rt, alloc, "", SCRIPT_CALLS, &ops)?;
+    tries_each(&rt, alloc, "", LINE_CALLS, &ops)
 }

@@ -1,4 +1,6 @@
 //! The events of a world.
+ghost use Rattle.std.specs.Prelude.{◌≡◌, []};
+
 use crate::drafts::draft_of;
 use crate::nodes::add_contexts;
 use crate::same::{is_between, same_nodes};
@@ -6,10 +8,11 @@ use crate::trial::Trial;
 use crate::trouble::{Trouble, filled};
 use mpx_name::Name;
 use mpx_node::Node;
-use mpx_num::Numbers;
+use mpx_num::{Listing, Numbers, Ops};
 use mpx_post::Kind;
 use mpx_world::{Cut, Event, Names, Reply, World};
 use std::alloc::Global;
+use std::marker::Brand;
 use test_drafts::proc;
 
 pub enum WorldCall {
@@ -28,19 +31,19 @@ pub enum WorldCall {
 // Two ranks, of which the first knows that both have posted a call, an event of the first, and some contexts.
 #[derive(Drop)]
 pub struct Stage {
-    world: World,
+    world: World<Brand>,
     events: Vec<Event>,
     names: Vec<Name>,
 }
 
 #[derive(Drop)]
 pub enum WorldMade {
-    World(World),
+    World(World<Brand>),
     Replies(Vec<Reply>),
 }
 
-fn new_world(alloc: Global) -> Result<World, Trouble> {
-    Ok(World::new(alloc, 2, 2)?)
+fn new_world(alloc: Global) -> Result<World<Brand>, Trouble> {
+    Ok(World::<Brand>::new(alloc, 2, 2)?)
 }
 
 fn post(alloc: Global, number: u8, kind: Kind) -> Result<Event, Trouble> {
@@ -126,8 +129,15 @@ fn add_opening(alloc: Global, events: &mut Vec<Event>, kind: Kind) -> Result<(),
     Ok(())
 }
 
-fn run(alloc: Global, world: &mut World, events: &[Event]) -> Result<Vec<Reply>, Trouble> {
-    Ok(world.run(alloc, events)?)
+fn run(
+    alloc: Global,
+    world: &mut World<Brand>,
+    events: &[Event],
+    ops: &Ops,
+) -> Result<Vec<Reply>, Trouble>
+    requires list { ⟦<Ops as Listing>⟧.operations ops.now ≡ [] }
+{
+    Ok(world.run(alloc, events, ops)?)
 }
 
 fn kind_of(call: &WorldCall) -> Kind {
@@ -138,9 +148,11 @@ fn kind_of(call: &WorldCall) -> Kind {
 }
 
 // The opening is run; the event behind it is what is left.
-fn fill(alloc: Global, call: &WorldCall, stage: &mut Stage) -> Result<(), Trouble> {
+fn fill(alloc: Global, call: &WorldCall, stage: &mut Stage, ops: &Ops) -> Result<(), Trouble>
+    requires list { ⟦<Ops as Listing>⟧.operations ops.now ≡ [] }
+{
     add_opening(alloc, &mut stage.events, kind_of(call))?;
-    drop(run(alloc, &mut stage.world, &stage.events)?);
+    drop(run(alloc, &mut stage.world, &stage.events, ops)?);
     stage.events.clear();
     stage.events.push(event_of(alloc, call)?)?;
     add_contexts(alloc, &mut stage.names)
@@ -153,7 +165,7 @@ fn same_at(one: Option<&Node>, other: Option<&Node>, names: &[Name]) -> bool {
     }
 }
 
-fn same_worlds(one: &World, other: &World, names: &[Name]) -> bool {
+fn same_worlds(one: &World<Brand>, other: &World<Brand>, names: &[Name]) -> bool {
     same_at(one.node(proc(0)), other.node(proc(0)), names)
         && same_at(one.node(proc(1)), other.node(proc(1)), names)
 }
@@ -177,20 +189,20 @@ impl Trial for WorldCall {
 
     type Made = WorldMade;
 
-    fn start(&self, alloc: Global) -> Result<Stage, Trouble> {
+    fn start(&self, alloc: Global, ops: &Ops) -> Result<Stage, Trouble> {
         let mut stage = Stage {
             world: new_world(alloc)?,
             events: Vec::new(alloc),
             names: Vec::new(alloc),
         };
-        let done = fill(alloc, self, &mut stage);
+        let done = fill(alloc, self, &mut stage, ops);
         filled(stage, done)
     }
 
-    fn call(&self, alloc: Global, stage: &mut Stage) -> Result<WorldMade, Trouble> {
+    fn call(&self, alloc: Global, stage: &mut Stage, ops: &Ops) -> Result<WorldMade, Trouble> {
         match self {
             WorldCall::New => Ok(WorldMade::World(new_world(alloc)?)),
-            _ => Ok(WorldMade::Replies(run(alloc, &mut stage.world, &stage.events)?)),
+            _ => Ok(WorldMade::Replies(run(alloc, &mut stage.world, &stage.events, ops)?)),
         }
     }
 

@@ -4,7 +4,7 @@
 
 use join_core::OutOfMemory;
 use mpx_group::Proc;
-use mpx_num::{Numbers, Op, Ty};
+use mpx_num::{Numbers, Op, Ops, Ty};
 use mpx_post::{
     At, Birth, Call, Draft, DraftedEdge, DraftedGraph, DraftedNeighbour, Kind, Post, PostError,
 };
@@ -124,16 +124,17 @@ pub fn a_sum(alloc: Global, number: i128) -> Result<Draft, OutOfMemory> {
     draft(alloc, &sum_of(&items))
 }
 
-/// The post of this data, or why the process may not post it there.
+/// The post of this data, or why the process may not post it there, in a job with these operations of its own.
 pub fn check(
     alloc: Global,
     birth: &Birth,
     me: Proc,
     at: &At,
     drafted: &Drafted<'_>,
+    ops: &Ops,
 ) -> Result<Post, PostError> {
     match draft(alloc, drafted) {
-        Ok(draft) => draft.check(alloc, birth, me, at),
+        Ok(draft) => draft.check(alloc, birth, me, at, ops),
         Err(OutOfMemory) => Err(PostError::OutOfMemory),
     }
 }

@@ -9,7 +9,7 @@ use mpx_board::Board;
 use mpx_comm::{Comm, Desk, Host, Request, Tested};
 use mpx_group::Proc;
 use mpx_node::{Finished, Node};
-use mpx_num::{Op, Ty};
+use mpx_num::{Op, Ops, Ty};
 use mpx_post::PostError;
 use std::alloc::Global;
 use std::collections::VecDeque;
@@ -20,9 +20,10 @@ pub fn post_sum<H: Host>(
     desk: &mut Desk<H>,
     comm: &Comm,
     number: i128,
+    ops: &Ops,
 ) -> Result<Request, Stop> {
     let items = numbers(alloc, &[number])?;
-    Ok(desk.iallreduce(alloc, comm, Op::Sum, Ty::I32, items)?)
+    Ok(desk.iallreduce(alloc, comm, Op::Sum, Ty::I32, items, ops)?)
 }
 
 /// The result of a call that is done: the stored one.
@@ -30,10 +31,11 @@ pub fn tested<H: Host>(
     alloc: Global,
     desk: &mut Desk<H>,
     request: Request,
+    ops: &Ops,
 ) -> Result<Finished, Stop>
     ensures { IfOk result (λ finished. result_of (H.node desk.new.host) request ≡ Some finished) }
 {
-    match desk.test(alloc, request)? {
+    match desk.test(alloc, request, ops)? {
         Tested::Done(finished) => Ok(finished),
         Tested::NotYet(_) => Err(Stop::NoAnswer),
     }
@@ -45,30 +47,36 @@ pub fn two_sums(
     left: &mut Desk<Node>,
     right: &mut Desk<Node>,
     worlds: (&Comm, &Comm),
+    ops: &Ops,
 ) -> Result<(i128, i128), Stop> {
     let (here, there) = worlds;
-    let first = post_sum(alloc, left, here, 1)?;
-    let last = post_sum(alloc, left, here, 2)?;
-    post_sum(alloc, right, there, 2)?;
-    post_sum(alloc, right, there, 3)?;
+    let first = post_sum(alloc, left, here, 1, ops)?;
+    let last = post_sum(alloc, left, here, 2, ops)?;
+    post_sum(alloc, right, there, 2, ops)?;
+    post_sum(alloc, right, there, 3, ops)?;
     swap(alloc, left, right)?;
-    let last = number_in(tested(alloc, left, last)?)?;
-    let first = number_in(left.wait(alloc, first, 0)?)?;
+    let last = number_in(tested(alloc, left, last, ops)?)?;
+    let first = number_in(left.wait(alloc, first, 0, ops)?)?;
     Ok((first, last))
 }
 
 /// The first open request that is done: the number of its call, and the sum.
-pub fn any_sum<H: Host>(alloc: Global, desk: &mut Desk<H>) -> Result<(u32, i128), Stop> {
-    match desk.testany(alloc)? {
+pub fn any_sum<H: Host>(alloc: Global, desk: &mut Desk<H>, ops: &Ops) -> Result<(u32, i128), Stop> {
+    match desk.testany(alloc, ops)? {
         Some((request, finished)) => Ok((request.call(), number_in(finished)?)),
         None => Err(Stop::NoAnswer),
     }
 }
 
 /// A broadcast by a rank that the communicator doesn't have: why it is refused.
-pub fn refusal<H: Host>(alloc: Global, desk: &mut Desk<H>, comm: &Comm) -> Result<PostError, Stop> {
+pub fn refusal<H: Host>(
+    alloc: Global,
+    desk: &mut Desk<H>,
+    comm: &Comm,
+    ops: &Ops,
+) -> Result<PostError, Stop> {
     let items = numbers(alloc, &[])?;
-    match desk.ibcast(alloc, comm, 9, Ty::U8, 1, items) {
+    match desk.ibcast(alloc, comm, 9, Ty::U8, 1, items, ops) {
         Err(PostError::OutOfMemory) => Err(Stop::OutOfMemory),
         Err(refusal) => Ok(refusal),
         Ok(_) => Err(Stop::NoAnswer),
@@ -81,10 +89,11 @@ pub fn awaited(
     desk: &mut Desk<Inbox>,
     request: Request,
     turns: u64,
+    ops: &Ops,
 ) -> Result<Finished, Stop>
     ensures { IfOk result (λ finished. (n : ℕ) × (n ≤ turns) × (desk.new.host.boards.items ≡ drop n desk.old.host.boards.items)) }
 {
-    Ok(desk.wait(alloc, request, turns)?)
+    Ok(desk.wait(alloc, request, turns, ops)?)
 }
 
 // One more board of the rank comes.
@@ -98,17 +107,18 @@ fn send_three(
     alloc: Global,
     other: &mut Desk<Node>,
     boards: &mut VecDeque<Board>,
+    ops: &Ops,
 ) -> Result<(), Stop> {
     send(alloc, other, boards)?;
-    post_sum(alloc, other, &Comm::world(alloc, 2, 1), 20)?;
+    post_sum(alloc, other, &Comm::world(alloc, 2, 1), 20, ops)?;
     send(alloc, other, boards)?;
     send(alloc, other, boards)
 }
 
 // All that rank 1 sends.
-fn sent(alloc: Global, other: &mut Desk<Node>) -> Result<VecDeque<Board>, Stop> {
+fn sent(alloc: Global, other: &mut Desk<Node>, ops: &Ops) -> Result<VecDeque<Board>, Stop> {
     let mut boards = VecDeque::new(alloc);
-    match send_three(alloc, other, &mut boards) {
+    match send_three(alloc, other, &mut boards, ops) {
         Ok(()) => Ok(boards),
         Err(stop) => {
             drop(boards);
@@ -118,9 +128,9 @@ fn sent(alloc: Global, other: &mut Desk<Node>) -> Result<VecDeque<Board>, Stop> 
 }
 
 // An inbox of rank 0 with that.
-fn inbox(alloc: Global) -> Result<Inbox, Stop> {
+fn inbox(alloc: Global, ops: &Ops) -> Result<Inbox, Stop> {
     let mut other = desk_of(alloc, 1, 2)?;
-    let boards = sent(alloc, &mut other);
+    let boards = sent(alloc, &mut other, ops);
     drop(other);
     let boards = boards?;
     let node = Node::new(alloc, Proc::new(0), 2, 2)?;
@@ -128,16 +138,16 @@ fn inbox(alloc: Global) -> Result<Inbox, Stop> {
 }
 
 // The sum, and how many boards are left in the inbox.
-fn sum_of(alloc: Global, desk: &mut Desk<Inbox>) -> Result<(i128, usize), Stop> {
-    let request = post_sum(alloc, desk, &Comm::world(alloc, 2, 0), 10)?;
-    let finished = awaited(alloc, desk, request, 5)?;
+fn sum_of(alloc: Global, desk: &mut Desk<Inbox>, ops: &Ops) -> Result<(i128, usize), Stop> {
+    let request = post_sum(alloc, desk, &Comm::world(alloc, 2, 0), 10, ops)?;
+    let finished = awaited(alloc, desk, request, 5, ops)?;
     Ok((number_in(finished)?, desk.host().boards.len()))
 }
 
 /// The sum with the number of a rank whose boards come to an inbox, and how many of them are left there.
-pub fn sum_from_inbox(alloc: Global) -> Result<(i128, usize), Stop> {
-    let mut desk = Desk::new(alloc, inbox(alloc)?);
-    let answer = sum_of(alloc, &mut desk);
+pub fn sum_from_inbox(alloc: Global, ops: &Ops) -> Result<(i128, usize), Stop> {
+    let mut desk = Desk::new(alloc, inbox(alloc, ops)?);
+    let answer = sum_of(alloc, &mut desk, ops);
     drop(desk);
     answer
 }

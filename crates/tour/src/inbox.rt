@@ -8,6 +8,7 @@ use mpx_board::Board;
 use mpx_comm::Host;
 use mpx_name::Name;
 use mpx_node::{Finished, Harvest, Node};
+use mpx_num::Ops;
 use mpx_post::{Draft, PostError};
 use std::alloc::Global;
 use std::collections::VecDeque;
@@ -30,12 +31,18 @@ impl Host for Inbox {
     // One that is refused takes none.
     ghost turn_refused = { λ a b. b.boards.items ≡ a.boards.items };
 
-    fn post(&mut self, alloc: Global, name: &Name, draft: Draft) -> Result<u32, PostError> {
-        self.node.post(alloc, name, draft)
+    fn post(
+        &mut self,
+        alloc: Global,
+        name: &Name,
+        draft: Draft,
+        ops: &Ops,
+    ) -> Result<u32, PostError> {
+        self.node.post(alloc, name, draft, ops)
     }
 
-    fn refusal(&self, name: &Name, draft: &Draft) -> Option<PostError> {
-        self.node.refusal(name, draft)
+    fn refusal(&self, name: &Name, draft: &Draft, ops: &Ops) -> Option<PostError> {
+        self.node.refusal(name, draft, ops)
     }
 
     fn open_gathering(
@@ -48,8 +55,8 @@ impl Host for Inbox {
         self.node.open_gathering(alloc, parent, tag, ranks)
     }
 
-    fn harvest(&mut self, alloc: Global, name: &Name) -> Result<Harvest, OutOfMemory> {
-        self.node.harvest(alloc, name)
+    fn harvest(&mut self, alloc: Global, name: &Name, ops: &Ops) -> Result<Harvest, OutOfMemory> {
+        self.node.harvest(alloc, name, ops)
     }
 
     fn result(&self, name: &Name, call: u32) -> Option<&Finished> {

@@ -6,17 +6,34 @@ mod desks;
 mod inbox;
 mod making;
 mod nodes;
+mod own;
 mod stop;
 mod threads;
 mod tour;
 
+use mpx_num::{Ops, OwnOp};
+use own::Last;
+use std::alloc::Global;
 use std::io;
 use std::io::Write;
 use std::process::ExitCode;
+use std::sync::Wait;
+use std::thread::Threads;
+use stop::Stop;
 use tour::print_tour;
 
+// The tour, with the program's own operation.
+fn go<R: Threads + Wait + Sync, W: Write>(rt: &R, alloc: Global, out: &mut W) -> Result<(), Stop> {
+    let mut list: Vec<Box<dyn OwnOp + Send + Sync + Drop>> = Vec::new(alloc);
+    list.push(Box::new(alloc, Last)?)?;
+    let Ok(ops) = Ops::new(list) else {
+        return Err(Stop::NoAnswer);
+    };
+    print_tour(rt, alloc, out, &ops)
+}
+
 fn main(rt: HostRuntime) -> ExitCode {
-    match print_tour(&rt, rt.alloc(), &mut io::writer(&rt)) {
+    match go(&rt, rt.alloc(), &mut io::writer(&rt)) {
         Ok(()) => ExitCode::SUCCESS,
         Err(stop) => {
             let _told = writeln!(rt.stderr(), "{stop}");

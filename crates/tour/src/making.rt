@@ -9,7 +9,7 @@ use crate::desks::{number_in, numbers, swap};
 use crate::stop::Stop;
 use mpx_comm::{CallError, Comm, Desk, Host, Request};
 use mpx_node::{Finished, Node};
-use mpx_num::Ty;
+use mpx_num::{Ops, Ty};
 use mpx_post::DraftedNeighbour;
 use std::alloc::Global;
 
@@ -29,18 +29,24 @@ pub fn comm_from<H: Host>(
     alloc: Global,
     desk: &mut Desk<H>,
     request: Request,
+    ops: &Ops,
 ) -> Result<Option<Comm>, Stop>
     ensures { IfOk result (λ comm. (finished : FinishedView) × (result_of (H.node desk.new.host) request ≡ Some finished) × (comm ≡ comm_of finished.outcome)) }
 {
-    let finished = desk.wait(alloc, request, 0)?;
+    let finished = desk.wait(alloc, request, 0, ops)?;
     let comm = Comm::of(alloc, &finished);
     drop(finished);
     Ok(comm?)
 }
 
 /// The same where there has to be one.
-pub fn made<H: Host>(alloc: Global, desk: &mut Desk<H>, request: Request) -> Result<Comm, Stop> {
-    comm_from(alloc, desk, request)?.ok_or(Stop::NoAnswer)
+pub fn made<H: Host>(
+    alloc: Global,
+    desk: &mut Desk<H>,
+    request: Request,
+    ops: &Ops,
+) -> Result<Comm, Stop> {
+    comm_from(alloc, desk, request, ops)?.ok_or(Stop::NoAnswer)
 }
 
 /// Both in one communicator, ordered by key: its size, and the rank of the left one.
@@ -49,12 +55,13 @@ pub fn split_by_key(
     left: &mut Desk<Node>,
     right: &mut Desk<Node>,
     worlds: (&Comm, &Comm),
+    ops: &Ops,
 ) -> Result<(u8, u8), Stop> {
     let (here, there) = worlds;
-    let mine = still_open(left.split(alloc, here, Some(7), 5, 0))?;
-    still_open(right.split(alloc, there, Some(7), -5, 0))?;
+    let mine = still_open(left.split(alloc, here, Some(7), 5, 0, ops))?;
+    still_open(right.split(alloc, there, Some(7), -5, 0, ops))?;
     swap(alloc, left, right)?;
-    let comm = made(alloc, left, mine)?;
+    let comm = made(alloc, left, mine, ops)?;
     Ok((comm.size(), comm.rank()))
 }
 
@@ -64,12 +71,13 @@ pub fn split_apart(
     left: &mut Desk<Node>,
     right: &mut Desk<Node>,
     worlds: (&Comm, &Comm),
+    ops: &Ops,
 ) -> Result<bool, Stop> {
     let (here, there) = worlds;
-    still_open(left.split(alloc, here, Some(7), 0, 0))?;
-    let undefined = still_open(right.split(alloc, there, None, 0, 0))?;
+    still_open(left.split(alloc, here, Some(7), 0, 0, ops))?;
+    let undefined = still_open(right.split(alloc, there, None, 0, 0, ops))?;
     swap(alloc, left, right)?;
-    Ok(comm_from(alloc, right, undefined)?.is_none())
+    Ok(comm_from(alloc, right, undefined, ops)?.is_none())
 }
 
 /// By the members alone, in the order of the list: its size, and the rank of the left one.
@@ -78,12 +86,13 @@ pub fn group(
     left: &mut Desk<Node>,
     right: &mut Desk<Node>,
     worlds: (&Comm, &Comm),
+    ops: &Ops,
 ) -> Result<(u8, u8), Stop> {
     let (here, there) = worlds;
-    let mine = still_open(left.create_group(alloc, here, 9, &[1, 0], 0))?;
-    still_open(right.create_group(alloc, there, 9, &[1, 0], 0))?;
+    let mine = still_open(left.create_group(alloc, here, 9, &[1, 0], 0, ops))?;
+    still_open(right.create_group(alloc, there, 9, &[1, 0], 0, ops))?;
     swap(alloc, left, right)?;
-    let comm = made(alloc, left, mine)?;
+    let comm = made(alloc, left, mine, ops)?;
     Ok((comm.size(), comm.rank()))
 }
 
@@ -93,13 +102,14 @@ fn post_graph(
     desk: &mut Desk<Node>,
     world: &Comm,
     other: i128,
+    ops: &Ops,
 ) -> Result<Request, Stop> {
     let other = DraftedNeighbour {
         rank: other,
         weight: 0,
     };
     let (sources, destinations) = (vec![in alloc; other]?, vec![in alloc; other]?);
-    still_open(desk.dist_graph_adjacent(alloc, world, false, sources, destinations, 0))
+    still_open(desk.dist_graph_adjacent(alloc, world, false, sources, destinations, 0, ops))
 }
 
 /// Posts a number for the neighbours in the graph that the request made.
@@ -108,10 +118,11 @@ fn post_to_neighbours(
     desk: &mut Desk<Node>,
     graph: Request,
     number: i128,
+    ops: &Ops,
 ) -> Result<Request, Stop> {
-    let graph = made(alloc, desk, graph)?;
+    let graph = made(alloc, desk, graph, ops)?;
     let items = numbers(alloc, &[number])?;
-    Ok(desk.ineighbor_allgather(alloc, &graph, Ty::I32, 1, items)?)
+    Ok(desk.ineighbor_allgather(alloc, &graph, Ty::I32, 1, items, ops)?)
 }
 
 /// A graph of two neighbours: what each hears of the other.
@@ -120,15 +131,16 @@ pub fn neighbours(
     left: &mut Desk<Node>,
     right: &mut Desk<Node>,
     worlds: (&Comm, &Comm),
+    ops: &Ops,
 ) -> Result<(i128, i128), Stop> {
     let (here, there) = worlds;
-    let mine = post_graph(alloc, left, here, 1)?;
-    let theirs = post_graph(alloc, right, there, 0)?;
+    let mine = post_graph(alloc, left, here, 1, ops)?;
+    let theirs = post_graph(alloc, right, there, 0, ops)?;
     swap(alloc, left, right)?;
-    let mine = post_to_neighbours(alloc, left, mine, 20)?;
-    let theirs = post_to_neighbours(alloc, right, theirs, 22)?;
+    let mine = post_to_neighbours(alloc, left, mine, 20, ops)?;
+    let theirs = post_to_neighbours(alloc, right, theirs, 22, ops)?;
     swap(alloc, left, right)?;
-    let mine = number_in(left.wait(alloc, mine, 0)?)?;
-    let theirs = number_in(right.wait(alloc, theirs, 0)?)?;
+    let mine = number_in(left.wait(alloc, mine, 0, ops)?)?;
+    let theirs = number_in(right.wait(alloc, theirs, 0, ops)?)?;
     Ok((mine, theirs))
 }

@@ -9,7 +9,7 @@ use crate::stop::Stop;
 use mpx_group::Proc;
 use mpx_name::Name;
 use mpx_node::Node;
-use mpx_num::{Numbers, Op, Ty};
+use mpx_num::{Listing, Numbers, Op, Ops, Ty};
 use mpx_post::{Call, Draft, Kind};
 use std::alloc::Global;
 
@@ -41,10 +41,10 @@ pub fn sum_at(alloc: Global, node: &Node) -> Result<i128, Stop>
 }
 
 // The rank posts its number to the sum of all.
-fn post_number(alloc: Global, node: &mut Node, number: i128) -> Result<(), Stop>
-    ensures { IsStep (node_of node.old) (node_of node.new) }
+fn post_number(alloc: Global, node: &mut Node, number: i128, ops: &Ops) -> Result<(), Stop>
+    ensures { IsStep (⟦<Ops as Listing>⟧.operations ops.now) (node_of node.old) (node_of node.new) }
 {
-    node.post(alloc, &Name::world(alloc), sum_draft(number))?;
+    node.post(alloc, &Name::world(alloc), sum_draft(number), ops)?;
     Ok(())
 }
 
@@ -59,51 +59,51 @@ fn carry(alloc: Global, from: &Node, to: &mut Node) -> Result<(), Stop>
 }
 
 // The rank stores its next result, where it can be had.
-fn harvest(alloc: Global, node: &mut Node) -> Result<(), Stop>
-    ensures { IsStep (node_of node.old) (node_of node.new) }
+fn harvest(alloc: Global, node: &mut Node, ops: &Ops) -> Result<(), Stop>
+    ensures { IsStep (⟦<Ops as Listing>⟧.operations ops.now) (node_of node.old) (node_of node.new) }
 {
-    node.harvest(alloc, &Name::world(alloc))?;
+    node.harvest(alloc, &Name::world(alloc), ops)?;
     Ok(())
 }
 
 // Both post, and boards go both ways.
-fn post_and_swap(alloc: Global, left: &mut Node, right: &mut Node) -> Result<(), Stop>
-    ensures { OnOk result (StayOne left.old right.old left.new right.new) }
+fn post_and_swap(alloc: Global, left: &mut Node, right: &mut Node, ops: &Ops) -> Result<(), Stop>
+    ensures { OnOk result (StayOne (⟦<Ops as Listing>⟧.operations ops.now) left.old right.old left.new right.new) }
 {
-    post_number(alloc, left, 1)?;
-    post_number(alloc, right, 2)?;
+    post_number(alloc, left, 1, ops)?;
+    post_number(alloc, right, 2, ops)?;
     carry(alloc, right, left)?;
     carry(alloc, left, right)?;
     Ok(())
 }
 
 // Both store the result of the sum.
-fn sum_at_both(alloc: Global, left: &mut Node, right: &mut Node) -> Result<(), Stop>
-    ensures one { OnOk result (StayOne left.old right.old left.new right.new) }
+fn sum_at_both(alloc: Global, left: &mut Node, right: &mut Node, ops: &Ops) -> Result<(), Stop>
+    ensures one { OnOk result (StayOne (⟦<Ops as Listing>⟧.operations ops.now) left.old right.old left.new right.new) }
     ensures sums { OnOk result (HasSum left.new × HasSum right.new) }
 {
-    post_and_swap(alloc, left, right)?;
-    harvest(alloc, left)?;
-    harvest(alloc, right)?;
+    post_and_swap(alloc, left, right, ops)?;
+    harvest(alloc, left, ops)?;
+    harvest(alloc, right, ops)?;
     sum_at(alloc, left)?;
     sum_at(alloc, right)?;
     Ok(())
 }
 
 /// Two nodes that are processes of one world, and have both finished a sum. What both have finished of any call is of one row.
-pub fn own_nodes(alloc: Global) -> Result<(Node, Node), Stop>
-    ensures one { IfOk result (λ nodes. AreOne nodes.0 nodes.1) }
+pub fn own_nodes(alloc: Global, ops: &Ops) -> Result<(Node, Node), Stop>
+    ensures one { IfOk result (λ nodes. AreOne (⟦<Ops as Listing>⟧.operations ops.now) nodes.0 nodes.1) }
     ensures sums { IfOk result (λ nodes. HasSum nodes.0 × HasSum nodes.1) }
 {
     let mut left = Node::new(alloc, Proc::new(0), 2, 2)?;
     let mut right = Node::new(alloc, Proc::new(1), 2, 2)?;
-    sum_at_both(alloc, &mut left, &mut right)?;
+    sum_at_both(alloc, &mut left, &mut right, ops)?;
     Ok((left, right))
 }
 
 /// The sum at each of two own nodes.
-pub fn sums_of_own_nodes(alloc: Global) -> Result<(i128, i128), Stop> {
-    let (left, right) = own_nodes(alloc)?;
+pub fn sums_of_own_nodes(alloc: Global, ops: &Ops) -> Result<(i128, i128), Stop> {
+    let (left, right) = own_nodes(alloc, ops)?;
     let sums = (sum_at(alloc, &left)?, sum_at(alloc, &right)?);
     Ok(sums)
 }

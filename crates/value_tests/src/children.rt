@@ -7,6 +7,7 @@ use self::Posted::{Create, Just, Split};
 use crate::making::{add_post, create, lent, processes, split};
 use mpx_group::{Group, Proc};
 use mpx_name::{Name, NameError};
+use mpx_num::Ops;
 use mpx_post::{At, Birth, Kind, Post, PostError, Row};
 use mpx_value::{FaultKind, Outcome, children, outcome};
 use std::alloc::Global;
@@ -246,10 +247,11 @@ fn makes(
     name: &Name,
     row: &Row<'_>,
     wanted: &[Child],
+    ops: &Ops,
 ) -> Result<bool, Fail>
     requires members { length row.now ≡ length birth.now.members }
 {
-    let made = children(alloc, birth, row, name, CALL)?;
+    let made = children(alloc, birth, row, name, CALL, ops)?;
     Ok(are_made(alloc, name, &made, wanted)?)
 }
 
@@ -260,11 +262,12 @@ fn gives(
     name: &Name,
     row: &Row<'_>,
     given: &Given,
+    ops: &Ops,
 ) -> Result<bool, Fail>
     requires members { length row.now ≡ length birth.now.members }
 {
     prove!(0 < row.len());
-    let came = outcome(alloc, birth, row, name, CALL, 0)?;
+    let came = outcome(alloc, birth, row, name, CALL, 0, ops)?;
     Ok(is_given(alloc, name, &came, given)?)
 }
 
@@ -273,6 +276,7 @@ fn posts_of(
     birth: &Birth,
     name: &Name,
     case: &Case,
+    ops: &Ops,
 ) -> Result<Vec<Post>, PostError> {
     let at = match case.place {
         Place::Below(_) => At::on(&Name::world(alloc), CALL, false),
@@ -280,7 +284,8 @@ fn posts_of(
     };
     let mut posts = Vec::new(alloc);
     for (me, posted) in birth.members().iter().zip(case.posted) {
-        add_post(&mut posts, check(alloc, birth, *me, &at, &drafted(posted)))?;
+        let post = check(alloc, birth, *me, &at, &drafted(posted), ops);
+        add_post(&mut posts, post)?;
     }
     Ok(posts)
 }
@@ -291,15 +296,22 @@ fn is_so_of(
     name: &Name,
     posts: &[Post],
     case: &Case,
+    ops: &Ops,
 ) -> Result<bool, Fail> {
     let row = row_of(alloc, birth, posts)?;
-    let made = makes(alloc, birth, name, &row, case.made)?;
-    Ok(made & gives(alloc, birth, name, &row, &case.given)?)
+    let made = makes(alloc, birth, name, &row, case.made, ops)?;
+    Ok(made & gives(alloc, birth, name, &row, &case.given, ops)?)
 }
 
-fn is_so_at(alloc: Global, birth: &Birth, name: &Name, case: &Case) -> Result<bool, Fail> {
-    let posts = posts_of(alloc, birth, name, case)?;
-    is_so_of(alloc, birth, name, &posts, case)
+fn is_so_at(
+    alloc: Global,
+    birth: &Birth,
+    name: &Name,
+    case: &Case,
+    ops: &Ops,
+) -> Result<bool, Fail> {
+    let posts = posts_of(alloc, birth, name, case, ops)?;
+    is_so_of(alloc, birth, name, &posts, case, ops)
 }
 
 // The gathering below the world with tag 9 of these.
@@ -334,20 +346,21 @@ fn name_of(alloc: Global, birth: &Birth, place: &Place) -> Result<Name, Fail> {
     }
 }
 
-fn is_so_on(alloc: Global, birth: &Birth, case: &Case) -> Result<bool, Fail> {
+fn is_so_on(alloc: Global, birth: &Birth, case: &Case, ops: &Ops) -> Result<bool, Fail> {
     let name = name_of(alloc, birth, &case.place)?;
-    is_so_at(alloc, birth, &name, case)
+    is_so_at(alloc, birth, &name, case, ops)
 }
 
-fn is_so(alloc: Global, case: &Case) -> Result<bool, Fail> {
+fn is_so(alloc: Global, case: &Case, ops: &Ops) -> Result<bool, Fail> {
     let birth = born(alloc, case.members)?;
-    is_so_on(alloc, &birth, case)
+    is_so_on(alloc, &birth, case, ops)
 }
 
 #[test]
 fn calls_make_communicators(rt: HostRuntime) -> Result<(), Fail> {
+    let ops = Ops::none(rt.alloc());
     for (i, case) in CASES.iter().enumerate() {
-        assert!(rt; is_so(rt.alloc(), case)?, "case {i}");
+        assert!(rt; is_so(rt.alloc(), case, &ops)?, "case {i}");
     }
     Ok(())
 }

@@ -8,6 +8,7 @@ use mpx_graph::{
     NeighbourCounts, counts, destinations, sources, topology_adjacent, topology_general,
 };
 use mpx_match::{Verdict, verdict};
+use mpx_num::Ops;
 use mpx_post::{Birth, Kind, Neighbour, Row, Topology};
 use std::alloc::Global;
 use std::test::Fail;
@@ -48,21 +49,33 @@ fn made_of(alloc: Global, row: &Row<'_>) -> Result<Topology, OutOfMemory>
 }
 
 // Whether the row fits the world, and makes this topology.
-fn makes(alloc: Global, world: &Birth, row: &Row<'_>, wanted: &[Beside]) -> Result<bool, Fail> {
-    match verdict(world, row) {
+fn makes(
+    alloc: Global,
+    world: &Birth,
+    row: &Row<'_>,
+    wanted: &[Beside],
+    ops: &Ops,
+) -> Result<bool, Fail> {
+    match verdict(world, row, ops) {
         Verdict::Fault(_) => Ok(false),
         Verdict::Fine => Ok(is_of(&made_of(alloc, row)?, wanted)),
     }
 }
 
 // Whether what the ranks of a world of so many post does.
-fn make(alloc: Global, ranks: u8, calls: &[Drafted<'_>], wanted: &[Beside]) -> Result<bool, Fail> {
+fn make(
+    alloc: Global,
+    ranks: u8,
+    calls: &[Drafted<'_>],
+    wanted: &[Beside],
+    ops: &Ops,
+) -> Result<bool, Fail> {
     if ranks == 0 || ranks > 64 {
         return Ok(false);
     }
     let world = Birth::world(alloc, ranks)?;
-    let posts = posts_on(alloc, &world, calls)?;
-    makes(alloc, &world, &row_of(alloc, &posts)?, wanted)
+    let posts = posts_on(alloc, &world, calls, ops)?;
+    makes(alloc, &world, &row_of(alloc, &posts)?, wanted, ops)
 }
 
 fn graph(kind: Kind, part: Edges<'static>) -> Drafted<'static> {
@@ -106,13 +119,14 @@ const NAMED: [Beside; 2] = [(&[], &[1]), (&[0], &[])];
 #[test]
 fn rows_make_topologies(rt: HostRuntime) -> Result<(), Fail> {
     let alloc = rt.alloc();
+    let ops = Ops::none(alloc);
     let given = [
         general(&[(1, 2, 0), (2, 2, 0)]),
         general(&[]),
         general(&[(0, 2, 0), (1, 2, 0)]),
     ];
-    assert!(rt; make(alloc, 3, &given, &GIVEN)?);
+    assert!(rt; make(alloc, 3, &given, &GIVEN, &ops)?);
     let named = [adjacent(&[], &[(1, 0)]), adjacent(&[(0, 0)], &[])];
-    assert!(rt; make(alloc, 2, &named, &NAMED)?);
+    assert!(rt; make(alloc, 2, &named, &NAMED, &ops)?);
     Ok(())
 }

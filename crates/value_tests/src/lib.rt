@@ -19,6 +19,8 @@ mod misfits;
 #[cfg(test)]
 mod numbers;
 #[cfg(test)]
+mod own;
+#[cfg(test)]
 mod pairs;
 #[cfg(test)]
 mod refusals;

@@ -1,5 +1,6 @@
 //! Processes, births, places of calls and drafts that the tests use.
 use mpx_group::Proc;
+use mpx_num::Ops;
 use mpx_post::{At, Birth, Kind, Post, PostError};
 use std::alloc::{AllocError, Global};
 use test_drafts::{Drafted, check, just, proc};
@@ -44,9 +45,10 @@ pub fn post_at(
     number: u8,
     at: &At,
     drafted: &Drafted<'_>,
+    ops: &Ops,
 ) -> Result<Post, PostError> {
     match Birth::world(alloc, 2) {
-        Ok(pair) => check(alloc, &pair, proc(number), at, drafted),
+        Ok(pair) => check(alloc, &pair, proc(number), at, drafted, ops),
         Err(_) => Err(PostError::OutOfMemory),
     }
 }

@@ -2,6 +2,7 @@
 //! the posts are compared.
 use crate::making::{add_post, blocks, create, in_world, lent};
 use mpx_match::{Fault, FaultKind, Verdict, verdict};
+use mpx_num::Ops;
 use mpx_post::{Birth, Kind, Post, PostError, Row};
 use std::alloc::Global;
 use std::test::Fail;
@@ -12,10 +13,12 @@ pub fn posts_on(
     alloc: Global,
     world: &Birth,
     calls: &[Drafted<'_>],
+    ops: &Ops,
 ) -> Result<Vec<Post>, PostError> {
     let mut posts = Vec::new(alloc);
     for (me, drafted) in world.members().iter().zip(calls) {
-        add_post(&mut posts, check(alloc, world, *me, &in_world(0), drafted))?;
+        let post = check(alloc, world, *me, &in_world(0), drafted, ops);
+        add_post(&mut posts, post)?;
     }
     Ok(posts)
 }
@@ -29,16 +32,21 @@ pub fn row_of<'a>(alloc: Global, posts: &'a [Post]) -> Result<Row<'a>, Fail> {
     Ok(Row::new(row))
 }
 
-fn verdict_on(alloc: Global, world: &Birth, calls: &[Drafted<'_>]) -> Result<Verdict, Fail> {
-    let posts = posts_on(alloc, world, calls)?;
-    Ok(verdict(world, &row_of(alloc, &posts)?))
+fn verdict_on(
+    alloc: Global,
+    world: &Birth,
+    calls: &[Drafted<'_>],
+    ops: &Ops,
+) -> Result<Verdict, Fail> {
+    let posts = posts_on(alloc, world, calls, ops)?;
+    Ok(verdict(world, &row_of(alloc, &posts)?, ops))
 }
 
 // Whether the verdict of what the first ranks of a world of three post is that the amounts of this rank differ.
-fn is_misfit(alloc: Global, calls: &[Drafted<'_>], rank: u8) -> Result<bool, Fail> {
+fn is_misfit(alloc: Global, calls: &[Drafted<'_>], rank: u8, ops: &Ops) -> Result<bool, Fail> {
     let world = Birth::world(alloc, 3)?;
     let what = FaultKind::Amount;
-    Ok(verdict_on(alloc, &world, calls)? == Verdict::Fault(Fault { what, rank }))
+    Ok(verdict_on(alloc, &world, calls, ops)? == Verdict::Fault(Fault { what, rank }))
 }
 
 // A call of the kind, whose root is rank 1.
@@ -75,8 +83,9 @@ fn misfits_are_told_first(rt: HostRuntime) -> Result<(), Fail> {
         ([create(&[]), create(&[1, 2])], 1),
         ([just(Kind::DistGraphAdjacent), far()], 1),
     ];
+    let ops = Ops::none(rt.alloc());
     for (i, row) in table.iter().enumerate() {
-        assert!(rt; is_misfit(rt.alloc(), &row.0, row.1)?, "row {i}");
+        assert!(rt; is_misfit(rt.alloc(), &row.0, row.1, &ops)?, "row {i}");
     }
     Ok(())
 }

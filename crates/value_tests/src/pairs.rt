@@ -1,15 +1,15 @@
 //! Posts beside others: copies, and posts that differ.
 use crate::making::{create, in_world, post_at, split};
 use join_core::Exact;
-use mpx_num::Ty;
+use mpx_num::{Ops, Ty};
 use mpx_post::{Kind, Post, PostError};
 use std::alloc::Global;
 use std::test::Fail;
 use test_drafts::{Drafted, draft, just, says};
 
 // What is made of what process 0 drafts as the first call of world.
-fn post(alloc: Global, drafted: &Drafted<'_>) -> Result<Post, PostError> {
-    post_at(alloc, 0, &in_world(0), drafted)
+fn post(alloc: Global, drafted: &Drafted<'_>, ops: &Ops) -> Result<Post, PostError> {
+    post_at(alloc, 0, &in_world(0), drafted, ops)
 }
 
 // Whether the copy of the post is the same, and whether the other post is.
@@ -18,9 +18,14 @@ fn beside(alloc: Global, one: &Post, other: &Post) -> Result<(bool, bool), Fail>
     Ok((copied.same(one), one.same(other)))
 }
 
-fn compared(alloc: Global, one: &Drafted<'_>, other: &Drafted<'_>) -> Result<(bool, bool), Fail> {
-    let one = post(alloc, one)?;
-    let other = post(alloc, other)?;
+fn compared(
+    alloc: Global,
+    one: &Drafted<'_>,
+    other: &Drafted<'_>,
+    ops: &Ops,
+) -> Result<(bool, bool), Fail> {
+    let one = post(alloc, one, ops)?;
+    let other = post(alloc, other, ops)?;
     beside(alloc, &one, &other)
 }
 
@@ -51,9 +56,10 @@ fn posts_differ_in_what_they_say(rt: HostRuntime) -> Result<(), Fail> {
         (create(&[0, 1]), create(&[1, 0])),
         (create(&[0, 1]), create(&[0])),
     ];
+    let ops = Ops::none(rt.alloc());
     for (i, row) in table.iter().enumerate() {
-        let differ = compared(rt.alloc(), &row.0, &row.1)? == (true, false);
-        let repeat = compared(rt.alloc(), &row.0, &row.0)? == (true, true);
+        let differ = compared(rt.alloc(), &row.0, &row.1, &ops)? == (true, false);
+        let repeat = compared(rt.alloc(), &row.0, &row.0, &ops)? == (true, true);
         assert!(rt; differ & repeat & has_copy(rt.alloc(), &row.0)?, "row {i}");
     }
     Ok(())

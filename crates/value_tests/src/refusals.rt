@@ -1,21 +1,33 @@
 //! Refusals of drafts that no script shows: strangers, calls used up, and contexts of other calls.
 use crate::making::{behind_free, blocks, in_world, on, post_at, reduce, split};
-use mpx_num::Ty;
+use mpx_num::{Ops, Ty};
 use mpx_post::{At, Birth, Draft, Kind, PostError};
 use std::alloc::Global;
 use std::process::Abort;
 use test_drafts::{Drafted, draft, just, proc};
 
-fn refusal(alloc: Global, number: u8, at: &At, drafted: &Drafted<'_>) -> Option<PostError> {
-    match post_at(alloc, number, at, drafted) {
+fn refusal(
+    alloc: Global,
+    number: u8,
+    at: &At,
+    drafted: &Drafted<'_>,
+    ops: &Ops,
+) -> Option<PostError> {
+    match post_at(alloc, number, at, drafted, ops) {
         Ok(_) => None,
         Err(refusal) => Some(refusal),
     }
 }
 
-fn refusal_of_lent(alloc: Global, number: u8, at: &At, draft: &Draft) -> Option<PostError> {
+fn refusal_of_lent(
+    alloc: Global,
+    number: u8,
+    at: &At,
+    draft: &Draft,
+    ops: &Ops,
+) -> Option<PostError> {
     match Birth::world(alloc, 2) {
-        Ok(pair) => draft.refusal(&pair, proc(number), at),
+        Ok(pair) => draft.refusal(&pair, proc(number), at, ops),
         Err(_) => Some(PostError::OutOfMemory),
     }
 }
@@ -26,9 +38,10 @@ fn refusal_of_draft(
     number: u8,
     at: &At,
     drafted: &Drafted<'_>,
+    ops: &Ops,
 ) -> Option<PostError> {
     match draft(alloc, drafted) {
-        Ok(draft) => refusal_of_lent(alloc, number, at, &draft),
+        Ok(draft) => refusal_of_lent(alloc, number, at, &draft, ops),
         Err(_) => Some(PostError::OutOfMemory),
     }
 }
@@ -38,11 +51,12 @@ fn check_refusals(
     rt: &impl Abort,
     alloc: Global,
     table: &[(u8, At, Drafted<'_>, Option<PostError>)],
+    ops: &Ops,
 ) {
     for (i, row) in table.iter().enumerate() {
         let (number, at, drafted, wanted) = row;
-        let told = refusal(alloc, *number, at, drafted);
-        let told_of_draft = refusal_of_draft(alloc, *number, at, drafted);
+        let told = refusal(alloc, *number, at, drafted, ops);
+        let told_of_draft = refusal_of_draft(alloc, *number, at, drafted, ops);
         assert!(rt; (told == *wanted) & (told_of_draft == *wanted), "row {i}");
     }
 }
@@ -101,5 +115,6 @@ fn strangers_calls_used_up_and_contexts(rt: HostRuntime) {
             (0, freed_last, just(Kind::CreateGroup), Some(Closed)),
             (2, freed, reduce(2), Some(NotMember)),
         ],
+        &Ops::none(rt.alloc()),
     );
 }

@@ -2,6 +2,7 @@
 use Rattle.std.specs.Prelude.{◌≡◌, ℕ, Bool, true, false, not, ◌==◌, List, [], ◌++◌, codes, length, IfSome, Option, Some, None, Result, Ok, Err, string_bytes}
 use Rattle.std.specs.Fmt.{decimal}
 use Rattle.std.specs.Io.KnownBytes.{Appends}
+use Rattle.mpx_num.specs.declared.own.Operation.{Operation}
 use Rattle.mpx_eval.specs.Complaints.{ComplaintView}
 use Rattle.mpx_eval.specs.Findings.{AreFindings}
 use Rattle.mpx_eval.specs.Waiting.{WaitingView}
@@ -16,23 +17,23 @@ use Rattle.waits.specs.Told.{all_told}
 
 -- the text is read as a script, and the lines of those who wait at the end of its evaluation are out, and behind them those of
 -- the calls that were refused or are faults
-pub record Told (text : List ℕ) (old new : Option (List ℕ)) (waits : Bool) : Type 0 where
+pub record Told (ops : List Operation) (text : List ℕ) (old new : Option (List ℕ)) (waits : Bool) : Type 0 where
   pub script : ScriptView
-  pub read : reading text ≡ Ok script
+  pub read : reading ops text ≡ Ok script
   pub waiting : List WaitingView
   pub complaints : List ComplaintView
-  pub found : AreFindings script waiting complaints
+  pub found : AreFindings ops script waiting complaints
   pub somebody : waits ≡ not (length waiting == 0)
   pub written : Appends old new (all_told text script.statements waiting complaints)
 
 -- somebody waits, or nobody does, and that is told; or the script is refused, or there is another fault, and then nothing is
 -- written, unless the writer failed
-abbrev pub Answers : (text : List ℕ) (old new : Option (List ℕ)) → Result Bool Fault → Type 0
-Answers text old new (Ok waits) = Told text old new waits
-Answers text old new (Err (Script refusal word)) = (reading text ≡ Err refusal) × (new ≡ old)
-Answers text old new (Err Memory) = new ≡ old
-Answers text old new (Err Read) = new ≡ old
-Answers text old new (Err Write) = Unit {0}
+abbrev pub Answers : List Operation → (text : List ℕ) (old new : Option (List ℕ)) → Result Bool Fault → Type 0
+Answers ops text old new (Ok waits) = Told ops text old new waits
+Answers ops text old new (Err (Script refusal word)) = (reading ops text ≡ Err refusal) × (new ≡ old)
+Answers ops text old new (Err Memory) = new ≡ old
+Answers ops text old new (Err Read) = new ≡ old
+Answers ops text old new (Err Write) = Unit {0}
 
 -- no fault of the reader, nor want of memory, has kept it from the text
 abbrev pub is_read : Result Bool Fault → Bool
@@ -43,10 +44,10 @@ is_read (Err Read) = false
 is_read (Err Write) = true
 
 -- that is so of a text, which then is all that the reader gives
-pub record Tells (there old new : Option (List ℕ)) (answer : Result Bool Fault) : Type 0 where
+pub record Tells (ops : List Operation) (there old new : Option (List ℕ)) (answer : Result Bool Fault) : Type 0 where
   pub text : List ℕ
   pub all : is_read answer ≡ true → IfSome there (λ bytes. text ≡ bytes)
-  pub answers : Answers text old new answer
+  pub answers : Answers ops text old new answer
 
 -- the exit status
 abbrev pub status : Result Bool Fault → ℕ

@@ -1,5 +1,6 @@
 //! Which word of a refused line is to blame, found by trials of the line with other words. Nothing is claimed of it.
 use join_core::OutOfMemory;
+use mpx_num::Ops;
 use mpx_script::{ReadScriptError, ScriptError, ScriptFault, read_script};
 use std::alloc::Global;
 
@@ -31,6 +32,7 @@ pub fn word_to_blame(
     alloc: Global,
     text: &[u8],
     refusal: ScriptError,
+    ops: &Ops,
 ) -> Result<Option<Blamed>, OutOfMemory> {
     let Ok(text) = str::from_utf8(text) else {
         return Ok(None);
@@ -40,7 +42,7 @@ pub fn word_to_blame(
     for word in line.split_whitespace().take(MOST_WORDS) {
         words.push(word)?;
     }
-    let Some(place) = place_of(alloc, before, &words, refusal.what)? else {
+    let Some(place) = place_of(alloc, before, &words, refusal.what, ops)? else {
         return Ok(None);
     };
     match words.get(place) {
@@ -76,32 +78,39 @@ fn place_of(
     before: &str,
     words: &[&str],
     what: ScriptFault,
+    ops: &Ops,
 ) -> Result<Option<usize>, OutOfMemory> {
     match what {
         ScriptFault::NotAscii | ScriptFault::TooLarge | ScriptFault::NoRanksLine => Ok(None),
         ScriptFault::RanksOutOfRange => Ok(Some(1)),
         ScriptFault::RankOutOfRange => Ok(Some(0)),
-        ScriptFault::UnknownStatement => unknown(alloc, words),
-        ScriptFault::WrongWords => surplus(alloc, words),
-        ScriptFault::BadNumber => strange_number(alloc, words),
-        ScriptFault::BadList => strange(alloc, words, "-", ScriptFault::BadList),
-        ScriptFault::BadName => strange(alloc, words, "world", ScriptFault::BadName),
-        ScriptFault::NameUnknown => unbound(alloc, before, words),
+        ScriptFault::UnknownStatement => unknown(alloc, words, ops),
+        ScriptFault::WrongWords => surplus(alloc, words, ops),
+        ScriptFault::BadNumber => strange_number(alloc, words, ops),
+        ScriptFault::BadList => strange(alloc, words, "-", ScriptFault::BadList, ops),
+        ScriptFault::BadName => strange(alloc, words, "world", ScriptFault::BadName, ops),
+        ScriptFault::NameUnknown => unbound(alloc, before, words, ops),
         ScriptFault::NameTaken => Ok(words.len().checked_sub(1)),
     }
 }
 
 // The line's beginning is no label, or the first word that makes it an unknown statement.
-fn unknown(alloc: Global, words: &[&str]) -> Result<Option<usize>, OutOfMemory> {
+fn unknown(alloc: Global, words: &[&str], ops: &Ops) -> Result<Option<usize>, OutOfMemory> {
     let Some(label) = words.first() else {
         return Ok(None);
     };
     let known = [*label, "barrier", "world"];
-    if fault_of(alloc, RANKS, &known, Change::Cut(3))? == Some(ScriptFault::UnknownStatement) {
+    if fault_of(alloc, RANKS, &known, Change::Cut(3), ops)? == Some(ScriptFault::UnknownStatement) {
         return Ok(Some(0));
     }
     for place in 1..words.len() {
-        let told = fault_of(alloc, RANKS, words, Change::Cut(place.saturating_add(1)))?;
+        let told = fault_of(
+            alloc,
+            RANKS,
+            words,
+            Change::Cut(place.saturating_add(1)),
+            ops,
+        )?;
         if told == Some(ScriptFault::UnknownStatement) {
             return Ok(Some(place));
         }
@@ -110,26 +119,26 @@ fn unknown(alloc: Global, words: &[&str]) -> Result<Option<usize>, OutOfMemory> 
 }
 
 // The first word behind those that a statement has, or one where an arrow belongs.
-fn surplus(alloc: Global, words: &[&str]) -> Result<Option<usize>, OutOfMemory> {
+fn surplus(alloc: Global, words: &[&str], ops: &Ops) -> Result<Option<usize>, OutOfMemory> {
     for place in 3..words.len() {
-        let told = fault_of(alloc, RANKS, words, Change::Cut(place))?;
+        let told = fault_of(alloc, RANKS, words, Change::Cut(place), ops)?;
         if told != Some(ScriptFault::WrongWords) {
             return Ok(Some(place));
         }
     }
-    strange(alloc, words, "->", ScriptFault::WrongWords)
+    strange(alloc, words, "->", ScriptFault::WrongWords, ops)
 }
 
 // The first word that is no number, though one stands there: the last one such that with numbers there and behind it none is to blame.
-fn strange_number(alloc: Global, words: &[&str]) -> Result<Option<usize>, OutOfMemory> {
+fn strange_number(alloc: Global, words: &[&str], ops: &Ops) -> Result<Option<usize>, OutOfMemory> {
     let mut found = None;
     let mut found_to_arrow = None;
     for place in 2..words.len() {
-        let told = fault_of(alloc, RANKS, words, Change::Numbers(place))?;
+        let told = fault_of(alloc, RANKS, words, Change::Numbers(place), ops)?;
         if told != Some(ScriptFault::BadNumber) {
             found = Some(place);
         }
-        let told = fault_of(alloc, RANKS, words, Change::NumbersToArrow(place))?;
+        let told = fault_of(alloc, RANKS, words, Change::NumbersToArrow(place), ops)?;
         if told != Some(ScriptFault::BadNumber) {
             found_to_arrow = Some(place);
         }
@@ -143,9 +152,10 @@ fn strange(
     words: &[&str],
     other: &'static str,
     what: ScriptFault,
+    ops: &Ops,
 ) -> Result<Option<usize>, OutOfMemory> {
     for place in 2..words.len() {
-        match fault_of(alloc, RANKS, words, Change::One(place, other))? {
+        match fault_of(alloc, RANKS, words, Change::One(place, other), ops)? {
             Some(ScriptFault::UnknownStatement) => {}
             Some(ScriptFault::WrongWords) => {}
             Some(ScriptFault::BadNumber) => {}
@@ -160,7 +170,12 @@ fn strange(
 }
 
 // The first word that is bound to nothing: a request of a wait, else a communicator.
-fn unbound(alloc: Global, before: &str, words: &[&str]) -> Result<Option<usize>, OutOfMemory> {
+fn unbound(
+    alloc: Global,
+    before: &str,
+    words: &[&str],
+    ops: &Ops,
+) -> Result<Option<usize>, OutOfMemory> {
     let [label, statement, ..] = words else {
         return Ok(None);
     };
@@ -168,7 +183,7 @@ fn unbound(alloc: Global, before: &str, words: &[&str]) -> Result<Option<usize>,
     let asks = if waits { "wait" } else { "barrier" };
     for place in 2..words.len() {
         let tried = [*label, asks, words[place]];
-        let told = fault_of(alloc, before, &tried, Change::Cut(3))?;
+        let told = fault_of(alloc, before, &tried, Change::Cut(3), ops)?;
         if told == Some(ScriptFault::NameUnknown) {
             return Ok(Some(place));
         }
@@ -185,18 +200,19 @@ fn fault_of(
     before: &str,
     words: &[&str],
     change: Change,
+    ops: &Ops,
 ) -> Result<Option<ScriptFault>, OutOfMemory> {
-    let text = tried(alloc, before, words, change)?;
-    match read_script(alloc, text.as_bytes()) {
+    let text = tried(alloc, before, words, change, ops)?;
+    match read_script(alloc, text.as_bytes(), ops) {
         Ok(_) => Ok(None),
         Err(ReadScriptError::Refused(refusal)) => Ok(Some(refusal.what)),
         Err(ReadScriptError::OutOfMemory) => Err(OutOfMemory),
     }
 }
 
-// Whether the word is an operation or a type.
-fn is_named(word: &str) -> bool {
-    NAMED.contains(&word)
+// Whether the word is an operation, one of the job's own too, or a type.
+fn is_named(word: &str, ops: &Ops) -> bool {
+    NAMED.contains(&word) || ops.place_named(word.as_bytes()).is_some()
 }
 
 const NAMED: [&str; 21] = [
@@ -209,6 +225,7 @@ fn tried(
     before: &str,
     words: &[&str],
     change: Change,
+    ops: &Ops,
 ) -> Result<String, OutOfMemory> {
     let mut text = String::from_str(alloc, before)?;
     let mut is_behind_arrow = false;
@@ -217,9 +234,9 @@ fn tried(
         let word = match change {
             Change::Cut(count) if place >= count => "",
             Change::One(at, other) if place == at => other,
-            Change::Numbers(from) if place >= from && !is_named(word) => "0",
-            Change::NumbersToArrow(from) if place >= from && !is_behind_arrow && !is_named(word) =>
-                "0",
+            Change::Numbers(from) if place >= from && !is_named(word, ops) => "0",
+            Change::NumbersToArrow(from)
+                if place >= from && !is_behind_arrow && !is_named(word, ops) => "0",
             _ => *word,
         };
         text.push_str(word)?;

@@ -11,7 +11,9 @@ mod places;
 mod program;
 mod told;
 
-use program::{status_of, tell_waits, write_message};
+use mpx_affine::Affine;
+use mpx_num::{Ops, OwnOp};
+use program::{Fault, status_of, tell_waits, write_message};
 use std::io::Write;
 use std::process::ExitCode;
 use std::{env, io};
@@ -24,8 +26,15 @@ fn has_words(rt: &HostRuntime) -> bool {
     }
 }
 
+/// There is no more memory.
+fn starved(rt: &HostRuntime) -> ExitCode {
+    let answer = Err(Fault::Memory);
+    let _told = write_message(&answer, &mut rt.stderr());
+    ExitCode::from(status_of(&answer))
+}
+
 /// Words are refused, with status 1: a script is read from the standard input alone. What fails on the standard error is let go: the
-/// status stands.
+/// status stands. Scripts may name one operation of a job's own: the composition of affine maps, by the word `affine`.
 fn main(rt: HostRuntime) -> ExitCode {
     if has_words(&rt) {
         let _told = writeln!(
@@ -34,7 +43,18 @@ fn main(rt: HostRuntime) -> ExitCode {
         );
         return ExitCode::from(1);
     }
-    let answer = tell_waits(rt.alloc(), &mut rt.reader(), &mut io::writer(&rt));
+    let alloc = rt.alloc();
+    let mut list: Vec<Box<dyn OwnOp + Send + Sync + Drop>> = Vec::new(alloc);
+    let Ok(affine) = Box::new(alloc, Affine { word: "affine" }) else {
+        return starved(&rt);
+    };
+    if list.push(affine).is_err() {
+        return starved(&rt);
+    }
+    let Ok(ops) = Ops::new(list) else {
+        return ExitCode::FAILURE;
+    };
+    let answer = tell_waits(alloc, &mut rt.reader(), &mut io::writer(&rt), &ops);
     let _told = write_message(&answer, &mut rt.stderr());
     ExitCode::from(status_of(&answer))
 }

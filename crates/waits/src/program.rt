@@ -6,6 +6,7 @@ ghost use Rattle.waits.specs.Program.{Answers, IsRefusal, Tells, blamed_text, me
 use crate::blame::{Blamed, word_to_blame};
 use crate::told::all_told;
 use mpx_eval::examine;
+use mpx_num::{Listing, Ops};
 use mpx_script::{ReadScriptError, ScriptError, read_script};
 use std::alloc::Global;
 use std::io;
@@ -23,34 +24,35 @@ pub enum Fault {
     Write,
 }
 
-/// Reads a script to the reader's end, and then writes who waits at the end of its evaluation, and which calls were refused or are
-/// faults. It answers whether somebody waits.
-/// Nothing is written before all is known.
+/// Reads a script of a job with these operations of its own to the reader's end, and then writes who waits at the end of its
+/// evaluation, and which calls were refused or are faults. It answers whether somebody waits. Nothing is written before all is
+/// known.
 pub fn tell_waits<R: Read, W: Write>(
     alloc: Global,
     reader: &mut R,
     writer: &mut W,
+    ops: &Ops,
 ) -> Result<bool, Fault>
-    ensures { Tells (R.remaining reader.old) (W.contents writer.old) (W.contents writer.new) result }
+    ensures { Tells (⟦<Ops as Listing>⟧.operations ops.now) (R.remaining reader.old) (W.contents writer.old) (W.contents writer.new) result }
 {
     let mut text = Vec::new(alloc);
     match reader.read_to_end(&mut text) {
-        Ok(_) => tell_text(alloc, &text, writer),
+        Ok(_) => tell_text(alloc, &text, writer, ops),
         Err(error) if error.kind() == io::ErrorKind::OutOfMemory => Err(Fault::Memory),
         Err(_) => Err(Fault::Read),
     }
 }
 
 // The same of the script's text.
-fn tell_text<W: Write>(alloc: Global, text: &[u8], writer: &mut W) -> Result<bool, Fault>
-    ensures { Answers text.now (W.contents writer.old) (W.contents writer.new) result }
+fn tell_text<W: Write>(alloc: Global, text: &[u8], writer: &mut W, ops: &Ops) -> Result<bool, Fault>
+    ensures { Answers (⟦<Ops as Listing>⟧.operations ops.now) text.now (W.contents writer.old) (W.contents writer.new) result }
 {
-    let script = match read_script(alloc, text) {
+    let script = match read_script(alloc, text, ops) {
         Ok(script) => script,
-        Err(ReadScriptError::Refused(refusal)) => return Err(refused(alloc, text, refusal)),
+        Err(ReadScriptError::Refused(refusal)) => return Err(refused(alloc, text, refusal, ops)),
         Err(ReadScriptError::OutOfMemory) => return Err(Fault::Memory),
     };
-    let Ok(found) = examine(alloc, &script) else {
+    let Ok(found) = examine(alloc, &script, ops) else {
         return Err(Fault::Memory);
     };
     let Ok(told) = all_told(alloc, text, &script, &found) else {
@@ -63,10 +65,10 @@ fn tell_text<W: Write>(alloc: Global, text: &[u8], writer: &mut W) -> Result<boo
 }
 
 // The script is refused; which word is to blame is told where memory is there to find out.
-fn refused(alloc: Global, text: &[u8], refusal: ScriptError) -> Fault
+fn refused(alloc: Global, text: &[u8], refusal: ScriptError, ops: &Ops) -> Fault
     ensures { IsRefusal refusal result }
 {
-    match word_to_blame(alloc, text, refusal) {
+    match word_to_blame(alloc, text, refusal, ops) {
         Ok(word) => Fault::Script(refusal, word),
         Err(_) => Fault::Memory,
     }

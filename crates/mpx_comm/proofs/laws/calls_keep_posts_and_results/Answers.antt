@@ -11,13 +11,13 @@ pub returns-clause-later : goal.returns-clause-later
 returns-clause-later c old now l = keeps old now l
 
 pub returns-clause-posts : goal.returns-clause-posts
-returns-clause-posts c old now name draft h = record { stored = h.stored; own = h.kept }
+returns-clause-posts c ops old now name draft h = record { stored = h.stored; own = h.kept }
 
 pub returns-clause-gatherings : goal.returns-clause-gatherings
 returns-clause-gatherings c old now parent tag ranks answer h = keeps old now (later_gathers parent (gathers_on old parent tag ranks) answer old now h)
 
 pub returns-clause-harvests : goal.returns-clause-harvests
-returns-clause-harvests c old now name answer h = keeps old now (later_harvest old now name answer h)
+returns-clause-harvests c ops old now name answer h = keeps old now (later_harvest ops old now name answer h)
 
 pub returns-clause-boards : goal.returns-clause-boards
 returns-clause-boards c old part = keeps old (learn part old) (later_learns part old)

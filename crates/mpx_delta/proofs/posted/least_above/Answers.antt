@@ -1,5 +1,5 @@
 -- One process more.
-use Rattle.std.proofs.Common.{arith, true, ◌≡◌, ◌<◌, ◌≤◌, ◌+◌, ◌-◌, ℕ, suc, ap, sym, ◌∙◌}
+use Rattle.std.proofs.Common.{arith, true, ◌≡◌, ◌<◌, ◌+◌, ◌-◌, ℕ, suc, ap, sym, ◌∙◌}
 use Rattle.mpx_board.specs.Tidy.{is_bare}
 use Rattle.mpx_board.specs.Views.{view_of_all_acks, view_of_numbers}
 use Rattle.mpx_delta.specs.Posted.{least_above, lesser, said_on}

@@ -3,7 +3,7 @@ use Rattle.std.proofs.Common.{ap, sym, ◌∙◌}
 use Rattle.std.specs.Prelude.{option_and_then}
 use Rattle.std.specs.FinMap.{get}
 use Rattle.std.specs.Option.{option_copied, option_map}
-use Rattle.mpx_board.specs.Views.{view_of_acks, view_of_all_acks}
+use Rattle.mpx_board.specs.Views.{view_of_acks}
 use Rattle.mpx_delta.proofs.posted.said_on.Goals as goal
 
 pub returns-in-None : goal.returns-in-None

@@ -1,5 +1,7 @@
 use Rattle.std.proofs.Common.{◌≡◌, List, ℕ, map, length, ap, sym, ◌∙◌, subst}
 use Rattle.std.specs.Prelude.{slice_get}
+use Rattle.mpx_num.specs.declared.own.Operation.{Operation}
+use Rattle.mpx_num.specs.Own.{operation_of}
 use Rattle.mpx_evaluation.specs.Evaluation.{start}
 use Rattle.mpx_evaluation.specs.Reports.{which}
 use Rattle.mpx_name.specs.Name.{Name}
@@ -18,15 +20,16 @@ use Rattle.mpx_eval.proofs.Waits.{waits_found}
 use Rattle.mpx_eval.proofs.findings.examine.Goals as goal
 
 pub returns : goal.returns
-returns c =
+returns g c =
+    let ops : List Operation = map (λ b. let o = goal.OwnOp-dyn g (b.vtable, b.value) in operation_of (o.word_bytes b.value) (o.fits_type b.value) (o.combination b.value)) c.args.ops.now.list.items in
     let script = c.args.script.now in
     let xs = c.in_ok-ranks.ranks.items in
     let many : length script.statements ≡ script.ranks = c.ranks-count.ensures.each_rank ∙ c.ranks-count.ensures.ranks in
     let t = table_of c.new-table.result in
     let begin = start script.statements script.ranks in
-    let are : AreIn script.ranks (map shown xs) t begin = are_in_start script.statements script.ranks (map shown xs) t many c.in_ok-ranks.ensures c.new-table.ensures in
-    let lent : AreIn script.ranks (map shown c.deref_mut.result.now) t begin = subst (λ (ps : List (Rank Table CommunicatorView (Name × ℕ))). AreIn script.ranks (map shown ps) t begin) (sym c.deref_mut.ensures.value) are in
-    let ran = c.in_ok-rounds.ensures script.statements script.ranks begin (reached_start script.statements script.ranks) lent in
+    let are : AreIn ops script.ranks (map shown xs) t begin = are_in_start ops script.statements script.ranks (map shown xs) t many c.in_ok-ranks.ensures c.new-table.ensures in
+    let lent : AreIn ops script.ranks (map shown c.deref_mut.result.now) t begin = subst (λ (ps : List (Rank Table CommunicatorView (Name × ℕ))). AreIn ops script.ranks (map shown ps) t begin) (sym c.deref_mut.ensures.value) are in
+    let ran = c.in_ok-rounds.ensures script.statements script.ranks begin (reached_start ops script.statements script.ranks) lent in
     let same = written_back c.in_ok-ranks.ranks.len xs c.rounds.new.ranks (c.rounds.auto.ranks ∙ ap length c.deref_mut.ensures.value) (sym (ap length c.deref_mut.ensures.value) ∙ c.deref_mut.ensures.len) in
     let after = table_of c.rounds.new.table in
     let places : c.as_slice-places.result.now ≡ c.rounds.new.ranks = c.as_slice-places.ensures.value ∙ same in
@@ -39,6 +42,6 @@ returns c =
     record {
       end = ran.end;
       evaluation = ran.evaluation;
-      waiting_are = waits_found script (map shown c.rounds.new.ranks) after ran (map waiting_view c.in_ok-waiting.waiting.items) waiting;
-      complaints_are = complaints ∙ complaints_same script (map shown c.rounds.new.ranks) after ran;
+      waiting_are = waits_found ops script (map shown c.rounds.new.ranks) after ran (map waiting_view c.in_ok-waiting.waiting.items) waiting;
+      complaints_are = complaints ∙ complaints_same ops script (map shown c.rounds.new.ranks) after ran;
     }

@@ -1,20 +1,16 @@
 use Rattle.std.proofs.Common.{◌≡◌, ℕ, ◌+◌, ◌==◌, ◌∙◌, true, false, nat_eq, Option, None, Some, is_some, ap, sym, arith}
 use Rattle.std.specs.Option.{option_eq}
 use Rattle.std.specs.Prelude.{unwrap_or}
-use Rattle.std.proofs.lemmas.Bool.{cond-true, cond-false}
 use Rattle.std.proofs.lemmas.Bool.Decides.{nat_tests}
 use Rattle.mpx_kind.specs.declared.kinds.Kind.{Kind}
 use Rattle.mpx_kind.specs.declared.kinds.Family.TheVariants as F
 use Rattle.mpx_kind.specs.declared.kinds.Reduction.TheVariants.{Reduce}
-use Rattle.mpx_post.specs.declared.value.Value.TheVariants.{Nothing, Absent}
 use Rattle.mpx_post.specs.Kinds.{family_of, fields_of}
 use Rattle.mpx_post.specs.Posts.{Given, root_of}
 use Rattle.mpx_post.specs.Rows.{RowView}
-use Rattle.mpx_post.specs.Values.{as_items}
 use Rattle.mpx_post.specs.Agreement.{first_of}
 use Rattle.mpx_kind.proofs.Families.{kind_is}
-use Rattle.mpx_fold.specs.Folds.{all_folded, folded}
-use Rattle.mpx_post.proofs.Values.{gives_items}
+use Rattle.mpx_fold.proofs.Giving.{given_above, given_all, given_below, given_counted, given_elsewhere, given_equal, given_first, given_root}
 use Rattle.mpx_fold.proofs.folds.value_of.Goals as goal
 
 -- the test of the root, where there is one
@@ -29,45 +25,39 @@ at_root row rank first root e family r there =
     ∙ is_rank root rank (there ∙ ap (λ (given : Given). (fields_of given.kind).root) e ∙ ap (λ (kind : Kind). (fields_of kind).root) (kind_is (first_of row).kind (F.Reduction Reduce) family))
 
 pub returns-then-eq : goal.returns-then-eq
-returns-then-eq c =
+returns-then-eq g c =
     let row = c.args.row.now in
     let root : (c.args.rank == root_of (first_of row)) ≡ true = at_root row c.args.rank c.post-first.result.now c.root.result c.post-first.ensures.value (c.requires.family ∙ ap F.Reduction c.in-Reduce.is) c.root.ensures.value c.root.ensures.there ∙ sym c.if-eq.ensures in
-    rw c.in-Reduce.is (gives_items _ _ _
-    (ap (λ (n : ℕ). as_items row (folded row n)) c.len.ensures.count ∙ sym (cond-true _ (as_items row (all_folded row)) Nothing root))
-    c.folded_value.ensures tt)
+    rw c.in-Reduce.is (given_root _ row c.args.rank _ c.folded_value.result root c.len.ensures.count c.folded_value.ensures)
 
 pub returns-else-eq : goal.returns-else-eq
-returns-else-eq c =
+returns-else-eq g c =
     let row = c.args.row.now in
     let root : (c.args.rank == root_of (first_of row)) ≡ false = at_root row c.args.rank c.post-first.result.now c.root.result c.post-first.ensures.value (c.requires.family ∙ ap F.Reduction c.in-Reduce.is) c.root.ensures.value c.root.ensures.there ∙ sym c.if-eq.ensures in
-    rw c.in-Reduce.is (sym (cond-false _ (as_items row (all_folded row)) Nothing root))
+    rw c.in-Reduce.is (given_elsewhere _ row c.args.rank root)
 
 pub returns-in-Allreduce : goal.returns-in-Allreduce
-returns-in-Allreduce c =
-    rw c.in-Allreduce.is (gives_items _ _ _ (ap (λ (n : ℕ). as_items c.args.row.now (folded c.args.row.now n)) c.len-in-Allreduce.ensures.count) c.folded_value-in-Allreduce.ensures tt)
+returns-in-Allreduce g c =
+    rw c.in-Allreduce.is (given_all _ c.args.row.now c.args.rank _ c.folded_value-in-Allreduce.result c.len-in-Allreduce.ensures.count c.folded_value-in-Allreduce.ensures)
 
 pub returns-in-ReduceScatterBlock : goal.returns-in-ReduceScatterBlock
-returns-in-ReduceScatterBlock c =
-    rw c.in-ReduceScatterBlock.is (gives_items _ _ _ (ap (as_items c.args.row.now) (c.equal_block.ensures.at (all_folded c.args.row.now))) c.block_value.ensures tt)
+returns-in-ReduceScatterBlock g c =
+    rw c.in-ReduceScatterBlock.is (given_equal _ c.args.row.now c.args.rank c.equal_block.result c.block_value.result c.equal_block.ensures c.block_value.ensures)
 
 pub returns-in-ReduceScatter : goal.returns-in-ReduceScatter
-returns-in-ReduceScatter c =
-    rw c.in-ReduceScatter.is (gives_items _ _ _ (ap (as_items c.args.row.now) (c.counted_block.ensures.at (all_folded c.args.row.now))) c.block_value-in-ReduceScatter.ensures tt)
+returns-in-ReduceScatter g c =
+    rw c.in-ReduceScatter.is (given_counted _ c.args.row.now c.args.rank c.counted_block.result c.block_value-in-ReduceScatter.result c.counted_block.ensures c.block_value-in-ReduceScatter.ensures)
 
 pub returns-in-Scan : goal.returns-in-Scan
-returns-in-Scan c =
-    rw c.in-Scan.is (gives_items _ _ _ (ap (λ (n : ℕ). as_items c.args.row.now (folded c.args.row.now (n + 1))) c.from-place.ensures) c.folded_value-in-Scan.ensures tt)
+returns-in-Scan g c =
+    rw c.in-Scan.is (given_below _ c.args.row.now c.args.rank _ c.folded_value-in-Scan.result c.from-place.ensures c.folded_value-in-Scan.ensures)
 
 pub returns-then-rank-eq0 : goal.returns-then-rank-eq0
-returns-then-rank-eq0 c =
-    let row = c.args.row.now in
+returns-then-rank-eq0 g c =
     let zero_rank : (c.args.rank == 0) ≡ true = grind (arith, nat_tests) in
-    rw c.in-Exscan.is (sym (cond-true _ Absent (as_items row (folded row c.args.rank)) zero_rank))
+    rw c.in-Exscan.is (given_first _ c.args.row.now c.args.rank zero_rank)
 
 pub returns-else-rank-eq0 : goal.returns-else-rank-eq0
-returns-else-rank-eq0 c =
-    let row = c.args.row.now in
+returns-else-rank-eq0 g c =
     let other_rank : (c.args.rank == 0) ≡ false = grind (arith, nat_tests) in
-    rw c.in-Exscan.is (gives_items _ _ _
-    (ap (λ (n : ℕ). as_items row (folded row n)) c.from-place.ensures ∙ sym (cond-false _ Absent (as_items row (folded row c.args.rank)) other_rank))
-    c.folded_value-else-rank-eq0.ensures tt)
+    rw c.in-Exscan.is (given_above _ c.args.row.now c.args.rank _ c.folded_value-else-rank-eq0.result other_rank c.from-place.ensures c.folded_value-else-rank-eq0.ensures)

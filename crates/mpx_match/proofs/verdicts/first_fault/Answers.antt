@@ -1,5 +1,6 @@
 use Rattle.std.proofs.Common.{◌≡◌, ◌∙◌, ◌<◌, ◌+◌, ℕ, List, drop, get_or, length, Option, Some, None, refl, sym, ap}
 use Rattle.std.proofs.lemmas.List.{at_drop_more}
+use Rattle.mpx_num.specs.declared.own.Operation.{Operation}
 use Rattle.mpx_post.specs.Rows.{RowView}
 use Rattle.mpx_post.specs.Topologies.{TopologyView}
 use Rattle.mpx_match.specs.declared.faults.Verdict.TheVariants.{Fault}
@@ -10,27 +11,27 @@ use Rattle.mpx_match.proofs.verdicts.first_fault.Goals as goal
 
 pub loop-question-init : goal.loop-question-init
 unfolding verdict
-loop-question-init c = refl
+loop-question-init g c = refl
 
-module _ (topology : Option TopologyView) (row : RowView) (asked : List Question) (i : ℕ) (d : Question) (l : i < length asked) where
+module _ (ops : List Operation) (topology : Option TopologyView) (row : RowView) (asked : List Question) (i : ℕ) (d : Question) (l : i < length asked) where
   abbrev next : Question
   next = get_or asked i d
 
   -- one question more
-  further : (o : Option ℕ) → answer topology next row ≡ o → first_fault (answers topology (drop i asked) row) ≡ or_else (told_as next) o (first_fault (answers topology (drop (i + 1) asked) row))
+  further : (o : Option ℕ) → answer ops topology next row ≡ o → first_fault (answers ops topology (drop i asked) row) ≡ or_else (told_as next) o (first_fault (answers ops topology (drop (i + 1) asked) row))
   further o e =
-      at_drop_more (λ (qs : List Question). first_fault (answers topology qs row)) asked i d l
-      ∙ ap (λ (found : Option ℕ). or_else (told_as next) found (first_fault (answers topology (drop (i + 1) asked) row))) e
+      at_drop_more (λ (qs : List Question). first_fault (answers ops topology qs row)) asked i d l
+      ∙ ap (λ (found : Option ℕ). or_else (told_as next) found (first_fault (answers ops topology (drop (i + 1) asked) row))) e
 
 pub returns-in-Some : goal.returns-in-Some
-returns-in-Some c =
+returns-in-Some g c =
     let found = sym c.least_rank.ensures ∙ c.in-Some.is in
     (λ i. Fault (record { what = c.told_as.ensures i; rank = c.in-Some.rank }))
-    ∙ sym (further c.args.birth.now.topology c.args.row.now questions c.loop-question.question-index _ c.loop-question-test.true (Some c.in-Some.rank) found)
+    ∙ sym (further _ c.args.birth.now.topology c.args.row.now questions c.loop-question.question-index _ c.loop-question-test.true (Some c.in-Some.rank) found)
     ∙ c.loop-question.invariant
 
 pub loop-question-preserved : goal.loop-question-preserved
-loop-question-preserved c =
+loop-question-preserved g c =
     let none = sym c.least_rank.ensures ∙ c.in_default.is in
-    sym (further c.args.birth.now.topology c.args.row.now questions c.loop-question.question-index _ c.loop-question-test.true None none)
+    sym (further _ c.args.birth.now.topology c.args.row.now questions c.loop-question.question-index _ c.loop-question-test.true None none)
     ∙ c.loop-question.invariant

@@ -1,14 +1,19 @@
-use Rattle.std.proofs.Common.{sym, ◌∙◌, arith}
+use Rattle.std.proofs.Common.{◌≡◌, ℕ, false, sym, ◌∙◌, arith, below_more}
+use Rattle.mpx_post.specs.Agreement.{post_at}
 use Rattle.mpx_match.specs.Questions.{is_faulty}
 use Rattle.mpx_match.proofs.Least.{least_rank-found, least_rank-absent}
 use Rattle.mpx_match.proofs.verdicts.least_rank.Goals as goal
 
 pub returns-then-is_faulty : goal.returns-then-is_faulty
-returns-then-is_faulty c =
-    sym (least_rank-found (is_faulty c.args.birth.now.topology c.args.question c.args.row.now) _ _ c.loop-rank.invariant (omega arith) (sym c.is_faulty.ensures ∙ c.if-is_faulty.true))
+returns-then-is_faulty g c =
+    sym (least_rank-found (is_faulty _ c.args.birth.now.topology c.args.question c.args.row.now) _ _ c.loop-rank.invariant (omega arith) (sym c.is_faulty.ensures ∙ c.if-is_faulty.true))
 
 pub returns : goal.returns
-returns c = sym (least_rank-absent (is_faulty c.args.birth.now.topology c.args.question c.args.row.now) _ _ c.loop-rank.invariant (omega arith))
+returns g c = sym (least_rank-absent (is_faulty _ c.args.birth.now.topology c.args.question c.args.row.now) _ _ c.loop-rank.invariant (omega arith))
 
 pub returns-then-is_settled : goal.returns-then-is_settled
-returns-then-is_settled c = let settled = c.is_settled.ensures c.if-is_settled.true in rw settled.0 (sym settled.1)
+returns-then-is_settled g c = let settled = c.is_settled.ensures c.if-is_settled.true in rw settled.0 (sym settled.1)
+
+pub loop-rank-preserved : goal.loop-rank-preserved
+loop-rank-preserved g c =
+    below_more (λ k. is_faulty _ c.args.birth.now.topology c.args.question c.args.row.now k (post_at c.args.row.now k) ≡ false) c.loop-rank.rank c.loop-rank.invariant (sym c.is_faulty.ensures ∙ c.if-is_faulty.false)

@@ -3,8 +3,8 @@ use Rattle.mpx_node.proofs.Calls.{members_of_row, rank_in-below}
 use Rattle.mpx_node.proofs.results.outcome_on.Goals as goal
 
 pub outcome-requires-clause-members : goal.outcome-requires-clause-members
-outcome-requires-clause-members c = members_of_row _ _ c.in-Some.birth.now c.in-Some-2.row c.in-Some.ensures (sym c.in-Some-2.is ∙ c.in_ok-row.ensures)
+outcome-requires-clause-members g c = members_of_row _ _ c.in-Some.birth.now c.in-Some-2.row c.in-Some.ensures (sym c.in-Some-2.is ∙ c.in_ok-row.ensures)
 
 pub outcome-requires-clause-rank : goal.outcome-requires-clause-rank
-outcome-requires-clause-rank c =
+outcome-requires-clause-rank g c =
     omega (arith, members_of_row _ _ c.in-Some.birth.now c.in-Some-2.row c.in-Some.ensures (sym c.in-Some-2.is ∙ c.in_ok-row.ensures), rank_in-below c.args.me c.in-Some.birth.now.members c.in-Some-rank_of.rank (sym c.rank_of.ensures ∙ c.in-Some-rank_of.is))

@@ -10,23 +10,23 @@ use Rattle.mpx_rank.proofs.waiting.close_all.Goals as goal
 
 pub close-requires : goal.close-requires
 close-requires g c =
-    let terms = g.C.Carrier.terms in
+    let terms = g.C.Carrier.terms _ in
     let first = c.args.carrier.now in
     let now = c.loop-word.carrier in
     let requests = requests_of g.C.Carrier.place c.loop-word.requests in
     let word = c.word-item.result in
     let told = terms.tells first c.args.me in
     let left = next_left c.args.words.now c.loop-word.word-index word c.loop-word-test.true c.word-item.is in
-    done_later told (terms.tells now c.args.me) (g.met.C.Carrier.stays_told first now c.loop-word.invariant.hears c.args.me) (requests word)
+    done_later told (terms.tells now c.args.me) (g.met.C.Carrier.stays_told _ first now c.loop-word.invariant.hears c.args.me) (requests word)
     (done_first told requests word (drop (c.loop-word.word-index + 1) c.args.words.now) (ap (are_done told requests) (sym left) ∙ c.loop-word.invariant.done)).0
 
 pub loop-word-init : goal.loop-word-init
-loop-word-init g c = record { hears = g.met.C.Carrier.hears_nothing c.args.carrier.now; lines = refl; requests = λ word. refl; done = c.requires }
+loop-word-init g c = record { hears = g.met.C.Carrier.hears_nothing _ c.args.carrier.now; lines = refl; requests = λ word. refl; done = c.requires }
 
 pub loop-word-preserved : goal.loop-word-preserved
 loop-word-preserved g c =
     let laws = g.met.C.Carrier in
-    let terms = g.C.Carrier.terms in
+    let terms = g.C.Carrier.terms _ in
     let place = g.C.Carrier.place in
     let first = c.args.carrier.now in
     let before = c.loop-word.carrier in
@@ -41,11 +41,11 @@ loop-word-preserved g c =
     let text = string_bytes c.in_ok-text.text in
     let lines = map string_bytes c.loop-word.lines.items in
     record {
-      hears = laws.hears_more first before now c.loop-word.invariant.hears c.in_ok-text.ensures.hears;
+      hears = laws.hears_more _ first before now c.loop-word.invariant.hears c.in_ok-text.ensures.hears;
       lines =
           (λ i. lines_push string_bytes c.loop-word.lines.items c.push.new.self.items c.in_ok-text.text text c.in_ok-push.ensures.items refl i ++ map line_text (wait_lines told (closed_now i) rest))
           ∙ append_assoc lines (text ∷ []) (map line_text (wait_lines told (closed word requests) rest))
-          ∙ (λ i. lines ++ (c.in_ok-text.ensures.line ∙ ap line_text (line_later told (terms.tells before c.args.me) (laws.stays_told first before c.loop-word.invariant.hears c.args.me) (requests word) done.0)) i ∷ map line_text (wait_lines told (closed word requests) rest))
+          ∙ (λ i. lines ++ (c.in_ok-text.ensures.line ∙ ap line_text (line_later told (terms.tells before c.args.me) (laws.stays_told _ first before c.loop-word.invariant.hears c.args.me) (requests word) done.0)) i ∷ map line_text (wait_lines told (closed word requests) rest))
           ∙ ap (λ ws. lines ++ map line_text (wait_lines told requests ws)) (sym left)
           ∙ c.loop-word.invariant.lines;
       requests = λ other. (λ i. closed_all rest (closed_now i) other) ∙ ap (λ ws. closed_all ws requests other) (sym left) ∙ c.loop-word.invariant.requests other;

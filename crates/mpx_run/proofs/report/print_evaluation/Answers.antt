@@ -6,8 +6,8 @@ use Rattle.mpx_run.proofs.Reporting.{evaluated, if_both}
 use Rattle.mpx_run.proofs.report.print_evaluation.Goals as goal
 
 pub returns : goal.returns
-returns c =
+returns g c =
     let report = c.in_ok-report.report in
     let said = transcripts_of report in
     if_both c.print_report.result c.print_report.ensures.text c.print_report.ensures.end (λ printed text ends.
-    evaluated c.args.script.now said report.waiting.items printed.end (string_bytes printed.text) c.in_ok-report.ensures (text ∙ ap (text_upto (lines_at said)) c.ranks.ensures.ranks) ends)
+    evaluated _ c.args.script.now said report.waiting.items printed.end (string_bytes printed.text) c.in_ok-report.ensures (text ∙ ap (text_upto (lines_at said)) c.ranks.ensures.ranks) ends)

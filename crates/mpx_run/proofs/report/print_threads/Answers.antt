@@ -11,5 +11,5 @@ returns-in-Ok-clause-printed g c =
     let run = c.in_ok-run.run' in
     let said = transcripts_of run.report in
     let printed = c.in-Ok.printed in
-    threads_reported c.args.script.now c.args.options.now.relays (table_of run.bus) run.ports.items said run.report.waiting.items printed.end (string_bytes printed.text) c.in_ok-run.ensures.run c.in_ok-run.ensures.begins c.in_ok-run.ensures.whole
+    threads_reported _ c.args.script.now c.args.options.now.relays (table_of run.bus) run.ports.items said run.report.waiting.items printed.end (string_bytes printed.text) c.in_ok-run.ensures.run c.in_ok-run.ensures.begins c.in_ok-run.ensures.whole
     (c.in-Ok.ensures.text ∙ ap (text_upto (lines_at said)) c.ranks.ensures.ranks) c.in-Ok.ensures.end

@@ -15,6 +15,6 @@ loop-rest-init c = record {
 }
 
 pub returns-clause-give : goal.returns-clause-give
-returns-clause-give c = λ script read within.
+returns-clause-give c = λ operations script read within.
     let seen = all_seen c.args.rank (c.loop-rest.number + 1) c.loop-rest.is_opened c.loop-rest.numbers.items (lines_given c.args.rank c.args.text.now) c.loop-rest.rest.now (eqb-true (length c.loop-rest.rest.now) 0 (sym c.is_empty.ensures ∙ c.loop-rest-test.false)) c.loop-rest.invariant.told in
-    subst (λ numbers. Give c.args.text.now c.args.rank numbers (slice_index_or script.statements c.args.rank [])) (sym seen) (give c.args.text.now c.args.rank script read within)
+    subst (λ numbers. Give operations c.args.text.now c.args.rank numbers (slice_index_or script.statements c.args.rank [])) (sym seen) (give operations c.args.text.now c.args.rank script read within)

@@ -2,10 +2,10 @@ use Rattle.mpx_shared.proofs.Gossiping.{done_then, settles_on}
 use Rattle.mpx_shared.proofs.gossip.settle_on.Goals as goal
 
 pub prune_on-requires : goal.prune_on-requires
-prune_on-requires c = record { plan = c.harvest_on.ensures.port.no_post.goes.plan c.requires.plan }
+prune_on-requires g c = record { plan = c.harvest_on.ensures.port.no_post.goes.plan c.requires.plan }
 
 pub returns-clause-port : goal.returns-clause-port
-returns-clause-port c = done_then c.args.port.now c.harvest_on.new.port c.prune_on.new.port c.harvest_on.ensures.port c.prune_on.ensures.does
+returns-clause-port g c = done_then c.args.port.now c.harvest_on.new.port c.prune_on.new.port c.harvest_on.ensures.port c.prune_on.ensures.does
 
 pub returns-clause-ok : goal.returns-clause-ok
-returns-clause-ok c = settles_on c.args.name.now c.args.port.now c.harvest_on.new.port c.prune_on.new.port c.harvest_on.ensures.port c.in_ok-harvest_on.ensures.ok c.prune_on.ensures
+returns-clause-ok g c = settles_on c.args.name.now c.args.port.now c.harvest_on.new.port c.prune_on.new.port c.harvest_on.ensures.port c.in_ok-harvest_on.ensures.ok c.prune_on.ensures

@@ -4,10 +4,10 @@ use Rattle.mpx_system.proofs.Running.{keeps_node_itself, keeps_node_then}
 use Rattle.mpx_sim.proofs.desk.harvest_all.Goals as goal
 
 pub loop-name-init : goal.loop-name-init
-loop-name-init c = keeps_node_itself (node_of c.args.desk.now.host) (node_of c.args.desk.now.host) refl
+loop-name-init g c = keeps_node_itself _ (node_of c.args.desk.now.host) (node_of c.args.desk.now.host) refl
 
 pub loop-name-preserved : goal.loop-name-preserved
-loop-name-preserved c = keeps_node_then (node_of c.args.desk.now.host) (node_of c.loop-name.desk.host) (node_of c.harvest_on.new.desk.host) c.loop-name.invariant c.in_ok-harvest_on.ensures
+loop-name-preserved g c = keeps_node_then _ (node_of c.args.desk.now.host) (node_of c.loop-name.desk.host) (node_of c.harvest_on.new.desk.host) c.loop-name.invariant c.in_ok-harvest_on.ensures
 
 pub returns : goal.returns
-returns c = c.loop-name.invariant
+returns g c = c.loop-name.invariant

@@ -14,7 +14,7 @@ returns-clause-run g c =
     let said = transcripts_of (record { transcripts = c.truncate.new.self; waiting = c.in_ok-waiting.waiting }) in
     let lines : said ≡ take c.ranks-ranks.result (map (λ (r : RankView). r.lines) processes) = ap (map _) c.truncate.ensures.items ∙ map_taken _ c.ranks-ranks.result c.in_ok-transcripts.transcripts.items ∙ ap (take c.ranks-ranks.result) c.in_ok-transcripts.ensures.lines in
     let waiting : c.in_ok-waiting.waiting.items ≡ which (λ p. is_waiting_at (slice_get processes p)) c.ranks-ranks.result = c.in_ok-waiting.ensures ∙ ap (λ ps. which (λ p. is_waiting_at (slice_get (map process_of ps) p)) c.ranks-ranks.result) c.as_slice.ensures.value in
-    run_said c.args.script.now c.args.options.now.relays c.ranks-ranks.result c.ranks-ranks.ensures.ranks processes c.in_ok-processes.ensures.run.0 c.in_ok-processes.ensures.run.1 (map node_of c.in_ok-transcripts.nodes.items) said c.in_ok-waiting.waiting.items c.in_ok-transcripts.ensures.nodes lines waiting
+    run_said _ c.args.script.now c.args.options.now.relays c.ranks-ranks.result c.ranks-ranks.ensures.ranks processes c.in_ok-processes.ensures.run.0 c.in_ok-processes.ensures.run.1 (map node_of c.in_ok-transcripts.nodes.items) said c.in_ok-waiting.waiting.items c.in_ok-transcripts.ensures.nodes lines waiting
 
 pub returns-clause-begins : goal.returns-clause-begins
 returns-clause-begins g c =
@@ -22,7 +22,7 @@ returns-clause-begins g c =
     let said = transcripts_of (record { transcripts = c.truncate.new.self; waiting = c.in_ok-waiting.waiting }) in
     let lines : said ≡ take c.ranks-ranks.result (map (λ (r : RankView). r.lines) processes) = ap (map _) c.truncate.ensures.items ∙ map_taken _ c.ranks-ranks.result c.in_ok-transcripts.transcripts.items ∙ ap (take c.ranks-ranks.result) c.in_ok-transcripts.ensures.lines in
     let waiting : c.in_ok-waiting.waiting.items ≡ which (λ p. is_waiting_at (slice_get processes p)) c.ranks-ranks.result = c.in_ok-waiting.ensures ∙ ap (λ ps. which (λ p. is_waiting_at (slice_get (map process_of ps) p)) c.ranks-ranks.result) c.as_slice.ensures.value in
-    begin_said c.args.script.now c.args.options.now.relays c.ranks-ranks.result c.ranks-ranks.ensures.ranks processes c.in_ok-processes.ensures.run.0 c.in_ok-processes.ensures.run.1 (map node_of c.in_ok-transcripts.nodes.items) said c.in_ok-waiting.waiting.items c.in_ok-transcripts.ensures.nodes lines waiting
+    begin_said _ c.args.script.now c.args.options.now.relays c.ranks-ranks.result c.ranks-ranks.ensures.ranks processes c.in_ok-processes.ensures.run.0 c.in_ok-processes.ensures.run.1 (map node_of c.in_ok-transcripts.nodes.items) said c.in_ok-waiting.waiting.items c.in_ok-transcripts.ensures.nodes lines waiting
 
 pub returns-clause-whole : goal.returns-clause-whole
 returns-clause-whole g c =
@@ -30,7 +30,7 @@ returns-clause-whole g c =
     let said = transcripts_of (record { transcripts = c.truncate.new.self; waiting = c.in_ok-waiting.waiting }) in
     let lines : said ≡ take c.ranks-ranks.result (map (λ (r : RankView). r.lines) processes) = ap (map _) c.truncate.ensures.items ∙ map_taken _ c.ranks-ranks.result c.in_ok-transcripts.transcripts.items ∙ ap (take c.ranks-ranks.result) c.in_ok-transcripts.ensures.lines in
     let waiting : c.in_ok-waiting.waiting.items ≡ which (λ p. is_waiting_at (slice_get processes p)) c.ranks-ranks.result = c.in_ok-waiting.ensures ∙ ap (λ ps. which (λ p. is_waiting_at (slice_get (map process_of ps) p)) c.ranks-ranks.result) c.as_slice.ensures.value in
-    whole_said c.args.script.now c.args.options.now.relays c.ranks-ranks.result c.ranks-ranks.ensures.ranks processes c.in_ok-processes.ensures.run.0 c.in_ok-processes.ensures.run.1 (map node_of c.in_ok-transcripts.nodes.items) said c.in_ok-waiting.waiting.items c.in_ok-transcripts.ensures.nodes lines waiting
+    whole_said _ c.args.script.now c.args.options.now.relays c.ranks-ranks.result c.ranks-ranks.ensures.ranks processes c.in_ok-processes.ensures.run.0 c.in_ok-processes.ensures.run.1 (map node_of c.in_ok-transcripts.nodes.items) said c.in_ok-waiting.waiting.items c.in_ok-transcripts.ensures.nodes lines waiting
 
 pub returns-clause-ended : goal.returns-clause-ended
 returns-clause-ended g c =

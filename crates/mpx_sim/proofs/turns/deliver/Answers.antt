@@ -4,7 +4,7 @@ use Rattle.mpx_post.proofs.Lists.{element}
 use Rattle.mpx_sim.proofs.turns.deliver.Goals as goal
 
 pub loop-i-preserved : goal.loop-i-preserved
-loop-i-preserved c script ranks size run =
-    c.in_ok-arrive.ensures script ranks size (map part_of c.args.frames.now) c.loop-i.i
+loop-i-preserved c ops script ranks size run =
+    c.in_ok-arrive.ensures ops script ranks size (map part_of c.args.frames.now) c.loop-i.i
     (element part_of c.args.frames.now c.loop-i.i c.index-frames-i.result (omega arith) ∙ ap (λ f. Some (part_of f)) (sym c.index-frames-i.is))
-    (c.loop-i.invariant script ranks size run)
+    (c.loop-i.invariant ops script ranks size run)

@@ -6,5 +6,5 @@ use Rattle.mpx_sim.proofs.Sending.{goes_out}
 use Rattle.mpx_sim.proofs.turns.send.Goals as goal
 
 pub returns-clause-run : goal.returns-clause-run
-returns-clause-run c script ranks size processes p r at only run =
-    subst (λ (fs : List Frame). IsUnderWay script ranks size processes (map part_of fs)) (sym c.in_ok-push.ensures.items) (goes_out script ranks size processes p r c.args.frames.now.items c.args.frame at only run)
+returns-clause-run c ops script ranks size processes p r at only run =
+    subst (λ (fs : List Frame). IsUnderWay ops script ranks size processes (map part_of fs)) (sym c.in_ok-push.ensures.items) (goes_out ops script ranks size processes p r c.args.frames.now.items c.args.frame at only run)

@@ -10,7 +10,7 @@ use Rattle.mpx_sim.proofs.Sending.{all_behind}
 use Rattle.mpx_sim.proofs.turns.send_each.Goals as goal
 
 pub loop-frame-init : goal.loop-frame-init
-loop-frame-init c = record { all = λ none. sym (append-nil c.args.frames.now.items); loss = refl; run = λ script ranks size processes p r at all run. run }
+loop-frame-init c = record { all = λ none. sym (append-nil c.args.frames.now.items); loss = refl; run = λ ops script ranks size processes p r at all run. run }
 
 pub loop-frame-preserved : goal.loop-frame-preserved
 loop-frame-preserved c = record {
@@ -19,9 +19,9 @@ loop-frame-preserved c = record {
       ∙ ap (λ l. l ++ c.in-Some.frame ∷ []) (c.loop-frame.invariant.all none)
       ∙ append_assoc c.args.frames.now.items c.loop-frame.yielded (c.in-Some.frame ∷ []);
   loss = c.in_ok-send.ensures.loss ∙ c.loop-frame.invariant.loss;
-  run = λ script ranks size processes p r at all run.
-      c.in_ok-send.ensures.run script ranks size processes p r at (All-last (λ f. OnlyFactsOf (part_of f) r.node.board) c.loop-frame.yielded c.in-Some.frame all)
-      (c.loop-frame.invariant.run script ranks size processes p r at (All-front (λ f. OnlyFactsOf (part_of f) r.node.board) c.loop-frame.yielded (c.in-Some.frame ∷ []) all) run);
+  run = λ ops script ranks size processes p r at all run.
+      c.in_ok-send.ensures.run ops script ranks size processes p r at (All-last (λ f. OnlyFactsOf (part_of f) r.node.board) c.loop-frame.yielded c.in-Some.frame all)
+      (c.loop-frame.invariant.run ops script ranks size processes p r at (All-front (λ f. OnlyFactsOf (part_of f) r.node.board) c.loop-frame.yielded (c.in-Some.frame ∷ []) all) run);
 }
 
 pub returns-clause-all : goal.returns-clause-all
@@ -30,6 +30,6 @@ returns-clause-all c none =
     c.loop-frame.invariant.all none ∙ ap (λ l. c.args.frames.now.items ++ l) (sym (map-id c.loop-frame.yielded) ∙ end.0)
 
 pub returns-clause-run : goal.returns-clause-run
-returns-clause-run c script ranks size processes p r at all run =
+returns-clause-run c ops script ranks size processes p r at all run =
     let end = YieldsList-end (YieldsList-from_vec c.args.made.items (search rules) (search rules)) c.loop-frame.yielded c.loop-frame.frame-iterator c.loop-frame.yielded_by c.next.result c.next.new.self c.in-None.is c.next.ensures.steps in
-    c.loop-frame.invariant.run script ranks size processes p r at (all_behind (λ f. f) (λ f. OnlyFactsOf (part_of f) r.node.board) c.loop-frame.yielded (subst (All (λ f. OnlyFactsOf (part_of f) r.node.board)) (sym end.0) all)) run
+    c.loop-frame.invariant.run ops script ranks size processes p r at (all_behind (λ f. f) (λ f. OnlyFactsOf (part_of f) r.node.board) c.loop-frame.yielded (subst (All (λ f. OnlyFactsOf (part_of f) r.node.board)) (sym end.0) all)) run

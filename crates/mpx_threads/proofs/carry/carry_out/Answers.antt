@@ -16,7 +16,7 @@ go_on-requires g c =
     let first = c.in_ok-rank.ensures in
     let bound = λ (word : List ℕ). first.bound word ∙ λ i. bound_first (Some (c.world.ensures i, (c.in_ok-world.ensures ∙ ap (λ n. of_members (upto n)) c.ranks.ensures.ranks) i)) word in
     let todo = first.todo ∙ c.statements.ensures ∙ ap (λ n. get_or script.statements n []) (c.number.ensures.number ∙ c.requires.me.0) ∙ statements_at script.statements d.me in
-    may_go script c.requires.plan.0 d.setup c.requires.plan.1 d.me d.before ((d.all ≡ g.L.Ledger.parts) × (0 < g.L.Ledger.parts)) c.requires.ledger c.requires.new.0 r (first.me ∙ c.requires.me.0)
+    may_go script c.requires.plan.0 d.setup c.requires.plan.1 d.me d.before ((d.all ≡ g.L.Ledger.parts) × (0 < g.L.Ledger.parts)) _ c.requires.list c.requires.ledger c.requires.new.0 r (first.me ∙ c.requires.me.0)
     (stands_first script d.me r bound first.requests todo first.waits first.lines first.origins) c.new-desk.result (ap (λ v. v.1) c.new-desk.ensures ∙ c.requires.new.1)
 
 pub returns : goal.returns
@@ -28,7 +28,7 @@ returns g c =
     let bound = λ (word : List ℕ). first.bound word ∙ λ i. bound_first (Some (c.world.ensures i, (c.in_ok-world.ensures ∙ ap (λ n. of_members (upto n)) c.ranks.ensures.ranks) i)) word in
     let todo = first.todo ∙ c.statements.ensures ∙ ap (λ n. get_or script.statements n []) (c.number.ensures.number ∙ c.requires.me.0) ∙ statements_at script.statements d.me in
     let lines = map string_bytes c.into_lines-lines.result.items in
-    let come = has_come script c.requires.plan.0 d.setup c.requires.plan.1 d.me d.before ((d.all ≡ g.L.Ledger.parts) × (0 < g.L.Ledger.parts)) c.requires.ledger c.requires.new.0 r (first.me ∙ c.requires.me.0)
+    let come = has_come script c.requires.plan.0 d.setup c.requires.plan.1 d.me d.before ((d.all ≡ g.L.Ledger.parts) × (0 < g.L.Ledger.parts)) _ c.requires.list c.requires.ledger c.requires.new.0 r (first.me ∙ c.requires.me.0)
     (stands_first script d.me r bound first.requests todo first.waits first.lines first.origins) c.new-desk.result (ap (λ v. v.1) c.new-desk.ensures ∙ c.requires.new.1)
     (rank_of place_of c.go_on.new.self) c.go_on.new.carrier c.in_ok-go_on.field-0 c.in_ok-go_on.ensures lines c.is_waiting-waits.result c.into_lines-lines.ensures c.is_waiting-waits.ensures in
     subst (λ p. HasCome script d.setup p c.into_parts-told.result.0 c.into_parts-told.result.1.share.amount lines c.is_waiting-waits.result) (sym c.requires.me.0)

@@ -7,7 +7,7 @@ use Rattle.mpx_threads.proofs.desk.attempt.Goals as goal
 pub returns-in-Some : goal.returns-in-Some
 returns-in-Some g c =
     let d = g.L.Dock in
-    let outcome = on_either d.me c.args.posting.now c.args.name.now in
+    let outcome = on_either d.setup.operations d.me c.args.posting.now c.args.name.now in
     let now = c.loop-look.poster.share.amount in
     let new = c.attempt_now.new.poster.share.amount in
     tries_still d.setup d.me d.before c.args.name.now c.args.poster.now.share.amount now c.loop-look.invariant outcome (Ok (Some c.in-Some.ticket)) new
@@ -16,7 +16,7 @@ returns-in-Some g c =
 pub returns-then-not-goes_on : goal.returns-then-not-goes_on
 returns-then-not-goes_on g c =
     let d = g.L.Dock in
-    let outcome = on_either d.me c.args.posting.now c.args.name.now in
+    let outcome = on_either d.setup.operations d.me c.args.posting.now c.args.name.now in
     let now = c.loop-look.poster.share.amount in
     let new = c.attempt_now.new.poster.share.amount in
     unposted_still d.setup d.me d.before c.args.name.now c.args.poster.now.share.amount now c.loop-look.invariant outcome new
@@ -25,7 +25,7 @@ returns-then-not-goes_on g c =
 pub loop-look-preserved : goal.loop-look-preserved
 loop-look-preserved g c =
     let d = g.L.Dock in
-    let outcome = on_either d.me c.args.posting.now c.args.name.now in
+    let outcome = on_either d.setup.operations d.me c.args.posting.now c.args.name.now in
     let now = c.loop-look.poster.share.amount in
     let new = c.attempt_now.new.poster.share.amount in
     unposted_still d.setup d.me d.before c.args.name.now c.args.poster.now.share.amount now c.loop-look.invariant outcome new

@@ -23,7 +23,7 @@ returns-in-Ok g c =
     let d = g.L.Dock in
     let tag : to_z w128 (of_z w128 c.args.tag) ≡ c.args.tag = search (rules, to_z-of_z) in
     comes_below d.table d.setup d.me c.requires.planned (d.before + c.args.poster.now.share.amount) c.args.parent.now c.args.tag c.args.ranks.now (draft_of c.args.posting.now) c.in-Ok.name (subst (λ z. OpensThen d.table d.setup d.me d.opening (d.before + c.args.poster.now.share.amount) c.args.parent.now z c.args.ranks.now (Ok c.in-Ok.name)) tag c.in-Ok.ensures.then) (placed place_of c.post_on.result) c.args.poster.now.share.amount c.post_on.new.poster.share.amount
-    (subst (λ n. PostsAs d.setup d.me d.before c.in-Ok.name (on_context d.me c.args.posting.now c.in-Ok.name) c.post_on.result n c.post_on.new.poster.share.amount) c.in-Ok.ensures.amount c.post_on.ensures)
+    (subst (λ n. PostsAs d.setup d.me d.before c.in-Ok.name (on_context d.setup.operations d.me c.args.posting.now c.in-Ok.name) c.post_on.result n c.post_on.new.poster.share.amount) c.in-Ok.ensures.amount c.post_on.ensures)
 
 pub returns-else-is_no_member : goal.returns-else-is_no_member
 returns-else-is_no_member g c =

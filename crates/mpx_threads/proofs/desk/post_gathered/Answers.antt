@@ -14,4 +14,4 @@ returns g c =
     let d = g.L.Dock in
     let made = first_posts d.setup d.me (d.before + c.args.poster.now.share.amount) in
     let tag : to_z w128 (of_z w128 c.args.tag.now) ≡ c.args.tag.now = search (rules, to_z-of_z) in
-    subst (λ z. ComesTo d.setup c.args.parent.now (λ birth. post_gathered d.me made (draft_of c.args.posting.now) c.args.parent.now (gathering birth d.me (length c.args.parent.now) (has_freed c.args.parent.now made) z c.args.ranks.now)) made (placed place_of c.gather_and_post.result) c.args.poster.now.share.amount c.gather_and_post.new.poster.share.amount) tag c.gather_and_post.ensures
+    subst (λ z. ComesTo d.setup c.args.parent.now (λ birth. post_gathered d.setup.operations d.me made (draft_of c.args.posting.now) c.args.parent.now (gathering birth d.me (length c.args.parent.now) (has_freed c.args.parent.now made) z c.args.ranks.now)) made (placed place_of c.gather_and_post.result) c.args.poster.now.share.amount c.gather_and_post.new.poster.share.amount) tag c.gather_and_post.ensures

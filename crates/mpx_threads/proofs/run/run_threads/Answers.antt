@@ -5,7 +5,7 @@ use Rattle.mpx_evaluation.specs.Reports.{transcripts_of, which}
 use Rattle.mpx_system.proofs.Results.{map_taken}
 use Rattle.mpx_threads.specs.Work.{gossip_at, lines_in, waits_at}
 use Rattle.mpx_threads.proofs.Jobs.{gave_up_among}
-use Rattle.mpx_threads.proofs.Reporting.{are_whole, begins, is_thread_run}
+use Rattle.mpx_threads.proofs.Reporting.{begins_lent, run_lent, whole_lent}
 use Rattle.mpx_threads.proofs.run.run_threads.Goals as goal
 
 pub returns-then-has_given_up-clause-gate : goal.returns-then-has_given_up-clause-gate
@@ -13,7 +13,7 @@ returns-then-has_given_up-clause-gate g c = λ e.
     let ws = c.in_ok-worked.worked.items in
     let gave = c.has_given_up.ensures c.if-has_given_up.true in
     gave_up_among (g.G.Gate.gives_up c.args.gate.now) (c.args.script.now.ranks + c.args.options.now.relays) c.args.options.now.turns ws
-    c.in_ok-worked.ensures.gate c.in_ok-worked.ensures.worked.1.count gave.0 (ap (λ xs. gossip_at (slice_get xs gave.0)) (sym c.as_slice.ensures.value) ∙ gave.1)
+    c.in_ok-worked.ensures.gate c.in_ok-worked.ensures.worked.1.0.count gave.0 (ap (λ xs. gossip_at (slice_get xs gave.0)) (sym c.as_slice.ensures.value) ∙ gave.1)
 
 pub returns-clause-run : goal.returns-clause-run
 returns-clause-run g c =
@@ -23,7 +23,7 @@ returns-clause-run g c =
     let said = transcripts_of (record { transcripts = c.truncate.new.self; waiting = c.in_ok-waiting.waiting }) in
     let lines : said ≡ take script.ranks (map lines_in ws) = ap (map _) c.truncate.ensures.items ∙ map_taken _ c.ranks-2.result c.in_ok-transcripts.transcripts.items ∙ ap (take c.ranks-2.result) c.in_ok-transcripts.ensures.lines ∙ ap (λ n. take n (map lines_in ws)) c.ranks-2.ensures.ranks in
     let waiting : c.in_ok-waiting.waiting.items ≡ which (λ p. waits_at (slice_get ws p)) script.ranks = c.in_ok-waiting.ensures ∙ ap (λ xs. which (λ p. waits_at (slice_get xs p)) c.ranks.result) c.as_slice-2.ensures.value ∙ ap (which (λ p. waits_at (slice_get ws p))) c.ranks.ensures.ranks in
-    is_thread_run script c.args.options.now.relays made.0 (table_of c.in_ok-bus.bus) ws made.1 c.in_ok-transcripts.ports.items said c.in_ok-waiting.waiting.items c.in_ok-transcripts.ensures.ports lines waiting
+    run_lent _ script c.args.options.now.relays made.0 (table_of c.in_ok-bus.bus) ws made.1.0 made.1.1 c.in_ok-transcripts.ports.items said c.in_ok-waiting.waiting.items c.in_ok-transcripts.ensures.ports lines waiting
 
 pub returns-clause-begins : goal.returns-clause-begins
 returns-clause-begins g c =
@@ -33,7 +33,7 @@ returns-clause-begins g c =
     let said = transcripts_of (record { transcripts = c.truncate.new.self; waiting = c.in_ok-waiting.waiting }) in
     let lines : said ≡ take script.ranks (map lines_in ws) = ap (map _) c.truncate.ensures.items ∙ map_taken _ c.ranks-2.result c.in_ok-transcripts.transcripts.items ∙ ap (take c.ranks-2.result) c.in_ok-transcripts.ensures.lines ∙ ap (λ n. take n (map lines_in ws)) c.ranks-2.ensures.ranks in
     let waiting : c.in_ok-waiting.waiting.items ≡ which (λ p. waits_at (slice_get ws p)) script.ranks = c.in_ok-waiting.ensures ∙ ap (λ xs. which (λ p. waits_at (slice_get xs p)) c.ranks.result) c.as_slice-2.ensures.value ∙ ap (which (λ p. waits_at (slice_get ws p))) c.ranks.ensures.ranks in
-    begins script c.args.options.now.relays made.0 (table_of c.in_ok-bus.bus) ws made.1 c.in_ok-transcripts.ports.items said c.in_ok-waiting.waiting.items c.in_ok-transcripts.ensures.ports lines waiting
+    begins_lent _ script c.args.options.now.relays made.0 (table_of c.in_ok-bus.bus) ws made.1.0 made.1.1 c.in_ok-transcripts.ports.items said c.in_ok-waiting.waiting.items c.in_ok-transcripts.ensures.ports lines waiting
 
 pub returns-clause-whole : goal.returns-clause-whole
 returns-clause-whole g c =
@@ -43,4 +43,4 @@ returns-clause-whole g c =
     let said = transcripts_of (record { transcripts = c.truncate.new.self; waiting = c.in_ok-waiting.waiting }) in
     let lines : said ≡ take script.ranks (map lines_in ws) = ap (map _) c.truncate.ensures.items ∙ map_taken _ c.ranks-2.result c.in_ok-transcripts.transcripts.items ∙ ap (take c.ranks-2.result) c.in_ok-transcripts.ensures.lines ∙ ap (λ n. take n (map lines_in ws)) c.ranks-2.ensures.ranks in
     let waiting : c.in_ok-waiting.waiting.items ≡ which (λ p. waits_at (slice_get ws p)) script.ranks = c.in_ok-waiting.ensures ∙ ap (λ xs. which (λ p. waits_at (slice_get xs p)) c.ranks.result) c.as_slice-2.ensures.value ∙ ap (which (λ p. waits_at (slice_get ws p))) c.ranks.ensures.ranks in
-    are_whole script c.args.options.now.relays made.0 (table_of c.in_ok-bus.bus) ws made.1 c.in_ok-transcripts.ports.items said c.in_ok-waiting.waiting.items c.in_ok-transcripts.ensures.ports lines waiting
+    whole_lent _ script c.args.options.now.relays made.0 (table_of c.in_ok-bus.bus) ws made.1.0 made.1.1 c.in_ok-transcripts.ports.items said c.in_ok-waiting.waiting.items c.in_ok-transcripts.ensures.ports lines waiting

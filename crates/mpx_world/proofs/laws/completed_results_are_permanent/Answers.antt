@@ -6,9 +6,9 @@ use Rattle.mpx_world.proofs.Whole.{well_after, well_by, later_after, later_by, m
 use Rattle.mpx_world.proofs.laws.completed_results_are_permanent.Goals as goal
 
 pub returns-clause-events : goal.returns-clause-events
-returns-clause-events c ranks size es later =
-    are_permanent (world_after ranks size es) (world_after ranks size (es ++ later)) (later_after ranks size es later) (well_after ranks size es).holds
+returns-clause-events c ops ranks size es later =
+    are_permanent (world_after ops ranks size es) (world_after ops ranks size (es ++ later)) (later_after ops ranks size es later) (well_after ops ranks size es).holds
 
 pub returns-clause-histories : goal.returns-clause-histories
-returns-clause-histories c ranks size hs later m =
-    are_permanent (world_by ranks size hs) (world_by ranks size (hs ++ later)) (later_by ranks size hs later) (well_by ranks size hs (may_early hs later (start ranks size) m)).holds
+returns-clause-histories c ops ranks size hs later m =
+    are_permanent (world_by ops ranks size hs) (world_by ops ranks size (hs ++ later)) (later_by ops ranks size hs later) (well_by ops ranks size hs (may_early hs later (start ops ranks size) m)).holds

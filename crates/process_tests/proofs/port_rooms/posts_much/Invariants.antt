@@ -2,4 +2,4 @@ use Rattle.mpx_bus.specs.Berths.{IsSamePort}
 use Rattle.process_tests.proofs.port_rooms.posts_much.Given as goal
 
 abbrev pub invariant-loop : goal.invariant-loop
-invariant-loop l = IsSamePort l.fn.port l.port
+invariant-loop g l = IsSamePort l.fn.port l.port

@@ -1,6 +1,5 @@
-use Rattle.std.proofs.Common.{List, [], ◌∷◌, ◌++◌, inr, sym, ap, ◌∙◌, subst}
+use Rattle.std.proofs.Common.{ℕ, List, [], ◌∷◌, ◌++◌, inr, sym, ap, ◌∙◌, subst}
 use Rattle.crossbeam_queue.specs.Passes.{view}
-use Rattle.mpx_board.specs.Boards.{Look}
 use Rattle.mpx_node.specs.Nodes.{NodeView, StopsTaking, learn}
 use Rattle.mpx_node.specs.Shown.{node_of}
 use Rattle.mpx_bus.specs.declared.act.Act.{Act}
@@ -17,25 +16,15 @@ pop_to-requires-clause-rule g c =
     let i = c.port.invariant.2 in
     pops _ _ _ i.stands i.ahead (subst (λ (b : Berth). IsPlanned b.setup b.me b.journal) (sym c.port.view_is) c.requires.plan)
 
-pub invariant_of-port-in_default-opened : goal.invariant_of-port-in_default-opened
-invariant_of-port-in_default-opened g c =
-    let i = c.port.invariant in
-    let r = c.in-Some.ensures.rule in (
-      c.in-Some.ensures.queue.2 ∙ i.0,
-      (c.popped.ensures.same.0 ∙ i.1.0, c.popped.ensures.same.2 ∙ i.1.1),
-      port_popped (node_of c.port.inside.node) (view c.port.inside.pass) (view c.pop_to.new.pass) (view c.port.inside.line) (view c.popped.new.line) c.in-Some.frame i.2 r.0 r.1 c.popped.ensures.noted,
-      kept_popped (view c.port.inside.pass) (view c.pop_to.new.pass) (view c.port.inside.line) (view c.popped.new.line) c.in-Some.frame c.port.inside.kept.items r.0 c.popped.ensures.noted i.3,
-    )
-
-pub invariant_of-port-in-Ok-take : goal.invariant_of-port-in-Ok-take
-invariant_of-port-in-Ok-take g c =
+pub invariant_of-port-in-Ok : goal.invariant_of-port-in-Ok
+invariant_of-port-in-Ok g c =
     let i = c.port.invariant in
     let r = c.in-Some.ensures.rule in
     let kept = kept_popped (view c.port.inside.pass) (view c.pop_to.new.pass) (view c.port.inside.line) (view c.popped.new.line) c.in-Some.frame c.port.inside.kept.items r.0 c.popped.ensures.noted i.3 in (
       c.in-Some.ensures.queue.2 ∙ i.0,
       (c.took.ensures.same.0 ∙ c.popped.ensures.same.0 ∙ i.1.0, c.took.ensures.same.2 ∙ c.popped.ensures.same.2 ∙ i.1.1),
-      port_took (node_of c.port.inside.node) (node_of c.take.new.self) (view c.port.inside.pass) (view c.pop_to.new.pass) (view c.port.inside.line) (view c.popped.new.line) (view c.took.new.line) c.in-Some.frame i.2 r.0 r.1 c.popped.ensures.noted
-          (c.in-Ok-take.ensures.ok ∙ ap (λ (b : Look). learn b (node_of c.port.inside.node)) c.in-Ok.ensures) c.took.ensures.noted,
+      port_took (node_of c.port.inside.node) (node_of c.take_frame.new.self) (view c.port.inside.pass) (view c.pop_to.new.pass) (view c.port.inside.line) (view c.popped.new.line) (view c.took.new.line) c.in-Some.frame i.2 r.0 r.1 c.popped.ensures.noted
+          (c.in-Ok.ensures.ok ∙ ap (λ (b : List ℕ). learn (part_of b) (node_of c.port.inside.node)) c.as_slice.ensures) c.took.ensures.noted,
       kept_later _ _ (view c.popped.new.line) (view c.took.new.line) (A.Took c.in-Some.frame ∷ []) c.port.inside.kept.items c.took.ensures.noted kept,
     )
 
@@ -44,21 +33,21 @@ invariant_of-port-in-Err g c =
     let i = c.port.invariant in
     let r = c.in-Some.ensures.rule in
     let kept = kept_popped (view c.port.inside.pass) (view c.pop_to.new.pass) (view c.port.inside.line) (view c.popped.new.line) c.in-Some.frame c.port.inside.kept.items r.0 c.popped.ensures.noted i.3 in
-    let stops = subst (λ (b : Look). StopsTaking b (node_of c.port.inside.node) (node_of c.take.new.self)) c.in-Ok.ensures c.in-Err.ensures.err in (
+    let stops = subst (λ (b : List ℕ). StopsTaking (part_of b) (node_of c.port.inside.node) (node_of c.take_frame.new.self)) c.as_slice.ensures c.in-Err.ensures.err in (
       c.in-Some.ensures.queue.2 ∙ i.0,
       (c.stopped.ensures.same.0 ∙ c.popped.ensures.same.0 ∙ i.1.0, c.stopped.ensures.same.2 ∙ c.popped.ensures.same.2 ∙ i.1.1),
-      port_stopped (node_of c.port.inside.node) (node_of c.take.new.self) (view c.port.inside.pass) (view c.pop_to.new.pass) (view c.port.inside.line) (view c.popped.new.line) (view c.stopped.new.line) c.in-Some.frame c.board.result.now i.2 r.0 r.1 c.popped.ensures.noted
+      port_stopped (node_of c.port.inside.node) (node_of c.take_frame.new.self) (view c.port.inside.pass) (view c.pop_to.new.pass) (view c.port.inside.line) (view c.popped.new.line) (view c.stopped.new.line) c.in-Some.frame c.board.result.now i.2 r.0 r.1 c.popped.ensures.noted
           stops c.board.ensures c.stopped.ensures.noted,
       kept_later _ _ (view c.popped.new.line) (view c.stopped.new.line) (A.StoppedTaking c.in-Some.frame c.board.result.now ∷ []) c.port.inside.kept.items c.stopped.ensures.noted kept,
     )
 
-pub returns-clause-answer : goal.returns-clause-answer
-returns-clause-answer g c =
+pub returns-in-Err-clause-answer : goal.returns-in-Err-clause-answer
+returns-in-Err-clause-answer g c =
     let i = c.port.invariant in
     let r = c.in-Some.ensures.rule in
     let frame = c.in-Some.frame in
-    let stops = subst (λ (b : Look). StopsTaking b (node_of c.port.inside.node) (node_of c.take.new.self)) c.in-Ok.ensures c.in-Err.ensures.err in
-    let now = port_stopped (node_of c.port.inside.node) (node_of c.take.new.self) (view c.port.inside.pass) (view c.pop_to.new.pass) (view c.port.inside.line) (view c.popped.new.line) (view c.stopped.new.line) frame c.board.result.now i.2 r.0 r.1 c.popped.ensures.noted
+    let stops = subst (λ (b : List ℕ). StopsTaking (part_of b) (node_of c.port.inside.node) (node_of c.take_frame.new.self)) c.as_slice.ensures c.in-Err.ensures.err in
+    let now = port_stopped (node_of c.port.inside.node) (node_of c.take_frame.new.self) (view c.port.inside.pass) (view c.pop_to.new.pass) (view c.port.inside.line) (view c.popped.new.line) (view c.stopped.new.line) frame c.board.result.now i.2 r.0 r.1 c.popped.ensures.noted
     stops c.board.ensures c.stopped.ensures.noted in
     inr (record {
       left = c.board.result.now;

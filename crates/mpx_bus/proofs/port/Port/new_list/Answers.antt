@@ -1,34 +1,38 @@
-use Rattle.std.proofs.Common.{◌≤◌, All, arith, [], ◌∷◌, ◌++◌, refl, sym, ap, ◌∙◌, subst}
+use Rattle.std.proofs.Common.{[], ◌∷◌, ◌++◌, refl, sym, ap, ◌∙◌, subst}
 use Rattle.crossbeam_queue.specs.Passes.{view}
-use Rattle.mpx_board.specs.Looks.{parts_of}
-use Rattle.mpx_format.specs.Encoding.{length_told}
 use Rattle.mpx_node.specs.Nodes.{NodeView}
 use Rattle.mpx_node.specs.Deltas.{SaysWhatItHas}
 use Rattle.mpx_node.specs.Shown.{node_of}
+use Rattle.mpx_node.proofs.Storing.{stores_lent, stored_there}
 use Rattle.mpx_bus.specs.declared.act.Act.TheVariants as A
 use Rattle.mpx_bus.specs.Frames.{AreSpelled}
 use Rattle.mpx_bus.specs.Views.{seat_of}
-use Rattle.mpx_bus.specs.Berths.{Berth, berth, node_in, GoesOn, AreDeltas}
-use Rattle.mpx_bus.proofs.Spelled.{fit_more}
+use Rattle.mpx_bus.specs.Berths.{Berth, berth, node_in, GoesOn, AreDeltas, IsPort}
 use Rattle.mpx_bus.proofs.Ports.{port_said, new_kept, new_deltas, deltas_some}
 use Rattle.mpx_bus.proofs.Goes.{goes_on}
 use Rattle.mpx_bus.proofs.port.Port.new_list.Goals as goal
 
-pub frames_of-requires : goal.frames_of-requires
-frames_of-requires c = subst (λ bs. All (λ board. length_told (parts_of board) ≤ 1048576) bs) (sym c.as_slice.ensures.value) (fit_more _ 1048576 c.in_ok-said.field-0.parts.items (omega (arith, c.requires.most)) c.in_ok-said.ensures.fit)
+pub acknowledge-requires : goal.acknowledge-requires
+acknowledge-requires c = let lacks = c.in_ok-said.ensures.made.lacks in record { made = (lacks.after, stores_lent c.in_ok-said.field-0.said (node_of c.self.inside.node) _ lacks.after c.in_ok-said.ensures.node lacks.stores) }
 
 pub invariant_of-self : goal.invariant_of-self
 invariant_of-self c =
     let i = c.self.invariant in
+    (i.0, i.1, subst (λ n. IsPort n (view c.self.inside.pass) (view c.self.inside.line)) (sym c.lacking_frames.ensures.node) i.2, i.3)
+
+pub invariant_of-self-2 : goal.invariant_of-self-2
+invariant_of-self-2 c =
+    let i = c.self.invariant in
     let v = view c.self.inside.pass in
-    let made = c.in_ok-said.ensures in
-    let after = sym (c.acknowledge.ensures.gives _ made.stores) in
+    let kept = c.in_ok-said.ensures.made in
+    let made = kept.lacks in
+    let after = stored_there c.in_ok-said.field-0.said (node_of c.self.inside.node) _ made.after _ c.in_ok-said.ensures.node made.stores c.acknowledge.ensures.gives in
     let said = port_said (node_of c.self.inside.node) (node_of c.acknowledge.new.self) v (view c.self.inside.line) (view c.acknowledged.new.line) c.board.result.now i.2 (subst (SaysWhatItHas (node_of c.self.inside.node)) after made.own) c.board.ensures c.acknowledged.ensures.noted in
-    let spelled = subst (AreSpelled c.in_ok-frames.frames.items) c.as_slice.ensures.value c.in_ok-frames.ensures in (
+    let spelled = subst (λ frames. AreSpelled frames kept.parts) (sym c.in_ok-frames.ensures) kept.spelled in (
       i.0,
       (c.acknowledged.ensures.same.0 ∙ i.1.0, c.acknowledged.ensures.same.2 ∙ i.1.1),
       said,
-      new_kept v.setup (seat_of v).me (view c.acknowledged.new.line) _ _ _ c.in_ok-frames.frames.items c.in_ok-said.field-0.parts.items made (after ∙ said.node_is) spelled,
+      new_kept v.setup (seat_of v).me (view c.acknowledged.new.line) _ _ _ c.in_ok-frames.frames.items kept.parts made (after ∙ said.node_is) spelled,
     )
 
 pub returns-clause-port : goal.returns-clause-port
@@ -40,10 +44,11 @@ returns-clause-port c =
 
 pub returns-clause-ok : goal.returns-clause-ok
 returns-clause-ok c =
-    let made = c.in_ok-said.ensures in
-    let now = sym (c.acknowledge.ensures.gives _ made.stores) ∙ (invariant_of-self c).2.node_is in
-    let spelled = subst (AreSpelled c.in_ok-frames.frames.items) c.as_slice.ensures.value c.in_ok-frames.ensures in
-    let deltas = new_deltas c.args.limit (node_of c.self.inside.node) _ c.in_ok-frames.frames.items c.in_ok-said.field-0.parts.items made spelled in
+    let kept = c.in_ok-said.ensures.made in
+    let made = kept.lacks in
+    let now = stored_there c.in_ok-said.field-0.said (node_of c.self.inside.node) _ made.after _ c.in_ok-said.ensures.node made.stores c.acknowledge.ensures.gives ∙ (invariant_of-self-2 c).2.node_is in
+    let spelled = subst (λ frames. AreSpelled frames kept.parts) (sym c.in_ok-frames.ensures) kept.spelled in
+    let deltas = new_deltas c.args.limit (node_of c.self.inside.node) _ c.in_ok-frames.frames.items kept.parts made spelled in
     record {
       said = c.board.result.now;
       journal = c.acknowledged.ensures.noted ∙ ap (λ (b : Berth). b.journal ++ A.Acknowledged c.board.result.now ∷ []) c.self.view_is;

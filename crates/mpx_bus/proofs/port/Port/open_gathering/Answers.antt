@@ -17,7 +17,7 @@ invariant_of-self c =
     let i = c.self.invariant in
     let v = view c.self.inside.pass in
     let a = A.Gathered c.args.parent.now (to_z w128 (of_z w128 c.args.tag)) c.args.ranks.now in
-    let does = gather_does c.args.parent.now (to_z w128 (of_z w128 c.args.tag)) c.args.ranks.now c.in-Ok.name (process_at v.setup (seat_of v).me (view c.self.inside.line)) (node_of c.self.inside.node) (node_of c.open_gathering.new.self) i.2.node_is c.in-Ok.ensures in (
+    let does = gather_does v.setup.operations c.args.parent.now (to_z w128 (of_z w128 c.args.tag)) c.args.ranks.now c.in-Ok.name (process_at v.setup (seat_of v).me (view c.self.inside.line)) (node_of c.self.inside.node) (node_of c.open_gathering.new.self) i.2.node_is c.in-Ok.ensures in (
       i.0,
       (c.gathered.ensures.same.0 ∙ i.1.0, c.gathered.ensures.same.2 ∙ i.1.1),
       port_local (node_of c.self.inside.node) (node_of c.open_gathering.new.self) v (view c.self.inside.line) (view c.gathered.new.line) a i.2 tt does c.gathered.ensures.noted,

@@ -14,7 +14,7 @@ invariant_of-self c =
     let i = c.self.invariant in
     let v = view c.self.inside.pass in
     let a = A.Pruned c.args.name.now c.args.number in
-    let does = prune_does c.args.name.now c.args.number c.in-Ok.field-0 (process_at v.setup (seat_of v).me (view c.self.inside.line)) (node_of c.self.inside.node) (node_of c.prune.new.self) i.2.node_is c.in-Ok.ensures.answer c.in-Ok.ensures.ok in (
+    let does = prune_does v.setup.operations c.args.name.now c.args.number c.in-Ok.field-0 (process_at v.setup (seat_of v).me (view c.self.inside.line)) (node_of c.self.inside.node) (node_of c.prune.new.self) i.2.node_is c.in-Ok.ensures.answer c.in-Ok.ensures.ok in (
       i.0,
       (c.pruned.ensures.same.0 ∙ i.1.0, c.pruned.ensures.same.2 ∙ i.1.1),
       port_local (node_of c.self.inside.node) (node_of c.prune.new.self) v (view c.self.inside.line) (view c.pruned.new.line) a i.2 tt does c.pruned.ensures.noted,

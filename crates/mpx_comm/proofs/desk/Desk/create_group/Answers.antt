@@ -1,13 +1,12 @@
 use mir.Syntax.{w128}
-use Rattle.std.proofs.Common.{inr, subst}
+use Rattle.std.proofs.Common.{inr}
 use Rattle.std.proofs.lemmas.Int.{to_z-of_z}
 use Rattle.mpx_comm.specs.Lines.{create_group}
-use Rattle.mpx_comm.specs.Requests.{Calls}
+use Rattle.mpx_comm.proofs.Posting.{calls_by_row}
 use Rattle.mpx_comm.proofs.desk.Desk.create_group.Goals as goal
 
 pub returns-in-Ok : goal.returns-in-Ok
 returns-in-Ok g c =
-    let call = subst (λ draft. Calls g.H.Host.node g.H.Host.turned g.H.Host.turn_refused c.in-Ok.gathering.name draft c.args.turns c.call_on.result c.open_gathering.new.self.host c.call_on.new.self.host c.open_gathering.new.self.requests.keys c.call_on.new.self.requests.keys) c.create_group-draft.ensures c.call_on.ensures in
-    let since = subst (λ before. Calls g.H.Host.node g.H.Host.turned g.H.Host.turn_refused c.in-Ok.gathering.name create_group c.args.turns c.call_on.result c.open_gathering.new.self.host c.call_on.new.self.host before c.call_on.new.self.requests.keys) c.open_gathering.ensures.requests call in
+    let calls = calls_by_row _ g.H.Host.node g.H.Host.turned g.H.Host.turn_refused c.in-Ok.gathering.name c.create_group-draft.result create_group c.args.turns c.call_on.result c.open_gathering.new.self.host c.call_on.new.self.host c.open_gathering.new.self.requests.keys c.args.self.now.requests.keys c.call_on.new.self.requests.keys c.create_group-draft.ensures c.open_gathering.ensures.requests c.call_on.ensures in
     let opens = rw (to_z-of_z w128 c.args.tag c.ranges.tag) at c.in-Ok.ensures.opens in
-    inr (c.in-Ok.gathering.name, c.open_gathering.new.self.host, opens, c.open_gathering.ensures.no_turn, since)
+    inr (c.in-Ok.gathering.name, c.open_gathering.new.self.host, opens, c.open_gathering.ensures.no_turn, calls)

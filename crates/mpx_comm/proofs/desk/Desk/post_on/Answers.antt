@@ -10,28 +10,28 @@ pub invariant_of-self-2 : goal.invariant_of-self-2
 invariant_of-self-2 g c =
     let is : c.new.result ≡ record { name = c.args.name.now; call = c.in_ok-call.call } = c.new.ensures ∙ (λ i. record { name = c.in-Ok.ensures.names.1 i; call = c.in_ok-call.call }) in
     let keys : c.insert.new.self.keys ≡ insert_key same_request c.args.self.now.requests.keys c.new.result = ok_holds c.insert.result (c.insert.ensures.succeeds c.in-Ok.ensures.room) c.insert.ensures.keys ∙ ap (λ (rs : List Request). insert_key same_request rs c.new.result) c.room_and_names.ensures.keys in
-    record { posted = (post_done (g.H.Host.node c.args.self.now.host) (g.H.Host.node c.post.new.self) c.args.name.now c.in_ok-call.call c.args.draft c.args.self.now.requests.keys c.insert.new.self.keys c.new.result (g.met.H.Host.bounded c.args.self.now.host c.args.name.now) c.args.self.now.posted c.in_ok-call.ensures.posts is keys).1 }
+    record { posted = (post_done _ (g.H.Host.node c.args.self.now.host) (g.H.Host.node c.post.new.self) c.args.name.now c.in_ok-call.call c.args.draft c.args.self.now.requests.keys c.insert.new.self.keys c.new.result (g.met.H.Host.bounded c.args.self.now.host c.args.name.now) c.args.self.now.posted c.in_ok-call.ensures.posts is keys).1 }
 
 pub returns-clause-asks : goal.returns-clause-asks
 returns-clause-asks g c =
     let is : c.new.result ≡ record { name = c.args.name.now; call = c.in_ok-call.call } = c.new.ensures ∙ (λ i. record { name = c.in-Ok.ensures.names.1 i; call = c.in_ok-call.call }) in
     let same : c.new-2.result ≡ c.new.result = c.new-2.ensures ∙ (λ i. record { name = c.in-Ok.ensures.names.0 i; call = c.in_ok-call.call }) ∙ sym is in
     let keys : c.insert.new.self.keys ≡ insert_key same_request c.args.self.now.requests.keys c.new.result = ok_holds c.insert.result (c.insert.ensures.succeeds c.in-Ok.ensures.room) c.insert.ensures.keys ∙ ap (λ (rs : List Request). insert_key same_request rs c.new.result) c.room_and_names.ensures.keys in
-    let done = post_done (g.H.Host.node c.args.self.now.host) (g.H.Host.node c.post.new.self) c.args.name.now c.in_ok-call.call c.args.draft c.args.self.now.requests.keys c.insert.new.self.keys c.new.result (g.met.H.Host.bounded c.args.self.now.host c.args.name.now) c.args.self.now.posted c.in_ok-call.ensures.posts is keys in (
+    let done = post_done _ (g.H.Host.node c.args.self.now.host) (g.H.Host.node c.post.new.self) c.args.name.now c.in_ok-call.call c.args.draft c.args.self.now.requests.keys c.insert.new.self.keys c.new.result (g.met.H.Host.bounded c.args.self.now.host c.args.name.now) c.args.self.now.posted c.in_ok-call.ensures.posts is keys in (
       same ∙ done.0.0,
       done.0.1,
       done.0.2 ∙ ap (λ (r : Request). c.args.self.now.requests.keys ++ r ∷ []) (sym same),
-      posted_exactly (g.H.Host.node c.args.self.now.host) (g.H.Host.node c.post.new.self) c.args.name.now c.in_ok-call.call c.args.draft c.in_ok-call.ensures.posts,
+      posted_exactly _ (g.H.Host.node c.args.self.now.host) (g.H.Host.node c.post.new.self) c.args.name.now c.in_ok-call.call c.args.draft c.in_ok-call.ensures.posts,
     )
 
 pub returns-in-Some-clause-asks : goal.returns-in-Some-clause-asks
-returns-in-Some-clause-asks g c = (is_refused (checked_on (g.H.Host.node c.args.self.now.host) c.args.name.now c.args.draft) c.in-Some.refusal c.in-Some.ensures, refl, refl)
+returns-in-Some-clause-asks g c = (is_refused (checked_on _ (g.H.Host.node c.args.self.now.host) c.args.name.now c.args.draft) c.in-Some.refusal c.in-Some.ensures, refl, refl)
 
 pub returns-in-Some-clause-no_turn : goal.returns-in-Some-clause-no_turn
 returns-in-Some-clause-no_turn g c = g.met.H.Host.turns_none c.args.self.now.host
 
 pub returns-in_default-room_and_names-clause-asks : goal.returns-in_default-room_and_names-clause-asks
-returns-in_default-room_and_names-clause-asks g c = (inr (refl, accepted (checked_on (g.H.Host.node c.args.self.now.host) c.args.name.now c.args.draft) c.in_default.ensures), refl, c.room_and_names.ensures.keys)
+returns-in_default-room_and_names-clause-asks g c = (inr (refl, accepted (checked_on _ (g.H.Host.node c.args.self.now.host) c.args.name.now c.args.draft) c.in_default.ensures), refl, c.room_and_names.ensures.keys)
 
 pub returns-in_default-room_and_names-clause-no_turn : goal.returns-in_default-room_and_names-clause-no_turn
 returns-in_default-room_and_names-clause-no_turn g c = g.met.H.Host.turns_none c.args.self.now.host

@@ -1,9 +1,8 @@
-use Rattle.std.proofs.Common.{subst, arith}
-use Rattle.mpx_post.specs.Drafts.{Checks, at, checked}
-use Rattle.mpx_post.proofs.Checks.{room_of_post}
+use Rattle.std.proofs.Common.{arith}
+use Rattle.mpx_post.specs.Drafts.{at}
+use Rattle.mpx_post.proofs.Checks.{room_of_call}
 use Rattle.mpx_post.proofs.draft.Draft.check_call.Goals as goal
 
 pub returns-clause-room : goal.returns-clause-room
-returns-clause-room c =
-    room_of_post c.args.birth.now c.args.me (at c.args.name.now c.args.call c.args.closed) c.args.self c.check.result (omega (arith, c.ranges.call.fits))
-    (subst (λ a. Checks (checked c.args.birth.now c.args.me a c.args.self) c.check.result) c.on.ensures c.check.ensures)
+returns-clause-room g c =
+    room_of_call _ c.args.birth.now c.args.me c.on.result (at c.args.name.now c.args.call c.args.closed) c.args.self c.check.result c.on.ensures (omega (arith, c.ranges.call.fits)) c.check.ensures

@@ -1,6 +1,6 @@
 use Rattle.std.proofs.Common.{◌∙◌, nat_eq, refl, sym}
-use Rattle.mpx_post.specs.Equality.{same_given, same_items, same_operation, same_option}
-use Rattle.mpx_post.proofs.Equality.{eight_tests, kinds_test, modes_test, operations_test, options_test}
+use Rattle.mpx_post.specs.Equality.{same_given, same_items, same_option}
+use Rattle.mpx_post.proofs.Equality.{eight_tests, kinds_test, modes_test, options_test}
 use Rattle.mpx_post.proofs.post.PostExact.same.Goals as goal
 
 pub returns : goal.returns
@@ -11,7 +11,7 @@ returns c =
     (c.eq.ensures ∙ kinds_test left.kind right.kind)
     (c.eq-2.ensures ∙ modes_test left.mode right.mode)
     (c.eq-3.ensures ∙ options_test nat_eq nat_eq (λ a b. refl) left.root right.root)
-    (c.eq-4.ensures ∙ options_test _ same_operation operations_test left.op right.op)
+    c.have_same_op.ensures
     c.same.ensures
     c.same-2.ensures
     (c.are_same.ensures ∙ (λ i. same_option same_items (c.items.ensures.value i) (c.items-2.ensures.value i)) ∙ sym (λ i. same_option same_items (c.self.view_is i).items (c.other.view_is i).items))

@@ -8,17 +8,17 @@ pub loop-moved-init : goal.loop-moved-init
 loop-moved-init g c = stayed
 
 pub loop-moved-preserved : goal.loop-moved-preserved
-loop-moved-preserved g c = moved_on c.loop-moved.invariant (subst (Moves g.C.Carrier.terms (rank_of g.C.Carrier.place c.loop-moved.self) c.loop-moved.carrier (rank_of g.C.Carrier.place c.move_on.new.self) c.move_on.new.carrier) c.if-branch.true c.in_ok-move_on.ensures)
+loop-moved-preserved g c = moved_on c.loop-moved.invariant (subst (Moves (g.C.Carrier.terms _) (rank_of g.C.Carrier.place c.loop-moved.self) c.loop-moved.carrier (rank_of g.C.Carrier.place c.move_on.new.self) c.move_on.new.carrier) c.if-branch.true c.in_ok-move_on.ensures)
 
 pub loop-moved-smaller : goal.loop-moved-smaller
 loop-moved-smaller g c =
     let place = g.C.Carrier.place in
-    let moves = subst (Moves g.C.Carrier.terms (rank_of place c.loop-moved.self) c.loop-moved.carrier (rank_of place c.move_on.new.self) c.move_on.new.carrier) c.if-branch.true c.in_ok-move_on.ensures in
-    move_leaves g.C.Carrier.terms (rank_of place c.loop-moved.self) c.loop-moved.carrier (rank_of place c.move_on.new.self) c.move_on.new.carrier moves
+    let moves = subst (Moves (g.C.Carrier.terms _) (rank_of place c.loop-moved.self) c.loop-moved.carrier (rank_of place c.move_on.new.self) c.move_on.new.carrier) c.if-branch.true c.in_ok-move_on.ensures in
+    move_leaves (g.C.Carrier.terms _) (rank_of place c.loop-moved.self) c.loop-moved.carrier (rank_of place c.move_on.new.self) c.move_on.new.carrier moves
 
 pub returns : goal.returns
 returns g c =
-    let terms = g.C.Carrier.terms in
+    let terms = g.C.Carrier.terms _ in
     let place = g.C.Carrier.place in
     let old : RankView g.row.C-Communicator.Denot = rank_of place c.args.self.now in
     let mid : RankView g.row.C-Communicator.Denot = rank_of place c.loop-moved.self in

@@ -9,7 +9,7 @@ use Rattle.mpx_rank.proofs.rank.Rank.hear.Goals as goal
 
 pub returns-in-NotYet : goal.returns-in-NotYet
 returns-in-NotYet g c =
-    let terms = g.C.Carrier.terms in
+    let terms = g.C.Carrier.terms _ in
     let place = g.C.Carrier.place in
     let old = rank_of place c.args.self.now in
     let w : WaitView = wait_of place c.args.wait in
@@ -20,7 +20,7 @@ returns-in-NotYet g c =
 
 pub returns-in_ok-bind-in-Told : goal.returns-in_ok-bind-in-Told
 returns-in_ok-bind-in-Told g c =
-    let terms = g.C.Carrier.terms in
+    let terms = g.C.Carrier.terms _ in
     let place = g.C.Carrier.place in
     let old = rank_of place c.args.self.now in
     let w : WaitView = wait_of place c.args.wait in

@@ -1,6 +1,8 @@
-use Rattle.std.proofs.Common.{◌≡◌, ap, sym, ◌∙◌, subst, refl, Some, None}
+use Rattle.std.proofs.Common.{◌≡◌, List, map, ap, sym, ◌∙◌, subst, refl, Some, None}
 use Rattle.std.specs.Prelude.{Ok, Err}
 use Rattle.std.specs.Option.{option_copied, option_map}
+use Rattle.mpx_num.specs.declared.own.Operation.{Operation}
+use Rattle.mpx_num.specs.Own.{operation_of}
 use Rattle.mpx_statement.specs.Statements.{posted_on, started_as}
 use Rattle.mpx_evaluation.specs.Ranks.{Refused}
 use Rattle.mpx_evaluation.specs.Standing.{looked_up}
@@ -12,7 +14,7 @@ use Rattle.mpx_rank.proofs.rank.Rank.post_next.Goals as goal
 
 pub returns-in_ok-bind-in-Some : goal.returns-in_ok-bind-in-Some
 returns-in_ok-bind-in-Some g c =
-    let terms = g.C.Carrier.terms in
+    let terms = g.C.Carrier.terms _ in
     let place = g.C.Carrier.place in
     let old = rank_of place c.args.self.now in
     let posting = c.args.posting.now in
@@ -28,7 +30,7 @@ returns-in_ok-bind-in-Some g c =
 
 pub returns-in-None : goal.returns-in-None
 returns-in-None g c =
-    let terms = g.C.Carrier.terms in
+    let terms = g.C.Carrier.terms _ in
     let place = g.C.Carrier.place in
     let old = rank_of place c.args.self.now in
     let posting = c.args.posting.now in
@@ -43,7 +45,7 @@ returns-in-None g c =
 
 pub returns-in-Ok-None : goal.returns-in-Ok-None
 returns-in-Ok-None g c =
-    let terms = g.C.Carrier.terms in
+    let terms = g.C.Carrier.terms _ in
     let place = g.C.Carrier.place in
     let old = rank_of place c.args.self.now in
     let posting = c.args.posting.now in
@@ -54,10 +56,19 @@ returns-in-Ok-None g c =
 
 pub returns-in-Err : goal.returns-in-Err
 returns-in-Err g c =
-    let terms = g.C.Carrier.terms in
+    let terms = g.C.Carrier.terms _ in
     let old = rank_of g.C.Carrier.place c.args.self.now in
     let posting = c.args.posting.now in
     let on : option_copied c.communicator-on.result ≡ communicator_in (old.bound (posted_on posting)) = c.communicator-on.ensures ∙ ap (λ w. communicator_in (old.bound w)) c.on.ensures in
     let tried = subst (λ o. terms.tries c.args.carrier.now old.me posting o (Err c.in-Err.refusal) c.post.new.self) on c.in-Err.ensures in
     subst (λ (r : RankView g.row.C-Communicator.Denot). Move terms old c.args.carrier.now r c.post.new.self) (sym c.in_ok-be_refused-in-Err.ensures.line)
     (is_refused posting c.args.rest.now c.in-Err.refusal (line_text (Refused c.in-Err.refusal)) c.requires.waits c.requires.todo c.in_ok-be_refused-in-Err.ensures.other tried refl)
+
+pub post-requires : goal.post-requires
+post-requires g c =
+    let ops : List Operation = map (λ b. let o = goal.OwnOp-dyn g (b.vtable, b.value) in operation_of (o.word_bytes b.value) (o.fits_type b.value) (o.combination b.value)) c.args.ops.now.list.items in
+    let terms = g.C.Carrier.terms ops in
+    let old = rank_of g.C.Carrier.place c.args.self.now in
+    let posting = c.args.posting.now in
+    let on : option_copied c.communicator-on.result ≡ communicator_in (old.bound (posted_on posting)) = c.communicator-on.ensures ∙ ap (λ w. communicator_in (old.bound w)) c.on.ensures in
+    subst (λ o. terms.may c.args.carrier.now old.me posting o) (sym on) (c.requires.may posting c.args.rest.now c.requires.waits c.requires.todo)

@@ -1,13 +1,17 @@
-use Rattle.std.proofs.Common.{◌∙◌, ℕ, List, ap, subst}
+use Rattle.std.proofs.Common.{◌∙◌, ℕ, List, sym, ap, subst}
 use Rattle.mpx_name.specs.Name.{Name}
 use Rattle.mpx_board.specs.Looks.{look}
 use Rattle.mpx_node.specs.Nodes.{NodeView}
+use Rattle.mpx_bus.specs.declared.act.Setup.{Setup}
 use Rattle.mpx_bus.specs.Berths.{Berth}
 use Rattle.mpx_shared.specs.Docks.{MakesNoPost}
 use Rattle.mpx_shared.specs.Gossip.{Pulls}
 use Rattle.mpx_shared.proofs.Docked.{moored_later, moored_leaves}
 use Rattle.mpx_shared.proofs.Gossiping.{pulls_then}
 use Rattle.mpx_shared.proofs.moored.Moored.pull.Goals as goal
+
+pub pull_on-pull-requires-clause-list : goal.pull_on-pull-requires-clause-list
+pull_on-pull-requires-clause-list g c = c.requires.list ∙ ap (λ (s : Setup). s.operations) (sym c.self.invariant.1.setup_is)
 
 pub invariant_of-self : goal.invariant_of-self
 invariant_of-self g c = (

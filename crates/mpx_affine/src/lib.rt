@@ -1,0 +1,13 @@
+//! The composition of affine maps, an operation that a job brings itself: [`Affine`].
+#![tactic(auto)]
+
+mod affine;
+
+pub use affine::Affine;
+
+#[cfg(test)]
+mod folds;
+#[cfg(test)]
+mod refusals;
+#[cfg(test)]
+mod threads;

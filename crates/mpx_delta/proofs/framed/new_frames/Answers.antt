@@ -1,0 +1,26 @@
+-- The board says what it has while its frames are made, and then takes that back.
+use Rattle.std.proofs.Common.{ap, sym, subst}
+use Rattle.mpx_board.specs.Contexts.{look_of}
+use Rattle.mpx_board.specs.Looks.{parts_of}
+use Rattle.mpx_board.specs.Raised.{Leads}
+use Rattle.mpx_board.specs.Views.{view_of_acks}
+use Rattle.mpx_delta.specs.Digests.{numbers_of}
+use Rattle.mpx_delta.proofs.Framing.{frames_lack, leads_between, led_back}
+use Rattle.mpx_delta.proofs.framed.new_frames.Goals as goal
+
+pub exchange-said-requires : goal.exchange-said-requires
+exchange-said-requires c = (parts_of c.args.board.now, subst (λ v. Leads c.in_ok-before.before v (parts_of c.args.board.now)) (sym c.lean_frames-made.ensures.board) c.in_ok-before.ensures.back)
+
+pub returns-in-Ok-clause-board : goal.returns-in-Ok-clause-board
+returns-in-Ok-clause-board c = ap look_of (led_back c.in_ok-before.before (parts_of c.args.board.now) _ _ _ c.in_ok-before.ensures.back c.lean_frames-made.ensures.board c.exchange-said.ensures.new)
+
+pub returns-clause-board : goal.returns-clause-board
+returns-clause-board c = ap look_of (led_back c.in_ok-before.before (parts_of c.args.board.now) _ _ _ c.in_ok-before.ensures.back c.lean_frames-made.ensures.board c.exchange-said.ensures.new)
+
+pub returns-in-Ok-clause-made : goal.returns-in-Ok-clause-made
+returns-in-Ok-clause-made c =
+    let old = parts_of c.args.board.now in
+    let mid = parts_of c.say.new.self in
+    let back = led_back c.in_ok-before.before old mid _ _ c.in_ok-before.ensures.back c.lean_frames-made.ensures.board c.exchange-said.ensures.new in
+    frames_lack c.args.me c.args.processes c.args.limit (numbers_of (view_of_acks c.in_ok-digest.digest)) old mid c.in_ok-before.before c.exchange-said.result _ c.in_ok-digest.ensures.digest c.in_ok-before.ensures.ok c.in_ok-before.ensures.back
+    (leads_between c.exchange-said.result old mid _ _ back c.lean_frames-made.ensures.board c.exchange-said.ensures.back) c.in-Ok.ensures.frames

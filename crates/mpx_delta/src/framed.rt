@@ -1,0 +1,146 @@
+// What a process says that it has, and the frames of what others may lack of its board, without a copy of what all say.
+ghost use Rattle.std.specs.Prelude.{◌≡◌, ◌<◌, ◌≤◌, All, IfOk, IfSome, map};
+ghost use Rattle.mpx_board.specs.Contexts.{look_of};
+ghost use Rattle.mpx_board.specs.Looks.{look, parts_of};
+ghost use Rattle.mpx_format.specs.declared.versions.Version.TheVariants.{Two};
+ghost use Rattle.mpx_format.specs.Decoding.{Spells};
+ghost use Rattle.mpx_format.specs.Encoding.{length_told};
+ghost use Rattle.mpx_delta.specs.Digests.{common_on, without};
+ghost use Rattle.mpx_delta.specs.Lacking.{AreFramesOf, AreLacking, AreSpelled};
+
+use crate::delta::lean_contexts;
+use crate::digest::digest_of;
+use crate::posted::common_of_posts;
+use join_core::{OutOfMemory, Pair};
+use join_nest::Keyed;
+use mpx_board::{Board, Raised};
+use mpx_encode::{EncodeError, encode};
+use mpx_group::Proc;
+use mpx_parts::parts;
+use std::alloc::Global;
+
+/// What a process says that it has, to be stored on its board, and the frames of what others may lack of its board.
+#[derive(Debug, Drop)]
+pub struct NewFrames {
+    pub said: Raised,
+    pub frames: Vec<Vec<u8>>,
+}
+
+/// Makes what [`new_list`](crate::new_list) makes, with frames in place of the parts. What all processes say isn't copied for
+/// that: the board lends it, and stays as it is, also where memory is refused.
+pub fn new_frames(
+    alloc: Global,
+    board: &mut Board,
+    me: Proc,
+    processes: u8,
+    limit: usize,
+) -> Result<NewFrames, OutOfMemory>
+    requires some { 0 < processes }
+    requires few { processes ≤ 64 }
+    requires least { 524288 ≤ limit }
+    requires most { limit ≤ 1048576 }
+    ensures board { look board.new ≡ look board.old }
+    ensures made { IfOk result (λ made. AreLacking me processes limit (look board.old) made.said (map (λ frame. frame.items) made.frames.items)) }
+{
+    let digest = digest_of(alloc, board)?;
+    let before = board.say(alloc, me, &digest)?;
+    let made = lean_frames(alloc, board, processes, limit);
+    let said = board.exchange(before);
+    match made {
+        Ok(frames) => Ok(NewFrames { said, frames }),
+        Err(e) => {
+            drop(said);
+            Err(e)
+        }
+    }
+}
+
+// The frames of the board without the posts that all of so many processes say that they have, in parts.
+fn lean_frames(
+    alloc: Global,
+    board: &mut Board,
+    processes: u8,
+    limit: usize,
+) -> Result<Vec<Vec<u8>>, OutOfMemory>
+    requires some { 0 < processes }
+    requires few { processes ≤ 64 }
+    requires least { 524288 ≤ limit }
+    requires most { limit ≤ 1048576 }
+    ensures board { parts_of board.new ≡ parts_of board.old }
+    ensures frames { IfOk result (λ made. AreFramesOf limit (without (common_on processes (look board.old)) (look board.old)) (map (λ frame. frame.items) made.items)) }
+{
+    let mut lean = lean_of(alloc, board, processes)?;
+    board.swap_acks(&mut lean);
+    let made = frames_of(alloc, &lean, limit);
+    board.swap_acks(&mut lean);
+    drop(lean);
+    made
+}
+
+// The contexts of the board without those posts, and nothing that anyone says.
+fn lean_of(alloc: Global, board: &Board, processes: u8) -> Result<Board, OutOfMemory>
+    requires some { 0 < processes }
+    requires few { processes ≤ 64 }
+    ensures { IfOk result (λ made. look_of ((parts_of made).0, (parts_of board.now).1) ≡ without (common_on processes (look board.now)) (look board.now)) }
+{
+    let shared = common_of_posts(alloc, board, board, processes)?;
+    let first = lean_contexts(alloc, &board.pair().first, &shared)?;
+    let second = Keyed::new(alloc);
+    Ok(Board::from_tidy(Pair { first, second }))
+}
+
+// The frames of the board in parts: one where it fits.
+fn frames_of(alloc: Global, board: &Board, limit: usize) -> Result<Vec<Vec<u8>>, OutOfMemory>
+    requires least { 524288 ≤ limit }
+    requires most { limit ≤ 1048576 }
+    ensures { IfOk result (λ made. AreFramesOf limit (look board.now) (map (λ frame. frame.items) made.items)) }
+{
+    let Some(frame) = whole_frame(alloc, board, limit)? else {
+        let parts = parts(alloc, board, limit)?;
+        return all_frames(alloc, &parts);
+    };
+    let mut made = Vec::new(alloc);
+    made.push(frame)?;
+    Ok(made)
+}
+
+// The frame of the whole board, where it has at most so many bytes.
+fn whole_frame(alloc: Global, board: &Board, limit: usize) -> Result<Option<Vec<u8>>, OutOfMemory>
+    ensures fits { IfOk result (λ made. IfSome made (λ frame. length_told (parts_of board.now) ≤ limit)) }
+    ensures spelled { IfOk result (λ made. IfSome made (λ frame. Spells Two frame.items (parts_of board.now))) }
+{
+    match encode(alloc, board) {
+        Ok(frame) => {
+            if limit < frame.len() {
+                return Ok(None);
+            }
+            Ok(Some(frame))
+        }
+        Err(EncodeError::TooLong) => Ok(None),
+        Err(EncodeError::OutOfMemory) => Err(OutOfMemory),
+    }
+}
+
+// The frames of boards that aren't too long, one for each.
+fn all_frames(alloc: Global, boards: &[Board]) -> Result<Vec<Vec<u8>>, OutOfMemory>
+    requires { All (λ board. length_told (parts_of board) ≤ 1048576) boards.now }
+    ensures { IfOk result (λ made. AreSpelled (map (λ frame. frame.items) made.items) boards.now) }
+{
+    let mut made = Vec::new(alloc);
+    for board in boards {
+        made.push(frame_of(alloc, board)?)?;
+    }
+    Ok(made)
+}
+
+// The frame of a board that isn't too long.
+fn frame_of(alloc: Global, board: &Board) -> Result<Vec<u8>, OutOfMemory>
+    requires { length_told (parts_of board.now) ≤ 1048576 }
+    ensures { IfOk result (λ frame. Spells Two frame.items (parts_of board.now)) }
+{
+    match encode(alloc, board) {
+        Ok(frame) => Ok(frame),
+        Err(EncodeError::TooLong) => unreachable!(),
+        Err(EncodeError::OutOfMemory) => Err(OutOfMemory),
+    }
+}
