@@ -6,8 +6,8 @@ use Rattle.std.specs.Fmt.{decimal}
 use Rattle.hex.specs.Hex.{decode_of, encode_lower}
 use Rattle.hex.specs.declared.error.FromHexError.{FromHexError}
 use Rattle.mpx_board.specs.Parts.{PartsView}
-use Rattle.mpx_format.specs.declared.faults.WireError.{WireError}
-use Rattle.mpx_format.specs.declared.faults.WireError.TheVariants as E
+use Rattle.mpx_format.specs.declared.defects.WireError.{WireError}
+use Rattle.mpx_format.specs.declared.defects.WireError.TheVariants as E
 use Rattle.mpx_format.specs.declared.versions.Version.TheVariants.{Two}
 use Rattle.mpx_format.specs.Contexts.{frame}
 use Rattle.mpx_format.specs.Decoding.{decoded}
@@ -61,7 +61,7 @@ abbrev pub all_told : List ℕ → List ℕ
 all_told text = flat_map line_told (lines text)
 
 -- what is told of all that the reader gives is out
-pub record Prints (there old new : Option (List ℕ)) : Type 0 where
+pub record PrintsLines (there old new : Option (List ℕ)) : Type 0 where
   pub text : List ℕ
   pub all : IfSome there (λ bytes. text ≡ bytes)
   pub written : Appends old new (all_told text)

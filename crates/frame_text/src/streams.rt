@@ -1,6 +1,6 @@
 //! From a reader to a writer.
 ghost use Rattle.std.specs.Prelude.{OnOk};
-ghost use Rattle.frame_text.specs.Lines.{Prints};
+ghost use Rattle.frame_text.specs.Lines.{PrintsLines};
 
 use crate::lines::all_told;
 use std::alloc::Global;
@@ -13,7 +13,7 @@ pub fn print_frames<R: Read, W: Write>(
     reader: &mut R,
     writer: &mut W,
 ) -> io::Result<()>
-    ensures { OnOk result (Prints (R.remaining reader.old) (W.contents writer.old) (W.contents writer.new)) }
+    ensures { OnOk result (PrintsLines (R.remaining reader.old) (W.contents writer.old) (W.contents writer.new)) }
 {
     let mut text = Vec::new(alloc);
     reader.read_to_end(&mut text)?;

@@ -1,4 +1,4 @@
-// Groups of processes. No function owns more than it looks at: each exit of a function walks the drop of all that it owns.
+//! Groups of processes. No function owns more than it looks at: each exit of a function walks the drop of all that it owns.
 use join_core::{Exact, OutOfMemory};
 use mpx_group::{Comparison, Group, GroupError, Proc, Rank, Triplet};
 use std::alloc::Global;

@@ -1,4 +1,4 @@
-// Names of communicators. No function owns more than it looks at: each exit of a function walks the drop of all that it owns.
+//! Names of communicators. No function owns more than it looks at: each exit of a function walks the drop of all that it owns.
 ghost use Rattle.std.specs.Prelude.{◌<◌, ◌^◌};
 
 use join_core::{Exact, OutOfMemory};

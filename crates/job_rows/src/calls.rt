@@ -97,7 +97,7 @@ fn called<T: Threads + Wait + Sync, R: Read, W: Write>(
     called_by(rt, alloc, &words, reader, out, ops)
 }
 
-// The same, of these words.
+// Makes the call that these words ask for. Gives what the standard error is told, and the status.
 fn called_by<T: Threads + Wait + Sync, R: Read, W: Write>(
     rt: &T,
     alloc: Global,

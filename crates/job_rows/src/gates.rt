@@ -11,19 +11,19 @@ use std::thread::yield_now;
 /// gives up, it does at the fifth push of process 0 alone.
 #[derive(Drop)]
 pub struct Counting {
-    steps: Vec<Steps>,
+    steps: Vec<StepCounts>,
     gives_up: bool,
 }
 
 #[derive(Drop)]
-struct Steps {
+struct StepCounts {
     pops: AtomicU64,
     pushes: AtomicU64,
     // whether each came in its turn
     in_turn: AtomicBool,
 }
 
-impl Steps {
+impl StepCounts {
     fn count(&self, step: Step, nth: u64) {
         let (pops, pushes) = self.counts();
         let wanted = match step {
@@ -58,7 +58,7 @@ impl Counting {
     pub fn new(alloc: Global, processes: u8, gives_up: bool) -> io::Result<Counting> {
         let mut steps = Vec::new(alloc);
         for _process in 0..processes {
-            steps.push(Steps {
+            steps.push(StepCounts {
                 pops: AtomicU64::new(0),
                 pushes: AtomicU64::new(0),
                 in_turn: AtomicBool::new(true),

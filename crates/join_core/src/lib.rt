@@ -10,8 +10,8 @@
 
 mod flats;
 mod laws;
+mod max;
 mod memory;
-mod numbers;
 mod pairs;
 mod values;
 
@@ -19,7 +19,7 @@ pub use flats::Flat;
 pub use laws::{
     delta_laws, empty_delta_laws, join_in_laws, join_laws, joined_laws, leq_laws, same_laws,
 };
+pub use max::Max;
 pub use memory::OutOfMemory;
-pub use numbers::Max;
 pub use pairs::Pair;
 pub use values::{EmptyDelta, Exact, Join, Key};

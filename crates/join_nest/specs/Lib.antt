@@ -16,3 +16,5 @@ pub mod Lift
 pub mod LiftSeen
 pub mod LiftLaws
 pub mod NestLaws
+pub mod Prepared
+pub mod Room

@@ -1,4 +1,4 @@
-// Finite maps, joined key by key.
+//! Finite maps, joined key by key.
 ghost use Rattle.std.specs.Prelude.{◌≡◌, nat_eq, IsTrue, IfOk, OnOk, OnErr};
 ghost use Rattle.std.specs.FinMap.{FinMap, is_sorted, empty, get, entries, len, insert, from_sorted};
 ghost use Rattle.std.specs.Option.{option_map, option_copied};
@@ -6,12 +6,14 @@ ghost use Rattle.join_nest.specs.Between.{keyed_between};
 ghost use Rattle.join_nest.specs.NestLaws.{keyed_between_laws};
 ghost use Rattle.join_nest.specs.Keyed.{keyed_equal, keyed_joining, replaced};
 ghost use Rattle.join_nest.specs.KeyedLaws.{keyed_deltas, keyed_equality, keyed_laws};
+ghost use Rattle.join_nest.specs.Prepared.{joined_there, put_over};
 ghost use Rattle.join_nest.specs.Seen.{keyed_view, seen};
 
 use crate::entries::{
     all_below, join_entries, lacking, lookup, merged, push_copies, put_entry, replace_entry,
     same_entries,
 };
+use crate::prepared::{joined_there, put_reserved};
 use join_core::{EmptyDelta, Exact, Join, Key, OutOfMemory};
 use std::alloc::Global;
 
@@ -75,6 +77,8 @@ impl<K: Key, J: Join> EmptyDelta for Keyed<K, J> {
 }
 
 impl<K: Key, J: Exact> Keyed<K, J> {
+    ghost use Rattle.join_nest.specs.Room.{HasRoom};
+
     /// The map with no entry.
     pub fn new(alloc: Global) -> Keyed<K, J>
         ensures { ⟦<Keyed<K, J> as Exact>⟧.view result ≡ empty }
@@ -146,5 +150,35 @@ impl<K: Key, J: Exact> Keyed<K, J> {
             ≡ replaced (⟦<Keyed<K, J> as Exact>⟧.view self.old) key.now (J.view value) }
     {
         replace_entry(&mut self.entries, key, value)
+    }
+
+    /// Puts in what [`Keyed::prepare`] made of this map as it stands, or others for which there is room. It takes no memory and can't fail.
+    pub fn put_prepared(&mut self, made: Keyed<K, J>)
+        requires { HasRoom self.old made }
+        ensures { (q : K) → get (⟦<Keyed<K, J> as Exact>⟧.view self.new) q
+            ≡ put_over (get (⟦<Keyed<K, J> as Exact>⟧.view made) q) (get (⟦<Keyed<K, J> as Exact>⟧.view self.old) q) }
+    {
+        put_reserved(&mut self.entries, made.entries)
+    }
+}
+
+impl<K: Key, J: Join> Keyed<K, J> {
+    ghost use Rattle.join_nest.specs.Room.{HasRoom};
+
+    /// Makes what joins the other map once [`Keyed::put_prepared`] puts it in: each entry of the other, joined with what stands at
+    /// its key; and makes room for that. The map stays the same.
+    pub fn prepare(
+        &mut self,
+        alloc: Global,
+        other: &Keyed<K, J>,
+    ) -> Result<Keyed<K, J>, OutOfMemory>
+        ensures same { ⟦<Keyed<K, J> as Exact>⟧.view self.new ≡ ⟦<Keyed<K, J> as Exact>⟧.view self.old }
+        ensures made { IfOk result (λ made. (q : K) → get (⟦<Keyed<K, J> as Exact>⟧.view made) q
+            ≡ joined_there J.joining (get (⟦<Keyed<K, J> as Exact>⟧.view other.now) q) (get (⟦<Keyed<K, J> as Exact>⟧.view self.old) q)) }
+        ensures room { IfOk result (λ made. HasRoom self.new made) }
+    {
+        let entries = joined_there(alloc, &self.entries, &other.entries)?;
+        self.entries.reserve(entries.len())?;
+        Ok(Keyed { entries })
     }
 }

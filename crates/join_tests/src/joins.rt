@@ -1,4 +1,4 @@
-// The joins of one value and of two.
+//! The joins of one value and of two.
 use crate::laws::{joins_in, laws_hold};
 use join_core::{Exact, Flat, Join, Key, Max, OutOfMemory, Pair};
 use std::alloc::Global;

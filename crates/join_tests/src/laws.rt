@@ -1,5 +1,5 @@
-// The laws of joins, each seen of two values. No function owns more than it looks at: each exit of a function walks the drop of
-// all that it owns.
+//! The laws of joins, each seen of two values. No function owns more than it looks at: each exit of a function walks the drop of
+//! all that it owns.
 use join_core::{EmptyDelta, Join, OutOfMemory, empty_delta_laws};
 use std::alloc::Global;
 
@@ -58,7 +58,7 @@ pub fn join_laws_hold<J: Join>(alloc: Global, a: &J, b: &J) -> Result<bool, OutO
     Ok(is_joined(alloc, a, b)? & has_delta_below(alloc, a, b, a)?)
 }
 
-// The same, and that the delta of the one against itself tells nothing.
+// Whether the laws of joins are seen to hold of these two values, and the first one's delta against itself tells nothing.
 pub fn laws_hold<J: EmptyDelta>(alloc: Global, a: &J, b: &J) -> Result<bool, OutOfMemory> {
     empty_delta_laws::<J>();
     Ok(join_laws_hold(alloc, a, b)? & has_delta_below(alloc, a, a, b)?)

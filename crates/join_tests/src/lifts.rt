@@ -1,4 +1,4 @@
-// Values that may be dead for good.
+//! Values that may be dead for good.
 use crate::laws::{join_laws_hold, joins_in};
 use join_core::{Exact, Join, Max, OutOfMemory};
 use join_nest::{Keyed, Lift};

@@ -1,4 +1,4 @@
-// Joins made of joins.
+//! Joins made of joins.
 use crate::laws::laws_hold;
 use join_core::{Exact, Flat, Join, Max, OutOfMemory};
 use join_nest::{Keyed, Trunc};
@@ -111,31 +111,26 @@ fn maps_join_key_by_key(rt: HostRuntime) -> Result<(), Fail> {
     Ok(())
 }
 
-// Joins the part of these entries to the map in place.
-fn join_part(
-    alloc: Global,
-    map: &mut Keyed<u32, Max>,
-    entries: &[(u32, u32)],
-) -> Result<(), OutOfMemory> {
-    let part = map_of(alloc, entries)?;
-    map.join_in(alloc, &part)
-}
-
 fn is_joined_to_none(alloc: Global, map: &Keyed<u32, Max>) -> Result<bool, OutOfMemory> {
     let mut empty = Keyed::new(alloc);
     empty.join_in(alloc, map)?;
     Ok(empty.same(map))
 }
 
-// Whether the map is that of the wanted entries once the part of these is joined in.
+// Whether the map is that of the wanted entries once the part of these is joined in, at once or made ready first.
 fn joins_part(
     alloc: Global,
     map: &mut Keyed<u32, Max>,
     entries: &[(u32, u32)],
     wanted: &[(u32, u32)],
 ) -> Result<bool, OutOfMemory> {
-    join_part(alloc, map, entries)?;
-    is_map(alloc, map, wanted)
+    let part = map_of(alloc, entries)?;
+    let mut beside = map.copy(alloc)?;
+    let prepared = beside.prepare(alloc, &part)?;
+    let stays = beside.same(map);
+    beside.put_prepared(prepared);
+    map.join_in(alloc, &part)?;
+    Ok(stays & beside.same(map) & is_map(alloc, map, wanted)?)
 }
 
 // A part below the map leaves it as it is; other parts leave the join of both, also where keys are new before, between and

@@ -1,4 +1,4 @@
-// The composition of affine maps.
+//! The composition of affine maps.
 ghost use Rattle.std.specs.Prelude.{◌≡◌, IsTrue, true};
 ghost use Rattle.mpx_num.specs.Types.{is_paired};
 ghost use Rattle.mpx_num.specs.Own.{IsItem};

@@ -4,10 +4,3 @@
 mod affine;
 
 pub use affine::Affine;
-
-#[cfg(test)]
-mod folds;
-#[cfg(test)]
-mod refusals;
-#[cfg(test)]
-mod threads;

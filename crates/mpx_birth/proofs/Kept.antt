@@ -9,7 +9,7 @@ use Rattle.std.proofs.lemmas.List.Sums.{AllPass-from_list_all, get_or-le-sum_by,
 use Rattle.mpx_birth.specs.declared.edges.Neighbour.{Neighbour}
 use Rattle.mpx_birth.specs.Edges.{is_rank, often}
 use Rattle.mpx_birth.specs.Orders.{upto}
-use Rattle.mpx_birth.specs.Topologies.{Agrees, IsFew, IsTopology, Near, TopologyView, are_paired, destinations_in, destinations_in_all, is_near, is_neighbour, is_topology, is_weight, most_neighbours, nobody, sources_in, sources_in_all, tell_alike}
+use Rattle.mpx_birth.specs.Topologies.{AgreesAtBothEnds, IsFew, IsTopology, Near, TopologyView, are_paired, destinations_in, destinations_in_all, is_near, is_neighbour, is_topology, is_weight, most_neighbours, nobody, sources_in, sources_in_all, tell_alike}
 use Rattle.mpx_birth.proofs.Below.{all_below, each_below}
 
 -- ranks of so many
@@ -84,7 +84,7 @@ module _ (topology : TopologyView) (parts : Parts topology) where
   no_destinations : (i j : ℕ) → length topology.ranks ≤ i → often j (destinations_in topology.ranks i) ≡ 0
   no_destinations i j far = ap (λ (near : Near). often j near.destinations) (get_or_past topology.ranks i nobody far)
 
-  agree : Agrees topology.ranks
+  agree : AgreesAtBothEnds topology.ranks
   agree = record {
     both = λ i j. elim (cases_lt i (length topology.ranks)) [
       | inl l ↦ elim (cases_lt j (length topology.ranks)) [
@@ -124,7 +124,7 @@ topology-kept topology is =
 
 -- WHAT MAKES ONE
 
-pub paired-from : (ranks : List Near) → Agrees ranks → are_paired ranks ≡ true
+pub paired-from : (ranks : List Near) → AgreesAtBothEnds ranks → are_paired ranks ≡ true
 paired-from ranks agree =
     all_below (λ j. list_all (λ i. tell_alike ranks i j) (upto (length ranks))) (length ranks)
     (λ j m. all_below (λ i. tell_alike ranks i j) (length ranks) (λ i l. eq-eqb _ _ (agree.both i j)))

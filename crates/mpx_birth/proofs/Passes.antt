@@ -4,7 +4,7 @@ use Rattle.std.proofs.lemmas.Bool.{cases_eq, cases_lt}
 use Rattle.std.proofs.lemmas.List.{get_or_past, get_or-replicate, get_or-set_same, get_or-set_other, length-replicate, length-set}
 use Rattle.mpx_birth.specs.declared.edges.Neighbour.{Neighbour}
 use Rattle.mpx_birth.specs.Edges.{often}
-use Rattle.mpx_birth.specs.Topologies.{Agrees, TopologyView, destinations_at, sources_at}
+use Rattle.mpx_birth.specs.Topologies.{AgreesAtBothEnds, TopologyView, destinations_at, sources_at}
 use Rattle.mpx_birth.specs.Ends.{place_of, rank_at, turn}
 use Rattle.mpx_birth.proofs.Meeting.{destination_is_rank, source_is_rank}
 use Rattle.mpx_birth.proofs.Turns.{Stands, often-kept, often-more, place-after, stands, stands_once, turn_below}
@@ -14,13 +14,13 @@ pub record Mutual (me : ℕ) (own : List Neighbour) (theirs : ℕ → List Neigh
   pub both : (r : ℕ) → often r own ≡ often me (theirs r)
   pub small : (k : ℕ) → k < length own → rank_at own k < 64
 
-pub sources_mutual : (topology : TopologyView) → Agrees topology.ranks → length topology.ranks ≤ 64 → (rank : ℕ) → Mutual rank (sources_at topology rank) (destinations_at topology)
+pub sources_mutual : (topology : TopologyView) → AgreesAtBothEnds topology.ranks → length topology.ranks ≤ 64 → (rank : ℕ) → Mutual rank (sources_at topology rank) (destinations_at topology)
 sources_mutual topology promise few rank = record {
   both = λ r. sym (promise.both r rank);
   small = λ k l. (let below = source_is_rank topology.ranks promise rank k l in omega (arith, below, few));
 }
 
-pub destinations_mutual : (topology : TopologyView) → Agrees topology.ranks → length topology.ranks ≤ 64 → (rank : ℕ) → Mutual rank (destinations_at topology rank) (sources_at topology)
+pub destinations_mutual : (topology : TopologyView) → AgreesAtBothEnds topology.ranks → length topology.ranks ≤ 64 → (rank : ℕ) → Mutual rank (destinations_at topology rank) (sources_at topology)
 destinations_mutual topology promise few rank = record {
   both = λ r. promise.both rank r;
   small = λ k l. (let below = destination_is_rank topology.ranks promise rank k l in omega (arith, below, few));

@@ -36,7 +36,7 @@ abbrev pub destinations_at : TopologyView → ℕ → List Neighbour
 destinations_at topology rank = destinations_in topology.ranks rank
 
 -- j stands among i's destinations as often as i among j's sources. So no rank stands there that is none of the ranks.
-pub record Agrees (ranks : List Near) : Type 0 where
+pub record AgreesAtBothEnds (ranks : List Near) : Type 0 where
   pub both : (i j : ℕ) → often j (destinations_in ranks i) ≡ often i (sources_in ranks j)
 
 -- so many sources have all ranks together at most, and as many destinations: each of 64 members tells of 512 edges
@@ -95,7 +95,7 @@ IsTopologyOf neighbours (Some topology) = (is_topology neighbours ≡ true) × (
 -- what a topology keeps: that it is one, and what follows
 pub record IsTopology (topology : TopologyView) : Type 0 where
   pub spelled : is_topology topology ≡ true
-  pub agree : Agrees topology.ranks
+  pub agree : AgreesAtBothEnds topology.ranks
   pub few : length topology.ranks ≤ 64
   pub each : (rank : ℕ) → IsFew (slice_index_or topology.ranks rank nobody)
 

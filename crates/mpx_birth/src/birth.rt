@@ -1,4 +1,4 @@
-// How a communicator came to be.
+//! How a communicator came to be.
 ghost use Rattle.std.specs.Prelude.{◌≡◌, ◌<◌, ◌≤◌, All, IfOk, OnErr, Some, false, length, true};
 ghost use Rattle.std.specs.Option.{option_copied};
 ghost use Rattle.mpx_group.specs.Group.{IsGroup, has_twice};
@@ -124,7 +124,7 @@ impl Birth {
         }
     }
 
-    /// The same members with this topology of as many ranks.
+    /// A birth of these members with this topology, which is of as many ranks (the caller's condition).
     pub fn with_topology(&self, topology: Topology) -> Result<Birth, OutOfMemory>
         requires { length topology.ranks ≡ length self.now.members }
         ensures { IfOk result (λ birth. birth ≡ record { members = self.now.members; topology = Some topology }) }
@@ -135,7 +135,7 @@ impl Birth {
         })
     }
 
-    /// The same members without a topology.
+    /// A birth of these members without a topology.
     pub fn without_topology(&self) -> Result<Birth, OutOfMemory>
         ensures { IfOk result (λ birth. birth ≡ of_members self.now.members) }
     {
@@ -235,7 +235,7 @@ fn are_same(left: &Option<Topology>, right: &Option<Topology>) -> bool
     }
 }
 
-// The same topology once more, shared, where there is one.
+// A copy of the topology, where there is one, which shares the neighbours.
 fn copied(topology: &Option<Topology>) -> Result<Option<Topology>, OutOfMemory>
     ensures { IfOk result (λ copied. copied ≡ topology.now) }
 {

@@ -1,3 +1,4 @@
+//! Edges from one rank of a communicator to another, and neighbours at their ends.
 /// An edge from one rank of a communicator to another.
 #[derive(Clone, Copy, Debug, PartialEq, Eq)]
 pub struct Edge {

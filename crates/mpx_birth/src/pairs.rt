@@ -1,4 +1,4 @@
-// Whether both ends of each edge tell it equally often.
+//! Whether both ends of each edge tell it equally often.
 ghost use Rattle.std.specs.Prelude.{◌≡◌, ◌<◌, ◌≤◌, length};
 ghost use Rattle.std.specs.List.{list_all};
 ghost use Rattle.mpx_birth.specs.Orders.{upto};

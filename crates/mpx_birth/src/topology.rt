@@ -1,7 +1,7 @@
-// The neighbours of each rank of a distributed graph.
+//! The neighbours of each rank of a distributed graph.
 ghost use Rattle.std.specs.Prelude.{◌≡◌, ◌≤◌, ◌++◌, ◌∷◌, ◌&&◌, [], IfOk, OnOk, OnErr, length, nat_eq, true};
 ghost use Rattle.std.specs.Arc.{arc_value};
-ghost use Rattle.mpx_birth.specs.Topologies.{Agrees, IsTopology, IsTopologyOf, destinations_at, is_topology, most_neighbours, nobody, same_near, same_nears, same_topology, sources_at};
+ghost use Rattle.mpx_birth.specs.Topologies.{AgreesAtBothEnds, IsTopology, IsTopologyOf, destinations_at, is_topology, most_neighbours, nobody, same_near, same_nears, same_topology, sources_at};
 
 use crate::edges::Neighbour;
 use crate::limits::is_topology;
@@ -46,7 +46,7 @@ impl Neighbours {
         }
     }
 
-    /// The same as these sources and destinations.
+    /// Copies of these sources and destinations.
     pub fn copied(
         alloc: Global,
         sources: &[Neighbour],
@@ -166,7 +166,7 @@ impl Topology {
     /// From whom edges come to this rank, in order: nobody where there is no such rank.
     pub fn sources(&self, rank: u8) -> &[Neighbour]
         ensures value { result.now ≡ sources_at self.now rank }
-        ensures agree { Agrees self.now.ranks }
+        ensures agree { AgreesAtBothEnds self.now.ranks }
         ensures few { length result.now ≤ most_neighbours }
     {
         match self.ranks.get(usize::from(rank)) {
@@ -178,7 +178,7 @@ impl Topology {
     /// To whom edges go from this rank, in order: nobody where there is no such rank.
     pub fn destinations(&self, rank: u8) -> &[Neighbour]
         ensures value { result.now ≡ destinations_at self.now rank }
-        ensures agree { Agrees self.now.ranks }
+        ensures agree { AgreesAtBothEnds self.now.ranks }
         ensures few { length result.now ≤ most_neighbours }
     {
         match self.ranks.get(usize::from(rank)) {
@@ -194,7 +194,7 @@ impl Topology {
         (self.weighted == other.weighted) & are_same(&self.ranks, &other.ranks)
     }
 
-    /// The same topology once more, shared.
+    /// A copy, which shares the neighbours.
     pub fn copy(&self) -> Result<Topology, OutOfMemory>
         ensures { IfOk result (λ copied. copied ≡ self.now) }
     {

@@ -11,7 +11,7 @@ use Rattle.join_nest.specs.Keyed.{replaced}
 use Rattle.join_nest.specs.Optional.{option_join}
 use Rattle.mpx_name.specs.Name.{Name, same_name}
 use Rattle.mpx_name.specs.Order.{name_cmp, name_total, name_exact}
-use Rattle.mpx_board.specs.Boards.{IsBelow, Look, empty, join, only, own_acks, Acknowledged}
+use Rattle.mpx_board.specs.Boards.{IsBoardBelow, Look, empty, join, only, own_acks, Acknowledged}
 use Rattle.mpx_board.specs.Raised.{Raises, Nothing, stored, view_of_raised}
 use Rattle.mpx_board.specs.declared.acks.Raised.{Raised}
 use Rattle.mpx_board.proofs.Facts.{join_is_least}
@@ -190,5 +190,5 @@ module _ (raised : Raised) (a : PartsView) (tidy : is_tidy a ≡ true) (new : Lo
   pub stored_tidy : (parts : PartsView) → parts ≡ (a.0, stored (view_of_raised raised) a.1) → is_tidy parts ≡ true
   stored_tidy parts is = ap is_tidy is ∙ sym (ap (λ (p : PartsView). is_tidy (p.0, stored (view_of_raised raised) p.1)) made_of_it) ∙ r.neat
 
-  pub stored_above : (parts : PartsView) → parts ≡ (a.0, stored (view_of_raised raised) a.1) → IsBelow (look_of a) (look_of parts)
-  stored_above parts is = subst (IsBelow (look_of a)) (sym (stored_gives parts is)) r.above
+  pub stored_above : (parts : PartsView) → parts ≡ (a.0, stored (view_of_raised raised) a.1) → IsBoardBelow (look_of a) (look_of parts)
+  stored_above parts is = subst (IsBoardBelow (look_of a)) (sym (stored_gives parts is)) r.above

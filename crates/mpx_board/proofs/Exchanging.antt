@@ -1,5 +1,5 @@
 -- What stores again what stood before.
-use Rattle.std.proofs.Common.{arith, ◌≡◌, ℕ, ◌==◌, true, cond, Option, Some, is_some, refl, sym, ap, ◌∙◌}
+use Rattle.std.proofs.Common.{arith, ◌≡◌, ℕ, ◌==◌, true, cond, Some, is_some, refl, sym, ap, ◌∙◌}
 use Rattle.std.proofs.lemmas.Bool.Decides.{nat_tests}
 use Rattle.std.specs.Ordering.{eq_by_cmp, nat_cmp}
 use Rattle.std.specs.Cmp.{unsigned_tied, nat_cmp_total}
@@ -7,10 +7,10 @@ use Rattle.std.specs.FinMap.{get, get-insert, get_tied, insert, same_map, nat_cm
 use Rattle.join_core.specs.Cases.{answer, yes, no, is_tied}
 use Rattle.join_nest.specs.Keyed.{replaced}
 use Rattle.mpx_board.specs.declared.acks.Raised.{Raised}
-use Rattle.mpx_board.specs.Boards.{IsBelow, Look}
+use Rattle.mpx_board.specs.Boards.{IsBoardBelow, Look}
 use Rattle.mpx_board.specs.Contexts.{look_of}
 use Rattle.mpx_board.specs.Parts.{AcksView, OfProcesses, PartsView}
-use Rattle.mpx_board.specs.Raised.{Leads, Raises, stored, view_of_raised}
+use Rattle.mpx_board.specs.Raised.{StoringLeads, Raises, stored, view_of_raised}
 use Rattle.mpx_board.specs.Tidy.{is_tidy}
 use Rattle.mpx_board.proofs.Acknowledging.{stored_tidy}
 
@@ -32,11 +32,11 @@ replaced_back m p v w there =
     ])
 
 -- what was made of a board's parts leads on from them
-pub raised_leads : (raised : Raised) (a : PartsView) (tidy : is_tidy a ≡ true) (new : Look) → Raises raised (look_of a) new → Leads raised a (a.0, stored (view_of_raised raised) a.1)
+pub raised_leads : (raised : Raised) (a : PartsView) (tidy : is_tidy a ≡ true) (new : Look) → Raises raised (look_of a) new → StoringLeads raised a (a.0, stored (view_of_raised raised) a.1)
 raised_leads raised a tidy new r = record { contexts = refl; says = refl; neat = stored_tidy raised a tidy new r (a.0, stored (view_of_raised raised) a.1) refl }
 
 -- and what leads there from a board was made of it
-pub leads_raises : (raised : Raised) (old new : PartsView) → is_tidy old ≡ true → Leads raised old new → IsBelow (look_of old) (look_of new) → Raises raised (look_of old) (look_of new)
+pub leads_raises : (raised : Raised) (old new : PartsView) → is_tidy old ≡ true → StoringLeads raised old new → IsBoardBelow (look_of old) (look_of new) → Raises raised (look_of old) (look_of new)
 leads_raises raised old new tidy l above =
     let is : (old.0, stored (view_of_raised raised) old.1) ≡ new = λ i. (sym l.contexts i, l.says i) in
     record { parts = old; tidy = tidy; made_of = refl; gives = ap look_of is; neat = ap is_tidy is ∙ l.neat; above = above }

@@ -3,7 +3,7 @@ use Rattle.std.specs.Prelude.{◌≡◌, ℕ, true}
 use Rattle.join_nest.specs.Keyed.{replaced}
 use Rattle.mpx_board.specs.declared.acks.Raised.{Raised}
 use Rattle.mpx_board.specs.declared.acks.Raised.TheVariants as R
-use Rattle.mpx_board.specs.Boards.{IsBelow, Look}
+use Rattle.mpx_board.specs.Boards.{IsBoardBelow, Look}
 use Rattle.mpx_board.specs.Contexts.{look_of}
 use Rattle.mpx_board.specs.Parts.{AcksView, OfProcesses, PartsView}
 use Rattle.mpx_board.specs.Tidy.{is_tidy}
@@ -33,10 +33,10 @@ pub record Raises (raised : Raised) (old new : Look) : Type 0 where
   pub made_of : look_of parts ≡ old
   pub gives : look_of (parts.0, stored (view_of_raised raised) parts.1) ≡ new
   pub neat : is_tidy (parts.0, stored (view_of_raised raised) parts.1) ≡ true
-  pub above : IsBelow old new
+  pub above : IsBoardBelow old new
 
 -- storing it makes the old board the new one
-pub record Leads (raised : Raised) (old new : PartsView) : Type 0 where
+pub record StoringLeads (raised : Raised) (old new : PartsView) : Type 0 where
   pub contexts : new.0 ≡ old.0
   pub says : stored (view_of_raised raised) old.1 ≡ new.1
   pub neat : is_tidy new ≡ true

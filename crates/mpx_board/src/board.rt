@@ -1,19 +1,16 @@
-// What a process knows of all contexts, and how it is changed in place.
+//! What a process knows of all contexts, and how it is changed in place.
 ghost use Rattle.std.specs.Prelude.{◌≡◌, ◌↔◌, ◌<◌, ◌≤◌, true, false, map, IfOk, OnOk, OnErr, IsErrOf, MatchOption, IsTrue};
 ghost use Rattle.std.specs.FinMap.{get, insert};
 ghost use Rattle.std.specs.Option.{option_copied, option_map};
 ghost use Rattle.join_core.specs.Flat.{known as knows};
 ghost use Rattle.mpx_board.specs.declared.errors.AddPostError.TheVariants as A;
-ghost use Rattle.mpx_board.specs.Boards.{IsBelow, IsBetween, Look, empty, join, join_all, only, own_acks, Born, Front, Held, Dropped, Dead, Acknowledged};
+ghost use Rattle.mpx_board.specs.Boards.{IsBoardBelow, IsBetween, empty, join, join_all, only, Born, Front, Held, Dropped, Dead};
 ghost use Rattle.mpx_board.specs.Changes.{is_posted, killed, pruned_on, cut_to};
-ghost use Rattle.mpx_board.specs.Contexts.{live_of, numbers_of};
+ghost use Rattle.mpx_board.specs.Contexts.{live_of};
 ghost use Rattle.mpx_post.specs.Drafts.{most_calls};
-ghost use Rattle.mpx_board.specs.Parts.{PartsView};
-ghost use Rattle.mpx_board.specs.Raised.{Leads, Raises};
-ghost use Rattle.mpx_board.specs.Tidy.{are_tidy_numbers, is_tidy};
-ghost use Rattle.mpx_board.specs.Views.{view_of_acks, view_of_entries, view_of_entry, view_of_lifted, view_of_parts};
+ghost use Rattle.mpx_board.specs.Tidy.{is_tidy};
+ghost use Rattle.mpx_board.specs.Views.{view_of_entries, view_of_entry, view_of_lifted, view_of_parts};
 
-use crate::acks::{Raised, exchange_acks, one_ack, raised_by};
 use crate::copies::copied_acks;
 use crate::errors::{AddPostError, KillError, PruneError};
 use crate::fact::{Fact, bury, drop_posts, tell};
@@ -21,14 +18,14 @@ use crate::joins::{
     copied_entries, delta_of_acks, delta_of_entries, join_parts_in, joined_acks, joined_entries,
     leq_acks, leq_entries, same_acks, same_entries,
 };
-use crate::nested::{Acks, Entry, Lifted, Parts, is_tidy_board};
+use crate::nested::{Entry, Lifted, Parts, is_tidy_board};
 use join_core::{Exact, Join, OutOfMemory, Pair};
 use join_nest::{Keyed, Lift};
+use mpx_birth::Birth;
 use mpx_group::Proc;
 use mpx_name::Name;
-use mpx_post::{Birth, Post};
+use mpx_post::Post;
 use std::alloc::Global;
-use std::mem;
 
 /// What a process knows of all contexts: births, how many calls each process has harvested, and the posts of calls at or
 /// above a dropped front, or that a context is dead; and what each process says that it has of the posts of others.
@@ -37,7 +34,7 @@ use std::mem;
 /// the same are equal.
 #[derive(Debug, Drop)]
 pub struct Board {
-    inside: Parts,
+    pub(crate) inside: Parts,
     ghost tidy: { IsTrue (is_tidy (view_of_parts inside)) },
 }
 
@@ -147,7 +144,7 @@ impl Board {
         &self.inside
     }
 
-    /// The same, moved out of the board. It takes no memory.
+    /// What stands inside, moved out of the board. It takes no memory.
     pub fn into_pair(self) -> Parts
         ensures value { view_of_parts result ≡ parts_of self }
         ensures tidy { IsTrue (is_tidy (view_of_parts result)) }
@@ -161,7 +158,7 @@ impl Board {
     pub fn take(&mut self, alloc: Global, part: &Board) -> Result<(), OutOfMemory>
         ensures ok { OnOk result (look self.new ≡ join (look self.old) (look part.now)) }
         ensures err { OnErr result (IsBetween (look self.old) (look part.now) (look self.new)) }
-        ensures more { OnErr result (¬ (IsBelow (look part.now) (look self.old))) }
+        ensures more { OnErr result (¬ (IsBoardBelow (look part.now) (look self.old))) }
     {
         self.join_in(alloc, part)
     }
@@ -240,99 +237,6 @@ impl Board {
             name,
             Fact::Front { process, number },
         )
-    }
-
-    /// Joins to the board that the process has or has dropped so many calls of the member. An `Err` changes nothing.
-    pub fn raise_ack(
-        &mut self,
-        alloc: Global,
-        process: Proc,
-        name: &Name,
-        member: Proc,
-        number: u32,
-    ) -> Result<(), OutOfMemory>
-        ensures ok { OnOk result (look self.new ≡ join (look self.old) (only (Acknowledged process name.now member number))) }
-        ensures err { OnErr result (look self.new ≡ look self.old) }
-    {
-        if number == 0 {
-            return Ok(());
-        }
-        let said = one_ack(alloc, name, member, number)?;
-        self.raise_acks(alloc, process, &said)
-    }
-
-    /// Joins to the board that the process has or has dropped all these calls, of which no number is 0. An `Err` changes
-    /// nothing.
-    pub fn raise_acks(
-        &mut self,
-        alloc: Global,
-        process: Proc,
-        said: &Acks,
-    ) -> Result<(), OutOfMemory>
-        requires { IsTrue (are_tidy_numbers (view_of_acks said.now)) }
-        ensures ok { OnOk result (look self.new ≡ join (look self.old) (own_acks process (numbers_of (view_of_acks said.now)))) }
-        ensures err { OnErr result (look self.new ≡ look self.old) }
-    {
-        let raised = self.raised(alloc, process, said)?;
-        self.store(raised);
-        Ok(())
-    }
-
-    /// Makes what stands once the process says all these calls too, of which no number is 0: what [`Board::store`] stores.
-    pub fn raised(&self, alloc: Global, process: Proc, said: &Acks) -> Result<Raised, OutOfMemory>
-        requires { IsTrue (are_tidy_numbers (view_of_acks said.now)) }
-        ensures { IfOk result (λ made. Raises made (look self.now) (join (look self.now) (own_acks process (numbers_of (view_of_acks said.now))))) }
-    {
-        if said.is_empty() {
-            return Ok(Raised::Nothing);
-        }
-        raised_by(alloc, &self.inside.second, process, said)
-    }
-
-    /// Stores what was made of this board as it stands. It takes no memory and can't fail.
-    pub fn store(&mut self, raised: Raised)
-        requires made { (new : Look) × Raises raised (look self.old) new }
-        ensures gives { (new : Look) → Raises raised (look self.old) new → look self.new ≡ new }
-        ensures above { IsBelow (look self.old) (look self.new) }
-    {
-        match raised {
-            Raised::Nothing => {}
-            Raised::Row(process, row) => {
-                let _before = self.inside.second.replace(&process, row);
-            }
-            Raised::All(all) => {
-                self.inside.second = all;
-            }
-        }
-    }
-
-    /// Says all these calls too, as [`Board::raise_acks`] does, and gives what takes that back: [`Board::exchange`] stores again
-    /// what stood before. An `Err` changes nothing.
-    pub fn say(&mut self, alloc: Global, process: Proc, said: &Acks) -> Result<Raised, OutOfMemory>
-        requires { IsTrue (are_tidy_numbers (view_of_acks said.now)) }
-        ensures ok { OnOk result (look self.new ≡ join (look self.old) (own_acks process (numbers_of (view_of_acks said.now)))) }
-        ensures back { IfOk result (λ before. Leads before (parts_of self.new) (parts_of self.old)) }
-        ensures err { OnErr result (look self.new ≡ look self.old) }
-    {
-        let raised = self.raised(alloc, process, said)?;
-        Ok(self.exchange(raised))
-    }
-
-    /// Stores what was made, and gives what stores again what stood there. It takes no memory and can't fail.
-    pub fn exchange(&mut self, raised: Raised) -> Raised
-        requires { (new : PartsView) × Leads raised (parts_of self.old) new }
-        ensures new { (new : PartsView) → Leads raised (parts_of self.old) new → parts_of self.new ≡ new }
-        ensures back { Leads result (parts_of self.new) (parts_of self.old) }
-    {
-        exchange_acks(&mut self.inside.second, raised)
-    }
-
-    /// Exchanges the acknowledgements with those of the other. It takes no memory.
-    pub fn swap_acks(&mut self, other: &mut Board)
-        ensures mine { parts_of self.new ≡ ((parts_of self.old).0, (parts_of other.old).1) }
-        ensures theirs { parts_of other.new ≡ ((parts_of other.old).0, (parts_of self.old).1) }
-    {
-        mem::swap(&mut self.inside.second, &mut other.inside.second);
     }
 
     /// The acknowledgements alone.
@@ -438,7 +342,7 @@ impl Board {
         self.inside.first.get(name)
     }
 
-    // The same, where the context is live.
+    // The entry of the context with this name, where it is live.
     pub(crate) fn entry(&self, name: &Name) -> Option<&Entry>
         ensures { option_map view_of_entry (option_copied result) ≡ live_of (get (parts_of self.now).0 name.now) }
     {

@@ -1,4 +1,4 @@
-// Why a change of a board is refused.
+//! Why a change of a board is refused.
 ghost use Rattle.std.specs.Prelude.{◌≡◌};
 ghost use Rattle.mpx_board.specs.declared.errors.AddPostError.TheVariants as A;
 

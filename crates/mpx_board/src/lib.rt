@@ -15,6 +15,8 @@ mod joins;
 mod laws;
 mod looks;
 mod nested;
+mod prepared;
+mod saying;
 
 pub use acks::Raised;
 pub use board::Board;
@@ -24,5 +26,6 @@ pub use laws::{
     dead_contexts_stay_dead, joining_boards_is_a_semilattice,
 };
 pub use nested::{
-    Acks, Call, Entry, Lifted, Parts, VersionVector, is_said, is_told, says_something,
+    Acks, CallPosts, Entry, Lifted, Parts, VersionVector, is_said, is_told, says_something,
 };
+pub use prepared::Prepared;

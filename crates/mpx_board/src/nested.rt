@@ -1,4 +1,4 @@
-// The maps nested inside a board, and the test that no part of them says nothing.
+//! The maps nested inside a board, and the test that no part of them says nothing.
 ghost use Rattle.std.specs.Prelude.{◌≡◌, ℕ, Bool, nat_lt, true, not};
 ghost use Rattle.std.specs.List.{list_all};
 ghost use Rattle.std.specs.Option.{option_copied};
@@ -15,22 +15,23 @@ ghost use Rattle.mpx_board.specs.Views.{view_of_acks, view_of_call, view_of_call
 
 use join_core::{Exact, Flat, Max, Pair};
 use join_nest::{Keyed, Lift, Trunc};
+use mpx_birth::Birth;
 use mpx_group::Proc;
 use mpx_name::Name;
-use mpx_post::{Birth, Post};
+use mpx_post::Post;
 use std::alloc::Global;
 
 /// A version vector: a number of calls for each process.
 pub type VersionVector = Keyed<Proc, Max>;
 
 /// The posts of one call, by process.
-pub type Call = Keyed<Proc, Flat<Post>>;
+pub type CallPosts = Keyed<Proc, Flat<Post>>;
 
 /// What is known of one live context: its birth, how many calls each process has harvested, and the posts by call, at or
 /// above the dropped front.
-pub type Entry = Pair<Flat<Birth>, Pair<VersionVector, Trunc<Call>>>;
+pub type Entry = Pair<Flat<Birth>, Pair<VersionVector, Trunc<CallPosts>>>;
 
-/// The same, or that the context is dead, and then nothing else.
+/// What is known of one context: its entry while it is live, else that it is dead, and then nothing else.
 pub type Lifted = Lift<Entry>;
 
 /// What one process says that it has: by context and member, how many calls it holds in order or has dropped.
@@ -154,7 +155,7 @@ pub fn is_told<T>(value: &Flat<T>) -> bool
     !matches!(value, Flat::Unknown)
 }
 
-fn are_tidy_calls(calls: &Trunc<Call>) -> bool
+fn are_tidy_calls(calls: &Trunc<CallPosts>) -> bool
     ensures { result ≡ all_entries is_tidy_call (view_of_calls calls.now).calls }
 {
     calls
@@ -163,7 +164,7 @@ fn are_tidy_calls(calls: &Trunc<Call>) -> bool
         .all(|e| e.0 < u32::MAX && is_tidy_call(&e.1))
 }
 
-fn is_tidy_call(posts: &Call) -> bool
+fn is_tidy_call(posts: &CallPosts) -> bool
     ensures { result ≡ are_tidy_posts (view_of_call posts.now) }
 {
     !posts.is_empty() && all_tidy(posts.entries())

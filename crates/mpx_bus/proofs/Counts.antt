@@ -17,7 +17,7 @@ use Rattle.mpx_board.specs.Contexts.{look_of, or_nothing}
 use Rattle.mpx_board.specs.Parts.{LiftedView, PartsView}
 use Rattle.mpx_node.specs.Nodes.{NodeView, front_on}
 use Rattle.mpx_world.proofs.Lists.{both_true}
-use Rattle.mpx_bus.specs.Finished.{finished_by_both, AreApart, HaveFinished, TellsFronts}
+use Rattle.mpx_bus.specs.Finished.{finished_by_both, AreApart, BothHaveFinished, TellsFronts}
 
 module _ {V : Type 0} where
   abbrev pub keys : List (Name × V) → List Name
@@ -79,7 +79,7 @@ some_said c p k l lt (inr le) = inr (less_is_some k l (c.fronts p) lt le)
 
 -- the count over all contexts of which the first's board knows
 pub have_finished : {V : Type 0} (view : V → LiftedView) (a b : NodeView) (parts : PartsView) (es : List (Name × V)) (count : ℕ) → a.board ≡ look_of parts → seen view es ≡ entries parts.0 → is_sorted name_cmp es ≡ true
-    → TellsFronts a → count ≡ min (2 ^ 64 - 1) (sum (map (finished_by_both a b) (keys es))) → HaveFinished a b count
+    → TellsFronts a → count ≡ min (2 ^ 64 - 1) (sum (map (finished_by_both a b) (keys es))) → BothHaveFinished a b count
 have_finished view a b parts es count board is rises tells counted = record {
   names = keys es;
   apart = keys_apart es rises;

@@ -13,7 +13,7 @@ use Rattle.mpx_bus.specs.declared.act.Act.TheVariants as A
 use Rattle.mpx_bus.specs.declared.act.Setup.{Setup}
 use Rattle.mpx_bus.specs.Acts.{act_on, after, at_start, process_at, MayPush}
 use Rattle.mpx_bus.specs.Rule.{IsPlanned, planned_posts}
-use Rattle.mpx_bus.specs.Berths.{Berth, CanPush, KeepsPlan, IsSamePort, GoesOn, Goes}
+use Rattle.mpx_bus.specs.Ports.{PortView, CanPush, KeepsPlan, IsSamePort, PortGoesOn, PortGoes}
 use Rattle.mpx_bus.proofs.Journals.{after-append}
 use Rattle.mpx_bus.proofs.Seen.{may_push_later}
 use Rattle.mpx_world.proofs.Later.{made_opens, made_drops}
@@ -57,30 +57,30 @@ pub made_more : (setup : Setup) (p : ℕ) (journal more : List Act) → NoPosts 
 made_more setup p journal more none = ap (λ (v : ProcessView). v.made) (after-append setup.operations journal more (at_start setup p)) ∙ made_after setup.operations more (process_at setup p journal) none
 
 -- what it may push it may still push
-pub keeps_frames : (a b : Berth) (more : List Act) → IsSamePort a b → b.journal ≡ a.journal ++ more → (bytes : List ℕ) → CanPush a bytes → CanPush b bytes
+pub keeps_frames : (a b : PortView) (more : List Act) → IsSamePort a b → b.journal ≡ a.journal ++ more → (bytes : List ℕ) → CanPush a bytes → CanPush b bytes
 keeps_frames a b more same grows bytes may =
     subst (λ s. MayPush s b.me b.journal bytes) (sym same.setup)
     (subst (λ m. MayPush a.setup m b.journal bytes) (sym same.me)
     (subst (λ j. MayPush a.setup a.me j bytes) (sym grows) (may_push_later a.setup a.me a.journal more bytes may)))
 
 -- and where it makes no post, it keeps to the plan as before
-pub keeps_plan : (a b : Berth) (more : List Act) → IsSamePort a b → b.journal ≡ a.journal ++ more → NoPosts more → KeepsPlan a → KeepsPlan b
+pub keeps_plan : (a b : PortView) (more : List Act) → IsSamePort a b → b.journal ≡ a.journal ++ more → NoPosts more → KeepsPlan a → KeepsPlan b
 keeps_plan a b more same grows none plan =
     subst (λ s. IsPlanned s b.me b.journal) (sym same.setup)
     (subst (λ m. IsPlanned a.setup m b.journal) (sym same.me)
     (subst (λ j. IsPlanned a.setup a.me j) (sym grows)
     (λ planned. subst (λ (ms : List Made). IsPrefix ms (planned_posts a.setup a.me)) (sym (made_more a.setup a.me a.journal more none)) (plan planned))))
 
-pub goes_on : (a b : Berth) (more : List Act) → IsSamePort a b → b.journal ≡ a.journal ++ more → NoPosts more → GoesOn a b
+pub goes_on : (a b : PortView) (more : List Act) → IsSamePort a b → b.journal ≡ a.journal ++ more → NoPosts more → PortGoesOn a b
 goes_on a b more same grows none = record { same = same; keeps = keeps_frames a b more same grows; plan = keeps_plan a b more same grows none }
 
-pub goes : (a b : Berth) (more : List Act) → IsSamePort a b → b.journal ≡ a.journal ++ more → Goes a b
+pub goes : (a b : PortView) (more : List Act) → IsSamePort a b → b.journal ≡ a.journal ++ more → PortGoes a b
 goes a b more same grows = record { same = same; keeps = keeps_frames a b more same grows }
 
-pub goes_itself : (a b : Berth) → b ≡ a → GoesOn a b
-goes_itself a b e = subst (GoesOn a) (sym e) (record { same = record { table = refl; pass = refl; setup = refl; me = refl }; keeps = λ bytes may. may; plan = λ plan. plan })
+pub goes_itself : (a b : PortView) → b ≡ a → PortGoesOn a b
+goes_itself a b e = subst (PortGoesOn a) (sym e) (record { same = record { table = refl; pass = refl; setup = refl; me = refl }; keeps = λ bytes may. may; plan = λ plan. plan })
 
-pub goes_then : (a b c : Berth) → GoesOn a b → GoesOn b c → GoesOn a c
+pub goes_then : (a b c : PortView) → PortGoesOn a b → PortGoesOn b c → PortGoesOn a c
 goes_then a b c g h = record {
   same = record { table = h.same.table ∙ g.same.table; pass = h.same.pass ∙ g.same.pass; setup = h.same.setup ∙ g.same.setup; me = h.same.me ∙ g.same.me };
   keeps = λ bytes may. h.keeps bytes (g.keeps bytes may);
@@ -91,7 +91,7 @@ pub two_acts : (journal new : List Act) (a b : Act) → new ≡ (journal ++ a �
 two_acts journal new a b e = e ∙ append_assoc journal (a ∷ []) (b ∷ [])
 
 -- whatever frames it keeps
-pub goes_kept : (a : Berth) (kept : List (List ℕ)) (b : Berth) → GoesOn (record a { kept = kept }) b → GoesOn a b
+pub goes_kept : (a : PortView) (kept : List (List ℕ)) (b : PortView) → PortGoesOn (record a { kept = kept }) b → PortGoesOn a b
 goes_kept a kept b g = record { same = record { table = g.same.table; pass = g.same.pass; setup = g.same.setup; me = g.same.me }; keeps = g.keeps; plan = g.plan }
 
 pub on_err : {T E P : Type 0} (r : Result T E) → P → OnErr r P

@@ -15,8 +15,8 @@ use Rattle.mpx_bus.specs.declared.act.Seen.{Seen}
 use Rattle.mpx_bus.specs.declared.act.View.{View}
 use Rattle.mpx_bus.specs.Acts.{DidIn, at_start}
 use Rattle.mpx_bus.specs.Views.{no_setup, maker, maker_of, nobody, opened, seen_as}
-use Rattle.mpx_bus.specs.Rule.{Seating, IsPushed, planned_posts, world_of, FitsSeat, FitsView, Sound}
-use Rattle.mpx_bus.specs.Berths.{Berth, IsNew, IsFleet}
+use Rattle.mpx_bus.specs.Rule.{Seating, IsPushed, planned_posts, world_of, FitsSeat, FitsView, SoundQueue}
+use Rattle.mpx_bus.specs.Ports.{PortView, IsNew, IsFleet}
 use Rattle.mpx_bus.proofs.Moves.{one_seat, Keeps, pushed_set, none_some}
 use Rattle.mpx_post.proofs.Lists.{slice_get-append}
 
@@ -49,7 +49,7 @@ one_view a b (suc k) e = absurd (some-ne-none b (sym e))
 nothing_begins : {A : Type 0} (xs : List A) → IsPrefix [] xs
 nothing_begins xs = (xs, refl)
 
-pub begins : Sound [] (maker ∷ [])
+pub begins : SoundQueue [] (maker ∷ [])
 begins =
     let seat : Seating = λ p. None in
     let W : WorldView = world_of no_setup [] in
@@ -75,7 +75,7 @@ pushed_longer views w bytes is = record { pass = is.pass; view = is.view; here =
 pushed_fork : (views : List View) (pass : ℕ) (v w new : View) (bytes : List ℕ) → get_elem? views pass ≡ some v → v.seats ≡ [] → IsPushed views bytes → IsPushed (set views pass w ++ new ∷ []) bytes
 pushed_fork views pass v w new bytes at none is = pushed_longer (set views pass w) new bytes (pushed_set views pass v w bytes at (keeps_none v w none) is)
 
-pub names : (pass : ℕ) (v : View) (setup : Setup) → v ≡ maker → Forks Sound pass v (maker_of setup 0) nobody
+pub names : (pass : ℕ) (v : View) (setup : Setup) → v ≡ maker → Forks SoundQueue pass v (maker_of setup 0) nobody
 names pass v setup is items views h at =
     let mine = h.passes pass v at in
     let makes = mine.makes (ap (λ (u : View). u.makes) is) in
@@ -114,7 +114,7 @@ names pass v setup is items views h at =
           (at_push_cases (set views pass w) nobody u q e);
     }
 
-pub seats : (pass : ℕ) (v : View) (setup : Setup) (made : ℕ) → v ≡ maker_of setup made → Forks Sound pass v (maker_of setup (made + 1)) (opened setup made)
+pub seats : (pass : ℕ) (v : View) (setup : Setup) (made : ℕ) → v ≡ maker_of setup made → Forks SoundQueue pass v (maker_of setup (made + 1)) (opened setup made)
 seats pass v setup made is items views h at =
     let mine = h.passes pass v at in
     let makes = mine.makes (ap (λ (u : View). u.makes) is) in
@@ -174,21 +174,21 @@ seats pass v setup made is items views h at =
     }
 
 -- the same at a view that is known
-pub seats_as : (pass : ℕ) (v : View) (setup : Setup) (made : ℕ) → v ≡ maker_of setup made → Forks Sound pass v (maker_of v.setup (v.made + 1)) (opened v.setup v.made)
-seats_as pass v setup made is = subst (λ (u : View). Forks Sound pass u (maker_of u.setup (u.made + 1)) (opened u.setup u.made)) (sym is) (seats pass (maker_of setup made) setup made refl)
+pub seats_as : (pass : ℕ) (v : View) (setup : Setup) (made : ℕ) → v ≡ maker_of setup made → Forks SoundQueue pass v (maker_of v.setup (v.made + 1)) (opened v.setup v.made)
+seats_as pass v setup made is = subst (λ (u : View). Forks SoundQueue pass u (maker_of u.setup (u.made + 1)) (opened u.setup u.made)) (sym is) (seats pass (maker_of setup made) setup made refl)
 
-pub fleet_more : (setup : Setup) (table : TableId) (me : ℕ) (ports : List Berth) (b : Berth) → IsFleet setup table me ports → IsNew setup table me b → IsFleet setup table (me + 1) (ports ++ b ∷ [])
+pub fleet_more : (setup : Setup) (table : TableId) (me : ℕ) (ports : List PortView) (b : PortView) → IsFleet setup table me ports → IsNew setup table me b → IsFleet setup table (me + 1) (ports ++ b ∷ [])
 fleet_more setup table me ports b fleet new =
     record {
       count = omega (arith, length-append ports (b ∷ []), fleet.count);
-      each = λ k x e. slice_get-push_cases (λ (y : Berth) (j : ℕ). IsNew setup table j y) ports b k x e (λ old. fleet.each k x old)
-          (λ same last. subst (λ (y : ℕ × Berth). IsNew setup table y.0 y.1) (λ i. (sym (last ∙ fleet.count) i, same i)) new);
+      each = λ k x e. slice_get-push_cases (λ (y : PortView) (j : ℕ). IsNew setup table j y) ports b k x e (λ old. fleet.each k x old)
+          (λ same last. subst (λ (y : ℕ × PortView). IsNew setup table y.0 y.1) (λ i. (sym (last ∙ fleet.count) i, same i)) new);
     }
 
 -- the last port of a fleet, and the one before it
-pub fleet_last : (setup : Setup) (table : TableId) (n : ℕ) (ports rest : List Berth) (b : Berth) → IsFleet setup table n ports → ports ≡ rest ++ b ∷ [] → IsNew setup table (length rest) b
+pub fleet_last : (setup : Setup) (table : TableId) (n : ℕ) (ports rest : List PortView) (b : PortView) → IsFleet setup table n ports → ports ≡ rest ++ b ∷ [] → IsNew setup table (length rest) b
 fleet_last setup table n ports rest b fleet is = fleet.each (length rest) b (ap (λ xs. slice_get xs (length rest)) is ∙ slice_get-push rest b)
 
-pub fleet_before : (setup : Setup) (table : TableId) (n : ℕ) (ports rest front : List Berth) (b a : Berth) → IsFleet setup table n ports → ports ≡ rest ++ b ∷ [] → rest ≡ front ++ a ∷ [] → IsNew setup table (length front) a
+pub fleet_before : (setup : Setup) (table : TableId) (n : ℕ) (ports rest front : List PortView) (b a : PortView) → IsFleet setup table n ports → ports ≡ rest ++ b ∷ [] → rest ≡ front ++ a ∷ [] → IsNew setup table (length front) a
 fleet_before setup table n ports rest front b a fleet is is' =
     fleet.each (length front) a (ap (λ xs. slice_get xs (length front)) is ∙ slice_get-append rest (b ∷ []) (length front) a (ap (λ xs. slice_get xs (length front)) is' ∙ slice_get-push front a))

@@ -17,8 +17,8 @@ use Rattle.mpx_bus.specs.declared.act.Seen.{Seen}
 use Rattle.mpx_bus.specs.declared.act.View.{View}
 use Rattle.mpx_bus.specs.Acts.{DidIn, IsAhead, process_at, start_of}
 use Rattle.mpx_bus.specs.Views.{standing, seat_of, nobody, met}
-use Rattle.mpx_bus.specs.Rule.{Seating, IsSent, IsPushed, world_of, FitsSeat, FitsView, Sound, Stands}
-use Rattle.mpx_bus.specs.Berths.{IsPort, berth, HaveMet}
+use Rattle.mpx_bus.specs.Rule.{Seating, IsSent, IsPushed, world_of, FitsSeat, FitsView, SoundQueue, StandsForOneWorld}
+use Rattle.mpx_bus.specs.Ports.{IsPort, port_view, HaveMet}
 use Rattle.mpx_bus.proofs.Journals.{onward}
 use Rattle.mpx_bus.proofs.Moves.{at_here, my_seat, one_seat, none_some, pair_of_some, apart}
 use Rattle.mpx_bus.proofs.Makes.{seated, seated_here, seated_else, nothing_there}
@@ -52,7 +52,7 @@ pushed_join views pass other v u both bytes ne at at' is is' two p =
     (cases_eq p.pass pass)
 
 pub merges : (pass : ℕ) (v : View) (other : ℕ) (u : View) → v ≡ standing v.setup (seat_of v ∷ []) → u ≡ standing u.setup (seat_of u ∷ [])
-    → Merges Sound pass v other u (met v u) nobody
+    → Merges SoundQueue pass v other u (met v u) nobody
 merges pass v other u is is' items views h at ne there =
     let s : Seen = seat_of v in
     let t : Seen = seat_of u in
@@ -106,7 +106,7 @@ merges pass v other u is is' items views h at ne there =
           (at_set (set views pass both) other q nobody y e);
     }
 
-pub learns : (pass : ℕ) (v : View) → v.named ≡ true → Learns Sound pass v (λ items. Stands v)
+pub learns : (pass : ℕ) (v : View) → v.named ≡ true → Learns SoundQueue pass v (λ items. StandsForOneWorld v)
 learns pass v named items views h at =
     let f = h.passes pass v at in
     let setup : v.setup ≡ h.setup = (f.names named).1 in
@@ -120,7 +120,7 @@ learns pass v named items views h at =
 
 -- the parts of what was learned, and what each port has done since
 pub have_met : (a b : NodeView) (v u : View) (j k : List Act) (kept kept' : List (List ℕ)) (table table' : TableId) (pass pass' : ℕ) → u.setup ≡ v.setup
-    → IsPort a v j → IsPort b u k → Stands (met v u) → HaveMet (berth v j kept table pass) (berth u k kept' table' pass')
+    → IsPort a v j → IsPort b u k → StandsForOneWorld (met v u) → HaveMet (port_view v j kept table pass) (port_view u k kept' table' pass')
 have_met a b v u j k kept kept' table table' pass pass' same p p' stands =
     let s : Seen = seat_of v in
     let t : Seen = seat_of u in

@@ -19,9 +19,9 @@ use Rattle.mpx_bus.specs.declared.act.Act.TheVariants as A
 use Rattle.mpx_bus.specs.declared.act.Setup.{Setup}
 use Rattle.mpx_bus.specs.declared.act.Seen.{Seen}
 use Rattle.mpx_bus.specs.declared.act.View.{View}
-use Rattle.mpx_bus.specs.Acts.{DidIn, IsAhead, MaySend, MayPush, at_start, process_at}
+use Rattle.mpx_bus.specs.Acts.{DidIn, IsAhead, MaySendFrame, MayPush, at_start, process_at}
 use Rattle.mpx_bus.specs.Views.{standing, standing_as, seen_as, seat_of, after_push, after_pop}
-use Rattle.mpx_bus.specs.Rule.{Seating, IsSent, IsPushed, BeginsPlan, IsPlanned, planned_posts, world_of, Stood, FitsSeat, FitsView, Sound}
+use Rattle.mpx_bus.specs.Rule.{Seating, IsSent, IsPushed, BeginsPlan, IsPlanned, planned_posts, world_of, Stood, FitsSeat, FitsView, SoundQueue}
 use Rattle.mpx_bus.proofs.Journals.{after-append, one_of, slice_get-append_cases, did_before, did_last, did_now, did_ahead, pushed_before, popped_before, sent_later, Onward, onward, onward_sends}
 
 -- of a list of one
@@ -66,14 +66,14 @@ pub apart : (seat : Seating) (pass q place me me' : ℕ) → seat me ≡ Some (p
 apart seat pass q place me me' mine theirs ne e = ne (first_of_some (q, place) (pass, 0) (sym theirs ∙ (ap seat e ∙ mine)))
 
 -- the process of one pass moves on, and the parts grow
-pub moved : (items new : List (List ℕ)) (views : List View) (pass : ℕ) (v : View) (journal : List Act) (more : List Look) (h : Sound items views) → get_elem? views pass ≡ some v
+pub moved : (items new : List (List ℕ)) (views : List View) (pass : ℕ) (v : View) (journal : List Act) (more : List Look) (h : SoundQueue items views) → get_elem? views pass ≡ some v
     → v ≡ standing v.setup (seat_of v ∷ [])
     → Onward h.setup h.happenings (seat_of v).me (process_at h.setup (seat_of v).me journal) ((world_of h.setup h.happenings).parts ++ more)
     → ((bytes : List ℕ) → DidIn journal (A.Pushed bytes) → IsSent ((world_of h.setup h.happenings).parts ++ more) bytes)
     → ((bytes : List ℕ) → DidIn journal (A.Popped bytes) → IsSent ((world_of h.setup h.happenings).parts ++ more) bytes)
     → IsPlanned h.setup (seat_of v).me journal
     → ((k : ℕ) (bytes : List ℕ) → slice_get new k ≡ Some bytes → IsPushed (set views pass (standing_as v journal)) bytes)
-    → Sound new (set views pass (standing_as v journal)) × Stood h.setup (seat_of v).me journal
+    → SoundQueue new (set views pass (standing_as v journal)) × Stood h.setup (seat_of v).me journal
 moved items new views pass v journal more h at is o pushed popped plan frames =
     let s : Seen = seat_of v in
     let t : Seen = seen_as s.me journal in
@@ -131,7 +131,7 @@ keeps_more v journal is more place s bytes at has =
     (0, seen_as (seat_of v).me journal, refl, more bytes (subst (λ (u : Seen). DidIn u.journal (A.Pushed bytes)) (sym z.1) has))
 
 -- a part that is pushed was sent
-pub pushed_sent : (items : List (List ℕ)) (views : List View) (h : Sound items views) (bytes : List ℕ) → IsPushed views bytes → IsSent (world_of h.setup h.happenings).parts bytes
+pub pushed_sent : (items : List (List ℕ)) (views : List View) (h : SoundQueue items views) (bytes : List ℕ) → IsPushed views bytes → IsSent (world_of h.setup h.happenings).parts bytes
 pushed_sent items views h bytes is = ((h.passes is.pass is.view is.here).seats is.place is.seen is.there).pushed bytes is.pushed
 
 -- what neither pushes nor popped changes
@@ -171,7 +171,7 @@ pushable setup hs p published journal bytes ahead popped o may =
     let parts : List Look = (world_of setup hs).parts in
     let v : ProcessView = process_at setup p journal in
     ⊎_elim
-    (λ (m : MaySend setup p journal bytes). record {
+    (λ (m : MaySendFrame setup p journal bytes). record {
       more = look_of m.view ∷ [];
       goes = onward_sends setup hs p v parts (look_of m.view) m.seen o;
       sent = record { view = m.view; spells = m.spells; place = length parts; sent = slice_get-push parts (look_of m.view) };
@@ -185,7 +185,7 @@ pushable setup hs p published journal bytes ahead popped o may =
 
 pub pushes : (n pass : ℕ) (v : View) (journal : List Act) (bytes : List ℕ) → v ≡ standing v.setup (seat_of v ∷ []) → IsAhead v.setup (seat_of v).me (seat_of v).journal journal
     → IsPlanned v.setup (seat_of v).me journal → MayPush v.setup (seat_of v).me journal bytes
-    → Pushes Sound n pass v bytes (λ w. (w ≡ after_push journal bytes v) × Stood v.setup (seat_of v).me (seat_of w).journal)
+    → Pushes SoundQueue n pass v bytes (λ w. (w ≡ after_push journal bytes v) × Stood v.setup (seat_of v).me (seat_of w).journal)
 pushes n pass v journal bytes is ahead plan may items views room h at =
     let s : Seen = seat_of v in
     let W : WorldView = world_of h.setup h.happenings in
@@ -215,7 +215,7 @@ pushes n pass v journal bytes is ahead plan may items views room h at =
 
 pub pops : (pass : ℕ) (v : View) (journal : List Act) → v ≡ standing v.setup (seat_of v ∷ []) → IsAhead v.setup (seat_of v).me (seat_of v).journal journal
     → IsPlanned v.setup (seat_of v).me journal
-    → Pops Sound pass v (λ x w. (w ≡ after_pop journal x v) × Stood v.setup (seat_of v).me (seat_of w).journal × IsTrue (is_ok (decoded x)))
+    → Pops SoundQueue pass v (λ x w. (w ≡ after_pop journal x v) × Stood v.setup (seat_of v).me (seat_of w).journal × IsTrue (is_ok (decoded x)))
 pops pass v journal is ahead plan bytes items views h at =
     let s : Seen = seat_of v in
     let W : WorldView = world_of h.setup h.happenings in

@@ -7,7 +7,7 @@ use Rattle.std.proofs.lemmas.List.Elements.{All-head, All-tail}
 use Rattle.join_core.specs.Flat.{known, unknown, flat_leq}
 use Rattle.mpx_name.specs.Name.{Name}
 use Rattle.mpx_num.specs.declared.own.Operation.{Operation}
-use Rattle.mpx_post.specs.Births.{BirthView, same_birth, of_members, upto}
+use Rattle.mpx_birth.specs.Births.{BirthView, same_birth, of_members, upto}
 use Rattle.mpx_post.specs.Posts.{Given}
 use Rattle.mpx_post.specs.Gatherings.{GatheringView}
 use Rattle.mpx_post.specs.declared.draft.Draft.{Draft}
@@ -42,7 +42,7 @@ use Rattle.mpx_bus.specs.Acts.{part_of, said_on, act_on, after, at_start, proces
 use Rattle.mpx_bus.specs.Views.{opened, seat_of, after_push, after_pop}
 use Rattle.mpx_bus.specs.Rule.{IsPlanned, IsSent, Stood, planned_posts, world_of}
 use Rattle.mpx_bus.specs.Frames.{AreSpelled}
-use Rattle.mpx_bus.specs.Berths.{AreDeltas, IsPort, MayPushAll}
+use Rattle.mpx_bus.specs.Ports.{AreDeltas, IsPort, MayPushAll}
 use Rattle.mpx_bus.proofs.Journals.{after-append, ahead_itself, ahead_more, did_last, one_of, onward, popped_before}
 use Rattle.mpx_bus.proofs.Moves.{push_same, pop_same}
 use Rattle.mpx_bus.proofs.Seen.{may_push_later}

@@ -18,7 +18,7 @@ use Rattle.mpx_post.proofs.Lists.{slice_get-append}
 use Rattle.mpx_bus.specs.declared.act.Act.{Act}
 use Rattle.mpx_bus.specs.declared.act.Act.TheVariants as A
 use Rattle.mpx_bus.specs.declared.act.Setup.{Setup}
-use Rattle.mpx_bus.specs.Acts.{part_of, said_on, act_on, after, at_start, process_at, DidIn, MaySend, MayPush}
+use Rattle.mpx_bus.specs.Acts.{part_of, said_on, act_on, after, at_start, process_at, DidIn, MaySendFrame, MayPush}
 use Rattle.mpx_bus.proofs.Journals.{after-append, did_before}
 
 -- what it learned grows at the end
@@ -77,7 +77,7 @@ seen_after ops (a ∷ acts) v f seen = seen_after ops acts (act_on ops a v) f (s
 pub may_push_later : (setup : Setup) (p : ℕ) (journal more : List Act) (bytes : List ℕ) → MayPush setup p journal bytes → MayPush setup p (journal ++ more) bytes
 may_push_later setup p journal more bytes may =
     ⊎_elim
-    (λ (m : MaySend setup p journal bytes). inl (record {
+    (λ (m : MaySendFrame setup p journal bytes). inl (record {
       view = m.view;
       spells = m.spells;
       seen = λ f has. subst (λ (v : ProcessView). IsSeen v f) (sym (after-append setup.operations journal more (at_start setup p))) (seen_after setup.operations more (process_at setup p journal) f (m.seen f has));

@@ -87,11 +87,11 @@ pub record IsAhead (setup : Setup) (process : ℕ) (published journal : List Act
   pub local : AreLocal setup.operations published (process_at setup process published) locals
 
 -- the process may send the part that these bytes spell: it has seen each fact of it
-pub record MaySend (setup : Setup) (process : ℕ) (journal : List Act) (bytes : List ℕ) : Type 0 where
+pub record MaySendFrame (setup : Setup) (process : ℕ) (journal : List Act) (bytes : List ℕ) : Type 0 where
   pub view : PartsView
   pub spells : IsSpelled bytes view
   pub seen : (f : Fact) → Has (look_of view) f → IsSeen (process_at setup process journal) f
 
 -- it may push these bytes: it may send the part, or it popped a frame of these bytes
 abbrev pub MayPush : Setup → (process : ℕ) → List Act → List ℕ → Type 0
-MayPush setup p journal bytes = MaySend setup p journal bytes ⊎ DidIn journal (A.Popped bytes)
+MayPush setup p journal bytes = MaySendFrame setup p journal bytes ⊎ DidIn journal (A.Popped bytes)

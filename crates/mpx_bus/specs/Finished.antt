@@ -19,7 +19,7 @@ AreApart (name ∷ names) = ((i : ℕ) → slice_get names i ≡ Some name → �
 
 -- on each of some contexts, no two of which are one, both have finished so many calls, and none on others: that many instances, or
 -- the greatest number that is told
-pub record HaveFinished (a b : NodeView) (count : ℕ) : Type 0 where
+pub record BothHaveFinished (a b : NodeView) (count : ℕ) : Type 0 where
   pub names : List Name
   pub apart : AreApart names
   pub whole : (name : Name) → 0 < finished_by_both a b name → (i : ℕ) × (slice_get names i ≡ Some name)

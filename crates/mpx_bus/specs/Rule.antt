@@ -81,7 +81,7 @@ pub record FitsView (w : WorldView) (seat : Seating) (named : Bool) (setup : Set
   pub seats : (place : ℕ) (s : Seen) → slice_get v.seats place ≡ Some s → FitsSeat w seat setup pass place s
 
 -- what can happen leads to the world that all this shows
-pub record Sound (items : List (List ℕ)) (views : List View) : Type 0 where
+pub record SoundQueue (items : List (List ℕ)) (views : List View) : Type 0 where
   pub happenings : List Happening
   pub seat : Seating
   pub named : Bool
@@ -93,7 +93,7 @@ pub record Sound (items : List (List ℕ)) (views : List View) : Type 0 where
   pub passes : (pass : ℕ) (v : View) → get_elem? views pass ≡ some v → FitsView (world_of setup happenings) seat named setup maker pass v
 
 -- all processes of this view are of one world, and they are different processes
-pub record Stands (v : View) : Type 0 where
+pub record StandsForOneWorld (v : View) : Type 0 where
   pub happenings : List Happening
   pub may : MayGoOn (start_of v.setup) happenings
   pub each : (place : ℕ) (s : Seen) → slice_get v.seats place ≡ Some s → (world_of v.setup happenings).each s.me ≡ process_at v.setup s.me s.journal

@@ -1,4 +1,4 @@
-// What a process did, and what the queue knows of it. No value of these types is made: contracts alone see them.
+//! What a process did, and what the queue knows of it. No value of these types is made: contracts alone see them.
 use mpx_board::Board;
 use mpx_name::Name;
 use mpx_num::{Numbers, Operation};

@@ -1,6 +1,6 @@
-// What two processes have both finished.
+//! What two processes have both finished.
 ghost use Rattle.mpx_node.specs.Shown.{node_of};
-ghost use Rattle.mpx_bus.specs.Finished.{HaveFinished, TellsFronts};
+ghost use Rattle.mpx_bus.specs.Finished.{BothHaveFinished, TellsFronts};
 
 use mpx_node::Node;
 
@@ -8,7 +8,7 @@ use mpx_node::Node;
 // has finished calls is one of which its board knows, since the board tells its front, or that the context is dead.
 pub(crate) fn both_finished(first: &Node, second: &Node) -> u64
     requires { TellsFronts (node_of first.now) }
-    ensures { HaveFinished (node_of first.now) (node_of second.now) result }
+    ensures { BothHaveFinished (node_of first.now) (node_of second.now) result }
 {
     let mut both: u64 = 0;
     for (name, _) in first.board().pair().first.entries() {

@@ -1,4 +1,4 @@
-// Frames on the queue.
+//! Frames on the queue.
 ghost use Rattle.std.specs.Prelude.{◌≡◌, map, IfOk};
 
 use bytes::{Bytes, BytesMut};
@@ -33,7 +33,7 @@ impl Frame {
         })
     }
 
-    /// The same bytes, shared. It may want memory for the count of those who share them.
+    /// A copy, which shares the bytes. It may want memory for the count of those who share them.
     pub fn copy(&self) -> Result<Frame, OutOfMemory>
         ensures { IfOk result (λ f. f ≡ self.now) }
     {

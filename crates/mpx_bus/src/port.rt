@@ -1,4 +1,4 @@
-// The queue that all ports share, and a port's calls.
+//! The queue that all ports share, and a port's calls.
 ghost use Rattle.std.specs.Prelude.{◌≡◌, ◌≢◌, ℕ, List, is_some, ◌<◌, ◌≤◌, ◌++◌, ◌∷◌, [], Err, IfOk, IfErr, OnOk, OnErr};
 ghost use Rattle.crossbeam_queue.specs.Passes.{view, IsPassOf};
 ghost use Rattle.mpx_board.specs.Changes.{pruned_on};
@@ -8,17 +8,18 @@ ghost use Rattle.mpx_node.specs.Shown.{node_of};
 ghost use Rattle.mpx_bus.specs.declared.act.Act.TheVariants as A;
 ghost use Rattle.mpx_bus.specs.Views.{seat_of};
 ghost use Rattle.mpx_bus.specs.Rule.{Stood};
-ghost use Rattle.mpx_bus.specs.Berths.{CanPush, Goes, GoesOn, HasListed, HaveMet, IsFleet, IsSamePort, KeepsPlan, node_in};
+ghost use Rattle.mpx_bus.specs.Ports.{CanPush, PortGoes, PortGoesOn, HasListed, HaveMet, IsFleet, IsSamePort, KeepsPlan, node_in};
 ghost use Rattle.mpx_bus.specs.Buses.{room_of, table_of};
-ghost use Rattle.mpx_bus.specs.Finished.{HaveFinished};
+ghost use Rattle.mpx_bus.specs.Finished.{BothHaveFinished};
 ghost use Rattle.mpx_bus.specs.Answers.{HarvestsOne, Lists, PassesOn, PopsOne, PushesNext, PushesOne, PushesLast, TakesIn};
 
 use crate::both::both_finished;
 use crate::frame::{Frame, frames_with};
-use crate::rule::{Meets, Named, Place, Queue, Seats};
+use crate::rule::{Meets, Named, Queue, QueuePass, Seats};
 use crate::steps::{name_all, opened_line, pop_to, push_to};
 use crate::trace::{
-    Desk, Line, acknowledged, gathered, harvested, popped, posted, pruned, pushed, stopped, took,
+    EmptyQueue, JournalPass, acknowledged, gathered, harvested, popped, posted, pruned, pushed,
+    stopped, took,
 };
 use join_core::OutOfMemory;
 use mpx_board::PruneError;
@@ -44,9 +45,9 @@ pub struct Bus {
 pub struct Port {
     node: Node,
     kept: Vec<Frame>,
-    pass: Place,
-    desk: Desk,
-    line: Line,
+    pass: QueuePass,
+    empty: EmptyQueue,
+    line: JournalPass,
 }
 
 impl Model for Port {
@@ -54,13 +55,13 @@ impl Model for Port {
     ghost use Rattle.crossbeam_queue.specs.Passes.{IsPassOf};
     ghost use Rattle.mpx_node.specs.Shown.{node_of};
     ghost use Rattle.mpx_bus.specs.Views.{seat_of};
-    ghost use Rattle.mpx_bus.specs.Berths.{Berth, berth, IsPort, MayPushAll};
+    ghost use Rattle.mpx_bus.specs.Ports.{PortView, port_view, IsPort, MayPushAll};
 
-    ghost Value = { Berth };
+    ghost Value = { PortView };
 
-    ghost view = { λ p. berth p.pass.me.0.client p.line.me.0.client p.kept.items p.pass.table_id p.pass.id };
+    ghost view = { λ p. port_view p.pass.me.0.client p.line.me.0.client p.kept.items p.pass.table_id p.pass.id };
 
-    ghost invariant = { λ p. (p.pass.me.1 ≡ []) × IsPassOf p.desk p.line × IsPort (node_of p.node) p.pass.me.0.client p.line.me.0.client
+    ghost invariant = { λ p. (p.pass.me.1 ≡ []) × IsPassOf p.empty p.line × IsPort (node_of p.node) p.pass.me.0.client p.line.me.0.client
         × MayPushAll p.pass.me.0.client.setup (seat_of p.pass.me.0.client).me p.line.me.0.client p.kept.items };
 }
 
@@ -95,8 +96,9 @@ pub struct Met {
 }
 
 impl Bus {
-    /// A bus with room for so many frames, and a port for each process, in order; the first processes are ranks. What the ports
-    /// plan to post, where they do, and which operations of the job's own they have is `N`'s, which contracts alone see.
+    /// A bus with room for `capacity` frames, 1 to 65,536, and a port for each of 1 to 64 processes, in order; the first `ranks` of them
+    /// are ranks. What the ports plan to post, where they do, and which operations of the job's own they have is `N`'s, which
+    /// contracts alone see. An `Err` is want of memory.
     pub fn new<N: Named>(
         alloc: Global,
         capacity: usize,
@@ -118,13 +120,13 @@ impl Bus {
         for me in 0..processes {
             let pass = queue.another::<Seats>(&mut maker);
             let node = Node::new(alloc, Proc::new(me), ranks, processes)?;
-            let (desk, line) = opened_line(alloc)?;
+            let (empty, line) = opened_line(alloc)?;
             let kept = Vec::new(alloc);
             ports.push(Port {
                 node,
                 kept,
                 pass,
-                desk,
+                empty,
                 line,
             })?;
         }
@@ -133,8 +135,8 @@ impl Bus {
 
     /// Pushes the next frame of the port's list of what others may lack of its board, and makes a new list where all of the last
     /// one were sent: the port then says what it has, and its list is its board without the posts that all processes say that
-    /// they have, in parts whose frames have at most so many bytes. What is left of the last list was made under the limit of its
-    /// own call. A frame that comes back counts as sent. It may wait.
+    /// they have, in parts whose frames have at most `limit` bytes, from 524,288 to 1,048,576. What is left of the last list was made under
+    /// the limit of its own call. A frame that comes back counts as sent. It may wait. The port is one of this bus, as for all its calls.
     ///
     /// # Errors
     /// Memory may be wanting for a new list, and then the port has done nothing.
@@ -149,7 +151,7 @@ impl Bus {
         requires plan { KeepsPlan port.old }
         requires least { 524288 ≤ limit }
         requires most { limit ≤ 1048576 }
-        ensures port { GoesOn port.old port.new }
+        ensures port { PortGoesOn port.old port.new }
         ensures next { IfOk result (λ push. PushesNext limit push port.old port.new) }
         ensures err { OnErr result (port.new ≡ port.old) }
         ensures memory { OnErr result (port.old.kept ≡ []) }
@@ -163,7 +165,7 @@ impl Bus {
         requires queue { port.old.table ≡ table_of self.now }
         requires plan { KeepsPlan port.old }
         requires some { port.old.kept ≢ [] }
-        ensures port { GoesOn port.old port.new }
+        ensures port { PortGoesOn port.old port.new }
         ensures next { (bytes : List ℕ) × (port.old.kept ≡ port.new.kept ++ bytes ∷ []) × PushesLast bytes result port.old port.new }
     {
         let Some(frame) = port.kept.pop() else {
@@ -181,7 +183,7 @@ impl Bus {
         ensures kept { port.new.kept ≡ port.old.kept }
         ensures answer { PushesOne frame result port.old port.new }
     {
-        let next = pushed::<Brand>(&port.desk, &mut port.line, &frame);
+        let next = pushed::<Brand>(&port.empty, &mut port.line, &frame);
         match push_to::<Brand, R>(rt, &self.queue, &mut port.pass, &port.line, frame) {
             Ok(()) => {
                 port.line = next;
@@ -191,12 +193,13 @@ impl Bus {
         }
     }
 
-    /// Pushes a frame that this port popped or that was refused to it, or a copy of one. It may wait, and takes no memory.
+    /// Pushes a frame that this port popped or that was refused to it, or a copy of one; where the queue is full it comes back. It may
+    /// wait, and takes no memory.
     pub fn push_on<R: Wait>(&self, rt: &R, port: &mut Port, frame: Frame) -> Push
         requires queue { port.old.table ≡ table_of self.now }
         requires plan { KeepsPlan port.old }
         requires frame { CanPush port.old frame }
-        ensures port { GoesOn port.old port.new }
+        ensures port { PortGoesOn port.old port.new }
         ensures kept { port.new.kept ≡ port.old.kept }
         ensures answer { PushesOne frame result port.old port.new }
     {
@@ -207,7 +210,7 @@ impl Bus {
     pub fn pop<R: Wait>(&self, rt: &R, alloc: Global, port: &mut Port) -> Pop
         requires queue { port.old.table ≡ table_of self.now }
         requires plan { KeepsPlan port.old }
-        ensures port { GoesOn port.old port.new }
+        ensures port { PortGoesOn port.old port.new }
         ensures kept { port.new.kept ≡ port.old.kept }
         ensures answer { PopsOne result port.old port.new }
         ensures board { TakesIn result (node_in port.old) (node_in port.new) }
@@ -226,14 +229,14 @@ impl Bus {
         let Some(frame) = pop_to::<Brand, R>(rt, &self.queue, &mut port.pass, &port.line) else {
             return Pop::Empty;
         };
-        popped::<Brand>(&port.desk, &mut port.line, &frame);
+        popped::<Brand>(&port.empty, &mut port.line, &frame);
         match port.node.take_frame(alloc, frame.as_slice()) {
             Ok(()) => {
-                took::<Brand>(&port.desk, &mut port.line, &frame);
+                took::<Brand>(&port.empty, &mut port.line, &frame);
                 Pop::Took(frame)
             }
             Err(_) => {
-                stopped::<Brand>(&port.desk, &mut port.line, &frame, port.node.board());
+                stopped::<Brand>(&port.empty, &mut port.line, &frame, port.node.board());
                 Pop::OutOfMemory(frame)
             }
         }
@@ -247,21 +250,21 @@ impl Bus {
         requires setup { second.setup ≡ first.setup }
         ensures first { node_of result.first ≡ node_in first }
         ensures second { node_of result.second ≡ node_in second }
-        ensures both { HaveFinished (node_in first) (node_in second) result.both }
+        ensures both { BothHaveFinished (node_in first) (node_in second) result.both }
         ensures history { HaveMet first second }
     {
         let Port {
             node: first,
             kept: _,
             mut pass,
-            desk: _,
+            empty: _,
             line: _,
         } = first;
         let Port {
             node: second,
             kept: _,
             pass: other,
-            desk: _,
+            empty: _,
             line: _,
         } = second;
         self.queue.absorb::<Meets>(&mut pass, other);
@@ -284,7 +287,8 @@ impl Port {
         &self.node
     }
 
-    /// Posts the draft as the next call on a context, as [`Node::post`] does. The operations are those that the bus was set up with.
+    /// Posts the draft as the next call on a context, as [`Node::post`] does, with its refusals. The operations are those that the bus was
+    /// set up with.
     pub fn post(
         &mut self,
         alloc: Global,
@@ -293,13 +297,13 @@ impl Port {
         ops: &Ops,
     ) -> Result<u32, PostError>
         requires { ⟦<Ops as Listing>⟧.operations ops.now ≡ self.old.setup.operations }
-        ensures port { Goes self.old self.new }
+        ensures port { PortGoes self.old self.new }
         ensures still { (self.new.published ≡ self.old.published) × (self.new.kept ≡ self.old.kept) }
         ensures ok { OnOk result (self.new.journal ≡ self.old.journal ++ A.Posted name.now draft ∷ []) }
         ensures err { OnErr result (self.new ≡ self.old) }
         ensures node { Posts name.now (checked_on self.old.setup.operations (node_in self.old) name.now draft) result (node_in self.old) (node_in self.new) }
     {
-        let next = posted::<Brand>(&self.desk, &mut self.line, name, &draft);
+        let next = posted::<Brand>(&self.empty, &mut self.line, name, &draft);
         match self.node.post(alloc, name, draft, ops) {
             Ok(call) => {
                 self.line = next;
@@ -312,14 +316,14 @@ impl Port {
     /// Stores the result of the next call on a context, as [`Node::harvest`] does, with the same operations.
     pub fn harvest(&mut self, alloc: Global, name: &Name, ops: &Ops) -> Result<Harvest, OutOfMemory>
         requires { ⟦<Ops as Listing>⟧.operations ops.now ≡ self.old.setup.operations }
-        ensures port { GoesOn self.old self.new }
+        ensures port { PortGoesOn self.old self.new }
         ensures still { (self.new.published ≡ self.old.published) × (self.new.kept ≡ self.old.kept) }
         ensures journal { HarvestsOne name.now result self.old self.new }
         ensures node { Harvests self.old.setup.operations (is_some ((node_in self.old).opened name.now)) name.now (next_result self.old.setup.operations (node_in self.old) name.now) result (node_in self.old) (node_in self.new) }
     {
         match self.node.harvest(alloc, name, ops)? {
             Harvest::Done(call) => {
-                harvested::<Brand>(&self.desk, &mut self.line, name);
+                harvested::<Brand>(&self.empty, &mut self.line, name);
                 Ok(Harvest::Done(call))
             }
             Harvest::NotYet => Ok(Harvest::NotYet),
@@ -327,7 +331,7 @@ impl Port {
         }
     }
 
-    /// Opens a gathering, as [`Node::open_gathering`] does.
+    /// Opens a gathering, as [`Node::open_gathering`] does, with its refusals.
     pub fn open_gathering(
         &mut self,
         alloc: Global,
@@ -335,7 +339,7 @@ impl Port {
         tag: i128,
         ranks: &[i128],
     ) -> Result<Name, PostError>
-        ensures port { GoesOn self.old self.new }
+        ensures port { PortGoesOn self.old self.new }
         ensures still { (self.new.published ≡ self.old.published) × (self.new.kept ≡ self.old.kept) }
         ensures ok { OnOk result (self.new.journal ≡ self.old.journal ++ A.Gathered parent.now tag ranks.now ∷ []) }
         ensures err { OnErr result (self.new ≡ self.old) }
@@ -343,16 +347,16 @@ impl Port {
     {
         match self.node.open_gathering(alloc, parent, tag, ranks) {
             Ok(name) => {
-                gathered::<Brand>(&self.desk, &mut self.line, parent, tag, ranks);
+                gathered::<Brand>(&self.empty, &mut self.line, parent, tag, ranks);
                 Ok(name)
             }
             Err(refusal) => Err(refusal),
         }
     }
 
-    /// Drops the posts of calls below the number on a context, as [`Node::prune`] does. It takes no memory.
+    /// Drops the posts of calls below the number on a context, as [`Node::prune`] does, with its errors. It takes no memory.
     pub fn prune(&mut self, name: &Name, number: u32) -> Result<(), PruneError>
-        ensures port { GoesOn self.old self.new }
+        ensures port { PortGoesOn self.old self.new }
         ensures still { (self.new.published ≡ self.old.published) × (self.new.kept ≡ self.old.kept) }
         ensures answer { result ≡ pruned_on (node_in self.old).board name.now number }
         ensures ok { OnOk result (self.new.journal ≡ self.old.journal ++ A.Pruned name.now number ∷ []) }
@@ -360,7 +364,7 @@ impl Port {
     {
         match self.node.prune(name, number) {
             Ok(()) => {
-                pruned::<Brand>(&self.desk, &mut self.line, name, number);
+                pruned::<Brand>(&self.empty, &mut self.line, name, number);
                 Ok(())
             }
             Err(refusal) => Err(refusal),
@@ -371,7 +375,7 @@ impl Port {
     fn lists(&mut self, alloc: Global, limit: usize) -> Result<(), OutOfMemory>
         requires least { 524288 ≤ limit }
         requires most { limit ≤ 1048576 }
-        ensures port { GoesOn self.old self.new }
+        ensures port { PortGoesOn self.old self.new }
         ensures ok { OnOk result (Lists limit self.old self.new) }
         ensures some { OnOk result (self.new.kept ≢ []) }
         ensures err { OnErr result (self.new ≡ self.old) }
@@ -389,15 +393,17 @@ impl Port {
         requires none { self.old.kept ≡ [] }
         requires least { 524288 ≤ limit }
         requires most { limit ≤ 1048576 }
-        ensures port { GoesOn self.old self.new }
+        ensures port { PortGoesOn self.old self.new }
         ensures ok { OnOk result (HasListed limit self.old self.new) }
         ensures some { OnOk result (self.new.kept ≢ []) }
         ensures err { OnErr result (self.new ≡ self.old) }
     {
-        let NewFrames { said, frames } = self.node.lacking_frames(alloc, limit)?;
+        // what the queue's frames share can't serve once more
+        let mut spare = Vec::new(alloc);
+        let NewFrames { said, frames } = self.node.lacking_frames(alloc, limit, &mut spare)?;
         let frames = frames_with(alloc, frames)?;
         self.node.acknowledge(said);
-        acknowledged::<Brand>(&self.desk, &mut self.line, self.node.board());
+        acknowledged::<Brand>(&self.empty, &mut self.line, self.node.board());
         self.kept = frames;
         Ok(())
     }

@@ -1,14 +1,14 @@
-// A process's steps at the queue, under its rule, and the list of what it did, which has none at first.
+//! A process's steps at the queue, under its rule, and the list of what it did, which has none at first.
 ghost use Rattle.std.specs.Prelude.{◌≡◌, [], IfOk, IsTrue, is_ok, MatchOption, MatchResult};
 ghost use Rattle.crossbeam_queue.specs.Fifo.{Pops, Pushes};
 ghost use Rattle.crossbeam_queue.specs.Passes.{IsPassOf, IsSamePass, ruled_capacity, view};
 ghost use Rattle.mpx_format.specs.Decoding.{decoded};
-ghost use Rattle.mpx_bus.specs.Rule.{Sound, Stood};
+ghost use Rattle.mpx_bus.specs.Rule.{SoundQueue, Stood};
 ghost use Rattle.mpx_bus.specs.Views.{after_pop, after_push, maker as first_view, maker_of, seat_of};
 
 use crate::frame::Frame;
-use crate::rule::{Aim, Named, Names, Place, Queue, Sends, Takes};
-use crate::trace::{Desk, Line};
+use crate::rule::{Aim, LearnsSetup, Named, Queue, QueuePass, Sends, Takes};
+use crate::trace::{EmptyQueue, JournalPass};
 use std::alloc::{AllocError, Global};
 use std::sync::Wait;
 
@@ -16,13 +16,13 @@ use std::sync::Wait;
 pub(crate) fn push_to<M: Aim, R: Wait>(
     rt: &R,
     queue: &Queue,
-    pass: &mut Place,
-    line: &Line,
+    pass: &mut QueuePass,
+    line: &JournalPass,
     frame: Frame,
 ) -> Result<(), Frame>
     requires queue { IsPassOf queue.now pass.old }
     requires line { view line.now ≡ M.journal }
-    requires rule { Pushes Sound (ruled_capacity queue.now) pass.old.id (view pass.old) frame
+    requires rule { Pushes SoundQueue (ruled_capacity queue.now) pass.old.id (view pass.old) frame
         (λ w. (w ≡ after_push M.journal frame (view pass.old)) × Stood (view pass.old).setup (seat_of (view pass.old)).me (seat_of w).journal) }
     ensures queue { IsSamePass pass.old pass.new }
     ensures rule { MatchResult result
@@ -37,12 +37,12 @@ pub(crate) fn push_to<M: Aim, R: Wait>(
 pub(crate) fn pop_to<M: Aim, R: Wait>(
     rt: &R,
     queue: &Queue,
-    pass: &mut Place,
-    line: &Line,
+    pass: &mut QueuePass,
+    line: &JournalPass,
 ) -> Option<Frame>
     requires queue { IsPassOf queue.now pass.old }
     requires line { view line.now ≡ M.journal }
-    requires rule { Pops Sound pass.old.id (view pass.old)
+    requires rule { Pops SoundQueue pass.old.id (view pass.old)
         (λ x w. (w ≡ after_pop M.journal x (view pass.old)) × Stood (view pass.old).setup (seat_of (view pass.old)).me (seat_of w).journal × IsTrue (is_ok (decoded x))) }
     ensures queue { IsSamePass pass.old pass.new }
     ensures rule { MatchOption result (view pass.new ≡ view pass.old)
@@ -53,18 +53,18 @@ pub(crate) fn pop_to<M: Aim, R: Wait>(
 }
 
 /// The maker learns what all agree on.
-pub(crate) fn name_all<N: Named>(queue: &Queue, maker: &mut Place)
+pub(crate) fn name_all<N: Named>(queue: &Queue, maker: &mut QueuePass)
     requires queue { IsPassOf queue.now maker.old }
     requires first { view maker.old ≡ first_view }
     ensures queue { IsSamePass maker.old maker.new }
     ensures named { view maker.new ≡ maker_of N.setup 0 }
 {
-    let _ = queue.another::<Names<N>>(maker);
+    let _ = queue.another::<LearnsSetup<N>>(maker);
 }
 
 /// A list of nothing done.
-pub(crate) fn opened_line(alloc: Global) -> Result<(Desk, Line), AllocError>
+pub(crate) fn opened_line(alloc: Global) -> Result<(EmptyQueue, JournalPass), AllocError>
     ensures { IfOk result (λ l. IsPassOf l.0 l.1 × (view l.1 ≡ [])) }
 {
-    Desk::ruled(alloc, 1)
+    EmptyQueue::ruled(alloc, 1)
 }

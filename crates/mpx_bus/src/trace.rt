@@ -1,4 +1,4 @@
-// The list of what a port did, which contracts alone see: what a pass knows of a queue of its own, to which nothing is pushed.
+//! The list of what a port did, which contracts alone see: what a pass knows of a queue of its own, to which nothing is pushed.
 ghost use Rattle.std.specs.Prelude.{◌≡◌, ◌++◌, ◌∷◌, []};
 ghost use Rattle.crossbeam_queue.specs.Passes.{view, IsPassOf, IsSamePass};
 ghost use Rattle.mpx_bus.specs.declared.act.Act.TheVariants as A;
@@ -26,9 +26,9 @@ impl Protocol<u8, Journal> for Anything {
     ghost first = { [] };
 }
 
-pub type Desk = RuledArrayQueue<u8, Journal, Anything, Global>;
+pub type EmptyQueue = RuledArrayQueue<u8, Journal, Anything, Global>;
 
-pub type Line = Pass<u8, Journal>;
+pub type JournalPass = Pass<u8, Journal>;
 
 /// What a port did. Each call that notes one picks it.
 pub trait Noted {
@@ -71,35 +71,40 @@ impl<N: Noted> Split<Journal> for Tries<N> {
 }
 
 // The line with a post more.
-pub(crate) fn posted<N: Noted>(desk: &Desk, line: &mut Line, name: &Name, draft: &Draft) -> Line
-    requires desk { IsPassOf desk.now line.old }
+pub(crate) fn posted<N: Noted>(
+    empty: &EmptyQueue,
+    line: &mut JournalPass,
+    name: &Name,
+    draft: &Draft,
+) -> JournalPass
+    requires empty { IsPassOf empty.now line.old }
     requires act { N.act ≡ A.Posted name.now draft.now }
     ensures same { IsSamePass line.old line.new × (view line.new ≡ view line.old) }
-    ensures made { IsPassOf desk.now result × (view result ≡ view line.old ++ A.Posted name.now draft.now ∷ []) }
+    ensures made { IsPassOf empty.now result × (view result ≡ view line.old ++ A.Posted name.now draft.now ∷ []) }
 {
     let _ = name;
     let _ = draft;
-    desk.another::<Tries<N>>(line)
+    empty.another::<Tries<N>>(line)
 }
 
-pub(crate) fn harvested<N: Noted>(desk: &Desk, line: &mut Line, name: &Name)
-    requires desk { IsPassOf desk.now line.old }
+pub(crate) fn harvested<N: Noted>(empty: &EmptyQueue, line: &mut JournalPass, name: &Name)
+    requires empty { IsPassOf empty.now line.old }
     requires act { N.act ≡ A.Harvested name.now }
     ensures same { IsSamePass line.old line.new }
     ensures noted { view line.new ≡ view line.old ++ A.Harvested name.now ∷ [] }
 {
     let _ = name;
-    let _ = desk.another::<Notes<N>>(line);
+    let _ = empty.another::<Notes<N>>(line);
 }
 
 pub(crate) fn gathered<N: Noted>(
-    desk: &Desk,
-    line: &mut Line,
+    empty: &EmptyQueue,
+    line: &mut JournalPass,
     parent: &Name,
     tag: i128,
     ranks: &[i128],
 )
-    requires desk { IsPassOf desk.now line.old }
+    requires empty { IsPassOf empty.now line.old }
     requires act { N.act ≡ A.Gathered parent.now tag ranks.now }
     ensures same { IsSamePass line.old line.new }
     ensures noted { view line.new ≡ view line.old ++ A.Gathered parent.now tag ranks.now ∷ [] }
@@ -107,68 +112,77 @@ pub(crate) fn gathered<N: Noted>(
     let _ = parent;
     let _ = tag;
     let _ = ranks;
-    let _ = desk.another::<Notes<N>>(line);
+    let _ = empty.another::<Notes<N>>(line);
 }
 
-pub(crate) fn pruned<N: Noted>(desk: &Desk, line: &mut Line, name: &Name, number: u32)
-    requires desk { IsPassOf desk.now line.old }
+pub(crate) fn pruned<N: Noted>(empty: &EmptyQueue, line: &mut JournalPass, name: &Name, number: u32)
+    requires empty { IsPassOf empty.now line.old }
     requires act { N.act ≡ A.Pruned name.now number }
     ensures same { IsSamePass line.old line.new }
     ensures noted { view line.new ≡ view line.old ++ A.Pruned name.now number ∷ [] }
 {
     let _ = name;
     let _ = number;
-    let _ = desk.another::<Notes<N>>(line);
+    let _ = empty.another::<Notes<N>>(line);
 }
 
-pub(crate) fn took<N: Noted>(desk: &Desk, line: &mut Line, frame: &Frame)
-    requires desk { IsPassOf desk.now line.old }
+pub(crate) fn took<N: Noted>(empty: &EmptyQueue, line: &mut JournalPass, frame: &Frame)
+    requires empty { IsPassOf empty.now line.old }
     requires act { N.act ≡ A.Took frame.now }
     ensures same { IsSamePass line.old line.new }
     ensures noted { view line.new ≡ view line.old ++ A.Took frame.now ∷ [] }
 {
     let _ = frame;
-    let _ = desk.another::<Notes<N>>(line);
+    let _ = empty.another::<Notes<N>>(line);
 }
 
-pub(crate) fn stopped<N: Noted>(desk: &Desk, line: &mut Line, frame: &Frame, left: &Board)
-    requires desk { IsPassOf desk.now line.old }
+pub(crate) fn stopped<N: Noted>(
+    empty: &EmptyQueue,
+    line: &mut JournalPass,
+    frame: &Frame,
+    left: &Board,
+)
+    requires empty { IsPassOf empty.now line.old }
     requires act { N.act ≡ A.StoppedTaking frame.now left.now }
     ensures same { IsSamePass line.old line.new }
     ensures noted { view line.new ≡ view line.old ++ A.StoppedTaking frame.now left.now ∷ [] }
 {
     let _ = frame;
     let _ = left;
-    let _ = desk.another::<Notes<N>>(line);
+    let _ = empty.another::<Notes<N>>(line);
 }
 
-pub(crate) fn acknowledged<N: Noted>(desk: &Desk, line: &mut Line, board: &Board)
-    requires desk { IsPassOf desk.now line.old }
+pub(crate) fn acknowledged<N: Noted>(empty: &EmptyQueue, line: &mut JournalPass, board: &Board)
+    requires empty { IsPassOf empty.now line.old }
     requires act { N.act ≡ A.Acknowledged board.now }
     ensures same { IsSamePass line.old line.new }
     ensures noted { view line.new ≡ view line.old ++ A.Acknowledged board.now ∷ [] }
 {
     let _ = board;
-    let _ = desk.another::<Notes<N>>(line);
+    let _ = empty.another::<Notes<N>>(line);
 }
 
-pub(crate) fn popped<N: Noted>(desk: &Desk, line: &mut Line, frame: &Frame)
-    requires desk { IsPassOf desk.now line.old }
+pub(crate) fn popped<N: Noted>(empty: &EmptyQueue, line: &mut JournalPass, frame: &Frame)
+    requires empty { IsPassOf empty.now line.old }
     requires act { N.act ≡ A.Popped frame.now }
     ensures same { IsSamePass line.old line.new }
     ensures noted { view line.new ≡ view line.old ++ A.Popped frame.now ∷ [] }
 {
     let _ = frame;
-    let _ = desk.another::<Notes<N>>(line);
+    let _ = empty.another::<Notes<N>>(line);
 }
 
 // The line with a push more.
-pub(crate) fn pushed<N: Noted>(desk: &Desk, line: &mut Line, frame: &Frame) -> Line
-    requires desk { IsPassOf desk.now line.old }
+pub(crate) fn pushed<N: Noted>(
+    empty: &EmptyQueue,
+    line: &mut JournalPass,
+    frame: &Frame,
+) -> JournalPass
+    requires empty { IsPassOf empty.now line.old }
     requires act { N.act ≡ A.Pushed frame.now }
     ensures same { IsSamePass line.old line.new × (view line.new ≡ view line.old) }
-    ensures made { IsPassOf desk.now result × (view result ≡ view line.old ++ A.Pushed frame.now ∷ []) }
+    ensures made { IsPassOf empty.now result × (view result ≡ view line.old ++ A.Pushed frame.now ∷ []) }
 {
     let _ = frame;
-    desk.another::<Tries<N>>(line)
+    empty.another::<Tries<N>>(line)
 }

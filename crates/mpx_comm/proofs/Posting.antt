@@ -1,22 +1,21 @@
 -- Posts, and the open requests.
 use Rattle.std.proofs.Common.{◌≡◌, ℕ, zero, suc, ◌+◌, ◌<◌, ◌≤◌, ◌==◌, ◌&&◌, Bool, true, false, cond, List, [], ◌∷◌, ◌++◌, length, Option, Some, None, ◌⊎◌, inl, inr, refl, sym, ap, ◌∙◌, subst, arith}
-use Rattle.std.specs.Prelude.{Result, Ok, Err, IsOk, IfOk, slice_get}
+use Rattle.std.specs.Prelude.{Result, Ok, Err, IsOk, IfOk, slice_get, map, drop, remove, nat_lt}
 use Rattle.std.specs.Option.{option_map}
 use Rattle.std.specs.List.{list_any}
 use Rattle.std.specs.Set.{remove_key}
 use Rattle.indexmap.specs.IndexSet.{insert_key}
-use Rattle.std.proofs.lemmas.Bool.Decides.{Decides-eqb}
+use Rattle.std.proofs.lemmas.Bool.Decides.{Decides-eqb, nat_tests}
 use Rattle.mpx_name.specs.Order.{name_equality}
 use Rattle.mpx_post.specs.Posts.{Given}
-use Rattle.mpx_post.specs.Births.{BirthView}
+use Rattle.mpx_birth.specs.Births.{BirthView, rank_in}
 use Rattle.mpx_post.specs.declared.draft.Draft.{Draft}
 use Rattle.mpx_post.specs.declared.draft.PostError.{PostError}
 use Rattle.mpx_post.specs.declared.draft.PostError.TheVariants as R
 use Rattle.mpx_post.specs.declared.draft.At.{At}
-use Rattle.mpx_post.specs.Kinds.{kind_of}
+use Rattle.mpx_kind.specs.Kinds.{kind_of}
 use Rattle.mpx_post.specs.Seats.{lacks_topology}
 use Rattle.mpx_post.specs.Drafts.{at, checked, checked_as, checked_at, drafted_seat, first_that_holds, given_by, refusal_of, refusals, stray_refusals, unless}
-use Rattle.mpx_post.specs.Births.{rank_in}
 use Rattle.join_core.specs.Flat.{known, unknown}
 use Rattle.mpx_name.specs.Name.{Name, same_name}
 use Rattle.mpx_num.specs.declared.own.Operation.{Operation}
@@ -29,13 +28,11 @@ use Rattle.mpx_comm.specs.declared.answers.WaitError.TheVariants as W
 use Rattle.mpx_comm.specs.declared.answers.CallError.{CallError}
 use Rattle.mpx_comm.specs.declared.answers.CallError.TheVariants as C
 use Rattle.mpx_comm.specs.Later.{Later, IsPending, WasPending, IsOwn}
-use Rattle.join_core.specs.Cases.{first_true, second_true, Answer, yes, no, answer}
+use Rattle.join_core.specs.Cases.{first_true, second_true, TestAnswer, yes, no, answer}
 use Rattle.mpx_comm.proofs.Steps.{get_either, still_pending, pending_now, held_joined, held_added}
 use Rattle.mpx_node.specs.declared.finished.Finished.{Finished}
 use Rattle.std.proofs.lemmas.Option.{same_Some, slice_get_within}
 use Rattle.std.proofs.lemmas.List.{map-append}
-use Rattle.std.proofs.lemmas.Bool.Decides.{nat_tests}
-use Rattle.std.specs.Prelude.{map, drop, remove, nat_lt}
 
 pub ok_holds : {A E P : Type 0} (r : Result A E) → IsOk r → IfOk r (λ a. P) → P
 ok_holds (Ok a) h p = p
@@ -72,7 +69,7 @@ posted_later old new rs later all i r e = subst (λ n. r.call < n) (sym (later.p
 
 -- A POST
 
-one_other : (node : NodeView) (q r : Request) (rs : List Request) → ArePosted node (r ∷ rs) → q.call ≡ posted_on node q.name → list_any (same_request q) rs ≡ false → Answer (same_request q r) → list_any (same_request q) (r ∷ rs) ≡ false
+one_other : (node : NodeView) (q r : Request) (rs : List Request) → ArePosted node (r ∷ rs) → q.call ≡ posted_on node q.name → list_any (same_request q) rs ≡ false → TestAnswer (same_request q r) → list_any (same_request q) (r ∷ rs) ≡ false
 one_other node q r rs all last rest (yes t) =
     let same : q ≡ r = same_sound q r t in
     let less : q.call < posted_on node q.name = subst (λ (x : Request). x.call < posted_on node x.name) (sym same) (all 0 r refl) in
@@ -276,7 +273,7 @@ were_later a b c n rs w later i r l e = still_pending a b c r.name r.call (w i r
 -- one more was pending
 pub were_more : (a b : NodeView) (n : ℕ) (rs : List Request) (r : Request) → WerePending a b n rs → Later a b → slice_get rs n ≡ Some r → IsPending b r.name r.call → WerePending a b (n + 1) rs
 were_more a b n rs r w later at pending i q l e = by_place (answer (nat_lt i n)) where
-  by_place : Answer (nat_lt i n) → WasPending a b q.name q.call
+  by_place : TestAnswer (nat_lt i n) → WasPending a b q.name q.call
   by_place (yes t) = w i q (grind (arith, nat_tests)) e
   by_place (no f) =
       let place : i ≡ n = grind (arith, nat_tests) in

@@ -6,11 +6,11 @@ use Rattle.std.proofs.lemmas.Bool.Decides.{nat_tests}
 use Rattle.std.proofs.lemmas.Option.{same_Some, option_and_then_some, slice_get_cases}
 use Rattle.std.proofs.lemmas.List.{length-append}
 use Rattle.mpx_name.specs.Order.{name_equality}
-use Rattle.join_core.specs.Cases.{Answer, yes, no, answer}
+use Rattle.join_core.specs.Cases.{TestAnswer, yes, no, answer}
 use Rattle.join_core.specs.declared.memory.OutOfMemory.{OutOfMemory}
 use Rattle.join_core.specs.Flat.{FlatView, known, unknown, clash, flat_join, flat_leq}
 use Rattle.mpx_post.specs.Posts.{Given}
-use Rattle.mpx_post.specs.Births.{BirthView}
+use Rattle.mpx_birth.specs.Births.{BirthView}
 use Rattle.mpx_post.specs.Gatherings.{GatheringView}
 use Rattle.mpx_post.specs.declared.draft.PostError.{PostError}
 use Rattle.mpx_post.specs.Equality.{same_given, given_equality}
@@ -81,7 +81,7 @@ held_live c d k p given above = record { held = λ alive l. kept_above (max c.dr
   lost (inr l) = none_below (max c.dropped d.dropped) k (flat_join same_given (c.posts k p) (d.posts k p)) l
 
 -- so does the join, where both may be dead
-held_either : (c d : Context) (k p : ℕ) (given : Given) → ((c.dead || d.dead) ≡ false → IsHeld (join_live c d) k p given) → Answer (c.dead || d.dead) → IsHeld (join_contexts c d) k p given
+held_either : (c d : Context) (k p : ℕ) (given : Given) → ((c.dead || d.dead) ≡ false → IsHeld (join_live c d) k p given) → TestAnswer (c.dead || d.dead) → IsHeld (join_contexts c d) k p given
 held_either c d k p given live (yes t) = subst (λ x. IsHeld x k p given) (sym (ap (λ b. cond b gone (join_live c d)) t)) (held_gone k p given)
 held_either c d k p given live (no n) = subst (λ x. IsHeld x k p given) (sym (ap (λ b. cond b gone (join_live c d)) n)) (live n)
 
@@ -110,11 +110,11 @@ told_own c k p given m h e = by_dead (answer c.dead) where
   none : (c.dead ≡ true) ⊎ (k < c.dropped) → m ≡ given
   none x = let lost : c.posts k p ≡ unknown = h.lost x in cc (ap told lost, e)
 
-  by_front : c.dead ≡ false → Answer (nat_le c.dropped k) → m ≡ given
+  by_front : c.dead ≡ false → TestAnswer (nat_le c.dropped k) → m ≡ given
   by_front alive (yes t) = told_held (c.posts k p) given m (h.held alive (grind (arith, nat_tests))) e
   by_front alive (no f) = none (inr (grind (arith, nat_tests)))
 
-  by_dead : Answer c.dead → m ≡ given
+  by_dead : TestAnswer c.dead → m ≡ given
   by_dead (yes t) = none (inl t)
   by_dead (no f) = by_front f (answer (nat_le c.dropped k))
 
@@ -220,7 +220,7 @@ module _ (ops : List Operation) (old : NodeView) (name : Name) (finished : Finis
         let here : told ((old.board.contexts name).posts k old.me) ≡ Some finished.mine = ap (λ j. told ((old.board.contexts name).posts j old.me)) last.0 ∙ next_mine ops old.board name old.me finished (Some o) e in
         sym (ap (λ (f : Finished). f.mine) last.1) ∙ told_own (old.board.contexts name) k old.me given finished.mine h here
 
-  mine_at : (n : Name) (k : ℕ) (given : Given) → IsOwn old n k given → Answer (same_name n name) → (g : Finished) → slice_get (results_by (after n (same_name n name))) k ≡ Some g → g.mine ≡ given
+  mine_at : (n : Name) (k : ℕ) (given : Given) → IsOwn old n k given → TestAnswer (same_name n name) → (g : Finished) → slice_get (results_by (after n (same_name n name))) k ≡ Some g → g.mine ≡ given
   mine_at n k given o (no f) g e = o.mine g (ap (λ b. slice_get (results_by (after n b)) k) (sym f) ∙ e)
   mine_at n k given o (yes t) g e =
       let same : n ≡ name = name_equality.sound n name t in

@@ -7,6 +7,6 @@ use Rattle.mpx_node.specs.Nodes.{NodeView}
 use Rattle.mpx_comm.specs.Later.{result_at, IsOwn}
 
 -- what was stored is stored, and what was the own post is it
-pub record Keeps (old new : NodeView) : Type 0 where
+pub record NodeKeeps (old new : NodeView) : Type 0 where
   pub stored : (name : Name) (call : ℕ) (finished : Finished) → result_at old name call ≡ Some finished → result_at new name call ≡ Some finished
   pub own : (name : Name) (call : ℕ) (given : Given) → IsOwn old name call given → IsOwn new name call given

@@ -4,13 +4,13 @@ use Rattle.mpx_node.specs.Nodes.{NodeView}
 use Rattle.mpx_comm.specs.Later.{Later}
 
 -- from one state of a host to a later one by so many turns
-abbrev pub Moves : {H : Type 0} → (node : H → NodeView) → (turned : H → ℕ → H → Type 0) → H → ℕ → H → Type 0
-Moves node turned a n b = turned a n b × Later (node a) (node b)
+abbrev pub HostMoves : {H : Type 0} → (node : H → NodeView) → (turned : H → ℕ → H → Type 0) → H → ℕ → H → Type 0
+HostMoves node turned a n b = turned a n b × Later (node a) (node b)
 
 -- so many turns, and just before each of them a look at which it was pending
 abbrev pub Looks : {H : Type 0} → (node : H → NodeView) → (turned : H → ℕ → H → Type 0) → (is_pending : NodeView → Type 0) → H → ℕ → H → Type 0
-Looks {H} node turned is_pending a zero b = Moves node turned a 0 b
-Looks {H} node turned is_pending a (suc n) b = (look : H) × Looks node turned is_pending a n look × is_pending (node look) × Moves node turned look 1 b
+Looks {H} node turned is_pending a zero b = HostMoves node turned a 0 b
+Looks {H} node turned is_pending a (suc n) b = (look : H) × Looks node turned is_pending a n look × is_pending (node look) × HostMoves node turned look 1 b
 
 -- so many turns in all, each after such a look
 abbrev pub Awaits : {H : Type 0} → (node : H → NodeView) → (turned : H → ℕ → H → Type 0) → (is_pending : NodeView → Type 0) → H → ℕ → H → Type 0

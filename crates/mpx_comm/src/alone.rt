@@ -1,6 +1,6 @@
-// A desk over a node alone, whose user carries the boards.
+//! A desk over a node alone, whose user carries the boards.
 ghost use Rattle.std.specs.Prelude.{◌≡◌, ◌≤◌, All, IfOk, IsTrue, OnOk, OnErr, is_ok, map};
-ghost use Rattle.mpx_board.specs.Boards.{IsBelow, join_all};
+ghost use Rattle.mpx_board.specs.Boards.{IsBoardBelow, join_all};
 ghost use Rattle.mpx_board.specs.Changes.{pruned_on};
 ghost use Rattle.mpx_board.specs.Looks.{look, parts_of};
 ghost use Rattle.mpx_format.specs.Decoding.{decoded, shown};
@@ -83,13 +83,14 @@ impl Desk<Node> {
     pub fn take(&mut self, alloc: Global, part: &Board) -> Result<(), OutOfMemory>
         ensures ok { OnOk result (node_of self.new.host ≡ learn (look part.now) (node_of self.old.host)) }
         ensures err { OnErr result (StopsTaking (look part.now) (node_of self.old.host) (node_of self.new.host)) }
-        ensures more { OnErr result (¬ (IsBelow (look part.now) (node_of self.old.host).board)) }
+        ensures more { OnErr result (¬ (IsBoardBelow (look part.now) (node_of self.old.host).board)) }
         ensures requests { self.new.requests.keys ≡ self.old.requests.keys }
     {
         self.host.take(alloc, part)
     }
 
-    /// Joins the board that the bytes of a frame spell, as [`Node::take_frame`] does. An `Err` leaves what it leaves there.
+    /// Joins the board that the bytes of a frame spell, as [`Node::take_frame`] does; that they spell one is the caller's condition. An
+    /// `Err` leaves what it leaves there.
     pub fn take_frame(&mut self, alloc: Global, frame: &[u8]) -> Result<(), OutOfMemory>
         requires spelled { IsTrue (is_ok (decoded frame.now)) }
         ensures ok { OnOk result (node_of self.new.host ≡ learn (shown (decoded frame.now)) (node_of self.old.host)) }
@@ -99,7 +100,7 @@ impl Desk<Node> {
         self.host.take_frame(alloc, frame)
     }
 
-    /// Harvests the next call on a context, as the node does.
+    /// Harvests the next call on a context, as [`Node::harvest`] does. An `Err`, for want of memory, changes nothing.
     pub fn harvest(&mut self, alloc: Global, name: &Name, ops: &Ops) -> Result<Harvest, OutOfMemory>
         ensures harvests { HarvestsNext (⟦<Ops as Listing>⟧.operations ops.now) name.now result (node_of self.old.host) (node_of self.new.host) }
         ensures requests { self.new.requests.keys ≡ self.old.requests.keys }
@@ -108,7 +109,7 @@ impl Desk<Node> {
     }
 
     /// Drops the posts of calls below the number on a context, which is at most the floor; past a free that every member has
-    /// harvested the context is dead, as [`Node::prune`] says. It takes no memory.
+    /// harvested the context is dead, as [`Node::prune`] says, with its errors. It takes no memory.
     pub fn prune(&mut self, name: &Name, number: u32) -> Result<(), PruneError>
         ensures answer { result ≡ pruned_on (node_of self.old.host).board name.now number }
         ensures ok { OnOk result (node_of self.new.host ≡ learn_some (prune_part (node_of self.old.host) name.now number) (node_of self.old.host)) }
@@ -118,8 +119,8 @@ impl Desk<Node> {
         self.host.prune(name, number)
     }
 
-    /// Says what the process has, and gives what others may lack of its board in parts, as [`Node::deltas`] does. An `Err`
-    /// changes nothing.
+    /// Says what the process has, and gives what others may lack of its board in parts whose frames have at most `limit` bytes, from
+    /// 524,288 to 1,048,576, as [`Node::deltas`] does. An `Err`, for want of memory, changes nothing.
     pub fn deltas(&mut self, alloc: Global, limit: usize) -> Result<Vec<Board>, OutOfMemory>
         requires least { 524288 ≤ limit }
         requires most { limit ≤ 1048576 }
@@ -138,6 +139,7 @@ impl Desk<Node> {
         &mut self,
         alloc: Global,
         limit: usize,
+        spare: &mut Vec<Vec<u8>>,
     ) -> Result<Vec<Vec<u8>>, OutOfMemory>
         requires least { 524288 ≤ limit }
         requires most { limit ≤ 1048576 }
@@ -146,6 +148,6 @@ impl Desk<Node> {
         ensures err { OnErr result (node_of self.new.host ≡ node_of self.old.host) }
         ensures requests { self.new.requests.keys ≡ self.old.requests.keys }
     {
-        self.host.framed_deltas(alloc, limit)
+        self.host.framed_deltas(alloc, limit, spare)
     }
 }

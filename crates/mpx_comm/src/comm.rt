@@ -1,4 +1,4 @@
-// Communicators, as one of their members has them.
+//! Communicators, as one of their members has them.
 ghost use Rattle.std.specs.Prelude.{◌≡◌, ◌<◌, ◌≤◌, [], IfOk};
 ghost use Rattle.mpx_comm.specs.Comms.{comm_of};
 
@@ -17,7 +17,7 @@ pub struct Comm {
 }
 
 impl Comm {
-    /// `MPI_COMM_WORLD` of so many ranks, at the one with this rank.
+    /// `MPI_COMM_WORLD` (MPI 4.1 section 7.2) of `size` ranks, 64 at most, at the one with this rank.
     pub fn world(alloc: Global, size: u8, rank: u8) -> Comm
         requires small { size ≤ 64 }
         requires member { rank < size }
@@ -30,7 +30,8 @@ impl Comm {
         }
     }
 
-    /// The new communicator that a call gave the process, where it gave one: not the null communicator, nor a fault.
+    /// The new communicator that a call gave the process, where it gave one: not the null communicator, nor a fault. An `Err` is want of
+    /// memory for its name.
     pub fn of(alloc: Global, finished: &Finished) -> Result<Option<Comm>, OutOfMemory>
         ensures { IfOk result (λ comm. comm ≡ comm_of finished.now.outcome) }
     {
@@ -72,6 +73,6 @@ impl Comm {
 
 /// The context of a gathering that was opened: some members of a communicator, under a tag.
 #[derive(Debug, Drop)]
-pub struct Gathering {
+pub struct OpenedGathering {
     pub(crate) name: Name,
 }

@@ -1,4 +1,4 @@
-// The calls that make communicators and the one that frees them, which all block. Each is a draft that is posted and waited for.
+//! The calls that make communicators and the one that frees them, which all block. Each is a draft that is posted and waited for.
 ghost use Rattle.std.specs.Prelude.{◌≡◌, Some};
 ghost use Rattle.mpx_comm.specs.Desks.{DeskAsksGathered, DeskCalls, DeskCallsGathered};
 ghost use Rattle.mpx_comm.specs.Lines as line;
@@ -9,13 +9,17 @@ use crate::desk::Desk;
 use crate::host::Host;
 use crate::lines;
 use crate::request::Request;
+use mpx_kind::NewCommunicator;
 use mpx_node::Finished;
 use mpx_num::{Listing, Numbers, Ops};
-use mpx_post::{DraftedEdge, DraftedNeighbour, NewCommunicator, PostError};
+use mpx_post::{DraftedEdge, DraftedNeighbour, PostError};
 use std::alloc::Global;
 
+/// What `turns` counts, and which refusals and errors every call has, is told at [`Desk`]; each call tells its own. The new
+/// communicator of a result is [`Comm::of`] it.
 impl<H: Host> Desk<H> {
-    /// `MPI_COMM_DUP` (MPI 4.1 section 7.4.2): a new communicator of the same members, with the same topology.
+    /// `MPI_COMM_DUP` (MPI 4.1 section 7.4.2): every member gives nothing, and gets a new communicator of the same members, with the
+    /// same topology. `DepthUsedUp` where its name would have over 8 steps.
     pub fn dup(
         &mut self,
         alloc: Global,
@@ -29,7 +33,9 @@ impl<H: Host> Desk<H> {
         self.call_on(alloc, &comm.name, draft, turns, ops)
     }
 
-    /// `MPI_COMM_SPLIT` (MPI 4.1 section 7.4.2): a new communicator for each colour, none for `MPI_UNDEFINED`, ordered by key.
+    /// `MPI_COMM_SPLIT` (MPI 4.1 section 7.4.2): every member gets the new communicator of those that give its colour, ordered by key,
+    /// of equal keys by rank; one without a colour (`MPI_UNDEFINED`) the null communicator. A colour is from 0 to 2,147,483,647, and a
+    /// key has 32 bits with a sign (`BadTag`). `DepthUsedUp` where the new name would have over 8 steps.
     pub fn split(
         &mut self,
         alloc: Global,
@@ -45,7 +51,10 @@ impl<H: Host> Desk<H> {
         self.call_on(alloc, &comm.name, draft, turns, ops)
     }
 
-    /// `MPI_COMM_CREATE` (MPI 4.1 section 7.4.2): a new communicator of the members with these ranks, in this order.
+    /// `MPI_COMM_CREATE` (MPI 4.1 section 7.4.2), which all members call: a member gets the new communicator of the members with these
+    /// ranks, in this order, or the null communicator where it isn't among the ranks that it gives. All members of a list give that
+    /// list, else it is the fault `Groups`. `BadGroup` where a rank is none of the communicator or stands twice; `DepthUsedUp` as of
+    /// [`Desk::dup`].
     pub fn create(
         &mut self,
         alloc: Global,
@@ -60,9 +69,10 @@ impl<H: Host> Desk<H> {
         self.call_on(alloc, &comm.name, draft, turns, ops)
     }
 
-    /// `MPI_COMM_CREATE_GROUP` (MPI 4.1 section 7.4.2), which the members with these ranks call alone. It opens their
-    /// gathering under the tag and posts there; a refused post keeps the gathering opened. The refusals of
-    /// [`Host::open_gathering`] come first, and want of memory may come before a refusal of the post.
+    /// `MPI_COMM_CREATE_GROUP` (MPI 4.1 section 7.4.2), which the members with these ranks call alone: each gets the new communicator
+    /// of them, in this order. It opens their gathering under the tag and posts there; a refused post keeps the gathering opened. The
+    /// refusals of [`Desk::open_gathering`] come first, then `CallsUsedUp` and `DepthUsedUp`, since the new name has two steps more
+    /// than the communicator's; want of memory may come before a refusal of the post.
     pub fn create_group(
         &mut self,
         alloc: Global,
@@ -83,7 +93,8 @@ impl<H: Host> Desk<H> {
         }
     }
 
-    /// The post of [`Desk::create_group`] alone, whose result is to be waited for: it opens the gathering, and posts there.
+    /// The post of [`Desk::create_group`] alone, whose result is to be waited for: it opens the gathering, and posts there. It makes
+    /// no turn. Its refusals are those of [`Desk::create_group`].
     pub fn start_create_group(
         &mut self,
         alloc: Global,
@@ -104,7 +115,10 @@ impl<H: Host> Desk<H> {
         }
     }
 
-    /// `MPI_DIST_GRAPH_CREATE` (MPI 4.1 section 8.5.4): each member gives any edges, also between others.
+    /// `MPI_DIST_GRAPH_CREATE` (MPI 4.1 section 8.5.4): each member gives any edges, also between others, and gets the new communicator
+    /// of the same members with the graph of all edges. An end that is no rank, or, with `weighted`, a weight outside 0 to
+    /// 2,147,483,647, is `BadEdge`; over 512 edges are `TooManyEdges`. All or none are `weighted`, else it is the fault `Weights`.
+    /// `DepthUsedUp` as of [`Desk::dup`].
     pub fn dist_graph(
         &mut self,
         alloc: Global,
@@ -122,7 +136,9 @@ impl<H: Host> Desk<H> {
         self.call_on(alloc, &comm.name, draft, turns, ops)
     }
 
-    /// `MPI_DIST_GRAPH_CREATE_ADJACENT` (MPI 4.1 section 8.5.4): each member gives its own sources and destinations.
+    /// `MPI_DIST_GRAPH_CREATE_ADJACENT` (MPI 4.1 section 8.5.4): each member gives its own sources and destinations, at most 512
+    /// together, and gets the new communicator of the same members with the graph of these neighbours. The two members of an edge
+    /// give it equally often and with the same weights, else it is the fault `Edges`. All else is as of [`Desk::dist_graph`].
     pub fn dist_graph_adjacent(
         &mut self,
         alloc: Global,
@@ -140,8 +156,9 @@ impl<H: Host> Desk<H> {
         self.call_on(alloc, &comm.name, draft, turns, ops)
     }
 
-    /// `MPI_COMM_FREE` (MPI 4.1 section 7.4.3): the member posts nothing more on the communicator, whatever comes of this call;
-    /// from its post on each other one is refused as [`PostError::Closed`]. What is open there can still be waited for.
+    /// `MPI_COMM_FREE` (MPI 4.1 section 7.4.3), which all members call, and of which each gets nothing. The member posts nothing more
+    /// on the communicator, whatever comes of this call: from its post on each other one is refused as [`PostError::Closed`]. What is
+    /// open there can still be waited for.
     pub fn free(
         &mut self,
         alloc: Global,

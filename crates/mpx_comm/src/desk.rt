@@ -1,4 +1,4 @@
-// The user's calls over a host.
+//! The user's calls over a host.
 ghost use Rattle.std.specs.Prelude.{◌≡◌, ◌≤◌, [], ℕ, OnOk, IfOk, IfErr};
 ghost use Rattle.indexmap.specs.IndexSet.{spare};
 ghost use Rattle.mpx_node.specs.Nodes.{Opens, gathers_on, post_at};
@@ -9,7 +9,7 @@ ghost use Rattle.mpx_comm.specs.Later.{Later, IsAtHand};
 ghost use Rattle.mpx_comm.specs.Requests.{HasStatus, Tests, TestsAll, TestsAny, Waits, WaitsAll, ArePosted};
 
 use crate::answers::{CallError, Tested, WaitError};
-use crate::comm::{Comm, Gathering};
+use crate::comm::{Comm, OpenedGathering};
 use crate::host::Host;
 use crate::look::{await_all, await_one, close_each, look, look_all, look_any};
 use crate::request::Request;
@@ -22,6 +22,20 @@ use mpx_post::{Draft, PostError};
 use std::alloc::{AllocFailed, Global};
 
 /// The user's calls over a host, and the requests that are open, in order of posting.
+///
+/// A call by its name in MPI posts what the member gives, as the member's next call on the communicator. `items` are numbers of the
+/// type `ty`, of `2int` two for each item, and `ops` are the job's own operations. What members get stands in rank order.
+///
+/// A call that blocks then waits for its result: it looks once before the first turn of the host and once after each, and `turns`
+/// is how many turns the host makes at most. It answers the result, which is a fault where the members' posts don't fit together,
+/// or a [`CallError`]. One with `i` before its name (MPI 4.1 sections 6.12 and 8.7) makes no turn, and answers its request, to be
+/// waited for or tested, or a [`PostError`]. The two don't match: where some members block and others don't, it is the fault `Mode`.
+///
+/// A refusal posts nothing, and is the first that holds, in the order of [`PostError`]. Every post may be refused as `NotMember`,
+/// where the communicator isn't opened at the host, as `Closed` behind the member's own [`Desk::free`], as `CallsUsedUp` behind
+/// 4,294,967,295 calls, and for want of memory; one with items also as `ItemsLength` where an item of `2int` is cut, as
+/// `ItemOutOfRange`, and as `TooManyItems` over 4,096 items, or where a count is outside 0 to 4,096. What else may refuse a call,
+/// and which numbers of items are the fault `Amount`, is told at the call.
 #[derive(Drop)]
 pub struct Desk<H: Host> {
     pub(crate) host: H,
@@ -32,7 +46,7 @@ pub struct Desk<H: Host> {
 impl<H: Host> Desk<H> {
     ghost use Rattle.mpx_comm.specs.Desks.{DeskAsks, DeskCalls};
 
-    /// A desk without requests.
+    /// A desk over this host, without requests.
     pub fn new(alloc: Global, host: H) -> Desk<H>
         ensures host { result.host ≡ host }
         ensures requests { result.requests.keys ≡ [] }
@@ -50,15 +64,15 @@ impl<H: Host> Desk<H> {
         &self.host
     }
 
-    /// The host, with which all requests go.
+    /// The host; the desk's requests are gone with the desk, and what was posted stays.
     pub fn into_host(self) -> H
         ensures { result ≡ self.host }
     {
         self.host
     }
 
-    /// Posts the draft as the next call on the communicator. An `Err` changes nothing, and is want of memory only where the
-    /// draft isn't refused.
+    /// Posts the draft as the next call on the communicator, and answers its request, which is then the last open one. It makes no
+    /// turn. An `Err` changes nothing: it is the draft's first refusal, or want of memory where the draft has none.
     pub fn post(
         &mut self,
         alloc: Global,
@@ -72,30 +86,33 @@ impl<H: Host> Desk<H> {
         self.post_on(alloc, &comm.name, draft, ops)
     }
 
-    /// Opens the gathering with this tag of the members with these ranks, for the posts of `MPI_COMM_CREATE_GROUP` (MPI 4.1
-    /// section 7.4.2), which go there by [`Desk::post_gathered`]. An `Err` changes nothing.
+    /// Opens the gathering with this tag, from 0 to 32,767, of the members with these ranks, in their order, for the posts of
+    /// `MPI_COMM_CREATE_GROUP` (MPI 4.1 section 7.4.2), which go there by [`Desk::post_gathered`]. It makes no turn. An `Err` changes
+    /// nothing: it is `NotMember`, `Closed`, `DepthUsedUp`, `BadGroup` (a rank is none of the communicator, or stands twice, or none
+    /// is the member's own) or `BadTag`, the first that holds, else want of memory.
     pub fn open_gathering(
         &mut self,
         alloc: Global,
         comm: &Comm,
         tag: i128,
         ranks: &[i128],
-    ) -> Result<Gathering, PostError>
+    ) -> Result<OpenedGathering, PostError>
         ensures opens { Opens comm.now.name (gathers_on (H.node self.old.host) comm.now.name tag ranks.now) (gathering_in result) (H.node self.old.host) (H.node self.new.host) }
         ensures no_turn { H.turned self.old.host 0 self.new.host }
         ensures requests { self.new.requests.keys ≡ self.old.requests.keys }
     {
         match self.host.open_gathering(alloc, &comm.name, tag, ranks) {
-            Ok(name) => Ok(Gathering { name }),
+            Ok(name) => Ok(OpenedGathering { name }),
             Err(refusal) => Err(refusal),
         }
     }
 
-    /// Posts the draft as the next call of a gathering, as [`Desk::post`] does on a communicator.
+    /// Posts the draft as the next call of a gathering, as [`Desk::post`] does on a communicator. There a draft of another kind than
+    /// `create_group` is a `BadGroup`.
     pub fn post_gathered(
         &mut self,
         alloc: Global,
-        gathering: &Gathering,
+        gathering: &OpenedGathering,
         draft: Draft,
         ops: &Ops,
     ) -> Result<Request, PostError>
@@ -105,7 +122,9 @@ impl<H: Host> Desk<H> {
         self.post_on(alloc, &gathering.name, draft, ops)
     }
 
-    /// Whether the call is done, after as many harvests as there are.
+    /// Whether the call is done (`MPI_TEST`, MPI 4.1 section 3.7.3), after as many harvests as there are: `Done` closes the request and
+    /// gives the result, `NotYet` hands the request back, and so does an `Err`, for want of memory for a result that is at hand. It
+    /// makes no turn. The request is one that this desk made, as for all calls that take one.
     pub fn test(
         &mut self,
         alloc: Global,
@@ -128,7 +147,7 @@ impl<H: Host> Desk<H> {
     }
 
     /// Whether the call is done, after as many harvests as there are (`MPI_REQUEST_GET_STATUS`, MPI 4.1 section 3.7.6): its
-    /// request stays open.
+    /// request stays open. It makes no turn. An `Err` is want of memory for a result that is at hand.
     pub fn status(
         &mut self,
         alloc: Global,
@@ -151,7 +170,8 @@ impl<H: Host> Desk<H> {
         }
     }
 
-    /// Whether all of these are done (`MPI_TESTALL`, MPI 4.1 section 3.7.5): all are closed, or none is.
+    /// Whether all of these are done (`MPI_TESTALL`, MPI 4.1 section 3.7.5): `Done` closes all and gives their results, in the order
+    /// of the requests; `NotYet` and an `Err`, for want of memory, close none and hand them back. It makes no turn.
     pub fn testall(
         &mut self,
         alloc: Global,
@@ -173,8 +193,9 @@ impl<H: Host> Desk<H> {
         }
     }
 
-    /// The first open request in order of posting that is done, and its result (`MPI_TESTANY`, MPI 4.1 section 3.7.5). It is
-    /// closed; who hands it in later still gets the result.
+    /// The first open request in order of posting that is done, and its result, or `None` where none is (`MPI_TESTANY`, MPI 4.1
+    /// section 3.7.5). It is closed; who hands it in later still gets the result. It makes no turn. An `Err`, for want of memory,
+    /// closes none.
     pub fn testany(
         &mut self,
         alloc: Global,
@@ -194,9 +215,9 @@ impl<H: Host> Desk<H> {
         }
     }
 
-    /// Waits for the result for so many turns (`MPI_WAIT`, MPI 4.1 section 3.7.3): it looks once before the first and once
-    /// after each, and makes no turn after the look that finds it. It is given up for want of memory at a look at what is at
-    /// hand, or by a turn that is refused.
+    /// Waits for the result (`MPI_WAIT`, MPI 4.1 section 3.7.3) while the host makes at most `turns` turns: it looks once before the
+    /// first and once after each, and makes no turn after the look that finds it, which closes the request. An `Err` hands the request
+    /// back: `StillWaiting` after just `turns` turns; `OutOfMemory` at a look at what is at hand, or by a turn that is refused.
     pub fn wait(
         &mut self,
         alloc: Global,
@@ -218,9 +239,9 @@ impl<H: Host> Desk<H> {
         }
     }
 
-    /// Waits for all their results for so many turns (`MPI_WAITALL`, MPI 4.1 section 3.7.5): it looks once before the first
-    /// and once after each, and makes no turn after the look that finds them all. All are closed, or none is. It is given up as
-    /// [`Desk::wait`] is.
+    /// Waits for all their results (`MPI_WAITALL`, MPI 4.1 section 3.7.5), in the order of the requests, while the host makes at most
+    /// `turns` turns: it looks once before the first and once after each, and makes no turn after the look that finds them all. All
+    /// are closed, or none is. An `Err` hands them back, as that of [`Desk::wait`] does.
     pub fn waitall(
         &mut self,
         alloc: Global,

@@ -1,5 +1,4 @@
-// The calls that move items among all members. Each is a draft that is posted, and
-// waited for where it blocks.
+//! The calls that move items among all members. Each is a draft that is posted, and waited for where it blocks.
 ghost use Rattle.std.specs.Prelude.{◌≡◌};
 ghost use Rattle.mpx_kind.specs.declared.kinds.Mode.TheVariants.{Blocking, Nonblocking};
 ghost use Rattle.mpx_comm.specs.Desks.{DeskAsks, DeskCalls};
@@ -11,13 +10,16 @@ use crate::desk::Desk;
 use crate::host::Host;
 use crate::lines;
 use crate::request::Request;
+use mpx_kind::Mode;
 use mpx_node::Finished;
 use mpx_num::{Listing, Numbers, Ops, Ty};
-use mpx_post::{Mode, PostError};
+use mpx_post::PostError;
 use std::alloc::Global;
 
+/// What `turns` counts, and which refusals and errors every call has, is told at [`Desk`]; each call tells its own.
 impl<H: Host> Desk<H> {
-    /// `MPI_ALLGATHER` (MPI 4.1 section 6.7): every member gives as many items.
+    /// `MPI_ALLGATHER` (MPI 4.1 section 6.7): every member gives as many items as rank 0, else it is the fault `Amount`, and gets the
+    /// items of all.
     pub fn allgather(
         &mut self,
         alloc: Global,
@@ -33,7 +35,7 @@ impl<H: Host> Desk<H> {
         self.call_on(alloc, &comm.name, draft, turns, ops)
     }
 
-    /// `MPI_IALLGATHER` (MPI 4.1 section 6.7).
+    /// `MPI_IALLGATHER` (MPI 4.1 section 6.12.5): posts what [`Desk::allgather`] does, and waits for nobody.
     pub fn iallgather(
         &mut self,
         alloc: Global,
@@ -49,8 +51,8 @@ impl<H: Host> Desk<H> {
         self.post_on(alloc, &comm.name, draft, ops)
     }
 
-    /// `MPI_ALLGATHERV` (MPI 4.1 section 6.7): the counts are how
-    /// many items each member gives.
+    /// `MPI_ALLGATHERV` (MPI 4.1 section 6.7): `rcounts`, a count for each rank (`CountsLength`), tells how many items each member
+    /// gives, at every member, else it is the fault `Amount`; every member gets the items of all.
     pub fn allgatherv(
         &mut self,
         alloc: Global,
@@ -67,7 +69,7 @@ impl<H: Host> Desk<H> {
         self.call_on(alloc, &comm.name, draft, turns, ops)
     }
 
-    /// `MPI_IALLGATHERV` (MPI 4.1 section 6.7).
+    /// `MPI_IALLGATHERV` (MPI 4.1 section 6.12.5): posts what [`Desk::allgatherv`] does, and waits for nobody.
     pub fn iallgatherv(
         &mut self,
         alloc: Global,
@@ -84,8 +86,8 @@ impl<H: Host> Desk<H> {
         self.post_on(alloc, &comm.name, draft, ops)
     }
 
-    /// `MPI_ALLTOALL` (MPI 4.1 section 6.8): a block of so many items
-    /// for each member.
+    /// `MPI_ALLTOALL` (MPI 4.1 section 6.8): every member gives a block of `count` items for each one, in rank order (`ItemsLength`),
+    /// and gets each one's block for it. All give one `count`, else it is the fault `Amount`.
     pub fn alltoall(
         &mut self,
         alloc: Global,
@@ -102,7 +104,7 @@ impl<H: Host> Desk<H> {
         self.call_on(alloc, &comm.name, draft, turns, ops)
     }
 
-    /// `MPI_IALLTOALL` (MPI 4.1 section 6.8).
+    /// `MPI_IALLTOALL` (MPI 4.1 section 6.12.6): posts what [`Desk::alltoall`] does, and waits for nobody.
     pub fn ialltoall(
         &mut self,
         alloc: Global,
@@ -119,8 +121,9 @@ impl<H: Host> Desk<H> {
         self.post_on(alloc, &comm.name, draft, ops)
     }
 
-    /// `MPI_ALLTOALLV` (MPI 4.1 section 6.8): how many items
-    /// each block to a member has, and each from one.
+    /// `MPI_ALLTOALLV` (MPI 4.1 section 6.8): every member gives a block for each one, of as many items as `scounts` tell
+    /// (`ItemsLength`), and gets each one's block for it, of as many items as `rcounts` tell, else it is the fault `Amount`. Both lists
+    /// have a count for each rank (`CountsLength`).
     pub fn alltoallv(
         &mut self,
         alloc: Global,
@@ -138,7 +141,7 @@ impl<H: Host> Desk<H> {
         self.call_on(alloc, &comm.name, draft, turns, ops)
     }
 
-    /// `MPI_IALLTOALLV` (MPI 4.1 section 6.8).
+    /// `MPI_IALLTOALLV` (MPI 4.1 section 6.12.6): posts what [`Desk::alltoallv`] does, and waits for nobody.
     pub fn ialltoallv(
         &mut self,
         alloc: Global,

@@ -1,4 +1,4 @@
-// Who posts for a process and hears of others.
+//! Who posts for a process and hears of others.
 ghost use Rattle.std.specs.Prelude.{◌≡◌, ◌+◌, ◌≤◌, ℕ, OnOk, OnErr, slice_get};
 ghost use Rattle.std.specs.Option.{option_copied};
 ghost use Rattle.mpx_post.specs.Drafts.{refusal_of};
@@ -24,7 +24,8 @@ pub trait Host: Drop {
     /// A turn may be refused for want of memory from one state to another.
     ghost turn_refused: { Self → Self → Type 0 };
 
-    /// Posts the draft as the next call on a context. It makes no turn.
+    /// Posts the draft as the next call on a context, and gives its number. It makes no turn. An `Err` changes nothing: it is the draft's
+    /// first refusal, or want of memory where it has none.
     fn post(
         &mut self,
         alloc: Global,
@@ -39,7 +40,8 @@ pub trait Host: Drop {
     fn refusal(&self, name: &Name, draft: &Draft, ops: &Ops) -> Option<PostError>
         ensures { result ≡ refusal_of (checked_on (⟦<Ops as Listing>⟧.operations ops.now) (node self.now) name.now draft.now) };
 
-    /// Opens the gathering with this tag of the members of the parent with these ranks: its name. It makes no turn.
+    /// Opens the gathering with this tag of the members of the parent with these ranks: its name. It makes no turn. An `Err` changes
+    /// nothing.
     fn open_gathering(
         &mut self,
         alloc: Global,
@@ -50,16 +52,17 @@ pub trait Host: Drop {
         ensures opens { Opens parent.now (gathers_on (node self.old) parent.now tag ranks.now) result (node self.old) (node self.new) }
         ensures no_turn { turned self.old 0 self.new };
 
-    /// Harvests the next call on a context. It makes no turn.
+    /// Harvests the next call on a context, where its row is whole. It makes no turn. An `Err` is want of memory, and changes nothing.
     fn harvest(&mut self, alloc: Global, name: &Name, ops: &Ops) -> Result<Harvest, OutOfMemory>
         ensures harvests { HarvestsNext (⟦<Ops as Listing>⟧.operations ops.now) name.now result (node self.old) (node self.new) }
         ensures no_turn { turned self.old 0 self.new };
 
-    /// The result of a call that was harvested, kept for good.
+    /// The result of a call that was harvested, kept for good; none of one that wasn't.
     fn result(&self, name: &Name, call: u32) -> Option<&Finished>
         ensures { option_copied result ≡ slice_get (results_on (node self.now) name.now) call };
 
-    /// Lets time pass: others may hear of this process, and it of them.
+    /// Lets time pass once: others may hear of this process, and it of them. Calls that wait make as many turns as they are given, at
+    /// most. An `Err` is want of memory.
     fn turn(&mut self, alloc: Global) -> Result<(), OutOfMemory>
         ensures later { Later (node self.old) (node self.new) }
         ensures counted { OnOk result (turned self.old 1 self.new) }

@@ -1,4 +1,4 @@
-// What follows from the calls' contracts, as calls that do nothing.
+//! What follows from the calls' contracts, as calls that do nothing.
 ghost use Rattle.std.specs.Prelude.{◌≡◌, ℤ, List, Result, Ok, Some};
 ghost use Rattle.join_core.specs.declared.memory.OutOfMemory.{OutOfMemory};
 ghost use Rattle.mpx_name.specs.Name.{Name};
@@ -13,36 +13,36 @@ ghost use Rattle.mpx_node.specs.declared.finished.Finished.{Finished};
 ghost use Rattle.mpx_comm.specs.declared.answers.Tested.TheVariants.{Done};
 ghost use Rattle.mpx_comm.specs.declared.request.Request.{Request};
 ghost use Rattle.mpx_comm.specs.Harvested.{HarvestsNext};
-ghost use Rattle.mpx_comm.specs.Keeps.{Keeps};
+ghost use Rattle.mpx_comm.specs.Keeps.{NodeKeeps};
 ghost use Rattle.mpx_comm.specs.Later.{Later};
 ghost use Rattle.mpx_comm.specs.Requests.{HasPosted, Tests, result_of, next_call};
 
 /// Posts, tests, waits and turns, in any number and order, keep what was posted and stored; so do gatherings that are opened,
 /// harvests, and boards that come, also where memory was wanting to take one whole.
 pub fn calls_keep_posts_and_results()
-    ensures later { (old now : NodeView) → Later old now → Keeps old now }
+    ensures later { (old now : NodeView) → Later old now → NodeKeeps old now }
     ensures posts { (ops : List Operation) (old now : NodeView) (name : Name) (draft : Draft)
-        → HasPosted ops name draft old now → Keeps old now }
+        → HasPosted ops name draft old now → NodeKeeps old now }
     ensures gatherings { (old now : NodeView) (parent : Name) (tag : ℤ) (ranks : List ℤ) (answer : Result Name PostError)
-        → Opens parent (gathers_on old parent tag ranks) answer old now → Keeps old now }
+        → Opens parent (gathers_on old parent tag ranks) answer old now → NodeKeeps old now }
     ensures harvests { (ops : List Operation) (old now : NodeView) (name : Name) (answer : Result Harvest OutOfMemory)
-        → HarvestsNext ops name answer old now → Keeps old now }
-    ensures boards { (old : NodeView) (part : Look) → Keeps old (learn part old) }
-    ensures stopped { (old now : NodeView) (part : Look) → StopsTaking part old now → Keeps old now }
-    ensures chain { (old between now : NodeView) → Keeps old between → Keeps between now → Keeps old now }
+        → HarvestsNext ops name answer old now → NodeKeeps old now }
+    ensures boards { (old : NodeView) (part : Look) → NodeKeeps old (learn part old) }
+    ensures stopped { (old now : NodeView) (part : Look) → StopsTaking part old now → NodeKeeps old now }
+    ensures chain { (old between now : NodeView) → NodeKeeps old between → NodeKeeps between now → NodeKeeps old now }
 {}
 
 /// Whatever else was posted and done since, a result at the place of a draft's post says that post.
 pub fn results_say_what_was_posted()
     ensures { (ops : List Operation) (old posted now : NodeView) (name : Name) (draft : Draft) (finished : Finished)
-        → HasPosted ops name draft old posted → Keeps posted now → result_of now (next_call old name) ≡ Some finished → finished.mine ≡ given_by draft }
+        → HasPosted ops name draft old posted → NodeKeeps posted now → result_of now (next_call old name) ≡ Some finished → finished.mine ≡ given_by draft }
 {}
 
 /// What a test of a request answers is what the node stores of its call from then on, whatever is posted and done. So a
 /// request that is handed in again gets the same answer.
 pub fn answers_are_stored_results()
     ensures stored { (tested now : NodeView) (request : Request) (finished : Finished) (before after : List Request)
-        → Tests request (Ok (Done finished)) tested before after → Keeps tested now → result_of now request ≡ Some finished }
+        → Tests request (Ok (Done finished)) tested before after → NodeKeeps tested now → result_of now request ≡ Some finished }
     ensures again { (tested now : NodeView) (request : Request) (first again : Finished) (before after then_open last_open : List Request)
-        → Tests request (Ok (Done first)) tested before after → Keeps tested now → Tests request (Ok (Done again)) now then_open last_open → again ≡ first }
+        → Tests request (Ok (Done first)) tested before after → NodeKeeps tested now → Tests request (Ok (Done again)) now then_open last_open → again ≡ first }
 {}

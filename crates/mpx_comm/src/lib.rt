@@ -23,7 +23,7 @@ mod request;
 mod rooted;
 
 pub use answers::{CallError, Tested, WaitError};
-pub use comm::{Comm, Gathering};
+pub use comm::{Comm, OpenedGathering};
 pub use desk::Desk;
 pub use host::Host;
 pub use laws::{

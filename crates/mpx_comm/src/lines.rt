@@ -1,12 +1,10 @@
-// The drafts of the calls, as the rows of `specs/Lines.antt` say them, with the mode as an argument where a call has both.
+//! The drafts of the calls, as the rows of `specs/Lines.antt` say them, with the mode as an argument where a call has both.
 ghost use Rattle.std.specs.Prelude.{◌≡◌, Some};
 ghost use Rattle.mpx_comm.specs.Lines as line;
 
+use mpx_kind::{Call, Exchange, Mode, Neighbourhood, NewCommunicator, Reduction};
 use mpx_num::{Numbers, Op, Ty};
-use mpx_post::{
-    Call, Draft, DraftedEdge, DraftedGraph, DraftedNeighbour, Exchange, Mode, Neighbourhood,
-    NewCommunicator, Reduction,
-};
+use mpx_post::{Draft, DraftedEdge, DraftedGraph, DraftedNeighbour};
 
 // Of items, which are sent in blocks of so many, and received so.
 fn of_items(call: Call, ty: Ty, scounts: Numbers, rcounts: Numbers, items: Numbers) -> Draft
@@ -28,7 +26,7 @@ fn of_items(call: Call, ty: Ty, scounts: Numbers, rcounts: Numbers, items: Numbe
     }
 }
 
-// The same with a root.
+// Of items that go from or to a root, in blocks of so many.
 fn rooted(
     call: Call,
     root: i128,

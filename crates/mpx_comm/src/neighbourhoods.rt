@@ -1,5 +1,4 @@
-// The calls along the edges of a graph. Each is a draft that is posted, and
-// waited for where it blocks.
+//! The calls along the edges of a graph. Each is a draft that is posted, and waited for where it blocks.
 ghost use Rattle.std.specs.Prelude.{◌≡◌};
 ghost use Rattle.mpx_kind.specs.declared.kinds.Mode.TheVariants.{Blocking, Nonblocking};
 ghost use Rattle.mpx_comm.specs.Desks.{DeskAsks, DeskCalls};
@@ -11,14 +10,16 @@ use crate::desk::Desk;
 use crate::host::Host;
 use crate::lines;
 use crate::request::Request;
+use mpx_kind::Mode;
 use mpx_node::Finished;
 use mpx_num::{Listing, Numbers, Ops, Ty};
-use mpx_post::{Mode, PostError};
+use mpx_post::PostError;
 use std::alloc::Global;
 
+/// What `turns` counts, and which refusals and errors every call has, is told at [`Desk`]; each call tells its own.
 impl<H: Host> Desk<H> {
-    /// `MPI_NEIGHBOR_ALLGATHER` (MPI 4.1 section 8.6.1): so many
-    /// items come from each source.
+    /// `MPI_NEIGHBOR_ALLGATHER` (MPI 4.1 section 8.6.1): every member gives all its items to each of its destinations, and gets those
+    /// of each of its sources, in their order: `count` of each, else it is the fault `Amount`. `NoTopology` where there is no graph.
     pub fn neighbor_allgather(
         &mut self,
         alloc: Global,
@@ -35,7 +36,7 @@ impl<H: Host> Desk<H> {
         self.call_on(alloc, &comm.name, draft, turns, ops)
     }
 
-    /// `MPI_INEIGHBOR_ALLGATHER` (MPI 4.1 section 8.6.1).
+    /// `MPI_INEIGHBOR_ALLGATHER` (MPI 4.1 section 8.7.1): posts what [`Desk::neighbor_allgather`] does, and waits for nobody.
     pub fn ineighbor_allgather(
         &mut self,
         alloc: Global,
@@ -52,8 +53,9 @@ impl<H: Host> Desk<H> {
         self.post_on(alloc, &comm.name, draft, ops)
     }
 
-    /// `MPI_NEIGHBOR_ALLGATHERV` (MPI 4.1 section 8.6.1): how
-    /// many items come from each source.
+    /// `MPI_NEIGHBOR_ALLGATHERV` (MPI 4.1 section 8.6.1): every member gives all its items to each of its destinations, and gets those
+    /// of each of its sources, in their order, of as many items as `rcounts` tell, else it is the fault `Amount`. `rcounts` has a count
+    /// for each source (`CountsLength`). `NoTopology` where there is no graph.
     pub fn neighbor_allgatherv(
         &mut self,
         alloc: Global,
@@ -70,7 +72,7 @@ impl<H: Host> Desk<H> {
         self.call_on(alloc, &comm.name, draft, turns, ops)
     }
 
-    /// `MPI_INEIGHBOR_ALLGATHERV` (MPI 4.1 section 8.6.1).
+    /// `MPI_INEIGHBOR_ALLGATHERV` (MPI 4.1 section 8.7.1): posts what [`Desk::neighbor_allgatherv`] does, and waits for nobody.
     pub fn ineighbor_allgatherv(
         &mut self,
         alloc: Global,
@@ -87,8 +89,9 @@ impl<H: Host> Desk<H> {
         self.post_on(alloc, &comm.name, draft, ops)
     }
 
-    /// `MPI_NEIGHBOR_ALLTOALL` (MPI 4.1 section 8.6.2): how
-    /// many items go to each destination, and come from each source.
+    /// `MPI_NEIGHBOR_ALLTOALL` (MPI 4.1 section 8.6.2): every member gives a block of `scount` items for each of its destinations, in
+    /// their order (`ItemsLength`), and gets a block of `rcount` items of each of its sources, in their order, else it is the fault
+    /// `Amount`. `NoTopology` where there is no graph.
     pub fn neighbor_alltoall(
         &mut self,
         alloc: Global,
@@ -106,7 +109,7 @@ impl<H: Host> Desk<H> {
         self.call_on(alloc, &comm.name, draft, turns, ops)
     }
 
-    /// `MPI_INEIGHBOR_ALLTOALL` (MPI 4.1 section 8.6.2).
+    /// `MPI_INEIGHBOR_ALLTOALL` (MPI 4.1 section 8.7.2): posts what [`Desk::neighbor_alltoall`] does, and waits for nobody.
     pub fn ineighbor_alltoall(
         &mut self,
         alloc: Global,
@@ -124,8 +127,9 @@ impl<H: Host> Desk<H> {
         self.post_on(alloc, &comm.name, draft, ops)
     }
 
-    /// `MPI_NEIGHBOR_ALLTOALLV` (MPI 4.1 section 8.6.2): how
-    /// many items go to each destination, and come from each source.
+    /// `MPI_NEIGHBOR_ALLTOALLV` (MPI 4.1 section 8.6.2): every member gives a block for each of its destinations, of as many items as
+    /// `scounts` tell (`ItemsLength`), and gets one of each of its sources, of as many items as `rcounts` tell, else it is the fault
+    /// `Amount`. The lists have a count for each destination and for each source (`CountsLength`). `NoTopology` where there is no graph.
     pub fn neighbor_alltoallv(
         &mut self,
         alloc: Global,
@@ -143,7 +147,7 @@ impl<H: Host> Desk<H> {
         self.call_on(alloc, &comm.name, draft, turns, ops)
     }
 
-    /// `MPI_INEIGHBOR_ALLTOALLV` (MPI 4.1 section 8.6.2).
+    /// `MPI_INEIGHBOR_ALLTOALLV` (MPI 4.1 section 8.7.2): posts what [`Desk::neighbor_alltoallv`] does, and waits for nobody.
     pub fn ineighbor_alltoallv(
         &mut self,
         alloc: Global,

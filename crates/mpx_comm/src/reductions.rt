@@ -1,5 +1,4 @@
-// The calls that combine items. Each is a draft that is posted, and
-// waited for where it blocks.
+//! The calls that combine items. Each is a draft that is posted, and waited for where it blocks.
 ghost use Rattle.std.specs.Prelude.{◌≡◌};
 ghost use Rattle.mpx_kind.specs.declared.kinds.Mode.TheVariants.{Blocking, Nonblocking};
 ghost use Rattle.mpx_comm.specs.Desks.{DeskAsks, DeskCalls};
@@ -11,13 +10,17 @@ use crate::desk::Desk;
 use crate::host::Host;
 use crate::lines;
 use crate::request::Request;
+use mpx_kind::Mode;
 use mpx_node::Finished;
 use mpx_num::{Listing, Numbers, Op, Ops, Ty};
-use mpx_post::{Mode, PostError};
+use mpx_post::PostError;
 use std::alloc::Global;
 
+/// What `turns` counts, and which refusals and errors every call has, is told at [`Desk`]; each call tells its own.
 impl<H: Host> Desk<H> {
-    /// `MPI_REDUCE` (MPI 4.1 section 6.9.1).
+    /// `MPI_REDUCE` (MPI 4.1 section 6.9.1): every member gives as many items as rank 0, else it is the fault `Amount`; the root gets
+    /// their reduction, item by item, the others nothing. `RootOutOfRange` where the root is no rank, `OpNotForType` where `op` isn't
+    /// for the type.
     pub fn reduce(
         &mut self,
         alloc: Global,
@@ -35,7 +38,7 @@ impl<H: Host> Desk<H> {
         self.call_on(alloc, &comm.name, draft, turns, ops)
     }
 
-    /// `MPI_IREDUCE` (MPI 4.1 section 6.9.1).
+    /// `MPI_IREDUCE` (MPI 4.1 section 6.12.7): posts what [`Desk::reduce`] does, and waits for nobody.
     pub fn ireduce(
         &mut self,
         alloc: Global,
@@ -53,7 +56,8 @@ impl<H: Host> Desk<H> {
         self.post_on(alloc, &comm.name, draft, ops)
     }
 
-    /// `MPI_ALLREDUCE` (MPI 4.1 section 6.9.6).
+    /// `MPI_ALLREDUCE` (MPI 4.1 section 6.9.6): every member gives as many items as rank 0, else it is the fault `Amount`, and gets
+    /// their reduction, item by item. `OpNotForType` where `op` isn't for the type.
     pub fn allreduce(
         &mut self,
         alloc: Global,
@@ -70,7 +74,7 @@ impl<H: Host> Desk<H> {
         self.call_on(alloc, &comm.name, draft, turns, ops)
     }
 
-    /// `MPI_IALLREDUCE` (MPI 4.1 section 6.9.6).
+    /// `MPI_IALLREDUCE` (MPI 4.1 section 6.12.8): posts what [`Desk::allreduce`] does, and waits for nobody.
     pub fn iallreduce(
         &mut self,
         alloc: Global,
@@ -87,8 +91,9 @@ impl<H: Host> Desk<H> {
         self.post_on(alloc, &comm.name, draft, ops)
     }
 
-    /// `MPI_REDUCE_SCATTER_BLOCK` (MPI 4.1 section 6.10.1): a block
-    /// of so many items for each member.
+    /// `MPI_REDUCE_SCATTER_BLOCK` (MPI 4.1 section 6.10.1): every member gives a block of `count` items for each one (`ItemsLength`),
+    /// and gets its block of the reduction. All give one `count`, else it is the fault `Amount`. `OpNotForType` where `op` isn't for
+    /// the type.
     pub fn reduce_scatter_block(
         &mut self,
         alloc: Global,
@@ -106,7 +111,7 @@ impl<H: Host> Desk<H> {
         self.call_on(alloc, &comm.name, draft, turns, ops)
     }
 
-    /// `MPI_IREDUCE_SCATTER_BLOCK` (MPI 4.1 section 6.10.1).
+    /// `MPI_IREDUCE_SCATTER_BLOCK` (MPI 4.1 section 6.12.9): posts what [`Desk::reduce_scatter_block`] does, and waits for nobody.
     pub fn ireduce_scatter_block(
         &mut self,
         alloc: Global,
@@ -124,8 +129,9 @@ impl<H: Host> Desk<H> {
         self.post_on(alloc, &comm.name, draft, ops)
     }
 
-    /// `MPI_REDUCE_SCATTER` (MPI 4.1 section 6.10.2): how many items
-    /// each member gets.
+    /// `MPI_REDUCE_SCATTER` (MPI 4.1 section 6.10.2): every member gives a block for each one, of as many items as `rcounts` tell
+    /// (`ItemsLength`), and gets its block of the reduction. `rcounts` has a count for each rank (`CountsLength`), and is equal at all
+    /// members, else it is the fault `Amount`. `OpNotForType` where `op` isn't for the type.
     pub fn reduce_scatter(
         &mut self,
         alloc: Global,
@@ -143,7 +149,7 @@ impl<H: Host> Desk<H> {
         self.call_on(alloc, &comm.name, draft, turns, ops)
     }
 
-    /// `MPI_IREDUCE_SCATTER` (MPI 4.1 section 6.10.2).
+    /// `MPI_IREDUCE_SCATTER` (MPI 4.1 section 6.12.10): posts what [`Desk::reduce_scatter`] does, and waits for nobody.
     pub fn ireduce_scatter(
         &mut self,
         alloc: Global,
@@ -161,7 +167,8 @@ impl<H: Host> Desk<H> {
         self.post_on(alloc, &comm.name, draft, ops)
     }
 
-    /// `MPI_SCAN` (MPI 4.1 section 6.11.1).
+    /// `MPI_SCAN` (MPI 4.1 section 6.11.1): every member gives as many items as rank 0, else it is the fault `Amount`, and gets the
+    /// reduction of the ranks up to its own, item by item. `OpNotForType` where `op` isn't for the type.
     pub fn scan(
         &mut self,
         alloc: Global,
@@ -178,7 +185,7 @@ impl<H: Host> Desk<H> {
         self.call_on(alloc, &comm.name, draft, turns, ops)
     }
 
-    /// `MPI_ISCAN` (MPI 4.1 section 6.11.1).
+    /// `MPI_ISCAN` (MPI 4.1 section 6.12.11): posts what [`Desk::scan`] does, and waits for nobody.
     pub fn iscan(
         &mut self,
         alloc: Global,
@@ -195,7 +202,8 @@ impl<H: Host> Desk<H> {
         self.post_on(alloc, &comm.name, draft, ops)
     }
 
-    /// `MPI_EXSCAN` (MPI 4.1 section 6.11.2).
+    /// `MPI_EXSCAN` (MPI 4.1 section 6.11.2): every member gives as many items as rank 0, else it is the fault `Amount`, and gets the
+    /// reduction of the ranks below its own, item by item; rank 0 gets `Outcome::Absent`. `OpNotForType` where `op` isn't for the type.
     pub fn exscan(
         &mut self,
         alloc: Global,
@@ -212,7 +220,7 @@ impl<H: Host> Desk<H> {
         self.call_on(alloc, &comm.name, draft, turns, ops)
     }
 
-    /// `MPI_IEXSCAN` (MPI 4.1 section 6.11.2).
+    /// `MPI_IEXSCAN` (MPI 4.1 section 6.12.12): posts what [`Desk::exscan`] does, and waits for nobody.
     pub fn iexscan(
         &mut self,
         alloc: Global,

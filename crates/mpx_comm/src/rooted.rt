@@ -1,5 +1,4 @@
-// The calls that move items from or to a root, and the barrier. Each is a draft that is posted, and
-// waited for where it blocks.
+//! The calls that move items from or to a root, and the barrier. Each is a draft that is posted, and waited for where it blocks.
 ghost use Rattle.std.specs.Prelude.{◌≡◌};
 ghost use Rattle.mpx_kind.specs.declared.kinds.Mode.TheVariants.{Blocking, Nonblocking};
 ghost use Rattle.mpx_comm.specs.Desks.{DeskAsks, DeskCalls};
@@ -11,13 +10,15 @@ use crate::desk::Desk;
 use crate::host::Host;
 use crate::lines;
 use crate::request::Request;
+use mpx_kind::Mode;
 use mpx_node::Finished;
 use mpx_num::{Listing, Numbers, Ops, Ty};
-use mpx_post::{Mode, PostError};
+use mpx_post::PostError;
 use std::alloc::Global;
 
+/// What `turns` counts, and which refusals and errors every call has, is told at [`Desk`]; each call tells its own.
 impl<H: Host> Desk<H> {
-    /// `MPI_BARRIER` (MPI 4.1 section 6.3).
+    /// `MPI_BARRIER` (MPI 4.1 section 6.3): every member gives nothing, and gets nothing, once all have posted it.
     pub fn barrier(
         &mut self,
         alloc: Global,
@@ -31,7 +32,7 @@ impl<H: Host> Desk<H> {
         self.call_on(alloc, &comm.name, draft, turns, ops)
     }
 
-    /// `MPI_IBARRIER` (MPI 4.1 section 6.3).
+    /// `MPI_IBARRIER` (MPI 4.1 section 6.12.1): posts what [`Desk::barrier`] does, and waits for nobody.
     pub fn ibarrier(&mut self, alloc: Global, comm: &Comm, ops: &Ops) -> Result<Request, PostError>
         ensures asks { DeskAsks (⟦<Ops as Listing>⟧.operations ops.now) H.node comm.now.name (line.barrier Nonblocking) result self.old self.new }
         ensures no_turn { H.turned self.old.host 0 self.new.host }
@@ -40,7 +41,8 @@ impl<H: Host> Desk<H> {
         self.post_on(alloc, &comm.name, draft, ops)
     }
 
-    /// `MPI_BCAST` (MPI 4.1 section 6.4): the root gives so many items, the others none.
+    /// `MPI_BCAST` (MPI 4.1 section 6.4): the root gives `count` items, the others none (`ItemsLength`), and every member gets the
+    /// root's. All give one `count`, else it is the fault `Amount`. `RootOutOfRange` where the root is no rank.
     pub fn bcast(
         &mut self,
         alloc: Global,
@@ -58,7 +60,7 @@ impl<H: Host> Desk<H> {
         self.call_on(alloc, &comm.name, draft, turns, ops)
     }
 
-    /// `MPI_IBCAST` (MPI 4.1 section 6.4).
+    /// `MPI_IBCAST` (MPI 4.1 section 6.12.2): posts what [`Desk::bcast`] does, and waits for nobody.
     pub fn ibcast(
         &mut self,
         alloc: Global,
@@ -76,7 +78,8 @@ impl<H: Host> Desk<H> {
         self.post_on(alloc, &comm.name, draft, ops)
     }
 
-    /// `MPI_GATHER` (MPI 4.1 section 6.5): every member gives as many items as the root.
+    /// `MPI_GATHER` (MPI 4.1 section 6.5): every member gives as many items as the root, else it is the fault `Amount`; the root gets
+    /// all of them, the others nothing. `RootOutOfRange` where the root is no rank.
     pub fn gather(
         &mut self,
         alloc: Global,
@@ -93,7 +96,7 @@ impl<H: Host> Desk<H> {
         self.call_on(alloc, &comm.name, draft, turns, ops)
     }
 
-    /// `MPI_IGATHER` (MPI 4.1 section 6.5).
+    /// `MPI_IGATHER` (MPI 4.1 section 6.12.3): posts what [`Desk::gather`] does, and waits for nobody.
     pub fn igather(
         &mut self,
         alloc: Global,
@@ -110,8 +113,9 @@ impl<H: Host> Desk<H> {
         self.post_on(alloc, &comm.name, draft, ops)
     }
 
-    /// `MPI_GATHERV` (MPI 4.1 section 6.5): the root says how many
-    /// items each member gives, the others give no such counts.
+    /// `MPI_GATHERV` (MPI 4.1 section 6.5): the root's `rcounts` tell how many items each member gives, else it is the fault `Amount`;
+    /// the root gets all of them, the others nothing. `rcounts` has a count for each rank at the root, and none elsewhere
+    /// (`CountsLength`). `RootOutOfRange` where the root is no rank.
     pub fn gatherv(
         &mut self,
         alloc: Global,
@@ -129,7 +133,7 @@ impl<H: Host> Desk<H> {
         self.call_on(alloc, &comm.name, draft, turns, ops)
     }
 
-    /// `MPI_IGATHERV` (MPI 4.1 section 6.5).
+    /// `MPI_IGATHERV` (MPI 4.1 section 6.12.3): posts what [`Desk::gatherv`] does, and waits for nobody.
     pub fn igatherv(
         &mut self,
         alloc: Global,
@@ -147,8 +151,9 @@ impl<H: Host> Desk<H> {
         self.post_on(alloc, &comm.name, draft, ops)
     }
 
-    /// `MPI_SCATTER` (MPI 4.1 section 6.6): the root gives a block of
-    /// so many items for each member.
+    /// `MPI_SCATTER` (MPI 4.1 section 6.6): the root gives a block of `count` items for each member, in rank order, the others none
+    /// (`ItemsLength`); every member gets its block. All give one `count`, else it is the fault `Amount`. `RootOutOfRange` where the
+    /// root is no rank.
     pub fn scatter(
         &mut self,
         alloc: Global,
@@ -166,7 +171,7 @@ impl<H: Host> Desk<H> {
         self.call_on(alloc, &comm.name, draft, turns, ops)
     }
 
-    /// `MPI_ISCATTER` (MPI 4.1 section 6.6).
+    /// `MPI_ISCATTER` (MPI 4.1 section 6.12.4): posts what [`Desk::scatter`] does, and waits for nobody.
     pub fn iscatter(
         &mut self,
         alloc: Global,
@@ -184,8 +189,9 @@ impl<H: Host> Desk<H> {
         self.post_on(alloc, &comm.name, draft, ops)
     }
 
-    /// `MPI_SCATTERV` (MPI 4.1 section 6.6): the root says how many
-    /// items each block has, the others give no such counts; the count is how many items the member gets.
+    /// `MPI_SCATTERV` (MPI 4.1 section 6.6): the root gives a block for each member, of as many items as its `scounts` tell, the others
+    /// none (`ItemsLength`); every member gets its block, of `count` items, else it is the fault `Amount`. `scounts` has a count for each
+    /// rank at the root, and none elsewhere (`CountsLength`). `RootOutOfRange` where the root is no rank.
     pub fn scatterv(
         &mut self,
         alloc: Global,
@@ -204,7 +210,7 @@ impl<H: Host> Desk<H> {
         self.call_on(alloc, &comm.name, draft, turns, ops)
     }
 
-    /// `MPI_ISCATTERV` (MPI 4.1 section 6.6).
+    /// `MPI_ISCATTERV` (MPI 4.1 section 6.12.4): posts what [`Desk::scatterv`] does, and waits for nobody.
     pub fn iscatterv(
         &mut self,
         alloc: Global,

@@ -7,7 +7,7 @@ use Rattle.std.proofs.Math.Nat.{mul-le-mul_left, mul-div-le, mul_assoc, mul-suc,
 use Rattle.mpx_num.specs.Types.{width, depth}
 use Rattle.mpx_num.specs.declared.types.Ty.{Ty}
 use Rattle.mpx_num.specs.declared.types.Ty.TheVariants.{I8, I16, I32, I64, U8, U16, U32, U64, TwoInt}
-use Rattle.mpx_format.specs.declared.faults.Fault.TheVariants.{ShortFrame}
+use Rattle.mpx_format.specs.declared.defects.Defect.TheVariants.{ShortFrame}
 use Rattle.mpx_format.specs.Format.{Format, byte, number, many_read}
 use Rattle.mpx_format.specs.Posts.{integer, bits_of, signed}
 

@@ -19,7 +19,7 @@ use Rattle.join_nest.proofs.Places.{holds, find_at, find_in_gap, insert_is_put, 
 use Rattle.join_nest.proofs.Steps.{find_seen}
 use Rattle.mpx_format.specs.Format.{Format, ◌>>=◌}
 use Rattle.mpx_format.proofs.FormatLaws.{bind_ok, ok_is}
-use Rattle.mpx_decode.specs.Raising.{IsJoinedAt, IsLeftAt, Raises, RaisesRow, Stands, Stops, StopsRow, row}
+use Rattle.mpx_decode.specs.Raising.{IsJoinedAt, IsLeftAt, JoinsFront, RaisesRow, StandsInFront, StopsBetween, StopsRow, row}
 
 -- ONE ROW
 
@@ -88,7 +88,7 @@ module _ {K J V : Type 0} {R : K → K → Ordering} (o : IsTotalOrder R) (exact
 
 module _ {K V : Type 0} (key : Format K) (value : Format V) (bytes : List ℕ) (k : K) (after : List ℕ) (is : key.read bytes ≡ Ok (k, after)) where
   -- behind the key stands its value
-  pub value_stands : Stands (row key value) bytes → Stands value after
+  pub value_stands : StandsInFront (row key value) bytes → StandsInFront value after
   value_stands s =
       let a = bind_ok (key.read bytes) (λ (x : K × List ℕ). value.read x.1 >>= λ y. Ok ((x.0, y.0), y.1)) s.0 s.1 in
       let same : a.0 ≡ (k, after) = ok_is a.0 (k, after) (sym a.1 ∙ is) in
@@ -104,10 +104,10 @@ module _ {K J V : Type 0} {R : K → K → Ordering} (o : IsTotalOrder R) (exact
     read_there : (v : V) (rest : List ℕ) → value.read after ≡ Ok (v, rest) → (row key value).read bytes ≡ Ok ((e.0, v), rest)
     read_there v rest r = row_read key value bytes k after is v rest r ∙ ap (λ (x : K). Ok ((x, v), rest)) (sym same)
 
-    pub raises_at : (j : Joining V) (rest : List ℕ) → Raises value j after rest (view e.1) (view w) → RaisesRow R view (row key value) j bytes rest es (set es i (e.0, w))
+    pub raises_at : (j : Joining V) (rest : List ℕ) → JoinsFront value j after rest (view e.1) (view w) → RaisesRow R view (row key value) j bytes rest es (set es i (e.0, w))
     raises_at j rest r = record { key = e.0; value = r.value; read = read_there r.value rest r.read; joined = joined_at o exact view es h i e w lt there j r.value r.joined }
 
-    pub stops_at : {j : Joining V} (p : JoinLaws j) {between : V → V → V → Type 0} (s : BetweenLaws j between) → Stops value between after (view e.1) (view w) → StopsRow R view (row key value) between bytes es (set es i (e.0, w))
+    pub stops_at : {j : Joining V} (p : JoinLaws j) {between : V → V → V → Type 0} (s : BetweenLaws j between) → StopsBetween value between after (view e.1) (view w) → StopsRow R view (row key value) between bytes es (set es i (e.0, w))
     stops_at p s r = record { key = e.0; value = r.value; rest = r.rest; read = read_there r.value r.rest r.read; left = left_at o exact view es h i e w lt there p s r.value r.left }
 
   module _ (i : ℕ) (gap : IsGap R es k i) (w : J) (rest : List ℕ) (r : value.read after ≡ Ok (view w, rest)) where
@@ -115,5 +115,5 @@ module _ {K J V : Type 0} {R : K → K → Ordering} (o : IsTotalOrder R) (exact
     raises_in j = record { key = k; value = view w; read = row_read key value bytes k after is (view w) rest r; joined = joined_in o exact view es h i k w gap j }
 
 -- the row is passed over
-pub stops_before : {K J V : Type 0} {R : K → K → Ordering} (o : IsTotalOrder R) (exact : IsAntisymmetric R) (view : J → V) (f : Format (K × V)) {j : Joining V} (p : JoinLaws j) {between : V → V → V → Type 0} (s : BetweenLaws j between) (bytes : List ℕ) (es : List (K × J)) → Stands f bytes → StopsRow R view f between bytes es es
+pub stops_before : {K J V : Type 0} {R : K → K → Ordering} (o : IsTotalOrder R) (exact : IsAntisymmetric R) (view : J → V) (f : Format (K × V)) {j : Joining V} (p : JoinLaws j) {between : V → V → V → Type 0} (s : BetweenLaws j between) (bytes : List ℕ) (es : List (K × J)) → StandsInFront f bytes → StopsRow R view f between bytes es es
 stops_before o exact view f p s bytes es stands = record { key = stands.0.0.0; value = stands.0.0.1; rest = stands.0.1; read = stands.1; left = nothing_changed o exact view p s es stands.0.0.0 stands.0.0.1 }

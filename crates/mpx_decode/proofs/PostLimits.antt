@@ -13,7 +13,7 @@ use Rattle.mpx_kind.specs.Kinds.{fields_of}
 use Rattle.mpx_kind.specs.declared.kinds.Mode.{Mode}
 use Rattle.mpx_post.specs.declared.making.Making.{Making}
 use Rattle.mpx_post.specs.Posts.{Given}
-use Rattle.mpx_format.specs.declared.faults.Fault.{Fault}
+use Rattle.mpx_format.specs.declared.defects.Defect.{Defect}
 use Rattle.mpx_format.specs.Posts.{nums_of, given_from}
 
 abbrev type_in : Option ItemList → Option Ty
@@ -55,7 +55,7 @@ operation_fits k op items ty e has_op has_type h =
     fits_by_type op items (ap (λ t. option_map_or (λ t. option_map_or (λ o. fits o t) op true) t true) e ∙ h)
     (λ some. items_there items ty true e (has_type ∙ op_needs_items k (sym has_op ∙ some)))
 
-abbrev whole : Given × List ℕ → Result (Given × List ℕ) Fault
+abbrev whole : Given × List ℕ → Result (Given × List ℕ) Defect
 whole x = Ok x
 
 -- the fields that were read make the post

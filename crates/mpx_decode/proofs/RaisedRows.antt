@@ -23,7 +23,7 @@ use Rattle.mpx_format.specs.Format.{Format, ◌>>=◌, both, many_read, not_cano
 use Rattle.mpx_format.specs.Rising.{always, entry, last_of, may_come}
 use Rattle.mpx_format.proofs.FormatLaws.{bind_ok, guard_ok, ok_is}
 use Rattle.mpx_format.proofs.Rows.{is_less, sorted_push}
-use Rattle.mpx_decode.specs.Raising.{Raises, RaisesRow, Stands, Stops, StopsRow, row, rows}
+use Rattle.mpx_decode.specs.Raising.{JoinsFront, RaisesRow, StandsInFront, StopsBetween, StopsRow, row, rows}
 use Rattle.mpx_decode.proofs.OneRow.{row_read}
 use Rattle.mpx_decode.proofs.Loop.{ReadSoFar, begins, goes_on, is_done}
 
@@ -150,14 +150,14 @@ module _ {K J V : Type 0} {R : K → K → Ordering} (o : IsTotalOrder R) (exact
   }
 
   -- a row stands at the front of what is left
-  pub row_stands : (i : ℕ) (left : List ℕ) (now : List (K × J)) → i < count → SoFar R key value view j count i left bytes old now → Stands (rows R key value count) bytes → Stands (row key value) left
+  pub row_stands : (i : ℕ) (left : List ℕ) (now : List (K × J)) → i < count → SoFar R key value view j count i left bytes old now → StandsInFront (rows R key value count) bytes → StandsInFront (row key value) left
   row_stands i left now lt so_far s =
       let y = entries_read R key value count bytes s.0 s.1 in
       let n = next_read (entry R None key value always) so_far.front count i left bytes y.0 lt so_far.read y.1 in
       ((n.here, n.after), (entry_row R key value so_far.front left (n.here, n.after) n.read).0)
 
   -- one row more
-  pub one_more : (i : ℕ) (left after : List ℕ) (now next : List (K × J)) → i < count → SoFar R key value view j count i left bytes old now → Stands (rows R key value count) bytes → RaisesRow R view (row key value) j left after now next → SoFar R key value view j count (i + 1) after bytes old next
+  pub one_more : (i : ℕ) (left after : List ℕ) (now next : List (K × J)) → i < count → SoFar R key value view j count i left bytes old now → StandsInFront (rows R key value count) bytes → RaisesRow R view (row key value) j left after now next → SoFar R key value view j count (i + 1) after bytes old next
   one_more i left after now next lt so_far s r =
       let y = entries_read R key value count bytes s.0 s.1 in
       let n = next_read (entry R None key value always) so_far.front count i left bytes y.0 lt so_far.read y.1 in
@@ -194,7 +194,7 @@ module _ {K J V : Type 0} {R : K → K → Ordering} (o : IsTotalOrder R) (exact
       or_none (Some v) = refl
 
   -- all rows are joined in
-  pub all_raised : (i : ℕ) (left : List ℕ) (now : List (K × J)) → count ≤ i → is_sorted R old ≡ true → is_sorted R now ≡ true → SoFar R key value view j count i left bytes old now → Raises (rows R key value count) (keyed_joining j) bytes left (keyed_view R view old) (keyed_view R view now)
+  pub all_raised : (i : ℕ) (left : List ℕ) (now : List (K × J)) → count ≤ i → is_sorted R old ≡ true → is_sorted R now ≡ true → SoFar R key value view j count i left bytes old now → JoinsFront (rows R key value count) (keyed_joining j) bytes left (keyed_view R view old) (keyed_view R view now)
   all_raised i left now le hold hnow so_far =
       let front = so_far.front in
       record {
@@ -212,8 +212,8 @@ module _ {K J V : Type 0} {R : K → K → Ordering} (o : IsTotalOrder R) (exact
     at_key = option_between_laws p s
 
     -- a row was joined in in part, and those behind it not at all
-    pub stops_there : (i : ℕ) (left : List ℕ) (now next : List (K × J)) → i < count → is_sorted R old ≡ true → is_sorted R next ≡ true → SoFar R key value view j count i left bytes old now → Stands (rows R key value count) bytes → StopsRow R view (row key value) between left now next
-        → Stops (rows R key value count) (keyed_between between) bytes (keyed_view R view old) (keyed_view R view next)
+    pub stops_there : (i : ℕ) (left : List ℕ) (now next : List (K × J)) → i < count → is_sorted R old ≡ true → is_sorted R next ≡ true → SoFar R key value view j count i left bytes old now → StandsInFront (rows R key value count) bytes → StopsRow R view (row key value) between left now next
+        → StopsBetween (rows R key value count) (keyed_between between) bytes (keyed_view R view old) (keyed_view R view next)
     stops_there i left now next lt hold hnext so_far stands r =
         let y = entries_read R key value count bytes stands.0 stands.1 in
         let n = next_read (entry R None key value always) so_far.front count i left bytes y.0 lt so_far.read y.1 in

@@ -13,14 +13,14 @@ use Rattle.mpx_board.specs.Parts.{AcksView, LiftedView, OfNames, OfProcesses, Pa
 use Rattle.mpx_board.specs.Tidy.{are_tidy_acks, are_tidy_entries, is_tidy}
 use Rattle.mpx_board.proofs.Left.{tidy_left}
 use Rattle.mpx_board.proofs.Tidiness.{tidy_join}
-use Rattle.mpx_format.specs.declared.faults.Fault.{Fault}
+use Rattle.mpx_format.specs.declared.defects.Defect.{Defect}
 use Rattle.mpx_format.specs.declared.versions.Version.{Version}
 use Rattle.mpx_format.specs.Contexts.{lifted, parts, says_something}
 use Rattle.mpx_format.specs.Fields.{all_acks, name, name_count}
 use Rattle.mpx_format.specs.Format.{Format, ◌>>=◌, many_read}
 use Rattle.mpx_format.specs.Rising.{always, entry, keyed}
 use Rattle.mpx_format.proofs.FormatLaws.{bind_ok, ok_is}
-use Rattle.mpx_decode.specs.Raising.{Raises, Stands, StandsTidy, Stops, rows}
+use Rattle.mpx_decode.specs.Raising.{JoinsFront, StandsInFront, StandsTidy, StopsBetween, rows}
 
 if_ok : {T E : Type 0} (r : Result T E) (P Q : T → Type 0) → ((x : T) → P x → Q x) → IfOk r P → IfOk r Q
 if_ok (Ok x) P Q f h = f x h
@@ -33,11 +33,11 @@ if_err (Err e) f h = f h
 -- A MAP BEHIND ITS COUNT
 
 module _ {K V : Type 0} (R : K → K → Ordering) (count : Format ℕ) (key : Format K) (value : Format V) (bytes : List ℕ) (n : ℕ) (after : List ℕ) (is : count.read bytes ≡ Ok (n, after)) where
-  abbrev entries_then : Result (List (K × V) × List ℕ) Fault → Result (FinMap R V × List ℕ) Fault
+  abbrev entries_then : Result (List (K × V) × List ℕ) Defect → Result (FinMap R V × List ℕ) Defect
   entries_then r =
       ◌>>=◌ {B = FinMap R V × List ℕ} (◌>>=◌ {B = List (K × V) × List ℕ} (◌>>=◌ {B = (ℕ × List (K × V)) × List ℕ} r (λ b. Ok ((n, b.0), b.1))) (λ x. Ok (x.0.1, x.1))) (λ x. Ok (from_sorted {R = R} x.0, x.1))
 
-  regroup : (r : Result (List (K × V) × List ℕ) Fault) → entries_then r ≡ ◌>>=◌ {B = FinMap R V × List ℕ} r (λ x. Ok (from_sorted {R = R} x.0, x.1))
+  regroup : (r : Result (List (K × V) × List ℕ) Defect) → entries_then r ≡ ◌>>=◌ {B = FinMap R V × List ℕ} r (λ x. Ok (from_sorted {R = R} x.0, x.1))
   regroup (Ok x) = refl
   regroup (Err e) = refl
 
@@ -45,19 +45,19 @@ module _ {K V : Type 0} (R : K → K → Ordering) (count : Format ℕ) (key : F
   pub rows_behind : (keyed R count key value always).read bytes ≡ (rows R key value n).read after
   rows_behind = rw is (regroup (many_read (entry R None key value always) n [] after))
 
-  pub rows_stand : Stands (keyed R count key value always) bytes → Stands (rows R key value n) after
+  pub rows_stand : StandsInFront (keyed R count key value always) bytes → StandsInFront (rows R key value n) after
   rows_stand s = (s.0, sym rows_behind ∙ s.1)
 
   -- the map that was taken apart, and what was made of it
   module _ {T E : Type 0} (r : Result T E) (left : T → List ℕ) (old new mine made : FinMap R V) (was : old ≡ mine) (is_made : new ≡ made) where
-    pub map_raised : (j : Joining V) → IfOk r (λ x. Raises (rows R key value n) (keyed_joining j) after (left x) mine made) → IfOk r (λ x. Raises (keyed R count key value always) (keyed_joining j) bytes (left x) old new)
+    pub map_raised : (j : Joining V) → IfOk r (λ x. JoinsFront (rows R key value n) (keyed_joining j) after (left x) mine made) → IfOk r (λ x. JoinsFront (keyed R count key value always) (keyed_joining j) bytes (left x) old new)
     map_raised j h = if_ok r _ _ (λ x g. record { value = g.value; read = rows_behind ∙ g.read; joined = is_made ∙ g.joined ∙ ap (λ m. (keyed_joining j).join m g.value) (sym was) }) h
 
-    pub map_stops : (between : V → V → V → Type 0) → OnErr r (Stops (rows R key value n) (keyed_between between) after mine made) → OnErr r (Stops (keyed R count key value always) (keyed_between between) bytes old new)
+    pub map_stops : (between : V → V → V → Type 0) → OnErr r (StopsBetween (rows R key value n) (keyed_between between) after mine made) → OnErr r (StopsBetween (keyed R count key value always) (keyed_between between) bytes old new)
     map_stops between h = if_err r (λ g. record { value = g.value; rest = g.rest; read = rows_behind ∙ g.read; left = λ q. subst (λ (m : FinMap R V × FinMap R V). keyed_between between m.0 g.value m.1) (λ i. (sym was i, sym is_made i)) g.left q }) h
 
 -- nothing was joined
-pub stops_at_once : {V : Type 0} (f : Format V) (between : V → V → V → Type 0) (bytes : List ℕ) (old : V) → ((b : V) → between old b old) → Stands f bytes → Stops f between bytes old old
+pub stops_at_once : {V : Type 0} (f : Format V) (between : V → V → V → Type 0) (bytes : List ℕ) (old : V) → ((b : V) → between old b old) → StandsInFront f bytes → StopsBetween f between bytes old old
 stops_at_once f between bytes old keeps s = record { value = s.0.0; rest = s.0.1; read = s.1; left = keeps s.0.0 }
 
 -- TIDINESS
@@ -74,7 +74,7 @@ module _ (contexts : OfNames LiftedView) (old read new : OfProcesses AcksView) (
       context_stays c = (keyed_between_laws name_total name_exact lifted_laws lifted_between_laws).old c c
 
 pub acks_tidy : {T E : Type 0} (r : Result T E) (left : T → List ℕ) (bytes : List ℕ) (contexts : OfNames LiftedView) (old new : OfProcesses AcksView) → is_tidy (contexts, old) ≡ true → StandsTidy all_acks are_tidy_acks bytes
-    → IfOk r (λ x. Raises all_acks (keyed_joining acks_joining) bytes (left x) old new) → OnErr r (Stops all_acks (keyed_between acks_between) bytes old new) → is_tidy (contexts, new) ≡ true
+    → IfOk r (λ x. JoinsFront all_acks (keyed_joining acks_joining) bytes (left x) old new) → OnErr r (StopsBetween all_acks (keyed_between acks_between) bytes old new) → is_tidy (contexts, new) ≡ true
 acks_tidy (Ok x) left bytes contexts old new tidy s g h =
     let same : s.0.0 ≡ g.value = ap (λ (y : OfProcesses AcksView × List ℕ). y.0) (ok_is s.0 (g.value, left x) (sym s.1 ∙ g.read)) in
     joined_tidy contexts old g.value new (first_true _ _ tidy) (second_true (are_tidy_entries contexts) _ tidy) (ap are_tidy_acks (sym same) ∙ s.2) g.joined
@@ -107,10 +107,10 @@ module _ (version : Version) (bytes : List ℕ) (c : OfNames LiftedView) (after 
 
   -- the contexts are joined, and then the acknowledgements in whole or in part
   module _ {T E : Type 0} (r : Result T E) (left : T → List ℕ) (old mid new : PartsView) (first : mid.0 ≡ (keyed_joining lifted_joining).join old.0 c) (same : mid.1 ≡ old.1) (stays : new.0 ≡ mid.0) where
-    pub parts_raised : IfOk r (λ x. Raises all_acks (keyed_joining acks_joining) after (left x) mid.1 new.1) → IfOk r (λ x. Raises (parts version) parts_joining bytes (left x) old new)
+    pub parts_raised : IfOk r (λ x. JoinsFront all_acks (keyed_joining acks_joining) after (left x) mid.1 new.1) → IfOk r (λ x. JoinsFront (parts version) parts_joining bytes (left x) old new)
     parts_raised h = if_ok r _ _ (λ x g. record { value = (c, g.value); read = parts_read g.value (left x) g.read; joined = λ i. ((stays ∙ first) i, (g.joined ∙ ap (λ m. (keyed_joining acks_joining).join m g.value) same) i) }) h
 
-    pub parts_stop : OnErr r (Stops all_acks (keyed_between acks_between) after mid.1 new.1) → OnErr r (Stops (parts version) parts_between bytes old new)
+    pub parts_stop : OnErr r (StopsBetween all_acks (keyed_between acks_between) after mid.1 new.1) → OnErr r (StopsBetween (parts version) parts_between bytes old new)
     parts_stop h = if_err r (λ g. record {
       value = (c, g.value);
       rest = g.rest;
@@ -119,7 +119,7 @@ module _ (version : Version) (bytes : List ℕ) (c : OfNames LiftedView) (after 
     }) h
 
   -- the contexts are joined in part
-  pub contexts_stop : (old new : PartsView) → StandsTidy all_acks are_tidy_acks after → keyed_between lifted_between old.0 c new.0 → new.1 ≡ old.1 → Stops (parts version) parts_between bytes old new
+  pub contexts_stop : (old new : PartsView) → StandsTidy all_acks are_tidy_acks after → keyed_between lifted_between old.0 c new.0 → new.1 ≡ old.1 → StopsBetween (parts version) parts_between bytes old new
   contexts_stop old new s h e = record {
     value = (c, s.0.0);
     rest = s.0.1;

@@ -12,21 +12,21 @@ use Rattle.mpx_format.specs.Format.{Format, both, many, through}
 use Rattle.mpx_format.specs.Rising.{always, entry}
 
 -- some value stands at the front of the bytes
-abbrev pub Stands : {V : Type 0} → Format V → List ℕ → Type 0
-Stands {V} f bytes = (x : V × List ℕ) × (f.read bytes ≡ Ok x)
+abbrev pub StandsInFront : {V : Type 0} → Format V → List ℕ → Type 0
+StandsInFront {V} f bytes = (x : V × List ℕ) × (f.read bytes ≡ Ok x)
 
 -- and passes the test
 abbrev pub StandsTidy : {V : Type 0} → Format V → (V → Bool) → List ℕ → Type 0
 StandsTidy {V} f test bytes = (x : V × List ℕ) × (f.read bytes ≡ Ok x) × (test x.0 ≡ true)
 
 -- the value at the front was joined to the old one; these bytes stand behind it
-pub record Raises {V : Type 0} (f : Format V) (j : Joining V) (bytes rest : List ℕ) (old new : V) : Type 0 where
+pub record JoinsFront {V : Type 0} (f : Format V) (j : Joining V) (bytes rest : List ℕ) (old new : V) : Type 0 where
   pub value : V
   pub read : f.read bytes ≡ Ok (value, rest)
   pub joined : new ≡ j.join old value
 
 -- what is left is between the old value and its join with the one at the front
-pub record Stops {V : Type 0} (f : Format V) (between : V → V → V → Type 0) (bytes : List ℕ) (old new : V) : Type 0 where
+pub record StopsBetween {V : Type 0} (f : Format V) (between : V → V → V → Type 0) (bytes : List ℕ) (old new : V) : Type 0 where
   pub value : V
   pub rest : List ℕ
   pub read : f.read bytes ≡ Ok (value, rest)

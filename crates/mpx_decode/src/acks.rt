@@ -1,4 +1,4 @@
-// Numbers of calls by process, and acknowledgements.
+//! Reading numbers of calls by process, and acknowledgements.
 ghost use Rattle.std.specs.Prelude.{◌≡◌, ℕ, true};
 ghost use Rattle.std.specs.Ordering.{nat_cmp};
 ghost use Rattle.std.specs.FinMap.{FinMap};
@@ -8,11 +8,11 @@ ghost use Rattle.mpx_board.specs.Views.{view_of_all_acks};
 ghost use Rattle.mpx_format.specs.Format.{Gives};
 ghost use Rattle.mpx_format.specs.Fields.{process, name, some_calls, numbers, acks, all_acks, fronts};
 
+use crate::big_endian::read_u8;
 use crate::entries::{WireKey, WireValue, read_entries};
 use crate::fields::{read_process, read_some_byte, read_some_calls, read_some_names};
 use crate::names::read_name;
-use crate::numbers::read_u8;
-use crate::rows::read_rows;
+use crate::process_numbers::read_rows;
 use join_core::Max;
 use join_nest::Keyed;
 use mpx_board::{Acks, VersionVector};
@@ -51,7 +51,12 @@ impl WireValue for Max {
         true
     }
 
-    fn read(_version: Version, _alloc: Global, bytes: &[u8]) -> Result<(Max, &[u8]), ReadError> {
+    fn read<'a>(
+        _version: Version,
+        _alloc: Global,
+        _at_hand: Option<&Max>,
+        bytes: &'a [u8],
+    ) -> Result<(Max, &'a [u8]), ReadError> {
         let (number, rest) = read_some_calls(bytes)?;
         Ok((Max(number), rest))
     }
@@ -71,11 +76,12 @@ impl WireValue for VersionVector {
     }
 
     #[tactic(auto, unfolding(mpx_format::specs::Fields::numbers))]
-    fn read(
+    fn read<'a>(
         version: Version,
         alloc: Global,
-        bytes: &[u8],
-    ) -> Result<(VersionVector, &[u8]), ReadError> {
+        _at_hand: Option<&VersionVector>,
+        bytes: &'a [u8],
+    ) -> Result<(VersionVector, &'a [u8]), ReadError> {
         let (count, rest) = read_some_byte(bytes)?;
         let (entries, rest) = read_rows(version, alloc, count as usize, rest)?;
         Ok((Keyed::from_rising(entries), rest))
@@ -96,9 +102,14 @@ impl WireValue for Acks {
     }
 
     #[tactic(auto, unfolding(mpx_format::specs::Fields::acks))]
-    fn read(version: Version, alloc: Global, bytes: &[u8]) -> Result<(Acks, &[u8]), ReadError> {
+    fn read<'a>(
+        version: Version,
+        alloc: Global,
+        _at_hand: Option<&Acks>,
+        bytes: &'a [u8],
+    ) -> Result<(Acks, &'a [u8]), ReadError> {
         let (count, rest) = read_some_names(bytes)?;
-        let (entries, rest) = read_entries(version, alloc, &None, count as usize, rest)?;
+        let (entries, rest) = read_entries(version, alloc, &[], &None, count as usize, rest)?;
         Ok((Keyed::from_rising(entries), rest))
     }
 }
@@ -112,6 +123,6 @@ pub fn read_all_acks(
     ensures { Gives (λ x. (view_of_all_acks x.0, x.1.now)) result (all_acks.read bytes.now) }
 {
     let (count, rest) = read_u8(bytes)?;
-    let (entries, rest) = read_entries(version, alloc, &None, count as usize, rest)?;
+    let (entries, rest) = read_entries(version, alloc, &[], &None, count as usize, rest)?;
     Ok((Keyed::from_rising(entries), rest))
 }

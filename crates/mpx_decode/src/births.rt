@@ -1,17 +1,17 @@
-// Births of communicators.
+//! Reading births of communicators.
 ghost use Rattle.std.specs.Prelude.{◌≡◌, IfOk, length, true};
 ghost use Rattle.std.specs.Option.{option_map};
 ghost use Rattle.mpx_birth.specs.Births.{BirthView, fits_topology};
 ghost use Rattle.mpx_format.specs.Format.{Gives};
 ghost use Rattle.mpx_format.specs.Births.{any_topology, birth, nears, topology};
 
+use crate::big_endian::read_u8;
 use crate::entries::WireValue;
 use crate::lists::read_list;
 use crate::names::read_members;
 use crate::neighbours::EachNear;
-use crate::numbers::read_u8;
+use mpx_birth::{Birth, Neighbours, Topology};
 use mpx_format::{ReadError, Version, out_of_limits};
-use mpx_post::{Birth, Neighbours, Topology};
 use std::alloc::Global;
 
 fn read_nears(
@@ -83,7 +83,12 @@ impl WireValue for Birth {
     }
 
     #[tactic(auto, unfolding(mpx_format::specs::Births::birth))]
-    fn read(_version: Version, alloc: Global, bytes: &[u8]) -> Result<(Birth, &[u8]), ReadError> {
+    fn read<'a>(
+        _version: Version,
+        alloc: Global,
+        _at_hand: Option<&Birth>,
+        bytes: &'a [u8],
+    ) -> Result<(Birth, &'a [u8]), ReadError> {
         let (members, rest) = read_members(alloc, bytes)?;
         let (topology, rest) = read_topology(members.len(), alloc, rest)?;
         Ok((Birth::from_parts(alloc, members, topology)?, rest))

@@ -1,4 +1,4 @@
-// The codes of versions, kinds, modes, operations and types, and bytes that say yes or no.
+//! Reading the codes of versions, kinds, modes, operations and types, and bytes that say yes or no.
 ghost use Rattle.std.specs.Prelude.{◌≡◌, ◌<◌, ◌≤◌, nat_lt, IfOk, is_some, true};
 ghost use Rattle.std.specs.Option.{option_map_or};
 ghost use Rattle.mpx_num.specs.Operations.{fits};
@@ -10,15 +10,16 @@ ghost use Rattle.mpx_kind.specs.Codes.{kind_at};
 ghost use Rattle.mpx_num.specs.Codes.{type_at};
 ghost use Rattle.mpx_format.specs.Posts.{type_for};
 
+use crate::big_endian::read_u8;
 use crate::fields::read_process;
-use crate::numbers::read_u8;
-use mpx_format::{Fault, ReadError, Version, out_of_limits};
+use mpx_format::{Defect, ReadError, Version, out_of_limits};
+use mpx_kind::{Family, Kind, Mode};
 use mpx_num::{Op, Ty, may_stand};
-use mpx_post::{Family, Kind, Mode};
 
 // VERSIONS
 
-/// The version at the front of these bytes, which stand behind the magic of a frame.
+/// The version at the front of these bytes, which stand behind the magic of a frame, and the bytes after it. An `Err` says that
+/// they end there, or that the version is another one.
 pub fn read_version(bytes: &[u8]) -> Result<(Version, &[u8]), ReadError>
     ensures { Gives (λ x. (x.0, x.1.now)) result (version_byte.read bytes.now) }
 {
@@ -28,7 +29,7 @@ pub fn read_version(bytes: &[u8]) -> Result<(Version, &[u8]), ReadError>
     } else if code == 2 {
         Ok((Version::Two, rest))
     } else {
-        Err(ReadError::Fault(Fault::BadVersion))
+        Err(ReadError::Defect(Defect::BadVersion))
     }
 }
 

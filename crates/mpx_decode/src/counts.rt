@@ -1,4 +1,4 @@
-// Counts, and items where the kind has them.
+//! Reading counts, and items where the kind has them.
 ghost use Rattle.std.specs.Prelude.{◌≡◌, ◌≤◌, IfOk};
 ghost use Rattle.std.specs.Option.{option_map};
 ghost use Rattle.mpx_num.specs.ItemList.{ItemList};
@@ -6,9 +6,9 @@ ghost use Rattle.mpx_post.specs.Posts.{AreCounts, NoneUnless, few_items};
 ghost use Rattle.mpx_format.specs.Format.{Gives};
 ghost use Rattle.mpx_format.specs.Posts.{count, counts, counts_if, items_for, nums_of};
 
+use crate::big_endian::read_u16;
 use crate::items::read_items;
 use crate::lists::{Repeated, read_list};
-use crate::numbers::read_u16;
 use mpx_format::{ReadError, out_of_limits};
 use mpx_num::{Items, Ty};
 use mpx_post::Counts;
@@ -62,11 +62,12 @@ pub fn read_counts(had: bool, alloc: Global, bytes: &[u8]) -> Result<(Counts, &[
 }
 
 // The items, where there is a type.
-pub fn read_items_for(
+pub fn read_items_for<'a>(
     ty: Option<Ty>,
     alloc: Global,
-    bytes: &[u8],
-) -> Result<(Option<Items>, &[u8]), ReadError>
+    at_hand: Option<&Items>,
+    bytes: &'a [u8],
+) -> Result<(Option<Items>, &'a [u8]), ReadError>
     ensures read { Gives (λ x. (nums_of x.0, x.1.now)) result ((items_for ty).read bytes.now) }
     ensures ty { IfOk result (λ x. option_map (λ (items : ItemList). items.ty) x.0 ≡ ty) }
     ensures few { IfOk result (λ x. few_items x.0) }
@@ -74,7 +75,7 @@ pub fn read_items_for(
     match ty {
         None => Ok((None, bytes)),
         Some(ty) => {
-            let (items, rest) = read_items(ty, alloc, bytes)?;
+            let (items, rest) = read_items(ty, alloc, at_hand, bytes)?;
             Ok((Some(items), rest))
         }
     }

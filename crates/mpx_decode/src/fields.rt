@@ -1,10 +1,10 @@
-// The fields of frames that are one number each.
+//! Reading the fields of frames that are one number each.
 ghost use Rattle.std.specs.Prelude.{◌≡◌, ◌<◌, ◌-◌, ◌^◌, IfOk};
 ghost use Rattle.std.specs.Int.{w16, w32};
 ghost use Rattle.mpx_format.specs.Format.{Gives};
 ghost use Rattle.mpx_format.specs.Fields.{process, call, colour, tag, some_calls, some_byte, name_count, some_names};
 
-use crate::numbers::{read_u8, read_u16, read_u32};
+use crate::big_endian::{read_u8, read_u16, read_u32};
 use mpx_format::{ReadError, not_canonical, out_of_limits};
 
 // The number of a process. (A tuple of a `Proc` and a slice can't go through `?`.)

@@ -1,5 +1,5 @@
-// Numbers of the types, and items.
-ghost use Rattle.std.specs.Prelude.{◌≡◌, ◌+◌, ◌*◌, ◌<◌, ◌≤◌, [], Ok, IfOk, length};
+//! Reading numbers of the types, and items.
+ghost use Rattle.std.specs.Prelude.{◌≡◌, ◌+◌, ◌*◌, ◌<◌, ◌≤◌, [], Ok, IfOk, IfSome, length};
 ghost use Rattle.std.specs.List.{All};
 ghost use Rattle.mpx_num.specs.Types.{IsInRange, item_len, width};
 ghost use Rattle.mpx_num.specs.declared.types.Ty.{Ty};
@@ -7,13 +7,13 @@ ghost use Rattle.mpx_num.specs.declared.types.Ty.TheVariants.{I8, I16, I32, I64,
 ghost use Rattle.mpx_format.specs.Format.{Gives, many_read};
 ghost use Rattle.mpx_format.specs.Posts.{integer, item_count, items};
 
-use crate::numbers::read_u16;
+use crate::big_endian::read_u16;
 use mpx_format::{ReadError, SHORT, out_of_limits};
 use mpx_num::{Items, MOST_ITEMS, Numbers, Ty};
-use std::alloc::Global;
+use std::alloc::{AllocError, Global};
 
 /// A number of one type, the highest byte first.
-trait Number {
+trait BigEndianNumber {
     ghost ty: { Ty };
 
     /// The number at the front, where all its bytes are there, and the bytes after it.
@@ -24,7 +24,7 @@ trait Number {
         ensures len { 8 * length result.1.now + width ty ≡ 8 * length bytes.now };
 }
 
-impl Number for i8 {
+impl BigEndianNumber for i8 {
     ghost ty = { I8 };
 
     #[tactic(auto, using(crate::proofs::Signed::signed8), unfolding(mpx_format::specs::Posts::integer))]
@@ -36,7 +36,7 @@ impl Number for i8 {
     }
 }
 
-impl Number for i16 {
+impl BigEndianNumber for i16 {
     ghost ty = { I16 };
 
     #[tactic(auto, using(crate::proofs::Signed::signed16), unfolding(mpx_format::specs::Posts::integer))]
@@ -48,7 +48,7 @@ impl Number for i16 {
     }
 }
 
-impl Number for i32 {
+impl BigEndianNumber for i32 {
     ghost ty = { I32 };
 
     #[tactic(auto, using(crate::proofs::Signed::signed32), unfolding(mpx_format::specs::Posts::integer))]
@@ -60,7 +60,7 @@ impl Number for i32 {
     }
 }
 
-impl Number for i64 {
+impl BigEndianNumber for i64 {
     ghost ty = { I64 };
 
     #[tactic(auto, using(crate::proofs::Signed::signed64), unfolding(mpx_format::specs::Posts::integer))]
@@ -72,7 +72,7 @@ impl Number for i64 {
     }
 }
 
-impl Number for u8 {
+impl BigEndianNumber for u8 {
     ghost ty = { U8 };
 
     #[tactic(auto, unfolding(mpx_format::specs::Posts::integer))]
@@ -84,7 +84,7 @@ impl Number for u8 {
     }
 }
 
-impl Number for u16 {
+impl BigEndianNumber for u16 {
     ghost ty = { U16 };
 
     #[tactic(auto, unfolding(mpx_format::specs::Posts::integer))]
@@ -96,7 +96,7 @@ impl Number for u16 {
     }
 }
 
-impl Number for u32 {
+impl BigEndianNumber for u32 {
     ghost ty = { U32 };
 
     #[tactic(auto, unfolding(mpx_format::specs::Posts::integer))]
@@ -108,7 +108,7 @@ impl Number for u32 {
     }
 }
 
-impl Number for u64 {
+impl BigEndianNumber for u64 {
     ghost ty = { U64 };
 
     #[tactic(auto, unfolding(mpx_format::specs::Posts::integer))]
@@ -123,7 +123,7 @@ impl Number for u64 {
 // One of a pair, whose bytes are those of an `i32`.
 struct OfPair;
 
-impl Number for OfPair {
+impl BigEndianNumber for OfPair {
     ghost ty = { TwoInt };
 
     #[tactic(auto, unfolding(mpx_format::specs::Posts::integer))]
@@ -133,7 +133,7 @@ impl Number for OfPair {
 }
 
 // So many numbers, each of so many bytes.
-fn read_all<N: Number>(
+fn read_all<N: BigEndianNumber>(
     len: usize,
     alloc: Global,
     count: usize,
@@ -195,14 +195,87 @@ fn read_item_count(bytes: &[u8]) -> Result<(u16, &[u8]), ReadError>
     }
 }
 
-// How many items, and the numbers of all of them.
+// The bytes behind these numbers, where just their bytes stand at the front.
+fn behind_all<'a, N: BigEndianNumber>(
+    len: usize,
+    numbers: &[i128],
+    bytes: &'a [u8],
+) -> Option<&'a [u8]>
+    requires some { 0 < len }
+    requires width { 8 * len ≡ width N.ty }
+    ensures { IfSome result (λ rest. many_read (λ before. integer N.ty) (length numbers.now) [] bytes.now ≡ Ok (numbers.now, rest.now)) }
+{
+    if bytes.len() / len < numbers.len() {
+        return None;
+    }
+    let mut rest = bytes;
+    for i in 0..numbers.len() {
+        let (number, after) = N::front(rest);
+        if number != numbers[i] {
+            return None;
+        }
+        rest = after;
+    }
+    Some(rest)
+}
+
+// The bytes behind these numbers of the type, where just their bytes stand at the front.
+fn behind_numbers<'a>(ty: Ty, numbers: &[i128], bytes: &'a [u8]) -> Option<&'a [u8]>
+    ensures { IfSome result (λ rest. many_read (λ before. integer ty) (length numbers.now) [] bytes.now ≡ Ok (numbers.now, rest.now)) }
+{
+    match ty {
+        Ty::I8 => behind_all::<i8>(1, numbers, bytes),
+        Ty::I16 => behind_all::<i16>(2, numbers, bytes),
+        Ty::I32 => behind_all::<i32>(4, numbers, bytes),
+        Ty::I64 => behind_all::<i64>(8, numbers, bytes),
+        Ty::U8 => behind_all::<u8>(1, numbers, bytes),
+        Ty::U16 => behind_all::<u16>(2, numbers, bytes),
+        Ty::U32 => behind_all::<u32>(4, numbers, bytes),
+        Ty::U64 => behind_all::<u64>(8, numbers, bytes),
+        Ty::TwoInt => behind_all::<OfPair>(4, numbers, bytes),
+    }
+}
+
+// A copy of the items at hand and the bytes behind them, where they are so many numbers of the type and just these stand at the front.
+fn copied_front<'a>(
+    ty: Ty,
+    count: usize,
+    at_hand: Option<&Items>,
+    bytes: &'a [u8],
+) -> Result<Option<(Items, &'a [u8])>, AllocError>
+    ensures read { IfOk result (λ made. IfSome made (λ x. many_read (λ before. integer ty) count [] bytes.now ≡ Ok (x.0.nums, x.1.now))) }
+    ensures ty { IfOk result (λ made. IfSome made (λ x. x.0.ty ≡ ty)) }
+    ensures len { IfOk result (λ made. IfSome made (λ x. length x.0.nums ≡ count)) }
+{
+    let Some(items) = at_hand else {
+        return Ok(None);
+    };
+    if items.ty() != ty || items.nums().len() != count {
+        return Ok(None);
+    }
+    match behind_numbers(ty, items.nums(), bytes) {
+        None => Ok(None),
+        Some(rest) => Ok(Some((items.copy()?, rest))),
+    }
+}
+
+// How many items, and the numbers of all of them: a copy of those at hand, where just these stand there.
 #[tactic(auto, unfolding(mpx_format::specs::Posts::items))]
-pub fn read_items(ty: Ty, alloc: Global, bytes: &[u8]) -> Result<(Items, &[u8]), ReadError>
+pub fn read_items<'a>(
+    ty: Ty,
+    alloc: Global,
+    at_hand: Option<&Items>,
+    bytes: &'a [u8],
+) -> Result<(Items, &'a [u8]), ReadError>
     ensures read { Gives (λ x. (x.0.nums, x.1.now)) result ((items ty).read bytes.now) }
     ensures ty { IfOk result (λ x. x.0.ty ≡ ty) }
     ensures few { IfOk result (λ x. length x.0.nums ≤ MOST_ITEMS * item_len ty) }
 {
     let (count, rest) = read_item_count(bytes)?;
-    let (list, rest) = read_numbers(ty, alloc, count as usize * ty.item_len(), rest)?;
+    let many = count as usize * ty.item_len();
+    if let Some(copied) = copied_front(ty, many, at_hand, rest)? {
+        return Ok(copied);
+    }
+    let (list, rest) = read_numbers(ty, alloc, many, rest)?;
     Ok((Items::of(ty, Numbers::new(alloc, list)?), rest))
 }

@@ -1,8 +1,11 @@
-//! What stands in frames, read: [`read_version`] and [`read_parts`], and below it a reader for each field. Which bytes spell what, and which refusal
-//! other bytes get, is said in `mpx_format`; whole frames are read in `mpx_wire`.
+//! What stands in frames, read: [`read_version`], [`read_parts`] and [`take_parts`], which joins the parts to a board as they are read.
+//!
+//! Below them stands a reader for each field. Which bytes spell what, and which refusal other bytes get, is said in `mpx_format`;
+//! whole frames are read in `mpx_wire`.
 #![tactic(auto)]
 
 mod acks;
+mod big_endian;
 mod births;
 mod codes;
 mod contexts;
@@ -14,11 +17,10 @@ mod lists;
 mod making;
 mod names;
 mod neighbours;
-mod numbers;
 mod posts;
+mod process_numbers;
 mod raised;
 mod raising;
-mod rows;
 mod taking;
 
 pub use codes::read_version;

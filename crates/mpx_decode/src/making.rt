@@ -1,4 +1,4 @@
-// What posts say of new communicators.
+//! Reading what posts say of new communicators.
 ghost use Rattle.std.specs.Prelude.{◌≡◌, ◌<◌, IfOk};
 ghost use Rattle.mpx_group.specs.Group.{has};
 ghost use Rattle.mpx_num.specs.declared.types.Ty.TheVariants.{I32};
@@ -7,13 +7,15 @@ ghost use Rattle.mpx_format.specs.Format.{Gives};
 ghost use Rattle.mpx_format.specs.Fields.{member};
 ghost use Rattle.mpx_format.specs.Posts.{choice, edges, group, integer, making_for, own, ranks, split};
 
+use crate::big_endian::read_u8;
 use crate::codes::read_flag;
 use crate::fields::{read_colour, read_process};
 use crate::lists::{Repeated, read_list};
 use crate::neighbours::{EachEdge, read_edge_count, read_few_neighbours};
-use crate::numbers::read_u8;
+use mpx_birth::Neighbours;
 use mpx_format::{ReadError, SHORT, out_of_limits};
-use mpx_post::{Edges, Makes, Making, Neighbours, OwnNeighbours, Ranks};
+use mpx_kind::Makes;
+use mpx_post::{Edges, Making, OwnNeighbours, Ranks};
 use std::alloc::Global;
 
 // COLOUR AND KEY

@@ -1,4 +1,4 @@
-// Names of contexts.
+//! Reading names of contexts.
 ghost use Rattle.std.specs.Prelude.{◌≡◌, ◌<◌, ◌≤◌, [], false, length, IfOk};
 ghost use Rattle.std.specs.List.{All};
 ghost use Rattle.mpx_group.specs.Group.{has_twice};
@@ -6,9 +6,9 @@ ghost use Rattle.mpx_name.specs.Name.{IsStep};
 ghost use Rattle.mpx_format.specs.Format.{Gives, many_read};
 ghost use Rattle.mpx_format.specs.Fields.{member, member_count, members, step, step_count, name, child, gathering};
 
+use crate::big_endian::read_u8;
 use crate::fields::{read_call, read_colour, read_process, read_tag};
 use crate::lists::{Repeated, read_list};
-use crate::numbers::read_u8;
 use mpx_format::{ReadError, out_of_limits};
 use mpx_group::{Group, Proc};
 use mpx_name::{Name, Step};
@@ -70,9 +70,9 @@ fn read_distinct(alloc: Global, count: u8, bytes: &[u8]) -> Result<(Vec<Proc>, &
 // NAMES
 
 // Steps, the oldest first.
-struct Steps;
+struct NameSteps;
 
-impl Repeated for Steps {
+impl Repeated for NameSteps {
     type Value = Step;
 
     ghost format = { λ s before. step };
@@ -103,7 +103,7 @@ pub fn read_name(alloc: Global, bytes: &[u8]) -> Result<(Name, &[u8]), ReadError
     ensures { Gives (λ x. (x.0, x.1.now)) result (name.read bytes.now) }
 {
     let (count, rest) = read_step_count(bytes)?;
-    let (steps, rest) = read_list(&Steps, alloc, count as usize, rest)?;
+    let (steps, rest) = read_list(&NameSteps, alloc, count as usize, rest)?;
     Ok((Name::of(steps), rest))
 }
 

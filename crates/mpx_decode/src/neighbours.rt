@@ -1,4 +1,4 @@
-// Edges and neighbours, whose edges have weights or none.
+//! Reading edges and neighbours, whose edges have weights or none.
 ghost use Rattle.std.specs.Prelude.{◌≡◌, ◌≤◌, IfOk, length};
 ghost use Rattle.std.specs.List.{All};
 ghost use Rattle.mpx_post.specs.Graphs.{IsEdge, IsNeighbour, IsWeight};
@@ -6,11 +6,11 @@ ghost use Rattle.mpx_format.specs.Format.{Gives, many_read};
 ghost use Rattle.mpx_format.specs.Births.{near, neighbour, neighbours, weight};
 ghost use Rattle.mpx_format.specs.Posts.{edge, edge_count, few_neighbours};
 
+use crate::big_endian::{read_u16, read_u32};
 use crate::fields::read_process;
 use crate::lists::{Repeated, read_list};
-use crate::numbers::{read_u16, read_u32};
+use mpx_birth::{Edge, Neighbour, Neighbours};
 use mpx_format::{ReadError, out_of_limits};
-use mpx_post::{Edge, Neighbour, Neighbours};
 use std::alloc::Global;
 
 // A weight below 2,147,483,648; 0, of no bytes, where edges have none.

@@ -1,4 +1,4 @@
-// Acknowledgements joined as their bytes are read.
+//! Acknowledgements joined as their bytes are read.
 ghost use Rattle.std.specs.Prelude.{◌≡◌, ◌<◌, ◌-◌, ◌^◌, ℕ, [], IfOk, IfSome, Ok, OnErr, length};
 ghost use Rattle.std.specs.FinMap.{FinMap};
 ghost use Rattle.std.specs.Ordering.{nat_cmp};
@@ -15,13 +15,13 @@ ghost use Rattle.mpx_name.specs.Name.{IsName, IsStep};
 ghost use Rattle.mpx_name.specs.declared.steps.Step.TheVariants.{Child};
 ghost use Rattle.mpx_format.specs.Format.{many_read};
 ghost use Rattle.mpx_format.specs.Fields.{all_acks, acks, colour as colour_format, name, numbers, process, some_calls, step as step_format};
-ghost use Rattle.mpx_decode.specs.Raising.{Raises, Stands, Stops};
+ghost use Rattle.mpx_decode.specs.Raising.{JoinsFront, StandsInFront, StopsBetween};
 
+use crate::big_endian::{read_u8, read_u32};
 use crate::entries::WireValue;
 use crate::fields::{read_some_byte, read_some_calls, read_some_names};
-use crate::numbers::{read_u8, read_u32};
+use crate::process_numbers::front_row;
 use crate::raising::{FrontKey, WireJoin, raise_entries};
-use crate::rows::front_row;
 use join_core::{Max, OutOfMemory};
 use join_nest::Keyed;
 use mpx_board::{Acks, VersionVector};
@@ -129,7 +129,7 @@ impl WireJoin for Max {
     ghost wire = { λ version. some_calls };
 
     fn read_new(version: Version, alloc: Global, bytes: &[u8]) -> Result<(Max, &[u8]), ReadError> {
-        <Max as WireValue>::read(version, alloc, bytes)
+        <Max as WireValue>::read(version, alloc, None, bytes)
     }
 
     fn raise<'a>(
@@ -170,7 +170,7 @@ impl WireJoin for VersionVector {
         alloc: Global,
         bytes: &[u8],
     ) -> Result<(VersionVector, &[u8]), ReadError> {
-        <VersionVector as WireValue>::read(version, alloc, bytes)
+        <VersionVector as WireValue>::read(version, alloc, None, bytes)
     }
 
     fn raise<'a>(
@@ -207,7 +207,7 @@ impl WireJoin for Acks {
     ghost wire = { λ version. acks };
 
     fn read_new(version: Version, alloc: Global, bytes: &[u8]) -> Result<(Acks, &[u8]), ReadError> {
-        <Acks as WireValue>::read(version, alloc, bytes)
+        <Acks as WireValue>::read(version, alloc, None, bytes)
     }
 
     fn raise<'a>(
@@ -239,9 +239,9 @@ pub fn raise_all_acks<'a>(
     all: &mut Keyed<Proc, Acks>,
     bytes: &'a [u8],
 ) -> Result<&'a [u8], OutOfMemory>
-    requires { Stands all_acks bytes.now }
-    ensures ok { IfOk result (λ rest. Raises all_acks (keyed_joining acks_joining) bytes.now rest.now (view_of_all_acks all.old) (view_of_all_acks all.new)) }
-    ensures err { OnErr result (Stops all_acks (keyed_between acks_between) bytes.now (view_of_all_acks all.old) (view_of_all_acks all.new)) }
+    requires { StandsInFront all_acks bytes.now }
+    ensures ok { IfOk result (λ rest. JoinsFront all_acks (keyed_joining acks_joining) bytes.now rest.now (view_of_all_acks all.old) (view_of_all_acks all.new)) }
+    ensures err { OnErr result (StopsBetween all_acks (keyed_between acks_between) bytes.now (view_of_all_acks all.old) (view_of_all_acks all.new)) }
 {
     match read_u8(bytes) {
         Err(_) => Err(OutOfMemory),

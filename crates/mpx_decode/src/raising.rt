@@ -1,17 +1,17 @@
-// Values joined as their bytes are read. The bytes are known to be spelled, so a refusal is want of memory.
-ghost use Rattle.std.specs.Prelude.{◌≡◌, ◌<◌, IfOk, IfErr, IfSome, IsTrue, Ok, OnErr, length};
+//! Values joined as their bytes are read. The bytes are known to be spelled, so a refusal is want of memory.
+ghost use Rattle.std.specs.Prelude.{◌≡◌, ◌<◌, IfOk, IfSome, IsTrue, Ok, OnErr, length};
 ghost use Rattle.std.specs.FinMap.{is_sorted};
 ghost use Rattle.join_core.specs.Laws.{BetweenLaws, JoinLaws, Joining};
 ghost use Rattle.join_nest.specs.Keyed.{keyed_joining};
 ghost use Rattle.join_nest.specs.Between.{keyed_between};
-ghost use Rattle.join_nest.specs.Place.{IsAt, IsGap};
 ghost use Rattle.join_nest.specs.Seen.{keyed_view};
 ghost use Rattle.mpx_format.specs.declared.versions.Version.{Version};
 ghost use Rattle.mpx_format.specs.Format.{Format, Gives};
-ghost use Rattle.mpx_decode.specs.Raising.{Raises, RaisesRow, Stands, Stops, StopsRow, row, rows};
+ghost use Rattle.mpx_decode.specs.Raising.{JoinsFront, RaisesRow, StandsInFront, StopsBetween, StopsRow, row, rows};
 
 use crate::entries::WireKey;
 use join_core::{Key, OutOfMemory};
+use join_nest::place_of_key;
 use mpx_format::{ReadError, Version};
 use std::alloc::Global;
 
@@ -46,9 +46,9 @@ pub trait WireJoin: Drop {
         alloc: Global,
         bytes: &'a [u8],
     ) -> Result<&'a [u8], OutOfMemory>
-        requires { Stands (wire version) bytes.now }
-        ensures ok { IfOk result (λ rest. Raises (wire version) joining bytes.now rest.now (view self.old) (view self.new)) }
-        ensures err { OnErr result (Stops (wire version) between bytes.now (view self.old) (view self.new)) };
+        requires { StandsInFront (wire version) bytes.now }
+        ensures ok { IfOk result (λ rest. JoinsFront (wire version) joining bytes.now rest.now (view self.old) (view self.new)) }
+        ensures err { OnErr result (StopsBetween (wire version) between bytes.now (view self.old) (view self.new)) };
 
     ghost laws: { JoinLaws joining };
 
@@ -64,10 +64,10 @@ pub fn raise_entries<'a, K: Key + FrontKey, J: WireJoin>(
     bytes: &'a [u8],
 ) -> Result<&'a [u8], OutOfMemory>
     requires rising { IsTrue (is_sorted K.cmp entries.old.items) }
-    requires spelled { Stands (rows K.cmp K.format (J.wire version) count) bytes.now }
-    ensures ok { IfOk result (λ rest. Raises (rows K.cmp K.format (J.wire version) count) (keyed_joining J.joining) bytes.now rest.now
+    requires spelled { StandsInFront (rows K.cmp K.format (J.wire version) count) bytes.now }
+    ensures ok { IfOk result (λ rest. JoinsFront (rows K.cmp K.format (J.wire version) count) (keyed_joining J.joining) bytes.now rest.now
         (keyed_view K.cmp J.view entries.old.items) (keyed_view K.cmp J.view entries.new.items)) }
-    ensures err { OnErr result (Stops (rows K.cmp K.format (J.wire version) count) (keyed_between J.between) bytes.now
+    ensures err { OnErr result (StopsBetween (rows K.cmp K.format (J.wire version) count) (keyed_between J.between) bytes.now
         (keyed_view K.cmp J.view entries.old.items) (keyed_view K.cmp J.view entries.new.items)) }
     ensures rising { IsTrue (is_sorted K.cmp entries.new.items) }
 {
@@ -90,7 +90,7 @@ fn raise_entry<'a, K: Key + FrontKey, J: WireJoin>(
     bytes: &'a [u8],
 ) -> Result<(usize, &'a [u8]), OutOfMemory>
     requires rising { IsTrue (is_sorted K.cmp entries.old.items) }
-    requires spelled { Stands (row K.format (J.wire version)) bytes.now }
+    requires spelled { StandsInFront (row K.format (J.wire version)) bytes.now }
     ensures ok { IfOk result (λ x. RaisesRow K.cmp J.view (row K.format (J.wire version)) J.joining bytes.now x.1.now entries.old.items entries.new.items) }
     ensures err { OnErr result (StopsRow K.cmp J.view (row K.format (J.wire version)) J.between bytes.now entries.old.items entries.new.items) }
     ensures rising { IsTrue (is_sorted K.cmp entries.new.items) }
@@ -104,7 +104,7 @@ fn raise_entry<'a, K: Key + FrontKey, J: WireJoin>(
     raise_placed(version, alloc, entries, bytes)
 }
 
-// The same, wherever its key stands.
+// Joins the entry at the front to the one with its key, found by a search, or puts it in. Tells the place after it.
 fn raise_placed<'a, K: Key + FrontKey, J: WireJoin>(
     version: Version,
     alloc: Global,
@@ -112,7 +112,7 @@ fn raise_placed<'a, K: Key + FrontKey, J: WireJoin>(
     bytes: &'a [u8],
 ) -> Result<(usize, &'a [u8]), OutOfMemory>
     requires rising { IsTrue (is_sorted K.cmp entries.old.items) }
-    requires spelled { Stands (row K.format (J.wire version)) bytes.now }
+    requires spelled { StandsInFront (row K.format (J.wire version)) bytes.now }
     ensures ok { IfOk result (λ x. RaisesRow K.cmp J.view (row K.format (J.wire version)) J.joining bytes.now x.1.now entries.old.items entries.new.items) }
     ensures err { OnErr result (StopsRow K.cmp J.view (row K.format (J.wire version)) J.between bytes.now entries.old.items entries.new.items) }
     ensures rising { IsTrue (is_sorted K.cmp entries.new.items) }
@@ -120,7 +120,7 @@ fn raise_placed<'a, K: Key + FrontKey, J: WireJoin>(
     let Ok((key, rest)) = K::read(alloc, bytes) else {
         return Err(OutOfMemory);
     };
-    match place(entries, &key) {
+    match place_of_key(entries, &key) {
         Ok(at) => {
             let rest = entries[at].1.raise(version, alloc, rest)?;
             Ok((at + 1, rest))
@@ -133,13 +133,4 @@ fn raise_placed<'a, K: Key + FrontKey, J: WireJoin>(
             Ok((at + 1, rest))
         }
     }
-}
-
-// Where the key is, or where it would go.
-fn place<K: Key, J>(entries: &[(K, J)], key: &K) -> Result<usize, usize>
-    requires { IsTrue (is_sorted K.cmp entries.now) }
-    ensures found { IfOk result (IsAt K.cmp entries.now key.now) }
-    ensures absent { IfErr result (IsGap K.cmp entries.now key.now) }
-{
-    entries.binary_search_by(|entry| entry.0.cmp(key))
 }

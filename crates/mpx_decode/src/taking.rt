@@ -1,4 +1,4 @@
-// The parts of a board joined to another in place, as their bytes are read.
+//! The parts of a board joined to another in place, as their bytes are read.
 ghost use Rattle.std.specs.Prelude.{◌≡◌, ℕ, IfOk, IsTrue, List, OnErr, OnOk, Ok};
 ghost use Rattle.join_nest.specs.Keyed.{keyed_joining};
 ghost use Rattle.join_nest.specs.Between.{keyed_between};
@@ -8,7 +8,7 @@ ghost use Rattle.mpx_board.specs.Tidy.{are_tidy_acks, are_tidy_entries, is_tidy}
 ghost use Rattle.mpx_board.specs.Views.{view_of_entries};
 ghost use Rattle.mpx_format.specs.Contexts.{parts};
 ghost use Rattle.mpx_format.specs.Fields.{all_acks};
-ghost use Rattle.mpx_decode.specs.Raising.{Raises, StandsTidy, Stops};
+ghost use Rattle.mpx_decode.specs.Raising.{JoinsFront, StandsTidy, StopsBetween};
 
 use crate::contexts::read_contexts;
 use crate::raised::raise_all_acks;
@@ -29,10 +29,10 @@ pub fn take_parts<'a>(
     bytes: &'a [u8],
 ) -> Result<&'a [u8], OutOfMemory>
     requires { StandsTidy (parts version) is_tidy bytes.now }
-    ensures ok { IfOk result (λ rest. Raises (parts version) parts_joining bytes.now rest.now (parts_of board.old) (parts_of board.new)) }
-    ensures err { OnErr result (Stops (parts version) parts_between bytes.now (parts_of board.old) (parts_of board.new)) }
+    ensures ok { IfOk result (λ rest. JoinsFront (parts version) parts_joining bytes.now rest.now (parts_of board.old) (parts_of board.new)) }
+    ensures err { OnErr result (StopsBetween (parts version) parts_between bytes.now (parts_of board.old) (parts_of board.new)) }
 {
-    match read_contexts(version, alloc, bytes) {
+    match read_contexts(version, alloc, board.pair().first.entries(), bytes) {
         Err(_) => Err(OutOfMemory),
         Ok((contexts, rest)) => {
             take_contexts(alloc, board, contexts)?;
@@ -71,8 +71,8 @@ fn take_acks<'a>(
     bytes: &'a [u8],
 ) -> Result<&'a [u8], OutOfMemory>
     requires { StandsTidy all_acks are_tidy_acks bytes.now }
-    ensures ok { IfOk result (λ rest. Raises all_acks (keyed_joining acks_joining) bytes.now rest.now (parts_of board.old).1 (parts_of board.new).1) }
-    ensures err { OnErr result (Stops all_acks (keyed_between acks_between) bytes.now (parts_of board.old).1 (parts_of board.new).1) }
+    ensures ok { IfOk result (λ rest. JoinsFront all_acks (keyed_joining acks_joining) bytes.now rest.now (parts_of board.old).1 (parts_of board.new).1) }
+    ensures err { OnErr result (StopsBetween all_acks (keyed_between acks_between) bytes.now (parts_of board.old).1 (parts_of board.new).1) }
     ensures contexts { (parts_of board.new).0 ≡ (parts_of board.old).0 }
 {
     let mut held = Board::new(alloc);

@@ -5,11 +5,11 @@ use Rattle.std.proofs.lemmas.List.{take_more}
 use Rattle.std.proofs.lemmas.List.Elements.{All-weaker}
 use Rattle.mpx_board.specs.declared.acks.Raised.{Raised}
 use Rattle.mpx_board.specs.declared.board.Board.{Board}
-use Rattle.mpx_board.specs.Boards.{IsBelow, join, own_acks}
+use Rattle.mpx_board.specs.Boards.{IsBoardBelow, join, own_acks}
 use Rattle.mpx_board.specs.Contexts.{look_of}
 use Rattle.mpx_board.specs.Looks.{look, parts_of}
 use Rattle.mpx_board.specs.Parts.{OfNames, AcksView, LiftedView, PartsView}
-use Rattle.mpx_board.specs.Raised.{Leads}
+use Rattle.mpx_board.specs.Raised.{StoringLeads}
 use Rattle.mpx_board.proofs.Acknowledging.{look_replaced}
 use Rattle.mpx_board.proofs.Exchanging.{leads_raises}
 use Rattle.mpx_board.proofs.Facts.{join_is_least}
@@ -54,21 +54,21 @@ pub lean_own : (d : AcksView) (v : PartsView) (first : OfNames LiftedView) → f
 lean_own d v first is = look_replaced (first, v.1) v ∙ lean_said d v first v.1 (look_of v) is
 
 -- what leads back from a board leads back from one that is the same
-pub led_back : (before : Raised) (old mid lent back : PartsView) → Leads before mid old → lent ≡ mid → ((new : PartsView) → Leads before lent new → back ≡ new) → back ≡ old
-led_back before old mid lent back l same gives = gives old (subst (λ v. Leads before v old) (sym same) l)
+pub led_back : (before : Raised) (old mid lent back : PartsView) → StoringLeads before mid old → lent ≡ mid → ((new : PartsView) → StoringLeads before lent new → back ≡ new) → back ≡ old
+led_back before old mid lent back l same gives = gives old (subst (λ v. StoringLeads before v old) (sym same) l)
 
-pub leads_between : (said : Raised) (old mid lent back : PartsView) → back ≡ old → lent ≡ mid → Leads said back lent → Leads said old mid
-leads_between said old mid lent back was same l = subst (λ v. Leads said v mid) was (subst (Leads said back) same l)
+pub leads_between : (said : Raised) (old mid lent back : PartsView) → back ≡ old → lent ≡ mid → StoringLeads said back lent → StoringLeads said old mid
+leads_between said old mid lent back was same l = subst (λ v. StoringLeads said v mid) was (subst (StoringLeads said back) same l)
 
 -- the frames of what others lack of the board that says more
 pub frames_lack : (me processes limit : ℕ) (numbers : Numbers) (old new : PartsView) (before said : Raised) (frames : List (List ℕ)) → IsDigest numbers (look_of old) → look_of new ≡ join (look_of old) (own_acks me numbers)
-    → Leads before new old → Leads said old new → AreFramesOf limit (without (common_on processes (look_of new)) (look_of new)) frames → AreLacking me processes limit (look_of old) said frames
+    → StoringLeads before new old → StoringLeads said old new → AreFramesOf limit (without (common_on processes (look_of new)) (look_of new)) frames → AreLacking me processes limit (look_of old) said frames
 frames_lack me processes limit numbers old new before said frames digest is back leads made =
     record {
       parts = made.parts;
       lacking = record {
         after = look_of new;
-        raises = leads_raises said old new back.neat leads (subst (IsBelow (look_of old)) (sym is) (join_is_least (look_of old) (own_acks me numbers)).left);
+        raises = leads_raises said old new back.neat leads (subst (IsBoardBelow (look_of old)) (sym is) (join_is_least (look_of old) (own_acks me numbers)).left);
         own = acknowledged me numbers (look_of old) (look_of new) digest is;
         facts = All-weaker (λ part. OnlyFactsOf (look part) (without (common_on processes (look_of new)) (look_of new))) (λ part. OnlyFactsOf (look part) (look_of new)) (λ part only f has. without_only (common_on processes (look_of new)) (look_of new) f (only f has)) made.parts made.facts;
         fit = made.fit;

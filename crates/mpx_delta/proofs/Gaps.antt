@@ -18,7 +18,7 @@ use Rattle.join_nest.specs.TruncLaws.{get_dropped}
 use Rattle.mpx_birth.specs.Orders.{upto}
 use Rattle.mpx_name.specs.Name.{Name}
 use Rattle.mpx_name.specs.Order.{name_cmp, name_total, name_exact}
-use Rattle.mpx_post.specs.Births.{BirthView}
+use Rattle.mpx_birth.specs.Births.{BirthView}
 use Rattle.mpx_board.specs.Boards.{told}
 use Rattle.mpx_board.specs.Changes.{is_posted}
 use Rattle.mpx_board.specs.Contexts.{or_zero, post_in, context_of, or_nothing, number_in, numbers_of, look_of}

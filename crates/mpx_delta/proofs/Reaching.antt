@@ -6,7 +6,7 @@ use Rattle.std.proofs.lemmas.List.{append-nil, map-append, take_more, get_or-rep
 use Rattle.std.proofs.lemmas.List.Folds.{list_any-append}
 use Rattle.join_nest.specs.Entries.{with_key}
 use Rattle.mpx_birth.specs.Orders.{upto}
-use Rattle.join_core.specs.declared.numbers.Max.{Max}
+use Rattle.join_core.specs.declared.max.Max.{Max}
 use Rattle.join_nest.specs.Seen.{seen}
 use Rattle.mpx_delta.specs.Keep.{kept}
 use Rattle.mpx_board.specs.Parts.{CallView}

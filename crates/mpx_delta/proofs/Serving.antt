@@ -7,7 +7,7 @@ use Rattle.join_core.specs.FlatLaws.{flat_laws, join_unknown}
 use Rattle.mpx_name.specs.Name.{Name}
 use Rattle.mpx_post.specs.Posts.{Given}
 use Rattle.mpx_post.specs.Equality.{same_given, given_equality}
-use Rattle.mpx_post.specs.Births.{birth_equality}
+use Rattle.mpx_birth.specs.Births.{birth_equality}
 use Rattle.mpx_board.specs.Boards.{Context, Look, gone, join, join_contexts, join_live}
 use Rattle.mpx_delta.specs.Digests.{Numbers, Covers, without, without_posts}
 

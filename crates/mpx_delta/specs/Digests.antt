@@ -4,7 +4,7 @@ use Rattle.std.specs.FinMap.{get}
 use Rattle.join_core.specs.Flat.{FlatView, unknown, known}
 use Rattle.mpx_name.specs.Name.{Name}
 use Rattle.mpx_post.specs.Posts.{Given}
-use Rattle.mpx_post.specs.Births.{BirthView, upto}
+use Rattle.mpx_birth.specs.Births.{BirthView, upto}
 pub use Rattle.mpx_board.specs.Boards.{Numbers}
 use Rattle.mpx_board.specs.Boards.{Context, Look, Held, Has, Stands, join, minimum, own_acks}
 use Rattle.mpx_board.specs.Changes.{is_posted}

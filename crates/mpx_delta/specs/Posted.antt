@@ -1,6 +1,5 @@
 -- The numbers of a digest that tell held posts apart: those above the first call with posts.
-use Rattle.std.specs.Prelude.{ℕ, zero, suc, min, nat_lt, cond, List, [], ◌∷◌, Option, Some, None}
-use Rattle.std.specs.Prelude.{option_and_then}
+use Rattle.std.specs.Prelude.{ℕ, zero, suc, min, nat_lt, cond, List, [], ◌∷◌, Option, Some, None, option_and_then}
 use Rattle.std.specs.FinMap.{empty, entries, get}
 use Rattle.join_nest.specs.Lift.{live, dead}
 use Rattle.mpx_name.specs.Name.{Name}

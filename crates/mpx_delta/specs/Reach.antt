@@ -4,7 +4,7 @@ use Rattle.std.specs.List.{list_any}
 use Rattle.std.specs.FinMap.{empty, entries, from_sorted}
 use Rattle.join_nest.specs.Lift.{live, dead}
 use Rattle.mpx_group.specs.Group.{has}
-use Rattle.mpx_post.specs.Births.{BirthView, upto}
+use Rattle.mpx_birth.specs.Births.{BirthView, upto}
 use Rattle.mpx_board.specs.Boards.{told}
 use Rattle.mpx_board.specs.Contexts.{post_in}
 use Rattle.mpx_board.specs.Parts.{OfProcesses, AcksView, CallView, EntryView, LiftedView, PartsView}

@@ -1,4 +1,4 @@
-// A board without the posts that are known, in parts.
+//! A board without the posts that are known, in parts.
 ghost use Rattle.std.specs.Prelude.{◌≡◌, ◌≤◌, All, map, IfOk};
 ghost use Rattle.mpx_board.specs.Boards.{Look, join, join_all};
 ghost use Rattle.mpx_board.specs.Looks.{look, parts_of};
@@ -12,15 +12,15 @@ ghost use Rattle.mpx_delta.specs.Lean.{lean_call, lean_calls, lean_context, lean
 use crate::digest::Digest;
 use join_core::{Exact, OutOfMemory, Pair};
 use join_nest::{Keyed, Lift, Trunc};
-use mpx_board::{Board, Call, Entry, Lifted, VersionVector, is_said};
+use mpx_board::{Board, CallPosts, Entry, Lifted, VersionVector, is_said};
 use mpx_group::Proc;
 use mpx_name::Name;
 use mpx_parts::parts;
 use std::alloc::Global;
 
 /// The board without the posts below the digest, in parts, each of which has only facts of the board and a frame of at
-/// most so many bytes: they serve each board in which those posts stand as the whole would. They tell of each dead context
-/// that it is dead.
+/// most `limit` bytes, from 524,288 to 1,048,576: they serve each board in which those posts stand as the whole would. They tell of each
+/// dead context that it is dead. An `Err` is want of memory.
 pub fn delta_for(
     alloc: Global,
     board: &Board,
@@ -95,7 +95,7 @@ fn lean_lifted(
     }
 }
 
-// The same of a live one.
+// What is known of the live context with this name, without the posts below its numbers in the digest.
 fn lean_context(
     alloc: Global,
     name: &Name,
@@ -129,9 +129,9 @@ fn lean_entry(alloc: Global, entry: &Entry, numbers: &VersionVector) -> Result<E
 // The calls without those posts.
 fn lean_calls(
     alloc: Global,
-    calls: &Trunc<Call>,
+    calls: &Trunc<CallPosts>,
     numbers: &VersionVector,
-) -> Result<Trunc<Call>, OutOfMemory>
+) -> Result<Trunc<CallPosts>, OutOfMemory>
     ensures { IfOk result (λ made. view_of_calls made ≡ lean_calls (number_at (view_of_numbers numbers.now)) (view_of_calls calls.now)) }
 {
     let mut made = Vec::new(alloc);
@@ -148,9 +148,9 @@ fn lean_calls(
 fn lean_call(
     alloc: Global,
     call: u32,
-    posts: &Call,
+    posts: &CallPosts,
     numbers: &VersionVector,
-) -> Result<Call, OutOfMemory>
+) -> Result<CallPosts, OutOfMemory>
     ensures { IfOk result (λ made. view_of_call made ≡ keep (lean_post (number_at (view_of_numbers numbers.now)) call) (view_of_call posts.now)) }
 {
     let mut made = Vec::new(alloc);

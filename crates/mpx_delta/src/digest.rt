@@ -1,4 +1,4 @@
-// How many calls of each process are known.
+//! How many calls of each process are known.
 ghost use Rattle.std.specs.Prelude.{◌≡◌, ◌||◌, ℕ, Bool, IfOk, IsTrue, true};
 ghost use Rattle.std.specs.FinMap.{entries};
 ghost use Rattle.join_core.specs.FlatSeen.{flat_view};
@@ -12,17 +12,17 @@ ghost use Rattle.mpx_delta.specs.Reach.{AreMarks, digest_lifted, digest_number, 
 
 use join_core::{Exact, Flat, Max, OutOfMemory};
 use join_nest::{Keyed, Lift, Trunc};
-use mpx_board::{Board, Call, Entry, Lifted, VersionVector};
+use mpx_birth::Birth;
+use mpx_board::{Board, CallPosts, Entry, Lifted, VersionVector};
 use mpx_group::Proc;
 use mpx_name::Name;
-use mpx_post::Birth;
 use std::alloc::Global;
 
 /// For each context, and each process of it, a number of calls; a 0 isn't kept.
 pub type Digest = Keyed<Name, VersionVector>;
 
 /// For each live context, and each process that is a member or has a post there, how many of its calls are told or dropped,
-/// in order up to the first gap. Dead contexts are left out.
+/// in order up to the first gap. Dead contexts are left out. An `Err` is want of memory.
 pub fn digest_of(alloc: Global, board: &Board) -> Result<Digest, OutOfMemory>
     ensures digest { IfOk result (λ made. IsDigest (numbers_of (view_of_acks made)) (look board.now)) }
     ensures tidy { IfOk result (λ made. IsTrue (are_tidy_numbers (view_of_acks made))) }
@@ -37,7 +37,7 @@ pub fn digest_of(alloc: Global, board: &Board) -> Result<Digest, OutOfMemory>
     Ok(Keyed::from_rising(made))
 }
 
-// The same of one context.
+// The digest of one context: for each process how many calls are told or dropped in order. Of a dead one it is empty.
 fn lifted_digest(alloc: Global, known: &Lifted) -> Result<VersionVector, OutOfMemory>
     requires { is_tidy_lifted (view_of_lifted known.now) ≡ true }
     ensures { IfOk result (λ made. view_of_numbers made ≡ digest_lifted (view_of_lifted known.now)) }
@@ -104,7 +104,7 @@ fn marks_of(members: &[Proc]) -> [bool; 64]
 }
 
 // For each process whether it has a post.
-fn posters_of(calls: &Trunc<Call>) -> [bool; 64]
+fn posters_of(calls: &Trunc<CallPosts>) -> [bool; 64]
     ensures { AreMarks (λ p. has_posted p (entries (view_of_calls calls.now).calls)) result }
 {
     let mut marks = [false; 64];
@@ -115,7 +115,7 @@ fn posters_of(calls: &Trunc<Call>) -> [bool; 64]
 }
 
 // Marks the processes whose posts are told.
-fn mark_posters(posts: &Call, marks: &mut [bool; 64])
+fn mark_posters(posts: &CallPosts, marks: &mut [bool; 64])
     ensures { (before : ℕ → Bool) → AreMarks before marks.old → AreMarks (λ p. before p || is_told_of p (view_of_call posts.now)) marks.new }
 {
     for (process, post) in posts.entries() {
@@ -126,7 +126,7 @@ fn mark_posters(posts: &Call, marks: &mut [bool; 64])
 }
 
 // Whether the process's post is told.
-fn is_told_of(posts: &Call, process: Proc) -> bool
+fn is_told_of(posts: &CallPosts, process: Proc) -> bool
     ensures { result ≡ is_told_of process (view_of_call posts.now) }
 {
     match posts.get(&process) {
@@ -136,7 +136,7 @@ fn is_told_of(posts: &Call, process: Proc) -> bool
 }
 
 // How many calls of the process are told or dropped, in order up to the first gap.
-fn reach(calls: &Trunc<Call>, process: Proc) -> u32
+fn reach(calls: &Trunc<CallPosts>, process: Proc) -> u32
     requires { all_entries is_tidy_call (view_of_calls calls.now).calls ≡ true }
     ensures { result ≡ reach process (view_of_calls calls.now).dropped (entries (view_of_calls calls.now).calls) }
 {

@@ -1,4 +1,4 @@
-// What a process says that it has, and the frames of what others may lack of its board, without a copy of what all say.
+//! What a process says that it has, and the frames of what others may lack of its board, without a copy of what all say.
 ghost use Rattle.std.specs.Prelude.{◌≡◌, ◌<◌, ◌≤◌, All, IfOk, IfSome, map};
 ghost use Rattle.mpx_board.specs.Contexts.{look_of};
 ghost use Rattle.mpx_board.specs.Looks.{look, parts_of};
@@ -14,7 +14,7 @@ use crate::posted::common_of_posts;
 use join_core::{OutOfMemory, Pair};
 use join_nest::Keyed;
 use mpx_board::{Board, Raised};
-use mpx_encode::{EncodeError, encode};
+use mpx_encode::{EncodeError, encode, encode_over};
 use mpx_group::Proc;
 use mpx_parts::parts;
 use std::alloc::Global;
@@ -26,14 +26,16 @@ pub struct NewFrames {
     pub frames: Vec<Vec<u8>>,
 }
 
-/// Makes what [`new_list`](crate::new_list) makes, with frames in place of the parts. What all processes say isn't copied for
-/// that: the board lends it, and stays as it is, also where memory is refused.
+/// Makes what [`new_list`](crate::new_list) makes, with frames of at most `limit` bytes in place of the parts. What all processes say
+/// isn't copied for that: the board lends it, and stays as it is, also where memory is refused. A frame is written over the last of the
+/// `spare` bytes, where there are such: their room serves it in place of memory.
 pub fn new_frames(
     alloc: Global,
     board: &mut Board,
     me: Proc,
     processes: u8,
     limit: usize,
+    spare: &mut Vec<Vec<u8>>,
 ) -> Result<NewFrames, OutOfMemory>
     requires some { 0 < processes }
     requires few { processes ≤ 64 }
@@ -44,7 +46,7 @@ pub fn new_frames(
 {
     let digest = digest_of(alloc, board)?;
     let before = board.say(alloc, me, &digest)?;
-    let made = lean_frames(alloc, board, processes, limit);
+    let made = lean_frames(alloc, board, processes, limit, spare);
     let said = board.exchange(before);
     match made {
         Ok(frames) => Ok(NewFrames { said, frames }),
@@ -61,6 +63,7 @@ fn lean_frames(
     board: &mut Board,
     processes: u8,
     limit: usize,
+    spare: &mut Vec<Vec<u8>>,
 ) -> Result<Vec<Vec<u8>>, OutOfMemory>
     requires some { 0 < processes }
     requires few { processes ≤ 64 }
@@ -71,7 +74,7 @@ fn lean_frames(
 {
     let mut lean = lean_of(alloc, board, processes)?;
     board.swap_acks(&mut lean);
-    let made = frames_of(alloc, &lean, limit);
+    let made = frames_of(alloc, &lean, limit, spare);
     board.swap_acks(&mut lean);
     drop(lean);
     made
@@ -90,12 +93,17 @@ fn lean_of(alloc: Global, board: &Board, processes: u8) -> Result<Board, OutOfMe
 }
 
 // The frames of the board in parts: one where it fits.
-fn frames_of(alloc: Global, board: &Board, limit: usize) -> Result<Vec<Vec<u8>>, OutOfMemory>
+fn frames_of(
+    alloc: Global,
+    board: &Board,
+    limit: usize,
+    spare: &mut Vec<Vec<u8>>,
+) -> Result<Vec<Vec<u8>>, OutOfMemory>
     requires least { 524288 ≤ limit }
     requires most { limit ≤ 1048576 }
     ensures { IfOk result (λ made. AreFramesOf limit (look board.now) (map (λ frame. frame.items) made.items)) }
 {
-    let Some(frame) = whole_frame(alloc, board, limit)? else {
+    let Some(frame) = whole_frame(alloc, board, limit, spare)? else {
         let parts = parts(alloc, board, limit)?;
         return all_frames(alloc, &parts);
     };
@@ -104,12 +112,25 @@ fn frames_of(alloc: Global, board: &Board, limit: usize) -> Result<Vec<Vec<u8>>,
     Ok(made)
 }
 
+// Bytes that were let go, where there are such.
+fn spare_bytes(alloc: Global, spare: &mut Vec<Vec<u8>>) -> Vec<u8> {
+    match spare.pop() {
+        Some(bytes) => bytes,
+        None => Vec::new(alloc),
+    }
+}
+
 // The frame of the whole board, where it has at most so many bytes.
-fn whole_frame(alloc: Global, board: &Board, limit: usize) -> Result<Option<Vec<u8>>, OutOfMemory>
+fn whole_frame(
+    alloc: Global,
+    board: &Board,
+    limit: usize,
+    spare: &mut Vec<Vec<u8>>,
+) -> Result<Option<Vec<u8>>, OutOfMemory>
     ensures fits { IfOk result (λ made. IfSome made (λ frame. length_told (parts_of board.now) ≤ limit)) }
     ensures spelled { IfOk result (λ made. IfSome made (λ frame. Spells Two frame.items (parts_of board.now))) }
 {
-    match encode(alloc, board) {
+    match encode_over(spare_bytes(alloc, spare), board) {
         Ok(frame) => {
             if limit < frame.len() {
                 return Ok(None);

@@ -1,4 +1,4 @@
-// What a process says that it has, and gives of its board.
+//! What a process says that it has, and gives of its board.
 ghost use Rattle.std.specs.Prelude.{◌≡◌, ◌<◌, ◌≤◌, All, map, IfOk, IsTrue, OnErr, OnOk};
 ghost use Rattle.mpx_board.specs.Boards.{join, join_all, own_acks};
 ghost use Rattle.mpx_board.specs.Looks.{look, parts_of};
@@ -26,9 +26,10 @@ pub struct NewList {
     pub parts: Vec<Board>,
 }
 
-/// Makes what the process `me` of so many stores where it says that it has all that its board has, and the board with that
-/// and without the posts below what all processes say, in parts, each of which has only facts of that board and a frame of
-/// at most so many bytes. The board stays as it is: [`Board::store`] stores what was made of it.
+/// Makes what the process `me` of `processes` stores where it says that it has all that its board has, and the board with that
+/// and without the posts below what all processes say, in parts, each of which has only facts of that board and a frame of at most
+/// `limit` bytes, from 524,288 to 1,048,576. The board stays as it is: [`Board::store`] stores what was made of it. An `Err` is want of
+/// memory.
 pub fn new_list(
     alloc: Global,
     board: &Board,
@@ -55,9 +56,9 @@ pub fn new_list(
     }
 }
 
-/// The process `me` of so many says that it has all that its board has, and gives the board without the posts below what
-/// all of them say, in parts, each of which has only facts of the board and a frame of at most so many bytes. An `Err`
-/// changes nothing.
+/// The process `me` of `processes` says that it has all that its board has, and gives the board without the posts below what
+/// all of them say, in parts, each of which has only facts of the board and a frame of at most `limit` bytes. An `Err`, for want of
+/// memory, changes nothing.
 pub fn deltas(
     alloc: Global,
     board: &mut Board,

@@ -1,4 +1,4 @@
-// What all processes say that they have.
+//! What all processes say that they have.
 ghost use Rattle.std.specs.Prelude.{◌≡◌, ◌<◌, ◌≤◌, ℕ, IfOk, IsTrue, min};
 ghost use Rattle.std.specs.FinMap.{get};
 ghost use Rattle.std.specs.Option.{option_copied, option_map};
@@ -19,7 +19,8 @@ use mpx_name::Name;
 use std::alloc::Global;
 use std::cmp::Ordering;
 
-/// For each context and process the least number that one of the first so many processes acknowledges.
+/// For each context and process the least number that one of the first `processes` processes acknowledges, 1 to 64 of them. An `Err`
+/// is want of memory.
 pub fn common(alloc: Global, board: &Board, processes: u8) -> Result<Digest, OutOfMemory>
     requires some { 0 < processes }
     requires few { processes ≤ 64 }
@@ -87,7 +88,7 @@ fn least(alloc: Global, numbers: &Digest, others: &Acks) -> Result<Digest, OutOf
     Ok(Keyed::from_rising(made))
 }
 
-// The same of one context, whose numbers of the other side may stand at the place.
+// The lesser numbers of one context, by process, where both have one: the other side's are looked for at the place first.
 fn least_on(
     alloc: Global,
     name: &Name,

@@ -1,4 +1,4 @@
-// What all processes say that they have, as far as it tells posts apart that a board holds.
+//! What all processes say that they have, as far as it tells posts apart that a board holds.
 ghost use Rattle.std.specs.Prelude.{◌≡◌, ◌-◌, ◌<◌, ◌≤◌, IfOk, Some};
 ghost use Rattle.std.specs.Option.{option_copied, option_map};
 ghost use Rattle.mpx_board.specs.Looks.{look, parts_of};
@@ -28,22 +28,25 @@ pub fn common_of_posts(
     ensures { IfOk result (λ made. without (numbers_of (view_of_acks made)) (look board.now) ≡ without (common_on processes (look said.now)) (look board.now)) }
 {
     let mut made = Vec::new(alloc);
+    let mut near = 0;
     for (name, known) in board.pair().first.entries() {
-        let numbers = least_posted(alloc, &said.pair().second, name, known, processes)?;
+        let numbers = least_posted(alloc, &said.pair().second, name, known, processes, near)?;
         if !numbers.is_empty() {
             made.push((name.copy(alloc)?, numbers))?;
         }
+        near = near.wrapping_add(1);
     }
     Ok(Keyed::from_rising(made))
 }
 
-// The same of one context: without calls, and of a dead one, there are none.
+// Those of one context, whose name is looked for at the place first: without calls, and of a dead one, there are none.
 fn least_posted(
     alloc: Global,
     acks: &Keyed<Proc, Acks>,
     name: &Name,
     known: &Lifted,
     processes: u8,
+    near: usize,
 ) -> Result<VersionVector, OutOfMemory>
     requires some { 0 < processes }
     requires few { processes ≤ 64 }
@@ -53,7 +56,7 @@ fn least_posted(
         Lift::Dead => Ok(Keyed::new(alloc)),
         Lift::Live(entry) => match entry.second.second.entries() {
             [] => Ok(Keyed::new(alloc)),
-            [first, ..] => least_above(alloc, acks, name, first.0, processes),
+            [first, ..] => least_above(alloc, acks, name, first.0, processes, near),
         },
     }
 }
@@ -65,17 +68,18 @@ fn least_above(
     name: &Name,
     call: u32,
     processes: u8,
+    near: usize,
 ) -> Result<VersionVector, OutOfMemory>
     requires some { 0 < processes }
     requires few { processes ≤ 64 }
     ensures { IfOk result (λ made. view_of_numbers made ≡ least_above (view_of_all_acks acks.now) name.now call (processes - 1)) }
 {
-    let mut made = first_above(alloc, acks, name, call)?;
+    let mut made = first_above(alloc, acks, name, call, near)?;
     for number in 1..processes {
         if made.is_empty() {
             return Ok(made);
         }
-        made = lesser_on(alloc, acks, name, Proc::new(number), call, &made)?;
+        made = lesser_on(alloc, acks, name, Proc::new(number), call, &made, near)?;
     }
     Ok(made)
 }
@@ -86,10 +90,11 @@ fn first_above(
     acks: &Keyed<Proc, Acks>,
     name: &Name,
     call: u32,
+    near: usize,
 ) -> Result<VersionVector, OutOfMemory>
     ensures { IfOk result (λ made. view_of_numbers made ≡ above call (said_on (view_of_all_acks acks.now) name.now 0)) }
 {
-    match said_on(acks, name, Proc::new(0)) {
+    match said_on(acks, name, Proc::new(0), near) {
         None => Ok(Keyed::new(alloc)),
         Some(numbers) => above(alloc, numbers, call),
     }
@@ -103,22 +108,28 @@ fn lesser_on(
     process: Proc,
     call: u32,
     numbers: &VersionVector,
+    near: usize,
 ) -> Result<VersionVector, OutOfMemory>
     ensures { IfOk result (λ made. view_of_numbers made ≡ lesser call (view_of_numbers numbers.now) (said_on (view_of_all_acks acks.now) name.now process)) }
 {
-    match said_on(acks, name, process) {
+    match said_on(acks, name, process, near) {
         None => Ok(Keyed::new(alloc)),
         Some(others) => lesser(alloc, numbers, others, call),
     }
 }
 
-// What the process says of the context.
-fn said_on<'a>(acks: &'a Keyed<Proc, Acks>, name: &Name, process: Proc) -> Option<&'a VersionVector>
+// What the process says of the context, whose name is looked for at the place first.
+fn said_on<'a>(
+    acks: &'a Keyed<Proc, Acks>,
+    name: &Name,
+    process: Proc,
+    near: usize,
+) -> Option<&'a VersionVector>
     ensures { option_map view_of_numbers (option_copied result) ≡ said_on (view_of_all_acks acks.now) name.now process }
 {
     match acks.get(&process) {
         None => None,
-        Some(names) => names.get(name),
+        Some(names) => value_near(names, near, name),
     }
 }
 

@@ -1,6 +1,6 @@
 -- The bytes of four rows, one after the other.
 use Rattle.std.proofs.Common.{◌≡◌, ℕ, List, [], ◌∷◌, length, get_or, refl, arith}
-use Rattle.join_core.specs.declared.numbers.Max.{Max}
+use Rattle.join_core.specs.declared.max.Max.{Max}
 use Rattle.join_nest.specs.Seen.{seen}
 use Rattle.mpx_format.specs.Fields.{process, some_calls}
 use Rattle.mpx_encode.specs.Entries.{entries_spelled, entry_spelled}

@@ -1,4 +1,4 @@
-// The frame of a board, its length, and which boards have none.
+//! The frame of a board, its length, and which boards have none.
 ghost use Rattle.std.specs.Prelude.{◌≡◌, ◌↔◌, ◌+◌, ◌-◌, true, cond, nat_le, None, Some, IfOk, IfSome, length};
 ghost use Rattle.std.specs.Result.{IsErrOf};
 ghost use Rattle.std.specs.FinMap.{len};
@@ -79,15 +79,27 @@ pub fn encode(alloc: Global, board: &Board) -> Result<Vec<u8>, EncodeError>
     ensures spelled { IfOk result (λ bytes. Spells Two bytes.items (parts_of board.now)) }
     ensures too_long { IsErrOf result EncodeError.TooLong ↔ (is_too_long (parts_of board.now) ≡ true) }
 {
+    encode_over(Vec::new(alloc), board)
+}
+
+/// The frame of the board as [`encode`] makes it, in the place of what these bytes are: where they have the room, no memory is
+/// taken.
+///
+/// # Errors
+/// As of [`encode`]; the bytes are let go then.
+pub fn encode_over(bytes: Vec<u8>, board: &Board) -> Result<Vec<u8>, EncodeError>
+    ensures spelled { IfOk result (λ bytes. Spells Two bytes.items (parts_of board.now)) }
+    ensures too_long { IsErrOf result EncodeError.TooLong ↔ (is_too_long (parts_of board.now) ≡ true) }
+{
     let parts = board.pair();
-    match frame_room(parts) {
-        None => Err(EncodeError::TooLong),
-        Some(left) => {
-            let mut out = Vec::with_capacity(alloc, MOST_BYTES - left)?;
-            write_frame(parts, &mut out)?;
-            Ok(out)
-        }
-    }
+    let Some(left) = frame_room(parts) else {
+        return Err(EncodeError::TooLong);
+    };
+    let mut out = bytes;
+    out.clear();
+    out.reserve(MOST_BYTES - left)?;
+    write_frame(parts, &mut out)?;
+    Ok(out)
 }
 
 // What the frame of these parts leaves of the bytes that a frame may have, where it isn't too long.

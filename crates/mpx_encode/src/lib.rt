@@ -10,9 +10,9 @@ mod write_contexts;
 mod write_entries;
 mod write_items;
 mod write_makings;
-mod write_maps;
 mod write_names;
 mod write_numbers;
 mod write_posts;
+mod write_process_numbers;
 
-pub use encoding::{EncodeError, encode, frame_len};
+pub use encoding::{EncodeError, encode, encode_over, frame_len};

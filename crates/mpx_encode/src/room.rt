@@ -1,4 +1,4 @@
-// Room for spellings: what is left of so many bytes.
+//! Room for spellings: what is left of so many bytes.
 ghost use Rattle.std.specs.Prelude.{◌≡◌};
 ghost use Rattle.mpx_encode.specs.Room.{room_left};
 

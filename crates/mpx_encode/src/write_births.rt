@@ -1,14 +1,14 @@
-// Births: the members, and the neighbours of each of them where there is a topology.
+//! Writing births: the members, and the neighbours of each of them where there is a topology.
 ghost use Rattle.std.specs.Prelude.{◌≡◌, ◌≤◌, ◌+◌, ◌*◌, ◌^◌, ◌++◌, cond, true, Some, OnOk, length, slice_index_or};
 ghost use Rattle.std.specs.List.{flat_map};
 ghost use Rattle.mpx_format.specs.Births.{birth as birth_format, code_of_weighted, near, neighbour as neighbour_format, neighbours as neighbours_format, weight as weight_format};
-ghost use Rattle.mpx_post.specs.Topologies.{most_neighbours, nobody};
+ghost use Rattle.mpx_birth.specs.Topologies.{most_neighbours, nobody};
 ghost use Rattle.mpx_encode.specs.Entries.{topology_spelled};
 
 use crate::write_names::write_members;
 use crate::write_numbers::{write_u8, write_u16, write_u32};
 use join_core::OutOfMemory;
-use mpx_post::{Birth, Neighbour, Topology};
+use mpx_birth::{Birth, Neighbour, Topology};
 
 // Writes the weight at the end, where edges have one.
 pub fn write_weight(weighted: bool, weight: u32, out: &mut Vec<u8>) -> Result<(), OutOfMemory>

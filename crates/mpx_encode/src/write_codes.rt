@@ -1,11 +1,11 @@
-// The codes of kinds, modes, operations and types.
+//! Writing the codes of kinds, modes, operations and types.
 ghost use Rattle.std.specs.Prelude.{◌≡◌, ◌<◌};
 ghost use Rattle.mpx_format.specs.Codes.{code_of_mode};
 ghost use Rattle.mpx_kind.specs.Codes.{code_of_kind};
 ghost use Rattle.mpx_num.specs.Codes.{code_of_operation, code_of_type};
 
+use mpx_kind::{Kind, Mode};
 use mpx_num::{Op, Ty};
-use mpx_post::{Kind, Mode};
 
 pub fn code_of_kind(kind: Kind) -> u8
     ensures { result ≡ code_of_kind kind }

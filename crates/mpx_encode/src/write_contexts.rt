@@ -1,4 +1,4 @@
-// What frames say of contexts, and whole frames.
+//! Writing what frames say of contexts, and whole frames.
 ghost use Rattle.std.specs.Prelude.{◌≡◌, ◌≤◌, ◌+◌, ◌++◌, ◌&&◌, false, not, true, IfSome, OnOk, length, nat_le};
 ghost use Rattle.std.specs.FinMap.{len};
 ghost use Rattle.join_core.specs.Flat.{FlatView};
@@ -6,7 +6,7 @@ ghost use Rattle.join_core.specs.FlatSeen.{flat_view};
 ghost use Rattle.mpx_board.specs.Parts.{AcksView, CallView, LiftedView, OfProcesses, PartsView};
 ghost use Rattle.mpx_board.specs.Tidy.{all_entries, are_tidy_acks, are_tidy_posts, is_tidy, is_tidy_acks, is_tidy_call, is_tidy_entry, is_tidy_lifted, is_unknown};
 ghost use Rattle.mpx_board.specs.Views.{view_of_acks, view_of_call, view_of_calls, view_of_entry, view_of_lifted, view_of_parts};
-ghost use Rattle.mpx_post.specs.Births.{BirthView};
+ghost use Rattle.mpx_birth.specs.Births.{BirthView};
 ghost use Rattle.mpx_post.specs.Posts.{Given};
 ghost use Rattle.mpx_format.specs.declared.versions.Version.TheVariants.{Two};
 ghost use Rattle.mpx_format.specs.Births.{birth as birth_format};
@@ -18,13 +18,14 @@ ghost use Rattle.mpx_encode.specs.Room.{room_left};
 use crate::room::room_left;
 use crate::write_births::{birth_len, write_birth};
 use crate::write_entries::{WriteValue, room_after_counted, write_entries};
-use crate::write_maps::{room_after_fronts, write_fronts};
 use crate::write_numbers::{write_u8, write_u16, write_u32};
 use crate::write_posts::{post_len, write_post};
+use crate::write_process_numbers::{room_after_fronts, write_fronts};
 use join_core::{Flat, OutOfMemory};
 use join_nest::{Lift, Trunc};
-use mpx_board::{Acks, Call, Entry, Lifted, Parts};
-use mpx_post::{Birth, Post};
+use mpx_birth::Birth;
+use mpx_board::{Acks, CallPosts, Entry, Lifted, Parts};
+use mpx_post::Post;
 
 impl WriteValue for Flat<Post> {
     ghost Seen = { FlatView Given };
@@ -81,7 +82,7 @@ fn write_told_birth(birth: &Flat<Birth>, out: &mut Vec<u8>) -> Result<(), OutOfM
     }
 }
 
-impl WriteValue for Call {
+impl WriteValue for CallPosts {
     ghost Seen = { CallView };
 
     ghost seen = { view_of_call };
@@ -102,7 +103,7 @@ impl WriteValue for Call {
 }
 
 // What is left of so much room behind the dropped front and the calls at or above it.
-fn room_after_held(held: &Trunc<Call>, room: usize) -> Option<usize>
+fn room_after_held(held: &Trunc<CallPosts>, room: usize) -> Option<usize>
     requires { all_entries is_tidy_call (view_of_calls held.now).calls ≡ true }
     ensures value { result ≡ room_left (length ((held_format Two).spelling (view_of_calls held.now))) room }
     ensures fits { IfSome result (λ left. (held_format Two).fits (view_of_calls held.now) ≡ true) }
@@ -111,7 +112,7 @@ fn room_after_held(held: &Trunc<Call>, room: usize) -> Option<usize>
     room_after_counted(8, held.entries(), room)
 }
 
-fn write_held(held: &Trunc<Call>, out: &mut Vec<u8>) -> Result<(), OutOfMemory>
+fn write_held(held: &Trunc<CallPosts>, out: &mut Vec<u8>) -> Result<(), OutOfMemory>
     requires { (held_format Two).fits (view_of_calls held.now) ≡ true }
     ensures { OnOk result (out.new.items ≡ out.old.items ++ (held_format Two).spelling (view_of_calls held.now)) }
 {

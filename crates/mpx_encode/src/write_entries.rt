@@ -1,4 +1,4 @@
-// Keys and values that are written, and lists of them.
+//! Keys and values that are written, and lists of them.
 ghost use Rattle.std.specs.Prelude.{◌≡◌, ◌+◌, ◌++◌, ◌&&◌, OnOk, IfSome, true, Bool, length};
 ghost use Rattle.std.specs.List.{flat_map, list_all};
 ghost use Rattle.join_nest.specs.Seen.{seen};

@@ -1,4 +1,4 @@
-// Items: how many, and the numbers of all of them in two's complement.
+//! Writing items: how many, and the numbers of all of them in two's complement.
 ghost use Rattle.std.specs.Prelude.{◌≡◌, ◌≤◌, ◌<◌, ◌+◌, ◌*◌, ◌++◌, ◌^◌, pos, Some, OnOk, length};
 ghost use Rattle.std.specs.List.{All, flat_map};
 ghost use Rattle.mpx_num.specs.Types.{IsInRange, depth, width};

@@ -1,7 +1,7 @@
-// What posts say of a new communicator.
+//! Writing what posts say of a new communicator.
 ghost use Rattle.std.specs.Prelude.{◌≡◌, ◌≤◌, ◌+◌, ◌*◌, ◌++◌, true, OnOk, length};
 ghost use Rattle.std.specs.List.{flat_map};
-ghost use Rattle.mpx_post.specs.Kinds.{fields_of};
+ghost use Rattle.mpx_kind.specs.Kinds.{fields_of};
 ghost use Rattle.mpx_post.specs.Posts.{makes_of};
 ghost use Rattle.mpx_post.specs.Graphs.{most_edges};
 ghost use Rattle.mpx_post.specs.declared.making.Making.TheVariants.{Split};
@@ -12,8 +12,9 @@ use crate::write_births::{neighbours_len, weight_len, write_neighbours, write_we
 use crate::write_items::write_integers;
 use crate::write_numbers::{write_u8, write_u16, write_u32};
 use join_core::OutOfMemory;
+use mpx_birth::Edge;
 use mpx_num::Ty;
-use mpx_post::{Edge, Edges, Making, OwnNeighbours, Post, Ranks};
+use mpx_post::{Edges, Making, OwnNeighbours, Post, Ranks};
 
 fn write_choice(colour: Option<u32>, out: &mut Vec<u8>) -> Result<(), OutOfMemory>
     ensures { OnOk result (out.new.items ≡ out.old.items ++ choice.spelling colour) }

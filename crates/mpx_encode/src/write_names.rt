@@ -1,4 +1,4 @@
-// Names of contexts, and lists of members.
+//! Writing names of contexts, and lists of members.
 ghost use Rattle.std.specs.Prelude.{◌≡◌, ◌≤◌, ◌+◌, ◌++◌, true, OnOk, IfSome, length};
 ghost use Rattle.mpx_format.specs.Fields.{members as members_format, name, step};
 ghost use Rattle.mpx_name.specs.declared.steps.Step.TheVariants.{Child, Gathering};

@@ -1,4 +1,4 @@
-// Writing numbers, the highest byte first.
+//! Writing numbers, the highest byte first.
 ghost use Rattle.std.specs.Prelude.{◌≡◌, ◌++◌, ◌∷◌, [], OnOk};
 ghost use Rattle.std.specs.Int.{w16, w32, to_be_bytes};
 

@@ -1,7 +1,7 @@
-// Posts: the fields of each kind.
+//! Writing posts: the fields of each kind.
 ghost use Rattle.std.specs.Prelude.{◌≡◌, ◌≤◌, ◌+◌, ◌*◌, ◌++◌, true, OnOk, length};
 ghost use Rattle.std.specs.List.{flat_map};
-ghost use Rattle.mpx_post.specs.Kinds.{fields_of, is_had};
+ghost use Rattle.mpx_kind.specs.Kinds.{fields_of, is_had};
 ghost use Rattle.mpx_post.specs.Posts.{most_counts};
 ghost use Rattle.mpx_format.specs.declared.versions.Version.TheVariants.{Two};
 ghost use Rattle.mpx_format.specs.Fields.{process};

@@ -8,8 +8,8 @@ use Rattle.mpx_rank.specs.Moves.{GoesOn, Move, Ran, Still, are_done, has_ended, 
 use Rattle.mpx_rank.proofs.Moving.{move_leaves}
 use Rattle.mpx_eval.specs.declared.table.Table.{Table}
 use Rattle.mpx_eval.specs.Carrying.{table_terms}
-use Rattle.mpx_eval.specs.Places.{After, Moves, TableRank}
-use Rattle.mpx_eval.specs.Rounds.{Leads, LeadsToEnd}
+use Rattle.mpx_eval.specs.Places.{After, EvalMoves, TableRank}
+use Rattle.mpx_eval.specs.Rounds.{RankLeads, LeadsToEnd}
 use Rattle.mpx_eval.specs.Tables.{answer_on, table_of}
 use Rattle.mpx_eval.proofs.Going.{goes_to_end, leads_itself, leads_on}
 use Rattle.mpx_eval.proofs.Moving as M
@@ -22,11 +22,11 @@ module _ (ops : List Operation) where
   -- MOVES
 
   -- a move of the rank is one of the evaluation's
-  pub move_is : (r : TableRank) (c : Table) (s : TableRank) (d : Table) → Move (table_terms ops) r c s d → Moves ops r (table_of c) s (table_of d) true
+  pub move_is : (r : TableRank) (c : Table) (s : TableRank) (d : Table) → Move (table_terms ops) r c s d → EvalMoves ops r (table_of c) s (table_of d) true
   move_is r c s d moves = λ ranks p u b. M.move_is_one ops ranks p u r c b s d moves
 
   -- and none is none
-  pub still_is : (r : TableRank) (c d : Table) → Still (table_terms ops) r c d → Moves ops r (table_of c) r (table_of d) false
+  pub still_is : (r : TableRank) (c d : Table) → Still (table_terms ops) r c d → EvalMoves ops r (table_of c) r (table_of d) false
   still_is r c d (has_ended waits todo) = λ ranks p u b. M.has_ended ops ranks p u r (table_of c) b waits todo
   still_is r c d (waits_on w waits still none) = λ ranks p u b.
       let here : answer_on ops (table_of c) r.me w.name w.call ≡ None = ap (λ t. answer_on ops (table_of t) r.me w.name w.call) (sym still) ∙ none_told (answer_on ops (table_of d) r.me w.name w.call) none in
@@ -37,7 +37,7 @@ module _ (ops : List Operation) where
 
   -- MANY MOVES
 
-  ran_leads : (r : TableRank) (c : Table) (s : TableRank) (d : Table) (moved : Bool) → Ran (table_terms ops) r c s d moved → Leads ops r (table_of c) s (table_of d) moved
+  ran_leads : (r : TableRank) (c : Table) (s : TableRank) (d : Table) (moved : Bool) → Ran (table_terms ops) r c s d moved → RankLeads ops r (table_of c) s (table_of d) moved
   ran_leads r c s d moved stayed = leads_itself ops r (table_of c)
   ran_leads r c s d moved (moved_on {s = mid} {d = before} {moved = earlier} ran move) =
       leads_on ops r (table_of c) mid (table_of before) s (table_of d) earlier (ran_leads r c mid before earlier ran) (move_is mid before s d move)

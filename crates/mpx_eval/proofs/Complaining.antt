@@ -3,8 +3,8 @@ use Rattle.std.proofs.Common.{◌≡◌, ℕ, zero, suc, ◌<◌, List, ◌++◌
 use Rattle.std.specs.Prelude.{slice_get}
 use Rattle.mpx_num.specs.declared.own.Operation.{Operation}
 use Rattle.mpx_script.specs.ScriptView.{ScriptView}
-use Rattle.mpx_evaluation.specs.Evaluation.{statements_of}
-use Rattle.mpx_evaluation.specs.Reports.{lines_in}
+use Rattle.mpx_meaning.specs.Evaluation.{statements_of}
+use Rattle.mpx_meaning.specs.Reports.{lines_in}
 use Rattle.mpx_eval.specs.Complaints.{ComplaintView, complaints_at, complaints_in, complaints_upto}
 use Rattle.mpx_eval.specs.Found.{complaints_found}
 use Rattle.mpx_eval.specs.Places.{TableRank}

@@ -9,7 +9,7 @@ use Rattle.mpx_num.specs.declared.own.Operation.{Operation}
 use Rattle.mpx_post.specs.declared.draft.At.{At}
 use Rattle.mpx_post.specs.declared.draft.Draft.{Draft}
 use Rattle.mpx_post.specs.declared.draft.PostError.TheVariants.{NotMember}
-use Rattle.mpx_post.specs.Births.{BirthView, rank_in}
+use Rattle.mpx_birth.specs.Births.{BirthView, rank_in}
 use Rattle.mpx_post.specs.Drafts.{checked, checked_at}
 use Rattle.mpx_post.specs.Posts.{Given, is_free}
 

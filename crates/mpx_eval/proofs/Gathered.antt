@@ -4,7 +4,7 @@ use Rattle.std.specs.Prelude.{Result, Ok, Err}
 use Rattle.mpx_name.specs.Name.{Name}
 use Rattle.mpx_post.specs.declared.draft.PostError.{PostError}
 use Rattle.mpx_post.specs.declared.draft.PostError.TheVariants.{OutOfMemory}
-use Rattle.mpx_post.specs.Births.{BirthView, of_members}
+use Rattle.mpx_birth.specs.Births.{BirthView, of_members}
 use Rattle.mpx_post.specs.Gatherings.{ChecksGathering, GatheringView, gathering}
 use Rattle.mpx_value.specs.Histories.{History, birth_of, gathered}
 use Rattle.mpx_value.proofs.Growth.{then_some}

@@ -8,19 +8,19 @@ use Rattle.std.proofs.lemmas.List.{length-set}
 use Rattle.std.proofs.lemmas.Option.{slice_get_within}
 use Rattle.mpx_num.specs.declared.own.Operation.{Operation}
 use Rattle.mpx_statement.specs.declared.statement.Statement.{Statement}
-use Rattle.mpx_evaluation.specs.Ranks.{step}
-use Rattle.mpx_evaluation.specs.Evaluation.{State, IsQuiet, IsReached, known, move, moves, or_stay, start}
-use Rattle.mpx_evaluation.proofs.Ends.{move-quiet}
-use Rattle.mpx_evaluation.proofs.Steps.{step_ends}
-use Rattle.mpx_evaluation.proofs.Tells.{each-bound, each-me}
-use Rattle.mpx_rank.specs.Places.{Stands}
-use Rattle.mpx_eval.specs.Places.{After, Before, Moves, TableRank}
+use Rattle.mpx_meaning.specs.Ranks.{step}
+use Rattle.mpx_meaning.specs.Evaluation.{State, IsQuiet, IsReached, known, move, moves, or_stay, start}
+use Rattle.mpx_meaning.proofs.Ends.{move-quiet}
+use Rattle.mpx_meaning.proofs.Steps.{step_ends}
+use Rattle.mpx_meaning.proofs.Tells.{each-bound, each-me}
+use Rattle.mpx_rank.specs.Places.{StandsInScript}
+use Rattle.mpx_eval.specs.Places.{After, Before, EvalMoves, TableRank}
 use Rattle.mpx_rank.specs.Moves.{left_of}
-use Rattle.mpx_eval.specs.Rounds.{AreAtEnd, AreIn, LeadsToEnd, IsStuck, Leads, Round, Rounds, all_left}
+use Rattle.mpx_eval.specs.Rounds.{AreAtEnd, AreIn, LeadsToEnd, IsStuck, RankLeads, Round, Rounds, all_left}
 use Rattle.mpx_eval.specs.Tables.{Table}
 use Rattle.mpx_eval.proofs.Moving.{move_stays}
 use Rattle.mpx_eval.proofs.Tables.{some_of}
-use Rattle.mpx_evaluation.proofs.Standing.{none_there}
+use Rattle.mpx_meaning.proofs.Standing.{none_there}
 use Rattle.mpx_post.proofs.Lists.{set_cases, set_twice, set_has, set_same, written}
 
 -- LISTS
@@ -81,22 +81,22 @@ module _ (ops : List Operation) where
     are_after : (c : TableRank) (tc : Table) (moved : Bool) → After ops ranks p c tc u moved → IsQuiet ranks (move ops ranks u p) → AreIn ops ranks (set rs p c) tc (move ops ranks u p)
     are_after c tc moved a quiet = record {
       count = length-set rs p c ∙ are.count;
-      each = λ q x e. set_cases rs p q c x (λ y. (y.me ≡ q) × Stands y (move ops ranks u p q)) e
-          (λ same. (a.me ∙ sym same, subst (λ j. Stands c (move ops ranks u p j)) (sym same) a.stands))
-          (λ old other. let x0 = are.each q x old in (x0.0, subst (Stands x) (sym (move_other ranks u p q other)) x0.1));
+      each = λ q x e. set_cases rs p q c x (λ y. (y.me ≡ q) × StandsInScript y (move ops ranks u p q)) e
+          (λ same. (a.me ∙ sym same, subst (λ j. StandsInScript c (move ops ranks u p j)) (sym same) a.stands))
+          (λ old other. let x0 = are.each q x old in (x0.0, subst (StandsInScript x) (sym (move_other ranks u p q other)) x0.1));
       shows = a.shows;
       quiet = quiet;
     }
 
     -- it has moved
-    pub moved_on : (c : TableRank) (tc : Table) → Moves ops b t c tc true → IsReached ops script ranks (move ops ranks u p) × AreIn ops ranks (set rs p c) tc (move ops ranks u p)
+    pub moved_on : (c : TableRank) (tc : Table) → EvalMoves ops b t c tc true → IsReached ops script ranks (move ops ranks u p) × AreIn ops ranks (set rs p c) tc (move ops ranks u p)
     moved_on c tc m =
         let a = m ranks p u before in
         let found = some_of (step ops (known ops ranks u p) (u p)) (sym a.moves) in
         (reached_on script ranks u p reached, are_after c tc true a (move-quiet ops ranks u p l found.0 found.1 are.quiet))
 
     -- it has no move
-    pub stands_still : (c : TableRank) (tc : Table) → Moves ops b t c tc false → IsStuck ops ranks u p × AreIn ops ranks (set rs p c) tc u
+    pub stands_still : (c : TableRank) (tc : Table) → EvalMoves ops b t c tc false → IsStuck ops ranks u p × AreIn ops ranks (set rs p c) tc u
     stands_still c tc m =
         let a = m ranks p u before in
         let none = none_there (step ops (known ops ranks u p) (u p)) (sym a.moves) in
@@ -104,17 +104,17 @@ module _ (ops : List Operation) where
         (none, subst (AreIn ops ranks (set rs p c) tc) same (are_after c tc false a (subst (IsQuiet ranks) (sym same) are.quiet)))
 
   -- a move more
-  pub leads_itself : (a : TableRank) (ta : Table) → Leads ops a ta a ta false
+  pub leads_itself : (a : TableRank) (ta : Table) → RankLeads ops a ta a ta false
   leads_itself a ta script ranks p s rs l at reached are = record { to = s; reached = reached; are = subst (λ xs. AreIn ops ranks xs ta s) (sym (set_same rs p a at)) are; still = λ e. refl }
 
-  pub leads_on : (a : TableRank) (ta : Table) (b : TableRank) (tb : Table) (c : TableRank) (tc : Table) (moved : Bool) → Leads ops a ta b tb moved → Moves ops b tb c tc true → Leads ops a ta c tc true
+  pub leads_on : (a : TableRank) (ta : Table) (b : TableRank) (tb : Table) (c : TableRank) (tc : Table) (moved : Bool) → RankLeads ops a ta b tb moved → EvalMoves ops b tb c tc true → RankLeads ops a ta c tc true
   leads_on a ta b tb c tc moved h m script ranks p s rs l at reached are =
       let led = h script ranks p s rs l at reached are in
       let new = moved_on script ranks p led.to (set rs p b) l b tb (set_has rs p a b at) led.reached led.are c tc m in
       record { to = move ops ranks led.to p; reached = new.0; are = subst (λ xs. AreIn ops ranks xs tc (move ops ranks led.to p)) (set_twice rs p b c) new.1; still = λ e. cc e }
 
   -- the last one
-  pub goes_to_end : (a : TableRank) (ta : Table) (b : TableRank) (tb : Table) (c : TableRank) (tc : Table) (moved : Bool) → Leads ops a ta b tb moved → Moves ops b tb c tc false → LeadsToEnd ops a ta c tc moved
+  pub goes_to_end : (a : TableRank) (ta : Table) (b : TableRank) (tb : Table) (c : TableRank) (tc : Table) (moved : Bool) → RankLeads ops a ta b tb moved → EvalMoves ops b tb c tc false → LeadsToEnd ops a ta c tc moved
   goes_to_end a ta b tb c tc moved h m script ranks p s rs l at reached are =
       let led = h script ranks p s rs l at reached are in
       let end = stands_still script ranks p led.to (set rs p b) l b tb (set_has rs p a b at) led.reached led.are c tc m in

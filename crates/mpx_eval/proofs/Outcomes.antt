@@ -7,7 +7,7 @@ use Rattle.std.proofs.lemmas.Option.{option_and_then_some}
 use Rattle.mpx_num.specs.declared.own.Operation.{Operation}
 use Rattle.mpx_name.specs.declared.steps.Step.TheVariants.{Child}
 use Rattle.mpx_name.specs.Name.{Name, same_name}
-use Rattle.mpx_post.specs.Births.{BirthView, rank_in}
+use Rattle.mpx_birth.specs.Births.{BirthView, rank_in}
 use Rattle.mpx_post.specs.Posts.{Given}
 use Rattle.mpx_post.specs.Rows.{RowView, all_of}
 use Rattle.mpx_value.specs.declared.outcomes.Outcome.{Outcome}
@@ -17,7 +17,7 @@ use Rattle.mpx_value.proofs.NewCommunicators.{new_communicator}
 use Rattle.mpx_value.specs.Values.{value}
 use Rattle.mpx_rank.specs.Carriers.{outcomes_of}
 use Rattle.mpx_eval.specs.Contexts.{ContextView, answer_by, answer_in, births_by, found, is_answered_in, row_in}
-use Rattle.mpx_eval.specs.Tables.{Posted, Shows, Table, answer_on, is_answered}
+use Rattle.mpx_eval.specs.Tables.{Posted, TableShows, Table, answer_on, is_answered}
 use Rattle.mpx_eval.proofs.Tables.{name_itself, same_is}
 use Rattle.mpx_value.proofs.Histories.{same_answer}
 
@@ -60,7 +60,7 @@ told_there ops t me name call = given_there ops t me name call ∙ by_answer (an
   by_answer None = refl
   by_answer (Some answer) = refl
 
-module _ (ops : List Operation) (ranks : ℕ) (t : Table) (made : Posted) (s : Shows ops ranks t made) (me : ℕ) (name : Name) (call : ℕ) where
+module _ (ops : List Operation) (ranks : ℕ) (t : Table) (made : Posted) (s : TableShows ops ranks t made) (me : ℕ) (name : Name) (call : ℕ) where
   -- what a whole row gives
   given_by_row : (birth : BirthView) (row : RowView) → birth_of (history_of ops made) ranks name ≡ Some birth → row_of (history_of ops made) name birth call ≡ Some row → answer_by ops birth me row name call ≡ option_map (answer_with (birth_of (history_of ops made) ranks)) (value_for ops birth me row name call)
   given_by_row birth row born whole = by_outcome (value_for ops birth me row name call) refl where

@@ -8,12 +8,12 @@ use Rattle.mpx_num.specs.declared.own.Operation.{Operation}
 use Rattle.mpx_name.specs.Name.{Name}
 use Rattle.mpx_statement.specs.declared.statement.Statement.{Statement}
 use Rattle.mpx_script.specs.ScriptView.{ScriptView}
-use Rattle.mpx_evaluation.specs.Ranks.{doing}
-use Rattle.mpx_evaluation.specs.Evaluation.{IsReached, start}
-use Rattle.mpx_evaluation.specs.Reports.{is_left, lines_in, which}
-use Rattle.mpx_evaluation.proofs.Ends.{start_quiet}
+use Rattle.mpx_meaning.specs.Ranks.{doing}
+use Rattle.mpx_meaning.specs.Evaluation.{IsReached, start}
+use Rattle.mpx_meaning.specs.Reports.{is_left, lines_in, which}
+use Rattle.mpx_meaning.proofs.Ends.{start_quiet}
 use Rattle.mpx_eval.specs.Evaluated.{IsEvaluated}
-use Rattle.mpx_evaluation.specs.Standing.{WaitView, has_statements, todo_of}
+use Rattle.mpx_meaning.specs.Standing.{WaitView, has_statements, todo_of}
 use Rattle.mpx_eval.specs.Places.{TableRank}
 use Rattle.mpx_eval.specs.Rounds.{AreAtEnd, AreIn, Start, StartsAt, is_waiting_at}
 use Rattle.mpx_eval.specs.Tables.{Table}

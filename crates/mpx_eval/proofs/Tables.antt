@@ -21,14 +21,14 @@ use Rattle.mpx_name.specs.Order.{name_cmp, name_total, name_exact, name_equality
 use Rattle.mpx_post.specs.declared.draft.Draft.{Draft}
 use Rattle.mpx_post.specs.declared.draft.PostError.{PostError}
 use Rattle.mpx_post.specs.declared.draft.PostError.TheVariants.{NotMember}
-use Rattle.mpx_post.specs.Births.{BirthView, rank_in}
+use Rattle.mpx_birth.specs.Births.{BirthView, rank_in}
 use Rattle.mpx_post.specs.Drafts.{at, checked}
 use Rattle.mpx_post.specs.Posts.{Given, is_free}
 use Rattle.mpx_value.specs.Histories.{Grows, Made, birth_of, has_freed, history_of, posts_on}
 use Rattle.mpx_value.proofs.Growth.{birth-grows, posts_on-append}
-use Rattle.mpx_evaluation.specs.Ranks.{made_on, next_call, post_on}
-use Rattle.mpx_eval.specs.Contexts.{ContextView, Posts, added_at, checked_there, count_in, freed_in, fresh, posts_at, with_post}
-use Rattle.mpx_eval.specs.Tables.{Posted, PostsOn, Shows, Table, Tries, freed_on, opened, or_fresh, with_made}
+use Rattle.mpx_meaning.specs.Ranks.{made_on, next_call, post_on}
+use Rattle.mpx_eval.specs.Contexts.{ContextView, ContextPosts, added_at, checked_there, count_in, freed_in, fresh, posts_at, with_post}
+use Rattle.mpx_eval.specs.Tables.{Posted, PostsOn, TableShows, Table, TableTries, freed_on, opened, or_fresh, with_made}
 use Rattle.mpx_eval.proofs.Contexts.{checked_stranger}
 use Rattle.mpx_post.proofs.Lists.{slice_get-append}
 
@@ -159,7 +159,7 @@ posts_elsewhere me m made name f q = by_test (q == me) where
 -- WHAT A TABLE SHOWS
 
 -- whether a process has freed a context
-pub freed_shown : (ops : List Operation) (ranks : ℕ) (t : Table) (made : Posted) → Shows ops ranks t made → (me : ℕ) (name : Name) → freed_on t me name ≡ has_freed name (made me)
+pub freed_shown : (ops : List Operation) (ranks : ℕ) (t : Table) (made : Posted) → TableShows ops ranks t made → (me : ℕ) (name : Name) → freed_on t me name ≡ has_freed name (made me)
 freed_shown ops ranks t made s me name = by_context (t name) refl where
   by_context : (o : Option ContextView) → t name ≡ o → option_map_or (λ (c : ContextView). freed_in c me) o false ≡ has_freed name (made me)
   by_context None e = ap (list_any is_free) (sym (s.none name e me))
@@ -171,7 +171,7 @@ freed_shown ops ranks t made s me name = by_context (t name) refl where
         ∙ ap (λ ps. list_any is_free (get_or ps i [])) (s.posts name c e)
         ∙ ap (list_any is_free) (at_member (λ member. posts_on name (made member)) c.birth.members me i f)
 
-module _ (ops : List Operation) (ranks : ℕ) (t : Table) (made : Posted) (s : Shows ops ranks t made) (name : Name) (birth : BirthView) (born : birth_of (history_of ops made) ranks name ≡ Some birth) where
+module _ (ops : List Operation) (ranks : ℕ) (t : Table) (made : Posted) (s : TableShows ops ranks t made) (name : Name) (birth : BirthView) (born : birth_of (history_of ops made) ranks name ≡ Some birth) where
   -- what is there came to be so
   birth_is : (or_fresh birth (t name)).birth ≡ birth
   birth_is = by_context (t name) refl where
@@ -197,7 +197,7 @@ module _ (ops : List Operation) (ranks : ℕ) (t : Table) (made : Posted) (s : S
     by_context (Some c) e f = s.strangers name c e process f
 
   -- a context more
-  pub opened_shows : (u : Table) → ((q : Name) → u q ≡ opened name birth t q) → Shows ops ranks u made
+  pub opened_shows : (u : Table) → ((q : Name) → u q ≡ opened name birth t q) → TableShows ops ranks u made
   opened_shows u is = record {
     born = λ q c e. by_name q (λ x. (c : ContextView) → x ≡ Some c → birth_of (history_of ops made) ranks q ≡ Some c.birth)
         (λ same c e. subst (λ n. birth_of (history_of ops made) ranks n ≡ Some c.birth) (sym same) (born ∙ ap Some (sym birth_is ∙ ap (λ (x : ContextView). x.birth) (same_Some _ c (ap (λ n. Some (or_fresh birth (t n))) (sym same) ∙ e)))))
@@ -240,7 +240,7 @@ module _ (ops : List Operation) (ranks : ℕ) (t : Table) (made : Posted) (s : S
     by_rank (Some i) e = ap (behind me draft birth) (ap (posts_at (or_fresh birth (t name)).posts) e ∙ counted me i e)
 
   -- a post more of a member
-  posted_shows : (me i : ℕ) (given : Given) → rank_in me birth.members ≡ Some i → has_twice birth.members ≡ false → (u : Table) → ((q : Name) → u q ≡ cond (same_name q name) (Some (with_post (or_fresh birth (t name)) me given)) (opened name birth t q)) → Shows ops ranks u (with_made me (record { name = name; given = given }) made)
+  posted_shows : (me i : ℕ) (given : Given) → rank_in me birth.members ≡ Some i → has_twice birth.members ≡ false → (u : Table) → ((q : Name) → u q ≡ cond (same_name q name) (Some (with_post (or_fresh birth (t name)) me given)) (opened name birth t q)) → TableShows ops ranks u (with_made me (record { name = name; given = given }) made)
   posted_shows me i given member distinct u is =
       let m : Made = record { name = name; given = given } in
       let c = or_fresh birth (t name) in
@@ -287,7 +287,7 @@ module _ (ops : List Operation) (ranks : ℕ) (t : Table) (made : Posted) (s : S
     by_rank (Some i) f = (i, f)
 
   -- a draft is tried
-  pub tries_post : (me : ℕ) (draft : Draft) (u v : Table) → ((q : Name) → u q ≡ opened name birth t q) → (call : ℕ) → PostsOn ops me name draft (Ok call) (or_fresh birth (t name)) u v → Tries ops ranks made me (post_on ops me (made me) draft name birth) (Ok (name, call)) v
+  pub tries_post : (me : ℕ) (draft : Draft) (u v : Table) → ((q : Name) → u q ≡ opened name birth t q) → (call : ℕ) → PostsOn ops me name draft (Ok call) (or_fresh birth (t name)) u v → TableTries ops ranks made me (post_on ops me (made me) draft name birth) (Ok (name, call)) v
   tries_post me draft u v is call p =
       let found = member_of me draft p.0 p.1 in
       let m : Made = record { name = name; given = p.0 } in
@@ -300,7 +300,7 @@ module _ (ops : List Operation) (ranks : ℕ) (t : Table) (made : Posted) (s : S
             (λ q. p.3 q ∙ ap (cond (same_name q name) (Some (with_post (or_fresh birth (t name)) me p.0))) (is q)),
       )
 
-  pub tries_refused : (me : ℕ) (draft : Draft) (u v : Table) → ((q : Name) → u q ≡ opened name birth t q) → (refusal : PostError) → PostsOn ops me name draft (Err refusal) (or_fresh birth (t name)) u v → Tries ops ranks made me (post_on ops me (made me) draft name birth) (Err refusal) v
+  pub tries_refused : (me : ℕ) (draft : Draft) (u v : Table) → ((q : Name) → u q ≡ opened name birth t q) → (refusal : PostError) → PostsOn ops me name draft (Err refusal) (or_fresh birth (t name)) u v → TableTries ops ranks made me (post_on ops me (made me) draft name birth) (Err refusal) v
   tries_refused me draft u v is refusal p other =
       let f = p other in
       (ap (made_on name) (sym (checked_same me draft) ∙ f.0), opened_shows v (λ q. f.1 q ∙ is q))
@@ -310,7 +310,7 @@ pub opened_here : (name : Name) (birth : BirthView) (t : Table) → opened name 
 opened_here name birth t = ap (λ b. cond b (Some (or_fresh birth (t name))) (t name)) (name_itself name)
 
 -- a post on a context that was lent
-pub posts_lent : (ops : List Operation) (me : ℕ) (name : Name) (draft : Draft) (answer : Result ℕ PostError) (o w : ContextView) (old new : Table) → old name ≡ Some o → ((q : Name) → new q ≡ cond (same_name q name) (Some w) (old q)) → has_twice o.birth.members ≡ false → Posts ops me name draft answer o w → PostsOn ops me name draft answer o old new
+pub posts_lent : (ops : List Operation) (me : ℕ) (name : Name) (draft : Draft) (answer : Result ℕ PostError) (o w : ContextView) (old new : Table) → old name ≡ Some o → ((q : Name) → new q ≡ cond (same_name q name) (Some w) (old q)) → has_twice o.birth.members ≡ false → ContextPosts ops me name draft answer o w → PostsOn ops me name draft answer o old new
 posts_lent ops me name draft (Ok call) o w old new here is distinct p = (p.0, p.1, p.2, λ q. is q ∙ ap (λ x. cond (same_name q name) (Some x) (old q)) p.3, distinct)
 posts_lent ops me name draft (Err refusal) o w old new here is distinct p = λ other. let f = p other in (f.0, λ q. is q ∙ ap (λ x. cond (same_name q name) (Some x) (old q)) f.1 ∙ stays q) where
   stays : (q : Name) → cond (same_name q name) (Some o) (old q) ≡ old q

@@ -20,13 +20,13 @@ use Rattle.mpx_statement.specs.declared.statement.Statement.TheVariants.{Post, W
 use Rattle.mpx_statement.specs.Statements.{bound_to, started_as}
 use Rattle.mpx_statement.specs.Lookups.{named}
 use Rattle.mpx_script.specs.ScriptView.{ScriptView}
-use Rattle.mpx_evaluation.specs.Ranks.{Await, Bindings, Do, Line, Local, Requests, Todo, attempt, awaited_by, awaited_then, doing, next, next_call, next_of, posts_or_refuses, without}
-use Rattle.mpx_evaluation.specs.Standing.{WaitView, awaited, closed, closed_all, looked_up, or_new, todo_of}
-use Rattle.mpx_evaluation.specs.Evaluation.{bound_at_start, known, statements_of}
-use Rattle.mpx_evaluation.specs.Reports.{is_left, which}
-use Rattle.mpx_evaluation.specs.Told.{CarriesOut, Passes, accepted, asked as told_at_once, none, refused, started, waited}
-use Rattle.mpx_evaluation.proofs.Standing.{closed_word, named_behind, named_without, named_without_all}
-use Rattle.mpx_evaluation.proofs.Tells.{each-carries_out}
+use Rattle.mpx_meaning.specs.Ranks.{Await, Bindings, Do, Line, Local, Requests, Todo, attempt, awaited_by, awaited_then, doing, next, next_call, next_of, posts_or_refuses, without}
+use Rattle.mpx_meaning.specs.Standing.{WaitView, awaited, closed, closed_all, looked_up, or_new, todo_of}
+use Rattle.mpx_meaning.specs.Evaluation.{bound_at_start, known, statements_of}
+use Rattle.mpx_meaning.specs.Reports.{is_left, which}
+use Rattle.mpx_meaning.specs.Told.{CarriesOut, Passes, accepted, asked as told_at_once, none, refused, started, waited}
+use Rattle.mpx_meaning.proofs.Standing.{closed_word, named_behind, named_without, named_without_all}
+use Rattle.mpx_meaning.proofs.Tells.{each-carries_out}
 use Rattle.mpx_eval.specs.declared.missing.MissingMember.{MissingMember}
 use Rattle.mpx_eval.specs.Contexts.{ContextView}
 use Rattle.mpx_eval.specs.Found.{calls_found, found_at, found_call, found_calls, is_open}

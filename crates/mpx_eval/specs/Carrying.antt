@@ -4,13 +4,13 @@ use Rattle.std.proofs.Common.{sym, ◌∙◌, subst}
 use Rattle.mpx_num.specs.declared.own.Operation.{Operation}
 use Rattle.mpx_name.specs.Name.{Name}
 use Rattle.mpx_value.specs.Histories.{Answer}
-use Rattle.mpx_evaluation.specs.Ranks.{bound_by}
-use Rattle.mpx_rank.specs.Carriers.{AtOnce, IsWithin, Terms, outcomes_of}
-use Rattle.mpx_rank.specs.declared.rank.Rank.{Rank}
+use Rattle.mpx_meaning.specs.Ranks.{bound_by}
+use Rattle.mpx_rank.specs.Carriers.{AtOnce, IsToldWithin, Terms, outcomes_of}
+use Rattle.mpx_rank.specs.declared.interpreter.Interpreter.{Interpreter}
 use Rattle.mpx_rank.specs.Shown.{rank_of}
 use Rattle.mpx_rank.specs.Places.{CommunicatorView, attempt_by, bound_as}
 use Rattle.mpx_eval.specs.Places.{IsBornSo, TableRank}
-use Rattle.mpx_eval.specs.Tables.{Posted, Shows, Tries, answer_on, freed_on, table_of}
+use Rattle.mpx_eval.specs.Tables.{Posted, TableShows, TableTries, answer_on, freed_on, table_of}
 use Rattle.mpx_eval.specs.declared.table.Table.{Table}
 
 -- the context and the number of a call
@@ -18,7 +18,7 @@ abbrev pub at_place : Name × ℕ → Name × ℕ
 at_place place = place
 
 -- what a rank of the code shows
-abbrev pub shown : Rank Table CommunicatorView (Name × ℕ) → TableRank
+abbrev pub shown : Interpreter Table CommunicatorView (Name × ℕ) → TableRank
 shown rank = rank_of at_place rank
 
 -- a call's outcome, once all members have posted to it, and the communicator that it gave; of a communicator how it came to be
@@ -30,12 +30,12 @@ table_terms ops = record {
   knows = λ t communicator. Some communicator;
   closes = λ t me communicator. freed_on (table_of t) me communicator.0;
   may = λ t me posting on. Unit {0};
-  tries = λ t me posting on result u. AtOnce (λ answer. (ranks : ℕ) (made : Posted) → Shows ops ranks (table_of t) made → IsBornSo ops ranks made on → Tries ops ranks made me (attempt_by ops me (made me) posting on) answer (table_of u)) result;
+  tries = λ t me posting on result u. AtOnce (λ answer. (ranks : ℕ) (made : Posted) → TableShows ops ranks (table_of t) made → IsBornSo ops ranks made on → TableTries ops ranks made me (attempt_by ops me (made me) posting on) answer (table_of u)) result;
   hears = λ t u. u ≡ t;
 }
 
 pub hears_no_more : List Operation → (a b c : Table) → b ≡ a → c ≡ b → c ≡ a
 hears_no_more ops a b c e f = f ∙ e
 
-pub stays_told : (ops : List Operation) (a b : Table) → b ≡ a → (me : ℕ) → IsWithin ((table_terms ops).tells a me) ((table_terms ops).tells b me)
+pub stays_told : (ops : List Operation) (a b : Table) → b ≡ a → (me : ℕ) → IsToldWithin ((table_terms ops).tells a me) ((table_terms ops).tells b me)
 stays_told ops a b e me name call outcome told = subst (λ t. (table_terms ops).tells t me name call ≡ Some outcome) (sym e) told

@@ -4,9 +4,9 @@ use Rattle.std.specs.List.{flat_map, position_or_len, starts_with, zip}
 use Rattle.mpx_statement.specs.Statements.{request_of}
 use Rattle.mpx_statement.specs.declared.statement.Statement.{Statement}
 use Rattle.mpx_statement.specs.declared.statement.Statement.TheVariants.{Post, Wait, Ask}
-use Rattle.mpx_evaluation.specs.declared.origin.Origin.{Origin}
-use Rattle.mpx_evaluation.specs.Evaluation.{State, statements_of}
-use Rattle.mpx_evaluation.specs.Reports.{lines_in}
+use Rattle.mpx_meaning.specs.declared.origin.Origin.{Origin}
+use Rattle.mpx_meaning.specs.Evaluation.{State, statements_of}
+use Rattle.mpx_meaning.specs.Reports.{lines_in}
 
 -- a line of a rank's transcript that says so, and the place of the statement of its call among the rank's statements
 pub record ComplaintView : Type 0 where

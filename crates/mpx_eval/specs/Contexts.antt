@@ -7,7 +7,7 @@ use Rattle.mpx_name.specs.Name.{Name, same_name}
 use Rattle.mpx_post.specs.declared.draft.Draft.{Draft}
 use Rattle.mpx_post.specs.declared.draft.PostError.{PostError}
 use Rattle.mpx_post.specs.declared.draft.PostError.TheVariants.{OutOfMemory}
-use Rattle.mpx_post.specs.Births.{BirthView, rank_in}
+use Rattle.mpx_birth.specs.Births.{BirthView, rank_in}
 use Rattle.mpx_post.specs.Drafts.{at, checked}
 use Rattle.mpx_post.specs.Posts.{Given, is_free}
 use Rattle.mpx_post.specs.Rows.{RowView, all_of}
@@ -49,9 +49,9 @@ abbrev pub checked_there : List Operation → ContextView → (me : ℕ) → Nam
 checked_there ops c me name draft = checked ops c.birth me (at name (count_in c me) (freed_in c me)) draft
 
 -- it is posted and its number told, or it is refused, or memory was wanting
-abbrev pub Posts : List Operation → (me : ℕ) → Name → Draft → Result ℕ PostError → (old new : ContextView) → Type 0
-Posts ops me name draft (Ok call) old new = (given : Given) × (checked_there ops old me name draft ≡ Ok given) × (call ≡ count_in old me) × (new ≡ with_post old me given)
-Posts ops me name draft (Err refusal) old new = (refusal ≡ OutOfMemory → ⊥) → (checked_there ops old me name draft ≡ Err refusal) × (new ≡ old)
+abbrev pub ContextPosts : List Operation → (me : ℕ) → Name → Draft → Result ℕ PostError → (old new : ContextView) → Type 0
+ContextPosts ops me name draft (Ok call) old new = (given : Given) × (checked_there ops old me name draft ≡ Ok given) × (call ≡ count_in old me) × (new ≡ with_post old me given)
+ContextPosts ops me name draft (Err refusal) old new = (refusal ≡ OutOfMemory → ⊥) → (checked_there ops old me name draft ≡ Err refusal) × (new ≡ old)
 
 -- the posts of all members to a call, where all are there
 abbrev pub row_in : ContextView → (call : ℕ) → Option RowView

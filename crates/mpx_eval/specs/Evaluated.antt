@@ -2,8 +2,8 @@
 use Rattle.std.specs.Prelude.{◌≡◌, ℕ, List, length, slice_get, Some}
 use Rattle.mpx_num.specs.declared.own.Operation.{Operation}
 use Rattle.mpx_script.specs.ScriptView.{ScriptView}
-use Rattle.mpx_evaluation.specs.Evaluation.{State, IsEvaluation}
-use Rattle.mpx_evaluation.specs.Reports.{lines_in, waiting_in}
+use Rattle.mpx_meaning.specs.Evaluation.{State, IsEvaluation}
+use Rattle.mpx_meaning.specs.Reports.{lines_in, waiting_in}
 
 -- there is an evaluation of the script by these operations with these lines of its ranks and these ranks that wait
 pub record IsEvaluated (ops : List Operation) (script : ScriptView) (transcripts : List (List (List ℕ))) (waiting : List ℕ) : Type 0 where

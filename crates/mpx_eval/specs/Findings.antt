@@ -2,7 +2,7 @@
 use Rattle.std.specs.Prelude.{◌≡◌, List}
 use Rattle.mpx_num.specs.declared.own.Operation.{Operation}
 use Rattle.mpx_script.specs.ScriptView.{ScriptView}
-use Rattle.mpx_evaluation.specs.Evaluation.{State, IsEvaluation}
+use Rattle.mpx_meaning.specs.Evaluation.{State, IsEvaluation}
 use Rattle.mpx_eval.specs.Complaints.{ComplaintView, complaints_in}
 use Rattle.mpx_eval.specs.Waiting.{WaitingView, waiting_in_full}
 

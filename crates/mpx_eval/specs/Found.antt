@@ -2,7 +2,7 @@
 use Rattle.std.specs.Prelude.{ℕ, ◌+◌, ◌-◌, Bool, not, List, [], length, map, slice_index_or, string_bytes, Option, Some, None}
 use Rattle.std.specs.List.{filter}
 use Rattle.mpx_statement.specs.declared.statement.Statement.{Statement}
-use Rattle.mpx_evaluation.specs.Standing.{awaited, todo_of}
+use Rattle.mpx_meaning.specs.Standing.{awaited, todo_of}
 use Rattle.mpx_eval.specs.declared.complaints.Complaint.{Complaint}
 use Rattle.mpx_eval.specs.declared.missing.MissingCall.{MissingCall}
 use Rattle.mpx_eval.specs.declared.who_waits.WaitingRank.{WaitingRank}

@@ -2,15 +2,15 @@
 use Rattle.std.specs.Prelude.{◌≡◌, ℕ, Bool, is_some, List, Option, Some}
 use Rattle.mpx_num.specs.declared.own.Operation.{Operation}
 use Rattle.mpx_name.specs.Name.{Name}
-use Rattle.mpx_post.specs.Births.{BirthView}
+use Rattle.mpx_birth.specs.Births.{BirthView}
 use Rattle.mpx_value.specs.Histories.{birth_of, history_of}
 pub use Rattle.mpx_value.specs.Histories.{gathering_name}
 use Rattle.mpx_statement.specs.Lookups.{named}
-use Rattle.mpx_evaluation.specs.Ranks.{Communicator, step}
-use Rattle.mpx_evaluation.specs.Evaluation.{State, history, known, move}
+use Rattle.mpx_meaning.specs.Ranks.{Communicator, step}
+use Rattle.mpx_meaning.specs.Evaluation.{State, history, known, move}
 use Rattle.mpx_rank.specs.Moves.{RankView}
-use Rattle.mpx_rank.specs.Places.{CommunicatorView, Stands}
-use Rattle.mpx_eval.specs.Tables.{Posted, Shows, Table}
+use Rattle.mpx_rank.specs.Places.{CommunicatorView, StandsInScript}
+use Rattle.mpx_eval.specs.Tables.{Posted, TableShows, Table}
 
 -- a rank whose posts the table carries
 abbrev pub TableRank : Type 0
@@ -32,17 +32,17 @@ posted_by s q = (s q).made
 pub record Before (ops : List Operation) (ranks p : ℕ) (r : TableRank) (t : Table) (s : State) : Type 0 where
   pub me : r.me ≡ p
   pub local_me : (s p).me ≡ p
-  pub stands : Stands r (s p)
+  pub stands : StandsInScript r (s p)
   pub born : (word : List ℕ) (name : Name) (birth : BirthView) → named (s p).bound word ≡ Some (Communicator name birth) → birth_of (history ops s) ranks name ≡ Some birth
-  pub shows : Shows ops ranks t (posted_by s)
+  pub shows : TableShows ops ranks t (posted_by s)
 
 -- the same after its move, where it has one
 pub record After (ops : List Operation) (ranks p : ℕ) (r : TableRank) (t : Table) (s : State) (moved : Bool) : Type 0 where
   pub moves : moved ≡ is_some (step ops (known ops ranks s p) (s p))
   pub me : r.me ≡ p
-  pub stands : Stands r (move ops ranks s p p)
-  pub shows : Shows ops ranks t (posted_by (move ops ranks s p))
+  pub stands : StandsInScript r (move ops ranks s p p)
+  pub shows : TableShows ops ranks t (posted_by (move ops ranks s p))
 
 -- one is the other moved on, or there was no move
-abbrev pub Moves : List Operation → (old : TableRank) (before : Table) (new : TableRank) (after : Table) (moved : Bool) → Type 0
-Moves ops old before new after moved = (ranks p : ℕ) (s : State) → Before ops ranks p old before s → After ops ranks p new after s moved
+abbrev pub EvalMoves : List Operation → (old : TableRank) (before : Table) (new : TableRank) (after : Table) (moved : Bool) → Type 0
+EvalMoves ops old before new after moved = (ranks p : ℕ) (s : State) → Before ops ranks p old before s → After ops ranks p new after s moved

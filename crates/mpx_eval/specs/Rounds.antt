@@ -5,18 +5,18 @@ use Rattle.std.specs.Option.{option_map}
 use Rattle.mpx_num.specs.declared.own.Operation.{Operation}
 use Rattle.mpx_statement.specs.Lookups.{named}
 use Rattle.mpx_statement.specs.declared.statement.Statement.{Statement}
-use Rattle.mpx_evaluation.specs.Ranks.{step}
-use Rattle.mpx_evaluation.specs.Evaluation.{State, IsEvaluation, IsQuiet, IsReached, bound_at_start, known}
-use Rattle.mpx_rank.specs.Places.{Stands, bound_as}
+use Rattle.mpx_meaning.specs.Ranks.{step}
+use Rattle.mpx_meaning.specs.Evaluation.{State, IsEvaluation, IsQuiet, IsReached, bound_at_start, known}
+use Rattle.mpx_rank.specs.Places.{StandsInScript, bound_as}
 use Rattle.mpx_eval.specs.Places.{TableRank, posted_by}
 use Rattle.mpx_rank.specs.Moves.{is_waiting, left_of}
-use Rattle.mpx_eval.specs.Tables.{Shows, Table}
+use Rattle.mpx_eval.specs.Tables.{TableShows, Table}
 
 -- all ranks stand there in the script, and the table shows their posts
 pub record AreIn (ops : List Operation) (ranks : ℕ) (rs : List TableRank) (t : Table) (s : State) : Type 0 where
   pub count : length rs ≡ ranks
-  pub each : (p : ℕ) (r : TableRank) → slice_get rs p ≡ Some r → (r.me ≡ p) × Stands r (s p)
-  pub shows : Shows ops ranks t (posted_by s)
+  pub each : (p : ℕ) (r : TableRank) → slice_get rs p ≡ Some r → (r.me ≡ p) × StandsInScript r (s p)
+  pub shows : TableShows ops ranks t (posted_by s)
   pub quiet : IsQuiet ranks s
 
 -- moves lead from where the ranks stood to where they stand; without a move that is the same
@@ -31,8 +31,8 @@ abbrev pub IsStuck : List Operation → (ranks : ℕ) → State → (p : ℕ) �
 IsStuck ops ranks s p = step ops (known ops ranks s p) (s p) ≡ None
 
 -- in the place of one among all ranks stands the other, which has moved on
-abbrev pub Leads : List Operation → (old : TableRank) (before : Table) (new : TableRank) (after : Table) (moved : Bool) → Type 0
-Leads ops old before new after moved = (script : List (List Statement)) (ranks p : ℕ) (s : State) (rs : List TableRank) → p < ranks → slice_get rs p ≡ Some old
+abbrev pub RankLeads : List Operation → (old : TableRank) (before : Table) (new : TableRank) (after : Table) (moved : Bool) → Type 0
+RankLeads ops old before new after moved = (script : List (List Statement)) (ranks p : ℕ) (s : State) (rs : List TableRank) → p < ranks → slice_get rs p ≡ Some old
     → IsReached ops script ranks s → AreIn ops ranks rs before s → Led ops script ranks s (set rs p new) after moved
 
 -- the same until it has no move

@@ -9,10 +9,10 @@ use Rattle.mpx_name.specs.Order.{name_cmp}
 use Rattle.mpx_post.specs.declared.draft.Draft.{Draft}
 use Rattle.mpx_post.specs.declared.draft.PostError.{PostError}
 use Rattle.mpx_post.specs.declared.draft.PostError.TheVariants.{OutOfMemory}
-use Rattle.mpx_post.specs.Births.{BirthView, rank_in}
+use Rattle.mpx_birth.specs.Births.{BirthView, rank_in}
 use Rattle.mpx_post.specs.Posts.{Given}
 use Rattle.mpx_value.specs.Histories.{Answer, Made, birth_of, history_of, posts_on}
-use Rattle.mpx_evaluation.specs.Ranks.{next_call, post_on}
+use Rattle.mpx_meaning.specs.Ranks.{next_call, post_on}
 use Rattle.mpx_eval.specs.Contexts.{ContextView, answer_in, checked_there, count_in, freed_in, fresh, is_answered_in, with_post}
 use Rattle.mpx_eval.specs.declared.table.Table.{Table as Held}
 
@@ -29,7 +29,7 @@ Posted = (process : ℕ) → List Made
 
 -- the table shows these posts: of a context how it came to be and the posts of its members, and there are none of others or on
 -- others
-pub record Shows (ops : List Operation) (ranks : ℕ) (t : Table) (made : Posted) : Type 0 where
+pub record TableShows (ops : List Operation) (ranks : ℕ) (t : Table) (made : Posted) : Type 0 where
   pub born : (name : Name) (c : ContextView) → t name ≡ Some c → birth_of (history_of ops made) ranks name ≡ Some c.birth
   pub posts : (name : Name) (c : ContextView) → t name ≡ Some c → c.posts ≡ map (λ member. posts_on name (made member)) c.birth.members
   pub strangers : (name : Name) (c : ContextView) → t name ≡ Some c → (process : ℕ) → rank_in process c.birth.members ≡ None → posts_on name (made process) ≡ []
@@ -53,14 +53,14 @@ PostsOn ops me name draft (Ok call) c old new = (given : Given) × (checked_ther
 PostsOn ops me name draft (Err refusal) c old new = (refusal ≡ OutOfMemory → ⊥) → (checked_there ops c me name draft ≡ Err refusal) × ((q : Name) → new q ≡ old q)
 
 -- a process's post comes to that, and the table shows it; or it is refused so and none is shown, or memory was wanting
-abbrev pub Tries : List Operation → (ranks : ℕ) → Posted → (me : ℕ) → Result Made PostError → Result (Name × ℕ) PostError → (new : Table) → Type 0
-Tries ops ranks made me r (Ok call) new = (m : Made) × (r ≡ Ok m) × (call.0 ≡ m.name) × (call.1 ≡ next_call m.name (made me)) × Shows ops ranks new (with_made me m made)
-Tries ops ranks made me r (Err refusal) new = (refusal ≡ OutOfMemory → ⊥) → (r ≡ Err refusal) × Shows ops ranks new made
+abbrev pub TableTries : List Operation → (ranks : ℕ) → Posted → (me : ℕ) → Result Made PostError → Result (Name × ℕ) PostError → (new : Table) → Type 0
+TableTries ops ranks made me r (Ok call) new = (m : Made) × (r ≡ Ok m) × (call.0 ≡ m.name) × (call.1 ≡ next_call m.name (made me)) × TableShows ops ranks new (with_made me m made)
+TableTries ops ranks made me r (Err refusal) new = (refusal ≡ OutOfMemory → ⊥) → (r ≡ Err refusal) × TableShows ops ranks new made
 
 -- the same of a post on a context that came to be so, whatever posts the old table shows
 abbrev pub TriesOn : List Operation → (me : ℕ) → Draft → Name → BirthView → Result (Name × ℕ) PostError → (old new : Table) → Type 0
-TriesOn ops me draft name birth result old new = (ranks : ℕ) (made : Posted) → Shows ops ranks old made → birth_of (history_of ops made) ranks name ≡ Some birth
-    → Tries ops ranks made me (post_on ops me (made me) draft name birth) result new
+TriesOn ops me draft name birth result old new = (ranks : ℕ) (made : Posted) → TableShows ops ranks old made → birth_of (history_of ops made) ranks name ≡ Some birth
+    → TableTries ops ranks made me (post_on ops me (made me) draft name birth) result new
 
 -- whether a process has posted a free on a context
 abbrev pub freed_on : Table → (me : ℕ) → Name → Bool

@@ -3,15 +3,15 @@ use Rattle.std.specs.Prelude.{ℕ, ◌-◌, Bool, nat_le, is_none, List, [], ◌
 use Rattle.std.specs.List.{filter}
 use Rattle.mpx_num.specs.declared.own.Operation.{Operation}
 use Rattle.mpx_name.specs.Name.{Name}
-use Rattle.mpx_post.specs.Births.{BirthView}
+use Rattle.mpx_birth.specs.Births.{BirthView}
 use Rattle.mpx_value.specs.Histories.{Results, birth_of, has_freed, posts_on}
 use Rattle.mpx_statement.specs.declared.statement.Statement.{Statement}
 use Rattle.mpx_statement.specs.declared.statement.Statement.TheVariants.{Post, Wait, Ask}
 use Rattle.mpx_statement.specs.Lookups.{named}
-use Rattle.mpx_evaluation.specs.Ranks.{Todo, Do, Await, Local, Next, End, Asks}
-use Rattle.mpx_evaluation.specs.Standing.{closed}
-use Rattle.mpx_evaluation.specs.Evaluation.{State, history, known, statements_of}
-use Rattle.mpx_evaluation.specs.Reports.{waiting_in}
+use Rattle.mpx_meaning.specs.Ranks.{Todo, Do, Await, Local, Next, End, Asks}
+use Rattle.mpx_meaning.specs.Standing.{closed}
+use Rattle.mpx_meaning.specs.Evaluation.{State, history, known, statements_of}
+use Rattle.mpx_meaning.specs.Reports.{waiting_in}
 use Rattle.mpx_eval.specs.declared.missing.MissingMember.{MissingMember}
 
 -- a call whose answer is missing: the word of its request, where it is waited for by one, its context, its number there, and

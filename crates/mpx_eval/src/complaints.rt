@@ -1,4 +1,4 @@
-// The lines of ranks that say that a call was refused or is a fault, and the statements of these calls.
+//! The lines of ranks that say that a call was refused or is a fault, and the statements of these calls.
 ghost use Rattle.std.specs.Prelude.{◌≡◌, ◌≤◌, ◌++◌, IfOk, OnOk, Some, length, map, slice_get, string_bytes};
 ghost use Rattle.mpx_statement.specs.Statements.{request_of};
 ghost use Rattle.mpx_eval.specs.Carrying.{shown};
@@ -7,8 +7,8 @@ ghost use Rattle.mpx_eval.specs.Found.{complaint_view, complaints_found};
 
 use crate::table::Table;
 use join_core::OutOfMemory;
-use mpx_evaluation::Origin;
-use mpx_rank::Rank;
+use mpx_meaning::Origin;
+use mpx_rank::Interpreter;
 use mpx_script::{Script, Statement};
 use std::alloc::Global;
 
@@ -27,7 +27,7 @@ pub(crate) fn complaints_of(
     alloc: Global,
     script: &Script,
     count: u8,
-    places: &[Rank<'_, Table>],
+    places: &[Interpreter<'_, Table>],
 ) -> Result<Vec<Complaint>, OutOfMemory>
     requires { count ≤ length places.now }
     ensures { IfOk result (λ found. map complaint_view found.items ≡ complaints_upto (λ p. complaints_found script.now.statements p (slice_get (map shown places.now) p)) count) }
@@ -44,7 +44,7 @@ fn push_of_rank(
     alloc: Global,
     script: &Script,
     rank: u8,
-    place: &Rank<'_, Table>,
+    place: &Interpreter<'_, Table>,
     found: &mut Vec<Complaint>,
 ) -> Result<(), OutOfMemory>
     ensures { OnOk result (map complaint_view found.new.items ≡ map complaint_view found.old.items ++ complaints_found script.now.statements rank (Some (shown place.now))) }
@@ -127,7 +127,7 @@ fn call_at(statements: &[Statement], origin: Origin) -> usize
     }
 }
 
-/// The place of the statement that starts this request.
+/// The place, from 0 on, of the statement that starts this request; how many statements there are where none does.
 pub fn started_at(statements: &[Statement], request: &[u8]) -> usize
     ensures { result ≡ started_at statements.now request.now }
 {

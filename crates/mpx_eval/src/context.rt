@@ -1,6 +1,5 @@
-// What is posted on a context, and what its calls give.
-ghost use Rattle.std.specs.Prelude.{◌≡◌, ◌<◌, ◌≤◌, ◌++◌, ◌∷◌, [], IfOk, IfSome, OnOk, false, length, is_some};
-ghost use Rattle.std.specs.Prelude.{slice_get};
+//! What is posted on a context, and what its calls give.
+ghost use Rattle.std.specs.Prelude.{◌≡◌, ◌<◌, ◌≤◌, ◌++◌, ◌∷◌, [], IfOk, IfSome, OnOk, false, length, is_some, slice_get};
 ghost use Rattle.std.specs.List.{list_any};
 ghost use Rattle.std.specs.Option.{option_copied, option_map};
 ghost use Rattle.mpx_group.specs.Group.{has_twice};
@@ -13,10 +12,11 @@ ghost use Rattle.mpx_rank.specs.Answered.{answer_of};
 
 use crate::missing::MissingMember;
 use join_core::{Exact, OutOfMemory};
+use mpx_birth::Birth;
 use mpx_group::Proc;
 use mpx_name::Name;
 use mpx_num::{Listing, Ops};
-use mpx_post::{Birth, Draft, Post, PostError, Row};
+use mpx_post::{Draft, Post, PostError, Row};
 use mpx_rank::{Answered, push_where};
 use mpx_value::{Outcome, children, outcome};
 use std::alloc::Global;
@@ -105,7 +105,7 @@ impl Model for Context {
 }
 
 impl Context {
-    ghost use Rattle.mpx_eval.specs.Contexts.{Posts, answer_in, freed_in, fresh, is_answered_in, row_in};
+    ghost use Rattle.mpx_eval.specs.Contexts.{ContextPosts, answer_in, freed_in, fresh, is_answered_in, row_in};
     ghost use Rattle.mpx_eval.specs.Lacking.{lacking};
 
     /// Before any post.
@@ -119,7 +119,7 @@ impl Context {
         Ok(Context { birth, columns })
     }
 
-    /// The same of a context that came to be in the same way.
+    /// A context before any post, with a copy of this birth.
     pub(crate) fn of_copy(alloc: Global, birth: &Birth) -> Result<Context, OutOfMemory>
         ensures { IfOk result (λ context. context ≡ fresh birth.now) }
     {
@@ -136,7 +136,7 @@ impl Context {
         draft: Draft,
         ops: &Ops,
     ) -> Result<u32, PostError>
-        ensures posts { Posts (⟦<Ops as Listing>⟧.operations ops.now) me name.now draft result self.old self.new }
+        ensures posts { ContextPosts (⟦<Ops as Listing>⟧.operations ops.now) me name.now draft result self.old self.new }
         ensures distinct { has_twice self.old.birth.members ≡ false }
     {
         // so that the proof knows that no member stands twice

@@ -1,8 +1,8 @@
-// The evaluation of a script.
+//! The evaluation of a script.
 ghost use Rattle.std.specs.Prelude.{◌≡◌, ◌<◌, ◌≤◌, ℕ, IfOk, List, None, length, map, slice_get};
 ghost use Rattle.mpx_name.specs.Name.{Name as NameView};
-ghost use Rattle.mpx_evaluation.specs.Reports.{transcripts_of, which};
-ghost use Rattle.mpx_evaluation.specs.Transcripts.{as_text};
+ghost use Rattle.mpx_meaning.specs.Reports.{transcripts_of, which};
+ghost use Rattle.mpx_meaning.specs.Transcripts.{as_text};
 ghost use Rattle.mpx_eval.specs.Evaluated.{IsEvaluated};
 ghost use Rattle.mpx_eval.specs.Places.{TableRank};
 ghost use Rattle.mpx_eval.specs.Rounds.{Start, StartsAt, is_waiting_at};
@@ -11,17 +11,18 @@ ghost use Rattle.mpx_eval.specs.Carrying.{shown};
 use crate::rounds::rounds;
 use crate::table::Table;
 use join_core::OutOfMemory;
-use mpx_evaluation::Report;
+use mpx_birth::Birth;
 use mpx_group::Proc;
+use mpx_meaning::Report;
 use mpx_name::Name;
 use mpx_num::{Listing, Ops};
-use mpx_post::Birth;
-use mpx_rank::{Rank, push_where};
+use mpx_rank::{Interpreter, push_where};
 use mpx_script::Script;
 use std::alloc::Global;
 
 /// What the ranks of a script print: in rounds, every rank in order goes on until it must wait for posts that are missing; it
-/// ends with a round that moves nobody. The operations of the job's own are those of the list.
+/// ends with a round that moves nobody. `ops` are the job's own operations: the script was read with the same. An `Err` is want of
+/// memory.
 pub fn eval(alloc: Global, script: &Script, ops: &Ops) -> Result<Report, OutOfMemory>
     ensures { IfOk result (λ report. IsEvaluated (⟦<Ops as Listing>⟧.operations ops.now) script.now (transcripts_of report) report.waiting.items) }
 {
@@ -41,7 +42,7 @@ pub fn eval(alloc: Global, script: &Script, ops: &Ops) -> Result<Report, OutOfMe
 pub(crate) fn start<'a>(
     alloc: Global,
     script: &'a Script,
-) -> Result<Vec<Rank<'a, Table>>, OutOfMemory>
+) -> Result<Vec<Interpreter<'a, Table>>, OutOfMemory>
     ensures { IfOk result (λ ranks. Start script.now.statements script.now.ranks script.now.ranks (map shown ranks.items)) }
 {
     let mut places = Vec::new(alloc);
@@ -58,17 +59,21 @@ fn start_at<'a>(
     script: &'a Script,
     me: u8,
     ranks: u8,
-) -> Result<Rank<'a, Table>, OutOfMemory>
+) -> Result<Interpreter<'a, Table>, OutOfMemory>
     requires few { ranks ≤ 64 }
     requires me { me < ranks }
     ensures { IfOk result (λ rank. StartsAt script.now.statements ranks me (shown rank)) }
 {
     let world = (Name::world(alloc), Birth::world(alloc, ranks)?);
-    Rank::new(alloc, Proc::new(me), Some(world), script.statements(me))
+    Interpreter::new(alloc, Proc::new(me), Some(world), script.statements(me))
 }
 
 // The ranks that have something left, in rising order.
-fn waiting_of(alloc: Global, places: &[Rank<'_, Table>], ranks: u8) -> Result<Vec<u8>, OutOfMemory>
+fn waiting_of(
+    alloc: Global,
+    places: &[Interpreter<'_, Table>],
+    ranks: u8,
+) -> Result<Vec<u8>, OutOfMemory>
     requires { ranks ≤ length places.now }
     ensures { IfOk result (λ waiting. waiting.items ≡ which (λ p. is_waiting_at (slice_get (map shown places.now) p)) ranks) }
 {
@@ -80,7 +85,10 @@ fn waiting_of(alloc: Global, places: &[Rank<'_, Table>], ranks: u8) -> Result<Ve
 }
 
 // The lines of each rank.
-fn lines_of(alloc: Global, places: Vec<Rank<'_, Table>>) -> Result<Vec<Vec<String>>, OutOfMemory>
+fn lines_of(
+    alloc: Global,
+    places: Vec<Interpreter<'_, Table>>,
+) -> Result<Vec<Vec<String>>, OutOfMemory>
     ensures { IfOk result (λ transcripts. map as_text transcripts.items ≡ map (λ (r : TableRank). r.lines) (map shown places.entry.items)) }
 {
     let mut transcripts = Vec::new(alloc);

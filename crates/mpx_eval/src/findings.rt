@@ -1,4 +1,4 @@
-// What is told of a script's evaluation beside its transcripts.
+//! What is told of a script's evaluation beside its transcripts.
 ghost use Rattle.std.specs.Prelude.{IfOk, map};
 ghost use Rattle.mpx_eval.specs.Findings.{AreFindings};
 ghost use Rattle.mpx_eval.specs.Found.{complaint_view, waiting_view};
@@ -24,7 +24,8 @@ pub struct Findings {
     pub complaints: Vec<Complaint>,
 }
 
-/// Evaluates a script, and finds who waits at the end, and which calls were refused or are faults.
+/// Evaluates a script, as [`eval`](crate::eval) does, and finds who waits at the end, and which calls were refused or are faults. An
+/// `Err` is want of memory.
 pub fn examine(alloc: Global, script: &Script, ops: &Ops) -> Result<Findings, OutOfMemory>
     ensures { IfOk result (λ found. AreFindings (⟦<Ops as Listing>⟧.operations ops.now) script.now (map waiting_view found.waiting.items) (map complaint_view found.complaints.items)) }
 {

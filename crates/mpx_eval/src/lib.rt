@@ -1,15 +1,15 @@
-//! The evaluation of a script: what its ranks print, whatever carries their posts.
+//! The evaluation of a script, computed: one table carries the posts of all its ranks.
 //!
-//! [`eval`] answers a [`Report`](mpx_evaluation::Report): the transcripts of the one evaluation that the script has, and the ranks
+//! [`eval`] answers a [`Report`](mpx_meaning::Report): the transcripts of the one evaluation that the script has, and the ranks
 //! that wait at its end. It keeps one table of what all ranks have posted (`table.rt`, a context each in `context.rt`, posts in
 //! `posting.rt`), which carries the posts of each [`Rank`](mpx_rank::Rank) (`carrying.rt`); and these go on in rounds
 //! (`rounds.rt`). What it comes to stands in `specs/Evaluated.antt`, which posts a table shows in `specs/Tables.antt`, and where
 //! a rank stands in its statements in `specs/Places.antt`.
 //!
 //! [`examine`] tells of the ranks that wait at its end at which statement each does, for which calls, and whose posts to
-//! them are missing, also since they have freed the context (`who_waits.rt`, `missing.rt`); what that is stands in `specs/Waiting.antt`. And it tells which lines say
-//! that a call was refused or is a fault, and at which statement each of these calls is made (`complaints.rt`); what that is
-//! stands in `specs/Complaints.antt`.
+//! them are missing, also since they have freed the context (`who_waits.rt`, `missing.rt`); what that is stands in
+//! `specs/Waiting.antt`. And it tells which lines say that a call was refused or is a fault, and at which statement each of these
+//! calls is made (`complaints.rt`); what that is stands in `specs/Complaints.antt`.
 #![tactic(auto)]
 
 mod carrying;

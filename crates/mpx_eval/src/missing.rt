@@ -1,9 +1,9 @@
-// Calls whose answers are missing, and the members of their contexts that have not posted to them.
+//! Calls whose answers are missing, and the members of their contexts that have not posted to them.
 ghost use Rattle.std.specs.Prelude.{◌≡◌, ◌++◌, ◌∷◌, [], IfOk, List, Option, ℕ, OnOk, map};
 ghost use Rattle.std.specs.Option.{option_copied};
 ghost use Rattle.mpx_name.specs.Name.{Name as NameView};
-ghost use Rattle.mpx_evaluation.specs.Ranks.{doing};
-ghost use Rattle.mpx_evaluation.specs.Standing.{closed_all, looked_up};
+ghost use Rattle.mpx_meaning.specs.Ranks.{doing};
+ghost use Rattle.mpx_meaning.specs.Standing.{closed_all, looked_up};
 ghost use Rattle.mpx_eval.specs.Carrying.{shown};
 ghost use Rattle.mpx_eval.specs.Tables.{table_of};
 ghost use Rattle.mpx_eval.specs.Waiting.{asked_by, asked_of, asked_then};
@@ -13,7 +13,7 @@ use crate::table::Table;
 use join_core::{Exact, OutOfMemory};
 use mpx_group::Proc;
 use mpx_name::Name;
-use mpx_rank::Rank;
+use mpx_rank::Interpreter;
 use mpx_statement::{Statement, Word};
 use std::alloc::Global;
 use std::collections::BTreeMap;
@@ -44,7 +44,7 @@ pub struct MissingCall {
 pub(crate) fn missing_calls(
     alloc: Global,
     table: &Table,
-    place: &Rank<'_, Table>,
+    place: &Interpreter<'_, Table>,
 ) -> Result<Vec<MissingCall>, OutOfMemory>
     ensures { IfOk result (λ calls. map missing_view calls.items ≡ calls_found (table_of table.now) (shown place.now)) }
 {

@@ -1,20 +1,21 @@
-// What a rank's statements that post come to.
+//! What a rank's statements that post come to.
 ghost use Rattle.std.specs.Prelude.{◌≡◌, ℕ, Some, length};
 ghost use Rattle.std.specs.Option.{option_copied};
-ghost use Rattle.mpx_post.specs.Births.{of_members};
+ghost use Rattle.mpx_birth.specs.Births.{of_members};
 ghost use Rattle.mpx_post.specs.Gatherings.{ChecksGathering, gathering};
-ghost use Rattle.mpx_evaluation.specs.Ranks.{post_gathered};
+ghost use Rattle.mpx_meaning.specs.Ranks.{post_gathered};
 ghost use Rattle.mpx_value.specs.Histories.{birth_of, has_freed, history_of};
 ghost use Rattle.mpx_rank.specs.Places.{attempt_by};
 ghost use Rattle.mpx_eval.specs.Places.{IsBornSo, gathering_name};
-ghost use Rattle.mpx_eval.specs.Tables.{Posted, Shows, Tries, TriesOn, table_of};
+ghost use Rattle.mpx_eval.specs.Tables.{Posted, TableShows, TableTries, TriesOn, table_of};
 
 use crate::table::Table;
 use join_core::Exact;
+use mpx_birth::Birth;
 use mpx_group::Proc;
 use mpx_name::Name;
 use mpx_num::{Listing, Ops};
-use mpx_post::{Birth, Draft, Gathering, PostError};
+use mpx_post::{Draft, Gathering, PostError};
 use mpx_statement::Posting;
 use std::alloc::Global;
 
@@ -28,8 +29,8 @@ pub(crate) fn attempt(
     posting: &Posting,
     ops: &Ops,
 ) -> Result<(Name, u32), PostError>
-    ensures { (ranks : ℕ) (made : Posted) → Shows (⟦<Ops as Listing>⟧.operations ops.now) ranks (table_of table.old) made → IsBornSo (⟦<Ops as Listing>⟧.operations ops.now) ranks made (option_copied on.entry)
-        → Tries (⟦<Ops as Listing>⟧.operations ops.now) ranks made me (attempt_by (⟦<Ops as Listing>⟧.operations ops.now) me (made me) posting.now (option_copied on.entry)) result (table_of table.new) }
+    ensures { (ranks : ℕ) (made : Posted) → TableShows (⟦<Ops as Listing>⟧.operations ops.now) ranks (table_of table.old) made → IsBornSo (⟦<Ops as Listing>⟧.operations ops.now) ranks made (option_copied on.entry)
+        → TableTries (⟦<Ops as Listing>⟧.operations ops.now) ranks made me (attempt_by (⟦<Ops as Listing>⟧.operations ops.now) me (made me) posting.now (option_copied on.entry)) result (table_of table.new) }
 {
     let Some(there) = on else {
         return Err(PostError::NotMember);
@@ -91,8 +92,8 @@ fn post_gathered(
     draft: Draft,
     ops: &Ops,
 ) -> Result<(Name, u32), PostError>
-    ensures { (count : ℕ) (made : Posted) → Shows (⟦<Ops as Listing>⟧.operations ops.now) count (table_of table.old) made → birth_of (history_of (⟦<Ops as Listing>⟧.operations ops.now) made) count parent.now ≡ Some birth.now
-        → Tries (⟦<Ops as Listing>⟧.operations ops.now) count made me (post_gathered (⟦<Ops as Listing>⟧.operations ops.now) me (made me) draft parent.now (gathering birth.now me (length parent.now) (has_freed parent.now (made me)) tag.now ranks.now)) result (table_of table.new) }
+    ensures { (count : ℕ) (made : Posted) → TableShows (⟦<Ops as Listing>⟧.operations ops.now) count (table_of table.old) made → birth_of (history_of (⟦<Ops as Listing>⟧.operations ops.now) made) count parent.now ≡ Some birth.now
+        → TableTries (⟦<Ops as Listing>⟧.operations ops.now) count made me (post_gathered (⟦<Ops as Listing>⟧.operations ops.now) me (made me) draft parent.now (gathering birth.now me (length parent.now) (has_freed parent.now (made me)) tag.now ranks.now)) result (table_of table.new) }
 {
     let closed = table.has_freed(me, parent);
     match gathered(alloc, birth, me, parent, closed, tag, ranks) {

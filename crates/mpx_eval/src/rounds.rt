@@ -1,7 +1,7 @@
-// Rounds: every rank in order goes on until it must wait.
+//! Rounds: every rank in order goes on until it must wait.
 ghost use Rattle.std.specs.Prelude.{◌≡◌, ◌<◌, ◌≤◌, ℕ, IfOk, IsTrue, List, OnOk, length, map};
 ghost use Rattle.mpx_statement.specs.declared.statement.Statement.{Statement as Said};
-ghost use Rattle.mpx_evaluation.specs.Evaluation.{State, IsReached};
+ghost use Rattle.mpx_meaning.specs.Evaluation.{State, IsReached};
 ghost use Rattle.mpx_eval.specs.Rounds.{AreAtEnd, AreIn, Round, all_left};
 ghost use Rattle.mpx_eval.specs.Carrying.{shown};
 ghost use Rattle.mpx_eval.specs.Tables.{table_of};
@@ -9,13 +9,13 @@ ghost use Rattle.mpx_eval.specs.Tables.{table_of};
 use crate::table::Table;
 use join_core::OutOfMemory;
 use mpx_num::{Listing, Ops};
-use mpx_rank::Rank;
+use mpx_rank::Interpreter;
 use std::alloc::Global;
 
 // Every rank in order goes on until it must wait. It answers whether one moved.
 fn round(
     alloc: Global,
-    ranks: &mut [Rank<'_, Table>],
+    ranks: &mut [Interpreter<'_, Table>],
     table: &mut Table,
     ops: &Ops,
 ) -> Result<bool, OutOfMemory>
@@ -33,7 +33,7 @@ fn round(
 /// Rounds, up to one that moves nobody.
 pub(crate) fn rounds(
     alloc: Global,
-    ranks: &mut [Rank<'_, Table>],
+    ranks: &mut [Interpreter<'_, Table>],
     table: &mut Table,
     ops: &Ops,
 ) -> Result<(), OutOfMemory>

@@ -1,4 +1,4 @@
-// The contexts on which somebody has posted.
+//! The contexts on which somebody has posted.
 ghost use Rattle.std.specs.Prelude.{◌≡◌, IfOk, OnOk, None, Some, is_some, true};
 ghost use Rattle.std.specs.Option.{option_map};
 ghost use Rattle.mpx_name.specs.Name.{Name as NameView};
@@ -10,10 +10,11 @@ ghost use Rattle.mpx_eval.specs.Tables.{PostsOn, TriesOn, answer_on, freed_on, i
 use crate::context::Context;
 use crate::missing::MissingMember;
 use join_core::{Exact, OutOfMemory};
+use mpx_birth::Birth;
 use mpx_group::Proc;
 use mpx_name::Name;
 use mpx_num::{Listing, Ops};
-use mpx_post::{Birth, Draft, PostError};
+use mpx_post::{Draft, PostError};
 use mpx_rank::Answered;
 use std::alloc::Global;
 use std::collections::BTreeMap;

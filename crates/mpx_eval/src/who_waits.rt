@@ -1,8 +1,8 @@
-// Who waits at the end of a script's evaluation, and for whose posts.
+//! Who waits at the end of a script's evaluation, and for whose posts.
 ghost use Rattle.std.specs.Prelude.{◌≡◌, ◌≤◌, ◌++◌, ◌∷◌, [], IfOk, List, OnOk, Some, cond, length, map, slice_get};
 ghost use Rattle.mpx_num.specs.declared.own.Operation.{Operation};
-ghost use Rattle.mpx_evaluation.specs.Ranks.{Local, next};
-ghost use Rattle.mpx_evaluation.specs.Reports.{which};
+ghost use Rattle.mpx_meaning.specs.Ranks.{Local, next};
+ghost use Rattle.mpx_meaning.specs.Reports.{which};
 ghost use Rattle.mpx_rank.specs.Moves.{is_waiting};
 ghost use Rattle.mpx_eval.specs.Rounds.{is_waiting_at};
 ghost use Rattle.mpx_eval.specs.Carrying.{shown};
@@ -13,7 +13,7 @@ ghost use Rattle.mpx_eval.specs.Found.{found_at, waiting_view};
 use crate::missing::{MissingCall, missing_calls};
 use crate::table::Table;
 use join_core::OutOfMemory;
-use mpx_rank::Rank;
+use mpx_rank::Interpreter;
 use mpx_script::Script;
 use std::alloc::Global;
 
@@ -38,7 +38,7 @@ pub(crate) fn waiting_ranks(
     alloc: Global,
     script: &Script,
     count: u8,
-    places: &[Rank<'_, Table>],
+    places: &[Interpreter<'_, Table>],
     table: &Table,
 ) -> Result<Vec<WaitingRank>, OutOfMemory>
     requires { count ≤ length places.now }
@@ -57,7 +57,7 @@ fn push_found(
     alloc: Global,
     script: &Script,
     rank: u8,
-    place: &Rank<'_, Table>,
+    place: &Interpreter<'_, Table>,
     table: &Table,
     found: &mut Vec<WaitingRank>,
 ) -> Result<(), OutOfMemory>
@@ -76,7 +76,7 @@ fn found_at(
     alloc: Global,
     script: &Script,
     rank: u8,
-    place: &Rank<'_, Table>,
+    place: &Interpreter<'_, Table>,
     table: &Table,
 ) -> Result<WaitingRank, OutOfMemory>
     ensures { IfOk result (λ waiting. waiting_view waiting ≡ found_at script.now.statements (table_of table.now) rank (Some (shown place.now))) }

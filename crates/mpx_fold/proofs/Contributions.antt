@@ -11,7 +11,7 @@ use Rattle.mpx_kind.specs.declared.kinds.Kind.TheVariants.{Barrier, Bcast, Gathe
 use Rattle.mpx_kind.specs.declared.kinds.Family.TheVariants as F
 use Rattle.mpx_kind.specs.declared.kinds.Reduction.{Reduction}
 use Rattle.mpx_kind.specs.declared.kinds.Reduction.TheVariants as R
-use Rattle.mpx_post.specs.Kinds.{fields_of}
+use Rattle.mpx_kind.specs.Kinds.{fields_of}
 use Rattle.mpx_kind.proofs.Families.{kind_in}
 use Rattle.mpx_post.specs.Posts.{Given, type_of, numbers_of, count_of, suits}
 use Rattle.mpx_post.specs.Rows.{RowView}

@@ -8,7 +8,7 @@ use Rattle.mpx_kind.specs.declared.kinds.Reduction.{Reduction}
 use Rattle.mpx_kind.specs.declared.kinds.Reduction.TheVariants.{Reduce, Allreduce, ReduceScatterBlock, ReduceScatter, Scan, Exscan}
 use Rattle.mpx_post.specs.declared.value.Value.{Value}
 use Rattle.mpx_post.specs.declared.value.Value.TheVariants.{Nothing, Absent}
-use Rattle.mpx_post.specs.Kinds.{family_of, fields_of}
+use Rattle.mpx_kind.specs.Kinds.{family_of, fields_of}
 use Rattle.mpx_post.specs.Posts.{root_of, operation_of, type_of, numbers_of}
 use Rattle.mpx_post.specs.Rows.{RowView}
 use Rattle.mpx_post.specs.Agreement.{first_of}

@@ -1,17 +1,18 @@
-// What reductions and scans give each member.
+//! What reductions and scans give each member.
 ghost use Rattle.std.specs.Prelude.{◌≡◌, ◌+◌, ◌*◌, ◌<◌, ◌≤◌, IfOk, length, true};
 ghost use Rattle.mpx_num.specs.ItemList.{AreItems};
 ghost use Rattle.mpx_num.specs.Types.{item_len};
 ghost use Rattle.mpx_post.specs.Agreement.{AllSuit, IsFine, first_of, post_at};
 ghost use Rattle.mpx_post.specs.Blocks.{IsBlock, part, repeated};
-ghost use Rattle.mpx_post.specs.Kinds.{family_of};
+ghost use Rattle.mpx_kind.specs.Kinds.{family_of};
 ghost use Rattle.mpx_post.specs.Posts.{numbers_of, type_of};
 ghost use Rattle.mpx_post.specs.Values.{GivesValue, as_items};
 ghost use Rattle.mpx_fold.specs.Folds.{all_folded, fold_of, fold_value, folded, reduces};
 
 use join_core::OutOfMemory;
+use mpx_kind::{Family, Reduction};
 use mpx_num::{Items, Listing, Ops, apply};
-use mpx_post::{Block, Family, Reduction, Row, Value};
+use mpx_post::{Block, Row, Value};
 use std::alloc::Global;
 
 /// What a fine row of a reduction or a scan gives the member with this rank, by the job's own operations, which are for the
@@ -22,12 +23,9 @@ pub fn fold_value(alloc: Global, row: &Row<'_>, rank: u8, ops: &Ops) -> Result<V
     requires rank { rank < length row.now }
     ensures { GivesValue (fold_value (⟦<Ops as Listing>⟧.operations ops.now) row.now rank) result }
 {
-    match row.post(0).kind().family() {
+    match row.family() {
         Family::Reduction(reduction) => value_of(alloc, row, reduction, rank, ops),
-        Family::Exchange(_) => Ok(Value::Nothing),
-        Family::NewCommunicator(_) => Ok(Value::Nothing),
-        Family::Neighbourhood(_) => Ok(Value::Nothing),
-        Family::Free => Ok(Value::Nothing),
+        _ => Ok(Value::Nothing),
     }
 }
 

@@ -7,7 +7,7 @@ use Rattle.mpx_num.specs.declared.operations.Op.{Op}
 use Rattle.mpx_kind.specs.declared.kinds.Kind.{Kind}
 use Rattle.mpx_kind.specs.declared.kinds.Mode.{Mode}
 use Rattle.mpx_kind.specs.declared.kinds.Mode.TheVariants.{Blocking, Nonblocking}
-use Rattle.mpx_format.specs.declared.faults.Fault.TheVariants.{BadVersion}
+use Rattle.mpx_format.specs.declared.defects.Defect.TheVariants.{BadVersion}
 use Rattle.mpx_format.specs.declared.versions.Version.{Version}
 use Rattle.mpx_format.specs.declared.versions.Version.TheVariants.{One, Two}
 use Rattle.mpx_format.specs.Format.{Format, byte, out_of_limits}

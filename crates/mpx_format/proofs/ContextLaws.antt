@@ -11,7 +11,7 @@ use Rattle.join_nest.specs.Lift.{LiftView, live, dead}
 use Rattle.join_nest.specs.Trunc.{trunc_of}
 use Rattle.mpx_name.specs.Order.{name_total}
 use Rattle.mpx_board.specs.Parts.{CallView, PartsView}
-use Rattle.mpx_format.specs.declared.faults.Fault.TheVariants.{BadMagic}
+use Rattle.mpx_format.specs.declared.defects.Defect.TheVariants.{BadMagic}
 use Rattle.mpx_format.specs.declared.versions.Version.{Version}
 use Rattle.mpx_format.specs.declared.versions.Version.TheVariants.{One, Two}
 use Rattle.mpx_format.specs.Format.{Format, number, out_of_limits, not_canonical, many_fit}

@@ -11,9 +11,9 @@ use Rattle.join_nest.specs.Lift.{live, dead}
 use Rattle.mpx_name.specs.Order.{name_cmp}
 use Rattle.mpx_board.specs.Parts.{LiftedView, PartsView}
 use Rattle.mpx_board.specs.Tidy.{is_bare, has_no_zero, is_tidy_numbers, is_tidy_acks, are_tidy_posts, is_tidy_call, is_tidy_entry, is_tidy_lifted, is_tidy, is_unknown, says_nothing}
-use Rattle.mpx_format.specs.declared.faults.WireError.{WireError}
-use Rattle.mpx_format.specs.declared.faults.WireError.TheVariants as E
-use Rattle.mpx_format.specs.declared.faults.Fault.{Fault}
+use Rattle.mpx_format.specs.declared.defects.WireError.{WireError}
+use Rattle.mpx_format.specs.declared.defects.WireError.TheVariants as E
+use Rattle.mpx_format.specs.declared.defects.Defect.{Defect}
 use Rattle.mpx_format.specs.declared.versions.Version.{Version}
 use Rattle.mpx_format.specs.declared.versions.Version.TheVariants.{One, Two}
 use Rattle.mpx_format.specs.Format.{Format, byte, number, many_fit, not_canonical}
@@ -120,7 +120,7 @@ short_enough false e r y h = (refl, h)
 abbrev Read : Type 0
 Read = (Version × PartsView) × List ℕ
 
-ended_ok : (n : ℕ) (r : Result Read Fault) (v : PartsView) → ended n r ≡ Ok v → (version : Version) × (r ≡ Ok ((version, v), []))
+ended_ok : (n : ℕ) (r : Result Read Defect) (v : PartsView) → ended n r ≡ Ok v → (version : Version) × (r ≡ Ok ((version, v), []))
 ended_ok n (Ok x) v e =
     let g = test_ok (eqb (length x.1) 0) (placed n (not_canonical x.1)) x.0.1 v e in
     let none : x.1 ≡ [] = nil_from_length x.1 (eqb-true _ _ g.0) in

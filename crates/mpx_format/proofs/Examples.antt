@@ -12,7 +12,7 @@ use Rattle.mpx_kind.specs.declared.kinds.Kind.TheVariants.{Allreduce}
 use Rattle.mpx_name.specs.declared.steps.Step.TheVariants.{Child}
 use Rattle.mpx_post.specs.Posts.{Given, nothing_given}
 use Rattle.mpx_board.specs.Parts.{CallView, EntryView, PartsView}
-use Rattle.mpx_format.specs.declared.faults.WireError.TheVariants.{BadVersion, OutOfLimits, NotCanonical}
+use Rattle.mpx_format.specs.declared.defects.WireError.TheVariants.{BadVersion, OutOfLimits, NotCanonical}
 use Rattle.mpx_format.specs.Format.{many_read}
 use Rattle.mpx_format.specs.Fields.{process, call, colour, child, step, step_count, steps, name, some_byte, name_count, fronts, all_acks}
 use Rattle.mpx_format.specs.Codes.{kind, mode, operation, item_type}

@@ -1,9 +1,8 @@
 -- The laws of the formats of single fields, of names and of maps.
 use Rattle.std.proofs.Common.{◌≡◌, ℕ, zero, suc, Bool, true, List, length, ltb, arith, Some, None, refl, sym, ap, ◌∙◌, reverse}
 use Rattle.std.specs.Int.{w16, w32}
-use Rattle.std.specs.Cmp.{IsTotalOrder}
+use Rattle.std.specs.Cmp.{IsTotalOrder, nat_cmp_total}
 use Rattle.std.specs.declared.cmp.Ordering.{Ordering}
-use Rattle.std.specs.Cmp.{nat_cmp_total}
 use Rattle.std.specs.FinMap.{entries, entries_sorted, from_sorted, entries-from_sorted, same_entries_map}
 use Rattle.std.proofs.lemmas.List.{reverse-reverse}
 use Rattle.std.proofs.lemmas.Bool.{ltb-true, and_parts}

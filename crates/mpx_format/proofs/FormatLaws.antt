@@ -4,8 +4,8 @@ use Rattle.std.specs.Int.{Width, w16, w32, w64, byte_len, from_be_bytes, to_be_b
 use Rattle.std.proofs.lemmas.Bool.{cases_lt, ltb-false, le-ltb, lt-ltb, ltb-true, eqb-true, eq-eqb, and_parts, and_from}
 use Rattle.std.proofs.lemmas.List.{take_at, drop_at, take-append-drop, length-append, length-take, get_or-take, get_or_past}
 use Rattle.std.proofs.lemmas.Nat.{be_bytes_2, be_bytes_4, be_bytes_8, from_be_bytes-to_be_bytes_2, from_be_bytes-to_be_bytes_4, from_be_bytes-to_be_bytes_8}
-use Rattle.mpx_format.specs.declared.faults.Fault.{Fault}
-use Rattle.mpx_format.specs.declared.faults.Fault.TheVariants.{ShortFrame}
+use Rattle.mpx_format.specs.declared.defects.Defect.{Defect}
+use Rattle.mpx_format.specs.declared.defects.Defect.TheVariants.{ShortFrame}
 use Rattle.mpx_format.specs.Format.{Format, ◌>>=◌, byte, number, nothing, mark, both, only, through, spelled_by, fits_by, many, many_read, many_spelled, many_fit, counted, tagged, out_of_limits}
 
 abbrev pub IsBytes : List ℕ → Type 0
@@ -31,19 +31,19 @@ pub record Exactly {V : Type 0} (f : Format V) : Type 0 where
 
 -- STEPS
 
-pub bind_ok : {A B : Type 0} (r : Result A Fault) (f : A → Result B Fault) (y : B) → (r >>= f) ≡ Ok y → (x : A) × (r ≡ Ok x) × (f x ≡ Ok y)
+pub bind_ok : {A B : Type 0} (r : Result A Defect) (f : A → Result B Defect) (y : B) → (r >>= f) ≡ Ok y → (x : A) × (r ≡ Ok x) × (f x ≡ Ok y)
 bind_ok (Ok x) f y e = (x, refl, e)
 bind_ok (Err d) f y e = absurd cc
 
-pub guard_ok : {A : Type 0} (b : Bool) (d : Fault) (x y : A) → cond b (Ok x) (Err d) ≡ Ok y → (b ≡ true) × (x ≡ y)
+pub guard_ok : {A : Type 0} (b : Bool) (d : Defect) (x y : A) → cond b (Ok x) (Err d) ≡ Ok y → (b ≡ true) × (x ≡ y)
 guard_ok true d x y e = (refl, cc)
 guard_ok false d x y e = absurd cc
 
-short_ok : {A : Type 0} (b : Bool) (d : Fault) (x y : A) → cond b (Err d) (Ok x) ≡ Ok y → (b ≡ false) × (x ≡ y)
+short_ok : {A : Type 0} (b : Bool) (d : Defect) (x y : A) → cond b (Err d) (Ok x) ≡ Ok y → (b ≡ false) × (x ≡ y)
 short_ok true d x y e = absurd cc
 short_ok false d x y e = (refl, cc)
 
-abbrev done : {A : Type 0} → A → Result A Fault
+abbrev done : {A : Type 0} → A → Result A Defect
 done x = Ok x
 
 pub ok_is : {A : Type 0} (x y : A) → done x ≡ done y → x ≡ y
@@ -115,7 +115,7 @@ number_laws w wide = record {
 pub nothing_laws : Exactly nothing
 nothing_laws = record { found = λ bytes x h e. (refl, ap (λ (y : Unit {0} × List ℕ). y.1) (ok_is (tt, bytes) x e)); again = λ v rest fits. refl }
 
-module _ {V : Type 0} {f : Format V} (wrong : Fault) (c : ℕ) (p : Exactly f) where
+module _ {V : Type 0} {f : Format V} (wrong : Defect) (c : ℕ) (p : Exactly f) where
   mark_found : (bytes : List ℕ) (x : V × List ℕ) → IsBytes bytes → (mark wrong c f).read bytes ≡ Ok x → (f.fits x.0 ≡ true) × (bytes ≡ c ∷ f.spelling x.0 ++ x.1)
   mark_found [] x h e = absurd cc
   mark_found (b ∷ bytes) x h e = elim (eqb b c) as (λ t. eqb b c ≡ t → (cond t (Ok bytes) (Err wrong) >>= f.read) ≡ Ok x → (f.fits x.0 ≡ true) × (b ∷ bytes ≡ c ∷ f.spelling x.0 ++ x.1)) [
@@ -144,7 +144,7 @@ both_laws {f = f} {g = g} p q = record {
       rw (append_assoc (f.spelling v.0) ((g v.0).spelling v.1) rest, p.again v.0 ((g v.0).spelling v.1 ++ rest) one, (q v.0 one).again v.1 rest two) refl;
 }
 
-pub only_laws : {V : Type 0} {f : Format V} (wrong : List ℕ → Fault) (test : V → Bool) → Exactly f → Exactly (only wrong test f)
+pub only_laws : {V : Type 0} {f : Format V} (wrong : List ℕ → Defect) (test : V → Bool) → Exactly f → Exactly (only wrong test f)
 only_laws {f = f} wrong test p = record {
   found = λ bytes x h e.
       let a = bind_ok (f.read bytes) (λ a. cond (test a.0) (Ok a) (Err (wrong bytes))) x e in

@@ -8,7 +8,7 @@ use Rattle.mpx_kind.specs.declared.kinds.Mode.TheVariants.{Blocking, Nonblocking
 use Rattle.mpx_kind.specs.Kinds.{family_of, may_be}
 use Rattle.mpx_kind.specs.Codes.{code_of_kind, kind_at}
 use Rattle.mpx_num.specs.Codes.{code_of_operation, operation_at, code_of_type, type_at}
-use Rattle.mpx_format.specs.declared.faults.Fault.TheVariants.{BadVersion}
+use Rattle.mpx_format.specs.declared.defects.Defect.TheVariants.{BadVersion}
 use Rattle.mpx_format.specs.declared.versions.Version.{Version}
 use Rattle.mpx_format.specs.declared.versions.Version.TheVariants.{One, Two}
 use Rattle.mpx_format.specs.Format.{Format, nothing, byte, only, through, out_of_limits}

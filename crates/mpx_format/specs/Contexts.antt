@@ -10,7 +10,7 @@ use Rattle.mpx_name.specs.Order.{name_cmp}
 use Rattle.mpx_post.specs.Posts.{Given}
 use Rattle.mpx_board.specs.Parts.{CallView, ProgressView, EntryView, LiftedView, PartsView}
 use Rattle.mpx_board.specs.Tidy.{is_silent, is_unknown}
-use Rattle.mpx_format.specs.declared.faults.Fault.TheVariants.{BadMagic}
+use Rattle.mpx_format.specs.declared.defects.Defect.TheVariants.{BadMagic}
 use Rattle.mpx_format.specs.declared.versions.Version.{Version}
 use Rattle.mpx_format.specs.declared.versions.Version.TheVariants.{One, Two}
 use Rattle.mpx_format.specs.Format.{Format, nothing, mark, number, both, only, through, counted, tagged, out_of_limits}

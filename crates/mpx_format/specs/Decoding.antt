@@ -5,10 +5,10 @@ use Rattle.mpx_board.specs.Contexts.{look_of}
 use Rattle.mpx_board.specs.Parts.{PartsView}
 use Rattle.mpx_board.specs.Looks.{parts_of}
 use Rattle.mpx_board.specs.declared.board.Board.{Board}
-use Rattle.mpx_format.specs.declared.faults.Fault.{Fault}
-use Rattle.mpx_format.specs.declared.faults.Fault.TheVariants as F
-use Rattle.mpx_format.specs.declared.faults.WireError.{WireError}
-use Rattle.mpx_format.specs.declared.faults.WireError.TheVariants as E
+use Rattle.mpx_format.specs.declared.defects.Defect.{Defect}
+use Rattle.mpx_format.specs.declared.defects.Defect.TheVariants as F
+use Rattle.mpx_format.specs.declared.defects.WireError.{WireError}
+use Rattle.mpx_format.specs.declared.defects.WireError.TheVariants as E
 use Rattle.mpx_format.specs.declared.versions.Version.{Version}
 use Rattle.mpx_format.specs.Format.{not_canonical}
 use Rattle.mpx_format.specs.Contexts.{frame}
@@ -29,7 +29,7 @@ IsSpelled bytes v = (version : Version) × Spells version bytes v
 -- THE REFUSALS
 
 -- a fault by its place from the front, of so many bytes
-abbrev pub placed : ℕ → Fault → WireError
+abbrev pub placed : ℕ → Defect → WireError
 placed n F.BadMagic = E.BadMagic
 placed n F.BadVersion = E.BadVersion
 placed n F.ShortFrame = E.ShortFrame
@@ -37,7 +37,7 @@ placed n (F.OutOfLimits left) = E.OutOfLimits (n - left)
 placed n (F.NotCanonical left) = E.NotCanonical (n - left)
 
 -- the parts, of whichever version, where no bytes are left
-abbrev pub ended : ℕ → Result ((Version × PartsView) × List ℕ) Fault → Result PartsView WireError
+abbrev pub ended : ℕ → Result ((Version × PartsView) × List ℕ) Defect → Result PartsView WireError
 ended n (Ok x) = cond (nat_eq (length x.1) 0) (Ok x.0.1) (Err (placed n (not_canonical x.1)))
 ended n (Err f) = Err (placed n f)
 

@@ -7,7 +7,7 @@ use Rattle.mpx_group.specs.Group.{has}
 use Rattle.mpx_name.specs.declared.steps.Step.{Step}
 use Rattle.mpx_name.specs.declared.steps.Step.TheVariants.{Child, Gathering}
 use Rattle.mpx_name.specs.Order.{name_cmp}
-use Rattle.mpx_format.specs.declared.faults.Fault.{Fault}
+use Rattle.mpx_format.specs.declared.defects.Defect.{Defect}
 use Rattle.mpx_format.specs.Format.{Format, ◌>>=◌, byte, number, both, only, through, counted, tagged, out_of_limits, not_canonical}
 use Rattle.mpx_format.specs.Rising.{keyed, always}
 
@@ -71,7 +71,7 @@ unfoldable pub step : Format Step
 step = tagged (λ t. nat_lt t 2) code_of_step step_form
 
 -- a name with the step that was read below it
-abbrev pub below : List Step → Result (Step × List ℕ) Fault → Result (List Step × List ℕ) Fault
+abbrev pub below : List Step → Result (Step × List ℕ) Defect → Result (List Step × List ℕ) Defect
 below parent read = read >>= λ s. Ok (s.0 ∷ parent, s.1)
 
 -- at most 8

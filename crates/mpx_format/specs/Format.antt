@@ -1,10 +1,10 @@
 -- Formats: how a value is spelled in bytes, and how bytes are read from left to right up to the first field that is wrong.
 use Rattle.std.specs.Prelude.{◌≡◌, ℕ, zero, suc, ◌-◌, ◌^◌, Bool, nat_le, true, false, ◌&&◌, cond, nat_lt, nat_eq, List, [], ◌∷◌, ◌++◌, length, take, drop, Option, Some, None, Result, Ok, Err}
 use Rattle.std.specs.Int.{Width, byte_len, from_be_bytes, to_be_bytes}
-use Rattle.mpx_format.specs.declared.faults.Fault.{Fault}
-use Rattle.mpx_format.specs.declared.faults.Fault.TheVariants.{ShortFrame, OutOfLimits, NotCanonical}
-use Rattle.mpx_format.specs.declared.faults.ReadError.{ReadError}
-use Rattle.mpx_format.specs.declared.faults.ReadError.TheVariants as errors
+use Rattle.mpx_format.specs.declared.defects.Defect.{Defect}
+use Rattle.mpx_format.specs.declared.defects.Defect.TheVariants.{ShortFrame, OutOfLimits, NotCanonical}
+use Rattle.mpx_format.specs.declared.defects.ReadError.{ReadError}
+use Rattle.mpx_format.specs.declared.defects.ReadError.TheVariants as errors
 
 pub record Format (V : Type 0) : Type 0 where
   -- the one spelling of a value
@@ -12,23 +12,23 @@ pub record Format (V : Type 0) : Type 0 where
   -- whether a value has a spelling
   pub fits : V → Bool
   -- the value that stands at the front and the bytes after it, or the first field that is wrong
-  pub read : List ℕ → Result (V × List ℕ) Fault
+  pub read : List ℕ → Result (V × List ℕ) Defect
 
 infixl 10 ◌>>=◌
-abbrev pub ◌>>=◌ : {A B : Type 0} → Result A Fault → (A → Result B Fault) → Result B Fault
+abbrev pub ◌>>=◌ : {A B : Type 0} → Result A Defect → (A → Result B Defect) → Result B Defect
 (Ok x) >>= f = f x
 (Err e) >>= f = Err e
 
 -- the field at the front of these bytes is wrong. A fault is placed by how many bytes there are from the field's first one to the end
-abbrev pub out_of_limits : List ℕ → Fault
+abbrev pub out_of_limits : List ℕ → Defect
 out_of_limits bytes = OutOfLimits (length bytes)
 
-abbrev pub not_canonical : List ℕ → Fault
+abbrev pub not_canonical : List ℕ → Defect
 not_canonical bytes = NotCanonical (length bytes)
 
 -- NUMBERS
 
-abbrev read_byte : List ℕ → Result (ℕ × List ℕ) Fault
+abbrev read_byte : List ℕ → Result (ℕ × List ℕ) Defect
 read_byte [] = Err ShortFrame
 read_byte (b ∷ bytes) = Ok (b, bytes)
 
@@ -50,11 +50,11 @@ abbrev pub nothing : Format (Unit {0})
 nothing = record { spelling = λ v. []; fits = λ v. true; read = λ bytes. Ok (tt, bytes) }
 
 -- this byte, and then a value
-abbrev pub mark_at : Fault → ℕ → List ℕ → Result (List ℕ) Fault
+abbrev pub mark_at : Defect → ℕ → List ℕ → Result (List ℕ) Defect
 mark_at wrong c [] = Err ShortFrame
 mark_at wrong c (b ∷ bytes) = cond (nat_eq b c) (Ok bytes) (Err wrong)
 
-abbrev pub mark : {V : Type 0} → Fault → ℕ → Format V → Format V
+abbrev pub mark : {V : Type 0} → Defect → ℕ → Format V → Format V
 mark wrong c f = record { spelling = λ v. c ∷ f.spelling v; fits = f.fits; read = λ bytes. mark_at wrong c bytes >>= f.read }
 
 -- one value and then another, whose format the first may tell
@@ -66,7 +66,7 @@ both f g = record {
 }
 
 -- a value that passes a test; else it is wrong
-abbrev pub only : {V : Type 0} → (List ℕ → Fault) → (V → Bool) → Format V → Format V
+abbrev pub only : {V : Type 0} → (List ℕ → Defect) → (V → Bool) → Format V → Format V
 only wrong test f = record {
   spelling = f.spelling;
   fits = λ v. f.fits v && test v;
@@ -100,7 +100,7 @@ many_fit f zero before (v ∷ vs) = false
 many_fit f (suc n) before [] = false
 many_fit f (suc n) before (v ∷ vs) = (f before).fits v && many_fit f n (before ++ v ∷ []) vs
 
-unfoldable pub many_read : {V : Type 0} → (List V → Format V) → ℕ → List V → List ℕ → Result (List V × List ℕ) Fault
+unfoldable pub many_read : {V : Type 0} → (List V → Format V) → ℕ → List V → List ℕ → Result (List V × List ℕ) Defect
 many_read f zero before bytes = Ok ([], bytes)
 many_read f (suc n) before bytes = (f before).read bytes >>= λ v. many_read f n (before ++ v.0 ∷ []) v.1 >>= λ vs. Ok (v.0 ∷ vs.0, vs.1)
 
@@ -118,11 +118,11 @@ tagged known tag form = through (λ x. x.1) (λ v. Some (tag v, v)) (both (only 
 -- READERS IN THE CODE
 
 -- What a function returned, seen by view, is what reading gives, unless memory ran out.
-abbrev pub Fails : {Y : Type 0} → ReadError → Result Y Fault → Type 0
+abbrev pub Fails : {Y : Type 0} → ReadError → Result Y Defect → Type 0
 Fails errors.OutOfMemory read = Unit {0}
-Fails (errors.Fault f) read = read ≡ Err f
+Fails (errors.Defect f) read = read ≡ Err f
 
-abbrev pub Gives : {X Y : Type 0} → (X → Y) → Result X ReadError → Result Y Fault → Type 0
+abbrev pub Gives : {X Y : Type 0} → (X → Y) → Result X ReadError → Result Y Defect → Type 0
 Gives view (Ok x) read = read ≡ Ok (view x)
 Gives view (Err e) read = Fails e read
 

@@ -1,4 +1,4 @@
-// The law of all formats: one spelling for a board in each version.
+//! The law of all formats: one spelling for a board in each version.
 ghost use Rattle.std.specs.Prelude.{◌≡◌, ◌++◌, List, ℕ};
 ghost use Rattle.mpx_board.specs.Parts.{PartsView};
 ghost use Rattle.mpx_format.specs.declared.versions.Version.{Version};

@@ -9,12 +9,12 @@
 //! contexts, and what these are built of, have the version as a parameter.
 #![tactic(auto)]
 
-mod faults;
+mod defects;
 mod laws;
 mod rising;
 mod versions;
 
-pub use faults::{Fault, ReadError, SHORT, WireError, not_canonical, out_of_limits, placed};
+pub use defects::{Defect, ReadError, SHORT, WireError, not_canonical, out_of_limits, placed};
 pub use laws::one_spelling;
 pub use rising::may_come;
 pub use versions::Version;

@@ -1,4 +1,4 @@
-// Entries in the rising order of their keys.
+//! Entries in the rising order of their keys.
 ghost use Rattle.std.specs.Prelude.{◌≡◌};
 ghost use Rattle.mpx_format.specs.Rising.{last_of, may_come};
 

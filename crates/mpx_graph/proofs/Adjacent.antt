@@ -7,7 +7,7 @@ use Rattle.std.proofs.lemmas.List.{get_or_past, length-map, map_push, take_more}
 use Rattle.std.proofs.Math.ListN.{get_or-map}
 use Rattle.mpx_birth.specs.declared.edges.Neighbour.{Neighbour}
 use Rattle.mpx_birth.specs.Edges.{is_rank, often, weights_of}
-use Rattle.mpx_birth.specs.Topologies.{Near, Agrees, sources_in, destinations_in}
+use Rattle.mpx_birth.specs.Topologies.{Near, AgreesAtBothEnds, sources_in, destinations_in}
 use Rattle.mpx_post.specs.Posts.{Given, destinations_of, nothing_given, sources_of}
 use Rattle.mpx_post.specs.Rows.{RowView}
 use Rattle.mpx_post.specs.Agreement.{IsFine, post_at}
@@ -43,7 +43,7 @@ module _ (row : RowView) (fine : IsFine row) where
     ])
   ]
 
-  pub adjacent-agrees : Agrees (map near_given row)
+  pub adjacent-agrees : AgreesAtBothEnds (map near_given row)
   adjacent-agrees = record {
     both = λ i j.
         let out : destinations_in (map near_given row) i ≡ destinations_of (post_at row i) = ap (λ (near : Near). near.destinations) (get_or-map near_given row i nothing_given) in

@@ -14,9 +14,9 @@ use Rattle.mpx_post.specs.Posts.{nothing_given, destinations_of, edges_of, sourc
 use Rattle.mpx_post.specs.Rows.{RowView}
 use Rattle.mpx_post.specs.Agreement.{IsFine, fits_edges, post_at}
 use Rattle.mpx_post.proofs.Agreement.{fits_parts}
-use Rattle.mpx_graph.specs.Graphs.{IsBetween, all_edges}
+use Rattle.mpx_graph.specs.Graphs.{IsEdgeBetween, all_edges}
 
-between : (size : ℕ) (e : Edge) → (nat_lt e.source size && nat_lt e.destination size) ≡ true → IsBetween size e
+between : (size : ℕ) (e : Edge) → (nat_lt e.source size && nat_lt e.destination size) ≡ true → IsEdgeBetween size e
 between size e t =
     let parts = and_parts _ _ t in
     record { source = ltb-true e.source size parts.0; destination = ltb-true e.destination size parts.1 }
@@ -28,7 +28,7 @@ module _ (row : RowView) (fine : IsFine row) (rank : ℕ) (l : rank < length row
   fitting : fits_edges (length row) (post_at row rank) ≡ true
   fitting = (fits_parts fine.topology (length row) rank (post_at row rank) (fine.with.each rank l).fit).edges
 
-  pub edges-between : All (IsBetween (length row)) (edges_of (post_at row rank))
+  pub edges-between : All (IsEdgeBetween (length row)) (edges_of (post_at row rank))
   edges-between =
       All-weaker _ _ (between (length row)) _
       (AllPass-from_list_all (λ (e : Edge). nat_lt e.source (length row) && nat_lt e.destination (length row)) _ (and_parts _ _ fitting).0)
@@ -46,7 +46,7 @@ All-all_edges P (given ∷ rest) each =
     All-append P (edges_of given) (all_edges rest) (each 0 (omega arith)) (All-all_edges P rest (λ k l. each (suc k) (omega arith)))
 
 -- one member's edges, read from a row
-pub edges-within : (row : RowView) (rank size : ℕ) (edges : List Edge) → IsFine row → rank < length row → size ≡ length row → edges ≡ edges_of (post_at row rank) → All (IsBetween size) edges
+pub edges-within : (row : RowView) (rank size : ℕ) (edges : List Edge) → IsFine row → rank < length row → size ≡ length row → edges ≡ edges_of (post_at row rank) → All (IsEdgeBetween size) edges
 edges-within row rank size edges fine l same is = rw (same, is) (edges-between row fine rank l)
 
 -- one member's edges more
@@ -56,5 +56,5 @@ all_edges-more row rank l =
     ∙ flat_map-append edges_of (take rank row) (post_at row rank ∷ [])
     ∙ ap (λ (es : List Edge). all_edges (take rank row) ++ es) (append-nil (edges_of (post_at row rank)))
 
-pub all_edges-between : (row : RowView) → IsFine row → All (IsBetween (length row)) (all_edges row)
-all_edges-between row fine = All-all_edges (IsBetween (length row)) row (edges-between row fine)
+pub all_edges-between : (row : RowView) → IsFine row → All (IsEdgeBetween (length row)) (all_edges row)
+all_edges-between row fine = All-all_edges (IsEdgeBetween (length row)) row (edges-between row fine)

@@ -9,9 +9,9 @@ use Rattle.mpx_birth.specs.declared.edges.Edge.{Edge}
 use Rattle.mpx_birth.specs.declared.edges.Neighbour.{Neighbour}
 use Rattle.mpx_birth.specs.Edges.{often, source_of, destination_of, sources_among, destinations_among}
 use Rattle.mpx_birth.specs.Births.{upto}
-use Rattle.mpx_birth.specs.Topologies.{Near, Agrees, nobody, sources_in, destinations_in}
+use Rattle.mpx_birth.specs.Topologies.{Near, AgreesAtBothEnds, nobody, sources_in, destinations_in}
 use Rattle.mpx_birth.proofs.Kept.{none_pass}
-use Rattle.mpx_graph.specs.Graphs.{IsBetween, near_among, graph_among}
+use Rattle.mpx_graph.specs.Graphs.{IsEdgeBetween, near_among, graph_among}
 use Rattle.mpx_graph.proofs.Pairs.{ends_agree, sources-more, destinations-more}
 
 -- the numbers below n, as a range
@@ -37,7 +37,7 @@ graph-by-entries : (size : ℕ) (edges : List Edge) (xs : List Near) → length 
 graph-by-entries size edges xs long each = fill_by_all (near_among edges) xs size nobody long each ∙ sym (map-upto (near_among edges) size)
 
 -- nobody past the members
-module _ (size : ℕ) (edges : List Edge) (within : All (IsBetween size) edges) where
+module _ (size : ℕ) (edges : List Edge) (within : All (IsEdgeBetween size) edges) where
   past_sources : (rank : ℕ) → size ≤ rank → sources_among rank edges ≡ []
   past_sources rank l =
       ap (map source_of) (none_pass (λ e. e.destination == rank) edges (λ k d m. ne_eqb _ _ (λ e. let w = (within k d m).destination in omega arith)))
@@ -58,7 +58,7 @@ module _ (size : ℕ) (edges : List Edge) (within : All (IsBetween size) edges) 
     | inr l ↦ ap (λ (near : Near). near.destinations) (get_or_past (graph_among size edges) rank nobody (let e = length-graph size edges in omega arith)) ∙ sym (past_destinations rank l)
   ]
 
-  pub graph-agrees : Agrees (graph_among size edges)
+  pub graph-agrees : AgreesAtBothEnds (graph_among size edges)
   graph-agrees = record {
     both = λ i j. ap (often j) (destinations-graph i) ∙ ends_agree edges i j ∙ sym (ap (often i) (sources-graph j));
   }

@@ -19,7 +19,7 @@ use Rattle.mpx_post.specs.Graphs.{AreEdges, AreNeighbours, EdgesView, IsEdge, Is
 use Rattle.mpx_post.specs.Posts.{Given, destinations_of, edges_of, nothing_given, sources_of, weighted_of}
 use Rattle.mpx_post.specs.Rows.{RowView}
 use Rattle.mpx_post.specs.Agreement.{IsFine, first_of, post_at}
-use Rattle.mpx_graph.specs.Graphs.{IsBetween, adjacent, all_edges, general, graph_among, near_among, near_given}
+use Rattle.mpx_graph.specs.Graphs.{IsEdgeBetween, adjacent, all_edges, general, graph_among, near_among, near_given}
 use Rattle.mpx_graph.proofs.Adjacent.{adjacent-agrees}
 use Rattle.mpx_graph.proofs.Counting.{count-length, counts-below}
 use Rattle.mpx_graph.proofs.Fine.{All-all_edges, all_edges-between, destinations-below, sources-below}
@@ -105,7 +105,7 @@ module _ (row : RowView) (fine : IsFine row) (few : length row ≤ 64) (given : 
       (λ e is. weight-passes _ e.weight (subst (λ (w : Bool). IsWeight w e.weight) ((fine.with.each k l).weights) is.weight))
       (edges_of (post_at row k)) ((given k l).each))
 
-  ends-pass : (end : Edge → Neighbour) → ((e : Edge) → IsBetween (length row) e → (end e).rank < length row) → ((e : Edge) → (end e).weight ≡ e.weight) → (p : Edge → Bool)
+  ends-pass : (end : Edge → Neighbour) → ((e : Edge) → IsEdgeBetween (length row) e → (end e).rank < length row) → ((e : Edge) → (end e).weight ≡ e.weight) → (p : Edge → Bool)
       → list_all (is_neighbour (length row) (weighted_of (first_of row))) (map end (filter p (all_edges row))) ≡ true
   ends-pass end below same p =
       list_all-from_AllPass (is_neighbour (length row) (weighted_of (first_of row))) (map end (filter p (all_edges row)))

@@ -26,7 +26,7 @@ abbrev pub AddsEdges : (size : ℕ) → List Edge → (old new : List Near) → 
 AddsEdges size edges old new = (before : List Edge) → old ≡ graph_among size before → new ≡ graph_among size (before ++ edges)
 
 -- both ends of the edge are ranks of so many
-pub record IsBetween (size : ℕ) (edge : Edge) : Type 0 where
+pub record IsEdgeBetween (size : ℕ) (edge : Edge) : Type 0 where
   pub source : edge.source < size
   pub destination : edge.destination < size
 

@@ -1,9 +1,9 @@
-// What a rank asks of a topology.
+//! What a rank asks of a topology.
 ghost use Rattle.std.specs.Prelude.{◌≡◌};
 ghost use Rattle.mpx_birth.specs.Topologies.{destinations_at, sources_at};
 ghost use Rattle.mpx_graph.specs.Graphs.{counts_at};
 
-use mpx_post::{Neighbour, Topology};
+use mpx_birth::{Neighbour, Topology};
 
 /// How many sources and destinations a rank has, and whether edges have weights (`MPI_DIST_GRAPH_NEIGHBORS_COUNT`, MPI 4.1
 /// section 8.5.5).

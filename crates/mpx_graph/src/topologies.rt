@@ -1,11 +1,12 @@
-// Which topology the posts of a graph's call make.
+//! Which topology the posts of a graph's call make.
 ghost use Rattle.std.specs.Prelude.{◌≡◌, ◌<◌, ◌∷◌, [], IfOk, OnOk, vec_len};
 ghost use Rattle.std.specs.List.{All};
 ghost use Rattle.mpx_post.specs.Agreement.{IsFine};
-ghost use Rattle.mpx_graph.specs.Graphs.{AddsEdges, adjacent, general, IsBetween};
+ghost use Rattle.mpx_graph.specs.Graphs.{AddsEdges, adjacent, general, IsEdgeBetween};
 
 use join_core::OutOfMemory;
-use mpx_post::{Edge, Neighbour, Neighbours, Row, Topology};
+use mpx_birth::{Edge, Neighbour, Neighbours, Topology};
+use mpx_post::Row;
 use std::alloc::Global;
 
 /// The topology of all members' edges, of a fine row (`MPI_DIST_GRAPH_CREATE`, MPI 4.1 section 8.5.4).
@@ -25,7 +26,7 @@ pub fn topology_general(alloc: Global, row: &Row<'_>) -> Result<Topology, OutOfM
 
 // Puts each edge at its two ends.
 fn put_all(ranks: &mut Vec<Neighbours>, edges: &[Edge]) -> Result<(), OutOfMemory>
-    requires within { All (IsBetween (vec_len ranks.old)) edges.now }
+    requires within { All (IsEdgeBetween (vec_len ranks.old)) edges.now }
     ensures long { vec_len ranks.new ≡ vec_len ranks.old }
     ensures graph { OnOk result (AddsEdges (vec_len ranks.old) edges.now ranks.old.items ranks.new.items) }
 {
@@ -37,7 +38,7 @@ fn put_all(ranks: &mut Vec<Neighbours>, edges: &[Edge]) -> Result<(), OutOfMemor
 
 // Puts an edge at its two ends.
 fn put(ranks: &mut Vec<Neighbours>, edge: Edge) -> Result<(), OutOfMemory>
-    requires { IsBetween (vec_len ranks.old) edge }
+    requires { IsEdgeBetween (vec_len ranks.old) edge }
     ensures long { vec_len ranks.new ≡ vec_len ranks.old }
     ensures graph { OnOk result (AddsEdges (vec_len ranks.old) (edge ∷ []) ranks.old.items ranks.new.items) }
 {

@@ -1,4 +1,4 @@
-// Why a group is not made.
+//! Why a group is not made.
 ghost use Rattle.std.specs.Prelude.{◌≡◌};
 ghost use Rattle.mpx_group.specs.declared.errors.GroupError.TheVariants.{OutOfMemory};
 

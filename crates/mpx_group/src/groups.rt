@@ -1,4 +1,4 @@
-// Groups of processes, and the calls that make one of others.
+//! Groups of processes, and the calls that make one of others.
 ghost use Rattle.std.specs.Prelude.{◌≡◌, ◌<◌, ◌↔◌, ℕ, nat_eq, List, All, map, length, slice_index, IfOk, IfSome, IfNone, IsOkUnless, Ok, Err, if◌then◌else◌};
 ghost use Rattle.std.specs.Bool.{OnTrue, OnFalse};
 ghost use Rattle.std.specs.List.{list_all};

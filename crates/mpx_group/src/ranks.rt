@@ -1,3 +1,4 @@
+//! Places in a group, and how two groups compare.
 /// A place in a group, or one of MPI's two special ranks.
 #[derive(Clone, Copy, Debug, PartialEq, Eq)]
 pub enum Rank {

@@ -1,4 +1,4 @@
-// Ranges of ranks with a stride.
+//! Ranges of ranks with a stride.
 ghost use Rattle.std.specs.Prelude.{◌≡◌, ◌+ℤ◌, ◌≤ℤ◌, pos, false, if◌then◌else◌};
 ghost use Rattle.std.specs.List.{list_any};
 ghost use Rattle.mpx_group.specs.Triplet.{is_past, is_bad};

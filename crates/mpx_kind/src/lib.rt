@@ -3,6 +3,7 @@
 #![tactic(auto)]
 
 mod kinds;
+mod tables;
 
 pub use kinds::{
     Call, Exchange, Family, Fields, Kind, Makes, Mode, Neighbourhood, NewCommunicator, Number,

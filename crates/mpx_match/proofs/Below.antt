@@ -3,7 +3,7 @@ use Rattle.std.proofs.Common.{◌≡◌, ℕ, zero, suc, ◌<◌, ◌||◌, Bool
 use Rattle.std.specs.List.{list_any}
 use Rattle.std.proofs.lemmas.Bool.{cases_eq}
 use Rattle.std.proofs.lemmas.List.Folds.{list_any-append}
-use Rattle.mpx_post.specs.Births.{upto}
+use Rattle.mpx_birth.specs.Births.{upto}
 
 -- one number more
 one_more : (test : ℕ → Bool) (n : ℕ) → list_any test (upto (suc n)) ≡ (list_any test (upto n) || (test n || false))

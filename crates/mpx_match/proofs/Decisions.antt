@@ -14,15 +14,15 @@ use Rattle.mpx_post.specs.Posts.{Given, group_of}
 use Rattle.mpx_post.specs.Rows.{RowView}
 use Rattle.mpx_kind.specs.declared.kinds.Neighbourhood.{Neighbourhood}
 use Rattle.mpx_kind.specs.declared.kinds.Neighbourhood.TheVariants as H
-use Rattle.mpx_post.specs.Births.{upto}
-use Rattle.mpx_post.specs.Topologies.{IsKept, TopologyView, destinations_at}
+use Rattle.mpx_birth.specs.Births.{upto}
+use Rattle.mpx_birth.specs.Topologies.{IsKept, TopologyView, destinations_at}
 use Rattle.mpx_birth.specs.Ends.{rank_at, taken_at}
 use Rattle.mpx_birth.proofs.Meeting.{taken_meets, taken_of}
 use Rattle.mpx_post.specs.Agreement.{AlongEdges, AmountsAgree, awaited_on, first_of, post_at, sent_on}
 use Rattle.mpx_post.specs.Equality.{same_operation, kinds_decided, modes_decided, operations_decided, options_decided, types_decided, numbers_decided}
-use Rattle.mpx_match.specs.declared.verdicts.Question.{Question}
-use Rattle.mpx_match.specs.declared.verdicts.Question.TheVariants.{Fit, Kind, Mode, Root, Op, ItemType, Amount, Weights, Edges, Groups}
-use Rattle.mpx_match.specs.Faults.{Agrees}
+use Rattle.mpx_match.specs.declared.verdicts.RowQuestion.{RowQuestion}
+use Rattle.mpx_match.specs.declared.verdicts.RowQuestion.TheVariants.{Fit, Kind, Mode, Root, Op, ItemType, Amount, Weights, Edges, Groups}
+use Rattle.mpx_match.specs.Faults.{AgreesIn}
 use Rattle.mpx_match.specs.Questions.{along_edges_differ, amounts_differ, edge_differs, is_faulty, least_rank}
 use Rattle.mpx_match.proofs.Below.{none_below, some_below}
 use Rattle.mpx_match.proofs.Least.{least_rank-passes, least_rank-none}
@@ -119,7 +119,7 @@ amounts_decided topology NeighborAlltoall row rank given = along_edges_decided t
 amounts_decided topology NeighborAlltoallv row rank given = along_edges_decided topology H.Alltoallv row rank given
 amounts_decided topology Free row rank given = record { holds = λ e. tt; fails = λ kept e. cc e }
 
-pub decided : (ops : List Operation) (topology : Option TopologyView) (question : Question) (row : RowView) (rank : ℕ) → RefutesWhere (IsKept topology) (is_faulty ops topology question row rank (post_at row rank)) (Agrees ops topology question row rank)
+pub decided : (ops : List Operation) (topology : Option TopologyView) (question : RowQuestion) (row : RowView) (rank : ℕ) → RefutesWhere (IsKept topology) (is_faulty ops topology question row rank (post_at row rank)) (AgreesIn ops topology question row rank)
 decided ops topology Fit row rank = anyway (not_same _ (same_test _))
 decided ops topology Kind row rank = anyway (not_same _ (kinds_decided _ _))
 decided ops topology Mode row rank = anyway (not_same _ (modes_decided _ _))

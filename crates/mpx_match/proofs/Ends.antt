@@ -4,7 +4,7 @@ use Rattle.mpx_birth.specs.declared.edges.Neighbour.{Neighbour}
 use Rattle.mpx_kind.specs.declared.kinds.Neighbourhood.{Neighbourhood}
 use Rattle.mpx_post.specs.Rows.{RowView}
 use Rattle.mpx_post.specs.Agreement.{awaited_on, post_at, sent_on}
-use Rattle.mpx_post.specs.Topologies.{TopologyView, destinations_at}
+use Rattle.mpx_birth.specs.Topologies.{TopologyView, destinations_at}
 use Rattle.mpx_birth.specs.Ends.{rank_at, taken_at}
 use Rattle.mpx_match.specs.Questions.{edge_differs}
 

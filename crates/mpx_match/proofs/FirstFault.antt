@@ -3,18 +3,18 @@ use Rattle.std.proofs.Common.{◌≡◌, ℕ, List, [], ◌∷◌, Option, Some,
 use Rattle.mpx_num.specs.declared.own.Operation.{Operation}
 use Rattle.mpx_post.specs.Rows.{RowView}
 use Rattle.mpx_post.specs.Agreement.{AllSuit, IsFineWith}
-use Rattle.mpx_post.specs.Topologies.{IsKept, TopologyView}
+use Rattle.mpx_birth.specs.Topologies.{IsKept, TopologyView}
 use Rattle.std.proofs.lemmas.Bool.{and_parts}
 use Rattle.mpx_match.specs.declared.faults.Verdict.{Verdict}
 use Rattle.mpx_match.specs.declared.faults.Verdict.TheVariants.{Fine}
-use Rattle.mpx_match.specs.declared.verdicts.Question.{Question}
-use Rattle.mpx_match.specs.declared.verdicts.Question.TheVariants as Q
+use Rattle.mpx_match.specs.declared.verdicts.RowQuestion.{RowQuestion}
+use Rattle.mpx_match.specs.declared.verdicts.RowQuestion.TheVariants as Q
 use Rattle.mpx_match.specs.Questions.{answer, is_faulty}
-use Rattle.mpx_match.specs.Verdicts.{AllAgree, IsFirstFault, IsLeast, answers, first_fault, or_else, questions, told_as, verdict}
+use Rattle.mpx_match.specs.Verdicts.{AllAgreeIn, IsFirstFault, IsLeast, answers, first_fault, or_else, questions, told_as, verdict}
 use Rattle.mpx_match.proofs.Decisions.{decided}
 use Rattle.mpx_match.proofs.Least.{least_rank-passes, least_rank-none}
 
-least : (ops : List Operation) (topology : Option TopologyView) → IsKept topology → (question : Question) (row : RowView) (rank : ℕ) → answer ops topology question row ≡ Some rank → IsLeast ops topology question row rank
+least : (ops : List Operation) (topology : Option TopologyView) → IsKept topology → (question : RowQuestion) (row : RowView) (rank : ℕ) → answer ops topology question row ≡ Some rank → IsLeast ops topology question row rank
 least ops topology kept question row rank e =
     let found = least_rank-passes (is_faulty ops topology question row) row rank e in
     record {
@@ -23,10 +23,10 @@ least ops topology kept question row rank e =
       least = λ lower l. (decided ops topology question row lower).holds (found.2 lower l);
     }
 
-all_agree : (ops : List Operation) (topology : Option TopologyView) (question : Question) (row : RowView) → answer ops topology question row ≡ None → AllAgree ops topology question row
+all_agree : (ops : List Operation) (topology : Option TopologyView) (question : RowQuestion) (row : RowView) → answer ops topology question row ≡ None → AllAgreeIn ops topology question row
 all_agree ops topology question row e rank l = (decided ops topology question row rank).holds (least_rank-none (is_faulty ops topology question row) row e rank l)
 
-is_first : (ops : List Operation) (topology : Option TopologyView) → IsKept topology → (asked : List Question) (row : RowView) → IsFirstFault ops topology asked row (first_fault (answers ops topology asked row))
+is_first : (ops : List Operation) (topology : Option TopologyView) → IsKept topology → (asked : List RowQuestion) (row : RowView) → IsFirstFault ops topology asked row (first_fault (answers ops topology asked row))
 is_first ops topology kept [] row = refl
 is_first ops topology kept (question ∷ more) row = by_answer (answer ops topology question row) refl (is_first ops topology kept more row) where
   by_answer : (o : Option ℕ) → answer ops topology question row ≡ o → IsFirstFault ops topology more row (first_fault (answers ops topology more row)) → IsFirstFault ops topology (question ∷ more) row (or_else (told_as question) o (first_fault (answers ops topology more row)))
@@ -41,12 +41,12 @@ verdict-is_first ops topology kept row = is_first ops topology kept questions ro
 pub told-is_first : (ops : List Operation) (topology : Option TopologyView) → IsKept topology → (row : RowView) (v : Verdict) → v ≡ verdict ops topology row → IsFirstFault ops topology questions row v
 told-is_first ops topology kept row v e = subst (IsFirstFault ops topology questions row) (sym e) (verdict-is_first ops topology kept row)
 
-after : (ops : List Operation) (topology : Option TopologyView) (question : Question) (more : List Question) (row : RowView) → IsFirstFault ops topology (question ∷ more) row Fine → AllAgree ops topology question row × IsFirstFault ops topology more row Fine
+after : (ops : List Operation) (topology : Option TopologyView) (question : RowQuestion) (more : List RowQuestion) (row : RowView) → IsFirstFault ops topology (question ∷ more) row Fine → AllAgreeIn ops topology question row × IsFirstFault ops topology more row Fine
 after ops topology question more row (inl told) = absurd told
 after ops topology question more row (inr rest) = rest
 
 -- where there is no fault, all agree
-settled : (ops : List Operation) (topology : Option TopologyView) (asked : List Question) (row : RowView) → first_fault (answers ops topology asked row) ≡ Fine → IsFirstFault ops topology asked row Fine
+settled : (ops : List Operation) (topology : Option TopologyView) (asked : List RowQuestion) (row : RowView) → first_fault (answers ops topology asked row) ≡ Fine → IsFirstFault ops topology asked row Fine
 settled ops topology [] row e = refl
 settled ops topology (question ∷ more) row e = by_answer (answer ops topology question row) refl (settled ops topology more row) e where
   by_answer : (o : Option ℕ) → answer ops topology question row ≡ o → (first_fault (answers ops topology more row) ≡ Fine → IsFirstFault ops topology more row Fine) → or_else (told_as question) o (first_fault (answers ops topology more row)) ≡ Fine → IsFirstFault ops topology (question ∷ more) row Fine

@@ -12,12 +12,12 @@ use Rattle.mpx_post.specs.Equality.{same_kind, same_mode, same_root, same_operat
 use Rattle.mpx_post.specs.Rows.{RowView}
 use Rattle.mpx_kind.specs.declared.kinds.Neighbourhood.{Neighbourhood}
 use Rattle.mpx_kind.specs.declared.kinds.Neighbourhood.TheVariants as H
-use Rattle.mpx_post.specs.Births.{upto}
-use Rattle.mpx_post.specs.Topologies.{TopologyView, destinations_at}
+use Rattle.mpx_birth.specs.Births.{upto}
+use Rattle.mpx_birth.specs.Topologies.{TopologyView, destinations_at}
 use Rattle.mpx_birth.specs.Ends.{rank_at, taken_at}
 use Rattle.mpx_post.specs.Agreement.{awaited_on, count_at, first_of, is_fit, post_at, received, root_post, sent_on}
-use Rattle.mpx_match.specs.declared.verdicts.Question.{Question}
-use Rattle.mpx_match.specs.declared.verdicts.Question.TheVariants.{Fit, Kind, Mode, Root, Op, ItemType, Amount, Weights, Edges, Groups}
+use Rattle.mpx_match.specs.declared.verdicts.RowQuestion.{RowQuestion}
+use Rattle.mpx_match.specs.declared.verdicts.RowQuestion.TheVariants.{Fit, Kind, Mode, Root, Op, ItemType, Amount, Weights, Edges, Groups}
 
 abbrev pub least_from : (ℕ → Given → Bool) → ℕ → RowView → Option ℕ
 least_from test i [] = None
@@ -91,7 +91,7 @@ abbrev pub fits_there : List Operation → Option TopologyView → (size rank : 
 fits_there ops topology size rank given = is_fit topology size rank given && suits ops given
 
 -- the answer for the post of the member with this rank
-abbrev pub is_faulty : List Operation → Option TopologyView → Question → RowView → ℕ → Given → Bool
+abbrev pub is_faulty : List Operation → Option TopologyView → RowQuestion → RowView → ℕ → Given → Bool
 is_faulty ops topology Fit row rank given = not (fits_there ops topology (length row) rank given)
 is_faulty ops topology Kind row rank given = not (same_kind given.kind (first_of row).kind)
 is_faulty ops topology Mode row rank given = not (same_mode given.mode (first_of row).mode)
@@ -104,5 +104,5 @@ is_faulty ops topology Edges row rank given = edges_differ row rank given
 is_faulty ops topology Groups row rank given = groups_differ row given
 
 -- the least rank of whose post the answer is yes
-abbrev pub answer : List Operation → Option TopologyView → Question → RowView → Option ℕ
+abbrev pub answer : List Operation → Option TopologyView → RowQuestion → RowView → Option ℕ
 answer ops topology question row = least_rank (is_faulty ops topology question row) row

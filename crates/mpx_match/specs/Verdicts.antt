@@ -2,22 +2,22 @@
 use Rattle.std.specs.Prelude.{◌≡◌, ℕ, ◌<◌, ◌⊎◌, List, [], ◌∷◌, length, map, Option, Some, None}
 use Rattle.mpx_num.specs.declared.own.Operation.{Operation}
 use Rattle.mpx_post.specs.Rows.{RowView}
-use Rattle.mpx_post.specs.Topologies.{TopologyView}
+use Rattle.mpx_birth.specs.Topologies.{TopologyView}
 use Rattle.mpx_match.specs.declared.faults.FaultKind.{FaultKind}
 use Rattle.mpx_match.specs.declared.faults.FaultKind.TheVariants.{Kind, Mode, Root, Op, ItemType, Amount, Weights, Edges, Groups}
 use Rattle.mpx_match.specs.declared.faults.Verdict.{Verdict}
 use Rattle.mpx_match.specs.declared.faults.Verdict.TheVariants.{Fine, Fault}
-use Rattle.mpx_match.specs.declared.verdicts.Question.{Question}
-use Rattle.mpx_match.specs.declared.verdicts.Question.TheVariants as Q
-use Rattle.mpx_match.specs.Faults.{Agrees, Differs}
+use Rattle.mpx_match.specs.declared.verdicts.RowQuestion.{RowQuestion}
+use Rattle.mpx_match.specs.declared.verdicts.RowQuestion.TheVariants as Q
+use Rattle.mpx_match.specs.Faults.{AgreesIn, Differs}
 use Rattle.mpx_match.specs.Questions.{answer}
 
 -- what is asked of all posts, in this order
-abbrev pub questions : List Question
+abbrev pub questions : List RowQuestion
 questions = Q.Fit ∷ Q.Kind ∷ Q.Mode ∷ Q.Root ∷ Q.Op ∷ Q.ItemType ∷ Q.Amount ∷ Q.Weights ∷ Q.Edges ∷ Q.Groups ∷ []
 
 -- what is told: a post that doesn't fit its communicator is a fault of the amounts
-abbrev pub told_as : Question → FaultKind
+abbrev pub told_as : RowQuestion → FaultKind
 told_as Q.Fit = Amount
 told_as Q.Kind = Kind
 told_as Q.Mode = Mode
@@ -32,24 +32,24 @@ told_as Q.Groups = Groups
 -- in a communicator with this topology, by the job's own operations
 
 -- the posts of all members agree in this
-abbrev pub AllAgree : List Operation → Option TopologyView → Question → RowView → Type 0
-AllAgree ops topology question row = (rank : ℕ) → rank < length row → Agrees ops topology question row rank
+abbrev pub AllAgreeIn : List Operation → Option TopologyView → RowQuestion → RowView → Type 0
+AllAgreeIn ops topology question row = (rank : ℕ) → rank < length row → AgreesIn ops topology question row rank
 
 -- this is the least rank that differs in this
-pub record IsLeast (ops : List Operation) (topology : Option TopologyView) (question : Question) (row : RowView) (rank : ℕ) : Type 0 where
+pub record IsLeast (ops : List Operation) (topology : Option TopologyView) (question : RowQuestion) (row : RowView) (rank : ℕ) : Type 0 where
   pub within : rank < length row
   pub differs : Differs ops topology question row rank
-  pub least : (lower : ℕ) → lower < rank → Agrees ops topology question row lower
+  pub least : (lower : ℕ) → lower < rank → AgreesIn ops topology question row lower
 
 -- the verdict is the fault of the least rank that differs in this
-abbrev pub Tells : List Operation → Option TopologyView → Question → RowView → Verdict → Type 0
+abbrev pub Tells : List Operation → Option TopologyView → RowQuestion → RowView → Verdict → Type 0
 Tells ops topology question row Fine = ⊥
 Tells ops topology question row (Fault fault) = (fault.what ≡ told_as question) × IsLeast ops topology question row fault.rank
 
 -- the verdict is the first fault of a row to which these questions are put in this order, and fine where there is none
-abbrev pub IsFirstFault : List Operation → Option TopologyView → List Question → RowView → Verdict → Type 0
+abbrev pub IsFirstFault : List Operation → Option TopologyView → List RowQuestion → RowView → Verdict → Type 0
 IsFirstFault ops topology [] row verdict = verdict ≡ Fine
-IsFirstFault ops topology (question ∷ more) row verdict = Tells ops topology question row verdict ⊎ (AllAgree ops topology question row × IsFirstFault ops topology more row verdict)
+IsFirstFault ops topology (question ∷ more) row verdict = Tells ops topology question row verdict ⊎ (AllAgreeIn ops topology question row × IsFirstFault ops topology more row verdict)
 
 -- THE SAME, COMPUTED
 
@@ -63,7 +63,7 @@ abbrev pub first_fault : List (FaultKind × Option ℕ) → Verdict
 first_fault [] = Fine
 first_fault (asked ∷ more) = or_else asked.0 asked.1 (first_fault more)
 
-abbrev pub answers : List Operation → Option TopologyView → List Question → RowView → List (FaultKind × Option ℕ)
+abbrev pub answers : List Operation → Option TopologyView → List RowQuestion → RowView → List (FaultKind × Option ℕ)
 answers ops topology asked row = map (λ question. (told_as question, answer ops topology question row)) asked
 
 -- the verdict of a row, in a communicator with this topology, by the job's own operations

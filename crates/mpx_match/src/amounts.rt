@@ -1,11 +1,12 @@
-// Whether the amounts of a row fit together.
+//! Whether the amounts of a row fit together.
 ghost use Rattle.std.specs.Prelude.{◌≡◌, ◌<◌, Some, None, length};
 ghost use Rattle.mpx_post.specs.Posts.{count_of, root_of};
 ghost use Rattle.mpx_post.specs.Agreement.{awaited_on, count_at, post_at, sent_on};
 ghost use Rattle.mpx_match.specs.Questions.{along_edges_differ, amounts_differ as differ};
 
-use mpx_birth::Pass;
-use mpx_post::{Birth, Counts, Kind, Neighbourhood, Post, Row, Topology};
+use mpx_birth::{Birth, EdgePass, Topology};
+use mpx_kind::{Kind, Neighbourhood};
+use mpx_post::{Counts, Post, Row};
 
 /// Whether the amounts of the post of this rank differ from what the kind asks of them.
 pub(crate) fn amounts_differ(birth: &Birth, row: &Row<'_>, kind: Kind, rank: usize) -> bool
@@ -58,7 +59,7 @@ fn along_each(topology: &Topology, row: &Row<'_>, exchange: Neighbourhood, rank:
 {
     prove!(topology.size() <= 64);
     let destinations = topology.destinations(rank);
-    let mut pass = Pass::new();
+    let mut pass = EdgePass::new();
     for place in 0..destinations.len() {
         let other = destinations[place].rank;
         let taken = pass.meet(rank, other, topology.sources(other));

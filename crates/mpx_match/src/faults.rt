@@ -1,3 +1,4 @@
+//! What the verdict of a call's posts says: in what they differ, and at which rank.
 /// In what the members' posts to a call differ, in the order in which it is told.
 #[derive(Clone, Copy, Debug, PartialEq, Eq)]
 pub enum FaultKind {

@@ -1,14 +1,16 @@
-// Whether a post fits its communicator.
+//! Whether a post fits its communicator.
 ghost use Rattle.std.specs.Prelude.{◌≡◌, ◌≤◌, ◌*◌, ◌==◌, ◌&&◌, nat_lt, length};
 ghost use Rattle.std.specs.List.{list_all};
 ghost use Rattle.mpx_num.specs.Types.{item_len};
 ghost use Rattle.mpx_post.specs.Posts.{fits_root, fits_type, numbers_of, suits, type_of};
 ghost use Rattle.mpx_post.specs.Agreement.{blocks_of, fill, fits_counts, fits_edges, fits_group, is_fit, is_root, seat_of};
 ghost use Rattle.mpx_post.specs.Seats.{lacks_topology};
-ghost use Rattle.mpx_post.specs.Topologies.{most_neighbours};
+ghost use Rattle.mpx_birth.specs.Topologies.{most_neighbours};
 
+use mpx_birth::{Birth, Edge, Neighbour};
+use mpx_kind::{Kind, Seat, Sent};
 use mpx_num::{Listing, Ops, Ty, may_stand, op_fits};
-use mpx_post::{Birth, Edge, Kind, Neighbour, Post, Seat, Sent};
+use mpx_post::Post;
 
 /// Whether a post fits a communicator that came to be so and has so many members, as the post of this rank.
 pub(crate) fn fits(birth: &Birth, size: usize, rank: u8, post: &Post) -> bool

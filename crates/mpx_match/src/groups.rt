@@ -1,4 +1,4 @@
-// Whether members of a group give the same group.
+//! Whether members of a group give the same group.
 ghost use Rattle.std.specs.Prelude.{◌≡◌, nat_eq};
 ghost use lib.Pointwise.{pointwise};
 ghost use Rattle.mpx_post.specs.Posts.{group_of};

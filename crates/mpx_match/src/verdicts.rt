@@ -1,4 +1,4 @@
-// The first fault of a row, or that it is fine.
+//! The first fault of a row, or that it is fine.
 ghost use Rattle.std.specs.Prelude.{◌≡◌, ◌<◌, true, None, length};
 ghost use Rattle.mpx_post.specs.Agreement.{AllSuit, IsFineWith, post_at};
 ghost use Rattle.mpx_post.specs.Equality.{same_types as have_same_types};
@@ -10,12 +10,13 @@ use crate::edges::{edges_differ, names_no_neighbours};
 use crate::faults::{Fault, FaultKind, Verdict};
 use crate::fits::{fits, suits};
 use crate::groups::groups_differ;
+use mpx_birth::Birth;
 use mpx_num::{Listing, Ops};
-use mpx_post::{Birth, Post, Row, have_same_op};
+use mpx_post::{Post, Row, have_same_op};
 
 // What is asked of each post of a row.
 #[derive(Clone, Copy)]
-enum Question {
+enum RowQuestion {
     /// Whether it doesn't fit its communicator, or its operation isn't for its type.
     Fit,
     /// Whether it is of another kind than rank 0's.
@@ -57,16 +58,16 @@ fn first_fault(birth: &Birth, row: &Row<'_>, ops: &Ops) -> Verdict
     ensures { result ≡ verdict (⟦<Ops as Listing>⟧.operations ops.now) birth.now.topology row.now }
 {
     let questions = [
-        Question::Fit,
-        Question::Kind,
-        Question::Mode,
-        Question::Root,
-        Question::Op,
-        Question::ItemType,
-        Question::Amount,
-        Question::Weights,
-        Question::Edges,
-        Question::Groups,
+        RowQuestion::Fit,
+        RowQuestion::Kind,
+        RowQuestion::Mode,
+        RowQuestion::Root,
+        RowQuestion::Op,
+        RowQuestion::ItemType,
+        RowQuestion::Amount,
+        RowQuestion::Weights,
+        RowQuestion::Edges,
+        RowQuestion::Groups,
     ];
     for question in questions {
         if let Some(rank) = least_rank(birth, row, question, ops) {
@@ -80,25 +81,25 @@ fn first_fault(birth: &Birth, row: &Row<'_>, ops: &Ops) -> Verdict
 }
 
 // As what a fault is told.
-fn told_as(question: Question) -> FaultKind
+fn told_as(question: RowQuestion) -> FaultKind
     ensures { result ≡ told question }
 {
     match question {
-        Question::Fit => FaultKind::Amount,
-        Question::Kind => FaultKind::Kind,
-        Question::Mode => FaultKind::Mode,
-        Question::Root => FaultKind::Root,
-        Question::Op => FaultKind::Op,
-        Question::ItemType => FaultKind::ItemType,
-        Question::Amount => FaultKind::Amount,
-        Question::Weights => FaultKind::Weights,
-        Question::Edges => FaultKind::Edges,
-        Question::Groups => FaultKind::Groups,
+        RowQuestion::Fit => FaultKind::Amount,
+        RowQuestion::Kind => FaultKind::Kind,
+        RowQuestion::Mode => FaultKind::Mode,
+        RowQuestion::Root => FaultKind::Root,
+        RowQuestion::Op => FaultKind::Op,
+        RowQuestion::ItemType => FaultKind::ItemType,
+        RowQuestion::Amount => FaultKind::Amount,
+        RowQuestion::Weights => FaultKind::Weights,
+        RowQuestion::Edges => FaultKind::Edges,
+        RowQuestion::Groups => FaultKind::Groups,
     }
 }
 
 // The least rank of whose post the answer is yes.
-fn least_rank(birth: &Birth, row: &Row<'_>, question: Question, ops: &Ops) -> Option<u8>
+fn least_rank(birth: &Birth, row: &Row<'_>, question: RowQuestion, ops: &Ops) -> Option<u8>
     ensures { result ≡ answer (⟦<Ops as Listing>⟧.operations ops.now) birth.now.topology question row.now }
 {
     if is_settled(row, question) {
@@ -113,33 +114,33 @@ fn least_rank(birth: &Birth, row: &Row<'_>, question: Question, ops: &Ops) -> Op
 }
 
 // Whether one look at each post tells that there is none.
-fn is_settled(row: &Row<'_>, question: Question) -> bool
-    ensures { result ≡ true → (question ≡ Question.Edges) × (least_rank (edges_differ row.now) row.now ≡ None) }
+fn is_settled(row: &Row<'_>, question: RowQuestion) -> bool
+    ensures { result ≡ true → (question ≡ RowQuestion.Edges) × (least_rank (edges_differ row.now) row.now ≡ None) }
 {
     match question {
-        Question::Edges => names_no_neighbours(row),
+        RowQuestion::Edges => names_no_neighbours(row),
         _ => false,
     }
 }
 
 // The answer for the post of this rank.
-fn is_faulty(birth: &Birth, row: &Row<'_>, question: Question, rank: usize, ops: &Ops) -> bool
+fn is_faulty(birth: &Birth, row: &Row<'_>, question: RowQuestion, rank: usize, ops: &Ops) -> bool
     requires { rank < length row.now }
     ensures { result ≡ faulty (⟦<Ops as Listing>⟧.operations ops.now) birth.now.topology question row.now rank (post_at row.now rank) }
 {
     let post = row.post(rank);
     let first = row.post(0);
     match question {
-        Question::Fit => !(fits(birth, row.len(), rank as u8, post) && suits(post, ops)),
-        Question::Kind => post.kind() != first.kind(),
-        Question::Mode => post.mode() != first.mode(),
-        Question::Root => post.root() != first.root(),
-        Question::Op => !have_same_op(post.op(), first.op()),
-        Question::ItemType => !same_types(post, first),
-        Question::Amount => amounts_differ(birth, row, first.kind(), rank),
-        Question::Weights => post.weighted() != first.weighted(),
-        Question::Edges => edges_differ(row, rank),
-        Question::Groups => groups_differ(row, post),
+        RowQuestion::Fit => !(fits(birth, row.len(), rank as u8, post) && suits(post, ops)),
+        RowQuestion::Kind => post.kind() != first.kind(),
+        RowQuestion::Mode => post.mode() != first.mode(),
+        RowQuestion::Root => post.root() != first.root(),
+        RowQuestion::Op => !have_same_op(post.op(), first.op()),
+        RowQuestion::ItemType => !same_types(post, first),
+        RowQuestion::Amount => amounts_differ(birth, row, first.kind(), rank),
+        RowQuestion::Weights => post.weighted() != first.weighted(),
+        RowQuestion::Edges => edges_differ(row, rank),
+        RowQuestion::Groups => groups_differ(row, post),
     }
 }
 

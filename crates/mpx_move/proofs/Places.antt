@@ -4,11 +4,11 @@ use Rattle.mpx_num.specs.declared.types.Ty.{Ty}
 use Rattle.mpx_num.specs.Types.{item_len}
 use Rattle.mpx_kind.specs.declared.kinds.Kind.{Kind}
 use Rattle.mpx_kind.specs.declared.kinds.Kind.TheVariants.{Scatter, Scatterv, Alltoall, Alltoallv}
-use Rattle.mpx_post.specs.Kinds.{fields_of, is_had}
+use Rattle.mpx_kind.specs.Kinds.{fields_of, is_had}
 use Rattle.mpx_post.specs.Posts.{Given, type_of, numbers_of}
 use Rattle.mpx_post.specs.Blocks.{IsBlock, block_at, blocks_sent, part, repeated}
 use Rattle.mpx_post.specs.Rows.{RowView}
-use Rattle.mpx_post.specs.Topologies.{TopologyView}
+use Rattle.mpx_birth.specs.Topologies.{TopologyView}
 use Rattle.mpx_post.specs.Agreement.{count_at, fill, is_fit, is_root, post_at, seat_of, IsFine}
 use Rattle.mpx_post.proofs.Blocks.{block_at-part, block_at-repeated, block_within, count_alone, filled_as, length-repeated, rcounts_as, repeated_within}
 use Rattle.mpx_post.specs.declared.block.Block.{Block}

@@ -7,8 +7,8 @@ use Rattle.mpx_kind.specs.declared.kinds.Exchange.{Exchange}
 use Rattle.mpx_kind.specs.declared.kinds.Exchange.TheVariants.{Barrier, Bcast, Gather, Gatherv, Scatter, Scatterv, Allgather, Allgatherv, Alltoall, Alltoallv}
 use Rattle.mpx_post.specs.declared.value.Value.{Value}
 use Rattle.mpx_post.specs.declared.value.Value.TheVariants.{Nothing}
-use Rattle.mpx_post.specs.Births.{upto}
-use Rattle.mpx_post.specs.Kinds.{family_of}
+use Rattle.mpx_birth.specs.Births.{upto}
+use Rattle.mpx_kind.specs.Kinds.{family_of}
 use Rattle.mpx_post.specs.Posts.{root_of, type_of, numbers_of}
 use Rattle.mpx_post.specs.Rows.{RowView}
 use Rattle.mpx_post.specs.Agreement.{post_at, first_of, root_post, blocks_of, seat_of}

@@ -1,7 +1,7 @@
-// What exchanges give each member.
+//! What exchanges give each member.
 ghost use Rattle.std.specs.Prelude.{◌≡◌, ◌<◌, ◌≤◌, ◌++◌, IfOk, OnOk, Some, ℕ, length, true};
 ghost use Rattle.mpx_post.specs.Agreement.{IsFine, count_at, first_of, post_at};
-ghost use Rattle.mpx_post.specs.Kinds.{exchange_kind, fields_of};
+ghost use Rattle.mpx_kind.specs.Kinds.{exchange_kind, fields_of};
 ghost use Rattle.mpx_post.specs.Posts.{most_items, numbers_of, type_of};
 ghost use Rattle.mpx_post.specs.Blocks.{IsBlock};
 ghost use Rattle.mpx_post.specs.Values.{GivesValue, as_items};
@@ -9,8 +9,9 @@ ghost use Rattle.mpx_move.specs.Moves.{block_for, blocks_for, counts_sent, joine
 ghost use Rattle.mpx_move.specs.Senders.{IsSender};
 
 use join_core::OutOfMemory;
+use mpx_kind::{Exchange, Family};
 use mpx_num::Items;
-use mpx_post::{Block, Exchange, Family, Post, Row, Value};
+use mpx_post::{Block, Post, Row, Value};
 use std::alloc::Global;
 
 /// What a fine row of an exchange gives the member with this rank. A row of another kind gives nothing. Memory
@@ -20,12 +21,9 @@ pub fn move_value(alloc: Global, row: &Row<'_>, rank: u8) -> Result<Value, OutOf
     requires rank { rank < length row.now }
     ensures { GivesValue (move_value row.now rank) result }
 {
-    match row.post(0).kind().family() {
+    match row.family() {
         Family::Exchange(exchange) => value_of(alloc, row, exchange, rank),
-        Family::Reduction(_) => Ok(Value::Nothing),
-        Family::NewCommunicator(_) => Ok(Value::Nothing),
-        Family::Neighbourhood(_) => Ok(Value::Nothing),
-        Family::Free => Ok(Value::Nothing),
+        _ => Ok(Value::Nothing),
     }
 }
 

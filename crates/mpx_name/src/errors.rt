@@ -1,4 +1,4 @@
-// Why a name is not made.
+//! Why a name is not made.
 ghost use Rattle.std.specs.Prelude.{◌≡◌};
 ghost use Rattle.mpx_name.specs.declared.errors.NameError.TheVariants.{OutOfMemory};
 

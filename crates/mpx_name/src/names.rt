@@ -1,4 +1,4 @@
-// Names of contexts: the steps that lead there from the world.
+//! Names of contexts: the steps that lead there from the world.
 ghost use Rattle.std.specs.Prelude.{◌≡◌, ◌≢◌, ◌<◌, ◌-◌, ◌^◌, ◌↔◌, List, [], ◌∷◌, reverse, length, slice_get, option_copied, IfOk, IfSome, OnErr, OnOk, IsErrOf, IsOkUnless, refl};
 ghost use Rattle.std.specs.declared.cmp.Ordering.TheVariants.{Less};
 ghost use Rattle.std.specs.Cmp.{IsTotalOrder, partial_equiv_from_equiv, partial_order_from_total, eq_by_cmp_equiv};

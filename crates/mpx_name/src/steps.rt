@@ -1,4 +1,4 @@
-// The steps of names, and their order.
+//! The steps of names, and their order.
 ghost use Rattle.std.specs.Prelude.{refl};
 ghost use Rattle.std.specs.Cmp.{partial_equiv_from_equiv, partial_order_from_total, eq_by_cmp_equiv};
 ghost use Rattle.std.specs.Ordering.{eq_by_cmp, as_partial_cmp};

@@ -5,7 +5,7 @@ use Rattle.mpx_kind.specs.declared.kinds.Kind.{Kind}
 use Rattle.mpx_kind.specs.declared.kinds.Neighbourhood.{Neighbourhood}
 use Rattle.mpx_kind.specs.declared.kinds.Neighbourhood.TheVariants.{Allgather, Allgatherv, Alltoall, Alltoallv}
 use Rattle.mpx_num.specs.Types.{item_len}
-use Rattle.mpx_post.specs.Kinds.{fields_of, neighbourhood_kind}
+use Rattle.mpx_kind.specs.Kinds.{fields_of, neighbourhood_kind}
 use Rattle.mpx_post.specs.Posts.{numbers_of, type_of}
 use Rattle.mpx_post.specs.Blocks.{blocks_sent, repeated}
 use Rattle.mpx_post.specs.Rows.{RowView}

@@ -4,7 +4,7 @@ use Rattle.std.specs.List.{flat_map}
 use Rattle.std.proofs.lemmas.List.Concat.{flat_map-append}
 use Rattle.mpx_birth.specs.declared.edges.Neighbour.{Neighbour}
 use Rattle.mpx_birth.specs.Births.{upto}
-use Rattle.mpx_birth.specs.Topologies.{Agrees, TopologyView, sources_at}
+use Rattle.mpx_birth.specs.Topologies.{AgreesAtBothEnds, TopologyView, sources_at}
 use Rattle.mpx_birth.specs.Ends.{rank_at}
 use Rattle.mpx_birth.proofs.Meeting.{source_is_rank}
 use Rattle.mpx_num.specs.declared.types.Ty.{Ty}
@@ -19,7 +19,7 @@ use Rattle.mpx_neigh.specs.Cursors.{IsMet}
 use Rattle.mpx_neigh.specs.Neighbourhoods.{block_met, source_at}
 
 -- who stands among a rank's sources is one of the ranks
-pub source_within : (topology : TopologyView) (rank place : ℕ) → Agrees topology.ranks → (lent : List Neighbour) → lent ≡ sources_at topology rank → place < length lent → rank_at lent place < length topology.ranks
+pub source_within : (topology : TopologyView) (rank place : ℕ) → AgreesAtBothEnds topology.ranks → (lent : List Neighbour) → lent ≡ sources_at topology rank → place < length lent → rank_at lent place < length topology.ranks
 source_within topology rank place promise lent is l = subst (λ (ns : List Neighbour). rank_at ns place < length topology.ranks) (sym is) (source_is_rank topology.ranks promise rank place (let e = ap length is in omega (arith, e, l)))
 
 -- one source more

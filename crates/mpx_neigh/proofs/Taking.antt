@@ -5,13 +5,13 @@ use Rattle.std.proofs.lemmas.List.{get_or-replicate, get_or-set_other, get_or-se
 use Rattle.std.proofs.lemmas.List.Folds.{sum_by-replicate}
 use Rattle.std.proofs.lemmas.List.Sums.{sum_by_more}
 use Rattle.mpx_birth.specs.declared.edges.Neighbour.{Neighbour}
-use Rattle.mpx_birth.specs.Topologies.{IsTopology, Agrees, TopologyView, destinations_at, sources_at}
+use Rattle.mpx_birth.specs.Topologies.{IsTopology, AgreesAtBothEnds, TopologyView, destinations_at, sources_at}
 use Rattle.mpx_kind.specs.declared.kinds.Neighbourhood.{Neighbourhood}
 use Rattle.mpx_birth.specs.Ends.{place_of, sent_at}
 use Rattle.mpx_birth.proofs.Meeting.{sent_meets, source_is_rank}
 use Rattle.mpx_birth.proofs.Passes.{sources_mutual, meet_one, none_met}
 use Rattle.mpx_post.specs.declared.block.Block.{Block}
-use Rattle.mpx_post.specs.Kinds.{neighbourhood_kind}
+use Rattle.mpx_kind.specs.Kinds.{neighbourhood_kind}
 use Rattle.mpx_post.specs.Posts.{numbers_of, type_of}
 use Rattle.mpx_post.specs.Rows.{RowView}
 use Rattle.mpx_post.specs.Agreement.{IsFineWith, count_at, first_of, post_at}
@@ -50,7 +50,7 @@ before_more topology row cursors sender sent total before long all small e s l =
 ]
 
 module _ (topology : TopologyView) (row : RowView) (exchange : Neighbourhood) (fine : IsFineWith (Some topology) row) (size : length row ≡ length topology.ranks) (kind : (first_of row).kind ≡ neighbourhood_kind exchange) (blocks : sends_blocks exchange ≡ true)
-    (rank place : ℕ) (promise : Agrees topology.ranks) (few : length row ≤ 64) (there : place < length (sources_at topology rank)) (cursors : CursorsView) (taken : AreTaken topology row rank place cursors) where
+    (rank place : ℕ) (promise : AgreesAtBothEnds topology.ranks) (few : length row ≤ 64) (there : place < length (sources_at topology rank)) (cursors : CursorsView) (taken : AreTaken topology row rank place cursors) where
   abbrev sender : ℕ
   sender = source_at topology rank place
 

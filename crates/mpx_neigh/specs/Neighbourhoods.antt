@@ -11,7 +11,7 @@ use Rattle.mpx_kind.specs.declared.kinds.Neighbourhood.{Neighbourhood}
 use Rattle.mpx_kind.specs.declared.kinds.Neighbourhood.TheVariants.{Allgather, Allgatherv, Alltoall, Alltoallv}
 use Rattle.mpx_post.specs.declared.value.Value.{Value}
 use Rattle.mpx_post.specs.declared.value.Value.TheVariants.{Nothing}
-use Rattle.mpx_post.specs.Kinds.{family_of}
+use Rattle.mpx_kind.specs.Kinds.{family_of}
 use Rattle.mpx_post.specs.Posts.{numbers_of, type_of}
 use Rattle.mpx_post.specs.Rows.{RowView}
 use Rattle.mpx_post.specs.Agreement.{blocks_of, first_of, post_at, seat_of}

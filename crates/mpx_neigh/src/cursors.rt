@@ -1,22 +1,23 @@
-// How far the blocks for each neighbour are read.
+//! How far the blocks for each neighbour are read.
 ghost use Rattle.std.specs.Prelude.{◌≡◌, ◌<◌, ◌≤◌, ◌+◌, ◌*◌, Some, length, replicate, take, true};
 ghost use Rattle.std.specs.List.{All, sum};
 ghost use Rattle.mpx_birth.specs.Topologies.{most_neighbours, sources_at};
 ghost use Rattle.mpx_post.specs.Agreement.{IsFineWith, count_at, first_of};
-ghost use Rattle.mpx_post.specs.Kinds.{neighbourhood_kind};
+ghost use Rattle.mpx_kind.specs.Kinds.{neighbourhood_kind};
 ghost use Rattle.mpx_post.specs.Posts.{most_counts, most_items};
 ghost use Rattle.mpx_neigh.specs.Cursors.{AreTaken, IsMet, sends_blocks};
 ghost use Rattle.mpx_neigh.specs.Neighbourhoods.{source_at};
 
-use mpx_birth::Pass;
-use mpx_post::{Block, Neighbourhood, Row, Topology};
+use mpx_birth::{EdgePass, Topology};
+use mpx_kind::Neighbourhood;
+use mpx_post::{Block, Row};
 use std::marker::Model;
 
 // How far the blocks of each sender are taken, in one pass over a rank's sources: which place is next, and how many items the
 // blocks before it have. It takes no memory.
 #[derive(Drop)]
 pub(crate) struct Cursors {
-    pass: Pass,
+    pass: EdgePass,
     before: [usize; 64],
 }
 
@@ -34,7 +35,7 @@ impl Cursors {
         ensures { result ≡ record { next = replicate 64 0; before = replicate 64 0 } }
     {
         Cursors {
-            pass: Pass::new(),
+            pass: EdgePass::new(),
             before: [0; 64],
         }
     }

@@ -1,16 +1,18 @@
-// What neighbourhood exchanges give each member.
+//! What neighbourhood exchanges give each member.
 ghost use Rattle.std.specs.Prelude.{◌≡◌, ◌<◌, ◌≤◌, IfOk, Some, length, true};
 ghost use Rattle.mpx_birth.specs.Topologies.{sources_at};
 ghost use Rattle.mpx_post.specs.Agreement.{IsFineWith, first_of};
-ghost use Rattle.mpx_post.specs.Kinds.{fields_of, neighbourhood_kind};
+ghost use Rattle.mpx_kind.specs.Kinds.{fields_of, neighbourhood_kind};
 ghost use Rattle.mpx_post.specs.Values.{GivesValue, as_items};
 ghost use Rattle.mpx_neigh.specs.Cursors.{sends_blocks};
 ghost use Rattle.mpx_neigh.specs.Neighbourhoods.{blocks_met, joined, neigh_of, neigh_value, source_at};
 
 use crate::cursors::Cursors;
 use join_core::OutOfMemory;
+use mpx_birth::{Birth, Topology};
+use mpx_kind::{Family, Neighbourhood};
 use mpx_num::Items;
-use mpx_post::{Birth, Family, Neighbourhood, Row, Topology, Value};
+use mpx_post::{Row, Value};
 use std::alloc::Global;
 
 /// What a fine row of a neighbourhood exchange gives the member with this rank (MPI 4.1 section 8.6). A row of another kind,
@@ -26,15 +28,12 @@ pub fn neigh_value(
     requires rank { rank < length row.now }
     ensures { GivesValue (neigh_value birth.now.topology row.now rank) result }
 {
-    match (birth.topology(), row.post(0).kind().family()) {
-        (None, _) => Ok(Value::Nothing),
-        (Some(topology), Family::Neighbourhood(exchange)) => {
-            value_of(alloc, topology, row, exchange, rank)
-        }
-        (Some(_), Family::Exchange(_)) => Ok(Value::Nothing),
-        (Some(_), Family::Reduction(_)) => Ok(Value::Nothing),
-        (Some(_), Family::NewCommunicator(_)) => Ok(Value::Nothing),
-        (Some(_), Family::Free) => Ok(Value::Nothing),
+    let Some(topology) = birth.topology() else {
+        return Ok(Value::Nothing);
+    };
+    match row.family() {
+        Family::Neighbourhood(exchange) => value_of(alloc, topology, row, exchange, rank),
+        _ => Ok(Value::Nothing),
     }
 }
 

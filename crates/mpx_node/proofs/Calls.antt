@@ -3,7 +3,7 @@ use Rattle.std.proofs.Common.{◌≡◌, ℕ, suc, ◌<◌, ◌==◌, List, [], 
 use Rattle.std.specs.Prelude.{option_and_then}
 use Rattle.std.proofs.lemmas.List.Quantifiers.{position-Some}
 use Rattle.std.proofs.lemmas.Option.{option_and_then_some, same_Some}
-use Rattle.mpx_post.specs.Births.{BirthView, rank_in}
+use Rattle.mpx_birth.specs.Births.{BirthView, rank_in}
 use Rattle.mpx_post.specs.Posts.{Given}
 use Rattle.mpx_post.specs.Rows.{RowView, all_of}
 

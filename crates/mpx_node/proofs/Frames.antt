@@ -4,7 +4,7 @@ use Rattle.std.specs.Prelude.{IsTrue, is_ok}
 use Rattle.mpx_board.specs.Contexts.{look_of}
 use Rattle.mpx_board.specs.Parts.{PartsView}
 use Rattle.mpx_format.specs.Decoding.{IsSpelled, decoded, shown}
-use Rattle.mpx_format.specs.declared.faults.WireError.{WireError}
+use Rattle.mpx_format.specs.declared.defects.WireError.{WireError}
 use Rattle.mpx_format.proofs.Decoded.{decoded_found}
 use Rattle.mpx_format.proofs.FormatLaws.{IsBytes}
 

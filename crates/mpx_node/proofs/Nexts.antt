@@ -4,7 +4,7 @@ use Rattle.std.specs.Prelude.{nat_lt, option_and_then}
 use Rattle.std.specs.Option.{option_map}
 use Rattle.mpx_name.specs.Name.{Name}
 use Rattle.mpx_num.specs.declared.own.Operation.{Operation}
-use Rattle.mpx_post.specs.Births.{rank_in}
+use Rattle.mpx_birth.specs.Births.{rank_in}
 use Rattle.mpx_board.specs.Boards.{Look, row_on, told}
 use Rattle.mpx_node.specs.declared.finished.Finished.{Finished}
 use Rattle.mpx_node.specs.Nodes.{NodeView, OpenedView, has_next, next_of, next_result, outcome_on, result_of}

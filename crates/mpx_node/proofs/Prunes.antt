@@ -2,7 +2,7 @@
 use Rattle.std.proofs.Common.{◌≡◌, ℕ, Bool, true, false, cond, map, Option, Some, None, sym, ap}
 use Rattle.std.specs.Prelude.{◌||◌, is_some, Result, Ok, Err, OnOk}
 use Rattle.std.specs.Option.{option_map}
-use Rattle.mpx_post.specs.Births.{BirthView}
+use Rattle.mpx_birth.specs.Births.{BirthView}
 use Rattle.mpx_name.specs.Name.{Name}
 use Rattle.mpx_board.specs.declared.errors.KillError.{KillError}
 use Rattle.mpx_board.specs.declared.errors.KillError.TheVariants as K

@@ -10,7 +10,7 @@ use Rattle.mpx_post.specs.Posts.{Given, is_free}
 use Rattle.mpx_post.specs.declared.draft.Draft.{Draft}
 use Rattle.mpx_post.specs.declared.draft.PostError.{PostError}
 use Rattle.mpx_post.specs.declared.draft.PostError.TheVariants.{NotMember, Closed, OutOfMemory}
-use Rattle.mpx_post.specs.Births.{BirthView, of_members, upto}
+use Rattle.mpx_birth.specs.Births.{BirthView, of_members, upto}
 use Rattle.mpx_post.specs.Drafts.{at, checked}
 use Rattle.mpx_post.specs.Gatherings.{GatheringView, gathering}
 pub use Rattle.mpx_board.specs.Boards.{own_acks}

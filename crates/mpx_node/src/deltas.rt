@@ -1,4 +1,4 @@
-// What a node says that it has, and what it gives of its board: all of it, or what others may lack.
+//! What a node says that it has, and what it gives of its board: all of it, or what others may lack.
 ghost use Rattle.std.specs.Prelude.{◌≡◌, ◌↔◌, ◌≤◌, false, map, All, OnOk, OnErr, IfOk, IsErrOf, IsTrue};
 ghost use Rattle.mpx_board.specs.Boards.{join_all};
 ghost use Rattle.mpx_board.specs.Looks.{look, parts_of};
@@ -19,7 +19,7 @@ impl Node {
     ghost use Rattle.mpx_node.specs.Shown.{node_of};
     ghost use Rattle.mpx_node.specs.Parts.{fits_in, parts_on};
 
-    /// The whole board, where it has a frame of at most so many bytes.
+    /// The whole board, where it has a frame of at most `limit` bytes.
     ///
     /// # Errors
     /// `DoesNotFit` where it has none, before anything else; `OutOfMemory` where memory is refused.
@@ -31,8 +31,9 @@ impl Node {
         whole_part(alloc, &self.board, limit)
     }
 
-    /// The board in parts, each of which has only facts of the board and a frame of at most so many bytes, and whose join
-    /// is the board: the board itself where it fits.
+    /// The board in parts, each of which has only facts of the board and a frame of at most `limit` bytes, and whose join is the
+    /// board: the board itself where it fits. The limit is from 524,288 to 1,048,576 bytes, here and in all calls that have one. An `Err`
+    /// is want of memory.
     pub fn parts(&self, alloc: Global, limit: usize) -> Result<Vec<Board>, OutOfMemory>
         requires least { 524288 ≤ limit }
         requires most { limit ≤ 1048576 }
@@ -44,7 +45,8 @@ impl Node {
     }
 
     /// What [`Node::deltas`] stores and gives, made from the node as it stands: what the process says, and what others lack of
-    /// the board with that, in parts whose frames have at most so many bytes. [`Node::acknowledge`] stores what it says.
+    /// the board with that, in parts whose frames have at most `limit` bytes. [`Node::acknowledge`] stores what it says. An `Err` is want
+    /// of memory.
     pub fn lacking(&self, alloc: Global, limit: usize) -> Result<NewList, OutOfMemory>
         requires least { 524288 ≤ limit }
         requires most { limit ≤ 1048576 }
@@ -54,14 +56,26 @@ impl Node {
     }
 
     /// Makes what [`Node::lacking`] makes, with frames in place of the parts, and no copy of what all processes say. The node
-    /// stays as it is, also where memory is refused.
-    pub fn lacking_frames(&mut self, alloc: Global, limit: usize) -> Result<NewFrames, OutOfMemory>
+    /// stays as it is, also where memory is refused. A frame is written over the last of the `spare` bytes, where there are such.
+    pub fn lacking_frames(
+        &mut self,
+        alloc: Global,
+        limit: usize,
+        spare: &mut Vec<Vec<u8>>,
+    ) -> Result<NewFrames, OutOfMemory>
         requires least { 524288 ≤ limit }
         requires most { limit ≤ 1048576 }
         ensures node { node_of self.new ≡ node_of self.old }
         ensures made { IfOk result (λ made. LackFrames limit (node_of self.old) made.said (map (λ frame. frame.items) made.frames.items)) }
     {
-        new_frames(alloc, &mut self.board, self.me, self.processes, limit)
+        new_frames(
+            alloc,
+            &mut self.board,
+            self.me,
+            self.processes,
+            limit,
+            spare,
+        )
     }
 
     /// Stores what [`Node::lacking`] or [`Node::lacking_frames`] made from this node as it stands. It takes no memory and can't
@@ -73,8 +87,8 @@ impl Node {
         self.board.store(said);
     }
 
-    /// Says that the process has all that its board has, and gives the board without the posts below what all processes
-    /// say, in parts, each of which has only facts of the board and a frame of at most so many bytes. An `Err` changes
+    /// Says that the process has all that its board has, and gives the board without the posts below what all processes say, in
+    /// parts, each of which has only facts of the board and a frame of at most `limit` bytes. An `Err`, for want of memory, changes
     /// nothing.
     pub fn deltas(&mut self, alloc: Global, limit: usize) -> Result<Vec<Board>, OutOfMemory>
         requires least { 524288 ≤ limit }
@@ -91,10 +105,12 @@ impl Node {
     }
 
     /// The frames of what [`Node::deltas`] gives, which stores the same. An `Err` changes nothing.
+    /// Each frame has at most `limit` bytes; an `Err` is want of memory.
     pub fn framed_deltas(
         &mut self,
         alloc: Global,
         limit: usize,
+        spare: &mut Vec<Vec<u8>>,
     ) -> Result<Vec<Vec<u8>>, OutOfMemory>
         requires least { 524288 ≤ limit }
         requires most { limit ≤ 1048576 }
@@ -102,7 +118,7 @@ impl Node {
         ensures frames { IfOk result (λ made. AreLacked limit (node_of self.new) (map (λ frame. frame.items) made.items)) }
         ensures err { OnErr result (node_of self.new ≡ node_of self.old) }
     {
-        let NewFrames { said, frames } = self.lacking_frames(alloc, limit)?;
+        let NewFrames { said, frames } = self.lacking_frames(alloc, limit, spare)?;
         self.acknowledge(said);
         Ok(frames)
     }

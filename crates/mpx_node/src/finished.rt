@@ -1,4 +1,4 @@
-// A call that is done, as its process keeps it.
+//! A call that is done, as its process keeps it.
 ghost use Rattle.std.specs.Prelude.{◌≡◌, IfOk};
 
 use join_core::{Exact, OutOfMemory};
@@ -25,7 +25,7 @@ impl Finished {
         self.mine.is_free() && self.gave_nothing()
     }
 
-    /// The same once more, whose items are shared.
+    /// A copy, which shares the items.
     pub fn copy(&self, alloc: Global) -> Result<Finished, OutOfMemory>
         ensures { IfOk result (λ copied. copied ≡ self.now) }
     {

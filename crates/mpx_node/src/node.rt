@@ -1,22 +1,23 @@
-// One process, and its steps.
+//! One process, and its steps.
 ghost use Rattle.std.specs.Prelude.{◌≡◌, ◌<◌, ◌≤◌, [], None, OnOk, OnErr, IfOk, IsTrue, slice_get, is_ok, is_some};
 ghost use Rattle.std.specs.Option.{option_copied};
 ghost use Rattle.mpx_post.specs.Drafts.{most_calls, refusal_of};
-ghost use Rattle.mpx_board.specs.Boards.{IsBelow};
+ghost use Rattle.mpx_board.specs.Boards.{IsBoardBelow};
 ghost use Rattle.mpx_board.specs.Looks.{look};
 ghost use Rattle.mpx_format.specs.Decoding.{decoded, shown};
 
 use crate::finished::Finished;
 use crate::opened::Opened;
 use crate::opening::{open, store_and_open};
-use crate::results::{children_on, finished, harvested_board, has_result};
-use crate::starting::{board_at_start, gathered_board, opened_at_start};
+use crate::results::{children_on, finished, has_result, prepared_harvest};
+use crate::starting::{board_at_start, opened_at_start, prepared_gathering};
 use join_core::OutOfMemory;
+use mpx_birth::Birth;
 use mpx_board::Board;
 use mpx_group::Proc;
 use mpx_name::Name;
 use mpx_num::{Listing, Ops};
-use mpx_post::{At, Birth, Draft, Gathering, PostError};
+use mpx_post::{At, Draft, Gathering, PostError};
 use mpx_wire::take_spelled;
 use std::alloc::Global;
 use std::collections::BTreeMap;
@@ -49,8 +50,8 @@ impl Node {
     ghost use Rattle.mpx_node.specs.Opened.{HasUnfinished};
     ghost use Rattle.mpx_node.specs.Harvests.{Harvests};
 
-    /// The process `me` of so many, of which the first are ranks, before any post: its board has just the birth of the
-    /// world, which a rank has opened.
+    /// The process `me` of `processes`, of which the first `ranks` are the world's members, before any post: its board has just the
+    /// birth of the world, which a rank has opened. There are 1 rank or more and 64 processes at most, and `me` is one of them.
     pub fn new(alloc: Global, me: Proc, ranks: u8, processes: u8) -> Result<Node, OutOfMemory>
         requires some { 0 < ranks }
         requires ranks { ranks ≤ processes }
@@ -73,9 +74,9 @@ impl Node {
         }
     }
 
-    /// Posts the draft as the next call on a context and gives its number. A context that isn't opened here is refused as
-    /// `NotMember`, one on which the process has posted a free as `Closed`, and one whose birth isn't known as `NotMember`; then
-    /// the refusals are those of [`Draft::check`], before anything else. An `Err` changes nothing.
+    /// Posts the draft as the next call on a context and gives its number, from 0 on. `ops` are the job's own operations. A context that
+    /// isn't opened here is refused as `NotMember`, one on which the process has posted a free as `Closed`, and one whose birth isn't known
+    /// as `NotMember`; then the refusals are those of [`Draft::check`], before anything else. An `Err` changes nothing.
     pub fn post(
         &mut self,
         alloc: Global,
@@ -188,13 +189,13 @@ impl Node {
     pub fn take(&mut self, alloc: Global, part: &Board) -> Result<(), OutOfMemory>
         ensures ok { OnOk result (node_of self.new ≡ learn (look part.now) (node_of self.old)) }
         ensures err { OnErr result (StopsTaking (look part.now) (node_of self.old) (node_of self.new)) }
-        ensures more { OnErr result (¬ (IsBelow (look part.now) (node_of self.old).board)) }
+        ensures more { OnErr result (¬ (IsBoardBelow (look part.now) (node_of self.old).board)) }
     {
         self.board.take(alloc, part)
     }
 
-    /// Joins the board that the bytes of a frame spell, as [`Node::take`] joins a part, with no board of its own for what they say. An
-    /// `Err` leaves what it leaves there.
+    /// Joins the board that the bytes of a frame spell, as [`Node::take`] joins a part, with no board of its own for what they say. That
+    /// they spell one is the caller's condition. An `Err` leaves what it leaves there.
     pub fn take_frame(&mut self, alloc: Global, frame: &[u8]) -> Result<(), OutOfMemory>
         requires spelled { IsTrue (is_ok (decoded frame.now)) }
         ensures ok { OnOk result (node_of self.new ≡ learn (shown (decoded frame.now)) (node_of self.old)) }
@@ -203,7 +204,7 @@ impl Node {
         take_spelled(alloc, &mut self.board, frame)
     }
 
-    /// The result of a call on a context that was harvested, kept for good.
+    /// The result of a call on a context that was harvested, kept for good; none of one that wasn't.
     pub fn result(&self, name: &Name, call: u32) -> Option<&Finished>
         ensures { option_copied result ≡ slice_get (results_on (node_of self.now) name.now) call }
     {
@@ -280,7 +281,8 @@ impl Node {
         self.add_made_result(alloc, name, call, finished, made.as_slice())
     }
 
-    // The same of a call that makes these communicators.
+    // Stores the result of a call that makes these communicators, adds their births, and opens those of which the process is a member:
+    // the part with the births is made ready first, and joined without memory once they are opened.
     fn add_made_result(
         &mut self,
         alloc: Global,
@@ -295,8 +297,15 @@ impl Node {
         ensures ok { OnOk result (node_of self.new ≡ add_result name.now finished made.now (node_of self.old)) }
         ensures err { OnErr result (node_of self.new ≡ node_of self.old) }
     {
-        let board = match harvested_board(alloc, &self.board, name, self.me, call + 1, made) {
-            Ok(board) => board,
+        let prepared = match prepared_harvest(
+            alloc,
+            &mut self.board,
+            name,
+            self.me,
+            call + 1,
+            made,
+        ) {
+            Ok(prepared) => prepared,
             Err(e) => {
                 drop(finished);
                 return Err(e);
@@ -304,17 +313,17 @@ impl Node {
         };
         match store_and_open(&mut self.opened, alloc, self.me, name, finished, made) {
             Ok(()) => {
-                self.board = board;
+                self.board.put_prepared(prepared);
                 Ok(())
             }
             Err(e) => {
-                drop(board);
+                drop(prepared);
                 Err(e)
             }
         }
     }
 
-    // The same of a call that makes nothing: the front is raised in place.
+    // Stores the result of a call that makes no communicator: the front is raised in place.
     fn add_plain_result(
         &mut self,
         alloc: Global,
@@ -361,8 +370,8 @@ impl Node {
         let Ok(name) = parent.gathering(alloc, gathering.tag(), gathering.members()) else {
             return Err(OutOfMemory);
         };
-        let board = match gathered_board(alloc, &self.board, &name, gathering) {
-            Ok(board) => board,
+        let prepared = match prepared_gathering(alloc, &mut self.board, &name, gathering) {
+            Ok(prepared) => prepared,
             Err(e) => {
                 drop(name);
                 return Err(e);
@@ -370,11 +379,11 @@ impl Node {
         };
         match open(&mut self.opened, alloc, &name) {
             Ok(_) => {
-                self.board = board;
+                self.board.put_prepared(prepared);
                 Ok(name)
             }
             Err(e) => {
-                drop(board);
+                drop(prepared);
                 drop(name);
                 Err(e)
             }

@@ -1,4 +1,4 @@
-// How far a process is on a context that it has opened.
+//! How far a process is on a context that it has opened.
 ghost use Rattle.std.specs.Prelude.{◌≡◌, length, nat_le, true};
 
 use crate::finished::Finished;

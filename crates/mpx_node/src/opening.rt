@@ -1,4 +1,4 @@
-// What a harvest and the opening of a gathering do to the contexts that are opened.
+//! What a harvest and the opening of a gathering do to the contexts that are opened.
 ghost use Rattle.std.specs.Prelude.{◌≡◌, cond, not, is_some, IfOk, OnOk, OnErr, Some};
 ghost use Rattle.mpx_name.specs.Name.{Name as NameView, same_name};
 ghost use Rattle.mpx_node.specs.Nodes.{is_new_to, or_new};
@@ -7,9 +7,9 @@ ghost use Rattle.mpx_node.specs.Opened.{HasUnfinished, opened_by, stored_by};
 use crate::finished::Finished;
 use crate::opened::Opened;
 use join_core::{Exact, OutOfMemory};
+use mpx_birth::Birth;
 use mpx_group::Proc;
 use mpx_name::Name;
-use mpx_post::Birth;
 use std::alloc::Global;
 use std::collections::BTreeMap;
 

@@ -1,4 +1,4 @@
-// What a node gives of its board where a frame has a limit.
+//! What a node gives of its board where a frame has a limit.
 ghost use Rattle.std.specs.Prelude.{◌≡◌, ◌↔◌, false, IfOk, IsErrOf, IsTrue};
 ghost use Rattle.mpx_board.specs.Looks.{parts_of};
 ghost use Rattle.mpx_node.specs.Parts.{fits_in};

@@ -1,4 +1,4 @@
-// What a prune leaves of a node, and of a board, where the free of the context is harvested.
+//! What a prune leaves of a node, and of a board, where the free of the context is harvested.
 ghost use Rattle.std.specs.Prelude.{◌≡◌, false, OnErr, OnOk};
 ghost use Rattle.mpx_board.specs.Boards.{Dead, floor_on, join, only};
 ghost use Rattle.mpx_board.specs.Changes.{pruned, pruned_on};
@@ -12,9 +12,13 @@ impl Node {
     ghost use Rattle.mpx_node.specs.Nodes.{results_on, is_past_free, learn_some, prune_part};
     ghost use Rattle.mpx_node.specs.Shown.{node_of};
 
-    /// Drops the posts of calls below the number on a context, which is at most the floor. Where the number is past a free
-    /// whose row is fine and whose result the process has, the context is dead from then on; on a dead one it changes nothing.
-    /// It takes no memory.
+    /// Drops the posts of calls below the number on a context, which is at most the floor: as many calls as every member has
+    /// harvested. Where the number is past a free whose row is fine and whose result the process has, the context is dead from then
+    /// on; on a dead one it changes nothing. It takes no memory.
+    ///
+    /// # Errors
+    /// `NoBirth` where the birth of a live context isn't known, then `AboveFloor`, with the floor, where the number is greater. They
+    /// change nothing.
     pub fn prune(&mut self, name: &Name, number: u32) -> Result<(), PruneError>
         ensures answer { result ≡ pruned_on (node_of self.old).board name.now number }
         ensures ok { OnOk result (node_of self.new ≡ learn_some (prune_part (node_of self.old) name.now number) (node_of self.old)) }

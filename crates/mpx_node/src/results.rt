@@ -1,18 +1,19 @@
-// What the board tells of a call: its result, and what it makes.
+//! What the board tells of a call: its result, and what it makes.
 ghost use Rattle.std.specs.Prelude.{◌≡◌, ◌<◌, ◌∷◌, [], IfOk, is_some};
 ghost use Rattle.mpx_board.specs.Boards.{Front, join, join_all, only, told};
 ghost use Rattle.mpx_board.specs.Looks.{look};
+ghost use Rattle.mpx_board.specs.Prepared.{IsReady};
 ghost use Rattle.mpx_post.specs.Drafts.{most_calls};
 ghost use Rattle.mpx_post.specs.Rows.{all_of};
 ghost use Rattle.mpx_node.specs.Nodes.{births_of, children_on, outcome_on, result_of};
 
 use crate::finished::Finished;
-use join_core::{Exact, Join, OutOfMemory};
-use mpx_board::Board;
+use join_core::{Exact, OutOfMemory};
+use mpx_birth::Birth;
+use mpx_board::{Board, Prepared};
 use mpx_group::Proc;
 use mpx_name::Name;
 use mpx_num::{Listing, Ops};
-use mpx_post::Birth;
 use mpx_value::{Outcome, children, outcome};
 use std::alloc::Global;
 
@@ -129,17 +130,18 @@ fn harvest_part(
     Ok(part)
 }
 
-// The board with that.
-pub fn harvested_board(
+// Makes that ready to be joined. The board stays the same.
+pub fn prepared_harvest(
     alloc: Global,
-    board: &Board,
+    board: &mut Board,
     name: &Name,
     me: Proc,
     number: u32,
     made: &[(Name, Birth)],
-) -> Result<Board, OutOfMemory>
-    ensures { IfOk result (λ after. look after ≡ join (look board.now) (join_all (only (Front name.now me number) ∷ births_of made.now))) }
+) -> Result<Prepared, OutOfMemory>
+    ensures same { look board.new ≡ look board.old }
+    ensures ready { IfOk result (λ prepared. IsReady prepared board.new (join (look board.old) (join_all (only (Front name.now me number) ∷ births_of made.now)))) }
 {
     let part = harvest_part(alloc, name, me, number, made)?;
-    board.joined(alloc, &part)
+    board.prepare(alloc, &part)
 }

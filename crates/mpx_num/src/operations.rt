@@ -1,4 +1,4 @@
-// The operations, and the types that each is for.
+//! The operations, and the types that each is for.
 ghost use Rattle.std.specs.Prelude.{◌≡◌};
 ghost use Rattle.mpx_num.specs.Codes.{code_of_operation, operation_at};
 ghost use Rattle.mpx_num.specs.Operations.{fits, is_for};

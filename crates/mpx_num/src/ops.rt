@@ -1,4 +1,4 @@
-// The list of a job's own operations.
+//! The list of a job's own operations.
 ghost use Rattle.std.specs.Prelude.{◌≡◌, ◌<◌, ◌≤◌, ◌↔◌, ℤ, Bool, List, length, map, pos, IsTrue, IsOk, IfOk, true, false, []};
 ghost use Rattle.std.specs.Result.{IsErrOf};
 ghost use Rattle.mpx_num.specs.Types.{IsInRange, is_paired};

@@ -1,4 +1,4 @@
-// Operations of a job's own, as their objects say.
+//! Operations of a job's own, as their objects say.
 ghost use Rattle.std.specs.Prelude.{◌≡◌, ◌+◌};
 ghost use Rattle.mpx_num.specs.Own.{number_of_place, place_at};
 

@@ -12,14 +12,14 @@ use Rattle.join_core.specs.Cases.{both_true, first_true, second_true}
 use Rattle.join_core.specs.Flat.{FlatView, unknown, known, clash}
 use Rattle.join_nest.specs.Seen.{seen}
 use Rattle.mpx_name.specs.Name.{Name}
-use Rattle.mpx_board.specs.Boards.{Fact, Front, Has, Stands, IsBelow}
+use Rattle.mpx_board.specs.Boards.{Fact, Front, Has, Stands, IsBoardBelow}
 use Rattle.mpx_board.specs.Parts.{EntryView}
 use Rattle.mpx_board.specs.Tidy.{is_unknown, is_bare}
 use Rattle.mpx_board.specs.Looks.{look, parts_of}
 use Rattle.mpx_board.specs.declared.board.Board.{Board}
 use Rattle.mpx_format.specs.Encoding.{length_told}
 use Rattle.mpx_parts.specs.Facts.{OnlyFactsOf, SaysHead}
-use Rattle.mpx_parts.specs.Pieces.{IsPiece, Adds, most_of_piece, has_head}
+use Rattle.mpx_parts.specs.Pieces.{IsPiece, AddsPieces, most_of_piece, has_head}
 
 module _ {X : Type 0} (Q : X → Type 0) where
   pub All-front : (xs ys : List X) → All Q (xs ++ ys) → All Q xs
@@ -34,20 +34,20 @@ module _ {X : Type 0} (Q : X → Type 0) where
   All-last xs x all = All-head Q x [] (All-back xs (x ∷ []) all)
 
 -- what is said of nothing is said
-pub adds_nothing : (S : (Fact → Type 0) → Type 0) (bs : List Board) → ((P : Fact → Type 0) → S P) → Adds S bs bs
+pub adds_nothing : (S : (Fact → Type 0) → Type 0) (bs : List Board) → ((P : Fact → Type 0) → S P) → AddsPieces S bs bs
 adds_nothing S bs h = record { covers = λ d all. (all, h (Stands d)); only = λ w says all. all; fits = λ all. all }
 
 -- one piece
-pub adds_piece : (S : (Fact → Type 0) → Type 0) (bs : List Board) (b : Board) → IsPiece S b → Adds S bs (bs ++ b ∷ [])
+pub adds_piece : (S : (Fact → Type 0) → Type 0) (bs : List Board) (b : Board) → IsPiece S b → AddsPieces S bs (bs ++ b ∷ [])
 adds_piece S bs b piece = record {
-  covers = λ d all. (All-front (λ b. IsBelow (look b) d) bs (b ∷ []) all, piece.covers d (All-last (λ b. IsBelow (look b) d) bs b all));
+  covers = λ d all. (All-front (λ b. IsBoardBelow (look b) d) bs (b ∷ []) all, piece.covers d (All-last (λ b. IsBoardBelow (look b) d) bs b all));
   only = λ w says all. All-push (λ b. OnlyFactsOf (look b) w) bs b all (piece.only w says);
   fits = λ all. All-push (λ b. length_told (parts_of b) ≤ most_of_piece) bs b all piece.fits;
 }
 
 -- some pieces and then others
-pub adds_then : (S T U : (Fact → Type 0) → Type 0) (a b c : List Board) → Adds S a b → Adds T b c
-    → ((P : Fact → Type 0) → S P → T P → U P) → ((P : Fact → Type 0) → U P → S P) → ((P : Fact → Type 0) → U P → T P) → Adds U a c
+pub adds_then : (S T U : (Fact → Type 0) → Type 0) (a b c : List Board) → AddsPieces S a b → AddsPieces T b c
+    → ((P : Fact → Type 0) → S P → T P → U P) → ((P : Fact → Type 0) → U P → S P) → ((P : Fact → Type 0) → U P → T P) → AddsPieces U a c
 adds_then S T U a b c s t join left right = record {
   covers = λ d all.
       let later = t.covers d all in
@@ -59,7 +59,7 @@ adds_then S T U a b c s t join left right = record {
 
 -- the pieces of one entry more
 module _ {X : Type 0} (S : (Fact → Type 0) → X → Type 0) (xs : List X) where
-  pub adds_more : (i : ℕ) (x : X) (a b c : List Board) → i < length xs → x ≡ get_or xs i x → Adds (λ P. All (S P) (take i xs)) a b → Adds (λ P. S P x) b c → Adds (λ P. All (S P) (take (i + 1) xs)) a c
+  pub adds_more : (i : ℕ) (x : X) (a b c : List Board) → i < length xs → x ≡ get_or xs i x → AddsPieces (λ P. All (S P) (take i xs)) a b → AddsPieces (λ P. S P x) b c → AddsPieces (λ P. All (S P) (take (i + 1) xs)) a c
   adds_more i x a b c lt is sooner later =
       let more : take (i + 1) xs ≡ take i xs ++ x ∷ [] = take_more xs i x lt ∙ ap (λ y. take i xs ++ y ∷ []) (sym is) in
       adds_then (λ P. All (S P) (take i xs)) (λ P. S P x) (λ P. All (S P) (take (i + 1) xs)) a b c sooner later
@@ -68,7 +68,7 @@ module _ {X : Type 0} (S : (Fact → Type 0) → X → Type 0) (xs : List X) whe
       (λ P all. All-last (S P) (take i xs) x (subst (All (S P)) more all))
 
 -- the same said in other words
-pub adds_same : (S T : (Fact → Type 0) → Type 0) (a b : List Board) → ((P : Fact → Type 0) → S P → T P) → ((P : Fact → Type 0) → T P → S P) → Adds S a b → Adds T a b
+pub adds_same : (S T : (Fact → Type 0) → Type 0) (a b : List Board) → ((P : Fact → Type 0) → S P → T P) → ((P : Fact → Type 0) → T P → S P) → AddsPieces S a b → AddsPieces T a b
 adds_same S T a b to from h = record {
   covers = λ d all. ((h.covers d all).0, to (Stands d) (h.covers d all).1);
   only = λ w says all. h.only w (from (Has w) says) all;
@@ -82,7 +82,7 @@ module _ {X Y : Type 0} (Q : Y → Type 0) (f : X → Y) where
 
 -- the pieces of all entries, once the loop is over
 module _ {K J V : Type 0} (view : J → V) (S : (Fact → Type 0) → K × V → Type 0) where
-  pub adds_all : (es : List (K × J)) (vs : List (K × V)) (i : ℕ) (a b : List Board) → length es ≤ i → seen view es ≡ vs → Adds (λ P. All (λ e. S P (e.0, view e.1)) (take i es)) a b → Adds (λ P. All (S P) vs) a b
+  pub adds_all : (es : List (K × J)) (vs : List (K × V)) (i : ℕ) (a b : List Board) → length es ≤ i → seen view es ≡ vs → AddsPieces (λ P. All (λ e. S P (e.0, view e.1)) (take i es)) a b → AddsPieces (λ P. All (S P) vs) a b
   adds_all es vs i a b le is h = adds_same (λ P. All (λ e. S P (e.0, view e.1)) (take i es)) (λ P. All (S P) vs) a b
       (λ P all. subst (All (S P)) is (All-map (S P) (λ e. (e.0, view e.1)) es (subst (All (λ e. S P (e.0, view e.1))) (take_all i es le) all)))
       (λ P all. subst (All (λ e. S P (e.0, view e.1))) (sym (take_all i es le)) (All-unmap (S P) (λ e. (e.0, view e.1)) es (subst (All (S P)) (sym is) all)))

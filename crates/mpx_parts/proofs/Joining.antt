@@ -9,8 +9,8 @@ use Rattle.join_core.specs.FlatLaws.{flat_laws}
 use Rattle.join_core.proofs.Orders.{order_laws}
 use Rattle.mpx_post.specs.Posts.{Given}
 use Rattle.mpx_post.specs.Equality.{same_given, given_equality}
-use Rattle.mpx_post.specs.Births.{birth_equality}
-use Rattle.mpx_board.specs.Boards.{Context, Look, Born, Held, Front, Dropped, Dead, Acknowledged, Has, Stands, IsBelow, gone, join_live, join_contexts, join, join_all, empty}
+use Rattle.mpx_birth.specs.Births.{birth_equality}
+use Rattle.mpx_board.specs.Boards.{Context, Look, Born, Held, Front, Dropped, Dead, Acknowledged, Has, Stands, IsBoardBelow, gone, join_live, join_contexts, join, join_all, empty}
 use Rattle.mpx_board.specs.Contexts.{look_of}
 use Rattle.mpx_board.specs.Looks.{look, parts_of}
 use Rattle.mpx_board.specs.Parts.{PartsView, parts_joining, parts_laws}
@@ -23,7 +23,7 @@ use Rattle.mpx_board.proofs.Order.{leq_is_below}
 use Rattle.mpx_board.proofs.Tidiness.{tidy_join, tidy_empty}
 use Rattle.mpx_format.specs.Encoding.{length_told}
 use Rattle.mpx_parts.specs.Facts.{OnlyFactsOf, SaysParts}
-use Rattle.mpx_parts.specs.Pieces.{NoNeighboursFit, Says, Adds, AreBelow, HaveOnlyFactsOf, AllFit, most_of_piece}
+use Rattle.mpx_parts.specs.Pieces.{NoNeighboursFit, SayTogether, AddsPieces, AreBelow, HaveOnlyFactsOf, AllFit, most_of_piece}
 use Rattle.mpx_parts.proofs.Saying.{all_said, said_all}
 use Rattle.mpx_parts.proofs.Adding.{All-front, All-back}
 
@@ -91,39 +91,39 @@ join_only a b w x y (Acknowledged q name p n) has = (has.0, number_only (a.acks 
 -- LISTS THAT SAY THE SAME
 
 module _ (limit : ℕ) where
-  pub says_itself : (bs : List Board) → Says limit bs bs
+  pub says_itself : (bs : List Board) → SayTogether limit bs bs
   says_itself bs = record { covers = λ d all. all; only = λ w all. all; fits = λ all. all }
 
-  pub says_then : (a b c : List Board) → Says limit a b → Says limit b c → Says limit a c
+  pub says_then : (a b c : List Board) → SayTogether limit a b → SayTogether limit b c → SayTogether limit a c
   says_then a b c s t = record { covers = λ d all. s.covers d (t.covers d all); only = λ w all. t.only w (s.only w all); fits = λ all. t.fits (s.fits all) }
 
   beside : (Q R : Board → Type 0) (a b c : List Board) → (All Q a → All R b) → All Q (a ++ c) → (All Q c → All R c) → All R (b ++ c)
   beside Q R a b c f all g = All-append R b c (f (All-front Q a c all)) (g (All-back Q a c all))
 
   -- and others behind them
-  pub says_before : (a b c : List Board) → Says limit a b → Says limit (a ++ c) (b ++ c)
+  pub says_before : (a b c : List Board) → SayTogether limit a b → SayTogether limit (a ++ c) (b ++ c)
   says_before a b c s = record {
-    covers = λ d all. beside (λ x. IsBelow (look x) d) (λ x. IsBelow (look x) d) b a c (s.covers d) all (λ h. h);
+    covers = λ d all. beside (λ x. IsBoardBelow (look x) d) (λ x. IsBoardBelow (look x) d) b a c (s.covers d) all (λ h. h);
     only = λ w all. beside (λ x. OnlyFactsOf (look x) w) (λ x. OnlyFactsOf (look x) w) a b c (s.only w) all (λ h. h);
     fits = λ all. beside (λ x. length_told (parts_of x) ≤ limit) (λ x. length_told (parts_of x) ≤ limit) a b c s.fits all (λ h. h);
   }
 
-  pub says_behind : (a b c : List Board) → Says limit b c → Says limit (a ++ b) (a ++ c)
+  pub says_behind : (a b c : List Board) → SayTogether limit b c → SayTogether limit (a ++ b) (a ++ c)
   says_behind a b c s = record {
-    covers = λ d all. All-append (λ x. IsBelow (look x) d) a b (All-front (λ x. IsBelow (look x) d) a c all) (s.covers d (All-back (λ x. IsBelow (look x) d) a c all));
+    covers = λ d all. All-append (λ x. IsBoardBelow (look x) d) a b (All-front (λ x. IsBoardBelow (look x) d) a c all) (s.covers d (All-back (λ x. IsBoardBelow (look x) d) a c all));
     only = λ w all. All-append (λ x. OnlyFactsOf (look x) w) a c (All-front (λ x. OnlyFactsOf (look x) w) a b all) (s.only w (All-back (λ x. OnlyFactsOf (look x) w) a b all));
     fits = λ all. All-append (λ x. length_told (parts_of x) ≤ limit) a c (All-front (λ x. length_told (parts_of x) ≤ limit) a b all) (s.fits (All-back (λ x. length_told (parts_of x) ≤ limit) a b all));
   }
 
   -- two boards joined, where that fits
-  pub says_joined : (bs : List Board) (a b j : Board) → parts_of j ≡ parts_joining.join (parts_of a) (parts_of b) → length_told (parts_of j) ≤ limit → Says limit (bs ++ a ∷ b ∷ []) (bs ++ j ∷ [])
+  pub says_joined : (bs : List Board) (a b j : Board) → parts_of j ≡ parts_joining.join (parts_of a) (parts_of b) → length_told (parts_of j) ≤ limit → SayTogether limit (bs ++ a ∷ b ∷ []) (bs ++ j ∷ [])
   says_joined bs a b j is fits =
       let seen : look j ≡ join (look a) (look b) = ap look_of is ∙ look-join (parts_of a) (parts_of b) in
       says_behind bs (a ∷ b ∷ []) (j ∷ []) (record {
         covers = λ d all.
-            let below : IsBelow (join (look a) (look b)) d = subst (λ x. IsBelow x d) seen (All-head (λ x. IsBelow (look x) d) j [] all) in
-            All-cons (λ x. IsBelow (look x) d) a (b ∷ []) (below_through (look a) (join (look a) (look b)) d (join_is_least (look a) (look b)).left below)
-            (All-cons (λ x. IsBelow (look x) d) b [] (below_through (look b) (join (look a) (look b)) d (join_is_least (look a) (look b)).right below) (All-nil (λ x. IsBelow (look x) d)));
+            let below : IsBoardBelow (join (look a) (look b)) d = subst (λ x. IsBoardBelow x d) seen (All-head (λ x. IsBoardBelow (look x) d) j [] all) in
+            All-cons (λ x. IsBoardBelow (look x) d) a (b ∷ []) (below_through (look a) (join (look a) (look b)) d (join_is_least (look a) (look b)).left below)
+            (All-cons (λ x. IsBoardBelow (look x) d) b [] (below_through (look b) (join (look a) (look b)) d (join_is_least (look a) (look b)).right below) (All-nil (λ x. IsBoardBelow (look x) d)));
         only = λ w all.
             let rest = All-tail (λ x. OnlyFactsOf (look x) w) a (b ∷ []) all in
             All-cons (λ x. OnlyFactsOf (look x) w) j [] (subst (λ x. OnlyFactsOf x w) (sym seen) (join_only (look a) (look b) w (All-head (λ x. OnlyFactsOf (look x) w) a (b ∷ []) all) (All-head (λ x. OnlyFactsOf (look x) w) b [] rest))) (All-nil (λ x. OnlyFactsOf (look x) w));
@@ -135,17 +135,17 @@ module _ (limit : ℕ) where
   assoc (x ∷ xs) ys zs = ap (λ l. x ∷ l) (assoc xs ys zs)
 
   -- a board joined with the first of the others
-  pub says_first : (a j b : Board) (bs : List Board) → 0 < length bs → b ≡ get_or bs 0 b → parts_of j ≡ parts_joining.join (parts_of a) (parts_of b) → length_told (parts_of j) ≤ limit → Says limit (a ∷ bs) (set bs 0 j)
+  pub says_first : (a j b : Board) (bs : List Board) → 0 < length bs → b ≡ get_or bs 0 b → parts_of j ≡ parts_joining.join (parts_of a) (parts_of b) → length_told (parts_of j) ≤ limit → SayTogether limit (a ∷ bs) (set bs 0 j)
   says_first a j b [] some at is fits = absurd (omega (arith, some))
   says_first a j b (x ∷ bs) some at is fits = says_before (a ∷ x ∷ []) (j ∷ []) bs (says_joined [] a x j (is ∙ ap (λ y. parts_joining.join (parts_of a) (parts_of y)) at) fits)
 
   -- and what stands before them
-  pub says_seam : (all front : List Board) (a : Board) (rest new : List Board) → all ≡ front ++ a ∷ [] → Says limit (a ∷ rest) new → Says limit (all ++ rest) (front ++ new)
-  says_seam all front a rest new is s = subst (λ l. Says limit l (front ++ new)) (sym (ap (λ l. l ++ rest) is ∙ assoc front (a ∷ []) rest)) (says_behind front (a ∷ rest) new s)
+  pub says_seam : (all front : List Board) (a : Board) (rest new : List Board) → all ≡ front ++ a ∷ [] → SayTogether limit (a ∷ rest) new → SayTogether limit (all ++ rest) (front ++ new)
+  says_seam all front a rest new is s = subst (λ l. SayTogether limit l (front ++ new)) (sym (ap (λ l. l ++ rest) is ∙ assoc front (a ∷ []) rest)) (says_behind front (a ∷ rest) new s)
 
   -- two halves
-  pub says_halves : (all low high made rest new : List Board) → low ++ high ≡ all → Says limit low made → Says limit high rest → Says limit (made ++ rest) new → Says limit all new
-  says_halves all low high made rest new is s t u = subst (λ l. Says limit l new) is (says_then (low ++ high) (made ++ rest) new (says_then (low ++ high) (made ++ high) (made ++ rest) (says_before low made high s) (says_behind made high rest t)) u)
+  pub says_halves : (all low high made rest new : List Board) → low ++ high ≡ all → SayTogether limit low made → SayTogether limit high rest → SayTogether limit (made ++ rest) new → SayTogether limit all new
+  says_halves all low high made rest new is s t u = subst (λ l. SayTogether limit l new) is (says_then (low ++ high) (made ++ rest) new (says_then (low ++ high) (made ++ high) (made ++ rest) (says_before low made high s) (says_behind made high rest t)) u)
 
 -- NEIGHBOURS
 
@@ -164,17 +164,17 @@ module _ (limit : ℕ) where
 
   -- the last one joined with one more, where that fits
   pub says_fused : (front : List Board) (a b j : Board) (old new : List Board) → old ≡ front ++ a ∷ [] → parts_of j ≡ parts_joining.join (parts_of a) (parts_of b) → length_told (parts_of j) ≤ limit
-      → Says limit (front ++ j ∷ []) new → Says limit (old ++ b ∷ []) new
+      → SayTogether limit (front ++ j ∷ []) new → SayTogether limit (old ++ b ∷ []) new
   says_fused front a b j old new is same fits s =
-      subst (λ l. Says limit l new) (sym (ap (λ l. l ++ b ∷ []) is ∙ assoc limit front (a ∷ []) (b ∷ [])))
+      subst (λ l. SayTogether limit l new) (sym (ap (λ l. l ++ b ∷ []) is ∙ assoc limit front (a ∷ []) (b ∷ [])))
       (says_then limit (front ++ a ∷ b ∷ []) (front ++ j ∷ []) new (says_joined limit front a b j same fits) s)
 
 -- THE WHOLE
 
-below_itself : (a : Look) → IsBelow a a
+below_itself : (a : Look) → IsBoardBelow a a
 below_itself a = facts_below a a (under_itself a)
 
-only_below : (a w : Look) → OnlyFactsOf a w → IsBelow a w
+only_below : (a w : Look) → OnlyFactsOf a w → IsBoardBelow a w
 only_below a w only f has = below_itself w f (only f has)
 
 -- the join of these parts, as parts of a board
@@ -192,34 +192,34 @@ unfolding joined
 joined_tidy v [] tidy = tidy
 joined_tidy v (b ∷ bs) tidy = joined_tidy (parts_joining.join v (parts_of b)) bs (tidy_join v (parts_of b) tidy b.tidy)
 
-all_above : (bs : List Board) (a : Look) → IsBelow a (fold join a (map look bs))
+all_above : (bs : List Board) (a : Look) → IsBoardBelow a (fold join a (map look bs))
 all_above bs a = facts_below a (fold join a (map look bs)) (fold_above (map look bs) a)
 
 each_below : (bs : List Board) (a : Look) → AreBelow bs (fold join a (map look bs))
-each_below [] a = All-nil (λ x. IsBelow (look x) a)
+each_below [] a = All-nil (λ x. IsBoardBelow (look x) a)
 each_below (b ∷ bs) a =
     let all = fold join (join a (look b)) (map look bs) in
-    All-cons (λ x. IsBelow (look x) all) b bs (below_through (look b) (join a (look b)) all (join_is_least a (look b)).right (all_above bs (join a (look b)))) (each_below bs (join a (look b)))
+    All-cons (λ x. IsBoardBelow (look x) all) b bs (below_through (look b) (join a (look b)) all (join_is_least a (look b)).right (all_above bs (join a (look b)))) (each_below bs (join a (look b)))
 
-all_below : (bs : List Board) (a w : Look) → IsBelow a w → AreBelow bs w → IsBelow (fold join a (map look bs)) w
+all_below : (bs : List Board) (a w : Look) → IsBoardBelow a w → AreBelow bs w → IsBoardBelow (fold join a (map look bs)) w
 all_below [] a w h all = h
-all_below (b ∷ bs) a w h all = all_below bs (join a (look b)) w ((join_is_least a (look b)).least w h (All-head (λ x. IsBelow (look x) w) b bs all)) (All-tail (λ x. IsBelow (look x) w) b bs all)
+all_below (b ∷ bs) a w h all = all_below bs (join a (look b)) w ((join_is_least a (look b)).least w h (All-head (λ x. IsBoardBelow (look x) w) b bs all)) (All-tail (λ x. IsBoardBelow (look x) w) b bs all)
 
-same_looks : (u v : PartsView) → is_tidy u ≡ true → is_tidy v ≡ true → IsBelow (look_of u) (look_of v) → IsBelow (look_of v) (look_of u) → look_of u ≡ look_of v
+same_looks : (u v : PartsView) → is_tidy u ≡ true → is_tidy v ≡ true → IsBoardBelow (look_of u) (look_of v) → IsBoardBelow (look_of v) (look_of u) → look_of u ≡ look_of v
 same_looks u v tidy tidy_v s t = ap look_of ((order_laws parts_laws).antisymmetric u v ((leq_is_below u v tidy).1 s) ((leq_is_below v u tidy_v).1 t))
 
 -- boards with only facts of the whole, and below nothing that the whole isn't below, join as the whole
-pub join_is_whole : (b : Board) (made : List Board) → HaveOnlyFactsOf made (look b) → ((d : Look) → AreBelow made d → IsBelow (look b) d) → join_all (map look made) ≡ look b
+pub join_is_whole : (b : Board) (made : List Board) → HaveOnlyFactsOf made (look b) → ((d : Look) → AreBelow made d → IsBoardBelow (look b) d) → join_all (map look made) ≡ look b
 join_is_whole b made only covers =
     let start : PartsView = (no_entry, no_entry) in
     let all = joined start made in
     let seen : join_all (map look made) ≡ look_of all = ap (λ x. fold join x (map look made)) (sym look-empty) ∙ joined_look start made in
-    let above : IsBelow (look b) (join_all (map look made)) = covers (join_all (map look made)) (each_below made empty) in
-    let below : IsBelow (join_all (map look made)) (look b) = all_below made empty (look b) (facts_below empty (look b) (empty_under (look b))) (λ k d lt. only_below _ (look b) (only k d lt)) in
-    seen ∙ same_looks all (parts_of b) (joined_tidy start made tidy_empty) b.tidy (subst (λ x. IsBelow x (look b)) seen below) (subst (λ x. IsBelow (look b) x) seen above)
+    let above : IsBoardBelow (look b) (join_all (map look made)) = covers (join_all (map look made)) (each_below made empty) in
+    let below : IsBoardBelow (join_all (map look made)) (look b) = all_below made empty (look b) (facts_below empty (look b) (empty_under (look b))) (λ k d lt. only_below _ (look b) (only k d lt)) in
+    seen ∙ same_looks all (parts_of b) (joined_tidy start made tidy_empty) b.tidy (subst (λ x. IsBoardBelow x (look b)) seen below) (subst (λ x. IsBoardBelow (look b) x) seen above)
 
 -- the pieces of a board, put together
-module _ (b : Board) (limit : ℕ) (pieces made : List Board) (apart : Adds (λ P. SaysParts P (parts_of b)) [] pieces) (together : Says limit pieces made) where
+module _ (b : Board) (limit : ℕ) (pieces made : List Board) (apart : AddsPieces (λ P. SaysParts P (parts_of b)) [] pieces) (together : SayTogether limit pieces made) where
   pub whole_facts : HaveOnlyFactsOf made (look b)
   whole_facts = together.only (look b) (apart.only (look b) (said_all (Has (look b)) (parts_of b) b.tidy (λ f has. has)) (All-nil (λ x. OnlyFactsOf (look x) (look b))))
 

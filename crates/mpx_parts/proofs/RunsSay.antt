@@ -20,16 +20,16 @@ use Rattle.mpx_board.specs.Parts.{OfProcesses, LiftedView, AcksView, PartsView}
 use Rattle.mpx_board.specs.Tidy.{is_bare, is_tidy_lifted, are_tidy_entries, is_tidy_numbers, are_tidy_numbers, is_tidy_acks, are_tidy_acks, is_tidy}
 use Rattle.mpx_format.specs.Encoding.{length_told}
 use Rattle.mpx_parts.specs.Facts.{SaysLifted, SaysNumbers, SaysAcks, SaysParts}
-use Rattle.mpx_parts.specs.Pieces.{IsPiece, IsRun, most_of_piece}
+use Rattle.mpx_parts.specs.Pieces.{IsPiece, IsEntryRun, most_of_piece}
 use Rattle.mpx_parts.proofs.Made.{no_entry, All-none, all_none, is_piece}
 
 -- the map of a run has its entries
-run_entries : {K J V : Type 0} (R : K → K → Ordering) (view : J → V) (test : K × V → Bool) (es : List (K × J)) (m : FinMap R V) → IsRun R view test es → m ≡ from_sorted (seen view es) → entries m ≡ seen view es
+run_entries : {K J V : Type 0} (R : K → K → Ordering) (view : J → V) (test : K × V → Bool) (es : List (K × J)) (m : FinMap R V) → IsEntryRun R view test es → m ≡ from_sorted (seen view es) → entries m ≡ seen view es
 run_entries R view test es m run is = ap entries is ∙ entries_of R view es run.rising
 
 -- CONTEXTS
 
-module _ {J : Type 0} (view : J → LiftedView) (es : List (Name × J)) (run : IsRun name_cmp view (λ e. is_tidy_lifted e.1) es) (v : PartsView) (is : v ≡ (from_sorted (seen view es), empty)) where
+module _ {J : Type 0} (view : J → LiftedView) (es : List (Name × J)) (run : IsEntryRun name_cmp view (λ e. is_tidy_lifted e.1) es) (v : PartsView) (is : v ≡ (from_sorted (seen view es), empty)) where
   context_entries : entries v.0 ≡ seen view es
   context_entries = run_entries name_cmp view (λ e. is_tidy_lifted e.1) es v.0 run (ap (λ x. x.0) is)
 
@@ -45,13 +45,13 @@ module _ {J : Type 0} (view : J → LiftedView) (es : List (Name × J)) (run : I
   say_contexts : (P : Fact → Type 0) → SaysParts P v → All (SaysLifted P) (seen view es)
   say_contexts P says = subst (All (SaysLifted P)) context_entries says.contexts
 
-pub contexts_piece : {J : Type 0} (view : J → LiftedView) (es : List (Name × J)) (b : Board) → IsRun name_cmp view (λ e. is_tidy_lifted e.1) es → parts_of b ≡ (from_sorted (seen view es), empty) → length_told (parts_of b) ≤ most_of_piece
+pub contexts_piece : {J : Type 0} (view : J → LiftedView) (es : List (Name × J)) (b : Board) → IsEntryRun name_cmp view (λ e. is_tidy_lifted e.1) es → parts_of b ≡ (from_sorted (seen view es), empty) → length_told (parts_of b) ≤ most_of_piece
     → IsPiece (λ P. All (SaysLifted P) (seen view es)) b
 contexts_piece view es b run is fits = is_piece (λ P. All (SaysLifted P) (seen view es)) b (say_contexts view es run (parts_of b) is) (contexts_say view es run (parts_of b) is) fits
 
 -- WHAT PROCESSES ACKNOWLEDGE
 
-module _ {J : Type 0} (view : J → AcksView) (es : List (ℕ × J)) (run : IsRun nat_cmp view (λ e. is_tidy_acks e.1) es) (v : PartsView) (is : v ≡ (empty, from_sorted (seen view es))) where
+module _ {J : Type 0} (view : J → AcksView) (es : List (ℕ × J)) (run : IsEntryRun nat_cmp view (λ e. is_tidy_acks e.1) es) (v : PartsView) (is : v ≡ (empty, from_sorted (seen view es))) where
   acks_entries : entries v.1 ≡ seen view es
   acks_entries = run_entries nat_cmp view (λ e. is_tidy_acks e.1) es v.1 run (ap (λ x. x.1) is)
 
@@ -67,21 +67,21 @@ module _ {J : Type 0} (view : J → AcksView) (es : List (ℕ × J)) (run : IsRu
   say_acks : (P : Fact → Type 0) → SaysParts P v → All (SaysAcks P) (seen view es)
   say_acks P says = subst (All (SaysAcks P)) acks_entries says.acks
 
-pub acks_piece : {J : Type 0} (view : J → AcksView) (es : List (ℕ × J)) (b : Board) → IsRun nat_cmp view (λ e. is_tidy_acks e.1) es → parts_of b ≡ (empty, from_sorted (seen view es)) → length_told (parts_of b) ≤ most_of_piece
+pub acks_piece : {J : Type 0} (view : J → AcksView) (es : List (ℕ × J)) (b : Board) → IsEntryRun nat_cmp view (λ e. is_tidy_acks e.1) es → parts_of b ≡ (empty, from_sorted (seen view es)) → length_told (parts_of b) ≤ most_of_piece
     → IsPiece (λ P. All (SaysAcks P) (seen view es)) b
 acks_piece view es b run is fits = is_piece (λ P. All (SaysAcks P) (seen view es)) b (say_acks view es run (parts_of b) is) (acks_say view es run (parts_of b) is) fits
 
 -- WHAT ONE PROCESS DOES
 
 -- the one process and its contexts, as a run of processes
-module _ {J : Type 0} (view : J → OfProcesses ℕ) (es : List (Name × J)) (run : IsRun name_cmp view (λ e. is_tidy_numbers e.1) es) (q : ℕ) (a : AcksView) (of : a ≡ from_sorted (seen view es)) where
+module _ {J : Type 0} (view : J → OfProcesses ℕ) (es : List (Name × J)) (run : IsEntryRun name_cmp view (λ e. is_tidy_numbers e.1) es) (q : ℕ) (a : AcksView) (of : a ≡ from_sorted (seen view es)) where
   name_entries : entries a ≡ seen view es
   name_entries = run_entries name_cmp view (λ e. is_tidy_numbers e.1) es a run of
 
   some_names : 0 < length es → not (is_bare a) ≡ true
   some_names some = let long : len a ≡ length es = len-entries a ∙ ap length name_entries ∙ length_seen view es in grind (arith, nat_tests)
 
-  process_run : 0 < length es → IsRun nat_cmp (λ x. x) (λ e. is_tidy_acks e.1) ((q, a) ∷ [])
+  process_run : 0 < length es → IsEntryRun nat_cmp (λ x. x) (λ e. is_tidy_acks e.1) ((q, a) ∷ [])
   process_run some = record {
     rising = refl;
     pass = both_true (is_tidy_acks a) true (both_true (not (is_bare a)) (are_tidy_numbers a) (some_names some) (ap (list_all (λ e. is_tidy_numbers e.1)) name_entries ∙ run.pass)) refl;

@@ -1,6 +1,6 @@
 -- What the parts of a board say, fact by fact, is what the board has.
 use Rattle.std.proofs.Common.{◌≡◌, ◌≢◌, ◌<◌, ℕ, Bool, true, false, T, List, [], ◌∷◌, Option, Some, None, refl, sym, ap, ◌∙◌, subst, nat_lt, arith}
-use Rattle.std.specs.Prelude.{All}
+use Rattle.std.specs.Prelude.{All, not, ◌&&◌}
 use Rattle.std.proofs.lemmas.Bool.Decides.{nat_tests}
 use Rattle.std.proofs.lemmas.List.Elements.{All-nil, All-cons, All-head, All-tail}
 use Rattle.std.specs.declared.cmp.Ordering.{Ordering}
@@ -18,7 +18,6 @@ use Rattle.mpx_board.specs.Boards.{Fact, Born, Held, Front, Dropped, Dead, Ackno
 use Rattle.mpx_board.specs.Parts.{OfProcesses, CallView, EntryView, LiftedView, AcksView, PartsView}
 use Rattle.mpx_board.specs.Contexts.{or_zero, or_unknown, post_in, or_nothing, number_in, ack_in, look_of}
 use Rattle.mpx_board.specs.Tidy.{is_unknown, is_bare, all_entries, has_no_zero, are_tidy_posts, is_tidy_call, says_nothing, is_neat_entry, is_tidy_lifted, are_tidy_entries, is_tidy_numbers, is_tidy_acks, are_tidy_acks, is_tidy}
-use Rattle.std.specs.Prelude.{not, ◌&&◌}
 use Rattle.mpx_board.proofs.Entries.{entries_get}
 use Rattle.mpx_parts.specs.Facts.{SaysPost, SaysCall, SaysHead, SaysEntry, SaysLifted, SaysNumbers, SaysAcks, SaysParts}
 

@@ -4,7 +4,7 @@ use Rattle.std.specs.List.{list_all}
 use Rattle.std.specs.FinMap.{is_sorted}
 use Rattle.std.specs.declared.cmp.Ordering.{Ordering}
 use Rattle.join_nest.specs.Seen.{seen}
-use Rattle.mpx_board.specs.Boards.{Look, Fact, Has, Stands, IsBelow}
+use Rattle.mpx_board.specs.Boards.{Look, Fact, Has, Stands, IsBoardBelow}
 use Rattle.mpx_board.specs.Parts.{EntryView, parts_joining}
 use Rattle.mpx_board.specs.Tidy.{is_unknown, is_bare}
 use Rattle.mpx_board.specs.Looks.{look, parts_of}
@@ -18,7 +18,7 @@ most_of_piece = 524288
 
 -- all of these boards are below that one
 abbrev pub AreBelow : List Board → Look → Type 0
-AreBelow bs d = All (λ b. IsBelow (look b) d) bs
+AreBelow bs d = All (λ b. IsBoardBelow (look b) d) bs
 
 -- and have only facts of it
 abbrev pub HaveOnlyFactsOf : List Board → Look → Type 0
@@ -29,24 +29,24 @@ abbrev pub AllFit : ℕ → List Board → Type 0
 AllFit limit bs = All (λ b. length_told (parts_of b) ≤ limit) bs
 
 -- entries in the rising order of their keys, each of which passes the test
-pub record IsRun {K J V : Type 0} (R : K → K → Ordering) (view : J → V) (test : K × V → Bool) (es : List (K × J)) : Type 0 where
+pub record IsEntryRun {K J V : Type 0} (R : K → K → Ordering) (view : J → V) (test : K × V → Bool) (es : List (K × J)) : Type 0 where
   pub rising : is_sorted R es ≡ true
   pub pass : list_all test (seen view es) ≡ true
 
 -- the piece says just what S says of facts, in a short frame
 pub record IsPiece (S : (Fact → Type 0) → Type 0) (piece : Board) : Type 0 where
-  pub covers : (d : Look) → IsBelow (look piece) d → S (Stands d)
+  pub covers : (d : Look) → IsBoardBelow (look piece) d → S (Stands d)
   pub only : (w : Look) → S (Has w) → OnlyFactsOf (look piece) w
   pub fits : length_told (parts_of piece) ≤ most_of_piece
 
 -- pieces that say just what S says were added to the others
-pub record Adds (S : (Fact → Type 0) → Type 0) (old new : List Board) : Type 0 where
+pub record AddsPieces (S : (Fact → Type 0) → Type 0) (old new : List Board) : Type 0 where
   pub covers : (d : Look) → AreBelow new d → AreBelow old d × S (Stands d)
   pub only : (w : Look) → S (Has w) → HaveOnlyFactsOf old w → HaveOnlyFactsOf new w
   pub fits : AllFit most_of_piece old → AllFit most_of_piece new
 
 -- these boards together say what those say
-pub record Says (limit : ℕ) (those these : List Board) : Type 0 where
+pub record SayTogether (limit : ℕ) (those these : List Board) : Type 0 where
   pub covers : (d : Look) → AreBelow these d → AreBelow those d
   pub only : (w : Look) → HaveOnlyFactsOf those w → HaveOnlyFactsOf these w
   pub fits : AllFit limit those → AllFit limit these

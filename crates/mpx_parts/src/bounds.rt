@@ -1,13 +1,14 @@
-// How many bytes entries have at least in a frame, counted without memory. It only saves copies of runs that are surely too
-// long, and nothing that is proved rests on it: whether a run is short is told by its frame.
+//! How many bytes entries have at least in a frame, counted without memory. It only saves copies of runs that are surely too
+//! long, and nothing that is proved rests on it: whether a run is short is told by its frame.
 
 use join_core::Flat;
 use join_nest::Lift;
-use mpx_board::{Acks, Call, Entry, Lifted, VersionVector};
+use mpx_birth::Birth;
+use mpx_board::{Acks, CallPosts, Entry, Lifted, VersionVector};
 use mpx_group::Proc;
 use mpx_name::{Name, Step};
 use mpx_num::Ty;
-use mpx_post::{Birth, Post};
+use mpx_post::Post;
 
 // How many bytes a process with its number has.
 const NUMBER: usize = 5;
@@ -126,7 +127,7 @@ fn after_birth(room: usize, birth: &Birth) -> usize {
 }
 
 // Behind a call.
-fn after_call(room: usize, posts: &Call) -> usize {
+fn after_call(room: usize, posts: &CallPosts) -> usize {
     let mut room = after(room, 1, CALL);
     for (_, post) in posts.entries() {
         room = after(room, 1, POST);

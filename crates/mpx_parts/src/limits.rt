@@ -1,4 +1,4 @@
-// The limits that types keep, by which a frame of one piece is short.
+//! The limits that types keep, by which a frame of one piece is short.
 ghost use Rattle.std.specs.Prelude.{◌≡◌, ◌≤◌, length, reverse};
 ghost use Rattle.std.specs.FinMap.{entries};
 ghost use Rattle.join_core.specs.Flat.{known as knows};
@@ -10,9 +10,10 @@ ghost use Rattle.mpx_board.specs.Views.{view_of_numbers};
 ghost use Rattle.mpx_parts.specs.Limits.{IsShortBirth, IsShortPost};
 
 use join_core::Flat;
+use mpx_birth::Birth;
 use mpx_board::VersionVector;
 use mpx_name::Name;
-use mpx_post::{Birth, Post};
+use mpx_post::Post;
 
 // The steps of a name are within their limits.
 pub fn short_name(name: &Name)

@@ -1,10 +1,10 @@
-// Pieces put together again, as far as frames reach.
+//! Pieces put together again, as far as frames reach.
 ghost use Rattle.std.specs.Prelude.{◌≡◌, ◌≤◌, ◌<◌, ◌++◌, ◌∷◌, [], ℕ, All, length, map, slice_set, OnOk, IfOk, IfSome};
 ghost use Rattle.mpx_board.specs.Boards.{join_all};
 ghost use Rattle.mpx_board.specs.Looks.{look, parts_of};
 ghost use Rattle.mpx_format.specs.Encoding.{length_told};
 ghost use Rattle.mpx_parts.specs.Facts.{OnlyFactsOf};
-ghost use Rattle.mpx_parts.specs.Pieces.{NoNeighboursFit, Says};
+ghost use Rattle.mpx_parts.specs.Pieces.{NoNeighboursFit, SayTogether};
 
 use crate::walk::pieces;
 use join_core::{Exact, Join, OutOfMemory};
@@ -15,11 +15,11 @@ use std::alloc::Global;
 // How many bytes neighbours share, at most: their head, and a process or a context with a call that stands in both.
 const MOST_SHARED: usize = 1024;
 
-/// The board in parts, each of which has only facts of the board and a frame of at most so many bytes, and whose join is
-/// the board: the board itself where it fits. Else it is taken apart into runs of contexts and runs of what processes
+/// The board in parts, each of which has only facts of the board and a frame of at most `limit` bytes, from 524,288 to 1,048,576, and
+/// whose join is the board: the board itself where it fits. Else it is taken apart into runs of contexts and runs of what processes
 /// acknowledge, by halves until a run has a frame of at most 524,288 bytes; into single posts, and what is said of a context
 /// beside its posts, only where one context alone is too long. Neighbours among these are joined until no two of them fit one
-/// frame.
+/// frame. An `Err` is want of memory.
 ///
 /// It takes memory in the order of the board's size, and time too where no context is too long alone: a run is copied only
 /// where a count of its least bytes doesn't tell that it is too long, and runs are joined a few times. The posts of a context
@@ -45,7 +45,7 @@ pub fn parts(alloc: Global, board: &Board, limit: usize) -> Result<Vec<Board>, O
 
 // These boards, of which neighbours are joined until no two of them fit one frame.
 fn fused(alloc: Global, boards: Vec<Board>, limit: usize) -> Result<Vec<Board>, OutOfMemory>
-    ensures says { IfOk result (λ made. Says limit boards.items made.items) }
+    ensures says { IfOk result (λ made. SayTogether limit boards.items made.items) }
     ensures few { IfOk result (λ made. NoNeighboursFit limit made.items) }
 {
     let mut made = Vec::new(alloc);
@@ -57,7 +57,7 @@ fn fused(alloc: Global, boards: Vec<Board>, limit: usize) -> Result<Vec<Board>, 
 
 // Adds the board behind the others, joined with the last of them as far as that fits.
 fn fuse(alloc: Global, made: &mut Vec<Board>, board: Board, limit: usize) -> Result<(), OutOfMemory>
-    ensures says { OnOk result (Says limit (made.old.items ++ board ∷ []) made.new.items) }
+    ensures says { OnOk result (SayTogether limit (made.old.items ++ board ∷ []) made.new.items) }
     ensures few { OnOk result (NoNeighboursFit limit made.old.items → NoNeighboursFit limit made.new.items) }
 {
     let Some(last) = made.pop() else {
@@ -75,7 +75,7 @@ fn fuse(alloc: Global, made: &mut Vec<Board>, board: Board, limit: usize) -> Res
 
 // These boards, of which neighbours are joined as far as their frames have so many bytes at most.
 fn pack(alloc: Global, mut boards: Vec<Board>, limit: usize) -> Result<Vec<Board>, OutOfMemory>
-    ensures { IfOk result (λ made. Says limit boards.items made.items) }
+    ensures { IfOk result (λ made. SayTogether limit boards.items made.items) }
 {
     if boards.len() <= 1 {
         return Ok(boards);
@@ -95,7 +95,7 @@ fn add_behind(
     mut rest: Vec<Board>,
     limit: usize,
 ) -> Result<(), OutOfMemory>
-    ensures { OnOk result (Says limit (made.old.items ++ rest.items) made.new.items) }
+    ensures { OnOk result (SayTogether limit (made.old.items ++ rest.items) made.new.items) }
 {
     if let Some(last) = made.pop() {
         match seam(alloc, &last, &rest, limit)? {
@@ -114,7 +114,7 @@ fn seam(
     rest: &[Board],
     limit: usize,
 ) -> Result<Option<Board>, OutOfMemory>
-    ensures { IfOk result (λ seam. IfSome seam (λ both. (0 < length rest.now) × Says limit (last.now ∷ rest.now) (slice_set rest.now 0 both))) }
+    ensures { IfOk result (λ seam. IfSome seam (λ both. (0 < length rest.now) × SayTogether limit (last.now ∷ rest.now) (slice_set rest.now 0 both))) }
 {
     if rest.len() < 1 {
         return Ok(None);

@@ -1,4 +1,4 @@
-// Pieces of a board: the smallest boards into which it is taken apart.
+//! Pieces of a board: the smallest boards into which it is taken apart.
 ghost use Rattle.std.specs.Prelude.{◌≡◌, ◌∷◌, [], ◌<◌, ◌||◌, true, false, not, nat_lt, IfOk, IsTrue};
 ghost use Rattle.std.specs.FinMap.{from_sorted, empty};
 ghost use Rattle.join_core.specs.FlatSeen.{flat_view};

@@ -1,4 +1,4 @@
-// All pieces of a board, part by part.
+//! All pieces of a board, part by part.
 ghost use Rattle.std.specs.Prelude.{◌≡◌, ◌<◌, [], true, All, OnOk, IfOk};
 ghost use Rattle.std.specs.Ordering.{nat_cmp};
 ghost use Rattle.std.specs.FinMap.{entries};
@@ -10,13 +10,13 @@ ghost use Rattle.mpx_board.specs.Looks.{parts_of};
 ghost use Rattle.mpx_board.specs.Tidy.{all_entries, are_tidy_posts, is_tidy_acks, is_tidy_call, is_neat_entry, is_tidy_entry, is_tidy_lifted, is_tidy_numbers};
 ghost use Rattle.mpx_board.specs.Views.{view_of_acks, view_of_call, view_of_calls, view_of_entry, view_of_lifted, view_of_numbers};
 ghost use Rattle.mpx_parts.specs.Facts.{SaysAcks, SaysCall, SaysEntry, SaysHead, SaysLifted, SaysNumbers, SaysParts};
-ghost use Rattle.mpx_parts.specs.Pieces.{Adds, IsRun};
+ghost use Rattle.mpx_parts.specs.Pieces.{AddsPieces, IsEntryRun};
 
+use crate::entry_runs::{acks_piece, contexts_piece, names_piece};
 use crate::pieces::{dead_piece, has_head, head_piece, number_piece, post_piece};
-use crate::runs::{acks_piece, contexts_piece, names_piece};
 use join_core::OutOfMemory;
 use join_nest::{Lift, Trunc};
-use mpx_board::{Acks, Board, Call, Entry, Lifted, VersionVector};
+use mpx_board::{Acks, Board, CallPosts, Entry, Lifted, VersionVector};
 use mpx_group::Proc;
 use mpx_name::Name;
 use std::alloc::Global;
@@ -27,10 +27,10 @@ fn add_posts(
     made: &mut Vec<Board>,
     name: &Name,
     call: u32,
-    posts: &Call,
+    posts: &CallPosts,
 ) -> Result<(), OutOfMemory>
     requires { is_tidy_call call (view_of_call posts.now) ≡ true }
-    ensures { OnOk result (Adds (λ P. SaysCall P name.now (call, view_of_call posts.now)) made.old.items made.new.items) }
+    ensures { OnOk result (AddsPieces (λ P. SaysCall P name.now (call, view_of_call posts.now)) made.old.items made.new.items) }
 {
     for (process, post) in posts.entries() {
         made.push(post_piece(alloc, name, call, *process, post)?)?;
@@ -43,10 +43,10 @@ fn add_calls(
     alloc: Global,
     made: &mut Vec<Board>,
     name: &Name,
-    calls: &Trunc<Call>,
+    calls: &Trunc<CallPosts>,
 ) -> Result<(), OutOfMemory>
     requires { all_entries is_tidy_call (view_of_calls calls.now).calls ≡ true }
-    ensures { OnOk result (Adds (λ P. All (SaysCall P name.now) (entries (view_of_calls calls.now).calls)) made.old.items made.new.items) }
+    ensures { OnOk result (AddsPieces (λ P. All (SaysCall P name.now) (entries (view_of_calls calls.now).calls)) made.old.items made.new.items) }
 {
     for (call, posts) in calls.entries() {
         add_posts(alloc, made, name, *call, posts)?;
@@ -62,7 +62,7 @@ fn add_head(
     entry: &Entry,
 ) -> Result<(), OutOfMemory>
     requires { is_neat_entry (view_of_entry entry.now) ≡ true }
-    ensures { OnOk result (Adds (λ P. SaysHead P name.now (view_of_entry entry.now)) made.old.items made.new.items) }
+    ensures { OnOk result (AddsPieces (λ P. SaysHead P name.now (view_of_entry entry.now)) made.old.items made.new.items) }
 {
     if !has_head(entry) {
         return Ok(());
@@ -79,7 +79,7 @@ fn add_entry(
     entry: &Entry,
 ) -> Result<(), OutOfMemory>
     requires { is_tidy_entry (view_of_entry entry.now) ≡ true }
-    ensures { OnOk result (Adds (λ P. SaysEntry P (name.now, view_of_entry entry.now)) made.old.items made.new.items) }
+    ensures { OnOk result (AddsPieces (λ P. SaysEntry P (name.now, view_of_entry entry.now)) made.old.items made.new.items) }
 {
     add_head(alloc, made, name, entry)?;
     add_calls(alloc, made, name, &entry.second.second)
@@ -87,7 +87,7 @@ fn add_entry(
 
 // Adds that the context is dead.
 fn add_dead(alloc: Global, made: &mut Vec<Board>, name: &Name) -> Result<(), OutOfMemory>
-    ensures { OnOk result (Adds (λ P. P (Dead name.now)) made.old.items made.new.items) }
+    ensures { OnOk result (AddsPieces (λ P. P (Dead name.now)) made.old.items made.new.items) }
 {
     made.push(dead_piece(alloc, name)?)?;
     Ok(())
@@ -101,7 +101,7 @@ fn add_context(
     known: &Lifted,
 ) -> Result<(), OutOfMemory>
     requires { is_tidy_lifted (view_of_lifted known.now) ≡ true }
-    ensures { OnOk result (Adds (λ P. SaysLifted P (name.now, view_of_lifted known.now)) made.old.items made.new.items) }
+    ensures { OnOk result (AddsPieces (λ P. SaysLifted P (name.now, view_of_lifted known.now)) made.old.items made.new.items) }
 {
     match known {
         Lift::Live(entry) => add_entry(alloc, made, name, entry),
@@ -115,8 +115,8 @@ fn add_contexts(
     made: &mut Vec<Board>,
     contexts: &[(Name, Lifted)],
 ) -> Result<(), OutOfMemory>
-    requires { IsRun name_cmp view_of_lifted (λ e. is_tidy_lifted e.1) contexts.now }
-    ensures { OnOk result (Adds (λ P. All (SaysLifted P) (seen view_of_lifted contexts.now)) made.old.items made.new.items) }
+    requires { IsEntryRun name_cmp view_of_lifted (λ e. is_tidy_lifted e.1) contexts.now }
+    ensures { OnOk result (AddsPieces (λ P. All (SaysLifted P) (seen view_of_lifted contexts.now)) made.old.items made.new.items) }
 {
     if contexts.is_empty() {
         return Ok(());
@@ -141,8 +141,8 @@ fn add_names(
     process: Proc,
     names: &[(Name, VersionVector)],
 ) -> Result<(), OutOfMemory>
-    requires { IsRun name_cmp view_of_numbers (λ e. is_tidy_numbers e.1) names.now }
-    ensures { OnOk result (Adds (λ P. All (SaysNumbers P process) (seen view_of_numbers names.now)) made.old.items made.new.items) }
+    requires { IsEntryRun name_cmp view_of_numbers (λ e. is_tidy_numbers e.1) names.now }
+    ensures { OnOk result (AddsPieces (λ P. All (SaysNumbers P process) (seen view_of_numbers names.now)) made.old.items made.new.items) }
 {
     if names.is_empty() {
         return Ok(());
@@ -167,8 +167,8 @@ fn add_acks(
     made: &mut Vec<Board>,
     processes: &[(Proc, Acks)],
 ) -> Result<(), OutOfMemory>
-    requires { IsRun nat_cmp view_of_acks (λ e. is_tidy_acks e.1) processes.now }
-    ensures { OnOk result (Adds (λ P. All (SaysAcks P) (seen view_of_acks processes.now)) made.old.items made.new.items) }
+    requires { IsEntryRun nat_cmp view_of_acks (λ e. is_tidy_acks e.1) processes.now }
+    ensures { OnOk result (AddsPieces (λ P. All (SaysAcks P) (seen view_of_acks processes.now)) made.old.items made.new.items) }
 {
     if processes.is_empty() {
         return Ok(());
@@ -189,7 +189,7 @@ fn add_acks(
 // All pieces of the board: runs of contexts, and runs of what processes acknowledge. Where the frame of one context alone is
 // too long, its head and each of its posts; where that of one process's acknowledgements is, runs of the contexts that it names.
 pub fn pieces(alloc: Global, board: &Board) -> Result<Vec<Board>, OutOfMemory>
-    ensures { IfOk result (λ made. Adds (λ P. SaysParts P (parts_of board.now)) [] made.items) }
+    ensures { IfOk result (λ made. AddsPieces (λ P. SaysParts P (parts_of board.now)) [] made.items) }
 {
     let parts = board.pair();
     let mut made = Vec::new(alloc);

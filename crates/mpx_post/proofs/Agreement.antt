@@ -6,11 +6,11 @@ use Rattle.std.proofs.lemmas.Bool.{and_parts}
 use Rattle.mpx_num.specs.declared.types.Ty.{Ty}
 use Rattle.mpx_num.specs.declared.types.Ty.TheVariants.{I8}
 use Rattle.mpx_num.specs.ItemList.{ItemList}
-use Rattle.mpx_post.specs.Kinds.{fields_of, number_in}
+use Rattle.mpx_kind.specs.Kinds.{fields_of, number_in}
 use Rattle.mpx_post.specs.Posts.{Given, fits_root, fits_type, type_of}
 use Rattle.mpx_post.specs.Rows.{RowView}
 use Rattle.mpx_post.specs.Seats.{lacks_topology}
-use Rattle.mpx_post.specs.Topologies.{TopologyView}
+use Rattle.mpx_birth.specs.Topologies.{TopologyView}
 use Rattle.mpx_post.specs.Agreement.{post_at, first_of, blocks_of, fill, fits_edges, fits_group, is_fit, seat_of, IsFine, IsFineWith}
 
 -- the type of the items, by the type that is given

@@ -8,9 +8,9 @@ use Rattle.mpx_num.specs.declared.types.Ty.{Ty}
 use Rattle.mpx_num.specs.Types.{item_len}
 use Rattle.mpx_kind.specs.declared.kinds.Kind.{Kind}
 use Rattle.mpx_post.specs.Blocks.{block_at, blocks_sent, repeated}
-use Rattle.mpx_post.specs.Kinds.{fields_of, number_in}
+use Rattle.mpx_kind.specs.Kinds.{fields_of, number_in}
 use Rattle.mpx_post.specs.Posts.{Given}
-use Rattle.mpx_post.specs.Topologies.{TopologyView}
+use Rattle.mpx_birth.specs.Topologies.{TopologyView}
 use Rattle.mpx_post.specs.Agreement.{count_at, fill, is_fit, seat_of}
 use Rattle.mpx_post.proofs.Agreement.{fits_parts}
 

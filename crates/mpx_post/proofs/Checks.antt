@@ -18,11 +18,11 @@ use Rattle.mpx_kind.specs.declared.kinds.Makes.TheVariants as M
 use Rattle.mpx_kind.specs.declared.kinds.Number.{Number}
 use Rattle.mpx_kind.specs.declared.kinds.Number.TheVariants.{Zero, One, OneAtRoot, Members, MembersAtRoot, Indegree, Outdegree}
 use Rattle.mpx_kind.specs.declared.kinds.Seat.{Seat}
-use Rattle.mpx_post.specs.Births.{BirthView, rank_in}
-use Rattle.mpx_post.specs.Kinds.{family_of, fields_of, is_gathered, kind_of, makes_communicators, number_in}
+use Rattle.mpx_birth.specs.Births.{BirthView, rank_in}
+use Rattle.mpx_kind.specs.Kinds.{family_of, fields_of, is_gathered, kind_of, makes_communicators, number_in}
 use Rattle.mpx_post.specs.Posts.{Given, IsMaking, most_counts, most_items}
 use Rattle.mpx_post.specs.Seats.{lacks_topology}
-use Rattle.mpx_post.specs.Topologies.{most_neighbours}
+use Rattle.mpx_birth.specs.Topologies.{most_neighbours}
 use Rattle.mpx_post.specs.Drafts.{Checks, checked, refusal_of, refusals, asked_first, are_edges, are_so_many, are_ranks, drafted_seat, edge_count, graph_of, has_making, is_misfilled, checked_as, checked_at, checked_in, stray_refusals, drafted_making, drafted_numbers, first_that_holds, given_by, has_colour_and_key, is_colour, is_count, is_key, is_misplaced, is_of, is_rank, most_calls, most_steps, numbers_refusal, place_refusals, ranks_in, received_counts, sent_counts, unless}
 use Rattle.mpx_post.specs.Graphs.{most_edges}
 use Rattle.mpx_post.proofs.Graphs.{are_edges-more, is_rank-more}

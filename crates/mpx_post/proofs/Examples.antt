@@ -8,10 +8,10 @@ use Rattle.mpx_post.specs.declared.draft.PostError.TheVariants.{BadGroup, BadTag
 use Rattle.mpx_kind.specs.declared.kinds.Kind.{Kind}
 use Rattle.mpx_kind.specs.declared.kinds.Kind.TheVariants.{Barrier, Create, CreateGroup, Dup, Free, NeighborAllgather, Split}
 use Rattle.mpx_post.specs.declared.making.Making.TheVariants as Making
-use Rattle.mpx_post.specs.Births.{BirthView, of_members}
+use Rattle.mpx_birth.specs.Births.{BirthView, of_members}
 use Rattle.mpx_post.specs.Drafts.{checked}
 use Rattle.mpx_post.specs.Gatherings.{gathering}
-use Rattle.mpx_post.specs.Kinds.{blocking}
+use Rattle.mpx_kind.specs.Kinds.{blocking}
 use Rattle.mpx_post.specs.Posts.{nothing_given}
 
 -- four members

@@ -19,7 +19,7 @@ use Rattle.mpx_kind.specs.declared.kinds.Neighbourhood.TheVariants as H
 use Rattle.mpx_kind.specs.declared.kinds.Reduction.{Reduction}
 use Rattle.mpx_kind.specs.declared.kinds.Reduction.TheVariants as R
 use Rattle.mpx_post.specs.Drafts.{are_edges, are_ranks, edge_count, is_colour, is_rank, making_of, natural, naturals}
-use Rattle.mpx_post.specs.Kinds.{exchange_kind, family_of, kind_of, may_be, mode_of, reduction_kind, neighbourhood_kind}
+use Rattle.mpx_kind.specs.Kinds.{exchange_kind, family_of, kind_of, may_be, mode_of, reduction_kind, neighbourhood_kind}
 use Rattle.mpx_post.specs.Graphs.{GraphView, most_edges}
 use Rattle.mpx_post.specs.Posts.{IsColour, IsMaking}
 use Rattle.mpx_post.specs.Ranks.{AreRanks}

@@ -12,7 +12,7 @@ use Rattle.mpx_post.specs.declared.draft.Draft.{Draft}
 use Rattle.mpx_post.specs.declared.draft.PostError.{PostError}
 use Rattle.mpx_post.specs.declared.draft.PostError.TheVariants.{OutOfMemory}
 use Rattle.mpx_post.specs.Drafts.{Checks, are_counts, are_items, drafted_numbers, given_by, has_making, has_spelling, is_count, is_of, is_rank, numbers_refusal, received_counts, sent_counts, unless}
-use Rattle.mpx_post.specs.Kinds.{fields_of, kind_of}
+use Rattle.mpx_kind.specs.Kinds.{fields_of, kind_of}
 use Rattle.mpx_post.specs.Posts.{Given, most_counts, most_items}
 use Rattle.mpx_post.proofs.Limits.{from_not, not_wrong, right}
 use Rattle.mpx_post.proofs.Refusals.{three}

@@ -12,9 +12,9 @@ use Rattle.mpx_kind.specs.declared.kinds.Kind.TheVariants.{Barrier, Bcast, Gathe
 use Rattle.mpx_kind.specs.declared.kinds.Neighbourhood.{Neighbourhood}
 use Rattle.mpx_kind.specs.declared.kinds.Neighbourhood.TheVariants as H
 use Rattle.mpx_kind.specs.declared.kinds.Seat.{Seat}
-use Rattle.mpx_post.specs.Kinds.{fields_of, number_in}
+use Rattle.mpx_kind.specs.Kinds.{fields_of, number_in}
 use Rattle.mpx_post.specs.Seats.{lacks_topology, seat_at}
-use Rattle.mpx_post.specs.Topologies.{TopologyView}
+use Rattle.mpx_birth.specs.Topologies.{TopologyView}
 use Rattle.mpx_birth.specs.Ends.{Meet}
 use Rattle.mpx_post.specs.Posts.{Given, nothing_given, root_of, type_of, numbers_of, count_of, destinations_of, edges_of, fits_root, fits_type, group_of, sources_of, suits, weighted_of}
 use Rattle.mpx_birth.specs.declared.edges.Edge.{Edge}

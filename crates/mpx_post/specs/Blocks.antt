@@ -6,7 +6,7 @@ use Rattle.mpx_post.specs.declared.block.Block.{Block}
 use Rattle.mpx_kind.specs.declared.kinds.Seat.{Seat}
 use Rattle.mpx_kind.specs.declared.kinds.Sent.{Sent}
 use Rattle.mpx_kind.specs.declared.kinds.Sent.TheVariants.{Any, Scounts, Rcounts}
-use Rattle.mpx_post.specs.Kinds.{number_in}
+use Rattle.mpx_kind.specs.Kinds.{number_in}
 
 -- a list, so many times
 abbrev pub repeated : {A : Type 0} → ℕ → List A → List A

@@ -21,9 +21,9 @@ use Rattle.mpx_post.specs.declared.making.Making.{Making}
 use Rattle.mpx_post.specs.declared.making.Making.TheVariants.{Nothing, Split, Group, Edges, Neighbours}
 use Rattle.mpx_group.specs.Group.{has_twice}
 use Rattle.mpx_name.specs.Name.{Name, is_gathering}
-use Rattle.mpx_post.specs.Births.{BirthView, rank_in}
+use Rattle.mpx_birth.specs.Births.{BirthView, rank_in}
 use Rattle.mpx_post.specs.Seats.{lacks_topology, seat_at}
-use Rattle.mpx_post.specs.Kinds.{family_of, fields_of, number_in, is_had, kind_of, mode_of, makes_communicators, is_gathered}
+use Rattle.mpx_kind.specs.Kinds.{family_of, fields_of, number_in, is_had, kind_of, mode_of, makes_communicators, is_gathered}
 use Rattle.mpx_post.specs.Blocks.{blocks_sent}
 use Rattle.mpx_birth.specs.declared.edges.Edge.{Edge}
 use Rattle.mpx_birth.specs.declared.edges.Neighbour.{Neighbour}

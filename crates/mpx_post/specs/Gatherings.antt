@@ -4,7 +4,7 @@ use Rattle.std.specs.List.{list_all}
 use Rattle.mpx_group.specs.Group.{has, has_twice}
 use Rattle.mpx_post.specs.declared.draft.PostError.{PostError}
 use Rattle.mpx_post.specs.declared.draft.PostError.TheVariants.{NotMember, Closed, DepthUsedUp, BadGroup, BadTag, OutOfMemory}
-use Rattle.mpx_post.specs.Births.{BirthView, rank_in}
+use Rattle.mpx_birth.specs.Births.{BirthView, rank_in}
 use Rattle.mpx_post.specs.Drafts.{most_steps, natural, naturals, is_rank, is_tag, first_that_holds, unless}
 
 -- a tag, and the processes that gather, in their order

@@ -1,7 +1,3 @@
-pub use Rattle.mpx_birth.specs.Edges
-pub use Rattle.mpx_birth.specs.Topologies
-pub use Rattle.mpx_birth.specs.Births
-pub use Rattle.mpx_kind.specs.Kinds
 pub mod Seats
 pub mod Blocks
 pub mod Ranks

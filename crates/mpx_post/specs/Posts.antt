@@ -22,7 +22,7 @@ use Rattle.mpx_post.specs.declared.making.Making.TheVariants.{Nothing, Split, Gr
 use Rattle.mpx_birth.specs.declared.edges.Edge.{Edge}
 use Rattle.mpx_birth.specs.declared.edges.Neighbour.{Neighbour}
 use Rattle.mpx_post.specs.Graphs.{AreEdges, AreNeighbours}
-use Rattle.mpx_post.specs.Kinds.{family_of, fields_of, frees, is_had, may_be}
+use Rattle.mpx_kind.specs.Kinds.{family_of, fields_of, frees, is_had, may_be}
 
 -- what one member gives to one call: the kind with its fields
 pub record Given : Type 0 where

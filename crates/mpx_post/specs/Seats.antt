@@ -2,8 +2,8 @@
 use Rattle.std.specs.Prelude.{ℕ, Bool, Option, ◌&&◌, not, is_some}
 use Rattle.mpx_kind.specs.declared.kinds.Kind.{Kind}
 use Rattle.mpx_kind.specs.declared.kinds.Seat.{Seat}
-use Rattle.mpx_post.specs.Kinds.{family_of, needs_topology}
-use Rattle.mpx_post.specs.Topologies.{TopologyView, indegree_in, outdegree_in}
+use Rattle.mpx_kind.specs.Kinds.{family_of, needs_topology}
+use Rattle.mpx_birth.specs.Topologies.{TopologyView, indegree_in, outdegree_in}
 
 -- of the member with this rank, of so many
 abbrev pub seat_at : Option TopologyView → (size rank : ℕ) → (at_root : Bool) → Seat

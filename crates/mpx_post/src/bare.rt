@@ -1,6 +1,6 @@
-// Drafts without a communicator.
+//! Drafts without a communicator.
 ghost use Rattle.std.specs.Prelude.{◌≡◌, ◌&&◌, MatchOption, IfOk, OnErr, nat_le, length, true, false};
-ghost use Rattle.mpx_post.specs.Kinds.{fields_of, kind_of};
+ghost use Rattle.mpx_kind.specs.Kinds.{fields_of, kind_of};
 ghost use Rattle.mpx_post.specs.Drafts.{given_by, has_making, has_spelling, received_counts, sent_counts};
 ghost use Rattle.mpx_post.specs.Posts.{most_counts};
 

@@ -1,4 +1,4 @@
-// Numbers of items.
+//! Numbers of items.
 ghost use lib.Pointwise.{pointwise};
 ghost use Rattle.std.specs.Prelude.{◌≡◌, ◌≤◌, ◌*◌, ℕ, IfOk, [], length, nat_eq, take, true};
 ghost use Rattle.std.specs.List.{All, list_all, sum};
@@ -14,12 +14,12 @@ use std::sync::Arc;
 /// them.
 #[derive(Debug, Drop)]
 pub struct Counts {
-    list: Kept,
+    list: KeptCounts,
 }
 
 // How the counts are kept.
 #[derive(Debug, Drop)]
-enum Kept {
+enum KeptCounts {
     None,
     One([u16; 1]),
     Shared(Arc<Vec<u16>>),
@@ -42,7 +42,9 @@ impl Counts {
     pub fn none() -> Counts
         ensures { result ≡ [] }
     {
-        Counts { list: Kept::None }
+        Counts {
+            list: KeptCounts::None,
+        }
     }
 
     /// These counts.
@@ -53,11 +55,11 @@ impl Counts {
         match list.as_slice() {
             [] => Ok(Counts::none()),
             [count] => Ok(Counts {
-                list: Kept::One([*count]),
+                list: KeptCounts::One([*count]),
             }),
             _ => match Arc::new(alloc, list) {
                 Ok(list) => Ok(Counts {
-                    list: Kept::Shared(list),
+                    list: KeptCounts::Shared(list),
                 }),
                 Err(_) => Err(OutOfMemory),
             },
@@ -84,9 +86,9 @@ impl Counts {
         ensures few { length result.now ≤ most_counts }
     {
         match &self.list {
-            Kept::None => &[],
-            Kept::One(one) => one,
-            Kept::Shared(list) => list.as_slice(),
+            KeptCounts::None => &[],
+            KeptCounts::One(one) => one,
+            KeptCounts::Shared(list) => list.as_slice(),
         }
     }
 
@@ -112,19 +114,19 @@ impl Counts {
         ensures { result ≡ pointwise nat_eq self.now other.now }
     {
         match (&self.list, &other.list) {
-            (Kept::None, Kept::None) => true,
+            (KeptCounts::None, KeptCounts::None) => true,
             _ => self.as_slice() == other.as_slice(),
         }
     }
 
-    // The same counts once more, shared.
+    // A copy, which shares the list of counts.
     pub(crate) fn copy(&self) -> Result<Counts, OutOfMemory>
         ensures { IfOk result (λ copied. copied ≡ self.now) }
     {
         let list = match &self.list {
-            Kept::None => Kept::None,
-            Kept::One(one) => Kept::One(*one),
-            Kept::Shared(list) => Kept::Shared(Arc::try_clone(list)?),
+            KeptCounts::None => KeptCounts::None,
+            KeptCounts::One(one) => KeptCounts::One(*one),
+            KeptCounts::Shared(list) => KeptCounts::Shared(Arc::try_clone(list)?),
         };
         Ok(Counts { list })
     }

@@ -1,14 +1,13 @@
-// What a process would post, and whether it may.
+//! What a process would post, and whether it may.
 ghost use Rattle.std.specs.Prelude.{◌≡◌, ◌<◌, ◌≤◌, ◌&&◌, cond, None, Some, length, true, IfOk, IfErr, OnOk, Err};
 ghost use Rattle.std.specs.List.{list_all};
 ghost use Rattle.std.specs.Option.{option_or};
 ghost use Rattle.mpx_num.specs.Operations.{fits};
-ghost use Rattle.mpx_post.specs.Kinds.{fields_of, kind_of};
+ghost use Rattle.mpx_kind.specs.Kinds.{fields_of, kind_of};
 ghost use Rattle.mpx_post.specs.Seats.{lacks_topology};
-ghost use Rattle.mpx_post.specs.Topologies.{most_neighbours};
-ghost use Rattle.mpx_post.specs.Drafts.{is_count, naturals, drafted_making};
+ghost use Rattle.mpx_birth.specs.Topologies.{most_neighbours};
+ghost use Rattle.mpx_post.specs.Drafts.{is_count, naturals, drafted_making, Checks, refusal_of, at, given_by, has_making, most_calls, numbers_refusal, checked, checked_in, is_rank as is_rank_of, is_drafted_root, drafted_seat, sent_counts, received_counts, unless};
 ghost use Rattle.mpx_post.specs.declared.draft.PostError.TheVariants.{TooManyItems};
-ghost use Rattle.mpx_post.specs.Drafts.{Checks, refusal_of, at, given_by, has_making, most_calls, numbers_refusal, checked, checked_in, is_rank as is_rank_of, is_drafted_root, drafted_seat, sent_counts, received_counts, unless};
 ghost use Rattle.mpx_post.specs.Posts.{most_counts};
 
 use crate::counts::{Counts, are_counts};
@@ -149,8 +148,8 @@ impl Draft {
         }
     }
 
-    /// The same for the call with this number on the context with this name, where the process has posted a free or not. No
-    /// call has a post past the last.
+    /// Checks the draft as the process's post to the call with this number on the context with this name, where the process has
+    /// posted a free there or not: what [`Draft::check`] answers at that place. A number past the last gives no post.
     pub fn check_call(
         self,
         alloc: Global,
@@ -187,7 +186,7 @@ impl Draft {
         }
     }
 
-    /// The same draft once more, which shares its numbers, but for those of a graph.
+    /// A copy, which shares the lists of numbers, but for those of a graph.
     pub fn copy(&self) -> Result<Draft, OutOfMemory>
         ensures { IfOk result (λ copied. copied ≡ self.now) }
     {
@@ -369,7 +368,7 @@ fn copied_pair(first: &Numbers, second: &Numbers) -> Result<(Numbers, Numbers), 
     Ok((first, second))
 }
 
-// The same graph once more, where there is one.
+// A copy of the graph, where there is one.
 fn copied(graph: &Option<DraftedGraph>) -> Result<Option<DraftedGraph>, OutOfMemory>
     ensures { IfOk result (λ copied. copied ≡ graph.now) }
 {

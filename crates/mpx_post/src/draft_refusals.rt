@@ -1,8 +1,8 @@
-// Why a draft is refused: what is asked of it, in the order in which it is told.
+//! Why a draft is refused: what is asked of it, in the order in which it is told.
 ghost use Rattle.std.specs.Prelude.{◌≡◌, ◌≤◌, ◌&&◌, nat_le, Some, not, length};
 ghost use Rattle.mpx_post.specs.Drafts.{asked_first, first_that_holds, has_bad_group, has_colour_and_key, has_its_counts, is_misfilled, is_rank as is_rank_of, most_steps, numbers_refusal, place_refusals, ranks_in, received_counts, sent_counts, stray_refusals};
-ghost use Rattle.mpx_post.specs.Kinds.{family_of, fields_of, kind_of, makes_communicators};
-ghost use Rattle.mpx_post.specs.Topologies.{most_neighbours};
+ghost use Rattle.mpx_kind.specs.Kinds.{family_of, fields_of, kind_of, makes_communicators};
+ghost use Rattle.mpx_birth.specs.Topologies.{most_neighbours};
 
 use crate::counts::are_counts;
 use crate::draft::{At, Draft, MOST_CALLS, PostError};

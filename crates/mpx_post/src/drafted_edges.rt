@@ -1,4 +1,4 @@
-// What a draft says of a graph, with numbers that nobody has checked yet.
+//! What a draft says of a graph, with numbers that nobody has checked yet.
 ghost use Rattle.std.specs.Prelude.{◌≡◌, IfOk};
 
 use join_core::OutOfMemory;
@@ -88,7 +88,7 @@ impl DraftedGraph {
         self.destinations.as_slice()
     }
 
-    // The same graph once more.
+    // A copy of the graph, with lists of its own.
     pub(crate) fn copy(&self) -> Result<DraftedGraph, OutOfMemory>
         ensures { IfOk result (λ copied. copied ≡ self.now) }
     {

@@ -1,8 +1,8 @@
-// Who gathers for calls of `create_group`.
+//! Who gathers for calls of `create_group`.
 ghost use Rattle.std.specs.Prelude.{◌≡◌, ◌≢◌, ◌<◌, ◌≤◌, ◌^◌, [], length, true, false, IfOk};
 ghost use Rattle.std.specs.List.{list_all};
 ghost use Rattle.mpx_group.specs.Group.{has_twice};
-ghost use Rattle.mpx_post.specs.Births.{of_members};
+ghost use Rattle.mpx_birth.specs.Births.{of_members};
 ghost use Rattle.mpx_post.specs.Drafts.{is_rank as is_rank_of};
 ghost use Rattle.mpx_post.specs.Gatherings.{ChecksGathering, gathering, is_bad_group, members_at};
 

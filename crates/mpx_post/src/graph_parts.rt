@@ -1,4 +1,4 @@
-// What a post says of a graph.
+//! What a post says of a graph.
 ghost use Rattle.std.specs.Prelude.{◌≡◌, IfOk};
 ghost use Rattle.mpx_post.specs.Graphs.{AreEdges, AreNeighbours};
 
@@ -59,7 +59,7 @@ impl Edges {
         self.shared.list.as_slice()
     }
 
-    // The same edges once more, shared.
+    // A copy, which shares the list of edges.
     pub(crate) fn copy(&self) -> Result<Edges, OutOfMemory>
         ensures { IfOk result (λ copied. copied ≡ self.now) }
     {
@@ -132,7 +132,7 @@ impl OwnNeighbours {
         self.shared.near.destinations()
     }
 
-    // The same neighbours once more, shared.
+    // A copy, which shares the lists of neighbours.
     pub(crate) fn copy(&self) -> Result<OwnNeighbours, OutOfMemory>
         ensures { IfOk result (λ copied. copied ≡ self.now) }
     {

@@ -1,4 +1,4 @@
-// What a post says of the communicator that its call makes.
+//! What a post says of the communicator that its call makes.
 ghost use Rattle.std.specs.Prelude.{◌≡◌, IfOk};
 ghost use Rattle.mpx_post.specs.Equality.{same_making};
 ghost use Rattle.mpx_post.specs.Posts.{colour_in, destinations_in, edges_in, group_in, key_in, makes_of, sources_in, weighted_in};
@@ -26,7 +26,7 @@ pub enum Making {
 }
 
 impl Making {
-    // The same once more, its lists shared.
+    // A copy, which shares the lists.
     pub(crate) fn copy(&self) -> Result<Making, OutOfMemory>
         ensures { IfOk result (λ copied. copied ≡ self.now) }
     {

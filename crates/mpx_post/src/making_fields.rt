@@ -1,4 +1,4 @@
-// What a draft says of a new communicator.
+//! What a draft says of a new communicator.
 ghost use Rattle.std.specs.Prelude.{◌≡◌, ◌<◌, ◌≤◌, ◌^◌, true, unwrap_or, IfOk};
 ghost use Rattle.std.specs.Option.{option_map_or};
 ghost use Rattle.mpx_post.specs.Graphs.{most_edges, no_graph};

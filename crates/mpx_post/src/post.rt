@@ -1,8 +1,8 @@
-// What one member posts to one call.
+//! What one member posts to one call.
 ghost use Rattle.std.specs.Prelude.{◌≡◌, ◌≤◌, ◌*◌, is_some, OnOk, length};
 ghost use Rattle.std.specs.Option.{option_copied, option_map};
 ghost use Rattle.mpx_num.specs.ItemList.{ItemList};
-ghost use Rattle.mpx_post.specs.Kinds.{fields_of};
+ghost use Rattle.mpx_kind.specs.Kinds.{fields_of};
 ghost use Rattle.mpx_post.specs.Ranks.{AreRanks};
 ghost use Rattle.mpx_post.specs.Posts.{AreCounts, Given, IsColour, IsPost, are_items_of, colour_of, count_of, destinations_of, edges_of, few_items, group_of, is_free, key_of, sources_of, weighted_of};
 ghost use Rattle.mpx_post.specs.Equality.{same_option, same_items, same_operations};

@@ -1,11 +1,11 @@
-// The fields of a post, made from those of a draft.
+//! The fields of a post, made from those of a draft.
 ghost use Rattle.std.specs.Prelude.{◌≡◌, ◌<◌, ◌≤◌, MatchOption, ◌*◌, ◌==◌, ◌&&◌, true, false, not, cond, nat_lt, length, [], ◌∷◌, IfOk};
 ghost use Rattle.std.specs.List.{list_all, sum};
 ghost use Rattle.mpx_num.specs.Types.{item_len};
 ghost use Rattle.mpx_num.specs.ItemList.{is_whole};
 ghost use Rattle.mpx_post.specs.Blocks.{repeated};
 ghost use Rattle.mpx_post.specs.Posts.{most_counts, most_items};
-ghost use Rattle.mpx_post.specs.Topologies.{most_neighbours};
+ghost use Rattle.mpx_birth.specs.Topologies.{most_neighbours};
 ghost use Rattle.mpx_post.specs.Drafts.{first_that_holds, is_count, is_of, is_rank as is_rank_of, natural, naturals, unless, where_had as where_had_of};
 ghost use Rattle.mpx_post.specs.declared.draft.PostError.TheVariants.{ItemsLength, ItemOutOfRange, TooManyItems};
 

@@ -1,4 +1,4 @@
-// Lists of ranks, none twice.
+//! Lists of ranks, none twice.
 ghost use Rattle.std.specs.Prelude.{◌≡◌, IfOk};
 ghost use Rattle.mpx_post.specs.Ranks.{AreRanks};
 
@@ -45,7 +45,7 @@ impl Ranks {
         self.list.as_slice()
     }
 
-    // The same ranks once more, shared.
+    // A copy, which shares the list of ranks.
     pub(crate) fn copy(&self) -> Result<Ranks, OutOfMemory>
         ensures { IfOk result (λ copied. copied ≡ self.now) }
     {

@@ -1,4 +1,4 @@
-// The names of refusals, and which one tells of memory.
+//! The names of refusals, which one tells of memory, and which of a process that is no member.
 ghost use Rattle.std.specs.Prelude.{◌≡◌, ◌↔◌, IsTrue, Some};
 ghost use Rattle.mpx_post.specs.RefusalNames.{refusal_name};
 

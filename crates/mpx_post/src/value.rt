@@ -1,4 +1,4 @@
-// What the posts of a call give one member.
+//! What the posts of a call give one member.
 use mpx_num::Items;
 
 /// What the posts of a call give one member.

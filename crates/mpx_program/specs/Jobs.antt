@@ -13,7 +13,7 @@ use Rattle.mpx_program.specs.Status.{message, refusal_status, status}
 use Rattle.mpx_words.specs.Words.{job_in}
 
 -- a job is done with a script by its own operations, no gate ends it, and its answer gives the status and what is said
-pub record DoesWith (ops : List Operation) (job : Job) (there left old new : Option (List ℕ)) (code : ℕ) (Says : List ℕ → Type 0) : Type 0 where
+pub record DoesJobWith (ops : List Operation) (job : Job) (there left old new : Option (List ℕ)) (code : ℕ) (Says : List ℕ → Type 0) : Type 0 where
   pub answer : Result End RunError
   pub runs : Runs ops nowhere job there left old new answer
   pub ungated : answer ≢ Err GateGaveUp
@@ -26,7 +26,7 @@ pub record IsRefused (why : ErrorKind) (code : ℕ) (Says : List ℕ → Type 0)
   pub says : why ≡ kind.OutOfMemory → Says (codes "out of memory\n")
 
 -- a call is refused for its words: nothing is read or written
-pub record Refuses (words : List (List ℕ)) (there left old new : Option (List ℕ)) (code : ℕ) (Says : List ℕ → Type 0) : Type 0 where
+pub record RefusesWords (words : List (List ℕ)) (there left old new : Option (List ℕ)) (code : ℕ) (Says : List ℕ → Type 0) : Type 0 where
   pub why : ErrorKind
   pub asks : job_in words ≡ None
   pub refused : IsRefused why code Says
@@ -37,8 +37,8 @@ pub record Refuses (words : List (List ℕ)) (there left old new : Option (List 
 pub record DoesWords (ops : List Operation) (words : List (List ℕ)) (there left old new : Option (List ℕ)) (code : ℕ) (Says : List ℕ → Type 0) : Type 0 where
   pub job : Job
   pub asks : job_in words ≡ Some job
-  pub does : DoesWith ops job there left old new code Says
+  pub does : DoesJobWith ops job there left old new code Says
 
 -- the words ask for a job, or are refused
-abbrev pub Does : (ops : List Operation) (words : List (List ℕ)) (there left old new : Option (List ℕ)) (code : ℕ) (Says : List ℕ → Type 0) → Type 0
-Does ops words there left old new code Says = DoesWords ops words there left old new code Says ⊎ Refuses words there left old new code Says
+abbrev pub DoesJob : (ops : List Operation) (words : List (List ℕ)) (there left old new : Option (List ℕ)) (code : ℕ) (Says : List ℕ → Type 0) → Type 0
+DoesJob ops words there left old new code Says = DoesWords ops words there left old new code Says ⊎ RefusesWords words there left old new code Says

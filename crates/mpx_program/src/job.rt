@@ -2,7 +2,7 @@
 ghost use Rattle.std.specs.Prelude.{OnOk, map, string_bytes};
 ghost use Rattle.std.specs.Io.KnownBytes.{Appends};
 ghost use Rattle.clap.specs.Words.{kind_of};
-ghost use Rattle.mpx_program.specs.Jobs.{Does, IsRefused};
+ghost use Rattle.mpx_program.specs.Jobs.{DoesJob, IsRefused};
 
 use crate::status::{refusal_status, status_of, write_message, write_refusal};
 use mpx_num::{Listing, Ops};
@@ -33,13 +33,13 @@ pub fn run_job<T: Threads + Wait + Sync, R: Read, W: Write, E: Write>(
     err: &mut E,
     ops: &Ops,
 ) -> Exit
-    ensures { Does (⟦<Ops as Listing>⟧.operations ops.now) (map string_bytes words.now) (R.remaining reader.old) (R.remaining reader.new) (W.contents out.old) (W.contents out.new)
+    ensures { DoesJob (⟦<Ops as Listing>⟧.operations ops.now) (map string_bytes words.now) (R.remaining reader.old) (R.remaining reader.new) (W.contents out.old) (W.contents out.new)
         result.status (λ said. OnOk result.told (Appends (E.contents err.old) (E.contents err.new) said)) }
 {
     run_job_observed(rt, alloc, words, reader, out, err, &mut Unobserved, ops)
 }
 
-/// The same, with somebody who looks on at the run, where the words ask for a simulated one.
+/// Does the job that the words ask for, as [`run_job`] does; where they ask for a simulated run, `observer` is told of its turns.
 pub fn run_job_observed<T: Threads + Wait + Sync, R: Read, W: Write, E: Write>(
     rt: &T,
     alloc: Global,
@@ -50,7 +50,7 @@ pub fn run_job_observed<T: Threads + Wait + Sync, R: Read, W: Write, E: Write>(
     observer: &mut dyn Observer,
     ops: &Ops,
 ) -> Exit
-    ensures { Does (⟦<Ops as Listing>⟧.operations ops.now) (map string_bytes words.now) (R.remaining reader.old) (R.remaining reader.new) (W.contents out.old) (W.contents out.new)
+    ensures { DoesJob (⟦<Ops as Listing>⟧.operations ops.now) (map string_bytes words.now) (R.remaining reader.old) (R.remaining reader.new) (W.contents out.old) (W.contents out.new)
         result.status (λ said. OnOk result.told (Appends (E.contents err.old) (E.contents err.new) said)) }
 {
     match job_of(alloc, words) {

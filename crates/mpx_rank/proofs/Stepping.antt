@@ -16,17 +16,17 @@ use Rattle.mpx_statement.specs.declared.statement.Statement.{Statement}
 use Rattle.mpx_statement.specs.declared.statement.Statement.TheVariants.{Post, Wait, Ask}
 use Rattle.mpx_statement.specs.Statements.{bound_to, posted_on, started_as}
 use Rattle.mpx_statement.specs.Lookups.{named}
-use Rattle.mpx_evaluation.specs.Ranks.{Act, Communicator, Do, Line, Local, Refused, Todo, Told, answered as answer_line, answered_by, answers, attempt, awaited_by, bind, bound_by, communicator_of, doing, done, found_of, next_call, origins_of, step, waited_lines}
-use Rattle.mpx_evaluation.specs.Going.{Goes, stays as stays_there, moves}
-use Rattle.mpx_evaluation.specs.Standing.{WaitView, awaited, binds, todo_of}
-use Rattle.mpx_evaluation.specs.Transcripts.{line_text, outcome_text}
-use Rattle.mpx_evaluation.proofs.Fronts.{slice_get-parts}
-use Rattle.mpx_evaluation.proofs.Standing.{named_behind, named_without_all}
-use Rattle.mpx_evaluation.proofs.Steps as S
-use Rattle.mpx_evaluation.proofs.Passing.{answer_no_call}
-use Rattle.mpx_rank.specs.Carriers.{IsWithin, Terms, outcomes_of}
+use Rattle.mpx_meaning.specs.Ranks.{Act, Communicator, Do, Line, Local, Refused, Todo, Told, answered as answer_line, answered_by, answers, attempt, awaited_by, bind, bound_by, communicator_of, doing, done, found_of, next_call, origins_of, step, waited_lines}
+use Rattle.mpx_meaning.specs.Going.{Goes, stays as stays_there, moves}
+use Rattle.mpx_meaning.specs.Standing.{WaitView, awaited, binds, todo_of}
+use Rattle.mpx_meaning.specs.Transcripts.{line_text, outcome_text}
+use Rattle.mpx_meaning.proofs.Fronts.{slice_get-parts}
+use Rattle.mpx_meaning.proofs.Standing.{named_behind, named_without_all}
+use Rattle.mpx_meaning.proofs.Steps as S
+use Rattle.mpx_meaning.proofs.Passing.{answer_no_call}
+use Rattle.mpx_rank.specs.Carriers.{IsToldWithin, Terms, outcomes_of}
 use Rattle.mpx_rank.specs.Moves.{GoesOn, Move, Ran, RankView, Still, answered, are_done, asks, communicator_in, found_by, has_ended, heard, hears, is_refused, moved_on, passes, passes_not, posted, posts, posts_not, refused, started, starts, stayed, wait_lines, waited, waits_on}
-use Rattle.mpx_rank.specs.Places.{CommunicatorView, Stands, attempt_by, bound_as}
+use Rattle.mpx_rank.specs.Places.{CommunicatorView, StandsInScript, attempt_by, bound_as}
 use Rattle.mpx_rank.proofs.Moving.{todo_length, wait_lines-length}
 use Rattle.mpx_rank.proofs.Telling.{all_done_later, lines_later, wait_tells}
 use Rattle.mpx_rank.proofs.Words.{answers_done, attempt_same, bound_behind, bound_there, communicator_same, found_behind, lines_told}
@@ -47,7 +47,7 @@ IsOn s posting on = (c : CommunicatorView) → on ≡ Some c → named s.bound (
 -- the carrier fits as After says
 pub record GoesBy (ops : List Operation) {C : Type 0} (terms : Terms C CommunicatorView) (known : Results) (me : ℕ) (s : Local) (Fits : C → Type 0) (After : Local → C → Type 0) : Type 0 where
   pub hears : (c d : C) → Fits c → terms.hears c d → Fits d
-  pub tells : (c : C) → Fits c → IsWithin (terms.tells c me) (outcomes_of known)
+  pub tells : (c : C) → Fits c → IsToldWithin (terms.tells c me) (outcomes_of known)
   pub gives : (c : C) → Fits c → (name : Name) (call : ℕ) (to : Option CommunicatorView) → terms.gives c me name call to → (answer : Answer) × (known name call ≡ Some answer) × (bound_as to ≡ bound_by answer.outcome answer.born)
   pub closes : (c : C) → Fits c → (communicator : CommunicatorView) → terms.closes c me communicator ≡ has_freed communicator.0 s.made
   pub knows : (c : C) → Fits c → (communicator : CommunicatorView) → terms.closes c me communicator ≡ false → terms.knows c communicator ≡ Some communicator
@@ -62,8 +62,8 @@ pub record GoesBy (ops : List Operation) {C : Type 0} (terms : Terms C Communica
 
 -- what a carrier told a rank it still tells when it has heard of others, and when it has tried a post
 pub record StaysTold {C : Type 0} (terms : Terms C CommunicatorView) (me : ℕ) : Type 0 where
-  pub heard : (c d : C) → terms.hears c d → IsWithin (terms.tells c me) (terms.tells d me)
-  pub tried : (c d : C) (posting : Posting) (on : Option CommunicatorView) (result : _) → terms.tries c me posting on result d → IsWithin (terms.tells c me) (terms.tells d me)
+  pub heard : (c d : C) → terms.hears c d → IsToldWithin (terms.tells c me) (terms.tells d me)
+  pub tried : (c d : C) (posting : Posting) (on : Option CommunicatorView) (result : _) → terms.tries c me posting on result d → IsToldWithin (terms.tells c me) (terms.tells d me)
 
 -- each line of the rank that tells an outcome was told by the carrier
 abbrev pub TellsLines : {C : Type 0} → Terms C CommunicatorView → (me : ℕ) → C → Local → Type 0
@@ -73,13 +73,13 @@ TellsLines terms me c s = (i : ℕ) (name : Name) (call : ℕ) (outcome : Outcom
 pub record Stepped (ops : List Operation) {C : Type 0} (terms : Terms C CommunicatorView) (known : Results) (me : ℕ) (s : Local) (c : C) (After : Local → C → Type 0) (r : RankView CommunicatorView) (d : C) : Type 0 where
   pub to : Local
   pub steps : step ops known s ≡ Some to
-  pub stands : Stands r to
+  pub stands : StandsInScript r to
   pub fits : After to d
   pub tells : StaysTold terms me → TellsLines terms me c s → TellsLines terms me d to
 
 -- ONE MOVE
 
-module _ (ops : List Operation) {C : Type 0} (terms : Terms C CommunicatorView) (known : Results) (r : RankView CommunicatorView) (s : Local) (stands : Stands r s) (local_me : s.me ≡ r.me) (Fits : C → Type 0) (After : Local → C → Type 0) (by : GoesBy ops terms known r.me s Fits After) where
+module _ (ops : List Operation) {C : Type 0} (terms : Terms C CommunicatorView) (known : Results) (r : RankView CommunicatorView) (s : Local) (stands : StandsInScript r s) (local_me : s.me ≡ r.me) (Fits : C → Type 0) (After : Local → C → Type 0) (by : GoesBy ops terms known r.me s Fits After) where
   todo_is : (waits : Option WaitView) (todo : List Statement) → r.waits ≡ waits → r.todo ≡ todo → s.todo ≡ todo_of waits todo
   todo_is waits todo w e = stands.todo ∙ λ i. todo_of (w i) (e i)
 
@@ -93,7 +93,7 @@ module _ (ops : List Operation) {C : Type 0} (terms : Terms C CommunicatorView) 
   abbrev News : Act → C → Type 0
   News a d = (i : ℕ) (name : Name) (call : ℕ) (outcome : Outcome) → slice_get a.lines i ≡ Some (Told name call outcome) → terms.tells d r.me name call ≡ Some outcome
 
-  stepped : (c d : C) (new : RankView CommunicatorView) (a : Act) → step ops known s ≡ Some (done s a) → Stands new (done s a) → After (done s a) d → (StaysTold terms r.me → IsWithin (terms.tells c r.me) (terms.tells d r.me)) → (StaysTold terms r.me → News a d) → Stepped ops terms known r.me s c After new d
+  stepped : (c d : C) (new : RankView CommunicatorView) (a : Act) → step ops known s ≡ Some (done s a) → StandsInScript new (done s a) → After (done s a) d → (StaysTold terms r.me → IsToldWithin (terms.tells c r.me) (terms.tells d r.me)) → (StaysTold terms r.me → News a d) → Stepped ops terms known r.me s c After new d
   stepped c d new a e there fits within news = record {
     to = done s a;
     steps = e;
@@ -231,7 +231,7 @@ module _ (ops : List Operation) {C : Type 0} (terms : Terms C CommunicatorView) 
   move_steps c new d fits (asks question rest text waits todo said) = asks_steps c fits question rest text waits todo said
 
   -- without a move the carrier still fits
-  pub still_fits : (c d : C) → Fits c → Still terms r c d → Fits d × (StaysTold terms r.me → IsWithin (terms.tells c r.me) (terms.tells d r.me))
+  pub still_fits : (c d : C) → Fits c → Still terms r c d → Fits d × (StaysTold terms r.me → IsToldWithin (terms.tells c r.me) (terms.tells d r.me))
   still_fits c d fits (has_ended waits todo) = (fits, λ stay name call outcome told. told)
   still_fits c d fits (waits_on w waits h none) = (by.hears c d fits h, λ stay. stay.heard c d h)
   still_fits c d fits (passes_not {mid = mid} words rest waits todo before undone after) = (
@@ -260,22 +260,22 @@ pub record Came (ops : List Operation) {C : Type 0} (terms : Terms C Communicato
   pub goes : Goes ops known s to
   pub me_is : r.me ≡ me
   pub local_me : to.me ≡ me
-  pub stands : Stands r to
+  pub stands : StandsInScript r to
   pub fits : Fits to d
   pub tells : StaysTold terms me → TellsLines terms me c s → TellsLines terms me d to
 
 module _ (ops : List Operation) {C : Type 0} (terms : Terms C CommunicatorView) (known : Results) (me : ℕ) (Fits : Local → C → Type 0) (by : (s : Local) → s.me ≡ me → GoesBy ops terms known me s (Fits s) Fits) where
-  module _ (r : RankView CommunicatorView) (s : Local) (me_is : r.me ≡ me) (local_me : s.me ≡ me) (stands : Stands r s) where
+  module _ (r : RankView CommunicatorView) (s : Local) (me_is : r.me ≡ me) (local_me : s.me ≡ me) (stands : StandsInScript r s) where
     goes_by : GoesBy ops terms known r.me s (Fits s) Fits
     goes_by = subst (λ p. GoesBy ops terms known p s (Fits s) Fits) (sym me_is) (by s local_me)
 
     pub moves_once : (c : C) (new : RankView CommunicatorView) (d : C) → Fits s c → Move terms r c new d → Stepped ops terms known me s c Fits new d
     moves_once c new d fits move = subst (λ p. Stepped ops terms known p s c Fits new d) me_is (move_steps ops terms known r s stands (local_me ∙ sym me_is) (Fits s) Fits goes_by c new d fits move)
 
-    pub stands_still : (c d : C) → Fits s c → Still terms r c d → Fits s d × (StaysTold terms me → IsWithin (terms.tells c me) (terms.tells d me))
-    stands_still c d fits still = subst (λ p. Fits s d × (StaysTold terms p → IsWithin (terms.tells c p) (terms.tells d p))) me_is (still_fits ops terms known r s stands (local_me ∙ sym me_is) (Fits s) Fits goes_by c d fits still)
+    pub stands_still : (c d : C) → Fits s c → Still terms r c d → Fits s d × (StaysTold terms me → IsToldWithin (terms.tells c me) (terms.tells d me))
+    stands_still c d fits still = subst (λ p. Fits s d × (StaysTold terms p → IsToldWithin (terms.tells c p) (terms.tells d p))) me_is (still_fits ops terms known r s stands (local_me ∙ sym me_is) (Fits s) Fits goes_by c d fits still)
 
-  module _ (r : RankView CommunicatorView) (s : Local) (me_is : r.me ≡ me) (local_me : s.me ≡ me) (stands : Stands r s) where
+  module _ (r : RankView CommunicatorView) (s : Local) (me_is : r.me ≡ me) (local_me : s.me ≡ me) (stands : StandsInScript r s) where
     -- moves, one after the other
     pub ran_goes : (c : C) (new : RankView CommunicatorView) (d : C) (moved : Bool) → Fits s c → Ran terms r c new d moved → Came ops terms known me s c Fits new d
     ran_goes c new d moved fits stayed = record { to = s; goes = stays_there; me_is = me_is; local_me = local_me; stands = stands; fits = fits; tells = λ stay lines. lines }

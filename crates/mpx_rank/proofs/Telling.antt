@@ -5,9 +5,9 @@ use Rattle.std.proofs.lemmas.Option.{same_Some}
 use Rattle.std.specs.Str.{bytes_eq}
 use Rattle.mpx_name.specs.Name.{Name}
 use Rattle.mpx_value.specs.declared.outcomes.Outcome.{Outcome}
-use Rattle.mpx_evaluation.specs.Ranks.{Told}
-use Rattle.mpx_evaluation.specs.Standing.{closed}
-use Rattle.mpx_rank.specs.Carriers.{IsWithin, Outcomes, Terms, is_told}
+use Rattle.mpx_meaning.specs.Ranks.{Told}
+use Rattle.mpx_meaning.specs.Standing.{closed}
+use Rattle.mpx_rank.specs.Carriers.{IsToldWithin, Outcomes, Terms, is_told}
 use Rattle.mpx_rank.specs.Waits.{WasNotDone}
 use Rattle.mpx_rank.specs.Moves.{are_done, is_done, request_line, told_line, wait_lines}
 
@@ -64,7 +64,7 @@ there : (o : Option Outcome) → is_some o ≡ true → (outcome : Outcome) × (
 there None e = cc e
 there (Some outcome) e = (outcome, refl)
 
-module _ (a b : Outcomes) (within : IsWithin a b) where
+module _ (a b : Outcomes) (within : IsToldWithin a b) where
   told_both : (place : Name × ℕ) → is_told a place ≡ true → (outcome : Outcome) × (a place.0 place.1 ≡ Some outcome) × (b place.0 place.1 ≡ Some outcome)
   told_both place h = let found = there (a place.0 place.1) h in (found.0, found.1, within place.0 place.1 found.0 found.1)
 

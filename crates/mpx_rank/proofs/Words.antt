@@ -9,11 +9,11 @@ use Rattle.mpx_name.specs.Name.{Name}
 use Rattle.mpx_value.specs.Histories.{Answer, Made, Results, has_freed}
 use Rattle.mpx_statement.specs.declared.statement.Posting.{Posting}
 use Rattle.mpx_statement.specs.Lookups.{named}
-use Rattle.mpx_evaluation.specs.declared.asking.Found.{Found}
-use Rattle.mpx_evaluation.specs.declared.asking.Found.TheVariants as W
-use Rattle.mpx_evaluation.specs.Ranks.{Bindings, Bound, Communicator, NullCommunicator, Requests, Idle, answers, attempt_on, awaited_by, awaited_then, bind, communicator_of, found_as, found_of, line_then, open_or_null, waited_lines, without}
-use Rattle.mpx_evaluation.specs.Standing.{binds, closed}
-use Rattle.mpx_evaluation.proofs.Standing.{binds_seen, named_behind, named_without, same_word}
+use Rattle.mpx_meaning.specs.declared.asking.Found.{Found}
+use Rattle.mpx_meaning.specs.declared.asking.Found.TheVariants as W
+use Rattle.mpx_meaning.specs.Ranks.{Bindings, Bound, Communicator, NullCommunicator, Requests, Idle, answers, attempt_on, awaited_by, awaited_then, bind, communicator_of, found_as, found_of, line_then, open_or_null, waited_lines, without}
+use Rattle.mpx_meaning.specs.Standing.{binds, closed}
+use Rattle.mpx_meaning.proofs.Standing.{binds_seen, named_behind, named_without, same_word}
 use Rattle.mpx_rank.specs.Carriers.{outcomes_of}
 use Rattle.mpx_rank.specs.Moves.{are_done, communicator_in, found_in, is_done, request_line, told_line, wait_lines}
 use Rattle.mpx_rank.specs.Places.{CommunicatorView, attempt_by, bound_as}

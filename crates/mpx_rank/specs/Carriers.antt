@@ -2,12 +2,12 @@
 use Rattle.std.specs.Prelude.{◌≡◌, ℕ, Bool, is_some, Option, Some, None, Result, Ok, Err, string_bytes}
 use Rattle.std.specs.Option.{option_map}
 use Rattle.mpx_name.specs.Name.{Name}
-use Rattle.mpx_post.specs.Births.{BirthView}
+use Rattle.mpx_birth.specs.Births.{BirthView}
 use Rattle.mpx_post.specs.declared.draft.PostError.{PostError}
 use Rattle.mpx_value.specs.declared.outcomes.Outcome.{Outcome}
 use Rattle.mpx_value.specs.Histories.{Answer, Results}
 use Rattle.mpx_statement.specs.declared.statement.Posting.{Posting}
-use Rattle.mpx_evaluation.specs.Transcripts.{outcome_text}
+use Rattle.mpx_meaning.specs.Transcripts.{outcome_text}
 use Rattle.mpx_rank.specs.declared.carrier.Heard.{Heard}
 use Rattle.mpx_rank.specs.declared.carrier.Heard.TheVariants.{NotYet, Told}
 
@@ -48,8 +48,8 @@ abbrev pub is_told : Outcomes → Name × ℕ → Bool
 is_told told place = is_some (told place.0 place.1)
 
 -- what is told by the one is told by the other
-abbrev pub IsWithin : Outcomes → Outcomes → Type 0
-IsWithin some more = (name : Name) (call : ℕ) (outcome : Outcome) → some name call ≡ Some outcome → more name call ≡ Some outcome
+abbrev pub IsToldWithin : Outcomes → Outcomes → Type 0
+IsToldWithin some more = (name : Name) (call : ℕ) (outcome : Outcome) → some name call ≡ Some outcome → more name call ≡ Some outcome
 
 -- nothing is told of the call, which goes back; or its outcome, and the communicator that it gave
 abbrev pub HearsOf : {C K Call : Type 0} → Terms C K → C → (me : ℕ) → (place : Name × ℕ) → Call → Heard Call K → Type 0

@@ -2,7 +2,7 @@
 use Rattle.std.specs.Prelude.{◌≡◌, ℕ, ◌+◌, ◌*◌, Bool, true, false, ◌||◌, cond, is_some, codes, bytes_eq, List, [], ◌∷◌, ◌++◌, length, map, Option, Some, None, Ok, Err}
 use Rattle.std.specs.List.{list_all}
 use Rattle.mpx_name.specs.Name.{Name}
-use Rattle.mpx_post.specs.Births.{BirthView}
+use Rattle.mpx_birth.specs.Births.{BirthView}
 use Rattle.mpx_post.specs.declared.draft.PostError.{PostError}
 use Rattle.mpx_post.specs.declared.draft.PostError.TheVariants.{OutOfMemory}
 use Rattle.mpx_value.specs.declared.outcomes.Outcome.{Outcome}
@@ -11,12 +11,12 @@ use Rattle.mpx_statement.specs.declared.statement.Question.{Question}
 use Rattle.mpx_statement.specs.declared.statement.Statement.{Statement}
 use Rattle.mpx_statement.specs.declared.statement.Statement.TheVariants.{Post, Wait, Ask}
 use Rattle.mpx_statement.specs.Statements.{bound_to, posted_on, started_as}
-use Rattle.mpx_evaluation.specs.declared.origin.Origin.{Origin}
-use Rattle.mpx_evaluation.specs.declared.asking.Found.{Found}
-use Rattle.mpx_evaluation.specs.declared.asking.Found.TheVariants as W
-use Rattle.mpx_evaluation.specs.Ranks.{Line, Told, Refused, Idle, answered_by, found_as, origins_of}
-use Rattle.mpx_evaluation.specs.Standing.{WaitView, awaited, binds, closed, closed_all, has_statements}
-use Rattle.mpx_evaluation.specs.Transcripts.{line_text, outcome_text}
+use Rattle.mpx_meaning.specs.declared.origin.Origin.{Origin}
+use Rattle.mpx_meaning.specs.declared.asking.Found.{Found}
+use Rattle.mpx_meaning.specs.declared.asking.Found.TheVariants as W
+use Rattle.mpx_meaning.specs.Ranks.{Line, Told, Refused, Idle, answered_by, found_as, origins_of}
+use Rattle.mpx_meaning.specs.Standing.{WaitView, awaited, binds, closed, closed_all, has_statements}
+use Rattle.mpx_meaning.specs.Transcripts.{line_text, outcome_text}
 use Rattle.mpx_rank.specs.Carriers.{Outcomes, Terms, is_told}
 
 -- who it is, what its words are bound to (None is the null communicator) and which calls its open requests stand for, the

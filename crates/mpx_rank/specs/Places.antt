@@ -5,14 +5,14 @@ use Rattle.mpx_num.specs.declared.own.Operation.{Operation}
 use Rattle.mpx_name.specs.Name.{Name}
 use Rattle.mpx_post.specs.declared.draft.PostError.{PostError}
 use Rattle.mpx_post.specs.declared.draft.PostError.TheVariants.{NotMember}
-use Rattle.mpx_post.specs.Births.{BirthView}
+use Rattle.mpx_birth.specs.Births.{BirthView}
 use Rattle.mpx_value.specs.Histories.{Made}
 use Rattle.mpx_statement.specs.declared.statement.Posting.{Posting}
 use Rattle.mpx_statement.specs.Statements.{draft_of, gathers_of}
 use Rattle.mpx_statement.specs.Lookups.{named}
-use Rattle.mpx_evaluation.specs.Ranks.{Bound, Communicator, NullCommunicator, Local, attempt_in}
-use Rattle.mpx_evaluation.specs.Standing.{todo_of}
-use Rattle.mpx_evaluation.specs.Transcripts.{line_text}
+use Rattle.mpx_meaning.specs.Ranks.{Bound, Communicator, NullCommunicator, Local, attempt_in}
+use Rattle.mpx_meaning.specs.Standing.{todo_of}
+use Rattle.mpx_meaning.specs.Transcripts.{line_text}
 use Rattle.mpx_rank.specs.Moves.{RankView}
 
 -- a communicator: its name, and how it came to be
@@ -30,7 +30,7 @@ attempt_by ops me made posting None = Err NotMember
 attempt_by ops me made posting (Some c) = attempt_in ops me made (draft_of posting) (gathers_of posting) c.0 c.1
 
 -- the rank stands there in its script
-pub record Stands (r : RankView CommunicatorView) (s : Local) : Type 0 where
+pub record StandsInScript (r : RankView CommunicatorView) (s : Local) : Type 0 where
   pub bound : (word : List ℕ) → option_map bound_as (r.bound word) ≡ named s.bound word
   pub requests : (word : List ℕ) → r.requests word ≡ named s.requests word
   pub todo : s.todo ≡ todo_of r.waits r.todo

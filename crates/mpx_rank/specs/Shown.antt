@@ -1,12 +1,11 @@
 -- What the code's ranks show.
-use Rattle.std.specs.Prelude.{ℕ, map, string_bytes}
+use Rattle.std.specs.Prelude.{ℕ, map, string_bytes, List, Option}
 use Rattle.std.specs.Option.{option_copied, option_map}
 use Rattle.std.specs.BTreeMap.{BTreeMap}
-use Rattle.std.specs.Prelude.{List, Option}
 use Rattle.mpx_name.specs.Name.{Name}
-use Rattle.mpx_evaluation.specs.Standing.{WaitView, looked_up}
-use Rattle.mpx_rank.specs.declared.rank.Rank.{Rank}
-use Rattle.mpx_rank.specs.declared.rank.Wait.{Wait}
+use Rattle.mpx_meaning.specs.Standing.{WaitView, looked_up}
+use Rattle.mpx_rank.specs.declared.interpreter.Interpreter.{Interpreter}
+use Rattle.mpx_rank.specs.declared.interpreter.Wait.{Wait}
 use Rattle.mpx_rank.specs.Moves.{RankView}
 
 -- which calls the open requests of words stand for
@@ -20,7 +19,7 @@ place_of w = (w.name, w.call)
 abbrev pub wait_of : {Call : Type 0} → (Call → Name × ℕ) → Wait Call → WaitView
 wait_of place w = record { name = (place w.call).0; call = (place w.call).1; target = option_copied w.target }
 
-abbrev pub rank_of : {C K Call : Type 0} → (Call → Name × ℕ) → Rank C K Call → RankView K
+abbrev pub rank_of : {C K Call : Type 0} → (Call → Name × ℕ) → Interpreter C K Call → RankView K
 rank_of place r = record {
   me = r.me;
   bound = looked_up r.bound;

@@ -1,10 +1,10 @@
 //! What came of a call, for carriers whose communicators are names and births.
 ghost use Rattle.std.specs.Prelude.{◌≡◌, IfOk};
-ghost use Rattle.mpx_evaluation.specs.Ranks.{bound_by};
+ghost use Rattle.mpx_meaning.specs.Ranks.{bound_by};
 
 use join_core::{Exact, OutOfMemory};
+use mpx_birth::Birth;
 use mpx_name::Name;
-use mpx_post::Birth;
 use mpx_value::Outcome;
 use std::alloc::Global;
 

@@ -1,18 +1,18 @@
 //! Statements that are answered at once.
 ghost use Rattle.std.specs.Prelude.{◌≡◌, IfOk, string_bytes};
-ghost use Rattle.mpx_evaluation.specs.Transcripts.{line_text};
-ghost use Rattle.mpx_evaluation.specs.Ranks.{answered_by, found_map};
-ghost use Rattle.mpx_evaluation.specs.Standing.{looked_up};
+ghost use Rattle.mpx_meaning.specs.Transcripts.{line_text};
+ghost use Rattle.mpx_meaning.specs.Ranks.{answered_by, found_map};
+ghost use Rattle.mpx_meaning.specs.Standing.{looked_up};
 ghost use Rattle.mpx_rank.specs.Moves.{closed_by, communicator_in, found_by, found_with};
 
 use crate::carrier::Carrier;
-use crate::rank::communicator;
+use crate::interpreter::communicator;
 use join_core::OutOfMemory;
-use mpx_evaluation::{Found, comparison_answer, neighbours_answer, translation_answer};
+use mpx_birth::Birth;
 use mpx_group::Proc;
+use mpx_meaning::{Found, comparison_answer, neighbours_answer, translation_answer};
 use mpx_name::Name;
 use mpx_num::{Listing, Ops};
-use mpx_post::Birth;
 use mpx_statement::{Question, Word};
 use std::alloc::Global;
 use std::collections::BTreeMap;

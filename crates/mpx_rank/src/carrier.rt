@@ -3,13 +3,14 @@ ghost use Rattle.std.specs.Prelude.{◌≡◌, ℕ, IfOk, List, OnOk};
 ghost use Rattle.std.specs.Option.{option_copied, option_map};
 ghost use Rattle.mpx_name.specs.Name.{Name as NameView};
 ghost use Rattle.mpx_num.specs.declared.own.Operation.{Operation};
-ghost use Rattle.mpx_rank.specs.Carriers.{HearsOf, IsWithin, Terms, is_told, placed};
+ghost use Rattle.mpx_rank.specs.Carriers.{HearsOf, IsToldWithin, Terms, is_told, placed};
 
 use join_core::OutOfMemory;
+use mpx_birth::Birth;
 use mpx_group::Proc;
 use mpx_name::Name;
 use mpx_num::{Listing, Ops};
-use mpx_post::{Birth, PostError};
+use mpx_post::PostError;
 use mpx_statement::Posting;
 use std::alloc::Global;
 
@@ -95,5 +96,5 @@ pub trait Carrier: Drop {
     ghost hears_more: { (operations : List Operation) (a b c : Self) → (terms operations).hears a b → (terms operations).hears b c → (terms operations).hears a c };
 
     /// What was told stays told.
-    ghost stays_told: { (operations : List Operation) (a b : Self) → (terms operations).hears a b → (me : ℕ) → IsWithin ((terms operations).tells a me) ((terms operations).tells b me) };
+    ghost stays_told: { (operations : List Operation) (a b : Self) → (terms operations).hears a b → (me : ℕ) → IsToldWithin ((terms operations).tells a me) ((terms operations).tells b me) };
 }

@@ -1,9 +1,9 @@
 //! Which statement each line belongs to.
 ghost use Rattle.std.specs.Prelude.{◌≡◌, ◌≤◌, ◌+◌, ◌++◌, OnOk, length};
-ghost use Rattle.mpx_evaluation.specs.Ranks.{origins_of};
+ghost use Rattle.mpx_meaning.specs.Ranks.{origins_of};
 
 use join_core::OutOfMemory;
-use mpx_evaluation::Origin;
+use mpx_meaning::Origin;
 use mpx_statement::Statement;
 
 /// Adds so many lines of one statement, of which one or none is awaited and behind which these are left.

@@ -1,16 +1,16 @@
 //! Waits for open requests.
 ghost use Rattle.std.specs.Prelude.{◌≡◌, ◌++◌, ℕ, IfOk, IsTrue, List, OnOk, cond, map, string_bytes, true, false};
 ghost use Rattle.std.specs.Option.{option_copied, option_map};
-ghost use Rattle.mpx_evaluation.specs.Transcripts.{as_text, line_text};
-ghost use Rattle.mpx_evaluation.specs.Standing.{closed, closed_all};
+ghost use Rattle.mpx_meaning.specs.Transcripts.{as_text, line_text};
+ghost use Rattle.mpx_meaning.specs.Standing.{closed, closed_all};
 ghost use Rattle.mpx_rank.specs.Moves.{are_done, is_done, request_line, wait_lines};
 ghost use Rattle.mpx_rank.specs.Waits.{WasNotDone};
 ghost use Rattle.mpx_rank.specs.Shown.{requests_of};
 
 use crate::carrier::{Carrier, Heard};
 use join_core::OutOfMemory;
-use mpx_evaluation::idle_line;
 use mpx_group::Proc;
+use mpx_meaning::idle_line;
 use mpx_num::{Listing, Ops};
 use mpx_statement::Word;
 use std::alloc::Global;

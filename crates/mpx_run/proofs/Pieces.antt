@@ -1,12 +1,10 @@
 -- What is read and written, piece by piece.
-use Rattle.std.proofs.Common.{◌≡◌, ℕ, ◌+◌, ◌-◌, ◌≤◌, List, [], ◌++◌, length, take, drop, Option, Some, None, sym, ap, ◌∙◌, ◌<◌, arith, subst}
-use Rattle.std.specs.Prelude.{IfSome}
+use Rattle.std.proofs.Common.{◌≡◌, ℕ, ◌+◌, ◌-◌, ◌≤◌, List, [], ◌++◌, length, take, drop, Option, Some, None, sym, ap, ◌∙◌, ◌<◌, arith, subst, Ok}
+use Rattle.std.specs.Prelude.{IfSome, min, Result, Err, OnErr}
 use Rattle.std.specs.Io.KnownBytes.{Appends, Keeps, Consumes, IsAtEnd}
 use Rattle.std.proofs.lemmas.List.{append-nil, append_assoc, take_all, length-drop, length-append, length-take, length-take-le, take-append-le}
 use Rattle.std.proofs.Math.Nat.{min-le_left, min-le_right, le-min}
-use Rattle.std.specs.Prelude.{min, Result, Err, OnErr}
 use Rattle.std.proofs.Math.Seq.{take-add, take-append_seam}
-use Rattle.std.proofs.Common.{Ok}
 use Rattle.mpx_num.specs.declared.own.Operation.{Operation}
 use Rattle.mpx_run.specs.declared.end.End.{End}
 use Rattle.mpx_job.specs.declared.Job.{Job}

@@ -4,15 +4,15 @@ use Rattle.std.specs.Prelude.{slice_get, unwrap_or, IfOk, Result, Ok, Err}
 use Rattle.mpx_num.specs.declared.own.Operation.{Operation}
 use Rattle.atomic_table.specs.Seated.{TableId}
 use Rattle.mpx_node.specs.Nodes.{NodeView}
-use Rattle.mpx_bus.specs.Berths.{Berth}
+use Rattle.mpx_bus.specs.Ports.{PortView}
 use Rattle.mpx_script.specs.ScriptView.{ScriptView}
-use Rattle.mpx_evaluation.specs.Evaluation.{State, IsEvaluation}
-use Rattle.mpx_evaluation.specs.Transcripts.{rank_text, text_upto}
-use Rattle.mpx_evaluation.specs.Reports.{lines_in}
+use Rattle.mpx_meaning.specs.Evaluation.{State, IsEvaluation}
+use Rattle.mpx_meaning.specs.Transcripts.{rank_text, text_upto}
+use Rattle.mpx_meaning.specs.Reports.{lines_in}
 use Rattle.mpx_eval.specs.Evaluated.{IsEvaluated}
 use Rattle.mpx_system.specs.Runs.{IsRun, Begin, AreWhole}
 use Rattle.mpx_system.proofs.Results.{some_at}
-use Rattle.mpx_threads.specs.Runs.{IsThreadRun}
+use Rattle.mpx_threads.specs.ThreadRuns.{IsThreadRun}
 use Rattle.mpx_run.specs.Reports.{IsReport, IsThreadReport, IsEvaluatedText, EndsSo, lines_at}
 use Rattle.mpx_run.specs.declared.end.End.{End}
 use Rattle.mpx_run.specs.declared.end.End.TheVariants.{Finished, Waiting}
@@ -55,7 +55,7 @@ reported ops script relays nodes transcripts waiting end text run begins whole l
       lines ∙ text_of_state transcripts e script.ranks run.ranks_are (λ p said at. whole e is p said at (λ place w. cc (w, none)));
 }
 
-pub threads_reported : (ops : List Operation) (script : ScriptView) (relays : ℕ) (table : TableId) (ports : List Berth) (transcripts : List (List (List ℕ))) (waiting : List ℕ) (end : End) (text : List ℕ) → IsThreadRun ops script relays table ports transcripts waiting
+pub threads_reported : (ops : List Operation) (script : ScriptView) (relays : ℕ) (table : TableId) (ports : List PortView) (transcripts : List (List (List ℕ))) (waiting : List ℕ) (end : End) (text : List ℕ) → IsThreadRun ops script relays table ports transcripts waiting
     → ((e : State) → IsEvaluation ops script.statements script.ranks e → Begin transcripts e) → ((e : State) → IsEvaluation ops script.statements script.ranks e → AreWhole transcripts waiting e)
     → text ≡ text_upto (lines_at transcripts) script.ranks → EndsSo end waiting → IsThreadReport ops script relays end text
 threads_reported ops script relays table ports transcripts waiting end text run begins whole lines ends = record {

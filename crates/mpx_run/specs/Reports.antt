@@ -3,13 +3,13 @@ use Rattle.std.specs.Prelude.{◌≡◌, ◌≢◌, ℕ, List, [], slice_get, un
 use Rattle.atomic_table.specs.Seated.{TableId}
 use Rattle.mpx_num.specs.declared.own.Operation.{Operation}
 use Rattle.mpx_node.specs.Nodes.{NodeView}
-use Rattle.mpx_bus.specs.Berths.{Berth}
+use Rattle.mpx_bus.specs.Ports.{PortView}
 use Rattle.mpx_script.specs.ScriptView.{ScriptView}
-use Rattle.mpx_evaluation.specs.Evaluation.{State, IsEvaluation}
-use Rattle.mpx_evaluation.specs.Reports.{lines_in, waiting_in}
-use Rattle.mpx_evaluation.specs.Transcripts.{text_upto}
+use Rattle.mpx_meaning.specs.Evaluation.{State, IsEvaluation}
+use Rattle.mpx_meaning.specs.Reports.{lines_in, waiting_in}
+use Rattle.mpx_meaning.specs.Transcripts.{text_upto}
 use Rattle.mpx_system.specs.Runs.{IsRun, Begin}
-use Rattle.mpx_threads.specs.Runs.{IsThreadRun}
+use Rattle.mpx_threads.specs.ThreadRuns.{IsThreadRun}
 use Rattle.mpx_run.specs.declared.end.End.{End}
 use Rattle.mpx_run.specs.declared.end.End.TheVariants.{Finished, Waiting}
 
@@ -43,7 +43,7 @@ pub record IsReport (ops : List Operation) (script : ScriptView) (relays : ℕ) 
 -- the same of a run in threads
 pub record IsThreadReport (ops : List Operation) (script : ScriptView) (relays : ℕ) (end : End) (text : List ℕ) : Type 0 where
   pub table : TableId
-  pub ports : List Berth
+  pub ports : List PortView
   pub transcripts : List (List (List ℕ))
   pub waiting : List ℕ
   pub run : IsThreadRun ops script relays table ports transcripts waiting

@@ -1,15 +1,15 @@
 //! The text of a run or an evaluation.
 ghost use Rattle.std.specs.Prelude.{◌≡◌, ◌++◌, ◌≤◌, ◌+◌, IfErr, IfOk, OnOk, length, map, string_bytes};
-ghost use Rattle.mpx_evaluation.specs.Reports.{transcripts_of};
-ghost use Rattle.mpx_evaluation.specs.Transcripts.{rank_text, text_upto};
+ghost use Rattle.mpx_meaning.specs.Reports.{transcripts_of};
+ghost use Rattle.mpx_meaning.specs.Transcripts.{rank_text, text_upto};
 ghost use Rattle.mpx_threads.specs.Gates.{GivesUpAmong};
 ghost use Rattle.mpx_run.specs.Reports.{EndsSo, IsEvaluatedText, IsReport, IsThreadReport, lines_at};
 
 use crate::end::End;
 use join_core::OutOfMemory;
 use mpx_eval::eval;
-use mpx_evaluation::Report;
 use mpx_job::Options;
+use mpx_meaning::Report;
 use mpx_num::{Listing, Ops, push_number};
 use mpx_script::Script;
 use mpx_sim::{Observer, run_sim_observed};
@@ -40,7 +40,7 @@ pub(crate) fn print(
     print_report(alloc, run.report, script.ranks())
 }
 
-/// The same of a run in threads.
+/// The lines of all ranks of a run in threads, each as `RANK: LINE`, rank by rank, and who waits.
 pub(crate) fn print_threads<T: Threads + Wait + Sync, G: Gate + Sync>(
     rt: &T,
     alloc: Global,
@@ -60,7 +60,7 @@ pub(crate) fn print_threads<T: Threads + Wait + Sync, G: Gate + Sync>(
     }
 }
 
-/// The same of a script's evaluation.
+/// The lines of all ranks of a script's evaluation, each as `RANK: LINE`, rank by rank, and who waits.
 pub(crate) fn print_evaluation(
     alloc: Global,
     script: &Script,

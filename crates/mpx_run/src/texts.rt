@@ -99,8 +99,8 @@ pub fn run_text<T: Threads + Wait + Sync, R: Read, W: Write>(
     )
 }
 
-/// The same, with somebody who looks on at a simulated run, and a gate for a run in threads, which then may answer `GateGaveUp`, where
-/// the gate may give up at a step of one of its processes.
+/// Reads a script, and writes what it comes to, as [`run_text`] does. `observer` is told of the turns of a simulated run; `gate` is
+/// asked before each step of a run in threads, which answers `GateGaveUp` only where the gate may give up at a step of one of its processes.
 pub fn run_text_observed<T: Threads + Wait + Sync, R: Read, W: Write, G: Gate + Sync>(
     rt: &T,
     alloc: Global,
@@ -117,7 +117,8 @@ pub fn run_text_observed<T: Threads + Wait + Sync, R: Read, W: Write, G: Gate + 
     bytes_observed(rt, alloc, job, &text, writer, observer, gate, ops)
 }
 
-/// Does the job with the script that the bytes are, as [`run_text`] does once it has read them. It never answers `Read` or `GateGaveUp`.
+/// Does the job with the script that the bytes are, as [`run_text`] does once it has read them, with its errors but for `Read` and
+/// `GateGaveUp`, which never come.
 pub fn run_bytes<T: Threads + Wait + Sync, W: Write>(
     rt: &T,
     alloc: Global,
@@ -141,7 +142,7 @@ pub fn run_bytes<T: Threads + Wait + Sync, W: Write>(
     )
 }
 
-// The same, with somebody who looks on, and a gate.
+// Does the job with the script that the bytes are; the observer looks on at a simulated run, and the gate may end a run in threads.
 fn bytes_observed<T: Threads + Wait + Sync, W: Write, G: Gate + Sync>(
     rt: &T,
     alloc: Global,

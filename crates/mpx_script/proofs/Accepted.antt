@@ -5,14 +5,14 @@ use Rattle.std.proofs.lemmas.Option.{same_Some}
 use Rattle.std.specs.List.{list_any}
 use Rattle.mpx_num.specs.Text.{number_of}
 use Rattle.mpx_kind.specs.declared.kinds.Kind.{Kind}
-use Rattle.mpx_post.specs.Kinds.{fields_of}
+use Rattle.mpx_kind.specs.Kinds.{fields_of}
 use Rattle.mpx_post.specs.Graphs.{GraphView}
 use Rattle.mpx_script.specs.Fields.{is_number, colour_named, list_named}
 use Rattle.mpx_script.specs.Syntax.{NewSyntax, CallSyntax}
 use Rattle.mpx_script.specs.Graphs.{graph_in}
 use Rattle.mpx_script.specs.Refusals.{fails, has_strange_count, has_strange_number, has_strange_list, has_strange_new_list}
 use Rattle.mpx_script.specs.Meanings.{said}
-use Rattle.mpx_script.specs.Sentences.{IsRefusal, counts_refusal, draft_refusal, fields_refusal, new_refusal, read_at}
+use Rattle.mpx_script.specs.Sentences.{IsLineRefusal, counts_refusal, draft_refusal, fields_refusal, new_refusal, read_at}
 use Rattle.mpx_script.specs.declared.faults.LineError.{LineError}
 use Rattle.mpx_script.specs.declared.faults.LineError.TheVariants.{Fault, OutOfMemory}
 use Rattle.mpx_script.specs.declared.faults.ScriptFault.{ScriptFault}
@@ -66,12 +66,12 @@ module _ (kind : Kind) (new : NewSyntax) (p : CallSyntax) where
       behind_choice : draft_refusal kind new p ≡ cond (has_strange_number (fields_of kind) p) (Some BadNumber) (cond (has_strange_list (fields_of kind) p || has_strange_new_list new) (Some BadList) None)
       behind_choice = rw (read_says colour_named None new.colour colour at_colour, read_says number_of (pos 0) new.key key at_key) refl
 
-      pub refusal_of_fields : (e : LineError) → IsRefusal (fields_refusal kind p) e → IsRefusal (draft_refusal kind new p) e
+      pub refusal_of_fields : (e : LineError) → IsLineRefusal (fields_refusal kind p) e → IsLineRefusal (draft_refusal kind new p) e
       refusal_of_fields OutOfMemory h = tt
       refusal_of_fields (Fault what) h = behind_choice ∙ first_kept _ _ _ what h
 
       -- its fields are in order
-      pub refusal_of_lists : fields_refusal kind p ≡ None → (e : LineError) → IsRefusal (new_refusal new) e → IsRefusal (draft_refusal kind new p) e
+      pub refusal_of_lists : fields_refusal kind p ≡ None → (e : LineError) → IsLineRefusal (new_refusal new) e → IsLineRefusal (draft_refusal kind new p) e
       refusal_of_lists fine OutOfMemory h = tt
       refusal_of_lists fine (Fault what) h = behind_choice ∙ ranks_left _ _ _ fine ∙ h
 

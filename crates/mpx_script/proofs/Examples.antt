@@ -17,7 +17,7 @@ use Rattle.mpx_post.specs.declared.draft.Draft.{Draft}
 use Rattle.mpx_post.specs.declared.drafted_edges.DraftedEdge.{DraftedEdge}
 use Rattle.mpx_post.specs.declared.drafted_edges.DraftedNeighbour.{DraftedNeighbour}
 use Rattle.mpx_post.specs.Graphs.{GraphView, no_graph}
-use Rattle.mpx_post.specs.Kinds.{blocking}
+use Rattle.mpx_kind.specs.Kinds.{blocking}
 use Rattle.mpx_script.specs.Words.{words, counts, is_ascii}
 use Rattle.mpx_script.specs.Grammar.{ranks_number, kind_named, started_named, local_named, label_of}
 use Rattle.mpx_script.specs.Fields.{operation_named, predefined_named, type_named, list_named, rank_named, ranks_named, colour_named}

@@ -12,8 +12,8 @@ use Rattle.mpx_script.specs.Words.{words, counts, counting, is_ascii, is_over_li
 use Rattle.mpx_script.specs.ScriptView.{ScriptView}
 use Rattle.mpx_script.specs.Reading.{LineContext, refusal, bounded_context, context_at, error_at, errors, read_as, reading, script_of, ranks_settled, statements_settled, bound_settled, is_bare_script}
 use Rattle.mpx_script.specs.PartialScripts.{IsSettled, script_settled, ranks_of_script, bound_of_script}
-use Rattle.mpx_script.specs.Sentences.{IsRefusal}
-use Rattle.mpx_script.specs.Answer.{Answers, at_line}
+use Rattle.mpx_script.specs.Sentences.{IsLineRefusal}
+use Rattle.mpx_script.specs.Answer.{AnswersReading, at_line}
 use Rattle.mpx_script.specs.declared.faults.LineError.{LineError}
 use Rattle.mpx_script.specs.declared.faults.LineError.TheVariants.{Fault, OutOfMemory}
 use Rattle.mpx_script.specs.declared.reader.PartialScript.{PartialScript}
@@ -194,7 +194,7 @@ progress_refused ops text rest line after number partial cut what bare p split c
     (ap (error_at ops text) shift ∙ ap (option_map (λ w. record { line = number + 1; what = w })) here)
     next.within
 
-pub progress_fault : (ops : List Operation) (text rest line after : List ℕ) (number : ℕ) (partial : PartialScript) (cut : Bool) (e : LineError) → is_bare_script text ≡ false → Progress ops text rest number partial → lines rest ≡ line ∷ lines after → cut ≡ (is_over_limit text && (length after == 0)) → IsRefusal (refusal ops (bounded_context line cut (ranks_of_script partial.script) partial.statements (bound_of_script partial.script))) e → Answers (Err (at_line (number + 1) e)) (reading ops text)
+pub progress_fault : (ops : List Operation) (text rest line after : List ℕ) (number : ℕ) (partial : PartialScript) (cut : Bool) (e : LineError) → is_bare_script text ≡ false → Progress ops text rest number partial → lines rest ≡ line ∷ lines after → cut ≡ (is_over_limit text && (length after == 0)) → IsLineRefusal (refusal ops (bounded_context line cut (ranks_of_script partial.script) partial.statements (bound_of_script partial.script))) e → AnswersReading (Err (at_line (number + 1) e)) (reading ops text)
 progress_fault ops text rest line after number partial cut OutOfMemory bare p split cut_is refused = tt
 progress_fault ops text rest line after number partial cut (Fault what) bare p split cut_is refused = progress_refused ops text rest line after number partial cut what bare p split cut_is refused
 

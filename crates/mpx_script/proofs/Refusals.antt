@@ -6,7 +6,7 @@ use Rattle.mpx_num.specs.declared.own.Operation.{Operation}
 use Rattle.mpx_num.specs.Text.{number_of}
 use Rattle.mpx_kind.specs.declared.kinds.Kind.{Kind}
 use Rattle.mpx_kind.specs.declared.kinds.Mode.{Mode}
-use Rattle.mpx_post.specs.Kinds.{fields_of}
+use Rattle.mpx_kind.specs.Kinds.{fields_of}
 use Rattle.mpx_script.specs.Words.{words, counts, is_ascii}
 use Rattle.mpx_script.specs.Grammar.{form_named, shape_of}
 use Rattle.mpx_script.specs.Syntax.{DirectiveSyntax, NewSyntax, CallSyntax, directive_in, form_in, label_in, ranks_meant, statements_in}
@@ -14,7 +14,7 @@ use Rattle.mpx_script.specs.Refusals.{has_rank_out_of_range, is_past, is_unknown
 use Rattle.mpx_script.specs.Meanings.{statement_in, statement_as}
 use Rattle.mpx_script.specs.Naming.{BoundNames, has_bad_name, has_unknown_name, has_taken_name, ranks_labelled}
 use Rattle.mpx_script.specs.Reading.{refusal, first_holding, plain_context, statements_limit}
-use Rattle.mpx_script.specs.Sentences.{IsRefusal, form_refusal, statement_refusal, names_refusal, call_refusal, draft_refusal, read_at}
+use Rattle.mpx_script.specs.Sentences.{IsLineRefusal, form_refusal, statement_refusal, names_refusal, call_refusal, draft_refusal, read_at}
 use Rattle.mpx_script.specs.declared.grammar.Form.{Form}
 use Rattle.mpx_statement.specs.declared.statement.Statement.{Statement}
 use Rattle.mpx_script.specs.declared.faults.LineError.{LineError}
@@ -42,8 +42,8 @@ module _ (ops : List Operation) (kind : Kind) (mode : Mode) (communicator : Opti
     as_draft = rw (known, there, named, counted, ended, read_says number_of (pos 0) new.tag tag numbered) refl
 
     -- and then as its draft
-    pub refusal_of_draft : (e : LineError) → IsRefusal (draft_refusal kind new call) e → IsRefusal (call_refusal ops kind mode communicator new call) e
-    refusal_of_draft e h = subst (λ found. IsRefusal found e) (sym as_draft) h
+    pub refusal_of_draft : (e : LineError) → IsLineRefusal (draft_refusal kind new call) e → IsLineRefusal (call_refusal ops kind mode communicator new call) e
+    refusal_of_draft e h = subst (λ found. IsLineRefusal found e) (sym as_draft) h
 
     pub call_accepted : draft_refusal kind new call ≡ None → call_refusal ops kind mode communicator new call ≡ None
     call_accepted fine = as_draft ∙ fine
@@ -58,7 +58,7 @@ first_of_both [] more = refl
 first_of_both (one ∷ asked) more = elim one.1 as (λ v. cond v (Some one.0) (first_holding (asked ++ more)) ≡ first_of (cond v (Some one.0) (first_holding asked)) (first_holding more))
     [ true ↦ refl | false ↦ first_of_both asked more ]
 
-refusal_first : (found other : Option ScriptFault) (e : LineError) → IsRefusal found e → IsRefusal (first_of found other) e
+refusal_first : (found other : Option ScriptFault) (e : LineError) → IsLineRefusal found e → IsLineRefusal (first_of found other) e
 refusal_first found other OutOfMemory h = tt
 refusal_first found other (Fault what) h = rw h refl
 
@@ -85,7 +85,7 @@ module _ (ops : List Operation) (line : List ℕ) (n k : ℕ) (bound : List Boun
 
   module _ (few : nat_lt statements_limit (k + statements_in n (directive_in (words line))) ≡ false) where
     -- no rank, or no label
-    pub refusal_of_label : (e : LineError) → ((e ≡ Fault RankOutOfRange) × (is_past n (label_in (directive_in (words line))) ≡ true)) ⊎ ((e ≡ Fault UnknownStatement) × (label_in (directive_in (words line)) ≡ None)) → IsRefusal (refusal ops (plain_context line (Some n) k bound)) e
+    pub refusal_of_label : (e : LineError) → ((e ≡ Fault RankOutOfRange) × (is_past n (label_in (directive_in (words line))) ≡ true)) ⊎ ((e ≡ Fault UnknownStatement) × (label_in (directive_in (words line)) ≡ None)) → IsLineRefusal (refusal ops (plain_context line (Some n) k bound)) e
     unfolding has_rank_out_of_range statement_refusal is_unknown
     refusal_of_label e (inl h) = rw h.0 (refusal_of_further ops line n k bound ascii counted ∙ rw (few, h.1))
     refusal_of_label e (inr h) = rw h.0 (refusal_of_further ops line n k bound ascii counted ∙ rw (few, h.1))
@@ -96,8 +96,8 @@ module _ (ops : List Operation) (line : List ℕ) (n k : ℕ) (bound : List Boun
       refusal_of_words = refusal_of_further ops line n k bound ascii counted ∙ rw (few, there)
 
       -- the words of its statement
-      pub refusal_of_statement : (e : LineError) → IsRefusal (statement_refusal ops (directive_in (words line))) e → IsRefusal (refusal ops (plain_context line (Some n) k bound)) e
-      refusal_of_statement e h = subst (λ found. IsRefusal found e) (sym refusal_of_words) (refusal_first _ _ e h)
+      pub refusal_of_statement : (e : LineError) → IsLineRefusal (statement_refusal ops (directive_in (words line))) e → IsLineRefusal (refusal ops (plain_context line (Some n) k bound)) e
+      refusal_of_statement e h = subst (λ found. IsLineRefusal found e) (sym refusal_of_words) (refusal_first _ _ e h)
 
       -- then its names
       pub refusal_of_names : statement_refusal ops (directive_in (words line)) ≡ None → refusal ops (plain_context line (Some n) k bound) ≡ line_names_refusal ops bound n (directive_in (words line))

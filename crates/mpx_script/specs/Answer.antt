@@ -8,10 +8,10 @@ use Rattle.mpx_script.specs.declared.faults.ReadScriptError.{ReadScriptError}
 use Rattle.mpx_script.specs.declared.faults.ReadScriptError.TheVariants.{Refused, OutOfMemory}
 
 -- an answer is the reading, unless memory ran out
-abbrev pub Answers : Result ScriptView ReadScriptError → Result ScriptView ScriptError → Type 0
-Answers (Ok script) read = read ≡ Ok script
-Answers (Err (Refused e)) read = read ≡ Err e
-Answers (Err OutOfMemory) read = Unit {0}
+abbrev pub AnswersReading : Result ScriptView ReadScriptError → Result ScriptView ScriptError → Type 0
+AnswersReading (Ok script) read = read ≡ Ok script
+AnswersReading (Err (Refused e)) read = read ≡ Err e
+AnswersReading (Err OutOfMemory) read = Unit {0}
 
 -- the error of a line as that of the script
 abbrev pub at_line : ℕ → LineError → ReadScriptError

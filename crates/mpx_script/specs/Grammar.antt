@@ -12,7 +12,7 @@ use Rattle.mpx_kind.specs.declared.kinds.Family.{Family}
 use Rattle.mpx_kind.specs.declared.kinds.Family.TheVariants as F
 use Rattle.mpx_kind.specs.declared.kinds.NewCommunicator.{NewCommunicator}
 use Rattle.mpx_kind.specs.declared.kinds.NewCommunicator.TheVariants as N
-use Rattle.mpx_post.specs.Kinds.{family_of, may_be}
+use Rattle.mpx_kind.specs.Kinds.{family_of, may_be}
 use Rattle.mpx_script.specs.declared.grammar.Asked.{Asked}
 use Rattle.mpx_script.specs.declared.grammar.Asked.TheVariants as A
 use Rattle.mpx_script.specs.declared.grammar.Form.{Form}

@@ -14,7 +14,7 @@ use Rattle.mpx_kind.specs.declared.kinds.Family.TheVariants as F
 use Rattle.mpx_kind.specs.declared.kinds.NewCommunicator.{NewCommunicator}
 use Rattle.mpx_kind.specs.declared.kinds.NewCommunicator.TheVariants as N
 use Rattle.mpx_post.specs.declared.draft.Draft.{Draft}
-use Rattle.mpx_post.specs.Kinds.{family_of, fields_of}
+use Rattle.mpx_kind.specs.Kinds.{family_of, fields_of}
 use Rattle.mpx_script.specs.declared.grammar.Asked.{Asked}
 use Rattle.mpx_script.specs.declared.grammar.Asked.TheVariants as A
 use Rattle.mpx_script.specs.declared.grammar.Form.{Form}

@@ -6,7 +6,7 @@ use Rattle.mpx_num.specs.declared.own.Operation.{Operation}
 use Rattle.mpx_kind.specs.declared.kinds.Mode.{Mode}
 use Rattle.mpx_kind.specs.declared.kinds.Number.{Number}
 use Rattle.mpx_kind.specs.declared.kinds.Fields.{Fields}
-use Rattle.mpx_post.specs.Kinds.{fields_of, is_had}
+use Rattle.mpx_kind.specs.Kinds.{fields_of, is_had}
 use Rattle.mpx_script.specs.declared.grammar.Asked.{Asked}
 use Rattle.mpx_script.specs.declared.grammar.Form.{Form}
 use Rattle.mpx_script.specs.declared.grammar.Form.TheVariants as M

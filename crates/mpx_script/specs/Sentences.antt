@@ -4,7 +4,7 @@ use Rattle.mpx_num.specs.declared.own.Operation.{Operation}
 use Rattle.mpx_kind.specs.declared.kinds.Fields.{Fields}
 use Rattle.mpx_kind.specs.declared.kinds.Kind.{Kind}
 use Rattle.mpx_kind.specs.declared.kinds.Mode.{Mode}
-use Rattle.mpx_post.specs.Kinds.{fields_of}
+use Rattle.mpx_kind.specs.Kinds.{fields_of}
 use Rattle.mpx_script.specs.Words.{counts}
 use Rattle.mpx_script.specs.Grammar.{shape_of}
 use Rattle.mpx_script.specs.Fields.{is_one}
@@ -38,9 +38,9 @@ Says ops ranks statements ws (Opening n) = (ranks ≡ None) × (counts ws ≡ tr
 Says ops ranks statements ws (Further assignment) = (counts ws ≡ true) × (statements + (assignment.to - assignment.from) ≤ statements_limit) × IsSomeAnd ranks (λ n. IsAssignment ops n (directive_in ws) assignment)
 
 -- the line is refused for that, unless memory ran out
-abbrev pub IsRefusal : Option ScriptFault → LineError → Type 0
-IsRefusal found OutOfMemory = Unit {0}
-IsRefusal found (Fault what) = found ≡ Some what
+abbrev pub IsLineRefusal : Option ScriptFault → LineError → Type 0
+IsLineRefusal found OutOfMemory = Unit {0}
+IsLineRefusal found (Fault what) = found ≡ Some what
 
 -- what the words behind the label are refused for
 unfoldable pub statement_refusal : List Operation → DirectiveSyntax → Option ScriptFault

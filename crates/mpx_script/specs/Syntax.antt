@@ -3,7 +3,7 @@ use Rattle.std.specs.Prelude.{ℕ, ◌-◌, Bool, cond, List, length, take, drop
 use Rattle.mpx_kind.specs.declared.kinds.Kind.{Kind}
 use Rattle.mpx_kind.specs.declared.kinds.Mode.{Mode}
 use Rattle.mpx_kind.specs.declared.kinds.Fields.{Fields}
-use Rattle.mpx_post.specs.Kinds.{fields_of, is_had}
+use Rattle.mpx_kind.specs.Kinds.{fields_of, is_had}
 use Rattle.mpx_script.specs.declared.grammar.Asked.{Asked}
 use Rattle.mpx_script.specs.declared.grammar.Form.{Form}
 use Rattle.mpx_script.specs.declared.grammar.Label.{Label}

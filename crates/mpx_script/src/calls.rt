@@ -1,15 +1,15 @@
-// The draft that the words of a call say.
+//! The draft that the words of a call say.
 ghost use Rattle.std.specs.Prelude.{◌≡◌, [], true, false, not, pos, if◌then◌else◌, None, Some, IfOk, OnOk, IfErr, MatchOption};
 ghost use Rattle.std.specs.List.{filter_map, list_any};
 ghost use Rattle.std.specs.Option.{option_copied};
 ghost use Rattle.mpx_num.specs.Text.{number_of};
-ghost use Rattle.mpx_post.specs.Kinds.{family_of};
+ghost use Rattle.mpx_kind.specs.Kinds.{family_of};
 ghost use Rattle.mpx_script.specs.Words.{words};
 ghost use Rattle.mpx_script.specs.Grammar.{call_with};
 ghost use Rattle.mpx_script.specs.Fields.{is_number, is_one, list_named, counts_named, operation_named, type_named, colour_named};
 ghost use Rattle.mpx_script.specs.Graphs.{graph_in};
 ghost use Rattle.mpx_script.specs.Meanings.{said, call_draft_in, draft_in};
-ghost use Rattle.mpx_script.specs.Sentences.{faulty_counts, IsRefusal, counts_refusal, draft_refusal, fields_refusal, new_refusal, read_at};
+ghost use Rattle.mpx_script.specs.Sentences.{faulty_counts, IsLineRefusal, counts_refusal, draft_refusal, fields_refusal, new_refusal, read_at};
 
 use crate::faults::{LineError, ScriptFault};
 use crate::fields::{colour_named, is_one, list_named, operation_named, type_named};
@@ -17,8 +17,9 @@ use crate::grammar::call_with;
 use crate::graphs::graph_in;
 use crate::syntax::{CallSyntax, NewSyntax};
 use crate::words::first_word;
+use mpx_kind::{Fields, Kind, Mode, Number};
 use mpx_num::{Listing, Numbers, Op, Ops, Ty, parse_number};
-use mpx_post::{Draft, DraftedGraph, Fields, Kind, Mode, Number};
+use mpx_post::{Draft, DraftedGraph};
 use std::alloc::{AllocError, Global};
 
 /// The number of a word, 0 where there is none, or None where the word is no number.
@@ -89,7 +90,7 @@ fn counts_in(
     ensures accepted { OnOk result (counts_refusal fields call.now ≡ None) }
     ensures sent { IfOk result (λ counts. read_at (counts_named fields.scounts) [] call.now.scounts ≡ Some counts.0) }
     ensures received { IfOk result (λ counts. read_at (counts_named fields.rcounts) [] call.now.rcounts ≡ Some counts.1) }
-    ensures refused { IfErr result (IsRefusal (counts_refusal fields call.now)) }
+    ensures refused { IfErr result (IsLineRefusal (counts_refusal fields call.now)) }
 {
     let scounts = counts_at(alloc, fields.scounts, call.scounts)?;
     let rcounts = counts_at(alloc, fields.rcounts, call.rcounts)?;
@@ -162,7 +163,7 @@ fn call_draft_in(
 ) -> Result<Draft, LineError>
     ensures accepted { OnOk result (fields_refusal kind call.now ≡ None) }
     ensures draft { IfOk result (λ draft. draft ≡ call_draft_in (⟦<Ops as Listing>⟧.operations ops.now) kind mode call.now) }
-    ensures refused { IfErr result (IsRefusal (fields_refusal kind call.now)) }
+    ensures refused { IfErr result (IsLineRefusal (fields_refusal kind call.now)) }
 {
     let Some(root) = number_at(call.root) else {
         return Err(LineError::Fault(ScriptFault::BadNumber));
@@ -231,7 +232,7 @@ pub fn draft_in(
 ) -> Result<Draft, LineError>
     ensures accepted { OnOk result (draft_refusal kind new.now call.now ≡ None) }
     ensures draft { IfOk result (λ draft. draft ≡ draft_in (⟦<Ops as Listing>⟧.operations ops.now) kind mode new.now call.now) }
-    ensures refused { IfErr result (IsRefusal (draft_refusal kind new.now call.now)) }
+    ensures refused { IfErr result (IsLineRefusal (draft_refusal kind new.now call.now)) }
 {
     let Some(colour) = colour_at(new.colour) else {
         return Err(LineError::Fault(ScriptFault::BadNumber));
@@ -271,7 +272,7 @@ fn new_parts(alloc: Global, new: &NewSyntax<'_>) -> Result<NewParts, LineError>
     ensures accepted { OnOk result (new_refusal new.now ≡ None) }
     ensures group { IfOk result (λ parts. read_at list_named [] new.now.ranks ≡ Some parts.group) }
     ensures graph { IfOk result (λ parts. graph_in new.now ≡ Some parts.graph) }
-    ensures refused { IfErr result (IsRefusal (new_refusal new.now)) }
+    ensures refused { IfErr result (IsLineRefusal (new_refusal new.now)) }
 {
     let Some(group) = list_at(alloc, new.ranks)? else {
         return Err(LineError::Fault(ScriptFault::BadList));

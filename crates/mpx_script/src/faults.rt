@@ -1,4 +1,4 @@
-// Why a script is refused.
+//! Why a script is refused.
 ghost use Rattle.std.specs.Prelude.{◌≡◌, Some};
 ghost use Rattle.mpx_script.specs.Faults.{script_fault_name, error_text};
 ghost use Rattle.mpx_script.specs.declared.faults.ReadScriptError.TheVariants.{OutOfMemory};

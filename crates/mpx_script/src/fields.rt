@@ -1,10 +1,10 @@
-// What the words behind a statement's word mean: operations, types, numbers and lists.
+//! What the words behind a statement's word mean: operations, types, numbers and lists.
 ghost use Rattle.std.specs.Prelude.{◌≡◌, IfOk};
 ghost use Rattle.mpx_script.specs.Fields.{colour_named, is_arrow, is_one, list_named, operation_named, predefined_named, rank_named, ranks_named, type_named};
 
 use crate::grammar::named;
+use mpx_kind::Number;
 use mpx_num::{Listing, Numbers, Op, Ops, Ty, parse_number};
-use mpx_post::Number;
 use mpx_statement::RankList;
 use std::alloc::{AllocError, Global};
 

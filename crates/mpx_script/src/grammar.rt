@@ -1,13 +1,13 @@
-// What the first words of a line stand for: the number of ranks, a label, or a statement's word.
+//! What the first words of a line stand for: the number of ranks, a label, or a statement's word.
 ghost use Rattle.std.specs.Prelude.{◌≡◌, map};
-ghost use Rattle.mpx_post.specs.Kinds.{family_of};
+ghost use Rattle.mpx_kind.specs.Kinds.{family_of};
 ghost use Rattle.mpx_script.specs.Grammar.{call_with, rank_count, ranks_number, label_of, kind_named, started_named, local_named, form_named, is_nonblocking, has_second, has_ranks, shape_in, shape_of, shape_of_new};
 ghost use Rattle.mpx_statement.specs.Lookups.{below, named};
 ghost use Rattle.mpx_script.specs.Words.{words};
 
 use crate::words::first_word;
+use mpx_kind::{Call, Family, Kind, Mode, NewCommunicator};
 use mpx_num::parse_number;
-use mpx_post::{Call, Family, Kind, Mode, NewCommunicator};
 use mpx_statement::Side;
 
 /// Which ranks a further line is for.

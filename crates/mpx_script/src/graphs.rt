@@ -1,4 +1,4 @@
-// The graph that the words of a call say.
+//! The graph that the words of a call say.
 ghost use Rattle.std.specs.Prelude.{◌≡◌, ◌==◌, IfOk};
 ghost use Rattle.std.specs.List.{list_any};
 ghost use Rattle.std.specs.Option.{option_map};

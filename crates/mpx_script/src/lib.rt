@@ -9,7 +9,7 @@
 //! lines give a rank its statements (`specs/LinesGiven.antt`), and [`words_of_line`] and [`later_words_of_line`] which words stand in one.
 //!
 //! The statements themselves are those of `mpx_statement`, whose public items are handed on here. What a script's ranks print
-//! is the evaluation of `mpx_evaluation`, on which the reader doesn't stand.
+//! is the evaluation of `mpx_meaning`, on which the reader doesn't stand.
 #![tactic(auto)]
 
 mod calls;

@@ -1,4 +1,4 @@
-// Which lines of a script give a rank its statements.
+//! Which lines of a script give a rank its statements.
 ghost use Rattle.std.specs.Prelude.{◌≡◌, ◌<◌, ◌&&◌, ◌++◌, ◌∷◌, cond, IfOk, List, Ok, OnOk, slice_get, slice_index_or, []};
 ghost use Rattle.std.specs.Option.{option_copied};
 ghost use Rattle.mpx_num.specs.declared.own.Operation.{Operation};
@@ -17,7 +17,7 @@ use join_core::OutOfMemory;
 use std::alloc::Global;
 
 /// The numbers, from 1 on, of the lines that give a rank its statements. Of a text that [`read_script`](crate::read_script)
-/// accepts there are as many as the rank has statements, and the k-th line gives it the k-th one.
+/// accepts there are as many as the rank has statements, and the k-th line gives it the k-th one. An `Err` is want of memory.
 pub fn statement_lines(alloc: Global, text: &[u8], rank: u8) -> Result<Vec<u32>, OutOfMemory>
     ensures numbers { IfOk result (λ numbers. numbers.items ≡ lines_given rank text.now) }
     ensures give { IfOk result (λ numbers. (operations : List Operation) (script : ScriptView) → reading operations text.now ≡ Ok script → rank < script.ranks
@@ -68,7 +68,7 @@ fn names_rank(line: &[u8], rank: u8) -> bool
 }
 
 /// The second and the third word of the line with this number, from 1 on: of a statement's line its own word, and the first one
-/// behind it, which of a call is its communicator's.
+/// behind it, which of a call is its communicator's. None where the line has fewer words, or isn't there.
 pub fn words_of_line(text: &[u8], number: u32) -> (Option<&[u8]>, Option<&[u8]>)
     ensures second { option_copied result.0 ≡ slice_get (words_at text.now number) 1 }
     ensures third { option_copied result.1 ≡ slice_get (words_at text.now number) 2 }
@@ -79,7 +79,8 @@ pub fn words_of_line(text: &[u8], number: u32) -> (Option<&[u8]>, Option<&[u8]>)
     (second, third)
 }
 
-/// The fourth and the fifth word of the line with this number, from 1 on: of a `create_group` its tag and its ranks.
+/// The fourth and the fifth word of the line with this number, from 1 on: of a `create_group` its tag and its ranks. None where the
+/// line has fewer words, or isn't there.
 pub fn later_words_of_line(text: &[u8], number: u32) -> (Option<&[u8]>, Option<&[u8]>)
     ensures fourth { option_copied result.0 ≡ slice_get (words_at text.now number) 3 }
     ensures fifth { option_copied result.1 ≡ slice_get (words_at text.now number) 4 }

@@ -1,4 +1,4 @@
-// What the names of a statement are refused for.
+//! What the names of a statement are refused for.
 ghost use Rattle.std.specs.Prelude.{◌≡◌, ◌-◌, ◌++◌, ◌||◌, not, map};
 ghost use Rattle.std.specs.List.{list_any, range_with_len};
 ghost use Rattle.std.specs.Option.{option_copied, option_to_list};

@@ -1,4 +1,4 @@
-// The statements of one rank.
+//! The statements of one rank.
 ghost use Rattle.std.specs.Prelude.{◌≡◌, ◌<◌, ℕ, List, [], ◌∷◌, ◌++◌, OnErr, OnOk, vec_capacity, vec_len};
 ghost use Rattle.std.specs.BTreeSet.{IsUnchanged};
 ghost use Rattle.mpx_script.specs.ScriptView.{AreBound, AreNames};

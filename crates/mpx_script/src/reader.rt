@@ -1,12 +1,12 @@
-// The script that a whole text says, or the first line that is refused.
+//! The script that a whole text says, or the first line that is refused.
 ghost use Rattle.std.specs.Prelude.{◌≡◌, ◌+◌, ◌++◌, ◌∷◌, [], ◌<◌, ◌≤◌, ◌==◌, ◌&&◌, if◌then◌else◌, not, true, List, ℕ, length, slice_index_or, take, false, None, IfOk, OnOk, IfErr, IfSome, Some};
 ghost use Rattle.std.specs.List.{filter};
 ghost use Rattle.std.specs.Str.Lines.{lines};
 ghost use Rattle.mpx_script.specs.Words.{bytes_limit, words, counts, counting, is_ascii, is_over_limit, with_first_line};
 ghost use Rattle.mpx_script.specs.Reading.{refusal, is_bare_script, reading};
-ghost use Rattle.mpx_script.specs.Sentences.{IsRefusal};
+ghost use Rattle.mpx_script.specs.Sentences.{IsLineRefusal};
 ghost use Rattle.mpx_script.specs.PartialScripts.{IsSettled, context_behind};
-ghost use Rattle.mpx_script.specs.Answer.{Answers, at_line};
+ghost use Rattle.mpx_script.specs.Answer.{AnswersReading, at_line};
 
 use crate::faults::{LineError, ReadScriptError, ScriptError, ScriptFault};
 use crate::script::Script;
@@ -39,7 +39,7 @@ fn with_line(
     ensures accepted { OnOk result (refusal (⟦<Ops as Listing>⟧.operations ops.now) (context_behind line.now cut partial.script partial.statements) ≡ None) }
     ensures settled { IfOk result (λ after. (before : List (List (List ℕ))) → IsSettled (⟦<Ops as Listing>⟧.operations ops.now) before partial
         → IsSettled (⟦<Ops as Listing>⟧.operations ops.now) (before ++ filter counts (words line.now ∷ [])) after) }
-    ensures refused { IfErr result (IsRefusal (refusal (⟦<Ops as Listing>⟧.operations ops.now) (context_behind line.now cut partial.script partial.statements))) }
+    ensures refused { IfErr result (IsLineRefusal (refusal (⟦<Ops as Listing>⟧.operations ops.now) (context_behind line.now cut partial.script partial.statements))) }
 {
     let PartialScript { script, statements } = partial;
     match (
@@ -137,7 +137,7 @@ fn at_line(e: LineError, line: u32) -> ReadScriptError
 /// Reads the lines one after the other.
 fn read_lines(alloc: Global, text: &[u8], ops: &Ops) -> Result<Script, ReadScriptError>
     requires { is_bare_script text.now ≡ false }
-    ensures { Answers result (reading (⟦<Ops as Listing>⟧.operations ops.now) text.now) }
+    ensures { AnswersReading result (reading (⟦<Ops as Listing>⟧.operations ops.now) text.now) }
 {
     let mut partial = PartialScript {
         script: None,
@@ -182,7 +182,7 @@ fn read_lines(alloc: Global, text: &[u8], ops: &Ops) -> Result<Script, ReadScrip
 ///
 /// The refusal is that of the least line that has one, and the first of [`ScriptFault`] that holds of it.
 pub fn read_script(alloc: Global, text: &[u8], ops: &Ops) -> Result<Script, ReadScriptError>
-    ensures { Answers result (reading (⟦<Ops as Listing>⟧.operations ops.now) text.now) }
+    ensures { AnswersReading result (reading (⟦<Ops as Listing>⟧.operations ops.now) text.now) }
 {
     if is_bare(text) {
         let what = bare_fault(text);

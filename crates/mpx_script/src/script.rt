@@ -1,4 +1,4 @@
-// A script that was read.
+//! A script that was read.
 ghost use Rattle.std.specs.Prelude.{◌≡◌, ◌-◌, ◌<◌, ◌≤◌, [], ◌∷◌, ◌++◌, length, map, slice_index_or, slice_set, IfOk, OnOk, vec_len};
 ghost use Rattle.std.specs.List.{range_with_len};
 ghost use Rattle.mpx_script.specs.ScriptView.{Adds};

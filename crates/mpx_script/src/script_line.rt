@@ -1,4 +1,4 @@
-// What one line of a script says, or why it is refused.
+//! What one line of a script says, or why it is refused.
 ghost use Rattle.std.specs.Prelude.{◌≡◌, ◌+◌, ◌-◌, ◌<◌, ◌≤◌, [], map, true, false, is_none, None, Some, IfOk, OnOk, IfErr, unwrap_or};
 ghost use Rattle.std.specs.Option.{option_copied};
 ghost use Rattle.mpx_script.specs.PartialScripts.{context_behind, ranks_of_script};
@@ -8,7 +8,7 @@ ghost use Rattle.mpx_script.specs.Syntax.{ask_in, directive_in, label_in, ranks_
 ghost use Rattle.mpx_script.specs.Meanings.{call_posted, new_posted, posting_said, question_said, said, statement_as, statement_in};
 ghost use Rattle.mpx_script.specs.Naming.{names_bound};
 ghost use Rattle.mpx_script.specs.Reading.{refusal, plain_context};
-ghost use Rattle.mpx_script.specs.Sentences.{IsAssignment, Says, IsRefusal, form_refusal, read_at, statement_refusal, call_refusal, names_refusal};
+ghost use Rattle.mpx_script.specs.Sentences.{IsAssignment, Says, IsLineRefusal, form_refusal, read_at, statement_refusal, call_refusal, names_refusal};
 ghost use Rattle.std.specs.List.{range_with_len};
 
 use crate::calls::{draft_in, number_at};
@@ -23,8 +23,9 @@ use crate::syntax::{
 };
 use crate::words::{counts, first_word, is_ascii};
 use join_core::OutOfMemory;
+use mpx_kind::{Family, Kind, Mode, NewCommunicator};
 use mpx_num::{Listing, Ops};
-use mpx_post::{Draft, Family, Kind, Mode, NewCommunicator};
+use mpx_post::Draft;
 use mpx_statement::{Posting, Question, RankList, Statement, Word, WordList};
 use std::alloc::{AllocError, Global};
 
@@ -56,7 +57,7 @@ fn opening_line(line: &[u8]) -> Result<u8, LineError>
     requires counts { counts (words line.now) ≡ true }
     ensures accepted { OnOk result (refusal [] (plain_context line.now None 0 []) ≡ None) }
     ensures ranks { IfOk result (λ n. (ranks_in (words line.now) ≡ Some n) × (1 ≤ n) × (n ≤ 64)) }
-    ensures refused { IfErr result (IsRefusal (refusal [] (plain_context line.now None 0 []))) }
+    ensures refused { IfErr result (IsLineRefusal (refusal [] (plain_context line.now None 0 []))) }
 {
     let Some(number) = ranks_number(line) else {
         return Err(LineError::Fault(ScriptFault::NoRanksLine));
@@ -125,7 +126,7 @@ fn call_of(
 ) -> Result<Posting, LineError>
     ensures accepted { OnOk result (call_refusal (⟦<Ops as Listing>⟧.operations ops.now) kind mode (option_copied communicator.entry) new.now call.now ≡ None) }
     ensures posting { IfOk result (λ posting. posting ≡ posting_said (⟦<Ops as Listing>⟧.operations ops.now) kind mode (option_copied communicator.entry) new.now call.now) }
-    ensures refused { IfErr result (IsRefusal (call_refusal (⟦<Ops as Listing>⟧.operations ops.now) kind mode (option_copied communicator.entry) new.now call.now)) }
+    ensures refused { IfErr result (IsLineRefusal (call_refusal (⟦<Ops as Listing>⟧.operations ops.now) kind mode (option_copied communicator.entry) new.now call.now)) }
 {
     if call.has_unknown_word(ops) {
         return Err(LineError::Fault(ScriptFault::UnknownStatement));
@@ -172,7 +173,7 @@ fn words_in(alloc: Global, line: &[u8]) -> Result<WordList, OutOfMemory>
 fn requests_in(alloc: Global, waited: Waited, line: &[u8]) -> Result<WordList, LineError>
     ensures accepted { OnOk result (form_refusal [] (Form.Wait waited) (words line.now) ≡ None) }
     ensures requests { IfOk result (λ requests. requests ≡ words line.now) }
-    ensures refused { IfErr result (IsRefusal (form_refusal [] (Form.Wait waited) (words line.now))) }
+    ensures refused { IfErr result (IsLineRefusal (form_refusal [] (Form.Wait waited) (words line.now))) }
 {
     let requests = words_in(alloc, line)?;
     let len = requests.as_slice().len();
@@ -219,7 +220,7 @@ fn question_of(
 fn question_in(alloc: Global, asked: Asked, line: &[u8]) -> Result<Question, LineError>
     ensures accepted { OnOk result (form_refusal [] (Form.Ask asked) (words line.now) ≡ None) }
     ensures question { IfOk result (λ question. question ≡ question_said asked (ask_in asked (words line.now))) }
-    ensures refused { IfErr result (IsRefusal (form_refusal [] (Form.Ask asked) (words line.now))) }
+    ensures refused { IfErr result (IsLineRefusal (form_refusal [] (Form.Ask asked) (words line.now))) }
 {
     let ask = ask_in(asked, line);
     if ask.has_wrong_words(asked) {
@@ -235,7 +236,7 @@ fn question_in(alloc: Global, asked: Asked, line: &[u8]) -> Result<Question, Lin
 fn statement_as(alloc: Global, form: Form, line: &[u8], ops: &Ops) -> Result<Statement, LineError>
     ensures accepted { OnOk result (form_refusal (⟦<Ops as Listing>⟧.operations ops.now) form (words line.now) ≡ None) }
     ensures statement { IfOk result (λ statement. statement ≡ statement_as (⟦<Ops as Listing>⟧.operations ops.now) form (words line.now)) }
-    ensures refused { IfErr result (IsRefusal (form_refusal (⟦<Ops as Listing>⟧.operations ops.now) form (words line.now))) }
+    ensures refused { IfErr result (IsLineRefusal (form_refusal (⟦<Ops as Listing>⟧.operations ops.now) form (words line.now))) }
 {
     match form {
         Form::Call(kind, mode) => {
@@ -260,7 +261,7 @@ fn statement_in(
     requires { is_none (label_in directive.now) ≡ false }
     ensures accepted { OnOk result (statement_refusal (⟦<Ops as Listing>⟧.operations ops.now) directive.now ≡ None) }
     ensures statement { IfOk result (λ statement. statement_in (⟦<Ops as Listing>⟧.operations ops.now) directive.now ≡ Some statement) }
-    ensures refused { IfErr result (IsRefusal (statement_refusal (⟦<Ops as Listing>⟧.operations ops.now) directive.now)) }
+    ensures refused { IfErr result (IsLineRefusal (statement_refusal (⟦<Ops as Listing>⟧.operations ops.now) directive.now)) }
 {
     let Some(form) = directive.form() else {
         return Err(LineError::Fault(ScriptFault::UnknownStatement));
@@ -283,7 +284,7 @@ fn further_line(
     ensures accepted { OnOk result (refusal (⟦<Ops as Listing>⟧.operations ops.now) (plain_context line.now (Some script.now.ranks) statements (map names_bound script.now.statements)) ≡ None) }
     ensures assignment { IfOk result (IsAssignment (⟦<Ops as Listing>⟧.operations ops.now) script.now.ranks (directive_in (words line.now))) }
     ensures few { IfOk result (λ assignment. statements + (assignment.to - assignment.from) ≤ STATEMENTS) }
-    ensures refused { IfErr result (IsRefusal (refusal (⟦<Ops as Listing>⟧.operations ops.now) (plain_context line.now (Some script.now.ranks) statements (map names_bound script.now.statements)))) }
+    ensures refused { IfErr result (IsLineRefusal (refusal (⟦<Ops as Listing>⟧.operations ops.now) (plain_context line.now (Some script.now.ranks) statements (map names_bound script.now.statements)))) }
 {
     let ranks = script.ranks();
     let directive = directive_in(line);
@@ -310,7 +311,7 @@ fn assigned(
 ) -> Result<Assignment, LineError>
     ensures accepted { OnOk result (names_refusal (map names_bound script.now.statements) (range_with_len from (to - from)) statement ≡ None) }
     ensures assignment { IfOk result (λ assignment. assignment ≡ record { from = from; to = to; statement = statement }) }
-    ensures refused { IfErr result (IsRefusal (names_refusal (map names_bound script.now.statements) (range_with_len from (to - from)) statement)) }
+    ensures refused { IfErr result (IsLineRefusal (names_refusal (map names_bound script.now.statements) (range_with_len from (to - from)) statement)) }
 {
     match names_fault(script, from, to, &statement) {
         Some(what) => {
@@ -338,7 +339,7 @@ pub fn read_line(
     requires { statements ≤ STATEMENTS }
     ensures accepted { OnOk result (refusal (⟦<Ops as Listing>⟧.operations ops.now) (context_behind line.now cut (option_copied script.entry) statements) ≡ None) }
     ensures says { IfOk result (Says (⟦<Ops as Listing>⟧.operations ops.now) (ranks_of_script (option_copied script.entry)) statements (words line.now)) }
-    ensures refused { IfErr result (IsRefusal (refusal (⟦<Ops as Listing>⟧.operations ops.now) (context_behind line.now cut (option_copied script.entry) statements))) }
+    ensures refused { IfErr result (IsLineRefusal (refusal (⟦<Ops as Listing>⟧.operations ops.now) (context_behind line.now cut (option_copied script.entry) statements))) }
 {
     if !is_ascii(line) {
         return Err(LineError::Fault(ScriptFault::NotAscii));

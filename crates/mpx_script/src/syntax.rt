@@ -1,4 +1,4 @@
-// The words of a further line by their places: its label, its statement, and what stands behind that.
+//! The words of a further line by their places: its label, its statement, and what stands behind that.
 ghost use Rattle.std.specs.Prelude.{◌≡◌, ◌==◌, ◌+◌, ◌-◌, ◌<◌, ◌≤◌, ℕ, ◌&&◌, ◌⊎◌, true, false, not, None, Some, IfOk, IfErr, nat_le, nat_lt, is_none, is_some, length};
 ghost use Rattle.std.specs.Option.{option_copied};
 ghost use Rattle.mpx_script.specs.Words.{words};
@@ -13,8 +13,8 @@ use crate::faults::{LineError, ScriptFault};
 use crate::fields::{is_arrow, operation_named, type_named};
 use crate::grammar::{Asked, Form, Label, Shape, below, form_named, is_nonblocking, label_of};
 use crate::words::{first_word, last_word, next_word};
+use mpx_kind::{Fields, Mode};
 use mpx_num::{Listing, Ops};
-use mpx_post::{Fields, Mode};
 use std::marker::Model;
 
 /// A further line as words: `LABEL STATEMENT`, and what stands behind them.

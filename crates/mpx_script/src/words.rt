@@ -1,4 +1,4 @@
-// The lines of a text, and the words of a line.
+//! The lines of a text, and the words of a line.
 ghost use Rattle.std.specs.Prelude.{◌≡◌, ◌==◌, ◌-◌, ◌<◌, ◌≤◌, ◌&&◌, nat_lt, not, false, ◌∷◌, length, drop, take, slice_get, slice_index, slice_index_or, OnSome};
 ghost use Rattle.std.specs.List.{list_any, prefix_len, position_or_len};
 ghost use Rattle.std.specs.Option.{option_copied};

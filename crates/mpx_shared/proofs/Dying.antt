@@ -2,7 +2,7 @@
 use Rattle.std.proofs.Common.{◌≡◌, ◌⊎◌, ℕ, zero, suc, Bool, true, false, cond, List, [], ◌∷◌, Option, None, Some, Result, Ok, Err, slice_get, inl, inr, ap, ◌∙◌}
 use Rattle.std.specs.Prelude.{◌||◌, filter, not}
 use Rattle.std.proofs.lemmas.Option.{same_Some}
-use Rattle.join_core.specs.Cases.{Answer, yes, no, answer}
+use Rattle.join_core.specs.Cases.{TestAnswer, yes, no, answer}
 use Rattle.mpx_name.specs.Name.{Name}
 use Rattle.mpx_num.specs.declared.own.Operation.{Operation}
 use Rattle.mpx_post.specs.Posts.{Given}
@@ -18,7 +18,7 @@ use Rattle.mpx_world.specs.Worlds.{ProcessView, drops, made_next, makes, opens_g
 use Rattle.mpx_bus.specs.declared.act.Act.{Act}
 use Rattle.mpx_bus.specs.declared.act.Act.TheVariants as A
 use Rattle.mpx_bus.specs.Acts.{act_on, after, part_of, said_on}
-use Rattle.mpx_shared.specs.Docks.{IsListed, living}
+use Rattle.mpx_shared.specs.LawfulPorts.{IsListedContext, living}
 
 -- LISTS
 
@@ -32,10 +32,10 @@ passed {A} p (y ∷ xs) (suc i) x e t = behind (p y) (passed p xs i x e t) where
   behind false r = r
 
 -- only contexts that are dead leave
-pub listed_living : (board : Look) (names : List Name) (name : Name) → IsListed name names → IsListed name (living board names) ⊎ IsGone board name
+pub listed_living : (board : Look) (names : List Name) (name : Name) → IsListedContext name names → IsListedContext name (living board names) ⊎ IsGone board name
 listed_living board names name (inl world) = inl (inl world)
 listed_living board names name (inr found) = by_dead (answer (board.contexts name).dead) where
-  by_dead : Answer (board.contexts name).dead → IsListed name (living board names) ⊎ IsGone board name
+  by_dead : TestAnswer (board.contexts name).dead → IsListedContext name (living board names) ⊎ IsGone board name
   by_dead (yes dead) = inr dead
   by_dead (no alive) = inl (inr (passed (λ n. not (board.contexts n).dead) names found.0 name found.1 (ap not alive)))
 

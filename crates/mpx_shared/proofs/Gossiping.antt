@@ -22,36 +22,36 @@ use Rattle.mpx_bus.specs.declared.act.Act.TheVariants as A
 use Rattle.mpx_bus.specs.declared.act.Setup.{Setup}
 use Rattle.mpx_bus.specs.declared.port.Push.{Push}
 use Rattle.mpx_bus.specs.Answers.{HarvestsOne, PushesNext}
-use Rattle.mpx_bus.specs.Berths.{Berth, GoesOn, KeepsPlan, node_in}
+use Rattle.mpx_bus.specs.Ports.{PortView, PortGoesOn, KeepsPlan, node_in}
 use Rattle.mpx_bus.specs.Rule.{Stood}
 use Rattle.mpx_shared.specs.declared.ticket.Pull.{Pull}
 use Rattle.mpx_shared.specs.declared.ticket.Pull.TheVariants as L
-use Rattle.mpx_shared.specs.Docks.{IsListed, IsMoored, MakesNoPost}
-use Rattle.mpx_shared.specs.Gossip.{HarvestsAndPrunes, HarvestsNext, IsHarvestOrPruning, Prunes, Pulls, Puts, Settles, SettlesAll, SettlesEach, WantsResult, frame_limit, has_next}
+use Rattle.mpx_shared.specs.LawfulPorts.{IsListedContext, IsHeldPort, MakesNoPost}
+use Rattle.mpx_shared.specs.Gossip.{HarvestsAndPrunes, PortHarvestsNext, IsHarvestOrPruning, Prunes, Pulls, Puts, Settles, SettlesAll, SettlesEach, WantsResult, frame_limit, has_next}
 use Rattle.mpx_shared.specs.Turns.{PullsThen, PutsThen, Sufficed}
-use Rattle.mpx_shared.proofs.Docked.{docked_of, moored_later, no_post_by, no_post_itself, no_post_then}
+use Rattle.mpx_shared.proofs.LawfulPorts.{lawful_of, held_later, no_post_by, no_post_itself, no_post_then}
 use Rattle.mpx_shared.proofs.Standing.{within}
 
 -- HARVESTS AND PRUNINGS
 
-pub nothing_done : (a b : Berth) → b ≡ a → HarvestsAndPrunes a b
-nothing_done a b e = record { no_post = no_post_itself a b e; each = All-nil IsHarvestOrPruning; kept = ap (λ (x : Berth). x.kept) e }
+pub nothing_done : (a b : PortView) → b ≡ a → HarvestsAndPrunes a b
+nothing_done a b e = record { no_post = no_post_itself a b e; each = All-nil IsHarvestOrPruning; kept = ap (λ (x : PortView). x.kept) e }
 
 just_one : (a : Act) → IsHarvestOrPruning a → All IsHarvestOrPruning (a ∷ [])
 just_one a is = All-cons IsHarvestOrPruning a [] is (All-nil IsHarvestOrPruning)
 
-pub done_then : (a b c : Berth) → HarvestsAndPrunes a b → HarvestsAndPrunes b c → HarvestsAndPrunes a c
+pub done_then : (a b c : PortView) → HarvestsAndPrunes a b → HarvestsAndPrunes b c → HarvestsAndPrunes a c
 done_then a b c g h = record {
   no_post = no_post_then a b c g.no_post h.no_post;
   each = All-append IsHarvestOrPruning g.no_post.acts h.no_post.acts g.each h.each;
   kept = h.kept ∙ g.kept;
 }
 
-pub prunes_one : (name : Name) (n : ℕ) (r : Result (Unit {0}) PruneError) (a b : Berth) → GoesOn a b → b.kept ≡ a.kept → OnOk r (b.journal ≡ a.journal ++ A.Pruned name n ∷ []) → OnErr r (b ≡ a) → HarvestsAndPrunes a b
+pub prunes_one : (name : Name) (n : ℕ) (r : Result (Unit {0}) PruneError) (a b : PortView) → PortGoesOn a b → b.kept ≡ a.kept → OnOk r (b.journal ≡ a.journal ++ A.Pruned name n ∷ []) → OnErr r (b ≡ a) → HarvestsAndPrunes a b
 prunes_one name n (Ok u) a b goes kept ok err = record { no_post = no_post_by a b (A.Pruned name n ∷ []) goes ok (tt, tt); each = just_one (A.Pruned name n) tt; kept = kept }
 prunes_one name n (Err e) a b goes kept ok err = nothing_done a b err
 
-pub harvests_one : (name : Name) (r : Result Harvest OutOfMemory) (a b : Berth) → GoesOn a b → b.kept ≡ a.kept → HarvestsOne name r a b → HarvestsAndPrunes a b
+pub harvests_one : (name : Name) (r : Result Harvest OutOfMemory) (a b : PortView) → PortGoesOn a b → b.kept ≡ a.kept → HarvestsOne name r a b → HarvestsAndPrunes a b
 harvests_one name (Ok (H.Done call)) a b goes kept h = record { no_post = no_post_by a b (A.Harvested name ∷ []) goes h (tt, tt); each = just_one (A.Harvested name) tt; kept = kept }
 harvests_one name (Ok H.NotYet) a b goes kept h = nothing_done a b h
 harvests_one name (Ok H.NotOpened) a b goes kept h = nothing_done a b h
@@ -87,15 +87,15 @@ stores_next ops (Some o) name (Some f) call old new is hs =
       ap (λ (n : NodeView). front_on n name) hs.1 ∙ front_added name f made old o is,
     )
 
-none_stored : (ops : List Operation) (h : Harvest) (name : Name) (a b : Berth) → b ≡ a → is_done h ≡ false → Harvests ops (is_some ((node_in a).opened name)) name (next_result ops (node_in a) name) (Ok h) (node_in a) (node_in b) → HarvestsNext false name a b
+none_stored : (ops : List Operation) (h : Harvest) (name : Name) (a b : PortView) → b ≡ a → is_done h ≡ false → Harvests ops (is_some ((node_in a).opened name)) name (next_result ops (node_in a) name) (Ok h) (node_in a) (node_in b) → PortHarvestsNext false name a b
 none_stored ops h name a b same stop hs =
     let n = node_in a in record {
-      posted = ap (λ (x : Berth). posted_on (node_in x) name) same;
+      posted = ap (λ (x : PortView). posted_on (node_in x) name) same;
       stored = λ (e : false ≡ true). cc e;
-      none = λ e. ap (λ (x : Berth). has_next x name) same ∙ sym (next_is_there ops n name) ∙ no_next ops (n.opened name) name (next_result ops n name) h n (node_in b) (nothing_opened ops (n.opened name) n.board name n.me) hs stop;
+      none = λ e. ap (λ (x : PortView). has_next x name) same ∙ sym (next_is_there ops n name) ∙ no_next ops (n.opened name) name (next_result ops n name) h n (node_in b) (nothing_opened ops (n.opened name) n.board name n.me) hs stop;
     }
 
-pub next_harvested : (ops : List Operation) (h : Harvest) (name : Name) (a b : Berth) → HarvestsOne name (Ok h) a b → Harvests ops (is_some ((node_in a).opened name)) name (next_result ops (node_in a) name) (Ok h) (node_in a) (node_in b) → HarvestsNext (is_done h) name a b
+pub next_harvested : (ops : List Operation) (h : Harvest) (name : Name) (a b : PortView) → HarvestsOne name (Ok h) a b → Harvests ops (is_some ((node_in a).opened name)) name (next_result ops (node_in a) name) (Ok h) (node_in a) (node_in b) → PortHarvestsNext (is_done h) name a b
 next_harvested ops (H.Done call) name a b one hs =
     let n = node_in a in
     let x = stores_next ops (n.opened name) name (next_result ops n name) call n (node_in b) refl hs in
@@ -109,19 +109,19 @@ wants_by ops name true (Some f) e old new is h = ap (λ n. node_has_next n name)
 wants_by ops name true None e old new is h = absurd h
 
 -- memory is wanting only for a result that can be had
-pub wants_next : (ops : List Operation) (name : Name) (e : OutOfMemory) (a b : Berth) → Harvests ops (is_some ((node_in a).opened name)) name (next_result ops (node_in a) name) (Err e) (node_in a) (node_in b) → has_next b name ≡ true
+pub wants_next : (ops : List Operation) (name : Name) (e : OutOfMemory) (a b : PortView) → Harvests ops (is_some ((node_in a).opened name)) name (next_result ops (node_in a) name) (Err e) (node_in a) (node_in b) → has_next b name ≡ true
 wants_next ops name e a b h = wants_by ops name (is_some ((node_in a).opened name)) (next_result ops (node_in a) name) e (node_in a) (node_in b) refl h
 
 -- so far it has harvested: the number of the next call is that of the results
-pub record IsHarvesting (name : Name) (call : ℕ) (old new : Berth) : Type 0 where
+pub record IsHarvesting (name : Name) (call : ℕ) (old new : PortView) : Type 0 where
   pub done : HarvestsAndPrunes old new
   pub posted : posted_on (node_in new) name ≡ posted_on (node_in old) name
   pub front : front_on (node_in new) name ≡ call
 
-pub harvesting_begins : (name : Name) (port : Berth) → IsHarvesting name (front_on (node_in port) name) port port
+pub harvesting_begins : (name : Name) (port : PortView) → IsHarvesting name (front_on (node_in port) name) port port
 harvesting_begins name port = record { done = nothing_done port port refl; posted = refl; front = refl }
 
-pub harvesting_more : (name : Name) (call : ℕ) (had : Bool) (a b c : Berth) → IsHarvesting name call a b → HarvestsAndPrunes b c → HarvestsNext had name b c → had ≡ true → IsHarvesting name (call + 1) a c
+pub harvesting_more : (name : Name) (call : ℕ) (had : Bool) (a b c : PortView) → IsHarvesting name call a b → HarvestsAndPrunes b c → PortHarvestsNext had name b c → had ≡ true → IsHarvesting name (call + 1) a c
 harvesting_more name call had a b c i h n e = record {
   done = done_then a b c i.done h;
   posted = n.posted ∙ i.posted;
@@ -130,32 +130,32 @@ harvesting_more name call had a b c i h n e = record {
 
 -- WHAT FOLLOWS A POP
 
-pub settles_on : (name : Name) (a b c : Berth) → HarvestsAndPrunes a b → has_next b name ≡ false → Prunes name b c → Settles name a c
+pub settles_on : (name : Name) (a b c : PortView) → HarvestsAndPrunes a b → has_next b name ≡ false → Prunes name b c → Settles name a c
 settles_on name a b c first none prunes = record { harvested = b; before = first; none_left = none; pruned = c; prunes = prunes; after = nothing_done c c refl }
 
-pub settles_then : (name : Name) (a b c : Berth) → Settles name a b → HarvestsAndPrunes b c → Settles name a c
+pub settles_then : (name : Name) (a b c : PortView) → Settles name a b → HarvestsAndPrunes b c → Settles name a c
 settles_then name a b c s more = record { harvested = s.harvested; before = s.before; none_left = s.none_left; pruned = s.pruned; prunes = s.prunes; after = done_then s.pruned b c s.after more }
 
-pub settles_after : (name : Name) (a b c : Berth) → HarvestsAndPrunes a b → Settles name b c → Settles name a c
+pub settles_after : (name : Name) (a b c : PortView) → HarvestsAndPrunes a b → Settles name b c → Settles name a c
 settles_after name a b c first s = record { harvested = s.harvested; before = done_then a b s.harvested first s.before; none_left = s.none_left; pruned = s.pruned; prunes = s.prunes; after = s.after }
 
-settles_listed : (contexts : List Name) (a b c : Berth) → HarvestsAndPrunes a b → Settles [] a b → HarvestsAndPrunes b c → SettlesEach contexts b c → (name : Name) → IsListed name contexts → Settles name a c
+settles_listed : (contexts : List Name) (a b c : PortView) → HarvestsAndPrunes a b → Settles [] a b → HarvestsAndPrunes b c → SettlesEach contexts b c → (name : Name) → IsListedContext name contexts → Settles name a c
 settles_listed contexts a b c does world more each name (inl e) = subst (λ n. Settles n a c) (sym e) (settles_then [] a b c world more)
 settles_listed contexts a b c does world more each name (inr there) = settles_after name a b c does (each there.0 name there.1)
 
-pub settles_all : (contexts : List Name) (a b c : Berth) (r : Result (Unit {0}) OutOfMemory) → HarvestsAndPrunes a b → Settles [] a b → HarvestsAndPrunes b c → OnOk r (SettlesEach contexts b c) → OnOk r (SettlesAll contexts a c)
+pub settles_all : (contexts : List Name) (a b c : PortView) (r : Result (Unit {0}) OutOfMemory) → HarvestsAndPrunes a b → Settles [] a b → HarvestsAndPrunes b c → OnOk r (SettlesEach contexts b c) → OnOk r (SettlesAll contexts a c)
 settles_all contexts a b c (Ok u) does world more each = record { each = settles_listed contexts a b c does world more each }
 settles_all contexts a b c (Err e) does world more each = tt
 
 -- so far it has settled the first so many of these contexts
-pub record HasSettled (contexts : List Name) (count : ℕ) (old new : Berth) : Type 0 where
+pub record HasSettled (contexts : List Name) (count : ℕ) (old new : PortView) : Type 0 where
   pub done : HarvestsAndPrunes old new
   pub each : (i : ℕ) (name : Name) → i < count → slice_get contexts i ≡ Some name → Settles name old new
 
-pub settled_none : (contexts : List Name) (a : Berth) → HasSettled contexts 0 a a
+pub settled_none : (contexts : List Name) (a : PortView) → HasSettled contexts 0 a a
 settled_none contexts a = record { done = nothing_done a a refl; each = λ i name l there. absurd (omega (arith, l)) }
 
-pub settled_more : (contexts : List Name) (count : ℕ) (name : Name) (a b c : Berth) → HasSettled contexts count a b → slice_get contexts count ≡ Some name → HarvestsAndPrunes b c → Settles name b c → HasSettled contexts (count + 1) a c
+pub settled_more : (contexts : List Name) (count : ℕ) (name : Name) (a b c : PortView) → HasSettled contexts count a b → slice_get contexts count ≡ Some name → HarvestsAndPrunes b c → Settles name b c → HasSettled contexts (count + 1) a c
 settled_more contexts count name a b c s here done next = record { done = done_then a b c s.done done; each = λ i other l there. by_place i other there (nat_lt i count) refl l } where
   by_place : (i : ℕ) (other : Name) → slice_get contexts i ≡ Some other → (low : Bool) → nat_lt i count ≡ low → i < count + 1 → Settles other a c
   by_place i other there true t l = settles_then other a b c (s.each i other (grind (arith, nat_tests, t)) there) done
@@ -164,10 +164,10 @@ settled_more contexts count name a b c s here done next = record { done = done_t
       let same : name ≡ other = same_Some name other (sym here ∙ ap (slice_get contexts) (sym last) ∙ there) in
       settles_after other a b c s.done (subst (λ n. Settles n b c) same next)
 
-pub settled_each : (contexts : List Name) (a b : Berth) → HasSettled contexts (length contexts) a b → SettlesEach contexts a b
+pub settled_each : (contexts : List Name) (a b : PortView) → HasSettled contexts (length contexts) a b → SettlesEach contexts a b
 settled_each contexts a b s i name there = s.each i name (within contexts i name there) there
 
-pub wants_later : (a b c : Berth) (r : Result (Unit {0}) OutOfMemory) → HarvestsAndPrunes a b → OnErr r (WantsResult b c) → OnErr r (WantsResult a c)
+pub wants_later : (a b c : PortView) (r : Result (Unit {0}) OutOfMemory) → HarvestsAndPrunes a b → OnErr r (WantsResult b c) → OnErr r (WantsResult a c)
 wants_later a b c (Ok u) h w = tt
 wants_later a b c (Err e) h w = record { harvests = done_then a b c h w.harvests; name = w.name; next = w.next }
 
@@ -180,13 +180,13 @@ sufficed_by (L.OutOfMemory lost) not = not lost refl
 
 -- UNDER THE LOCK
 
-module _ {table : TableId} {setup : Setup} {me : ℕ} {opening : List Act} {before total : ℕ} {contexts : List Name} (a b : Berth) (m : IsMoored table setup me opening before a total contexts) (first : KeepsPlan a → Stood a.setup a.me a.journal) (last : KeepsPlan b → Stood b.setup b.me b.journal) (n : MakesNoPost a b) where
+module _ {table : TableId} {setup : Setup} {me : ℕ} {opening : List Act} {before total : ℕ} {contexts : List Name} (a b : PortView) (m : IsHeldPort table setup me opening before a total contexts) (first : KeepsPlan a → Stood a.setup a.me a.journal) (last : KeepsPlan b → Stood b.setup b.me b.journal) (n : MakesNoPost a b) where
   pub pulls_then : (pull : Pull) → Pulls pull contexts a b → PullsThen table setup me opening pull
   pulls_then pull pulls = record {
     before = a;
     after = b;
-    docked_before = docked_of a m first;
-    docked_after = docked_of b (moored_later a b m n) last;
+    lawful_before = lawful_of a m first;
+    lawful_after = lawful_of b (held_later a b m n) last;
     gone_on = m.gone_on;
     no_post = n;
     contexts = contexts;
@@ -198,13 +198,13 @@ module _ {table : TableId} {setup : Setup} {me : ℕ} {opening : List Act} {befo
   puts_then put puts = record {
     before = a;
     after = b;
-    docked_before = docked_of a m first;
-    docked_after = docked_of b (moored_later a b m n) last;
+    lawful_before = lawful_of a m first;
+    lawful_after = lawful_of b (held_later a b m n) last;
     gone_on = m.gone_on;
     no_post = n;
     puts = puts;
   }
 
-pub puts_as : (put : Result Push OutOfMemory) (a b : Berth) → IfOk put (λ push. PushesNext frame_limit push a b) → OnErr put (b ≡ a) → OnErr put (a.kept ≡ []) → Puts put a b
+pub puts_as : (put : Result Push OutOfMemory) (a b : PortView) → IfOk put (λ push. PushesNext frame_limit push a b) → OnErr put (b ≡ a) → OnErr put (a.kept ≡ []) → Puts put a b
 puts_as (Ok push) a b next err used = next
 puts_as (Err e) a b next err used = (used, err)

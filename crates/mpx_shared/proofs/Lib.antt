@@ -1,7 +1,7 @@
 pub mod Plans
 pub mod Standing
 pub mod Dying
-pub mod Docked
+pub mod LawfulPorts
 pub mod Gossiping
 pub mod Pruning
 pub mod Answering

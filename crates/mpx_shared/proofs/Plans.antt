@@ -4,7 +4,7 @@ use Rattle.std.proofs.lemmas.List.{append-nil}
 use Rattle.std.specs.Option.{option_map}
 use mathlib.Core.List.{IsPrefix}
 use Rattle.mpx_name.specs.Name.{Name}
-use Rattle.mpx_post.specs.Births.{BirthView}
+use Rattle.mpx_birth.specs.Births.{BirthView}
 use Rattle.mpx_post.specs.Posts.{Given}
 use Rattle.mpx_value.specs.Histories.{Grows, answer_with, birth_of, outcome_of, outcomes_by, posts_on, row_of, value_for}
 use Rattle.mpx_value.proofs.Growth.{birth-grows, posts_on-append, row-grows, then_some}
@@ -16,8 +16,8 @@ use Rattle.mpx_world.proofs.Later.{later_goes_on}
 use Rattle.mpx_bus.specs.declared.act.Setup.{Setup}
 use Rattle.mpx_bus.specs.Acts.{start_of}
 use Rattle.mpx_bus.specs.Rule.{BeginsPlan, world_of}
-use Rattle.mpx_shared.specs.Docks.{plan_history, planned_birth}
-use Rattle.mpx_shared.specs.Laws.{IsBirth, IsFinished, IsPlannedResult}
+use Rattle.mpx_shared.specs.LawfulPorts.{plan_history, planned_birth}
+use Rattle.mpx_shared.specs.Laws.{IsBirthByPlan, IsFinished, IsPlannedResult}
 
 -- LISTS
 
@@ -81,5 +81,5 @@ module _ (setup : Setup) (w : WorldView) (planned : setup.planned ≡ true) (beg
 pub result_is_planned : (setup : Setup) (me : ℕ) (name : Name) (call : ℕ) (f : Finished) → setup.planned ≡ true → IsFinished setup me name call f → IsPlannedResult setup me name call f
 result_is_planned setup me name call f planned is = plan_result setup (world_of setup is.happenings) planned is.begins (operations_of setup is.happenings) (ranks_of setup is.happenings) me name call f is.value
 
-pub birth_is_planned : (setup : Setup) (name : Name) (birth : BirthView) → setup.planned ≡ true → IsBirth setup name birth → planned_birth setup name ≡ Some birth
+pub birth_is_planned : (setup : Setup) (name : Name) (birth : BirthView) → setup.planned ≡ true → IsBirthByPlan setup name birth → planned_birth setup name ≡ Some birth
 birth_is_planned setup name birth planned is = plan_births setup (world_of setup is.happenings) planned is.begins (operations_of setup is.happenings) (ranks_of setup is.happenings) name birth is.born

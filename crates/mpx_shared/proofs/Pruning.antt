@@ -3,7 +3,7 @@ use Rattle.std.proofs.Common.{◌≡◌, ℕ, ◌<◌, ◌≤◌, ◌⊎◌, Boo
 use Rattle.std.specs.Prelude.{◌&&◌, OnOk, OnErr, nat_le, not}
 use Rattle.std.proofs.lemmas.Bool.Decides.{nat_tests}
 use Rattle.std.proofs.lemmas.Option.{same_Some}
-use Rattle.join_core.specs.Cases.{Answer, yes, no, answer}
+use Rattle.join_core.specs.Cases.{TestAnswer, yes, no, answer}
 use Rattle.mpx_name.specs.Name.{Name}
 use Rattle.mpx_board.specs.Boards.{Look, Dead, Dropped, IsGone, floor_on, gone, join, nothing, only}
 use Rattle.mpx_board.specs.Changes.{pruned, pruned_on}
@@ -15,16 +15,16 @@ use Rattle.mpx_world.specs.Worlds.{ProcessView, drops, takes}
 use Rattle.mpx_world.proofs.Lists.{both_true, name_itself}
 use Rattle.mpx_bus.specs.declared.act.Act.TheVariants as A
 use Rattle.mpx_bus.specs.Acts.{at_start}
-use Rattle.mpx_bus.specs.Berths.{Berth, GoesOn, IsSamePort, node_in, process_in}
+use Rattle.mpx_bus.specs.Ports.{PortView, PortGoesOn, IsSamePort, node_in, process_in}
 use Rattle.mpx_bus.specs.Rule.{Stood}
 use Rattle.mpx_bus.proofs.Journals.{after-append}
 use Rattle.mpx_shared.specs.Gossip.{HasDropped, Prunes, dropped_on, is_past}
-use Rattle.mpx_shared.proofs.Docked.{made_same}
+use Rattle.mpx_shared.proofs.LawfulPorts.{made_same}
 use Rattle.mpx_shared.proofs.Gossiping.{nothing_done, prunes_one}
 use Rattle.mpx_shared.proofs.Standing.{floor_low, stood_unfreed}
 
 -- where no floor passes what is dropped, and none is past a free
-pub prunes_none : (name : Name) (a : Berth) → HasDropped name a → Prunes name a a
+pub prunes_none : (name : Name) (a : PortView) → HasDropped name a → Prunes name a a
 prunes_none name a all = record {
   does = nothing_done a a refl;
   drops = λ floor told. inr (all floor told).0;
@@ -33,12 +33,12 @@ prunes_none name a all = record {
 }
 
 -- a member's own front has been reached
-pub none_to_drop : (name : Name) (dropped : ℕ) (a : Berth) → Stood a.setup a.me a.journal → dropped ≡ dropped_on a name → 0 < posted_on (node_in a) name → front_on (node_in a) name ≤ dropped → freed_on (node_in a) name ≡ false → HasDropped name a
+pub none_to_drop : (name : Name) (dropped : ℕ) (a : PortView) → Stood a.setup a.me a.journal → dropped ≡ dropped_on a name → 0 < posted_on (node_in a) name → front_on (node_in a) name ≤ dropped → freed_on (node_in a) name ≡ false → HasDropped name a
 none_to_drop name dropped a stood is posted low unfreed floor e =
     let l = floor_low a.setup a.me a.journal stood name floor posted e in
     (omega (arith, is, low, l), stood_unfreed a.setup a.me a.journal stood name unfreed floor)
 
-told_floor : (name : Name) (a : Berth) (floor : ℕ) → Some floor ≡ floor_on (node_in a).board name → (other : ℕ) → floor_on (node_in a).board name ≡ Some other → other ≡ floor
+told_floor : (name : Name) (a : PortView) (floor : ℕ) → Some floor ≡ floor_on (node_in a).board name → (other : ℕ) → floor_on (node_in a).board name ≡ Some other → other ≡ floor
 told_floor name a floor is other e = same_Some other floor (sym e ∙ sym is)
 
 low_enough : (floor dropped : ℕ) → nat_le floor dropped ≡ true → floor ≤ dropped
@@ -55,7 +55,7 @@ not_false : (b : Bool) → not b ≡ false → b ≡ true
 not_false true e = refl
 not_false false e = sym e
 
-pub low_floor : (name : Name) (dropped floor : ℕ) (a : Berth) → dropped ≡ dropped_on a name → Some floor ≡ floor_on (node_in a).board name → (nat_le floor dropped && not (is_past a name floor)) ≡ true → HasDropped name a
+pub low_floor : (name : Name) (dropped floor : ℕ) (a : PortView) → dropped ≡ dropped_on a name → Some floor ≡ floor_on (node_in a).board name → (nat_le floor dropped && not (is_past a name floor)) ≡ true → HasDropped name a
 low_floor name dropped floor a is told low other e =
     let same = told_floor name a floor told other e in
     let both = both_true (nat_le floor dropped) (not (is_past a name floor)) low in
@@ -65,14 +65,14 @@ low_floor name dropped floor a is told low other e =
 -- a floor is higher than what is dropped, or past a free
 pub high_or_past : (floor dropped : ℕ) (past : Bool) → (nat_le floor dropped && not past) ≡ false → (dropped < floor) ⊎ (past ≡ true)
 high_or_past floor dropped past e = by_low (answer (nat_le floor dropped)) where
-  by_low : Answer (nat_le floor dropped) → (dropped < floor) ⊎ (past ≡ true)
+  by_low : TestAnswer (nat_le floor dropped) → (dropped < floor) ⊎ (past ≡ true)
   by_low (yes low) = inr (not_false past (sym (ap (λ b. b && not past) low) ∙ e))
   by_low (no high) = inl (too_high floor dropped high)
 
-no_floor : (name : Name) (a : Berth) → None ≡ floor_on (node_in a).board name → HasDropped name a
+no_floor : (name : Name) (a : PortView) → None ≡ floor_on (node_in a).board name → HasDropped name a
 no_floor name a none floor e = let f : None ≡ Some floor = none ∙ e in absurd (cc f)
 
-pub prunes_no_floor : (name : Name) (a : Berth) → None ≡ floor_on (node_in a).board name → Prunes name a a
+pub prunes_no_floor : (name : Name) (a : PortView) → None ≡ floor_on (node_in a).board name → Prunes name a a
 prunes_no_floor name a none = prunes_none name a (no_floor name a none)
 
 -- a pruning to the floor drops that many, where the context isn't dead
@@ -112,7 +112,7 @@ pruned_there board name floor told = by_dead (board.contexts name).dead where
   by_dead true = refl
   by_dead false = pruned_floor (floor_on board name) floor told
 
-prunes_there : (name : Name) (floor : ℕ) (a b : Berth) → IsSamePort a b → Some floor ≡ floor_on (node_in a).board name → b.journal ≡ a.journal ++ A.Pruned name floor ∷ []
+prunes_there : (name : Name) (floor : ℕ) (a b : PortView) → IsSamePort a b → Some floor ≡ floor_on (node_in a).board name → b.journal ≡ a.journal ++ A.Pruned name floor ∷ []
     → (IsGone (node_in b).board name ⊎ (floor ≤ dropped_on b name)) × (is_past a name floor ≡ true → IsGone (node_in b).board name)
 prunes_there name floor a b same told grows =
     let v = process_in a in
@@ -123,8 +123,8 @@ prunes_there name floor a b same told grows =
     (prunes_to v name floor (v.node.board.contexts name).dead (is_past_free (results_on v.node name) floor) refl)
 
 -- a pruning to a floor that is higher, or past a free
-pub prunes_floor : (name : Name) (dropped floor : ℕ) (r : Result (Unit {0}) PruneError) (a b : Berth) → dropped ≡ dropped_on a name → Some floor ≡ floor_on (node_in a).board name → (dropped < floor) ⊎ (is_past a name floor ≡ true) → r ≡ pruned_on (node_in a).board name floor
-    → GoesOn a b → b.kept ≡ a.kept → OnOk r (b.journal ≡ a.journal ++ A.Pruned name floor ∷ []) → OnErr r (b ≡ a) → Prunes name a b
+pub prunes_floor : (name : Name) (dropped floor : ℕ) (r : Result (Unit {0}) PruneError) (a b : PortView) → dropped ≡ dropped_on a name → Some floor ≡ floor_on (node_in a).board name → (dropped < floor) ⊎ (is_past a name floor ≡ true) → r ≡ pruned_on (node_in a).board name floor
+    → PortGoesOn a b → b.kept ≡ a.kept → OnOk r (b.journal ≡ a.journal ++ A.Pruned name floor ∷ []) → OnErr r (b ≡ a) → Prunes name a b
 prunes_floor name dropped floor r a b is told high answer goes kept ok err =
     let good : r ≡ Ok tt = answer ∙ pruned_there (node_in a).board name floor (sym told) in
     let grows : b.journal ≡ a.journal ++ A.Pruned name floor ∷ [] = subst (λ x. OnOk x (b.journal ≡ a.journal ++ A.Pruned name floor ∷ [])) good ok in

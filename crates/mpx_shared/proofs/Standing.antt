@@ -8,7 +8,7 @@ use Rattle.join_core.specs.Flat.{FlatView, unknown, known, clash}
 use Rattle.mpx_name.specs.Name.{Name}
 use Rattle.mpx_num.specs.declared.own.Operation.{Operation}
 use Rattle.mpx_post.specs.Posts.{Given, is_free}
-use Rattle.mpx_post.specs.Births.{BirthView}
+use Rattle.mpx_birth.specs.Births.{BirthView}
 use Rattle.mpx_post.specs.declared.draft.Draft.{Draft}
 use Rattle.mpx_post.specs.Drafts.{at, checked}
 use Rattle.mpx_post.specs.declared.draft.PostError.{PostError}
@@ -18,7 +18,7 @@ use Rattle.mpx_value.specs.Histories.{posts_on}
 use Rattle.mpx_node.specs.declared.finished.Finished.{Finished}
 use Rattle.mpx_node.specs.Nodes.{OpenedView, checked_by, checked_there, freed_by, freed_on, front_on, is_fine_free, is_nothing, is_past_free, posted_by, posted_on, results_on}
 use Rattle.mpx_world.specs.Worlds.{ProcessView, WorldView, births, history}
-use Rattle.mpx_world.specs.Soundness.{Agrees, IsMember, IsValue}
+use Rattle.mpx_world.specs.Soundness.{AgreesWithFact, IsMember, IsValue}
 use Rattle.mpx_world.proofs.Born.{option_map_some}
 use Rattle.mpx_world.proofs.Lists.{any_at}
 use Rattle.mpx_world.proofs.Truth.{told_agrees}
@@ -32,7 +32,7 @@ use Rattle.mpx_bus.specs.Acts.{process_at, node_at}
 use Rattle.mpx_bus.specs.Rule.{Stood, world_of}
 
 -- what is told of a value on which nothing agrees
-told_none : {A : Type 0} (v : FlatView A) → Agrees v None → told v ≡ None
+told_none : {A : Type 0} (v : FlatView A) → AgreesWithFact v None → told v ≡ None
 told_none unknown a = refl
 told_none (known x) a = cc a
 told_none clash a = absurd a
@@ -136,7 +136,7 @@ module _ (setup : Setup) (me : ℕ) (journal : List Act) (s : Stood setup me jou
       → slice_get (posts_on name ((process_at setup me journal).made)) call ≡ told (((node_at setup me journal).board.contexts name).posts call me)
   own_on_board name call none = by (slice_get (posts_on name ((process_at setup me journal).made)) call) refl where
     by : (o : Option Given) → slice_get (posts_on name ((process_at setup me journal).made)) call ≡ o → o ≡ told (((node_at setup me journal).board.contexts name).posts call me)
-    by None e = sym (told_none (((node_at setup me journal).board.contexts name).posts call me) (subst (Agrees (((node_at setup me journal).board.contexts name).posts call me)) (stood_history name call ∙ e) (((board_so w me (process_at setup me journal) stood_good).contexts_so name).posts_so call me)))
+    by None e = sym (told_none (((node_at setup me journal).board.contexts name).posts call me) (subst (AgreesWithFact (((node_at setup me journal).board.contexts name).posts call me)) (stood_history name call ∙ e) (((board_so w me (process_at setup me journal) stood_good).contexts_so name).posts_so call me)))
     by (Some x) e = sym (own_kept name call x none e)
 
   -- a result stands beside the own post

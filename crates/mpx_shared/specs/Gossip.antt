@@ -10,15 +10,15 @@ use Rattle.mpx_bus.specs.declared.port.Pop.{Pop}
 use Rattle.mpx_bus.specs.declared.port.Pop.TheVariants as O
 use Rattle.mpx_bus.specs.declared.port.Push.{Push}
 use Rattle.mpx_bus.specs.Answers.{PopsOne, PushesNext, TakesIn}
-use Rattle.mpx_bus.specs.Berths.{Berth, node_in}
+use Rattle.mpx_bus.specs.Ports.{PortView, node_in}
 use Rattle.mpx_shared.specs.declared.ticket.Pull.{Pull}
 use Rattle.mpx_shared.specs.declared.ticket.Pull.TheVariants as L
-use Rattle.mpx_shared.specs.Docks.{IsListed, MakesNoPost}
+use Rattle.mpx_shared.specs.LawfulPorts.{IsListedContext, MakesNoPost}
 
 -- HARVESTS AND PRUNINGS
 
 -- whether a next result can be had on the context
-abbrev pub has_next : Berth → Name → Bool
+abbrev pub has_next : PortView → Name → Bool
 has_next port name = node_has_next (node_in port) name
 
 -- an act that stores a result, or drops posts
@@ -34,41 +34,41 @@ IsHarvestOrPruning (A.Pushed bytes) = ⊥
 IsHarvestOrPruning (A.Popped bytes) = ⊥
 
 -- the port harvested and pruned, and did nothing else
-pub record HarvestsAndPrunes (old new : Berth) : Type 0 where
+pub record HarvestsAndPrunes (old new : PortView) : Type 0 where
   pub no_post : MakesNoPost old new
   pub each : All IsHarvestOrPruning no_post.acts
   pub kept : new.kept ≡ old.kept
 
 -- the port stored the next result of the context, where there was one; it has posted as many calls there as before
-pub record HarvestsNext (had : Bool) (name : Name) (old new : Berth) : Type 0 where
+pub record PortHarvestsNext (had : Bool) (name : Name) (old new : PortView) : Type 0 where
   pub posted : posted_on (node_in new) name ≡ posted_on (node_in old) name
   pub stored : had ≡ true → front_on (node_in new) name ≡ front_on (node_in old) name + 1
   pub none : had ≡ false → has_next new name ≡ false
 
 -- the posts of how many calls of the context the port has dropped
-abbrev pub dropped_on : Berth → Name → ℕ
+abbrev pub dropped_on : PortView → Name → ℕ
 dropped_on port name = ((node_in port).board.contexts name).dropped
 
 -- the calls below the number are past a free whose row is fine and whose result the port has
-abbrev pub is_past : Berth → Name → (number : ℕ) → Bool
+abbrev pub is_past : PortView → Name → (number : ℕ) → Bool
 is_past port name number = is_past_free (results_on (node_in port) name) number
 
 -- the port has dropped all that every member of the context has harvested, as its board tells it, and no free of all is among it
-abbrev pub HasDropped : Name → Berth → Type 0
+abbrev pub HasDropped : Name → PortView → Type 0
 HasDropped name port = (floor : ℕ) → floor_on (node_in port).board name ≡ Some floor → (floor ≤ dropped_on port name) × (is_past port name floor ≡ false)
 
 -- all that every member of the context has harvested, as the first port's board tells it, the second has dropped, or the context is
 -- dead there
-abbrev pub DropsAll : Name → Berth → Berth → Type 0
+abbrev pub DropsAll : Name → PortView → PortView → Type 0
 DropsAll name old new = (floor : ℕ) → floor_on (node_in old).board name ≡ Some floor → IsGone (node_in new).board name ⊎ (floor ≤ dropped_on new name)
 
 -- where every member has harvested a free of the context, as the first port's board tells it, the context is dead at the second
-abbrev pub KillsFreed : Name → Berth → Berth → Type 0
+abbrev pub KillsFreed : Name → PortView → PortView → Type 0
 KillsFreed name old new = (floor : ℕ) → floor_on (node_in old).board name ≡ Some floor → is_past old name floor ≡ true → IsGone (node_in new).board name
 
 -- the port dropped the posts of the context that every member has harvested, or the context is dead; where it had dropped them all, and
 -- no free of all is among them, nothing is done
-pub record Prunes (name : Name) (old new : Berth) : Type 0 where
+pub record Prunes (name : Name) (old new : PortView) : Type 0 where
   pub does : HarvestsAndPrunes old new
   pub drops : DropsAll name old new
   pub kills : KillsFreed name old new
@@ -76,24 +76,24 @@ pub record Prunes (name : Name) (old new : Berth) : Type 0 where
 
 -- the port harvested on the context until no further result could be had there, and then dropped what every member has harvested;
 -- before and after that it harvested and pruned elsewhere
-pub record Settles (name : Name) (old new : Berth) : Type 0 where
-  pub harvested : Berth
+pub record Settles (name : Name) (old new : PortView) : Type 0 where
+  pub harvested : PortView
   pub before : HarvestsAndPrunes old harvested
   pub none_left : has_next harvested name ≡ false
-  pub pruned : Berth
+  pub pruned : PortView
   pub prunes : Prunes name harvested pruned
   pub after : HarvestsAndPrunes pruned new
 
 -- the port settled each of these contexts
-abbrev pub SettlesEach : List Name → Berth → Berth → Type 0
+abbrev pub SettlesEach : List Name → PortView → PortView → Type 0
 SettlesEach contexts old new = (i : ℕ) (name : Name) → slice_get contexts i ≡ Some name → Settles name old new
 
 -- the port settled the world and each of these contexts
-pub record SettlesAll (contexts : List Name) (old new : Berth) : Type 0 where
-  pub each : (name : Name) → IsListed name contexts → Settles name old new
+pub record SettlesAll (contexts : List Name) (old new : PortView) : Type 0 where
+  pub each : (name : Name) → IsListedContext name contexts → Settles name old new
 
 -- the port harvested and pruned, until memory was wanting to store a result that could be had
-pub record WantsResult (old new : Berth) : Type 0 where
+pub record WantsResult (old new : PortView) : Type 0 where
   pub harvests : HarvestsAndPrunes old new
   pub name : Name
   pub next : has_next new name ≡ true
@@ -114,16 +114,16 @@ IsPullOf (O.OutOfMemory frame) (L.OutOfMemory lost) = lost ≡ Some frame
 
 -- what follows the pop: the world and these contexts are settled; or nothing follows, where memory was wanting for a frame's part;
 -- or memory is wanting for a result
-abbrev pub SettlesAs : Pull → List Name → Berth → Berth → Type 0
+abbrev pub SettlesAs : Pull → List Name → PortView → PortView → Type 0
 SettlesAs L.Took contexts popped new = SettlesAll contexts popped new
 SettlesAs L.Empty contexts popped new = SettlesAll contexts popped new
 SettlesAs (L.OutOfMemory (Some frame)) contexts popped new = new ≡ popped
 SettlesAs (L.OutOfMemory None) contexts popped new = WantsResult popped new
 
 -- the port popped a frame, where there was one, took in its part, and then harvested and pruned on the world and on these contexts
-pub record Pulls (pull : Pull) (contexts : List Name) (old new : Berth) : Type 0 where
+pub record Pulls (pull : Pull) (contexts : List Name) (old new : PortView) : Type 0 where
   pub pop : Pop
-  pub popped : Berth
+  pub popped : PortView
   pub pops : PopsOne pop old popped
   pub takes_in : TakesIn pop (node_in old) (node_in popped)
   pub kept : popped.kept ≡ old.kept
@@ -138,6 +138,6 @@ frame_limit = 1048576
 
 -- the port pushed the next frame of its list, or had it back from a full queue; or memory was wanting for a new list, since all
 -- frames of the last one were sent, and the port has done nothing
-abbrev pub Puts : Result Push OutOfMemory → Berth → Berth → Type 0
+abbrev pub Puts : Result Push OutOfMemory → PortView → PortView → Type 0
 Puts (Ok push) old new = PushesNext frame_limit push old new
 Puts (Err e) old new = (old.kept ≡ []) × (new ≡ old)

@@ -1,4 +1,4 @@
-pub mod Docks
+pub mod LawfulPorts
 pub mod Tickets
 pub mod Gossip
 pub mod Turns

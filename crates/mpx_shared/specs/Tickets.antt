@@ -4,7 +4,7 @@ use Rattle.atomic_table.specs.Seated.{TableId}
 use Rattle.mpx_name.specs.Name.{Name}
 use Rattle.mpx_num.specs.declared.own.Operation.{Operation}
 use Rattle.mpx_post.specs.Posts.{Given}
-use Rattle.mpx_post.specs.Births.{BirthView}
+use Rattle.mpx_birth.specs.Births.{BirthView}
 use Rattle.mpx_post.specs.declared.draft.Draft.{Draft}
 use Rattle.mpx_post.specs.declared.draft.PostError.{PostError}
 use Rattle.mpx_board.specs.Boards.{told}
@@ -13,11 +13,11 @@ use Rattle.mpx_node.specs.Nodes.{NodeView, Opens, Posts, checked_on, gathers_on,
 use Rattle.mpx_bus.specs.declared.act.Setup.{Setup}
 use Rattle.mpx_bus.specs.declared.act.Act.{Act}
 use Rattle.mpx_bus.specs.declared.act.Act.TheVariants as A
-use Rattle.mpx_bus.specs.Berths.{Berth, Goes, node_in}
+use Rattle.mpx_bus.specs.Ports.{PortView, PortGoes, node_in}
 use Rattle.mpx_shared.specs.declared.ticket.Ticket.{Ticket}
-use Rattle.mpx_shared.specs.declared.ticket.Tested.{Tested}
-use Rattle.mpx_shared.specs.declared.ticket.Tested.TheVariants as T
-use Rattle.mpx_shared.specs.Docks.{HasGoneOn, IsDocked, MakesNoPost, made_in}
+use Rattle.mpx_shared.specs.declared.ticket.TicketTested.{TicketTested}
+use Rattle.mpx_shared.specs.declared.ticket.TicketTested.TheVariants as T
+use Rattle.mpx_shared.specs.LawfulPorts.{HasGoneOn, IsLawful, MakesNoPost, made_in}
 
 -- the number of the ticket's call, or the refusal
 abbrev pub call_of : Result Ticket PostError → Result ℕ PostError
@@ -33,53 +33,53 @@ abbrev pub IsNextTicket : List Operation → NodeView → Name → Draft → Tic
 IsNextTicket ops node name draft ticket = (ticket.name ≡ name) × ((ticket.call ≡ posted_on node name) × (checked_on ops node name draft ≡ Ok ticket.post))
 
 -- the post stands in the journal as the one act of the call; a refusal leaves the port as it was
-abbrev pub PostsOne : Name → Draft → Result Ticket PostError → Berth → Berth → Type 0
+abbrev pub PostsOne : Name → Draft → Result Ticket PostError → PortView → PortView → Type 0
 PostsOne name draft (Ok ticket) old new = new.journal ≡ old.journal ++ A.Posted name draft ∷ []
 PostsOne name draft (Err refusal) old new = new ≡ old
 
 -- the port had made so many posts, and then made this one and did nothing else, or refused it
 pub record PostsThen (table : TableId) (setup : Setup) (me : ℕ) (opening : List Act) (count : ℕ) (name : Name) (draft : Draft) (result : Result Ticket PostError) : Type 0 where
-  pub before : Berth
-  pub after : Berth
-  pub docked_before : IsDocked table setup me before
-  pub docked_after : IsDocked table setup me after
+  pub before : PortView
+  pub after : PortView
+  pub lawful_before : IsLawful table setup me before
+  pub lawful_after : IsLawful table setup me after
   pub gone_on : HasGoneOn setup me opening before
   pub counted : length (made_in before) ≡ count
   pub posts : Posts name (checked_on setup.operations (node_in before) name draft) (call_of result) (node_in before) (node_in after)
   pub ticket : IsTicketOf name (checked_on setup.operations (node_in before) name draft) result
-  pub goes : Goes before after
+  pub goes : PortGoes before after
   pub acts : PostsOne name draft result before after
   pub kept : after.kept ≡ before.kept
 
 -- the post that the port made as the ticket's call, where it did
-abbrev pub own_post : Berth → Ticket → Option Given
+abbrev pub own_post : PortView → Ticket → Option Given
 own_post port ticket = slice_get (posts_on ticket.name (made_in port)) ticket.call
 
 -- the stored result of the ticket's call, beside the ticket's post; or the ticket's post is made and has no result yet; or the
 -- port has made another post there, or none
-abbrev pub IsAnswer : Berth → Ticket → Tested → Type 0
+abbrev pub IsAnswer : PortView → Ticket → TicketTested → Type 0
 IsAnswer port ticket (T.Done finished) = (slice_get (results_on (node_in port) ticket.name) ticket.call ≡ Some finished) × (finished.mine ≡ ticket.post)
 IsAnswer port ticket T.NotYet = (own_post port ticket ≡ Some ticket.post) × (slice_get (results_on (node_in port) ticket.name) ticket.call ≡ None)
 IsAnswer port ticket T.Strange = own_post port ticket ≢ Some ticket.post
 
 -- the port answered the ticket so
-pub record Answers (table : TableId) (setup : Setup) (me : ℕ) (opening : List Act) (ticket : Ticket) (tested : Tested) : Type 0 where
-  pub port : Berth
-  pub docked : IsDocked table setup me port
+pub record AnswersTicket (table : TableId) (setup : Setup) (me : ℕ) (opening : List Act) (ticket : Ticket) (tested : TicketTested) : Type 0 where
+  pub port : PortView
+  pub lawful : IsLawful table setup me port
   pub gone_on : HasGoneOn setup me opening port
   pub answer : IsAnswer port ticket tested
 
 -- the gathering stands in the journal as the one act of the call; a refusal leaves the port as it was
-abbrev pub GathersOne : Name → ℤ → List ℤ → Result Name PostError → Berth → Berth → Type 0
+abbrev pub GathersOne : Name → ℤ → List ℤ → Result Name PostError → PortView → PortView → Type 0
 GathersOne parent tag ranks (Ok name) old new = new.journal ≡ old.journal ++ A.Gathered parent tag ranks ∷ []
 GathersOne parent tag ranks (Err refusal) old new = new ≡ old
 
 -- the port had made so many posts, and then opened the gathering and did nothing else, or refused it
 pub record OpensThen (table : TableId) (setup : Setup) (me : ℕ) (opening : List Act) (count : ℕ) (parent : Name) (tag : ℤ) (ranks : List ℤ) (result : Result Name PostError) : Type 0 where
-  pub before : Berth
-  pub after : Berth
-  pub docked_before : IsDocked table setup me before
-  pub docked_after : IsDocked table setup me after
+  pub before : PortView
+  pub after : PortView
+  pub lawful_before : IsLawful table setup me before
+  pub lawful_after : IsLawful table setup me after
   pub gone_on : HasGoneOn setup me opening before
   pub counted : length (made_in before) ≡ count
   pub opens : Opens parent (gathers_on (node_in before) parent tag ranks) result (node_in before) (node_in after)
@@ -89,15 +89,15 @@ pub record OpensThen (table : TableId) (setup : Setup) (me : ℕ) (opening : Lis
 
 -- the port's board told how the communicator came to be, or didn't
 pub record TellsBirth (table : TableId) (setup : Setup) (me : ℕ) (opening : List Act) (name : Name) (birth : Option BirthView) : Type 0 where
-  pub port : Berth
-  pub docked : IsDocked table setup me port
+  pub port : PortView
+  pub lawful : IsLawful table setup me port
   pub gone_on : HasGoneOn setup me opening port
   pub told : told ((node_in port).board.contexts name).birth ≡ birth
 
 -- the port, which had made so many posts, had posted a free on the context, or hadn't
 pub record TellsClosed (table : TableId) (setup : Setup) (me : ℕ) (opening : List Act) (count : ℕ) (name : Name) (closed : Bool) : Type 0 where
-  pub port : Berth
-  pub docked : IsDocked table setup me port
+  pub port : PortView
+  pub lawful : IsLawful table setup me port
   pub gone_on : HasGoneOn setup me opening port
   pub counted : length (made_in port) ≡ count
   pub told : closed ≡ has_freed name (made_in port)

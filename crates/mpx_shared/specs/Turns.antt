@@ -6,19 +6,19 @@ use Rattle.mpx_name.specs.Name.{Name}
 use Rattle.mpx_bus.specs.declared.act.Act.{Act}
 use Rattle.mpx_bus.specs.declared.act.Setup.{Setup}
 use Rattle.mpx_bus.specs.declared.port.Push.{Push}
-use Rattle.mpx_bus.specs.Berths.{Berth}
+use Rattle.mpx_bus.specs.Ports.{PortView}
 use Rattle.mpx_shared.specs.declared.ticket.Pull.{Pull}
 use Rattle.mpx_shared.specs.declared.ticket.Pull.TheVariants as L
-use Rattle.mpx_shared.specs.Docks.{AreAllSince, HasGoneOn, IsDocked, MakesNoPost}
+use Rattle.mpx_shared.specs.LawfulPorts.{AreAllSince, HasGoneOn, IsLawful, MakesNoPost}
 use Rattle.mpx_shared.specs.Gossip.{Pulls, Puts}
 
 -- the port popped a frame or found none, harvested and pruned on the world and each context on which it has posted since it was
 -- put under the lock, or met want of memory, as the answer says; it made no post
 pub record PullsThen (table : TableId) (setup : Setup) (me : ℕ) (opening : List Act) (pull : Pull) : Type 0 where
-  pub before : Berth
-  pub after : Berth
-  pub docked_before : IsDocked table setup me before
-  pub docked_after : IsDocked table setup me after
+  pub before : PortView
+  pub after : PortView
+  pub lawful_before : IsLawful table setup me before
+  pub lawful_after : IsLawful table setup me after
   pub gone_on : HasGoneOn setup me opening before
   pub no_post : MakesNoPost before after
   pub contexts : List Name
@@ -28,10 +28,10 @@ pub record PullsThen (table : TableId) (setup : Setup) (me : ℕ) (opening : Lis
 -- the port pushed the next frame of its list, had it back from a full queue, or met want of memory for a new list, as the answer
 -- says; it made no post
 pub record PutsThen (table : TableId) (setup : Setup) (me : ℕ) (opening : List Act) (put : Result Push OutOfMemory) : Type 0 where
-  pub before : Berth
-  pub after : Berth
-  pub docked_before : IsDocked table setup me before
-  pub docked_after : IsDocked table setup me after
+  pub before : PortView
+  pub after : PortView
+  pub lawful_before : IsLawful table setup me before
+  pub lawful_after : IsLawful table setup me after
   pub gone_on : HasGoneOn setup me opening before
   pub no_post : MakesNoPost before after
   pub puts : Puts put before after

@@ -1,7 +1,7 @@
-// The contexts below the world on which a port has posted.
+//! The contexts below the world on which a port has posted.
 ghost use Rattle.std.specs.Prelude.{◌≡◌, ◌<◌, ℕ, true, IfOk, IfSome, IfNone, slice_get, vec_capacity, vec_len};
 ghost use Rattle.mpx_board.specs.Looks.{look};
-ghost use Rattle.mpx_shared.specs.Docks.{IsListed, living, with_context};
+ghost use Rattle.mpx_shared.specs.LawfulPorts.{IsListedContext, living, with_context};
 
 use join_core::{Exact, OutOfMemory};
 use mpx_board::Board;
@@ -18,7 +18,7 @@ pub(crate) fn new_context(
     ensures kept { contexts.new.items ≡ contexts.old.items }
     ensures new { IfOk result (λ new. IfSome new (λ context. context ≡ name.now)) }
     ensures room { IfOk result (λ new. IfSome new (λ context. vec_len contexts.new < vec_capacity contexts.new)) }
-    ensures listed { IfOk result (λ new. IfNone new (IsListed name.now contexts.old.items)) }
+    ensures listed { IfOk result (λ new. IfNone new (IsListedContext name.now contexts.old.items)) }
 {
     if name.depth() == 0 || is_among(contexts.as_slice(), name) {
         return Ok(None);

@@ -1,7 +1,7 @@
-// What a board says, in one number: to see whether it has changed, and whether boards say the same. Nothing is claimed of it.
+//! What a board says, in one number: to see whether it has changed, and whether boards say the same. Nothing is claimed of it.
 use join_core::Pair;
 use join_nest::Lift;
-use mpx_board::{Acks, Board, Call, Entry, Lifted, VersionVector, is_told};
+use mpx_board::{Acks, Board, CallPosts, Entry, Lifted, VersionVector, is_told};
 use mpx_group::Proc;
 use mpx_name::{Name, Step};
 
@@ -43,7 +43,7 @@ fn of_entry(entry: &Entry) -> u64 {
     all
 }
 
-fn of_call(made: &Call) -> u64 {
+fn of_call(made: &CallPosts) -> u64 {
     let mut all: u64 = 2;
     for (process, _post) in made.entries() {
         all = all.wrapping_add(of_number(*process, 1));

@@ -1,11 +1,11 @@
-// What a pull does to a port: a pop with its take, then harvests, and prunings.
+//! What a pull does to a port: a pop with its take, then harvests, and prunings.
 ghost use Rattle.std.specs.Prelude.{◌≡◌, ◌<◌, ◌≤◌, ◌&&◌, not, nat_le, true, false, IfOk, OnOk, OnErr};
 ghost use Rattle.mpx_node.specs.Nodes.{freed_on, front_on, is_past_free, posted_on, results_on};
 ghost use Rattle.mpx_node.specs.Shown.{node_of};
-ghost use Rattle.mpx_bus.specs.Berths.{KeepsPlan};
+ghost use Rattle.mpx_bus.specs.Ports.{KeepsPlan};
 ghost use Rattle.mpx_bus.specs.Buses.{table_of};
-ghost use Rattle.mpx_shared.specs.Docks.{MakesNoPost};
-ghost use Rattle.mpx_shared.specs.Gossip.{HarvestsAndPrunes, HarvestsNext, Prunes, Pulls, Settles, SettlesAll, SettlesEach, WantsResult, has_next};
+ghost use Rattle.mpx_shared.specs.LawfulPorts.{MakesNoPost};
+ghost use Rattle.mpx_shared.specs.Gossip.{HarvestsAndPrunes, PortHarvestsNext, Prunes, Pulls, Settles, SettlesAll, SettlesEach, WantsResult, has_next};
 
 use crate::ticket::Pull;
 use join_core::OutOfMemory;
@@ -105,7 +105,7 @@ fn harvest_on(alloc: Global, port: &mut Port, name: &Name, ops: &Ops) -> Result<
 fn harvest_next(alloc: Global, port: &mut Port, name: &Name, ops: &Ops) -> Result<bool, OutOfMemory>
     requires list { ⟦<Ops as Listing>⟧.operations ops.now ≡ port.old.setup.operations }
     ensures port { HarvestsAndPrunes port.old port.new }
-    ensures next { IfOk result (λ had. HarvestsNext had name.now port.old port.new) }
+    ensures next { IfOk result (λ had. PortHarvestsNext had name.now port.old port.new) }
     ensures err { OnErr result (has_next port.new name.now ≡ true) }
 {
     match port.harvest(alloc, name, ops)? {

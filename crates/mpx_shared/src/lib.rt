@@ -2,16 +2,16 @@
 #![tactic(auto)]
 
 mod contexts;
-mod dock;
 mod fingerprint;
 mod gossip;
+mod held_port;
 mod laws;
-mod moored;
+mod port_lock;
 mod shared;
 mod ticket;
 
-pub use dock::Dock;
-pub use laws::{docked_ports_hold_what_is_so, new_ports_are_docked};
-pub use moored::Moored;
+pub use held_port::HeldPort;
+pub use laws::{lawful_ports_hold_what_is_so, new_ports_are_lawful};
+pub use port_lock::PortLock;
 pub use shared::{Poster, SharedPort};
-pub use ticket::{Pull, Tested, Ticket};
+pub use ticket::{Pull, Ticket, TicketTested};

@@ -1,19 +1,20 @@
-// A port that threads share.
+//! A port that threads share.
 ghost use Rattle.std.specs.Prelude.{◌≡◌, ◌+◌, ◌<◌, length, IfOk, OnOk, OnErr};
 ghost use Rattle.mpx_bus.specs.Buses.{table_of};
-ghost use Rattle.mpx_shared.specs.Docks.{HasGoneOn, IsDocked, IsNext, made_in};
-ghost use Rattle.mpx_shared.specs.Tickets.{Answers, OpensThen, PostsThen, TellsBirth, TellsClosed};
+ghost use Rattle.mpx_shared.specs.LawfulPorts.{HasGoneOn, IsLawful, IsNext, made_in};
+ghost use Rattle.mpx_shared.specs.Tickets.{AnswersTicket, OpensThen, PostsThen, TellsBirth, TellsClosed};
 ghost use Rattle.mpx_shared.specs.Turns.{PullsThen, PutsThen, TurnsThen};
 
-use crate::dock::Dock;
-use crate::moored::Moored;
-use crate::ticket::{Pull, Tested, Ticket};
+use crate::held_port::HeldPort;
+use crate::port_lock::PortLock;
+use crate::ticket::{Pull, Ticket, TicketTested};
 use join_core::OutOfMemory;
+use mpx_birth::Birth;
 use mpx_bus::{Bus, Port, Push};
 use mpx_group::Proc;
 use mpx_name::Name;
 use mpx_num::{Listing, Ops};
-use mpx_post::{Birth, Draft, PostError};
+use mpx_post::{Draft, PostError};
 use std::alloc::Global;
 use std::sync::ledger::{Blank, Share};
 use std::sync::{Mutex, Wait};
@@ -21,34 +22,35 @@ use std::thread::yield_now;
 
 /// A port under a lock. Each call takes the lock once, so that it speaks of the port at one moment.
 #[derive(Drop)]
-pub struct SharedPort<L: Dock> {
-    moored: Mutex<Moored<L>>,
+pub struct SharedPort<L: PortLock> {
+    held: Mutex<HeldPort<L>>,
 }
 
 /// The only share of a shared port's ledger: who has it knows how many posts the port has made since it was put under the lock, and
 /// nobody else posts.
 #[derive(Drop)]
-pub struct Poster<L: Dock> {
+pub struct Poster<L: PortLock> {
     pub(crate) share: Share<L>,
     ghost whole: { share.parts ≡ L.all },
 }
 
-impl<L: Dock> SharedPort<L> {
+impl<L: PortLock> SharedPort<L> {
     /// Puts the port of this process under a lock. It takes no memory.
     pub fn new(alloc: Global, port: Port, me: Proc, blank: Blank) -> (SharedPort<L>, Poster<L>)
         requires ledger { (blank.name ≡ L.name) × ((blank.parts ≡ L.parts) × (L.all ≡ L.parts)) }
-        requires port { IsDocked L.table L.setup L.me port }
+        requires port { IsLawful L.table L.setup L.me port }
         requires me { me ≡ L.me }
         requires opening { port.journal ≡ L.opening }
         requires count { length (made_in port) ≡ L.before }
         ensures { result.1.share.amount ≡ 0 }
     {
         let (book, share) = blank.open::<L>();
-        let moored = Mutex::new(Moored::new(alloc, port, me, book));
-        (SharedPort { moored }, Poster { share })
+        let held = Mutex::new(HeldPort::new(alloc, port, me, book));
+        (SharedPort { held }, Poster { share })
     }
 
-    /// Makes the next post on a context, as [`Port::post`] does, and gives its ticket. An `Err` leaves all as before.
+    /// Makes the next post on a context, as [`Port::post`] does, and gives its ticket. An `Err` leaves all as before: it is the post's
+    /// first refusal, or want of memory. It may wait for the lock, as all calls do.
     pub fn post<R: Wait>(
         &self,
         rt: &R,
@@ -65,21 +67,22 @@ impl<L: Dock> SharedPort<L> {
         ensures err { OnErr result (poster.new.share.amount ≡ poster.old.share.amount) }
         ensures then { PostsThen L.table L.setup L.me L.opening (L.before + poster.old.share.amount) name.now draft result }
     {
-        self.moored
+        self.held
             .lock(rt)
             .post(alloc, &mut poster.share, name, draft, ops)
     }
 
-    /// What the port answers a ticket.
+    /// What the port answers a ticket: the call's result, or that it has none yet, or that the post isn't its own. It harvests nothing. An
+    /// `Err` is want of memory for a copy of the result.
     pub fn test<R: Wait>(
         &self,
         rt: &R,
         alloc: Global,
         ticket: &Ticket,
-    ) -> Result<Tested, OutOfMemory>
-        ensures { IfOk result (λ tested. Answers L.table L.setup L.me L.opening ticket.now tested) }
+    ) -> Result<TicketTested, OutOfMemory>
+        ensures { IfOk result (λ tested. AnswersTicket L.table L.setup L.me L.opening ticket.now tested) }
     {
-        self.moored.lock(rt).test(alloc, ticket)
+        self.held.lock(rt).test(alloc, ticket)
     }
 
     /// Opens a gathering, as [`Port::open_gathering`] does. An `Err` leaves all as before. The poster is asked, since it knows how many
@@ -97,7 +100,7 @@ impl<L: Dock> SharedPort<L> {
         ensures amount { poster.new.share.amount ≡ poster.old.share.amount }
         ensures then { OpensThen L.table L.setup L.me L.opening (L.before + poster.old.share.amount) parent.now tag ranks.now result }
     {
-        self.moored
+        self.held
             .lock(rt)
             .open_gathering(alloc, &mut poster.share, parent, tag, ranks)
     }
@@ -108,10 +111,10 @@ impl<L: Dock> SharedPort<L> {
         ensures amount { poster.new.share.amount ≡ poster.old.share.amount }
         ensures then { TellsClosed L.table L.setup L.me L.opening (L.before + poster.old.share.amount) name.now result }
     {
-        self.moored.lock(rt).is_closed(&mut poster.share, name)
+        self.held.lock(rt).is_closed(&mut poster.share, name)
     }
 
-    /// How a communicator came to be, where the port's board tells it.
+    /// How a communicator came to be, where the port's board tells it. An `Err` is want of memory for a copy.
     pub fn birth<R: Wait>(
         &self,
         rt: &R,
@@ -120,34 +123,35 @@ impl<L: Dock> SharedPort<L> {
     ) -> Result<Option<Birth>, OutOfMemory>
         ensures { IfOk result (λ birth. TellsBirth L.table L.setup L.me L.opening name.now birth) }
     {
-        self.moored.lock(rt).birth(alloc, name)
+        self.held.lock(rt).birth(alloc, name)
     }
 
-    /// Pops a frame and takes in its part; then stores the results that can be had, and drops what every member has harvested.
+    /// Pops a frame and takes in its part; then stores the results that can be had, and drops what every member has harvested. It tells
+    /// whether there was a frame, or that memory was wanting.
     pub fn pull<R: Wait>(&self, rt: &R, alloc: Global, bus: &Bus, ops: &Ops) -> Pull
         requires list { ⟦<Ops as Listing>⟧.operations ops.now ≡ L.setup.operations }
         requires queue { table_of bus.now ≡ L.table }
         ensures { PullsThen L.table L.setup L.me L.opening result }
     {
-        self.moored.lock(rt).pull(rt, alloc, bus, ops)
+        self.held.lock(rt).pull(rt, alloc, bus, ops)
     }
 
-    /// Pushes the next frame of what others may lack.
+    /// Pushes the next frame of what others may lack, as [`Bus::push_own`] does. An `Err` is want of memory for a new list.
     pub fn put<R: Wait>(&self, rt: &R, alloc: Global, bus: &Bus) -> Result<Push, OutOfMemory>
         requires queue { table_of bus.now ≡ L.table }
         ensures { PutsThen L.table L.setup L.me L.opening result }
     {
-        self.moored.lock(rt).put(rt, alloc, bus)
+        self.held.lock(rt).put(rt, alloc, bus)
     }
 
     /// What the port's board says, in one number: where it stays the same, the board almost surely says nothing new, and where two
     /// ports have the same, their boards say the same.
     pub fn fingerprint<R: Wait>(&self, rt: &R) -> u64 {
-        self.moored.lock(rt).fingerprint()
+        self.held.lock(rt).fingerprint()
     }
 
-    /// So many times a pull and a put, each time with a yield to other threads behind: a thread that went on would meet its own frames
-    /// in the queue. It ends at the first want of memory.
+    /// A pull and a put, `turns` times, each time with a yield to other threads behind: a thread that went on would meet its own frames
+    /// in the queue. It ends at the first want of memory, which is its `Err`.
     pub fn gossip<R: Wait>(
         &self,
         rt: &R,
@@ -173,12 +177,12 @@ impl<L: Dock> SharedPort<L> {
     /// The port. It has made as many posts as the poster says, and goes on from what it was when it was put under the lock.
     pub fn into_port(self, poster: Poster<L>) -> Port
         requires ledger { L.all ≡ L.parts }
-        ensures docked { IsDocked L.table L.setup L.me result }
+        ensures lawful { IsLawful L.table L.setup L.me result }
         ensures gone_on { HasGoneOn L.setup L.me L.opening result }
         ensures posts { length (made_in result) ≡ L.before + poster.share.amount }
     {
-        let SharedPort { moored } = self;
+        let SharedPort { held } = self;
         let Poster { mut share } = poster;
-        moored.into_inner().open(&mut share)
+        held.into_inner().open(&mut share)
     }
 }

@@ -1,4 +1,4 @@
-// What a post leaves to ask with, and what is answered.
+//! What a post leaves to ask with, and what is answered.
 ghost use Rattle.std.specs.Prelude.{◌≡◌, IfOk, IfErr, Ok, Err};
 ghost use Rattle.mpx_node.specs.Nodes.{Posts, checked_on};
 ghost use Rattle.mpx_node.specs.Shown.{node_of};
@@ -23,7 +23,7 @@ pub struct Ticket {
 
 /// What a ticket is answered.
 #[derive(Debug, Drop)]
-pub enum Tested {
+pub enum TicketTested {
     /// The call's result: what it gave, beside the ticket's own post.
     Done(Finished),
     /// The port has no result of the call yet.

@@ -1,6 +1,9 @@
-pub mod Tried
-pub mod Harvests
+pub mod Running
+pub mod Posting
 pub mod Carried
+pub mod Tried
 pub mod Sending
-pub mod Ends
 pub mod Spelled
+pub mod Starting
+pub mod Results
+pub mod Ends

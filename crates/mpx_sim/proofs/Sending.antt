@@ -1,22 +1,23 @@
 -- Frames, and the board whose bytes they are.
-use Rattle.std.proofs.Common.{◌≡◌, ◌<◌, ℕ, zero, suc, true, false, List, [], ◌∷◌, ◌++◌, length, map, set, Some, Result, Err, refl, sym, ap, ◌∙◌, subst, arith}
+use Rattle.std.proofs.Common.{◌≡◌, ◌<◌, ℕ, zero, suc, true, false, get_or, take, drop, List, [], ◌∷◌, ◌++◌, length, map, set, Some, Result, Err, refl, sym, ap, ◌∙◌, subst, arith}
 use Rattle.std.specs.Prelude.{All, IsTrue, is_ok, slice_get}
+use Rattle.std.specs.List.{remove}
 use Rattle.std.proofs.lemmas.List.{map-append}
 use Rattle.std.proofs.lemmas.List.Elements.{All-nil, All-cons, All-head, All-tail, All-map}
 use Rattle.mpx_num.specs.declared.own.Operation.{Operation}
 use Rattle.mpx_board.specs.Boards.{Look}
 use Rattle.mpx_board.specs.Contexts.{look_of}
 use Rattle.mpx_board.specs.Parts.{PartsView}
-use Rattle.mpx_format.specs.declared.faults.WireError.{WireError}
+use Rattle.mpx_format.specs.declared.defects.WireError.{WireError}
 use Rattle.mpx_format.specs.declared.versions.Version.{Version}
 use Rattle.mpx_format.specs.Decoding.{Spells, decoded}
 use Rattle.mpx_format.proofs.Decoded.{decoded_again}
 use Rattle.mpx_parts.specs.Facts.{OnlyFactsOf}
-use Rattle.mpx_statement.specs.declared.statement.Statement.{Statement}
-use Rattle.mpx_sim.specs.declared.frame.Frame.{Frame}
-use Rattle.mpx_system.specs.Running.{IsUnderWay, RankView}
+use Rattle.mpx_meaning.specs.Evaluation.{Script}
+use Rattle.mpx_sim.specs.declared.frame_under_way.FrameUnderWay.{FrameUnderWay}
+use Rattle.mpx_sim.specs.Running.{IsUnderWay, ProcessView}
 use Rattle.mpx_sim.specs.Shown.{part_of, shown}
-use Rattle.mpx_system.proofs.Running.{run_sends}
+use Rattle.mpx_sim.proofs.Running.{run_sends}
 
 -- BYTES
 
@@ -39,19 +40,33 @@ all_behind f P (x ∷ xs) h = All-cons (λ y. P (f y)) x xs (All-head P (f x) (m
 pub all_same : {A B C : Type 0} (f : A → C) (g : B → C) (P : C → Type 0) (xs : List A) (ys : List B) → map f xs ≡ map g ys → All (λ y. P (g y)) ys → All (λ x. P (f x)) xs
 all_same f g P xs ys e h = all_behind f P xs (subst (All P) (sym e) (All-map P g ys h))
 
--- what was written at a place stands there
-pub set_at : {A : Type 0} (xs : List A) (p : ℕ) (x : A) → p < length xs → slice_get (set xs p x) p ≡ Some x
-set_at [] p x l = absurd (omega (arith, l))
-set_at (y ∷ ys) zero x l = refl
-set_at (y ∷ ys) (suc p) x l = set_at ys p x (omega (arith, l))
-
 -- A FRAME GOES OUT
 
-pub goes_out : (ops : List Operation) (script : List (List Statement)) (ranks size : ℕ) (processes : List RankView) (p : ℕ) (r : RankView) (frames : List Frame) (new : Frame) → slice_get processes p ≡ Some r → OnlyFactsOf (part_of new) r.node.board
+pub goes_out : (ops : List Operation) (script : Script) (ranks size : ℕ) (processes : List ProcessView) (p : ℕ) (v : ProcessView) (frames : List FrameUnderWay) (new : FrameUnderWay) → slice_get processes p ≡ Some v → OnlyFactsOf (part_of new) v.node.board
     → IsUnderWay ops script ranks size processes (map part_of frames) → IsUnderWay ops script ranks size processes (map part_of (frames ++ new ∷ []))
-goes_out ops script ranks size processes p r frames new at only run =
-    subst (λ (bs : List Look). IsUnderWay ops script ranks size processes bs) (sym (map-append part_of frames (new ∷ []))) (run_sends ops script ranks size processes (map part_of frames) p r (part_of new) at only run)
+goes_out ops script ranks size processes p v frames new at only run =
+    subst (λ (bs : List Look). IsUnderWay ops script ranks size processes bs) (sym (map-append part_of frames (new ∷ []))) (run_sends ops script ranks size processes (map part_of frames) run p v (part_of new) at only)
 
--- the same processes and frames
-pub run_same : (ops : List Operation) (script : List (List Statement)) (ranks size : ℕ) (ps qs : List RankView) (bs cs : List Look) → ps ≡ qs → bs ≡ cs → IsUnderWay ops script ranks size ps bs → IsUnderWay ops script ranks size qs cs
-run_same ops script ranks size ps qs bs cs p f run = subst (λ xs. IsUnderWay ops script ranks size xs cs) p (subst (λ xs. IsUnderWay ops script ranks size ps xs) f run)
+-- THE CODE'S LISTS
+
+-- a write that leaves what f reads
+pub kept : {A B : Type 0} (f : A → B) (xs : List A) (p : ℕ) (d x : A) → p < length xs → f x ≡ f (get_or xs p d) → map f (set xs p x) ≡ map f xs
+kept f [] p d x l e = refl
+kept f (y ∷ ys) zero d x l e = ap (λ z. z ∷ map f ys) e
+kept f (y ∷ ys) (suc p) d x l e = ap (λ zs. f y ∷ zs) (kept f ys p d x (omega (arith, l)) e)
+
+-- all but one
+pub all_without : {A B : Type 0} (f : A → B) (P : B → Type 0) (i : ℕ) (xs : List A) → All P (map f xs) → All P (map f (remove xs i))
+all_without f P zero [] h = h
+all_without f P zero (x ∷ xs) h = All-tail P (f x) (map f xs) h
+all_without f P (suc i) [] h = h
+all_without f P (suc i) (x ∷ xs) h = All-cons P (f x) (map f (remove xs i)) (All-head P (f x) (map f xs) h) (all_without f P i xs (All-tail P (f x) (map f xs) h))
+
+-- a vector whose elements were lent has what was written there
+pub written_back : {A : Type 0} (len : ℕ) (old new : List A) → length new ≡ length old → length old ≡ len → take len (new ++ drop (length new) old) ≡ new
+written_back zero [] [] e f = refl
+written_back len [] (x ∷ xs) e f = absurd (omega (arith, e))
+written_back len (y ∷ ys) [] e f = absurd (omega (arith, e))
+written_back zero (y ∷ ys) (x ∷ xs) e f = absurd (omega (arith, f))
+written_back (suc len) [] [] e f = refl
+written_back (suc len) (y ∷ ys) (x ∷ xs) e f = ap (λ zs. x ∷ zs) (written_back len ys xs (omega (arith, e)) (omega (arith, f)))

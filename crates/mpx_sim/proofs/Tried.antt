@@ -1,4 +1,4 @@
--- What an outcome gives, and what a post comes to, by what the desk answers.
+-- What a post comes to, by what the desk answers.
 use Rattle.std.proofs.Common.{◌≡◌, ℕ, ℤ, List, Option, Some, None, refl, sym, ap, subst, inl, inr}
 use Rattle.std.specs.Prelude.{Result, Ok, Err, IfOk, OnOk}
 use Rattle.mpx_name.specs.Name.{Name}
@@ -8,25 +8,13 @@ use Rattle.mpx_post.specs.declared.draft.PostError.{PostError}
 use Rattle.mpx_post.specs.declared.draft.PostError.TheVariants as R
 use Rattle.mpx_post.specs.Posts.{Given}
 use Rattle.mpx_post.specs.Gatherings.{GatheringView}
-use Rattle.mpx_value.specs.declared.outcomes.Outcome.{Outcome}
-use Rattle.mpx_value.specs.declared.outcomes.Outcome.TheVariants.{Nothing, Absent, Items, NewComm, Null, Fault}
-use Rattle.mpx_comm.specs.Comms.{comm_of}
 use Rattle.mpx_comm.specs.Requests.{Asks, AsksGathered, IsRefusal}
 use Rattle.mpx_comm.specs.declared.request.Request.{Request}
 use Rattle.mpx_node.specs.Nodes.{NodeView, Opens, checked_on, gathering_name, gathers_on}
 use Rattle.mpx_statement.specs.declared.statement.Posting.{Posting}
 use Rattle.mpx_statement.specs.Statements.{Gathers, create_group_draft, draft_of, gathers_of}
-use Rattle.mpx_system.specs.Running.{Tries, given_name, tried_gathered, tried_group, tried_in, tried_on, tried_post}
-use Rattle.mpx_sim.specs.Shown.{call_in, call_of, name_in}
-
--- the communicator that an outcome gives, by its name
-pub given_is : (outcome : Outcome) → name_in (comm_of outcome) ≡ given_name outcome
-given_is Nothing = refl
-given_is Absent = refl
-given_is (Items items) = refl
-given_is (NewComm name size rank) = refl
-given_is Null = refl
-given_is (Fault fault) = refl
+use Rattle.mpx_sim.specs.Carrying.{Tries, tried_gathered, tried_in, tried_on, tried_post}
+use Rattle.mpx_sim.specs.Shown.{call_in, call_of}
 
 refused_so : (name : Name) (checked : Result Given PostError) (e : PostError) (old new : NodeView) → IsRefusal checked e → (e ≡ R.OutOfMemory → ⊥) → new ≡ old → ((tried_post name checked old).answer ≡ Err e) × (new ≡ (tried_post name checked old).node)
 refused_so name checked e old new (inl is) other same = subst (λ x. ((tried_post name x old).answer ≡ Err e) × (new ≡ (tried_post name x old).node)) (sym is) (refl, same)
@@ -70,7 +58,7 @@ module _ (ops : List Operation) (posting : Posting) (on : Option Name) (name : N
       subst (λ o. Tries (tried_on ops posting o old) answer new) (sym is) (subst (λ g. Tries (tried_in ops (draft_of posting) g name old) answer new) (sym none) tried)
 
   -- and one that gathers members on their gathering
-  pub tries_group : (g : Gathers) → gathers_of posting ≡ Some g → draft_of posting ≡ create_group_draft → Tries (tried_group ops name g.tag g.ranks old) answer new → Tries (tried_on ops posting on old) answer new
+  pub tries_group : (g : Gathers) → gathers_of posting ≡ Some g → draft_of posting ≡ create_group_draft → Tries (tried_gathered ops name create_group_draft (gathers_on old name g.tag g.ranks) old) answer new → Tries (tried_on ops posting on old) answer new
   tries_group g some says tried =
       subst (λ o. Tries (tried_on ops posting o old) answer new) (sym is)
       (subst (λ x. Tries (tried_in ops (draft_of posting) x name old) answer new) (sym some)

@@ -2,20 +2,23 @@
 ghost use Rattle.std.specs.Prelude.{◌≡◌, ◌<◌, ◌≤◌, IfOk, List, OnOk};
 ghost use Rattle.std.specs.Option.{option_copied};
 ghost use Rattle.mpx_num.specs.declared.own.Operation.{Operation};
-ghost use Rattle.mpx_node.specs.Nodes.{checked_on, start_node};
+ghost use Rattle.mpx_comm.specs.Harvested.{Harvested};
+ghost use Rattle.mpx_node.specs.Nodes.{checked_on, gathers_on, start_node};
 ghost use Rattle.mpx_node.specs.Shown.{node_of};
-ghost use Rattle.mpx_statement.specs.Statements.{draft_of};
-ghost use Rattle.mpx_system.specs.Running.{KeepsNode, Tries, tried_group, tried_on, tried_post};
-ghost use Rattle.mpx_sim.specs.Shown.{call_in, name_in};
+ghost use Rattle.mpx_statement.specs.Statements.{create_group_draft, draft_of};
+ghost use Rattle.mpx_sim.specs.Carrying.{Tries, tried_gathered, tried_on, tried_post};
+ghost use Rattle.mpx_sim.specs.Running.{KeepsNode, name_in};
+ghost use Rattle.mpx_sim.specs.Shown.{call_in};
 
 use join_core::{Exact, OutOfMemory};
+use mpx_birth::Birth;
 use mpx_comm::{Comm, Desk, Request, Tested};
-use mpx_evaluation::line;
 use mpx_group::Proc;
+use mpx_meaning::line;
 use mpx_name::Name;
 use mpx_node::{Harvest, Node};
 use mpx_num::{Listing, Numbers, Ops};
-use mpx_post::{Birth, PostError};
+use mpx_post::PostError;
 use mpx_rank::{Carrier, Heard};
 use mpx_statement::Posting;
 use std::alloc::Global;
@@ -65,7 +68,7 @@ impl RunDesk {
 
     /// Stores the results of each context that it looks at, until no further one can be had.
     pub(crate) fn harvest(&mut self, alloc: Global, ops: &Ops) -> Result<(), OutOfMemory>
-        ensures { OnOk result (KeepsNode (⟦<Ops as Listing>⟧.operations ops.now) (node_of self.old.desk.host) (node_of self.new.desk.host)) }
+        ensures { OnOk result (Harvested (⟦<Ops as Listing>⟧.operations ops.now) (node_of self.old.desk.host) (node_of self.new.desk.host)) }
     {
         harvest_all(alloc, &mut self.desk, &self.contexts, ops)
     }
@@ -213,7 +216,7 @@ fn start_create_group(
     ranks: &Numbers,
     ops: &Ops,
 ) -> Result<Request, PostError>
-    ensures { Tries (tried_group (⟦<Ops as Listing>⟧.operations ops.now) parent.now.name tag.now ranks.now (node_of desk.old.host)) (call_in result) (node_of desk.new.host) }
+    ensures { Tries (tried_gathered (⟦<Ops as Listing>⟧.operations ops.now) parent.now.name create_group_draft (gathers_on (node_of desk.old.host) parent.now.name tag.now ranks.now) (node_of desk.old.host)) (call_in result) (node_of desk.new.host) }
 {
     desk.start_create_group(alloc, parent, *tag, ranks.as_slice(), ops)
 }
@@ -247,7 +250,7 @@ fn harvest_all(
     contexts: &[Name],
     ops: &Ops,
 ) -> Result<(), OutOfMemory>
-    ensures { OnOk result (KeepsNode (⟦<Ops as Listing>⟧.operations ops.now) (node_of desk.old.host) (node_of desk.new.host)) }
+    ensures { OnOk result (Harvested (⟦<Ops as Listing>⟧.operations ops.now) (node_of desk.old.host) (node_of desk.new.host)) }
 {
     for name in contexts {
         harvest_on(alloc, desk, name, ops)?;
@@ -262,7 +265,7 @@ fn harvest_on(
     name: &Name,
     ops: &Ops,
 ) -> Result<(), OutOfMemory>
-    ensures { OnOk result (KeepsNode (⟦<Ops as Listing>⟧.operations ops.now) (node_of desk.old.host) (node_of desk.new.host)) }
+    ensures { OnOk result (Harvested (⟦<Ops as Listing>⟧.operations ops.now) (node_of desk.old.host) (node_of desk.new.host)) }
 {
     for _call in desk.host().front(name)..desk.host().posted(name) {
         match desk.harvest(alloc, name, ops)? {
@@ -290,11 +293,6 @@ fn has_none_to_drop(node: &Node, name: &Name, dropped: u32) -> bool {
     node.posted(name) > 0 && node.front(name) <= dropped && !node.has_freed(name)
 }
 
-// Whether all that every member has harvested is dropped, and no free is among it.
-fn has_dropped(node: &Node, name: &Name, dropped: u32, floor: u32) -> bool {
-    floor <= dropped && !node.is_past_free(name, floor)
-}
-
 // Drops what every member has harvested, where that is more than is dropped. Where it is past a free, the context is dead then, whatever
 // others had dropped before.
 fn prune_on(desk: &mut Desk<Node>, name: &Name) -> bool
@@ -307,7 +305,7 @@ fn prune_on(desk: &mut Desk<Node>, name: &Name) -> bool
     let Some(floor) = desk.host().board().floor(name) else {
         return false;
     };
-    if has_dropped(desk.host(), name, dropped, floor) {
+    if floor <= dropped && !desk.host().is_past_free(name, floor) {
         return false;
     }
     desk.prune(name, floor).is_ok()

@@ -3,7 +3,7 @@ ghost use Rattle.std.specs.Prelude.{◌≡◌, All, IfOk, IsTrue, is_ok, map};
 ghost use Rattle.mpx_format.specs.Decoding.{decoded, shown};
 ghost use Rattle.mpx_sim.specs.Shown.{part_of};
 
-use crate::frame::Frame;
+use crate::frame_under_way::FrameUnderWay;
 use join_core::OutOfMemory;
 use std::alloc::Global;
 
@@ -16,14 +16,14 @@ pub(crate) fn frames_with(
     lists: Vec<Vec<u8>>,
     to: usize,
     turn: u64,
-) -> Result<Vec<Frame>, OutOfMemory>
+) -> Result<Vec<FrameUnderWay>, OutOfMemory>
     requires { All (λ bytes. IsTrue (is_ok (decoded bytes.items))) lists.items }
     ensures { IfOk result (λ made. map part_of made.items ≡ map (λ bytes. shown (decoded bytes.items)) lists.items) }
 {
     let mut made = Vec::new(alloc);
     let mut turn = turn;
     for bytes in lists {
-        let frame = Frame { to, turn, bytes };
+        let frame = FrameUnderWay { to, turn, bytes };
         made.push(frame)?;
         turn = turn.saturating_add(1);
     }

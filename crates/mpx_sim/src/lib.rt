@@ -2,12 +2,13 @@
 //! reordered, and what each rank writes begins what it writes in the script's evaluation.
 //!
 //! In the order of reading: [`run_sim`], which answers a [`Run`]; its processes are `Process`es, each a rank
-//! whose posts a `RunDesk` carries, or a relay; what they send are `Frame`s.
+//! whose posts a `RunDesk` carries, or a relay; what they send are `Frame`s, which a `Network` carries.
 #![tactic(auto)]
 
 mod desk;
-mod frame;
+mod frame_under_way;
 mod frames;
+mod network;
 mod observer;
 mod process;
 mod report;

@@ -1,6 +1,6 @@
 //! Who looks on at a run.
 
-/// Who looks on at a run. It is told of each turn, and can change nothing.
+/// Who looks on at a run: whoever calls for the run gives it. It is told of turns, and can change nothing.
 pub trait Observer: Drop {
     /// A turn was made: its number, from 1 on, and how many of so many ranks have finished.
     fn turn(&mut self, number: u32, finished: usize, ranks: usize);

@@ -1,36 +1,40 @@
 //! A process of a run: a rank, which goes on with its statements, or a relay, which has none.
-ghost use Rattle.std.specs.Prelude.{◌≡◌, ◌<◌, ◌≤◌, ℕ, List, IfOk, OnOk, None, [], map, string_bytes};
+ghost use Rattle.std.specs.Prelude.{◌≡◌, ◌<◌, ◌≤◌, [], ℕ, List, IfOk, OnOk, Some, map, slice_get, string_bytes};
 ghost use Rattle.mpx_num.specs.declared.own.Operation.{Operation};
 ghost use Rattle.mpx_node.specs.Deltas.{AreLacked};
+ghost use Rattle.mpx_node.specs.Nodes.{learn};
 ghost use Rattle.mpx_node.specs.Shown.{node_of};
-ghost use Rattle.mpx_evaluation.specs.Evaluation.{bound_at_start};
-ghost use Rattle.mpx_system.specs.Running.{names_in};
-ghost use Rattle.mpx_sim.specs.Shown.{IsWorld, part_of};
+ghost use Rattle.mpx_meaning.specs.Evaluation.{Script as Statements, start};
+ghost use Rattle.mpx_sim.specs.Running.{StandsBy, name_in};
+ghost use Rattle.mpx_sim.specs.Shown.{part_of};
 
 use crate::desk::RunDesk;
-use crate::frame::Frame;
+use crate::frame_under_way::FrameUnderWay;
 use crate::frames::MOST_BYTES;
+use crate::sender::Sender;
 use join_core::OutOfMemory;
 use mpx_board::Board;
 use mpx_comm::Comm;
 use mpx_group::Proc;
 use mpx_node::Node;
 use mpx_num::{Listing, Ops};
-use mpx_rank::Rank;
+use mpx_rank::Interpreter;
 use mpx_statement::Statement;
 use std::alloc::Global;
 
-/// A process of a run: the desk over its node, and its rank. A relay has no statements.
+/// A process of a run: the desk over its node, its rank, and how far it has come with sending. A relay has no statements.
 #[derive(Drop)]
 pub(crate) struct Process<'a> {
     desk: RunDesk,
-    rank: Rank<'a, RunDesk>,
+    rank: Interpreter<'a, RunDesk>,
+    sender: Sender,
 }
 
 impl<'a> Process<'a> {
     ghost use Rattle.mpx_board.specs.Looks.{look};
     ghost use Rattle.mpx_node.specs.Nodes.{start_node};
-    ghost use Rattle.mpx_system.specs.Running.{Keeps, Moves, Receives, is_waiting};
+    ghost use Rattle.mpx_rank.specs.Moves.{is_waiting};
+    ghost use Rattle.mpx_sim.specs.Running.{Keeps, Moves};
     ghost use Rattle.mpx_sim.specs.Shown.{process_of};
 
     /// Process `me` of so many, of which the first are ranks, before its statements.
@@ -45,13 +49,9 @@ impl<'a> Process<'a> {
         requires ranks { ranks ≤ processes }
         requires few { processes ≤ 64 }
         requires me { me < processes }
-        ensures me { IfOk result (λ process. (process_of process).me ≡ me) }
+        ensures me { IfOk result (λ process. (process_of process).rank.me ≡ me) }
         ensures node { IfOk result (λ process. (process_of process).node ≡ start_node me ranks processes) }
-        ensures bound { IfOk result (λ process. me < ranks → (word : List ℕ) → (process_of process).bound word ≡ names_in (bound_at_start ranks) word) }
-        ensures requests { IfOk result (λ process. (word : List ℕ) → (process_of process).requests word ≡ None) }
-        ensures todo { IfOk result (λ process. (process_of process).todo ≡ todo.now) }
-        ensures waits { IfOk result (λ process. (process_of process).waits ≡ None) }
-        ensures lines { IfOk result (λ process. (process_of process).lines ≡ []) }
+        ensures stands { IfOk result (λ process. (script : Statements) → me < ranks → slice_get script me ≡ Some todo.now → StandsBy (process_of process).rank (start script ranks me)) }
     {
         let world = world_of(alloc, me, ranks);
         let me = Proc::new(me);
@@ -62,8 +62,12 @@ impl<'a> Process<'a> {
                 return Err(e);
             }
         };
-        match Rank::new(alloc, me, world, todo) {
-            Ok(rank) => Ok(Process { desk, rank }),
+        match Interpreter::new(alloc, me, world, todo) {
+            Ok(rank) => Ok(Process {
+                desk,
+                rank,
+                sender: Sender::new(),
+            }),
             Err(e) => {
                 drop(desk);
                 Err(e)
@@ -88,20 +92,41 @@ impl<'a> Process<'a> {
         self.desk.prune()
     }
 
-    /// Says what the process has, and gives the frames of what others may lack of its board.
-    pub(crate) fn deltas(&mut self, alloc: Global) -> Result<Vec<Vec<u8>>, OutOfMemory>
+    /// Whether the frames of its last list are out before this turn.
+    pub(crate) fn is_free(&self, turn: u64) -> bool {
+        self.sender.is_free(turn)
+    }
+
+    /// How many lists of frames it has made.
+    pub(crate) fn lists(&self) -> usize {
+        self.sender.lists()
+    }
+
+    /// Says what the process has, and gives the frames of what others may lack of its board: its next list, which goes out from this turn
+    /// on. They are written over spare bytes.
+    pub(crate) fn deltas(
+        &mut self,
+        alloc: Global,
+        turn: u64,
+        spare: &mut Vec<Vec<u8>>,
+    ) -> Result<Vec<Vec<u8>>, OutOfMemory>
         ensures keeps { OnOk result ((operations : List Operation) → Keeps operations (process_of self.old) (process_of self.new)) }
         ensures frames { IfOk result (λ made. AreLacked 1048576 (process_of self.new).node (map (λ frame. frame.items) made.items)) }
     {
-        self.desk.desk.framed_deltas(alloc, MOST_BYTES)
+        let made = self.desk.desk.framed_deltas(alloc, MOST_BYTES, spare)?;
+        self.sender.sends(turn, made.len());
+        Ok(made)
     }
 
     /// Takes a frame: what its bytes say is joined to the board as they are read.
-    pub(crate) fn receive(&mut self, alloc: Global, frame: &Frame) -> Result<(), OutOfMemory>
-        ensures { OnOk result ((operations : List Operation) → Receives operations (part_of frame.now) (process_of self.old) (process_of self.new)) }
+    pub(crate) fn receive(
+        &mut self,
+        alloc: Global,
+        frame: &FrameUnderWay,
+    ) -> Result<(), OutOfMemory>
+        ensures { OnOk result (process_of self.new ≡ record { rank = (process_of self.old).rank; node = learn (part_of frame.now) (process_of self.old).node }) }
     {
-        self.desk.desk.take_frame(alloc, frame.bytes.as_slice())?;
-        Ok(())
+        self.desk.desk.take_frame(alloc, frame.bytes.as_slice())
     }
 
     /// The board of its node.
@@ -113,7 +138,7 @@ impl<'a> Process<'a> {
 
     /// Whether it waits for an outcome, or has statements left.
     pub(crate) fn is_waiting(&self) -> bool
-        ensures { result ≡ is_waiting (process_of self.now) }
+        ensures { result ≡ is_waiting (process_of self.now).rank }
     {
         self.rank.is_waiting()
     }
@@ -121,9 +146,9 @@ impl<'a> Process<'a> {
     /// Its node, and its lines.
     pub(crate) fn into_parts(self) -> (Node, Vec<String>)
         ensures node { node_of result.0 ≡ (process_of self.entry).node }
-        ensures lines { map string_bytes result.1.items ≡ (process_of self.entry).lines }
+        ensures lines { map string_bytes result.1.items ≡ (process_of self.entry).rank.lines }
     {
-        let Process { desk, rank } = self;
+        let Process { desk, rank, .. } = self;
         (desk.into_node(), rank.into_lines())
     }
 }
@@ -131,7 +156,7 @@ impl<'a> Process<'a> {
 // The world as a rank has it. A relay has none.
 fn world_of(alloc: Global, me: u8, ranks: u8) -> Option<Comm>
     requires { ranks ≤ 64 }
-    ensures { me < ranks → IsWorld result }
+    ensures { me < ranks → name_in result ≡ Some [] }
 {
     if me >= ranks {
         return None;

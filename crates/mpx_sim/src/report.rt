@@ -1,20 +1,20 @@
 //! What a run comes to.
 ghost use Rattle.std.specs.Prelude.{◌≡◌, ◌++◌, ◌<◌, ◌≤◌, ◌+◌, ◌∷◌, [], IfOk, OnOk, length, map, slice_get};
 ghost use Rattle.mpx_node.specs.Shown.{node_of};
-ghost use Rattle.mpx_evaluation.specs.Evaluation.{State};
-ghost use Rattle.mpx_evaluation.specs.Reports.{transcripts_of, which};
-ghost use Rattle.mpx_evaluation.specs.Transcripts.{as_text};
-ghost use Rattle.mpx_system.specs.Running.{RankView, is_waiting_at};
+ghost use Rattle.mpx_meaning.specs.Evaluation.{State};
+ghost use Rattle.mpx_meaning.specs.Reports.{transcripts_of, which};
+ghost use Rattle.mpx_meaning.specs.Transcripts.{as_text};
 ghost use Rattle.mpx_system.specs.Runs.{AreWhole, Begin, IsEvaluationOf, IsOver, IsRun};
-ghost use Rattle.mpx_sim.specs.Ends.{AllMadeOr};
+ghost use Rattle.mpx_sim.specs.Ends.{AllMadeOr, nodes_of};
+ghost use Rattle.mpx_sim.specs.Running.{ProcessView, is_waiting_at};
 ghost use Rattle.mpx_sim.specs.Shown.{process_of};
 
 use crate::observer::{Observer, Unobserved};
 use crate::process::Process;
 use crate::turns::simulate;
 use join_core::OutOfMemory;
-use mpx_evaluation::Report;
 use mpx_job::Options;
+use mpx_meaning::Report;
 use mpx_node::Node;
 use mpx_num::{Listing, Ops};
 use mpx_rank::push_where;
@@ -26,20 +26,26 @@ use std::alloc::Global;
 pub struct Run {
     /// The lines of each rank, and who waits.
     pub report: Report,
-    /// The node of each process.
+    /// The node of each process, by its number.
     pub nodes: Vec<Node>,
-    /// How many turns were made.
+    /// How many turns were made: the turn that ends a run before its last doesn't count.
     pub turns: u32,
 }
 
 /// Runs a script's ranks, and relays, over an interconnect that loses, repeats and reorders frames.
 ///
-/// In each turn every rank in order goes on with its script until an outcome is missing, each process drops what all
-/// members have harvested, and sends its whole board to one process; then the turn's frames come in a drawn order, but for
-/// those that are lost. One in four of those that come is taken again, one to four turns later. The run ends once all ranks
-/// have finished, once no turn can change anything any more, or with the last turn. Equal options give equal runs.
+/// In each turn every rank in order goes on with its script until an outcome is missing, and each process drops what all
+/// members have harvested. Then each process whose last list of frames is out makes its next: what others may lack of its
+/// board, in frames of at most 1,048,576 bytes, of which one comes in this turn and one in each turn after it, all to one
+/// process, so many places on as the schedule says that is next. A frame that is drawn to be lost never comes. The frames of
+/// this turn come in a drawn order, and are joined to the boards of their processes; one in four of them comes again, one to
+/// four turns later. The run ends once all ranks have finished, once no turn can change anything any more, or with the last
+/// turn. Equal options give equal runs.
 ///
-/// `ops` are the job's own operations: the script was read with the same.
+/// `script` was read with `ops`, the job's own operations. Of `options` count `relays`, how many processes there are beside the
+/// ranks, with these 64 at most; `turns`, how many are made at most; `loss`, how many frames of a hundred are lost, where 100
+/// loses each; and `seed`, from which all that is drawn follows. That ranks still wait at the end is no error: `report.waiting`
+/// has them. An `Err` is want of memory, and leaves nothing of the run.
 pub fn run_sim(
     alloc: Global,
     script: &Script,
@@ -55,7 +61,8 @@ pub fn run_sim(
     run_sim_observed(alloc, script, options, &mut Unobserved, ops)
 }
 
-/// The same run, at which somebody looks on: `observer` is told of each turn but the one that ends the run before its last.
+/// The same run with the same error, at which somebody looks on: `observer` is told of each turn but the one that ends the run
+/// before its last, and once, in any case, that the run is over.
 pub fn run_sim_observed(
     alloc: Global,
     script: &Script,
@@ -103,8 +110,8 @@ fn parts_of(
     alloc: Global,
     processes: Vec<Process<'_>>,
 ) -> Result<(Vec<Vec<String>>, Vec<Node>), OutOfMemory>
-    ensures lines { IfOk result (λ parts. map as_text parts.0.items ≡ map (λ (r : RankView). r.lines) (map process_of processes.entry.items)) }
-    ensures nodes { IfOk result (λ parts. map node_of parts.1.items ≡ map (λ (r : RankView). r.node) (map process_of processes.entry.items)) }
+    ensures lines { IfOk result (λ parts. map as_text parts.0.items ≡ map (λ (v : ProcessView). v.rank.lines) (map process_of processes.entry.items)) }
+    ensures nodes { IfOk result (λ parts. map node_of parts.1.items ≡ nodes_of (map process_of processes.entry.items)) }
 {
     let mut transcripts = Vec::new(alloc);
     let mut nodes = Vec::new(alloc);
@@ -120,7 +127,7 @@ fn push_parts(
     transcripts: &mut Vec<Vec<String>>,
     nodes: &mut Vec<Node>,
 ) -> Result<(), OutOfMemory>
-    ensures lines { OnOk result (map as_text transcripts.new.items ≡ map as_text transcripts.old.items ++ (process_of process.entry).lines ∷ []) }
+    ensures lines { OnOk result (map as_text transcripts.new.items ≡ map as_text transcripts.old.items ++ (process_of process.entry).rank.lines ∷ []) }
     ensures nodes { OnOk result (map node_of nodes.new.items ≡ map node_of nodes.old.items ++ (process_of process.entry).node ∷ []) }
 {
     let (node, lines) = process.into_parts();

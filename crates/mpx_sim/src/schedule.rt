@@ -91,7 +91,8 @@ impl Schedule {
 
     /// In how many turns a frame that was taken is taken again, which one in four is: 1 to 4.
     pub(crate) fn again(&mut self) -> Option<u64>
-        ensures { IfSome result (λ later. 0 < later) }
+        ensures later { IfSome result (λ later. 0 < later) }
+        ensures loss { self.new.loss ≡ self.old.loss }
     {
         if below(&mut self.words, 4) != 0 {
             return None;
@@ -101,7 +102,8 @@ impl Schedule {
 
     /// Brings items into an order that is drawn.
     pub(crate) fn shuffle<T>(&mut self, items: &mut Vec<T>)
-        ensures { IsPermutation items.old.items items.new.items }
+        ensures items { IsPermutation items.old.items items.new.items }
+        ensures loss { self.new.loss ≡ self.old.loss }
     {
         shuffle(&mut self.words, items);
     }

@@ -1,8 +1,4 @@
-// How far a process has come with sending.
-ghost use Rattle.std.specs.Prelude.{◌≡◌, length, IfOk};
-
-use join_core::OutOfMemory;
-use std::alloc::Global;
+//! How far a process has come with sending.
 
 /// How far a process has come with sending. Of a list of frames one goes out each turn, and the next list is made when all
 /// of them are out.
@@ -13,6 +9,11 @@ pub(crate) struct Sender {
 }
 
 impl Sender {
+    /// Nothing is sent yet.
+    pub(crate) fn new() -> Sender {
+        Sender { lists: 0, free: 0 }
+    }
+
     /// How many lists have been made.
     pub(crate) fn lists(&self) -> usize {
         self.lists
@@ -28,15 +29,4 @@ impl Sender {
         self.lists = self.lists.wrapping_add(1);
         self.free = turn.saturating_add(frames as u64);
     }
-}
-
-/// So many processes that have sent nothing.
-pub(crate) fn senders(alloc: Global, count: usize) -> Result<Vec<Sender>, OutOfMemory>
-    ensures { IfOk result (λ made. length made.items ≡ count) }
-{
-    let mut made = Vec::new(alloc);
-    for _ in 0..count {
-        made.push(Sender { lists: 0, free: 0 })?;
-    }
-    Ok(made)
 }

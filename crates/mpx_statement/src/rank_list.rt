@@ -1,4 +1,4 @@
-// Lists of ranks as a script has them.
+//! Lists of ranks as a script has them.
 ghost use Rattle.std.specs.Prelude.{◌≡◌, IfOk};
 
 use join_core::OutOfMemory;
@@ -34,7 +34,7 @@ impl RankList {
         self.ranks.as_slice()
     }
 
-    /// The same ranks once more.
+    /// A copy, with a list of its own.
     pub fn copy(&self, alloc: Global) -> Result<RankList, OutOfMemory>
         ensures { IfOk result (λ copied. copied ≡ self.now) }
     {

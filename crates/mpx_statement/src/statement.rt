@@ -1,4 +1,4 @@
-// Statements of a script, and the draft that each posts.
+//! Statements of a script, and the draft that each posts.
 ghost use Rattle.std.specs.Prelude.{◌≡◌, [], ◌∷◌, IfOk};
 ghost use Rattle.std.specs.Option.{option_copied, option_to_list};
 ghost use Rattle.mpx_statement.specs.Statements.{create_group_draft};
@@ -8,8 +8,9 @@ ghost use Rattle.mpx_statement.specs.declared.statement.Question.TheVariants.{Co
 use crate::rank_list::RankList;
 use crate::word::{Word, WordList};
 use join_core::OutOfMemory;
+use mpx_kind::{Call, NewCommunicator};
 use mpx_num::{Numbers, Op, Ty};
-use mpx_post::{Call, Draft, NewCommunicator};
+use mpx_post::Draft;
 use std::alloc::Global;
 
 /// A statement that posts.
@@ -215,7 +216,7 @@ impl Statement {
         }
     }
 
-    /// The same statement once more.
+    /// A copy of the statement.
     pub fn copy(&self, alloc: Global) -> Result<Statement, OutOfMemory>
         ensures { IfOk result (λ copied. copied ≡ self.now) }
     {

@@ -1,4 +1,4 @@
-// Words of a script, and lists of them.
+//! Words of a script, and lists of them.
 ghost use Rattle.std.specs.Prelude.{◌≡◌, IfOk, refl};
 ghost use Rattle.std.specs.Cmp.{partial_equiv_from_equiv, partial_order_from_total, eq_by_cmp_equiv};
 ghost use Rattle.std.specs.Cmp.Lexicographic.{slice_cmp, nat_list_cmp_total};
@@ -39,7 +39,7 @@ impl Word {
         self.bytes.as_slice()
     }
 
-    /// The same word once more.
+    /// A copy of the word.
     pub fn copy(&self, alloc: Global) -> Result<Word, OutOfMemory>
         ensures { IfOk result (λ copied. copied ≡ self.now) }
     {
@@ -76,7 +76,7 @@ impl WordList {
         self.words.as_slice()
     }
 
-    /// The same words once more.
+    /// A copy of the list, with copies of its words.
     pub fn copy(&self, alloc: Global) -> Result<WordList, OutOfMemory>
         ensures { IfOk result (λ copied. copied ≡ self.now) }
     {

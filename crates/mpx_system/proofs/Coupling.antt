@@ -1,18 +1,16 @@
 -- What each doing keeps of a world and the ranks that move in it.
 use Rattle.std.proofs.Common.{◌≡◌, ℕ, ◌<◌, ◌≤◌, Bool, true, false, cond, ◌==◌, ◌&&◌, List, [], ◌∷◌, ◌++◌, codes, Option, Some, None, refl, sym, ap, ◌∙◌, subst, arith, inl, inr}
 use Rattle.std.specs.Prelude.{slice_get, nat_lt, is_some, IsTrue, Result, Ok, Err, if◌then◌else◌}
-use Rattle.std.specs.Option.{option_map}
 use Rattle.std.specs.Str.{bytes_eq}
 use Rattle.std.proofs.lemmas.Bool.Decides.{nat_tests}
 use Rattle.mpx_num.specs.declared.own.Operation.{Operation}
 use Rattle.mpx_name.specs.Name.{Name}
-use Rattle.mpx_post.specs.Births.{BirthView}
+use Rattle.mpx_birth.specs.Births.{BirthView}
 use Rattle.mpx_post.specs.declared.draft.PostError.{PostError}
 use Rattle.mpx_value.specs.declared.outcomes.Outcome.TheVariants.{NewComm}
 use Rattle.mpx_value.specs.Histories.{Answer, Made, answer_with, birth_of, posts_on, Results, Within, results_of}
 use Rattle.mpx_node.specs.Nodes.{OpenedView, fresh, opened_at_start}
-use Rattle.mpx_world.specs.Worlds.{WorldView, history, births, Happening, IsNoPost, happens, MayHappen}
-use Rattle.mpx_world.specs.Worlds.{goes_on as goes_on_world}
+use Rattle.mpx_world.specs.Worlds.{WorldView, history, births, Happening, IsNoPost, happens, MayHappen, goes_on as goes_on_world}
 use Rattle.mpx_world.proofs.Lists.{same_number, name_itself}
 use Rattle.mpx_world.proofs.Later.{Later, later_happens, later_itself, made_happens}
 use Rattle.mpx_world.proofs.Steps.{holds_start}
@@ -23,20 +21,17 @@ use Rattle.mpx_statement.specs.declared.statement.Statement.{Statement}
 use Rattle.mpx_statement.specs.declared.statement.Statement.TheVariants.{Post, Wait, Ask}
 use Rattle.mpx_statement.specs.Statements.{bound_to, posted_on as word_of, started_as}
 use Rattle.mpx_statement.specs.Lookups.{named}
-use Rattle.mpx_evaluation.specs.Ranks.{Bound, Communicator, NullCommunicator, Todo, Do, Await, Local, answered_by, answers, attempt, attempt_on, awaited_by, bind, bound_by, done, step}
-use Rattle.mpx_evaluation.specs.Ranks.{answered as answered_rank}
-use Rattle.mpx_evaluation.specs.Evaluation.{State, start, bound_at_start, world_of, statements_of, known, or_stay, goes_on, move, moves, IsReached}
-use Rattle.mpx_evaluation.specs.Evaluation.{history as history_of_ranks}
-use Rattle.mpx_evaluation.specs.Told.{CarriesOut, none}
-use Rattle.mpx_evaluation.proofs.Steps.{heard, posted, started, told_at_once, turned_down, waited, step_asks, step_ends, step_hears, step_passes, step_posts, step_refused, step_starts, step_stays, step_waits}
-use Rattle.mpx_evaluation.proofs.Ways.{step-grows}
-use Rattle.mpx_evaluation.proofs.Ahead.{goes_on_cases}
-use Rattle.mpx_evaluation.proofs.Ends.{goes_on-at}
-use Rattle.mpx_evaluation.proofs.Passing.{carries_out-grows, step-carries_out, carried_out-tell}
-use Rattle.mpx_evaluation.proofs.Tells.{each-me, each-bound, given_by, named-bound}
+use Rattle.mpx_meaning.specs.Ranks.{Bound, Communicator, NullCommunicator, Todo, Do, Await, Local, answers, attempt, attempt_on, awaited_by, bind, bound_by, done, step}
+use Rattle.mpx_meaning.specs.Evaluation.{State, start, bound_at_start, world_of, statements_of, known, or_stay, goes_on, move, moves, IsReached, history as history_of_ranks}
+use Rattle.mpx_meaning.specs.Told.{CarriesOut, none}
+use Rattle.mpx_meaning.proofs.Steps.{heard, posted, started, told_at_once, turned_down, waited, step_asks, step_ends, step_hears, step_passes, step_posts, step_refused, step_starts, step_stays, step_waits}
+use Rattle.mpx_meaning.proofs.Ways.{step-grows}
+use Rattle.mpx_meaning.proofs.Ahead.{goes_on_cases}
+use Rattle.mpx_meaning.proofs.Ends.{goes_on-at}
+use Rattle.mpx_meaning.proofs.Passing.{carries_out-grows, step-carries_out, carried_out-tell}
+use Rattle.mpx_meaning.proofs.Tells.{each-me, each-bound, given_by, named-bound}
 use Rattle.mpx_system.specs.Systems.{System, posts_bound, posts_of, Doing, Nets, Drives, does, does_all, MayDo, MayDoAll, start_system, TellsResults, world_tells}
-use Rattle.mpx_system.specs.Running.{Tried, answered_on, name_of, names_in, tried}
-use Rattle.mpx_system.proofs.Posting.{Upheld, upheld_happens, is_there, tells_at, tells_on, value_known, Follows, Driven, follows_itself, IsBoundSo, driven_bound, found_bound}
+use Rattle.mpx_system.proofs.Posting.{Upheld, upheld_happens, is_there, tells_at, tells_on, value_known, Follows, Driven, follows_itself, IsBoundSo, driven_bound}
 
 -- A WORLD AND ITS RANKS
 
@@ -73,24 +68,17 @@ module _ (ops : List Operation) (script : List (List Statement)) (ranks : ℕ) (
   )
 
   -- what a rank's next statement comes to, by the posts of its process
-  abbrev pub attempt_at : ℕ → Posting → Result Made PostError
+  abbrev attempt_at : ℕ → Posting → Result Made PostError
   attempt_at p posting = attempt_on ops p (s.world.each p).made posting (named (s.ranks p).bound (word_of posting))
 
-  pub attempts_same : (p : ℕ) (posting : Posting) → attempt ops (s.ranks p).me (s.ranks p).bound (s.ranks p).made posting ≡ attempt_at p posting
+  attempts_same : (p : ℕ) (posting : Posting) → attempt ops (s.ranks p).me (s.ranks p).bound (s.ranks p).made posting ≡ attempt_at p posting
   attempts_same p posting = λ i. attempt_on ops (each-me ops script ranks s.ranks c.reached p i) (sym (c.made p) i) posting (named (s.ranks p).bound (word_of posting))
 
-  pub driven : (p : ℕ) → p < ranks → (posting : Posting)
-      → Driven s.world p (posts_bound p (s.world.each p).made posting (named (s.ranks p).bound (word_of posting))) (attempt_at p posting) (tried ops posting (option_map name_of (named (s.ranks p).bound (word_of posting))) (s.world.each p).node)
+  pub driven : (p : ℕ) → p < ranks → (posting : Posting) → Driven s.world p (posts_bound p (s.world.each p).made posting (named (s.ranks p).bound (word_of posting))) (attempt_at p posting)
   driven p l posting =
       let to = named (s.ranks p).bound (word_of posting) in
-      subst (λ o. Driven s.world p (posts_bound p (s.world.each p).made posting to) (attempt_on o p (s.world.each p).made posting to) (tried o posting (option_map name_of to) (s.world.each p).node)) c.operations
+      subst (λ o. Driven s.world p (posts_bound p (s.world.each p).made posting to) (attempt_on o p (s.world.each p).made posting to)) c.operations
       (driven_bound s.world c.upheld p posting to (bound_so p l (word_of posting)))
-
-  -- a rank that asks is answered by what its node knows
-  pub answer_same : (p : ℕ) → p < ranks → (question : Question) → answered_on (s.ranks p).me (names_in (s.ranks p).bound) question (s.world.each p).node ≡ answered_rank (s.ranks p).me (s.ranks p).bound (s.ranks p).made question
-  answer_same p l question =
-      (λ i. answered_by (s.ranks p).me (λ word. found_bound s.world c.upheld p (named (s.ranks p).bound word) (bound_so p l word) i) question)
-      ∙ ap (λ ms. answered_rank (s.ranks p).me (s.ranks p).bound ms question) (c.made p)
 
 -- A RANK'S MOVE
 
@@ -185,20 +173,20 @@ module _ (ops : List Operation) (script : List (List Statement)) (ranks : ℕ) (
   driven_to p hs = record { world = goes_on_world s.world hs; ranks = goes_on ops s.ranks p (world_tells s.world p) }
 
   -- an accepted post, whose outcome is awaited or whose request is open from then on
-  couples_accepted : (p : ℕ) → p < ranks → (posting : Posting) (rest : List Todo) → (s.ranks p).todo ≡ Do (Post posting) ∷ rest → (hs : List Happening) (t : Tried) (m : Made) → attempt_at ops script ranks s c p posting ≡ Ok m → Driven s.world p hs (Ok m) t
+  couples_accepted : (p : ℕ) → p < ranks → (posting : Posting) (rest : List Todo) → (s.ranks p).todo ≡ Do (Post posting) ∷ rest → (hs : List Happening) (m : Made) → attempt_at ops script ranks s c p posting ≡ Ok m → Driven s.world p hs (Ok m)
       → (request : Option (List ℕ)) → started_as posting ≡ request → Couples ops script ranks (driven_to p hs)
-  couples_accepted p l posting rest e hs t m f d None b =
+  couples_accepted p l posting rest e hs m f d None b =
       couples_move p l (goes_on_world s.world hs) (m ∷ []) (done (s.ranks p) (posted (s.ranks p) (bound_to posting) rest m))
       (step_posts ops (world_tells s.world p) (s.ranks p) posting rest m e b (attempts_same ops script ranks s c p posting ∙ f)) refl d.follows
       (λ word name birth h. (d.follows.later.kept p).opened_kept name (c.opened p l word name birth h))
-  couples_accepted p l posting rest e hs t m f d (Some request) b =
+  couples_accepted p l posting rest e hs m f d (Some request) b =
       couples_move p l (goes_on_world s.world hs) (m ∷ []) (done (s.ranks p) (started (s.ranks p) request rest m))
       (step_starts ops (world_tells s.world p) (s.ranks p) posting rest request m e b (attempts_same ops script ranks s c p posting ∙ f)) refl d.follows
       (λ word name birth h. (d.follows.later.kept p).opened_kept name (c.opened p l word name birth h))
 
-  couples_posts : (p : ℕ) → p < ranks → (posting : Posting) (rest : List Todo) → (s.ranks p).todo ≡ Do (Post posting) ∷ rest → (hs : List Happening) (t : Tried) (o : Result Made PostError) → attempt_at ops script ranks s c p posting ≡ o → Driven s.world p hs o t → Couples ops script ranks (driven_to p hs)
-  couples_posts p l posting rest e hs t (Ok m) f d = couples_accepted p l posting rest e hs t m f d (started_as posting) refl
-  couples_posts p l posting rest e hs t (Err refusal) f d =
+  couples_posts : (p : ℕ) → p < ranks → (posting : Posting) (rest : List Todo) → (s.ranks p).todo ≡ Do (Post posting) ∷ rest → (hs : List Happening) (o : Result Made PostError) → attempt_at ops script ranks s c p posting ≡ o → Driven s.world p hs o → Couples ops script ranks (driven_to p hs)
+  couples_posts p l posting rest e hs (Ok m) f d = couples_accepted p l posting rest e hs m f d (started_as posting) refl
+  couples_posts p l posting rest e hs (Err refusal) f d =
       couples_move p l (goes_on_world s.world hs) [] (done (s.ranks p) (turned_down (s.ranks p) (bound_to posting) rest refusal))
       (step_refused ops (world_tells s.world p) (s.ranks p) posting rest refusal e (attempts_same ops script ranks s c p posting ∙ f)) refl d.follows
       (bound_more p l (goes_on_world s.world hs) d.follows.later (bound_to posting) NullCommunicator (λ name birth is. cc is))
@@ -240,7 +228,7 @@ module _ (ops : List Operation) (script : List (List Statement)) (ranks : ℕ) (
   couples_drive : (p : ℕ) → p < ranks → (todo : List Todo) → (s.ranks p).todo ≡ todo → Couples ops script ranks (driven_to p (posts_of p (s.world.each p).made (s.ranks p).bound todo))
   couples_drive p l [] e = couples_stay p (step_ends ops (world_tells s.world p) (s.ranks p) e)
   couples_drive p l (Await name call target ∷ rest) e = couples_hears p l name call target rest e (world_tells s.world p name call) refl
-  couples_drive p l (Do (Post posting) ∷ rest) e = couples_posts p l posting rest e _ _ (attempt_at ops script ranks s c p posting) refl (driven ops script ranks s c p l posting)
+  couples_drive p l (Do (Post posting) ∷ rest) e = couples_posts p l posting rest e _ (attempt_at ops script ranks s c p posting) refl (driven ops script ranks s c p l posting)
   couples_drive p l (Do (Wait words) ∷ rest) e = couples_passes p l words rest e (answers (world_tells s.world p) (awaited_by (s.ranks p).requests words)) refl
   couples_drive p l (Do (Ask question) ∷ rest) e = couples_asks p l question rest e
 

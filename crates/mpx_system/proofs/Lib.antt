@@ -1,7 +1,5 @@
 pub mod Posting
 pub mod Coupling
-pub mod Waiting
-pub mod Running
-pub mod Moving
+pub mod Leading
 pub mod Happenings
 pub mod Results

@@ -6,7 +6,7 @@ use Rattle.std.proofs.lemmas.Option.{same_Some}
 use Rattle.mpx_num.specs.declared.own.Operation.{Operation}
 use Rattle.mpx_name.specs.Name.{Name}
 use Rattle.mpx_post.specs.Posts.{Given, is_free}
-use Rattle.mpx_post.specs.Births.{BirthView, of_members, rank_in}
+use Rattle.mpx_birth.specs.Births.{BirthView, of_members, rank_in}
 use Rattle.mpx_post.specs.Drafts.{at, checked}
 use Rattle.mpx_post.specs.Gatherings.{GatheringView, gathering}
 use Rattle.mpx_post.specs.declared.draft.Draft.{Draft}
@@ -17,9 +17,8 @@ use Rattle.mpx_post.proofs.Gatherings.{closed_gathering}
 use Rattle.mpx_board.specs.Boards.{IsGone, told}
 use Rattle.mpx_value.specs.Histories.{Answer, Made, answer_with, gathered, has_freed, outcomes_by, posts_on, Within, results_of, value_for}
 use Rattle.mpx_node.specs.declared.finished.Finished.{Finished}
-use Rattle.mpx_node.specs.Nodes.{NodeView, OpenedView, freed_by, freed_on, posted_by, posted_on, results_on, checked_by, checked_on, checked_there, gathering_name, gathers_by, gathers_on, gathers_there, open_gathering_node}
-use Rattle.mpx_world.specs.Worlds.{ProcessView, WorldView, history, births, at_process, gathers, makes, opens_gathering, posts, Happening, Posts, Gathers, happens, MayHappen}
-use Rattle.mpx_world.specs.Worlds.{goes_on as goes_on_world}
+use Rattle.mpx_node.specs.Nodes.{OpenedView, freed_by, freed_on, posted_by, results_on, checked_by, checked_on, checked_there, gathering_name, gathers_by, gathers_on, gathers_there, open_gathering_node}
+use Rattle.mpx_world.specs.Worlds.{ProcessView, WorldView, history, births, at_process, gathers, makes, opens_gathering, posts, Happening, Posts, Gathers, happens, MayHappen, goes_on as goes_on_world}
 use Rattle.mpx_world.specs.Soundness.{IsValue}
 use Rattle.mpx_world.proofs.Freeing.{all_of_at}
 use Rattle.mpx_world.proofs.Lists.{any_at, same_number}
@@ -28,11 +27,10 @@ use Rattle.mpx_world.proofs.Steps.{Holds, board_so, holds_happens, at_here}
 use Rattle.mpx_world.proofs.Opened.{AllIn, gathering_opened, in_happens, is_in, member_ranked}
 use Rattle.mpx_statement.specs.declared.statement.Posting.{Posting}
 use Rattle.mpx_statement.specs.Statements.{Gathers as Asked, draft_of, gathers_of}
-use Rattle.mpx_evaluation.specs.Ranks.{Bound, Communicator, NullCommunicator, attempt_in, attempt_on, found_as, found_of, made_on, next_call, post_gathered, post_on}
+use Rattle.mpx_meaning.specs.Ranks.{Bound, Communicator, NullCommunicator, attempt_in, attempt_on, made_on, next_call, post_gathered, post_on}
 use Rattle.std.proofs.lemmas.List.{append-nil}
-use Rattle.mpx_evaluation.proofs.Tells.{mapped_some}
+use Rattle.mpx_meaning.proofs.Tells.{mapped_some}
 use Rattle.mpx_system.specs.Systems.{posts_bound, posts_gathered, posts_in, world_tells}
-use Rattle.mpx_system.specs.Running.{Tried, communicator_in, found_at, known_to, name_of, tried, tried_gathered, tried_in, tried_post}
 use Rattle.mpx_value.proofs.Histories.{same_answer, gathered_there}
 
 -- WORLDS
@@ -64,12 +62,6 @@ opened_gathers (Some o) said birth me rank name tag ranks e m known = by_freed o
   by_freed true k = sym (closed_gathering birth me rank (length name) tag ranks m)
   by_freed false (inl never) = cc never
   by_freed false (inr is) = ap (λ x. gathers_there x me name tag ranks) is
-
--- and a question finds it so
-found_known : (freed : Bool) (known there : Option (Name × BirthView)) → (freed ≡ true) ⊎ (known ≡ there) → found_as freed known ≡ found_as freed there
-found_known true known there k = refl
-found_known false known there (inl never) = cc never
-found_known false known there (inr is) = ap (found_as false) is
 
 -- an opened context: how it came to be, with the process as a member, which the process's board tells, where it isn't dead there
 pub record IsThere (w : WorldView) (p : ℕ) (name : Name) : Type 0 where
@@ -103,7 +95,7 @@ module _ (w : WorldView) (u : Upheld w) (p : ℕ) where
       g.closed name ∙ any_at is_free (posts_on name (w.each p).made) f.call own.0 own.1 (f.frees i.rank own.0 own.2)
 
   -- a context that it has opened it has freed, or its board tells the birth
-  freed_or_told : (name : Name) (birth : BirthView) → IsTrue (is_some ((w.each p).node.opened name)) → births w name ≡ Some birth → (freed_on (w.each p).node name ≡ true) ⊎ (told ((w.each p).node.board.contexts name).birth ≡ Some birth)
+  pub freed_or_told : (name : Name) (birth : BirthView) → IsTrue (is_some ((w.each p).node.opened name)) → births w name ≡ Some birth → (freed_on (w.each p).node name ≡ true) ⊎ (told ((w.each p).node.board.contexts name).birth ≡ Some birth)
   freed_or_told name birth t b =
       let x = is_there name t in
       elim x.tells [
@@ -118,7 +110,7 @@ module _ (w : WorldView) (u : Upheld w) (p : ℕ) where
       (x.rank, ap (λ (y : BirthView). rank_in p y.members) (sym same) ∙ x.member)
 
   -- the node checks a draft as its birth and its posts say
-  checks_so : (name : Name) (birth : BirthView) → IsTrue (is_some ((w.each p).node.opened name)) → births w name ≡ Some birth → (draft : Draft) → checked_on w.operations (w.each p).node name draft ≡ checked w.operations birth p (at name (next_call name (w.each p).made) (has_freed name (w.each p).made)) draft
+  pub checks_so : (name : Name) (birth : BirthView) → IsTrue (is_some ((w.each p).node.opened name)) → births w name ≡ Some birth → (draft : Draft) → checked_on w.operations (w.each p).node name draft ≡ checked w.operations birth p (at name (next_call name (w.each p).made) (has_freed name (w.each p).made)) draft
   checks_so name birth t b draft =
       let node = (w.each p).node in
       let g = u.holds.processes p in
@@ -127,7 +119,7 @@ module _ (w : WorldView) (u : Upheld w) (p : ℕ) where
       ∙ opened_checks w.operations (node.opened name) (told (node.board.contexts name).birth) birth p m.0 name draft t m.1 (freed_or_told name birth t b)
       ∙ λ i. checked w.operations birth p (at name (g.counted name i) (g.closed name i)) draft
 
-  gathers_so : (name : Name) (birth : BirthView) → IsTrue (is_some ((w.each p).node.opened name)) → births w name ≡ Some birth → (tag : ℤ) (ranks : List ℤ) → gathers_on (w.each p).node name tag ranks ≡ gathering birth p (length name) (has_freed name (w.each p).made) tag ranks
+  pub gathers_so : (name : Name) (birth : BirthView) → IsTrue (is_some ((w.each p).node.opened name)) → births w name ≡ Some birth → (tag : ℤ) (ranks : List ℤ) → gathers_on (w.each p).node name tag ranks ≡ gathering birth p (length name) (has_freed name (w.each p).made) tag ranks
   gathers_so name birth t b tag ranks =
       let node = (w.each p).node in
       let g = u.holds.processes p in
@@ -168,18 +160,11 @@ abbrev pub added_by : Result Made PostError → List Made
 added_by (Ok m) = m ∷ []
 added_by (Err refusal) = []
 
--- the context and the number of the call
-abbrev pub answered : List Made → Result Made PostError → Result (Name × ℕ) PostError
-answered made (Ok m) = Ok (m.name, next_call m.name made)
-answered made (Err refusal) = Err refusal
-
--- these happenings come of a statement, as what its node does shows
-pub record Driven (w : WorldView) (p : ℕ) (hs : List Happening) (o : Result Made PostError) (t : Tried) : Type 0 where
+-- these happenings come of a statement
+pub record Driven (w : WorldView) (p : ℕ) (hs : List Happening) (o : Result Made PostError) : Type 0 where
   pub follows : Follows p w (goes_on_world w hs) (added_by o)
-  pub node : t.node ≡ ((goes_on_world w hs).each p).node
   pub nodes : (q : ℕ) → (q ≡ p → ⊥) → ((goes_on_world w hs).each q).node ≡ (w.each q).node
   pub parts : (goes_on_world w hs).parts ≡ w.parts
-  pub answer : t.answer ≡ answered (w.each p).made o
 
 pub not_same : (q p : ℕ) → (q ≡ p → ⊥) → (q == p) ≡ false
 not_same q p other = by_test (q == p) refl where
@@ -194,108 +179,80 @@ each_other w p f q other = ap (λ b. cond b (f (w.each q)) (w.each q)) (not_same
 pub follows_itself : (w : WorldView) → Upheld w → (p : ℕ) → Follows p w w []
 follows_itself w u p = record { upheld = u; later = later_itself w; here = sym (append-nil (w.each p).made); others = λ q d. refl }
 
-driven_nothing : (w : WorldView) → Upheld w → (p : ℕ) (refusal : PostError) → Driven w p [] (Err refusal) (record { node = (w.each p).node; answer = Err refusal })
-driven_nothing w u p refusal = record { follows = follows_itself w u p; node = refl; nodes = λ q other. refl; parts = refl; answer = refl }
+driven_nothing : (w : WorldView) → Upheld w → (p : ℕ) (refusal : PostError) → Driven w p [] (Err refusal)
+driven_nothing w u p refusal = record { follows = follows_itself w u p; nodes = λ q other. refl; parts = refl }
 
 module _ (w : WorldView) (u : Upheld w) (p : ℕ) (name : Name) where
   made_by : (r : Result Given PostError) (v : ProcessView) → (makes name r v).made ≡ v.made ++ added_by (made_on name r)
   made_by (Ok given) v = refl
   made_by (Err refusal) v = sym (append-nil v.made)
 
-  tries_by : (r : Result Given PostError) (v : ProcessView) → (tried_post name r v.node).node ≡ (makes name r v).node
-  tries_by (Ok given) v = refl
-  tries_by (Err refusal) v = refl
-
-  answers_by : (r : Result Given PostError) (v : ProcessView) → posted_on v.node name ≡ next_call name v.made → (tried_post name r v.node).answer ≡ answered v.made (made_on name r)
-  answers_by (Ok given) v e = ap (λ k. let a : Result (Name × ℕ) PostError = Ok (name, k) in a) e
-  answers_by (Err refusal) v e = refl
-
-  driven_checked : (draft : Draft) → Driven w p (Posts p name draft ∷ []) (made_on name (checked_on w.operations (w.each p).node name draft)) (tried_post name (checked_on w.operations (w.each p).node name draft) (w.each p).node)
-  driven_checked draft =
-      let v = w.each p in
-      let r = checked_on w.operations v.node name draft in
-      record {
-        follows = record {
-          upheld = upheld_happens w (Posts p name draft) u tt;
-          later = later_happens w (Posts p name draft);
-          here = ap (λ (x : ProcessView). x.made) (at_here w p (posts w.operations name draft)) ∙ made_by r v;
-          others = λ q d. ap (λ b. (cond b (posts w.operations name draft (w.each q)) (w.each q)).made) d;
-        };
-        node = tries_by r v ∙ ap (λ (x : ProcessView). x.node) (sym (at_here w p (posts w.operations name draft)));
-        nodes = λ q other. ap (λ (x : ProcessView). x.node) (each_other w p (posts w.operations name draft) q other);
-        parts = refl;
-        answer = answers_by r v ((u.holds.processes p).counted name);
-      }
-
-  driven_post : (birth : BirthView) → IsTrue (is_some ((w.each p).node.opened name)) → births w name ≡ Some birth → (draft : Draft)
-      → Driven w p (Posts p name draft ∷ []) (post_on w.operations p (w.each p).made draft name birth) (tried_post name (checked_on w.operations (w.each p).node name draft) (w.each p).node)
-  driven_post birth t b draft = subst (λ x. Driven w p (Posts p name draft ∷ []) (made_on name x) (tried_post name (checked_on w.operations (w.each p).node name draft) (w.each p).node)) (checks_so w u p name birth t b draft) (driven_checked draft)
+  driven_post : (birth : BirthView) → IsTrue (is_some ((w.each p).node.opened name)) → births w name ≡ Some birth → (draft : Draft) → Driven w p (Posts p name draft ∷ []) (post_on w.operations p (w.each p).made draft name birth)
+  driven_post birth t b draft = subst (λ x. Driven w p (Posts p name draft ∷ []) (made_on name x)) (checks_so w u p name birth t b draft) (record {
+    follows = record {
+      upheld = upheld_happens w (Posts p name draft) u tt;
+      later = later_happens w (Posts p name draft);
+      here = ap (λ (x : ProcessView). x.made) (at_here w p (posts w.operations name draft)) ∙ made_by (checked_on w.operations (w.each p).node name draft) (w.each p);
+      others = λ q d. ap (λ b. (cond b (posts w.operations name draft (w.each q)) (w.each q)).made) d;
+    };
+    nodes = λ q other. ap (λ (x : ProcessView). x.node) (each_other w p (posts w.operations name draft) q other);
+    parts = refl;
+  })
 
 -- A GATHERING, AND THE POST THERE
 
-module _ (w : WorldView) (u : Upheld w) (p : ℕ) (name : Name) where
-  gathers_node : (tag : ℤ) (ranks : List ℤ) (g : GatheringView) → gathers_on (w.each p).node name tag ranks ≡ Ok g → ((happens w (Gathers p name tag ranks)).each p).node ≡ open_gathering_node name g (w.each p).node
-  gathers_node tag ranks g e = ap (λ (x : ProcessView). x.node) (at_here w p (gathers name tag ranks)) ∙ ap (λ r. (opens_gathering name r (w.each p)).node) e
+-- a gathering that the process opens on a context, and the world then
+pub record IsGathered (w : WorldView) (p : ℕ) (name : Name) (asked : Asked) (g : GatheringView) : Type 0 where
+  pub upheld : Upheld (happens w (Gathers p name asked.tag asked.ranks))
+  pub node : ((happens w (Gathers p name asked.tag asked.ranks)).each p).node ≡ open_gathering_node name g (w.each p).node
+  pub made : ((happens w (Gathers p name asked.tag asked.ranks)).each p).made ≡ (w.each p).made
+  pub there : IsTrue (is_some (((happens w (Gathers p name asked.tag asked.ranks)).each p).node.opened (gathering_name name g)))
+  pub born : births (happens w (Gathers p name asked.tag asked.ranks)) (gathering_name name g) ≡ Some (of_members g.members)
 
-  driven_gathering : (birth : BirthView) → IsTrue (is_some ((w.each p).node.opened name)) → births w name ≡ Some birth → (draft : Draft) (asked : Asked) (g : GatheringView) → gathering birth p (length name) (has_freed name (w.each p).made) asked.tag asked.ranks ≡ Ok g
-      → Driven w p (posts_gathered p draft name asked (Ok g)) (post_gathered w.operations p (w.each p).made draft name (Ok g)) (tried_gathered w.operations name draft (Ok g) (w.each p).node)
-  driven_gathering birth t b draft asked g e =
+module _ (w : WorldView) (u : Upheld w) (p : ℕ) (name : Name) (birth : BirthView) (t : IsTrue (is_some ((w.each p).node.opened name))) (b : births w name ≡ Some birth) where
+  pub is_gathered : (asked : Asked) (g : GatheringView) → gathering birth p (length name) (has_freed name (w.each p).made) asked.tag asked.ranks ≡ Ok g → IsGathered w p name asked g
+  is_gathered asked g e =
+      let h : Happening = Gathers p name asked.tag asked.ranks in
+      let accepted : gathers_on (w.each p).node name asked.tag asked.ranks ≡ Ok g = gathers_so w u p name birth t b asked.tag asked.ranks ∙ e in
+      record {
+        upheld = upheld_happens w h u tt;
+        node = ap (λ (x : ProcessView). x.node) (at_here w p (gathers name asked.tag asked.ranks)) ∙ ap (λ r. (opens_gathering name r (w.each p)).node) accepted;
+        made = made_happens w h tt p;
+        there = gathering_opened w p name asked.tag asked.ranks g accepted;
+        born = ap (option_and_then (gathered g.members)) (births_grow w (happens w h) (later_happens w h) name birth b) ∙ gathered_there birth p (length name) (has_freed name (w.each p).made) asked.tag asked.ranks g e;
+      }
+
+  driven_gathering : (draft : Draft) (asked : Asked) (g : GatheringView) → IsGathered w p name asked g → Driven w p (posts_gathered p draft name asked (Ok g)) (post_gathered w.operations p (w.each p).made draft name (Ok g))
+  driven_gathering draft asked g is =
       let h : Happening = Gathers p name asked.tag asked.ranks in
       let new = happens w h in
       let at_new = gathering_name name g in
-      let later = later_happens w h in
-      let accepted : gathers_on (w.each p).node name asked.tag asked.ranks ≡ Ok g = gathers_so w u p name birth t b asked.tag asked.ranks ∙ e in
-      let node_is : (new.each p).node ≡ open_gathering_node name g (w.each p).node = gathers_node asked.tag asked.ranks g accepted in
-      let made_is : (new.each p).made ≡ (w.each p).made = made_happens w h tt p in
-      let there : IsTrue (is_some ((new.each p).node.opened at_new)) = gathering_opened w p name asked.tag asked.ranks g accepted in
-      let born : births new at_new ≡ Some (of_members g.members) = ap (option_and_then (gathered g.members)) (births_grow w new later name birth b) ∙ gathered_there birth p (length name) (has_freed name (w.each p).made) asked.tag asked.ranks g e in
-      let d = driven_post new (upheld_happens w h u tt) p at_new (of_members g.members) there born draft in
-      let moved : Driven new p (Posts p at_new draft ∷ []) (post_on w.operations p (w.each p).made draft at_new (of_members g.members)) (tried_gathered w.operations name draft (Ok g) (w.each p).node)
-      = subst (λ (n : NodeView). Driven new p (Posts p at_new draft ∷ []) (post_on w.operations p (w.each p).made draft at_new (of_members g.members)) (tried_post at_new (checked_on w.operations n at_new draft) n)) node_is
-      (subst (λ ms. Driven new p (Posts p at_new draft ∷ []) (post_on w.operations p ms draft at_new (of_members g.members)) (tried_post at_new (checked_on w.operations (new.each p).node at_new draft) (new.each p).node)) made_is d) in
+      let d = driven_post new is.upheld p at_new (of_members g.members) is.there is.born draft in
       record {
         follows = record {
-          upheld = moved.follows.upheld;
-          later = later_then w new (goes_on_world new (Posts p at_new draft ∷ [])) later moved.follows.later;
-          here = moved.follows.here ∙ ap (λ ms. ms ++ added_by (post_on w.operations p (w.each p).made draft at_new (of_members g.members))) made_is;
-          others = λ q d. moved.follows.others q d ∙ made_happens w h tt q;
+          upheld = d.follows.upheld;
+          later = later_then w new (goes_on_world new (Posts p at_new draft ∷ [])) (later_happens w h) d.follows.later;
+          here = d.follows.here ∙ λ i. is.made i ++ added_by (post_on w.operations p (is.made i) draft at_new (of_members g.members));
+          others = λ q apart. d.follows.others q apart ∙ made_happens w h tt q;
         };
-        node = moved.node;
-        nodes = λ q other. moved.nodes q other ∙ ap (λ (x : ProcessView). x.node) (each_other w p (gathers name asked.tag asked.ranks) q other);
-        parts = moved.parts;
-        answer = moved.answer ∙ ap (λ ms. answered ms (post_on w.operations p (w.each p).made draft at_new (of_members g.members))) made_is;
+        nodes = λ q other. d.nodes q other ∙ ap (λ (x : ProcessView). x.node) (each_other w p (gathers name asked.tag asked.ranks) q other);
+        parts = d.parts;
       }
 
-  driven_gathers : (birth : BirthView) → IsTrue (is_some ((w.each p).node.opened name)) → births w name ≡ Some birth → (draft : Draft) (asked : Asked) (x : Result GatheringView PostError) → gathering birth p (length name) (has_freed name (w.each p).made) asked.tag asked.ranks ≡ x
-      → Driven w p (posts_gathered p draft name asked x) (post_gathered w.operations p (w.each p).made draft name x) (tried_gathered w.operations name draft x (w.each p).node)
-  driven_gathers birth t b draft asked (Ok g) e = driven_gathering birth t b draft asked g e
-  driven_gathers birth t b draft asked (Err refusal) e = driven_nothing w u p refusal
+  driven_gathers : (draft : Draft) (asked : Asked) (x : Result GatheringView PostError) → gathering birth p (length name) (has_freed name (w.each p).made) asked.tag asked.ranks ≡ x → Driven w p (posts_gathered p draft name asked x) (post_gathered w.operations p (w.each p).made draft name x)
+  driven_gathers draft asked (Ok g) e = driven_gathering draft asked g (is_gathered asked g e)
+  driven_gathers draft asked (Err refusal) e = driven_nothing w u p refusal
 
-  driven_in : (birth : BirthView) → IsTrue (is_some ((w.each p).node.opened name)) → births w name ≡ Some birth → (draft : Draft) (asked : Option Asked)
-      → Driven w p (posts_in p (w.each p).made draft asked name birth) (attempt_in w.operations p (w.each p).made draft asked name birth) (tried_in w.operations draft asked name (w.each p).node)
-  driven_in birth t b draft None = driven_post w u p name birth t b draft
-  driven_in birth t b draft (Some asked) =
-      let x = gathering birth p (length name) (has_freed name (w.each p).made) asked.tag asked.ranks in
-      subst (λ y. Driven w p (posts_gathered p draft name asked x) (post_gathered w.operations p (w.each p).made draft name x) (tried_gathered w.operations name draft y (w.each p).node)) (sym (gathers_so w u p name birth t b asked.tag asked.ranks)) (driven_gathers birth t b draft asked x refl)
+  driven_in : (draft : Draft) (asked : Option Asked) → Driven w p (posts_in p (w.each p).made draft asked name birth) (attempt_in w.operations p (w.each p).made draft asked name birth)
+  driven_in draft None = driven_post w u p name birth t b draft
+  driven_in draft (Some asked) = driven_gathers draft asked (gathering birth p (length name) (has_freed name (w.each p).made) asked.tag asked.ranks) refl
 
 -- a word's communicator is opened, and came to be as its binding says
 abbrev pub IsBoundSo : WorldView → (p : ℕ) → Option Bound → Type 0
 IsBoundSo w p bound = (name : Name) (birth : BirthView) → bound ≡ Some (Communicator name birth) → IsTrue (is_some ((w.each p).node.opened name)) × (births w name ≡ Some birth)
 
 -- a statement on what its word is bound to
-pub driven_bound : (w : WorldView) → Upheld w → (p : ℕ) (posting : Posting) (bound : Option Bound) → IsBoundSo w p bound
-    → Driven w p (posts_bound p (w.each p).made posting bound) (attempt_on w.operations p (w.each p).made posting bound) (tried w.operations posting (option_map name_of bound) (w.each p).node)
+pub driven_bound : (w : WorldView) → Upheld w → (p : ℕ) (posting : Posting) (bound : Option Bound) → IsBoundSo w p bound → Driven w p (posts_bound p (w.each p).made posting bound) (attempt_on w.operations p (w.each p).made posting bound)
 driven_bound w u p posting None h = driven_nothing w u p NotMember
 driven_bound w u p posting (Some NullCommunicator) h = driven_nothing w u p NotMember
 driven_bound w u p posting (Some (Communicator name birth)) h = let x = h name birth refl in driven_in w u p name birth x.0 x.1 (draft_of posting) (gathers_of posting)
-
--- what a word stands for at a node is what it stands for in the evaluation
-pub found_bound : (w : WorldView) → Upheld w → (p : ℕ) (bound : Option Bound) → IsBoundSo w p bound → found_at (w.each p).node (communicator_in (option_map name_of bound)) ≡ found_of (w.each p).made bound
-found_bound w u p None h = refl
-found_bound w u p (Some NullCommunicator) h = refl
-found_bound w u p (Some (Communicator name birth)) h =
-    let x = h name birth refl in
-    let node = (w.each p).node in
-    found_known (freed_on node name) (known_to node name) (Some (name, birth))
-    (elim (freed_or_told w u p name birth x.0 x.1) [ inl freed ↦ inl freed | inr is ↦ inr (ap (option_map (λ (b : BirthView). (name, b))) is) ])
-    ∙ ap (λ b. found_as b (Some (name, birth))) ((u.holds.processes p).closed name)

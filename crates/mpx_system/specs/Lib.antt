@@ -1,3 +1,2 @@
 pub mod Systems
-pub mod Running
 pub mod Runs

@@ -3,9 +3,9 @@ use Rattle.std.specs.Prelude.{◌≡◌, ℕ, ◌≤◌, ◌+◌, ◌⊎◌, Lis
 use Rattle.mpx_num.specs.declared.own.Operation.{Operation}
 use Rattle.mpx_node.specs.Nodes.{NodeView}
 use Rattle.mpx_script.specs.ScriptView.{ScriptView}
-use Rattle.mpx_evaluation.specs.Evaluation.{State, IsEvaluation, IsPrefixOf, bound_at_start, statements_of}
-use Rattle.mpx_evaluation.specs.Told.{CarriesOut}
-use Rattle.mpx_evaluation.specs.Reports.{lines_in, waiting_in}
+use Rattle.mpx_meaning.specs.Evaluation.{State, IsEvaluation, IsPrefixOf, bound_at_start, statements_of}
+use Rattle.mpx_meaning.specs.Told.{CarriesOut}
+use Rattle.mpx_meaning.specs.Reports.{lines_in, waiting_in}
 use Rattle.mpx_world.specs.Soundness.{Sound}
 use Rattle.mpx_system.specs.Systems.{System, IsOfHappenings, Leads, start_system, TellsResults, world_tells}
 

@@ -1,8 +1,8 @@
 //! What is so after every list of doings, as a call that a contract can name: it does nothing.
 ghost use Rattle.std.specs.Prelude.{◌≡◌, ◌≤◌, List, ℕ, []};
 ghost use Rattle.mpx_num.specs.declared.own.Operation.{Operation};
-ghost use Rattle.mpx_evaluation.specs.Evaluation.{Script, State, IsEvaluation, IsPrefixOf, bound_at_start, statements_of};
-ghost use Rattle.mpx_evaluation.specs.Told.{CarriesOut};
+ghost use Rattle.mpx_meaning.specs.Evaluation.{Script, State, IsEvaluation, IsPrefixOf, bound_at_start, statements_of};
+ghost use Rattle.mpx_meaning.specs.Told.{CarriesOut};
 ghost use Rattle.mpx_world.specs.Soundness.{Sound};
 ghost use Rattle.mpx_system.specs.Systems.{Doing, IsOfHappenings, MayDoAll, TellsResults, does_all, start_system, world_tells};
 

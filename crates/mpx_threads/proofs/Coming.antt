@@ -10,24 +10,24 @@ use Rattle.mpx_statement.specs.declared.statement.Statement.{Statement}
 use Rattle.mpx_statement.specs.declared.statement.Statement.TheVariants.{Post}
 use Rattle.mpx_statement.specs.Statements.{bound_to, posted_on, started_as}
 use Rattle.mpx_statement.specs.Lookups.{named}
-use Rattle.mpx_evaluation.specs.Ranks.{Communicator, Do, Local, attempt, communicator_of, doing, done, next_call, step}
-use Rattle.mpx_evaluation.specs.Evaluation.{known, start, statements_of, world_of, IsPrefixOf}
-use Rattle.mpx_evaluation.specs.Going.{Goes, stays, moves}
-use Rattle.mpx_evaluation.specs.Standing.{WaitView, has_statements, todo_of}
-use Rattle.mpx_evaluation.specs.Reports.{is_left}
-use Rattle.mpx_evaluation.proofs.Going.{goes-adds, goes-there}
-use Rattle.mpx_evaluation.proofs.Steps.{posted, started, step_posts, step_starts}
+use Rattle.mpx_meaning.specs.Ranks.{Communicator, Do, Local, attempt, communicator_of, doing, done, next_call, step}
+use Rattle.mpx_meaning.specs.Evaluation.{known, start, statements_of, world_of, IsPrefixOf}
+use Rattle.mpx_meaning.specs.Going.{Goes, stays, moves}
+use Rattle.mpx_meaning.specs.Standing.{WaitView, has_statements, todo_of}
+use Rattle.mpx_meaning.specs.Reports.{is_left}
+use Rattle.mpx_meaning.proofs.Going.{goes-adds, goes-there}
+use Rattle.mpx_meaning.proofs.Steps.{posted, started, step_posts, step_starts}
 use Rattle.mpx_bus.specs.declared.act.Setup.{Setup}
 use Rattle.mpx_bus.specs.Rule.{planned_posts}
-use Rattle.mpx_rank.specs.Carriers.{IsWithin, Terms, outcomes_of}
+use Rattle.mpx_rank.specs.Carriers.{IsToldWithin, Terms, outcomes_of}
 use Rattle.mpx_rank.specs.Moves.{GoesOn, MayGo, RankView, bound_first, communicator_in, is_waiting}
-use Rattle.mpx_rank.specs.Places.{CommunicatorView, Stands, attempt_by, bound_as}
+use Rattle.mpx_rank.specs.Places.{CommunicatorView, StandsInScript, attempt_by, bound_as}
 use Rattle.mpx_rank.proofs.Stepping.{Came, GoesBy, StaysTold, goes_on_goes, ran_goes}
 use Rattle.mpx_rank.proofs.Words.{attempt_same, bound_there, communicator_same}
 use Rattle.mpx_script.specs.ScriptView.{ScriptView}
 use Rattle.mpx_threads.specs.declared.told.ToldCall.{ToldCall}
 use Rattle.mpx_threads.specs.Plans.{Plans, planned_results}
-use Rattle.mpx_threads.specs.Told.{DeskView, MayPost, first_posts, is_among, thread_terms, told_more, told_of}
+use Rattle.mpx_threads.specs.ToldCalls.{DeskView, MayPost, first_posts, is_among, thread_terms, told_more, told_of}
 use Rattle.mpx_threads.specs.Work.{HasCome}
 use Rattle.mpx_threads.proofs.Plans.{births_are, planned_is, posts_are, results_are}
 
@@ -52,7 +52,7 @@ told_known known told name call answer e = by_test (is_among told name call) e w
   by_test true f = f
   by_test false f = cc f
 
-outcomes_known : (known : Results) (told : List ToldCall) → IsWithin (outcomes_of (told_of known told)) (outcomes_of known)
+outcomes_known : (known : Results) (told : List ToldCall) → IsToldWithin (outcomes_of (told_of known told)) (outcomes_of known)
 outcomes_known known told name call outcome e = by_test (is_among told name call) e where
   by_test : (b : Bool) → option_map (λ (a : Answer). a.outcome) (cond b (known name call) None) ≡ Some outcome → outcomes_of known name call ≡ Some outcome
   by_test true f = f
@@ -116,12 +116,12 @@ module _ (script : ScriptView) (relays : ℕ) (setup : Setup) (plan : Plans scri
   stay : StaysTold terms me
   stay = record {
     heard = λ c d h. told_more by c.0 d.0 h.0;
-    tried = λ c d posting on result tried. subst (λ told. IsWithin (outcomes_of (told_of by c.0)) (outcomes_of (told_of by told))) (sym tried.0) (λ name call outcome e. e);
+    tried = λ c d posting on result tried. subst (λ told. IsToldWithin (outcomes_of (told_of by c.0)) (outcomes_of (told_of by told))) (sym tried.0) (λ name call outcome e. e);
   }
 
   -- THE NEXT POST
 
-  module _ (s : Local) (d : DeskView) (fits : Fits s d) (r : RankView CommunicatorView) (stands : Stands r s) (local_me : s.me ≡ me) (posting : Posting) (rest : List Statement) (waits : r.waits ≡ None) (todo : r.todo ≡ Post posting ∷ rest) where
+  module _ (s : Local) (d : DeskView) (fits : Fits s d) (r : RankView CommunicatorView) (stands : StandsInScript r s) (local_me : s.me ≡ me) (posting : Posting) (rest : List Statement) (waits : r.waits ≡ None) (todo : r.todo ≡ Post posting ∷ rest) where
     abbrev on : Option CommunicatorView
     on = communicator_in (r.bound (posted_on posting))
 
@@ -148,7 +148,7 @@ module _ (script : ScriptView) (relays : ℕ) (setup : Setup) (plan : Plans scri
 
   -- ALL MOVES
 
-  module _ (whole : ledger) (none : before ≡ 0) (r : RankView CommunicatorView) (me_is : r.me ≡ me) (stands : Stands r first) (c : DeskView) (new : c.1 ≡ 0) where
+  module _ (whole : ledger) (none : before ≡ 0) (r : RankView CommunicatorView) (me_is : r.me ≡ me) (stands : StandsInScript r first) (c : DeskView) (new : c.1 ≡ 0) where
     fits_first : Fits first c
     fits_first = record { made = let zero_is : before + c.1 ≡ 0 = omega (arith, none, new) in ap (first_posts setup me) (sym zero_is); goes = stays }
 
@@ -169,7 +169,7 @@ module _ (script : ScriptView) (relays : ℕ) (setup : Setup) (plan : Plans scri
           made_is = came.fits.made ∙ ap (first_posts setup me) count;
           tells = came.tells stay (λ i name call outcome e. cc e);
         } where
-          left_is : (s : RankView CommunicatorView) (to : Local) → Stands s to → is_waiting s ≡ is_left to.todo
+          left_is : (s : RankView CommunicatorView) (to : Local) → StandsInScript s to → is_waiting s ≡ is_left to.todo
           left_is s to stands = by_wait s.waits s.todo ∙ ap is_left (sym stands.todo) where
             by_wait : (w : Option WaitView) (rest : List Statement) → (is_some w || has_statements rest) ≡ is_left (todo_of w rest)
             by_wait (Some w) rest = refl
@@ -180,7 +180,7 @@ module _ (script : ScriptView) (relays : ℕ) (setup : Setup) (plan : Plans scri
 
 -- before its statements a rank stands at the start of its script
 pub stands_first : (script : ScriptView) (me : ℕ) (r : RankView CommunicatorView) → ((word : List ℕ) → r.bound word ≡ bound_first (Some ([], world_of script.ranks)) word) → ((word : List ℕ) → r.requests word ≡ None)
-    → r.todo ≡ statements_of script.statements me → r.waits ≡ None → r.lines ≡ [] → r.origins ≡ [] → Stands r (start script.statements script.ranks me)
+    → r.todo ≡ statements_of script.statements me → r.waits ≡ None → r.lines ≡ [] → r.origins ≡ [] → StandsInScript r (start script.statements script.ranks me)
 stands_first script me r bound requests todo waits lines origins = record {
   bound = λ word. ap (option_map bound_as) (bound word) ∙ by_test word (bytes_eq word (codes "world"));
   requests = requests;

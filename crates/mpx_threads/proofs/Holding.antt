@@ -6,33 +6,33 @@ use Rattle.std.proofs.lemmas.Bool.Decides.{Decides-eqb, nat_tests}
 use Rattle.std.proofs.lemmas.Option.{same_Some}
 use Rattle.atomic_table.specs.Seated.{TableId}
 use Rattle.mpx_name.specs.Name.{Name, same_name}
-use Rattle.mpx_post.specs.Births.{BirthView}
+use Rattle.mpx_birth.specs.Births.{BirthView}
 use Rattle.mpx_value.specs.declared.outcomes.Outcome.{Outcome}
 use Rattle.mpx_value.specs.Histories.{Answer, Results, Within, answer_with, posts_on}
 use Rattle.mpx_node.specs.declared.finished.Finished.{Finished}
 use Rattle.mpx_node.specs.Nodes.{NodeView, results_on}
 use Rattle.mpx_world.proofs.Lists.{names_same}
 use Rattle.mpx_bus.specs.declared.act.Setup.{Setup}
-use Rattle.mpx_bus.specs.Berths.{Berth, node_in}
-use Rattle.mpx_shared.specs.Docks.{IsDocked, made_in}
-use Rattle.mpx_shared.proofs.Docked.{docked_mine, docked_posts, docked_result}
+use Rattle.mpx_bus.specs.Ports.{PortView, node_in}
+use Rattle.mpx_shared.specs.LawfulPorts.{IsLawful, made_in}
+use Rattle.mpx_shared.proofs.LawfulPorts.{lawful_mine, lawful_posts, lawful_result}
 use Rattle.mpx_shared.proofs.Plans as P
 use Rattle.mpx_statement.specs.declared.statement.Statement.{Statement}
-use Rattle.mpx_evaluation.specs.Ranks.{Told, doing}
-use Rattle.mpx_evaluation.specs.Standing.{has_statements}
-use Rattle.mpx_evaluation.specs.Evaluation.{IsPrefixOf, bound_at_start, known, start, statements_of}
-use Rattle.mpx_evaluation.specs.Going.{Goes, stays}
-use Rattle.mpx_evaluation.specs.Told.{CarriesOut, none}
-use Rattle.mpx_evaluation.specs.Reports.{is_left}
-use Rattle.mpx_evaluation.proofs.Fronts.{prefix_itself}
-use Rattle.mpx_evaluation.proofs.Going.{goes-carries_out}
-use Rattle.mpx_evaluation.proofs.Tells.{mapped_some}
+use Rattle.mpx_meaning.specs.Ranks.{Told, doing}
+use Rattle.mpx_meaning.specs.Standing.{has_statements}
+use Rattle.mpx_meaning.specs.Evaluation.{IsPrefixOf, bound_at_start, known, start, statements_of}
+use Rattle.mpx_meaning.specs.Going.{Goes, stays}
+use Rattle.mpx_meaning.specs.Told.{CarriesOut, none}
+use Rattle.mpx_meaning.specs.Reports.{is_left}
+use Rattle.mpx_meaning.proofs.Fronts.{prefix_itself}
+use Rattle.mpx_meaning.proofs.Going.{goes-carries_out}
+use Rattle.mpx_meaning.proofs.Tells.{mapped_some}
 use Rattle.mpx_system.specs.Systems.{node_tells}
 use Rattle.mpx_script.specs.ScriptView.{ScriptView}
 use Rattle.mpx_threads.specs.declared.told.ToldCall.{ToldCall}
 use Rattle.mpx_threads.specs.Plans.{Plans, planned_results}
-use Rattle.mpx_threads.specs.Runs.{IsDone}
-use Rattle.mpx_threads.specs.Told.{AllHeld, first_posts, is_among, is_at, planned_birth, told_of}
+use Rattle.mpx_threads.specs.ThreadRuns.{IsDone}
+use Rattle.mpx_threads.specs.ToldCalls.{AllHeld, first_posts, is_among, is_at, planned_birth, told_of}
 use Rattle.mpx_threads.specs.Work.{HasCome, HasWorked}
 use Rattle.mpx_threads.proofs.Less.{Have, carries_out_less}
 use Rattle.mpx_threads.proofs.Plans.{births_are, planned_is, results_are, statements_at}
@@ -75,10 +75,10 @@ told_among known ts name call answer e = by_test (is_among ts name call) e where
 
 -- A PORT
 
-module _ (table : TableId) (setup : Setup) (me : ℕ) (port : Berth) (docked : IsDocked table setup me port) (planned : setup.planned ≡ true) where
+module _ (table : TableId) (setup : Setup) (me : ℕ) (port : PortView) (lawful : IsLawful table setup me port) (planned : setup.planned ≡ true) where
   -- a result is what the plan's posts give
   result_is : (name : Name) (call : ℕ) (f : Finished) → slice_get (results_on (node_in port) name) call ≡ Some f → planned_results setup me name call ≡ Some (answer_with (planned_birth setup) f.outcome)
-  result_is name call f e = (P.result_is_planned setup me name call f planned (docked_result table setup me port name call f docked e)).result
+  result_is name call f e = (P.result_is_planned setup me name call f planned (lawful_result table setup me port name call f lawful e)).result
 
   -- what the node tells the plan's posts give
   tells_planned : Within (node_tells (planned_birth setup) (node_in port)) (planned_results setup me)
@@ -101,7 +101,7 @@ module _ (table : TableId) (setup : Setup) (me : ℕ) (port : Berth) (docked : I
         (f, found.1, ap (λ (a : Answer). a.outcome) same ∙ said.2)
 
     made_same : made_in port ≡ come.to.made
-    made_same = docked_posts table setup me port planned docked ∙ ap (first_posts setup me) counted ∙ sym come.made_is
+    made_same = lawful_posts table setup me port planned lawful ∙ ap (first_posts setup me) counted ∙ sym come.made_is
 
     have : Have setup.operations (planned_results setup me) (node_tells (planned_birth setup) (node_in port)) tells_planned come.to.lines
     have i name call outcome e =
@@ -121,22 +121,22 @@ module _ (table : TableId) (setup : Setup) (me : ℕ) (port : Berth) (docked : I
             finished = there.0;
             held = there.1;
             is = there.2;
-            mine = ap (λ ms. slice_get (posts_on name ms) call) (sym made_same) ∙ docked_mine table setup me port name call there.0 docked there.1;
+            mine = ap (λ ms. slice_get (posts_on name ms) call) (sym made_same) ∙ lawful_mine table setup me port name call there.0 lawful there.1;
           };
       posts = subst (λ ms. IsPrefixOf come.to.made ms) (sym made_same) (prefix_itself come.to.made);
     }
 
-pub has_worked : (table : TableId) (script : ScriptView) (relays : ℕ) (setup : Setup) (me : ℕ) (port : Berth) (ts : List ToldCall) (count : ℕ) (lines : List (List ℕ)) (waits : Bool) → IsDocked table setup me port → HasCome script setup me ts count lines waits
+pub has_worked : (table : TableId) (script : ScriptView) (relays : ℕ) (setup : Setup) (me : ℕ) (port : PortView) (ts : List ToldCall) (count : ℕ) (lines : List (List ℕ)) (waits : Bool) → IsLawful table setup me port → HasCome script setup me ts count lines waits
     → length (made_in port) ≡ count → AllHeld (node_in port) ts → HasWorked script relays setup me port lines waits
-has_worked table script relays setup me port ts count lines waits docked come counted held = record {
+has_worked table script relays setup me port ts count lines waits lawful come counted held = record {
   to = come.to;
-  done = λ plan. is_done table setup me port docked (planned_is script relays setup plan) script relays plan ts count lines waits come counted held;
+  done = λ plan. is_done table setup me port lawful (planned_is script relays setup plan) script relays plan ts count lines waits come counted held;
   lines_are = come.lines_are;
   waits_is = come.waits_is;
 }
 
 -- a rank that has done nothing
-pub has_not_worked : (script : ScriptView) (relays : ℕ) (setup : Setup) (me : ℕ) (port : Berth) (waits : Bool) → waits ≡ has_statements (statements_of script.statements me) → HasWorked script relays setup me port [] waits
+pub has_not_worked : (script : ScriptView) (relays : ℕ) (setup : Setup) (me : ℕ) (port : PortView) (waits : Bool) → waits ≡ has_statements (statements_of script.statements me) → HasWorked script relays setup me port [] waits
 has_not_worked script relays setup me port waits e = record {
   to = start script.statements script.ranks me;
   done = λ plan. record {

@@ -2,17 +2,17 @@
 use Rattle.std.proofs.Common.{◌≡◌, ℕ, ◌+◌, List, Option, Some, None, sym, ◌∙◌, subst}
 use Rattle.std.specs.Prelude.{Result, Ok, slice_get}
 use Rattle.mpx_name.specs.Name.{Name}
-use Rattle.mpx_post.specs.Births.{BirthView}
+use Rattle.mpx_birth.specs.Births.{BirthView}
 use Rattle.mpx_post.specs.declared.draft.PostError.{PostError}
 use Rattle.mpx_value.specs.Histories.{Made}
 use Rattle.mpx_statement.specs.declared.statement.Posting.{Posting}
 use Rattle.mpx_statement.specs.Statements.{draft_of, gathers_of}
-use Rattle.mpx_evaluation.specs.Ranks.{attempt_in}
+use Rattle.mpx_meaning.specs.Ranks.{attempt_in}
 use Rattle.mpx_bus.specs.declared.act.Setup.{Setup}
 use Rattle.mpx_bus.specs.Rule.{planned_posts}
 use Rattle.mpx_rank.specs.Carriers.{placed}
 use Rattle.mpx_shared.specs.declared.ticket.Ticket.{Ticket}
-use Rattle.mpx_threads.specs.Told.{IsNextIn, PostsAs, Tried, first_posts, place_of, planned_birth}
+use Rattle.mpx_threads.specs.ToldCalls.{IsNextIn, PostsAs, Tried, first_posts, place_of, planned_birth}
 
 -- as many posts were made as before, where the context came to be
 abbrev pub Unposted : Setup → Name → (old new : ℕ) → Type 0

@@ -8,17 +8,17 @@ use Rattle.mpx_name.specs.Name.{Name}
 use Rattle.mpx_value.specs.Histories.{Made, Results, birth_of, history_of, results_of}
 use Rattle.mpx_bus.specs.declared.act.Setup.{Setup}
 use Rattle.mpx_bus.specs.Rule.{made_of, planned_posts}
-use Rattle.mpx_shared.specs.Docks.{plan_history}
+use Rattle.mpx_shared.specs.LawfulPorts.{plan_history}
 use Rattle.mpx_statement.specs.declared.statement.Statement.{Statement}
 use Rattle.mpx_statement.specs.declared.statement.Statement.TheVariants.{Post}
 use Rattle.mpx_script.specs.ScriptView.{ScriptView}
-use Rattle.mpx_evaluation.specs.Ranks.{Bindings, Line, Local, Requests}
-use Rattle.mpx_evaluation.specs.Evaluation.{State, bound_at_start, history, known, statements_of}
-use Rattle.mpx_evaluation.specs.Told.{CarriesOut, Passes, accepted, asked, none, refused, started, waited}
-use Rattle.mpx_evaluation.proofs.Ends.{eval_of}
-use Rattle.mpx_evaluation.proofs.Tells.{each-carries_out}
+use Rattle.mpx_meaning.specs.Ranks.{Bindings, Line, Local, Requests}
+use Rattle.mpx_meaning.specs.Evaluation.{State, bound_at_start, history, known, statements_of}
+use Rattle.mpx_meaning.specs.Told.{CarriesOut, Passes, accepted, asked, none, refused, started, waited}
+use Rattle.mpx_meaning.proofs.Ends.{eval_of}
+use Rattle.mpx_meaning.proofs.Tells.{each-carries_out}
 use Rattle.mpx_threads.specs.Plans.{Plans, as_planned, plan_upto, planned_results, setup_by}
-use Rattle.mpx_threads.specs.Told.{planned_birth}
+use Rattle.mpx_threads.specs.ToldCalls.{planned_birth}
 
 -- LISTS
 

@@ -6,7 +6,7 @@ use Rattle.atomic_table.specs.Seated.{TableId}
 use Rattle.mpx_num.specs.declared.own.Operation.{Operation}
 use Rattle.mpx_name.specs.Name.{Name}
 use Rattle.mpx_post.specs.Posts.{Given}
-use Rattle.mpx_post.specs.Births.{BirthView, of_members, rank_in}
+use Rattle.mpx_birth.specs.Births.{BirthView, of_members, rank_in}
 use Rattle.mpx_post.specs.Drafts.{at, checked}
 use Rattle.mpx_post.specs.Gatherings.{GatheringView, gathering}
 use Rattle.mpx_post.specs.declared.draft.Draft.{Draft}
@@ -22,17 +22,17 @@ use Rattle.mpx_world.proofs.Steps.{Good}
 use Rattle.mpx_bus.specs.declared.act.Act.{Act}
 use Rattle.mpx_bus.specs.declared.act.Setup.{Setup}
 use Rattle.mpx_bus.specs.Rule.{planned_posts, world_of}
-use Rattle.mpx_bus.specs.Berths.{Berth, node_in, process_in}
+use Rattle.mpx_bus.specs.Ports.{PortView, node_in, process_in}
 use Rattle.mpx_statement.specs.declared.statement.Posting.{Posting}
 use Rattle.mpx_statement.specs.Statements.{Gathers, draft_of, gathers_of}
-use Rattle.mpx_evaluation.specs.Ranks.{attempt_in, made_on, next_call, post_gathered, post_on}
+use Rattle.mpx_meaning.specs.Ranks.{attempt_in, made_on, next_call, post_gathered, post_on}
 use Rattle.mpx_shared.specs.declared.ticket.Ticket.{Ticket}
-use Rattle.mpx_shared.specs.Docks.{IsDocked, IsNext, made_in}
+use Rattle.mpx_shared.specs.LawfulPorts.{IsLawful, IsNext, made_in}
 use Rattle.mpx_shared.specs.Tickets.{OpensThen, PostsThen, TellsClosed}
-use Rattle.mpx_shared.proofs.Docked.{docked_birth, docked_member, docked_posts}
+use Rattle.mpx_shared.proofs.LawfulPorts.{lawful_birth, lawful_member, lawful_posts}
 use Rattle.mpx_shared.proofs.Plans as P
 use Rattle.mpx_shared.proofs.Standing.{stood_good}
-use Rattle.mpx_threads.specs.Told.{ComesTo, IsNextGathered, IsNextIn, Tried, first_posts, planned_birth}
+use Rattle.mpx_threads.specs.ToldCalls.{CallComesTo, IsNextGathered, IsNextIn, Tried, first_posts, planned_birth}
 
 -- what a draft and a gathering come to on an opened context
 abbrev opened_draft : (ops : List Operation) (freed : Bool) → (call : ℕ) → Option BirthView → (me : ℕ) → Name → Draft → Result Given PostError
@@ -86,21 +86,21 @@ module _ (table : TableId) (setup : Setup) (me : ℕ) (planned : setup.planned �
   abbrev planned_gathering : (count : ℕ) → Name → (tag : ℤ) → List ℤ → BirthView → Result GatheringView PostError
   planned_gathering count parent tag ranks birth = gathering birth me (length parent) (has_freed parent (first_posts setup me count)) tag ranks
 
-  module _ (port : Berth) (docked : IsDocked table setup me port) where
-    good : Good (world_of port.setup docked.stood.happenings) port.me (process_in port)
-    good = stood_good port.setup port.me port.journal docked.stood
+  module _ (port : PortView) (lawful : IsLawful table setup me port) where
+    good : Good (world_of port.setup lawful.stood.happenings) port.me (process_in port)
+    good = stood_good port.setup port.me port.journal lawful.stood
 
     node_me : (node_in port).me ≡ me
-    node_me = good.me_is ∙ docked.me_is
+    node_me = good.me_is ∙ lawful.me_is
 
     birth_told : (name : Name) (x : BirthView) → told ((node_in port).board.contexts name).birth ≡ Some x → planned_birth setup name ≡ Some x
-    birth_told name x e = P.birth_is_planned setup name x planned (docked_birth table setup me port name x docked e)
+    birth_told name x e = P.birth_is_planned setup name x planned (lawful_birth table setup me port name x lawful e)
 
     birth_same : (name : Name) (birth : BirthView) → planned_birth setup name ≡ Some birth → (x : BirthView) → told ((node_in port).board.contexts name).birth ≡ Some x → x ≡ birth
     birth_same name birth born x e = same_Some x birth (sym (birth_told name x e) ∙ born)
 
     made_first : (count : ℕ) → length (made_in port) ≡ count → made_in port ≡ first_posts setup me count
-    made_first count counted = docked_posts table setup me port planned docked ∙ ap (first_posts setup me) counted
+    made_first count counted = lawful_posts table setup me port planned lawful ∙ ap (first_posts setup me) counted
 
     posted_count : (count : ℕ) → length (made_in port) ≡ count → (name : Name) → posted_on (node_in port) name ≡ next_call name (first_posts setup me count)
     posted_count count counted name = good.counted name ∙ ap (next_call name) (made_first count counted)
@@ -110,7 +110,7 @@ module _ (table : TableId) (setup : Setup) (me : ℕ) (planned : setup.planned �
 
     ranked_in : (name : Name) (birth : BirthView) → planned_birth setup name ≡ Some birth → IsTrue (is_some ((node_in port).opened name)) → (rank : ℕ) × (rank_in me birth.members ≡ Some rank)
     ranked_in name birth born opened =
-        let m = docked_member table setup me port name docked opened in
+        let m = lawful_member table setup me port name lawful opened in
         let same : m.0 ≡ birth = same_Some m.0 birth (sym (P.birth_is_planned setup name m.0 planned m.1.1.0) ∙ born) in
         (m.1.0, ap (λ (x : BirthView). rank_in me x.members) (sym same) ∙ m.1.1.1)
 
@@ -128,7 +128,7 @@ module _ (table : TableId) (setup : Setup) (me : ℕ) (planned : setup.planned �
 
   -- whether a free is among its posts
   pub closed_so : {opening : List Act} (count : ℕ) (name : Name) (closed : Bool) → TellsClosed table setup me opening count name closed → closed ≡ has_freed name (first_posts setup me count)
-  closed_so count name closed tells = tells.told ∙ ap (has_freed name) (made_first tells.port tells.docked count tells.counted)
+  closed_so count name closed tells = tells.told ∙ ap (has_freed name) (made_first tells.port tells.lawful count tells.counted)
 
   -- A POST
 
@@ -137,12 +137,12 @@ module _ (table : TableId) (setup : Setup) (me : ℕ) (planned : setup.planned �
     outcome = post_on setup.operations me (first_posts setup me count) draft name birth
 
     pub posted_so : {opening : List Act} (ticket : Ticket) → PostsThen table setup me opening count name draft (Ok ticket) → (old new : ℕ) → new ≡ old + 1 → Tried (first_posts setup me count) outcome (Ok (Some (ticket.name, ticket.call))) old new
-    posted_so ticket then old new more = by_check (checked_port then.before then.docked_before count then.counted name draft birth born) where
+    posted_so ticket then old new more = by_check (checked_port then.before then.lawful_before count then.counted name draft birth born) where
       by_check : (checked_on setup.operations (node_in then.before) name draft ≡ Err NotMember) ⊎ (checked_on setup.operations (node_in then.before) name draft ≡ planned_check count name draft birth) → Tried (first_posts setup me count) outcome (Ok (Some (ticket.name, ticket.call))) old new
       by_check (inl shut) = let is = then.ticket.1 in cc (shut, is)
       by_check (inr e) =
           let posts = subst (λ x. Posts name x (Ok ticket.call) (node_in then.before) (node_in then.after)) then.ticket.1 then.posts in
-          (record { name = name; given = ticket.post }, ap (made_on name) (sym e ∙ then.ticket.1), then.ticket.0, posts.0 ∙ posted_count then.before then.docked_before count then.counted name, more)
+          (record { name = name; given = ticket.post }, ap (made_on name) (sym e ∙ then.ticket.1), then.ticket.0, posts.0 ∙ posted_count then.before then.lawful_before count then.counted name, more)
 
     pub refused_so : {opening : List Act} (refusal : PostError) → (refusal ≡ NotMember → ⊥) → PostsThen table setup me opening count name draft (Err refusal) → (old new : ℕ) → new ≡ old → Tried (first_posts setup me count) outcome (Err refusal) old new
     refused_so refusal member then old new same other = (by_answer (checked_on setup.operations (node_in then.before) name draft) refl then.posts, same) where
@@ -152,7 +152,7 @@ module _ (table : TableId) (setup : Setup) (me : ℕ) (planned : setup.planned �
 
       by_answer : (x : Result Given PostError) → checked_on setup.operations (node_in then.before) name draft ≡ x → Posts name x (Err refusal) (node_in then.before) (node_in then.after) → outcome ≡ Err refusal
       by_answer (Ok given) e posts = absurd (other posts.0)
-      by_answer (Err r) e posts = by_check (checked_port then.before then.docked_before count then.counted name draft birth born) (let same : refusal ≡ r = cc (posts.0) in e ∙ ap Err (sym same))
+      by_answer (Err r) e posts = by_check (checked_port then.before then.lawful_before count then.counted name draft birth born) (let same : refusal ≡ r = cc (posts.0) in e ∙ ap Err (sym same))
 
   -- where what it comes to is the plan's next, so is the post
   pub next_on : (count : ℕ) (name : Name) (draft : Draft) → ((birth : BirthView) (m : Made) → planned_birth setup name ≡ Some birth → post_on setup.operations me (first_posts setup me count) draft name birth ≡ Ok m → slice_get (planned_posts setup me) count ≡ Some m) → IsNext setup me count name draft
@@ -196,8 +196,8 @@ module _ (table : TableId) (setup : Setup) (me : ℕ) (planned : setup.planned �
       by_answer (Err r) e opens = cc (opens.0)
       by_answer (Ok g) e opens =
           let known = gathers_born ((node_in then.before).opened parent) (told ((node_in then.before).board.contexts parent).birth) (node_in then.before).me parent tag ranks g e in
-          let born = birth_told then.before then.docked_before parent known.0 known.1 in
-          by_gathers g known.0 born opens.0 e (gathers_port then.before then.docked_before count then.counted parent tag ranks known.0 born)
+          let born = birth_told then.before then.lawful_before parent known.0 known.1 in
+          by_gathers g known.0 born opens.0 e (gathers_port then.before then.lawful_before count then.counted parent tag ranks known.0 born)
 
     -- the post there is the plan's next
     pub next_below : {opening : List Act} (name : Name) → OpensThen table setup me opening count parent tag ranks (Ok name) → IsNextGathered setup me count parent tag ranks draft → IsNext setup me count name draft
@@ -211,8 +211,8 @@ module _ (table : TableId) (setup : Setup) (me : ℕ) (planned : setup.planned �
 
     -- and what comes of it
     pub comes_below : {opening : List Act} (name : Name) → OpensThen table setup me opening count parent tag ranks (Ok name) → (result : Result (Option (Name × ℕ)) PostError) (old new : ℕ)
-        → ComesTo setup name (λ birth. post_on setup.operations me (first_posts setup me count) draft name birth) (first_posts setup me count) result old new
-        → ComesTo setup parent (λ birth. post_gathered setup.operations me (first_posts setup me count) draft parent (planned_gathering count parent tag ranks birth)) (first_posts setup me count) result old new
+        → CallComesTo setup name (λ birth. post_on setup.operations me (first_posts setup me count) draft name birth) (first_posts setup me count) result old new
+        → CallComesTo setup parent (λ birth. post_gathered setup.operations me (first_posts setup me count) draft parent (planned_gathering count parent tag ranks birth)) (first_posts setup me count) result old new
     comes_below name then result old new comes birth born =
         let o = opened_so name then in
         let members = of_members o.gathering_view.members in
@@ -223,7 +223,7 @@ module _ (table : TableId) (setup : Setup) (me : ℕ) (planned : setup.planned �
         subst (λ x. Tried (first_posts setup me count) x result old new) is (comes members o.born_below)
 
     pub gathering_refused : {opening : List Act} (refusal : PostError) → (refusal ≡ NotMember → ⊥) → OpensThen table setup me opening count parent tag ranks (Err refusal) → (old new : ℕ) → new ≡ old
-        → ComesTo setup parent (λ birth. post_gathered setup.operations me (first_posts setup me count) draft parent (planned_gathering count parent tag ranks birth)) (first_posts setup me count) (Err refusal) old new
+        → CallComesTo setup parent (λ birth. post_gathered setup.operations me (first_posts setup me count) draft parent (planned_gathering count parent tag ranks birth)) (first_posts setup me count) (Err refusal) old new
     gathering_refused refusal member then old new same birth born other = (by_answer (gathers_on (node_in then.before) parent tag ranks) refl then.opens, same) where
       by_gathers : (gathers_on (node_in then.before) parent tag ranks ≡ Err NotMember) ⊎ (gathers_on (node_in then.before) parent tag ranks ≡ planned_gathering count parent tag ranks birth) → gathers_on (node_in then.before) parent tag ranks ≡ Err refusal
           → post_gathered setup.operations me (first_posts setup me count) draft parent (planned_gathering count parent tag ranks birth) ≡ Err refusal
@@ -233,4 +233,4 @@ module _ (table : TableId) (setup : Setup) (me : ℕ) (planned : setup.planned �
       by_answer : (x : Result GatheringView PostError) → gathers_on (node_in then.before) parent tag ranks ≡ x → Opens parent x (Err refusal) (node_in then.before) (node_in then.after)
           → post_gathered setup.operations me (first_posts setup me count) draft parent (planned_gathering count parent tag ranks birth) ≡ Err refusal
       by_answer (Ok g) e opens = absurd (other opens.0)
-      by_answer (Err r) e opens = by_gathers (gathers_port then.before then.docked_before count then.counted parent tag ranks birth born) (let same : refusal ≡ r = cc (opens.0) in e ∙ ap Err (sym same))
+      by_answer (Err r) e opens = by_gathers (gathers_port then.before then.lawful_before count then.counted parent tag ranks birth born) (let same : refusal ≡ r = cc (opens.0) in e ∙ ap Err (sym same))

@@ -6,22 +6,21 @@ use Rattle.std.proofs.lemmas.Option.{same_Some}
 use Rattle.atomic_table.specs.Seated.{TableId}
 use Rattle.mpx_num.specs.declared.own.Operation.{Operation}
 use Rattle.mpx_bus.specs.declared.act.Setup.{Setup}
-use Rattle.mpx_bus.specs.Berths.{Berth}
-use Rattle.mpx_shared.specs.Docks.{IsDocked, made_in}
+use Rattle.mpx_bus.specs.Ports.{PortView}
+use Rattle.mpx_shared.specs.LawfulPorts.{IsLawful, made_in}
 use Rattle.mpx_script.specs.ScriptView.{ScriptView}
-use Rattle.mpx_evaluation.specs.Ranks.{Local}
-use Rattle.mpx_evaluation.specs.Evaluation.{IsEvaluation, IsPrefixOf, State, known, start}
-use Rattle.mpx_evaluation.specs.Going.{Goes}
-use Rattle.mpx_evaluation.specs.Reports.{is_left, waiting_in, which}
-use Rattle.mpx_evaluation.specs.Reports.{lines_in as lines_of}
-use Rattle.mpx_evaluation.specs.Transcripts.{line_text}
-use Rattle.mpx_evaluation.proofs.Ahead.{confluent}
-use Rattle.mpx_evaluation.proofs.Going.{goes-adds, goes-whole}
+use Rattle.mpx_meaning.specs.Ranks.{Local}
+use Rattle.mpx_meaning.specs.Evaluation.{IsEvaluation, IsPrefixOf, State, known, start}
+use Rattle.mpx_meaning.specs.Going.{Goes}
+use Rattle.mpx_meaning.specs.Reports.{is_left, waiting_in, which, lines_in as lines_of}
+use Rattle.mpx_meaning.specs.Transcripts.{line_text}
+use Rattle.mpx_meaning.proofs.Ahead.{confluent}
+use Rattle.mpx_meaning.proofs.Going.{goes-adds, goes-whole}
 use Rattle.mpx_system.specs.Runs.{AreWhole, Begin}
 use Rattle.mpx_system.proofs.Results.{length_taken, mapped_at, nothing_left, prefix_map, some_at, taken_at, which_has, which_same}
 use Rattle.mpx_threads.specs.declared.worker.Worked.{Worked}
 use Rattle.mpx_threads.specs.Plans.{setup_by}
-use Rattle.mpx_threads.specs.Runs.{IsDone, IsThreadRun}
+use Rattle.mpx_threads.specs.ThreadRuns.{IsDone, IsThreadRun}
 use Rattle.mpx_threads.specs.Work.{AreWorked, HasWorked, lines_in, waits_at}
 use Rattle.mpx_threads.proofs.Plans.{lt_or_ge}
 
@@ -55,8 +54,8 @@ module _ (script : ScriptView) (relays : ℕ) (setup : Setup) (table : TableId) 
   at_local : (p : ℕ) (w : Worked) → slice_get ws p ≡ Some w → p < script.ranks → IsAt p w (local p)
   at_local p w e l = at_by p w e l (lt_or_ge p script.ranks)
 
-  module _ (ports : List Berth) (said : List (List (List ℕ))) (waiting : List ℕ) (ports_are : ports ≡ map (λ (w : Worked). w.port) ws) (lines_are : said ≡ take script.ranks (map lines_in ws)) (waiting_are : waiting ≡ which (λ p. waits_at (slice_get ws p)) script.ranks) where
-    port_at : (p : ℕ) (port : Berth) → slice_get ports p ≡ Some port → (w : Worked) × (slice_get ws p ≡ Some w) × (w.port ≡ port)
+  module _ (ports : List PortView) (said : List (List (List ℕ))) (waiting : List ℕ) (ports_are : ports ≡ map (λ (w : Worked). w.port) ws) (lines_are : said ≡ take script.ranks (map lines_in ws)) (waiting_are : waiting ≡ which (λ p. waits_at (slice_get ws p)) script.ranks) where
+    port_at : (p : ℕ) (port : PortView) → slice_get ports p ≡ Some port → (w : Worked) × (slice_get ws p ≡ Some w) × (w.port ≡ port)
     port_at p port e = mapped_at (λ (w : Worked). w.port) ws p port (ap (λ xs. slice_get xs p) (sym ports_are) ∙ e)
 
     lines_at : (p : ℕ) (lines : List (List ℕ)) → slice_get said p ≡ Some lines → (p < script.ranks) × (lines ≡ lines_of local p)
@@ -74,9 +73,9 @@ module _ (script : ScriptView) (relays : ℕ) (setup : Setup) (table : TableId) 
       end = end;
       evaluation = are.plan.evaluation;
       count = ap length ports_are ∙ length-map ws (λ (w : Worked). w.port) ∙ are.count;
-      docked = λ p port e.
+      lawful = λ p port e.
           let found = port_at p port e in
-          subst (λ b. IsDocked table (setup_by setup.operations script.ranks relays end) p b) found.2 (subst (λ u. IsDocked table u p found.0.port) are.plan.setup_is (are.each p found.0 found.1).docked);
+          subst (λ b. IsLawful table (setup_by setup.operations script.ranks relays end) p b) found.2 (subst (λ u. IsLawful table u p found.0.port) are.plan.setup_is (are.each p found.0 found.1).lawful);
       relays_post_nothing = λ p port e past. let found = port_at p port e in ap made_in (sym found.2) ∙ (are.each p found.0 found.1).relay past;
       ranks = local;
       done = λ p port e l. let found = port_at p port e in subst (λ b. IsDone setup.operations script end p b (local p)) found.2 (at_local p found.0 found.1 l).done;
@@ -108,7 +107,7 @@ module _ (script : ScriptView) (relays : ℕ) (setup : Setup) (table : TableId) 
 
 -- the same by the operations that are lent, which are the setup's
 module _ (ops : List Operation) (script : ScriptView) (relays : ℕ) (setup : Setup) (table : TableId) (ws : List Worked) (are : AreWorked script relays setup table ws) (lent : ops ≡ setup.operations)
-    (ports : List Berth) (said : List (List (List ℕ))) (waiting : List ℕ) (ports_are : ports ≡ map (λ (w : Worked). w.port) ws) (lines_are : said ≡ take script.ranks (map lines_in ws)) (waiting_are : waiting ≡ which (λ p. waits_at (slice_get ws p)) script.ranks) where
+    (ports : List PortView) (said : List (List (List ℕ))) (waiting : List ℕ) (ports_are : ports ≡ map (λ (w : Worked). w.port) ws) (lines_are : said ≡ take script.ranks (map lines_in ws)) (waiting_are : waiting ≡ which (λ p. waits_at (slice_get ws p)) script.ranks) where
   by_setup : (evaluation : State) → IsEvaluation ops script.statements script.ranks evaluation → IsEvaluation setup.operations script.statements script.ranks evaluation
   by_setup evaluation is = subst (λ o. IsEvaluation o script.statements script.ranks evaluation) lent is
 

@@ -6,10 +6,10 @@ use Rattle.std.proofs.lemmas.Bool.Decides.{Decides-eqb}
 use Rattle.mpx_name.specs.Name.{Name, same_name}
 use Rattle.mpx_world.proofs.Lists.{name_itself}
 use Rattle.mpx_value.specs.Histories.{Answer, Results}
-use Rattle.mpx_evaluation.proofs.Fronts.{slice_get-parts}
+use Rattle.mpx_meaning.proofs.Fronts.{slice_get-parts}
 use Rattle.mpx_threads.specs.declared.told.ToldCall.{ToldCall}
 use Rattle.mpx_rank.specs.Answered.{answer_of}
-use Rattle.mpx_threads.specs.Told.{AreSo, is_among, is_at, told_of}
+use Rattle.mpx_threads.specs.ToldCalls.{AreSo, is_among, is_at, told_of}
 
 -- one more is so
 pub so_more : (known : Results) (ts : List ToldCall) (t : ToldCall) → AreSo known ts → known t.name t.call ≡ Some (answer_of t.answered) → AreSo known (ts ++ t ∷ [])

@@ -1,6 +1,6 @@
 pub mod Plans
-pub mod Told
+pub mod ToldCalls
 pub mod Tasks
 pub mod Work
-pub mod Runs
+pub mod ThreadRuns
 pub mod Gates

@@ -6,8 +6,8 @@ use Rattle.mpx_post.specs.Posts.{Given}
 use Rattle.mpx_value.specs.Histories.{Made}
 use Rattle.mpx_bus.specs.declared.act.Setup.{Setup}
 use Rattle.mpx_script.specs.ScriptView.{ScriptView}
-use Rattle.mpx_evaluation.specs.Evaluation.{State, IsEvaluation}
-pub use Rattle.mpx_shared.specs.Docks.{planned_results}
+use Rattle.mpx_meaning.specs.Evaluation.{State, IsEvaluation}
+pub use Rattle.mpx_shared.specs.LawfulPorts.{planned_results}
 
 -- a post, as a plan has it
 abbrev pub as_planned : Made → Name × Given
@@ -30,5 +30,5 @@ pub record Plans (script : ScriptView) (relays : ℕ) (setup : Setup) : Type 0 w
   pub setup_is : setup ≡ setup_by setup.operations script.ranks relays end
 
 -- the plan is the posts of the script's evaluation, by so many relays or so many
-abbrev pub IsPlanned : ScriptView → Setup → Type 0
-IsPlanned script setup = (relays : ℕ) × Plans script relays setup
+abbrev pub IsPlannedByScript : ScriptView → Setup → Type 0
+IsPlannedByScript script setup = (relays : ℕ) × Plans script relays setup

@@ -4,25 +4,25 @@ use Rattle.atomic_table.specs.Seated.{TableId}
 use Rattle.mpx_name.specs.Name.{Name}
 use Rattle.mpx_value.specs.declared.outcomes.Outcome.{Outcome}
 use Rattle.mpx_bus.specs.declared.act.Setup.{Setup}
-use Rattle.mpx_bus.specs.Berths.{Berth}
-use Rattle.mpx_shared.specs.Docks.{IsDocked, made_in}
+use Rattle.mpx_bus.specs.Ports.{PortView}
+use Rattle.mpx_shared.specs.LawfulPorts.{IsLawful, made_in}
 use Rattle.mpx_script.specs.ScriptView.{ScriptView}
-use Rattle.mpx_evaluation.specs.Ranks.{Local, Told}
-use Rattle.mpx_evaluation.specs.Evaluation.{start}
-use Rattle.mpx_evaluation.specs.Going.{Goes}
-use Rattle.mpx_evaluation.specs.Reports.{is_left}
-use Rattle.mpx_evaluation.specs.Transcripts.{as_text, line_text}
+use Rattle.mpx_meaning.specs.Ranks.{Local, Told}
+use Rattle.mpx_meaning.specs.Evaluation.{start}
+use Rattle.mpx_meaning.specs.Going.{Goes}
+use Rattle.mpx_meaning.specs.Reports.{is_left}
+use Rattle.mpx_meaning.specs.Transcripts.{as_text, line_text}
 use Rattle.mpx_rank.specs.Carriers.{outcomes_of}
 use Rattle.mpx_threads.specs.declared.told.ToldCall.{ToldCall}
 use Rattle.mpx_threads.specs.declared.worker.Worked.{Worked}
-use Rattle.mpx_threads.specs.declared.worker.Job.{Job}
+use Rattle.mpx_threads.specs.declared.worker.ReadyProcess.{ReadyProcess}
 use Rattle.mpx_threads.specs.declared.gate.Step.{Step}
 use Rattle.mpx_threads.specs.declared.gossip.GossipEnd.{GossipEnd}
 use Rattle.mpx_threads.specs.declared.gossip.GossipEnd.TheVariants.{GaveUp}
 use Rattle.mpx_threads.specs.Gates.{GivesUpWithin}
 use Rattle.mpx_threads.specs.Plans.{Plans, planned_results}
-use Rattle.mpx_threads.specs.Runs.{IsDone}
-use Rattle.mpx_threads.specs.Told.{first_posts, told_of}
+use Rattle.mpx_threads.specs.ThreadRuns.{IsDone}
+use Rattle.mpx_threads.specs.ToldCalls.{first_posts, told_of}
 
 -- by what the plan's posts give it the rank has come there, with these lines, and something left or nothing; its posts are the first so
 -- many of the plan; and of each line that tells an outcome it was told that
@@ -35,42 +35,42 @@ pub record HasCome (script : ScriptView) (setup : Setup) (me : ℕ) (told : List
   pub tells : (i : ℕ) (name : Name) (call : ℕ) (outcome : Outcome) → slice_get to.lines i ≡ Some (Told name call outcome) → outcomes_of (told_of (planned_results setup me) told) name call ≡ Some outcome
 
 -- the rank has come so far, and its port holds what it was told
-pub record HasWorked (script : ScriptView) (relays : ℕ) (setup : Setup) (me : ℕ) (port : Berth) (lines : List (List ℕ)) (waits : Bool) : Type 0 where
+pub record HasWorked (script : ScriptView) (relays : ℕ) (setup : Setup) (me : ℕ) (port : PortView) (lines : List (List ℕ)) (waits : Bool) : Type 0 where
   pub to : Local
   pub done : (plan : Plans script relays setup) → IsDone setup.operations script plan.end me port to
   pub lines_are : lines ≡ map line_text to.lines
   pub waits_is : waits ≡ is_left to.todo
 
 -- the port of a process that has posted nothing yet, by the plan of the script's evaluation
-pub record IsReady (script : ScriptView) (relays : ℕ) (setup : Setup) (table : TableId) (j : Job) : Type 0 where
+pub record IsReadyProcess (script : ScriptView) (relays : ℕ) (setup : Setup) (table : TableId) (j : ReadyProcess) : Type 0 where
   pub plan : Plans script relays setup
-  pub docked : IsDocked table setup j.me j.port
+  pub lawful : IsLawful table setup j.me j.port
   pub none : length (made_in j.port) ≡ 0
   pub within : j.me < script.ranks + relays
 
 -- a job for each port, by its number
-pub record AreJobs (ports : List Berth) (jobs : List Job) : Type 0 where
+pub record AreJobs (ports : List PortView) (jobs : List ReadyProcess) : Type 0 where
   pub count : length jobs ≡ length ports
-  pub each : (i : ℕ) (j : Job) → slice_get jobs i ≡ Some j → (j.me ≡ i) × (slice_get ports i ≡ Some j.port)
+  pub each : (i : ℕ) (j : ReadyProcess) → slice_get jobs i ≡ Some j → (j.me ≡ i) × (slice_get ports i ≡ Some j.port)
 
 -- a process for each number, in order, each of them ready
-pub record AreReady (script : ScriptView) (relays : ℕ) (setup : Setup) (table : TableId) (jobs : List Job) : Type 0 where
+pub record AreReady (script : ScriptView) (relays : ℕ) (setup : Setup) (table : TableId) (jobs : List ReadyProcess) : Type 0 where
   pub plan : Plans script relays setup
   pub count : length jobs ≡ script.ranks + relays
-  pub each : (i : ℕ) (j : Job) → slice_get jobs i ≡ Some j → (j.me ≡ i) × (IsReady script relays setup table j × (j.port.setup ≡ setup))
+  pub each : (i : ℕ) (j : ReadyProcess) → slice_get jobs i ≡ Some j → (j.me ≡ i) × (IsReadyProcess script relays setup table j × (j.port.setup ≡ setup))
 
 abbrev pub lines_in : Worked → List (List ℕ)
 lines_in w = as_text w.lines
 
 -- a rank has worked so; a relay has posted nothing
 pub record IsWorked (script : ScriptView) (relays : ℕ) (setup : Setup) (table : TableId) (me : ℕ) (w : Worked) : Type 0 where
-  pub docked : IsDocked table setup me w.port
+  pub lawful : IsLawful table setup me w.port
   pub rank : me < script.ranks → HasWorked script relays setup me w.port (lines_in w) w.waits
   pub relay : script.ranks ≤ me → made_in w.port ≡ []
 
 -- where a process's gossip ended for the gate, that gives up at one of its first so many steps of some kind
-abbrev pub EndsSo : (ℕ → Step → ℕ → Type 0) → (process turns : ℕ) → GossipEnd → Type 0
-EndsSo gives_up process turns end = end ≡ GaveUp → GivesUpWithin gives_up process turns
+abbrev pub GossipEndsSo : (ℕ → Step → ℕ → Type 0) → (process turns : ℕ) → GossipEnd → Type 0
+GossipEndsSo gives_up process turns end = end ≡ GaveUp → GivesUpWithin gives_up process turns
 
 -- a ledger all of whose shares are one's own, which has seen nothing yet
 abbrev pub IsNewLedger : (all parts before amount : ℕ) → Type 0

@@ -3,22 +3,23 @@ ghost use Rattle.std.specs.Prelude.{◌≡◌, ◌+◌, ◌<◌, [], IfOk, IfSom
 ghost use Rattle.mpx_value.specs.Histories.{answer_with};
 ghost use Rattle.mpx_statement.specs.Statements.{draft_of};
 ghost use Rattle.mpx_rank.specs.Answered.{answer_of};
-ghost use Rattle.mpx_shared.specs.Docks.{IsNext, planned_birth};
+ghost use Rattle.mpx_shared.specs.LawfulPorts.{IsNext, planned_birth};
 ghost use Rattle.mpx_shared.specs.Laws.{IsPlannedResult};
 ghost use Rattle.mpx_threads.specs.Plans.{planned_results};
-ghost use Rattle.mpx_threads.specs.Told.{HearsMore, IsNextGathered, IsNextIn, PostsAs, Tells, on_context, on_either, on_gathering, place_of};
+ghost use Rattle.mpx_threads.specs.ToldCalls.{HearsMore, IsNextGathered, IsNextIn, PostsAs, TellsCall, on_context, on_either, on_gathering, place_of};
 
 use crate::looks::Looks;
 use crate::told::Told;
 use join_core::{Exact, OutOfMemory};
-use mpx_evaluation::line;
+use mpx_birth::Birth;
 use mpx_group::Proc;
+use mpx_meaning::line;
 use mpx_name::Name;
 use mpx_node::Finished;
 use mpx_num::{Listing, Ops};
-use mpx_post::{Birth, PostError};
+use mpx_post::PostError;
 use mpx_rank::{Answered, Carrier, Heard};
-use mpx_shared::{Dock, Poster, SharedPort, Tested, Ticket};
+use mpx_shared::{PortLock, Poster, SharedPort, Ticket, TicketTested};
 use mpx_statement::Posting;
 use mpx_value::Outcome;
 use std::alloc::Global;
@@ -35,7 +36,7 @@ struct Said {
 /// What carries a rank's posts: the port that it shares with its gossip, how it looks for what comes, its right to post, and what it was
 /// told.
 #[derive(Drop)]
-pub(crate) struct ThreadDesk<'a, L: Dock, R: Wait> {
+pub(crate) struct ThreadDesk<'a, L: PortLock, R: Wait> {
     rt: &'a R,
     port: &'a SharedPort<L>,
     looks: &'a Looks<'a>,
@@ -43,9 +44,9 @@ pub(crate) struct ThreadDesk<'a, L: Dock, R: Wait> {
     told: Told<L>,
 }
 
-impl<'a, L: Dock, R: Wait> Model for ThreadDesk<'a, L, R> {
+impl<'a, L: PortLock, R: Wait> Model for ThreadDesk<'a, L, R> {
     ghost use Rattle.std.specs.Prelude.{◌≡◌, true};
-    ghost use Rattle.mpx_threads.specs.Told.{DeskView};
+    ghost use Rattle.mpx_threads.specs.ToldCalls.{DeskView};
 
     ghost Value = { DeskView };
 
@@ -54,7 +55,7 @@ impl<'a, L: Dock, R: Wait> Model for ThreadDesk<'a, L, R> {
     ghost invariant = { λ d. (L.setup.planned ≡ true) × (L.all ≡ L.parts) };
 }
 
-impl<'a, L: Dock, R: Wait> ThreadDesk<'a, L, R> {
+impl<'a, L: PortLock, R: Wait> ThreadDesk<'a, L, R> {
     /// A desk that has posted nothing and was told nothing.
     pub(crate) fn new(
         alloc: Global,
@@ -106,7 +107,7 @@ impl<'a, L: Dock, R: Wait> ThreadDesk<'a, L, R> {
         Ok(None)
     }
 
-    // The same, where it can be had now.
+    // What came of a call, and the birth of its communicator, where both can be had at one look.
     fn answer_now(&self, alloc: Global, ticket: &Ticket) -> Result<Option<Answered>, OutOfMemory>
         ensures { IfOk result (λ found. IfSome found (λ answered. planned_results L.setup L.me ticket.now.name ticket.now.call ≡ Some (answer_of answered))) }
     {
@@ -123,9 +124,9 @@ impl<'a, L: Dock, R: Wait> ThreadDesk<'a, L, R> {
         ensures { IfOk result (λ found. IfSome found (λ finished. IsPlannedResult L.setup L.me ticket.now.name ticket.now.call finished)) }
     {
         match self.port.test(self.rt, alloc, ticket)? {
-            Tested::Done(finished) => Ok(Some(finished)),
-            Tested::NotYet => Ok(None),
-            Tested::Strange => Ok(None),
+            TicketTested::Done(finished) => Ok(Some(finished)),
+            TicketTested::NotYet => Ok(None),
+            TicketTested::Strange => Ok(None),
         }
     }
 
@@ -152,7 +153,7 @@ impl<'a, L: Dock, R: Wait> ThreadDesk<'a, L, R> {
     // The outcome of a call and the communicator that it gave, once it was told before or can be told now.
     fn tell(&mut self, alloc: Global, ticket: &Ticket) -> Result<Option<Said>, OutOfMemory>
         ensures hears { OnOk result (HearsMore self.old self.new) }
-        ensures told { IfOk result (Tells (planned_results L.setup L.me) self.new.0 ticket.now.name ticket.now.call) }
+        ensures told { IfOk result (TellsCall (planned_results L.setup L.me) self.new.0 ticket.now.name ticket.now.call) }
     {
         match self.answer(alloc, ticket)? {
             Some(answered) => {
@@ -166,9 +167,9 @@ impl<'a, L: Dock, R: Wait> ThreadDesk<'a, L, R> {
         }
     }
 
-    // The same of one that was told before.
+    // The outcome of a call that was told before, and the communicator that it gave.
     fn tell_again(&self, alloc: Global, ticket: &Ticket) -> Result<Option<Said>, OutOfMemory>
-        ensures { IfOk result (Tells (planned_results L.setup L.me) self.now.0 ticket.now.name ticket.now.call) }
+        ensures { IfOk result (TellsCall (planned_results L.setup L.me) self.now.0 ticket.now.name ticket.now.call) }
     {
         let Some(answered) = self.told.find(&ticket.name, ticket.call) else {
             return Ok(None);
@@ -179,9 +180,9 @@ impl<'a, L: Dock, R: Wait> ThreadDesk<'a, L, R> {
     }
 }
 
-impl<'a, L: Dock, R: Wait> Carrier for ThreadDesk<'a, L, R> {
+impl<'a, L: PortLock, R: Wait> Carrier for ThreadDesk<'a, L, R> {
     ghost use Rattle.std.specs.Prelude.{◌≡◌, ◌<◌};
-    ghost use Rattle.mpx_threads.specs.Told.{hears_more, hears_nothing, place_of, stays_told, thread_terms};
+    ghost use Rattle.mpx_threads.specs.ToldCalls.{hears_more, hears_nothing, place_of, stays_told, thread_terms};
 
     type Communicator = (Name, Birth);
 
@@ -258,7 +259,7 @@ impl<'a, L: Dock, R: Wait> Carrier for ThreadDesk<'a, L, R> {
 
 // What a statement comes to on a context, once it isn't refused since the board doesn't know yet that the rank is a member: until then it
 // looks.
-fn attempt<L: Dock, R: Wait>(
+fn attempt<L: PortLock, R: Wait>(
     rt: &R,
     alloc: Global,
     port: &SharedPort<L>,
@@ -291,7 +292,7 @@ fn attempt<L: Dock, R: Wait>(
 }
 
 // A post there, or on a gathering of its members.
-fn attempt_now<L: Dock, R: Wait>(
+fn attempt_now<L: PortLock, R: Wait>(
     rt: &R,
     alloc: Global,
     port: &SharedPort<L>,
@@ -326,7 +327,7 @@ fn attempt_now<L: Dock, R: Wait>(
 
 // The next post on a context, by what the statement says. A rank is a member of the context: so a board that doesn't know that yet
 // means not now.
-fn post_on<L: Dock, R: Wait>(
+fn post_on<L: PortLock, R: Wait>(
     rt: &R,
     alloc: Global,
     port: &SharedPort<L>,
@@ -356,7 +357,7 @@ fn post_on<L: Dock, R: Wait>(
 }
 
 // Opens the gathering of these ranks below a context, and posts there.
-fn gather_and_post<L: Dock, R: Wait>(
+fn gather_and_post<L: PortLock, R: Wait>(
     rt: &R,
     alloc: Global,
     port: &SharedPort<L>,
@@ -384,8 +385,8 @@ fn gather_and_post<L: Dock, R: Wait>(
     }
 }
 
-// The same of a tag that a statement has.
-fn post_gathered<L: Dock, R: Wait>(
+// Opens the gathering of these ranks below a context, under the tag of a statement, and posts there.
+fn post_gathered<L: PortLock, R: Wait>(
     rt: &R,
     alloc: Global,
     port: &SharedPort<L>,

@@ -31,7 +31,7 @@ pub trait Gate {
     /// At which of a process's steps of a kind, by its number from 0, the gate may give up.
     ghost gives_up: { Self → ℕ → Step → ℕ → Type 0 };
 
-    /// `nth` counts the process's steps of this kind, from 0.
+    /// Whether this process goes on with its next step of this kind; `nth` counts the process's steps of this kind, from 0.
     fn pass(&self, process: Proc, step: Step, nth: u64) -> Pass
         ensures { result ≡ Pass.GiveUp → gives_up self.now process step nth };
 }

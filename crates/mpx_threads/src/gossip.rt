@@ -10,7 +10,7 @@ use join_core::OutOfMemory;
 use mpx_bus::Bus;
 use mpx_group::Proc;
 use mpx_num::{Listing, Ops};
-use mpx_shared::{Dock, Pull, SharedPort};
+use mpx_shared::{PortLock, Pull, SharedPort};
 use std::alloc::Global;
 use std::sync::Wait;
 
@@ -37,7 +37,7 @@ pub(crate) enum GossipEnd {
 
 /// Gossips until nobody needs it more or can hear anything new, the gate gives up, memory is wanting, or all turns are made. It tells the
 /// rank at its end, and the run to stop where it ended for the gate or for memory.
-pub(crate) fn gossip<L: Dock, G: Gate, R: Wait>(
+pub(crate) fn gossip<L: PortLock, G: Gate, R: Wait>(
     rt: &R,
     alloc: Global,
     bench: &Bench<'_, G>,
@@ -60,7 +60,7 @@ pub(crate) fn gossip<L: Dock, G: Gate, R: Wait>(
     gossiped
 }
 
-fn make_turns<L: Dock, G: Gate, R: Wait>(
+fn make_turns<L: PortLock, G: Gate, R: Wait>(
     rt: &R,
     alloc: Global,
     bench: &Bench<'_, G>,
@@ -89,7 +89,7 @@ fn make_turns<L: Dock, G: Gate, R: Wait>(
 }
 
 // A frame out, and one in, as far as the gate lets them pass.
-fn turn<L: Dock, G: Gate, R: Wait>(
+fn turn<L: PortLock, G: Gate, R: Wait>(
     rt: &R,
     alloc: Global,
     bench: &Bench<'_, G>,

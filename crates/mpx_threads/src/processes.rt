@@ -3,13 +3,13 @@ ghost use Rattle.std.specs.Prelude.{◌≡◌, ◌+◌, ◌≤◌, IfOk, Ok, map
 ghost use Rattle.mpx_num.specs.Own.{operation_of};
 ghost use Rattle.mpx_bus.specs.Buses.{table_of};
 ghost use Rattle.mpx_bus.specs.declared.act.Setup.{Setup};
-ghost use Rattle.mpx_threads.specs.Work.{AreGivenUpBy, AreReady, AreWorked, EndsSo, IsReady, IsWorked};
+ghost use Rattle.mpx_threads.specs.Work.{AreGivenUpBy, AreReady, AreWorked, GossipEndsSo, IsReadyProcess, IsWorked};
 
 use crate::at_once::map_at_once;
 use crate::gate::Gate;
 use crate::gossip::Bench;
 use crate::watch::Watch;
-use crate::worker::{Job, Worked, work};
+use crate::worker::{ReadyProcess, Worked, work};
 use join_core::OutOfMemory;
 use mpx_bus::Bus;
 use mpx_job::Options;
@@ -27,7 +27,7 @@ pub(crate) fn work_all<G: Gate + Sync, R: Threads + Wait + Sync>(
     gate: &G,
     script: &Script,
     options: &Options,
-    jobs: Vec<Job>,
+    jobs: Vec<ReadyProcess>,
     ops: &Ops,
 ) -> Result<Vec<Worked>, OutOfMemory>
     requires ready { (setup : Setup) × (AreReady script.now options.now.relays setup (table_of bus.now) jobs.items × (⟦<Ops as Listing>⟧.operations ops.now ≡ setup.operations)) }
@@ -63,13 +63,13 @@ struct Around<'a, G, R> {
     script: &'a Script,
 }
 
-// The same at what their threads share.
+// Has each process work in a thread of its own, at the bench that all of them share; the threads end before the call does.
 fn work_each<G: Gate + Sync, R: Threads + Wait + Sync>(
     rt: &R,
     alloc: Global,
     bench: &Bench<'_, G>,
     script: &Script,
-    jobs: Vec<Job>,
+    jobs: Vec<ReadyProcess>,
     ops: &Ops,
 ) -> Result<Vec<Worked>, OutOfMemory>
     requires ready { (setup : Setup) × (AreReady script.now bench.now.relays setup (table_of bench.now.bus.now) jobs.items × (⟦<Ops as Listing>⟧.operations ops.now ≡ setup.operations)) }
@@ -85,10 +85,10 @@ fn work_each<G: Gate + Sync, R: Threads + Wait + Sync>(
         script,
     };
     let lent = &Lent { ops };
-    let at_work = |job: Job| -> Result<Worked, OutOfMemory>
-        requires { IsReady around.now.script.now around.now.bench.now.relays job.port.setup (table_of around.now.bench.now.bus.now) job × ((around.now.bench.now.ranks ≡ around.now.script.now.ranks) × ((around.now.bench.now.ranks + around.now.bench.now.relays ≤ 64) × (map (λ b. operation_of (word_bytes (b.vtable, b.value)) (fits_type (b.vtable, b.value)) (combination (b.vtable, b.value))) lent.now.ops.now.list.items ≡ job.port.setup.operations))) }
+    let at_work = |job: ReadyProcess| -> Result<Worked, OutOfMemory>
+        requires { IsReadyProcess around.now.script.now around.now.bench.now.relays job.port.setup (table_of around.now.bench.now.bus.now) job × ((around.now.bench.now.ranks ≡ around.now.script.now.ranks) × ((around.now.bench.now.ranks + around.now.bench.now.relays ≤ 64) × (map (λ b. operation_of (word_bytes (b.vtable, b.value)) (fits_type (b.vtable, b.value)) (combination (b.vtable, b.value))) lent.now.ops.now.list.items ≡ job.port.setup.operations))) }
         ensures worked { IfOk result (λ worked. IsWorked around.entry.now.script.now around.entry.now.bench.now.relays job.port.setup (table_of around.entry.now.bench.now.bus.now) job.me worked) }
-        ensures gate { IfOk result (λ worked. EndsSo (G.gives_up around.entry.now.bench.now.gate.now) job.me around.entry.now.bench.now.turns worked.gossip) }
+        ensures gate { IfOk result (λ worked. GossipEndsSo (G.gives_up around.entry.now.bench.now.gate.now) job.me around.entry.now.bench.now.turns worked.gossip) }
     {
         work(
             around.rt,

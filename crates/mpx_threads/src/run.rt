@@ -1,25 +1,25 @@
 //! A run in threads: its bus, its processes, and what they come to.
 ghost use Rattle.std.specs.Prelude.{◌≡◌, ◌+◌, ◌++◌, ◌∷◌, ◌<◌, ◌≤◌, [], ℕ, IfErr, IfOk, IsTrue, Ok, OnOk, Some, length, map, slice_get};
-ghost use Rattle.mpx_evaluation.specs.Evaluation.{State};
-ghost use Rattle.mpx_evaluation.specs.Reports.{transcripts_of, which};
-ghost use Rattle.mpx_evaluation.specs.Transcripts.{as_text};
+ghost use Rattle.mpx_meaning.specs.Evaluation.{State};
+ghost use Rattle.mpx_meaning.specs.Reports.{transcripts_of, which};
+ghost use Rattle.mpx_meaning.specs.Transcripts.{as_text};
 ghost use Rattle.mpx_system.specs.Runs.{AreWhole, Begin, IsEvaluationOf};
 ghost use Rattle.mpx_bus.specs.Buses.{table_of};
 ghost use Rattle.mpx_bus.specs.declared.act.Setup.{Setup};
 ghost use Rattle.mpx_threads.specs.declared.worker.Worked.{Worked as WorkedView};
 ghost use Rattle.mpx_threads.specs.Gates.{GivesUpAmong};
 ghost use Rattle.mpx_threads.specs.Plans.{Plans};
-ghost use Rattle.mpx_threads.specs.Runs.{IsThreadRun};
+ghost use Rattle.mpx_threads.specs.ThreadRuns.{IsThreadRun};
 ghost use Rattle.mpx_threads.specs.Work.{AreJobs, AreReady, gossip_at, lines_in, waits_at};
 
 use crate::gate::Gate;
 use crate::gossip::GossipEnd;
 use crate::processes::work_all;
-use crate::worker::{Job, Worked};
+use crate::worker::{ReadyProcess, Worked};
 use join_core::OutOfMemory;
 use mpx_bus::{Bus, Named, Port};
-use mpx_evaluation::Report;
 use mpx_job::Options;
+use mpx_meaning::Report;
 use mpx_num::{Listing, Ops};
 use mpx_rank::push_where;
 use mpx_script::Script;
@@ -108,7 +108,7 @@ fn planned_bus(
     script: &Script,
     relays: u8,
     ops: &Ops,
-) -> Result<(Bus, Vec<Job>), OutOfMemory>
+) -> Result<(Bus, Vec<ReadyProcess>), OutOfMemory>
     requires { script.now.ranks + relays ≤ 64 }
     ensures { IfOk result (λ r. (setup : Setup) × (AreReady script.now relays setup (table_of r.0) r.1.items × (⟦<Ops as Listing>⟧.operations ops.now ≡ setup.operations))) }
 {
@@ -116,13 +116,13 @@ fn planned_bus(
     bus_by::<Brand>(alloc, script, relays, ops)
 }
 
-// The same by the setup that the call picks, which reads the operations.
+// The bus, and a job for each process, by the setup that the call picks, which reads the operations.
 fn bus_by<N: Named>(
     alloc: Global,
     script: &Script,
     relays: u8,
     ops: &Ops,
-) -> Result<(Bus, Vec<Job>), OutOfMemory>
+) -> Result<(Bus, Vec<ReadyProcess>), OutOfMemory>
     requires few { script.now.ranks + relays ≤ 64 }
     requires plan { Plans script.now relays N.setup }
     ensures { IfOk result (λ r. AreReady script.now relays N.setup (table_of r.0) r.1.items) }
@@ -135,7 +135,7 @@ fn bus_by<N: Named>(
 }
 
 // A job for each port.
-fn jobs_of(alloc: Global, ports: Vec<Port>) -> Result<Vec<Job>, OutOfMemory>
+fn jobs_of(alloc: Global, ports: Vec<Port>) -> Result<Vec<ReadyProcess>, OutOfMemory>
     ensures { IfOk result (λ jobs. AreJobs ports.items jobs.items) }
 {
     let mut jobs = Vec::new(alloc);
@@ -143,7 +143,7 @@ fn jobs_of(alloc: Global, ports: Vec<Port>) -> Result<Vec<Job>, OutOfMemory>
         let Ok(me) = u8::try_from(jobs.len()) else {
             return Err(OutOfMemory);
         };
-        jobs.push(Job { me, port })?;
+        jobs.push(ReadyProcess { me, port })?;
     }
     Ok(jobs)
 }

@@ -3,13 +3,13 @@ ghost use Rattle.std.specs.Prelude.{◌≡◌, ◌++◌, ◌∷◌, [], IfNone, 
 ghost use Rattle.mpx_node.specs.Shown.{node_of};
 ghost use Rattle.mpx_rank.specs.Answered.{answer_of};
 ghost use Rattle.mpx_threads.specs.Plans.{planned_results};
-ghost use Rattle.mpx_threads.specs.Told.{AllHeld, is_among};
+ghost use Rattle.mpx_threads.specs.ToldCalls.{AllHeld, is_among};
 
 use join_core::{Exact, OutOfMemory};
 use mpx_name::Name;
 use mpx_node::Node;
 use mpx_rank::Answered;
-use mpx_shared::Dock;
+use mpx_shared::PortLock;
 use std::alloc::Global;
 use std::marker::{Model, PhantomData};
 
@@ -23,16 +23,16 @@ pub(crate) struct ToldCall {
 
 /// All that a rank was told of its calls, each as the plan's posts give it.
 #[derive(Drop)]
-pub(crate) struct Told<L: Dock> {
+pub(crate) struct Told<L: PortLock> {
     calls: Vec<ToldCall>,
     of: PhantomData<L>,
 }
 
-impl<L: Dock> Model for Told<L> {
+impl<L: PortLock> Model for Told<L> {
     ghost use Rattle.std.specs.Prelude.{List};
     ghost use Rattle.mpx_threads.specs.declared.told.ToldCall.{ToldCall};
     ghost use Rattle.mpx_threads.specs.Plans.{planned_results};
-    ghost use Rattle.mpx_threads.specs.Told.{AreSo};
+    ghost use Rattle.mpx_threads.specs.ToldCalls.{AreSo};
 
     ghost Value = { List ToldCall };
 
@@ -41,7 +41,7 @@ impl<L: Dock> Model for Told<L> {
     ghost invariant = { λ t. AreSo (planned_results L.setup L.me) t.calls.items };
 }
 
-impl<L: Dock> Told<L> {
+impl<L: PortLock> Told<L> {
     /// Nothing yet.
     pub(crate) fn new(alloc: Global) -> Told<L>
         ensures { result ≡ [] }

@@ -1,10 +1,10 @@
 //! A process of a run: a rank works in two threads over one port, a relay in one.
 ghost use Rattle.std.specs.Prelude.{◌≡◌, ◌+◌, ◌<◌, ◌≤◌, ℕ, IfOk, [], length, map, string_bytes};
 ghost use Rattle.mpx_bus.specs.Buses.{table_of};
-ghost use Rattle.mpx_shared.specs.Docks.{IsDocked, made_in};
+ghost use Rattle.mpx_shared.specs.LawfulPorts.{IsLawful, made_in};
 ghost use Rattle.mpx_threads.specs.Gates.{GivesUpWithin};
 ghost use Rattle.mpx_threads.specs.Plans.{Plans};
-ghost use Rattle.mpx_threads.specs.Work.{EndsSo, HasCome, HasWorked, IsNewLedger, IsReady, IsWorked, lines_in};
+ghost use Rattle.mpx_threads.specs.Work.{GossipEndsSo, HasCome, HasWorked, IsNewLedger, IsReadyProcess, IsWorked, lines_in};
 
 use crate::at_once::both;
 use crate::carry::{Carried, carry_out};
@@ -19,7 +19,7 @@ use mpx_bus::Port;
 use mpx_group::Proc;
 use mpx_num::{Listing, Ops};
 use mpx_script::Script;
-use mpx_shared::{Dock, Poster, SharedPort};
+use mpx_shared::{PortLock, Poster, SharedPort};
 use std::alloc::Global;
 use std::marker::Brand;
 use std::sync::Wait;
@@ -28,7 +28,7 @@ use std::thread::Threads;
 
 /// A process before it works: its number and its port.
 #[derive(Drop)]
-pub(crate) struct Job {
+pub(crate) struct ReadyProcess {
     pub(crate) me: u8,
     pub(crate) port: Port,
 }
@@ -48,13 +48,13 @@ pub(crate) fn work<G: Gate + Sync, R: Threads + Wait + Sync>(
     alloc: Global,
     bench: &Bench<'_, G>,
     script: &Script,
-    job: Job,
+    job: ReadyProcess,
     ops: &Ops,
 ) -> Result<Worked, OutOfMemory>
-    requires { IsReady script.now bench.now.relays job.port.setup (table_of bench.now.bus.now) job × ((bench.now.ranks ≡ script.now.ranks) × ((bench.now.ranks + bench.now.relays ≤ 64) × (⟦<Ops as Listing>⟧.operations ops.now ≡ job.port.setup.operations))) }
-    ensures { IfOk result (λ worked. IsWorked script.now bench.now.relays job.port.setup (table_of bench.now.bus.now) job.me worked × EndsSo (G.gives_up bench.now.gate.now) job.me bench.now.turns worked.gossip) }
+    requires { IsReadyProcess script.now bench.now.relays job.port.setup (table_of bench.now.bus.now) job × ((bench.now.ranks ≡ script.now.ranks) × ((bench.now.ranks + bench.now.relays ≤ 64) × (⟦<Ops as Listing>⟧.operations ops.now ≡ job.port.setup.operations))) }
+    ensures { IfOk result (λ worked. IsWorked script.now bench.now.relays job.port.setup (table_of bench.now.bus.now) job.me worked × GossipEndsSo (G.gives_up bench.now.gate.now) job.me bench.now.turns worked.gossip) }
 {
-    let Job { me, port } = job;
+    let ReadyProcess { me, port } = job;
     if me < bench.ranks {
         work_as_rank::<Brand, G, R>(
             rt,
@@ -72,7 +72,7 @@ pub(crate) fn work<G: Gate + Sync, R: Threads + Wait + Sync>(
 }
 
 // A rank goes on with its statements in one thread, and gossips in the other.
-fn work_as_rank<L: Dock + Send + Sync, G: Gate + Sync, R: Threads + Wait + Sync>(
+fn work_as_rank<L: PortLock + Send + Sync, G: Gate + Sync, R: Threads + Wait + Sync>(
     rt: &R,
     alloc: Global,
     bench: &Bench<'_, G>,
@@ -85,12 +85,12 @@ fn work_as_rank<L: Dock + Send + Sync, G: Gate + Sync, R: Threads + Wait + Sync>
     requires list { ⟦<Ops as Listing>⟧.operations ops.now ≡ L.setup.operations }
     requires ledger { (blank.name ≡ L.name) × ((blank.parts ≡ L.parts) × ((L.all ≡ L.parts) × (0 < L.parts))) }
     requires me { (me ≡ L.me) × (me < script.now.ranks) }
-    requires port { IsDocked L.table L.setup L.me port }
+    requires port { IsLawful L.table L.setup L.me port }
     requires opening { port.journal ≡ L.opening }
     requires new { (L.before ≡ 0) × (length (made_in port) ≡ 0) }
     requires queue { table_of bench.now.bus.now ≡ L.table }
     requires plan { Plans script.now bench.now.relays L.setup }
-    ensures docked { IfOk result (λ worked. IsDocked L.table L.setup L.me worked.port) }
+    ensures lawful { IfOk result (λ worked. IsLawful L.table L.setup L.me worked.port) }
     ensures worked { IfOk result (λ worked. HasWorked script.now bench.now.relays L.setup L.me worked.port (lines_in worked) worked.waits) }
     ensures gate { IfOk result (λ worked. worked.gossip ≡ GossipEnd.GaveUp → GivesUpWithin (G.gives_up bench.now.gate.now) me bench.now.turns) }
 {
@@ -110,7 +110,7 @@ fn work_as_rank<L: Dock + Send + Sync, G: Gate + Sync, R: Threads + Wait + Sync>
 }
 
 // Both at once; where the thread is refused, the run stops.
-fn carry_and_gossip<L: Dock + Send + Sync, G: Gate + Sync, R: Threads + Wait + Sync>(
+fn carry_and_gossip<L: PortLock + Send + Sync, G: Gate + Sync, R: Threads + Wait + Sync>(
     rt: &R,
     alloc: Global,
     bench: &Bench<'_, G>,
@@ -159,7 +159,7 @@ fn carry_and_gossip<L: Dock + Send + Sync, G: Gate + Sync, R: Threads + Wait + S
 
 // A rank's part.
 #[derive(Drop)]
-struct Carrying<'a, L: Dock, G, R> {
+struct Carrying<'a, L: PortLock, G, R> {
     rt: &'a R,
     alloc: Global,
     bench: &'a Bench<'a, G>,
@@ -170,7 +170,7 @@ struct Carrying<'a, L: Dock, G, R> {
     poster: Poster<L>,
 }
 
-impl<'a, L: Dock, G: Gate, R: Wait> Task<Ops> for Carrying<'a, L, G, R> {
+impl<'a, L: PortLock, G: Gate, R: Wait> Task<Ops> for Carrying<'a, L, G, R> {
     type Output = Result<Carried<L>, OutOfMemory>;
 
     ghost can_run = { λ t operations. (operations ≡ L.setup.operations) × (IsNewLedger L.all L.parts L.before t.poster.share.amount × ((t.me ≡ L.me) × ((t.me < t.script.now.ranks) × Plans t.script.now t.bench.now.relays L.setup))) };
@@ -194,7 +194,7 @@ impl<'a, L: Dock, G: Gate, R: Wait> Task<Ops> for Carrying<'a, L, G, R> {
 
 // A process's gossip.
 #[derive(Drop)]
-struct Gossiping<'a, L: Dock, G, R> {
+struct Gossiping<'a, L: PortLock, G, R> {
     rt: &'a R,
     alloc: Global,
     bench: &'a Bench<'a, G>,
@@ -203,12 +203,12 @@ struct Gossiping<'a, L: Dock, G, R> {
     signal: &'a Signal,
 }
 
-impl<'a, L: Dock, G: Gate, R: Wait> Task<Ops> for Gossiping<'a, L, G, R> {
+impl<'a, L: PortLock, G: Gate, R: Wait> Task<Ops> for Gossiping<'a, L, G, R> {
     type Output = Result<GossipEnd, OutOfMemory>;
 
     ghost can_run = { λ t operations. (operations ≡ L.setup.operations) × (table_of t.bench.now.bus.now ≡ L.table) };
 
-    ghost gives = { λ t r. IfOk r (EndsSo (G.gives_up t.bench.now.gate.now) t.me t.bench.now.turns) };
+    ghost gives = { λ t r. IfOk r (GossipEndsSo (G.gives_up t.bench.now.gate.now) t.me t.bench.now.turns) };
 
     fn run(self, ops: &Ops) -> Result<GossipEnd, OutOfMemory> {
         let Gossiping {
@@ -224,7 +224,7 @@ impl<'a, L: Dock, G: Gate, R: Wait> Task<Ops> for Gossiping<'a, L, G, R> {
 }
 
 // The rank's part: it says so when it ends, and stops the run where memory was wanting.
-fn carry<L: Dock, G: Gate, R: Wait>(
+fn carry<L: PortLock, G: Gate, R: Wait>(
     rt: &R,
     alloc: Global,
     bench: &Bench<'_, G>,
@@ -257,7 +257,7 @@ fn carry<L: Dock, G: Gate, R: Wait>(
 }
 
 // The rank's lines beside its port, which holds what they tell; none, if ever it didn't.
-fn with_port<L: Dock>(
+fn with_port<L: PortLock>(
     script: &Script,
     me: Proc,
     port: Port,
@@ -266,7 +266,7 @@ fn with_port<L: Dock>(
     waits: bool,
     told: &Told<L>,
 ) -> Worked
-    requires port { IsDocked L.table L.setup L.me port }
+    requires port { IsLawful L.table L.setup L.me port }
     requires me { me ≡ L.me }
     requires come { HasCome script.now L.setup L.me told.now (length (made_in port)) (map string_bytes lines.items) waits }
     ensures port { result.port ≡ port }
@@ -293,7 +293,7 @@ fn with_port<L: Dock>(
 }
 
 // A relay gossips alone.
-fn work_as_relay<L: Dock, G: Gate, R: Wait>(
+fn work_as_relay<L: PortLock, G: Gate, R: Wait>(
     rt: &R,
     alloc: Global,
     bench: &Bench<'_, G>,
@@ -305,11 +305,11 @@ fn work_as_relay<L: Dock, G: Gate, R: Wait>(
     requires list { ⟦<Ops as Listing>⟧.operations ops.now ≡ L.setup.operations }
     requires ledger { (blank.name ≡ L.name) × ((blank.parts ≡ L.parts) × (L.all ≡ L.parts)) }
     requires me { me ≡ L.me }
-    requires port { IsDocked L.table L.setup L.me port }
+    requires port { IsLawful L.table L.setup L.me port }
     requires opening { port.journal ≡ L.opening }
     requires new { (L.before ≡ 0) × (length (made_in port) ≡ 0) }
     requires queue { table_of bench.now.bus.now ≡ L.table }
-    ensures docked { IfOk result (λ worked. IsDocked L.table L.setup L.me worked.port) }
+    ensures lawful { IfOk result (λ worked. IsLawful L.table L.setup L.me worked.port) }
     ensures none { IfOk result (λ worked. made_in worked.port ≡ []) }
     ensures gate { IfOk result (λ worked. worked.gossip ≡ GossipEnd.GaveUp → GivesUpWithin (G.gives_up bench.now.gate.now) me bench.now.turns) }
 {

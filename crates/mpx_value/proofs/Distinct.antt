@@ -1,12 +1,11 @@
 -- The members of a child differ.
 use Rattle.std.proofs.Common.{◌≡◌, ℕ, ◌<◌, ◌==◌, Bool, false, List, [], ◌∷◌, length, refl, sym}
-use Rattle.std.specs.Prelude.{filter}
 use Rattle.std.proofs.lemmas.Bool.{and_parts, cond_both, eqb-false, ne_eqb, not-true, or_from, or_parts}
 use Rattle.mpx_group.specs.Group.{has, has_twice}
 use Rattle.mpx_group.proofs.Members.{has_twice-filter}
 use Rattle.mpx_birth.specs.Orders.{ordered, placed}
 use Rattle.mpx_birth.proofs.Below.{upto-distinct}
-use Rattle.mpx_post.specs.Births.{upto}
+use Rattle.mpx_birth.specs.Births.{upto}
 use Rattle.mpx_post.specs.Posts.{group_of}
 use Rattle.mpx_post.specs.Rows.{RowView}
 use Rattle.mpx_post.specs.Agreement.{IsFine, post_at}

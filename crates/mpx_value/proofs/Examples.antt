@@ -12,9 +12,9 @@ use Rattle.mpx_post.specs.declared.making.Making.{Making}
 use Rattle.mpx_post.specs.declared.making.Making.TheVariants as M
 use Rattle.mpx_birth.specs.declared.edges.Edge.{Edge}
 use Rattle.mpx_birth.specs.declared.edges.Neighbour.{Neighbour}
-use Rattle.mpx_post.specs.Topologies.{Near, TopologyView}
+use Rattle.mpx_birth.specs.Topologies.{Near, TopologyView}
 use Rattle.mpx_graph.specs.Graphs.{adjacent, general}
-use Rattle.mpx_post.specs.Births.{BirthView, of_members as of, upto}
+use Rattle.mpx_birth.specs.Births.{BirthView, of_members as of, upto}
 use Rattle.mpx_post.specs.Posts.{Given}
 use Rattle.mpx_post.specs.Rows.{RowView}
 use Rattle.mpx_value.specs.declared.outcomes.Outcome.{Outcome}

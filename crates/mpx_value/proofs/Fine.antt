@@ -6,7 +6,7 @@ use Rattle.mpx_match.specs.declared.faults.Verdict.TheVariants as V
 use Rattle.mpx_match.specs.Verdicts.{verdict}
 use Rattle.mpx_match.proofs.FirstFault.{verdict-fine}
 use Rattle.mpx_name.specs.Name.{Name}
-use Rattle.mpx_post.specs.Births.{BirthView}
+use Rattle.mpx_birth.specs.Births.{BirthView}
 use Rattle.mpx_post.specs.Rows.{RowView}
 use Rattle.mpx_post.specs.Agreement.{IsFineWith}
 use Rattle.mpx_value.specs.declared.outcomes.Outcome.{Outcome}

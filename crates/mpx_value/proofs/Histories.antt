@@ -6,7 +6,7 @@ use Rattle.std.proofs.lemmas.Bool.{and_from}
 use Rattle.std.proofs.lemmas.Bool.Decides.{nat_tests}
 use Rattle.mpx_group.specs.Group.{has, has_twice}
 use Rattle.mpx_name.specs.Name.{Name}
-use Rattle.mpx_post.specs.Births.{BirthView, of_members}
+use Rattle.mpx_birth.specs.Births.{BirthView, of_members}
 use Rattle.mpx_post.specs.Gatherings.{GatheringView, gathering}
 use Rattle.mpx_post.proofs.Gatherings.{gathers, some_is_more}
 use Rattle.mpx_value.specs.declared.outcomes.Outcome.{Outcome}

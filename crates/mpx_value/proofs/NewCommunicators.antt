@@ -23,8 +23,8 @@ use Rattle.mpx_kind.specs.declared.kinds.NewCommunicator.{NewCommunicator}
 use Rattle.mpx_kind.specs.declared.kinds.NewCommunicator.TheVariants as N
 use Rattle.mpx_post.specs.declared.value.Value.{Value}
 use Rattle.mpx_post.specs.declared.value.Value.TheVariants as G
-use Rattle.mpx_post.specs.Births.{BirthView, rank_in, upto}
-use Rattle.mpx_post.specs.Kinds.{family_of}
+use Rattle.mpx_birth.specs.Births.{BirthView, rank_in, upto}
+use Rattle.mpx_kind.specs.Kinds.{family_of}
 use Rattle.mpx_post.specs.Posts.{colour_of}
 use Rattle.mpx_post.specs.Rows.{RowView}
 use Rattle.mpx_post.specs.Agreement.{first_of}

@@ -13,7 +13,7 @@ use Rattle.mpx_group.specs.Group.{has}
 use Rattle.mpx_group.proofs.Members.{length_distinct}
 use Rattle.mpx_name.specs.declared.steps.Step.TheVariants.{Child}
 use Rattle.mpx_name.specs.Name.{Name}
-use Rattle.mpx_post.specs.Births.{BirthView, upto}
+use Rattle.mpx_birth.specs.Births.{BirthView, upto}
 use Rattle.mpx_post.specs.Posts.{colour_of, group_of, nothing_given}
 use Rattle.mpx_post.specs.Rows.{RowView}
 use Rattle.mpx_post.specs.Agreement.{IsFine, post_at}

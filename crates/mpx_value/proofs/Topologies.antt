@@ -1,7 +1,7 @@
 -- The topology of a row has as many ranks as the row has posts.
 use Rattle.std.proofs.Common.{◌≡◌, ◌∙◌, length}
 use Rattle.std.proofs.lemmas.List.{length-map}
-use Rattle.mpx_post.specs.Births.{upto}
+use Rattle.mpx_birth.specs.Births.{upto}
 use Rattle.mpx_post.specs.Rows.{RowView}
 use Rattle.mpx_graph.specs.Graphs.{adjacent, all_edges, general, near_among, near_given}
 use Rattle.mpx_value.proofs.Rising.{length-upto}

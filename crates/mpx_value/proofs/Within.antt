@@ -15,10 +15,10 @@ use Rattle.mpx_kind.specs.declared.kinds.Family.{Family}
 use Rattle.mpx_kind.specs.declared.kinds.Family.TheVariants as F
 use Rattle.mpx_kind.specs.declared.kinds.NewCommunicator.{NewCommunicator}
 use Rattle.mpx_kind.specs.declared.kinds.NewCommunicator.TheVariants as N
-use Rattle.mpx_post.specs.Births.{BirthView, upto}
-use Rattle.mpx_post.specs.Topologies.{TopologyView}
+use Rattle.mpx_birth.specs.Births.{BirthView, upto}
+use Rattle.mpx_birth.specs.Topologies.{TopologyView}
 use Rattle.mpx_graph.specs.Graphs.{adjacent, general}
-use Rattle.mpx_post.specs.Kinds.{family_of}
+use Rattle.mpx_kind.specs.Kinds.{family_of}
 use Rattle.mpx_post.specs.Posts.{group_of}
 use Rattle.mpx_post.specs.Rows.{RowView}
 use Rattle.mpx_post.specs.Agreement.{IsFine, first_of, post_at}

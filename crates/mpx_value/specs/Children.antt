@@ -11,9 +11,9 @@ use Rattle.mpx_kind.specs.declared.kinds.Family.{Family}
 use Rattle.mpx_kind.specs.declared.kinds.Family.TheVariants as F
 use Rattle.mpx_kind.specs.declared.kinds.NewCommunicator.{NewCommunicator}
 use Rattle.mpx_kind.specs.declared.kinds.NewCommunicator.TheVariants as N
-use Rattle.mpx_post.specs.Kinds.{family_of, makes_communicators}
-use Rattle.mpx_post.specs.Births.{BirthView, of_members, rank_in, upto}
-use Rattle.mpx_post.specs.Topologies.{TopologyView}
+use Rattle.mpx_kind.specs.Kinds.{family_of, makes_communicators}
+use Rattle.mpx_birth.specs.Births.{BirthView, of_members, rank_in, upto}
+use Rattle.mpx_birth.specs.Topologies.{TopologyView}
 use Rattle.mpx_graph.specs.Graphs.{adjacent, general}
 use Rattle.mpx_post.specs.Posts.{colour_of, group_of, key_of}
 use Rattle.mpx_post.specs.Rows.{RowView}
@@ -146,8 +146,8 @@ abbrev pub AreOfTheirColours : List Operation → BirthView → RowView → Name
 AreOfTheirColours ops birth row name call = (place : ℕ) (x : ChildView) → slice_get (children ops birth row name call) place ≡ Some x → child ops birth row name call x.colour ≡ Some x.birth
 
 -- the child's members are members of the communicator
-abbrev pub IsWithin : BirthView → ChildView → Type 0
-IsWithin birth x = All (λ p. has birth.members p ≡ true) x.birth.members
+abbrev pub IsChildWithin : BirthView → ChildView → Type 0
+IsChildWithin birth x = All (λ p. has birth.members p ≡ true) x.birth.members
 
 -- a communicator with this name and size, in which the process has this rank, is one of what the call makes
 pub record IsNewCommunicator (ops : List Operation) (birth : BirthView) (row : RowView) (name : Name) (call process : ℕ) (new : Name) (size rank : ℕ) : Type 0 where

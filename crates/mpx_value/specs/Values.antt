@@ -14,9 +14,9 @@ use Rattle.mpx_post.specs.declared.value.Value.{Value}
 use Rattle.mpx_post.specs.declared.value.Value.TheVariants as G
 use Rattle.mpx_kind.specs.declared.kinds.Family.{Family}
 use Rattle.mpx_kind.specs.declared.kinds.Family.TheVariants as F
-use Rattle.mpx_post.specs.Kinds.{family_of}
+use Rattle.mpx_kind.specs.Kinds.{family_of}
 use Rattle.mpx_name.specs.Name.{Name}
-use Rattle.mpx_post.specs.Births.{BirthView, rank_in}
+use Rattle.mpx_birth.specs.Births.{BirthView, rank_in}
 use Rattle.mpx_post.specs.Rows.{RowView}
 use Rattle.mpx_post.specs.Agreement.{first_of}
 use Rattle.mpx_value.specs.declared.outcomes.Outcome.{Outcome}

@@ -1,23 +1,26 @@
-// Which communicators a call makes.
+//! Which communicators a call makes.
 ghost use Rattle.std.specs.Prelude.{◌≡◌, ◌<◌, ◌≤◌, ◌^◌, ◌∷◌, IfOk, OnErr, false, length};
 ghost use Rattle.std.specs.List.{All};
 ghost use Rattle.mpx_group.specs.Group.{has_twice};
 ghost use Rattle.mpx_name.specs.declared.steps.Step.TheVariants.{Child};
-ghost use Rattle.mpx_post.specs.Agreement.{IsFine};
-ghost use Rattle.mpx_post.specs.Births.{of_members};
+ghost use Rattle.mpx_post.specs.Agreement.{IsFine, first_of};
+ghost use Rattle.mpx_birth.specs.Births.{of_members};
 ghost use Rattle.mpx_post.specs.Drafts.{most_calls, most_steps};
+ghost use Rattle.mpx_kind.specs.Kinds.{family_of};
 ghost use Rattle.mpx_graph.specs.Graphs.{adjacent, general};
 ghost use Rattle.mpx_value.specs.Children.{MakesSome, children, children_made, has_room as has_room_for, named_children, only_child, processes, with_topology};
 
 use crate::groups::created;
 use crate::splits::split;
 use join_core::{Exact, OutOfMemory};
+use mpx_birth::Birth;
 use mpx_graph::{topology_adjacent, topology_general};
 use mpx_group::Proc;
+use mpx_kind::{Family, NewCommunicator};
 use mpx_match::{Verdict, verdict};
 use mpx_name::{Name, NameError};
 use mpx_num::{Listing, Ops};
-use mpx_post::{Birth, Family, NewCommunicator, Row};
+use mpx_post::Row;
 use std::alloc::Global;
 
 // So many steps a name has at most.
@@ -40,15 +43,14 @@ pub fn children(
     ensures made { IfOk result (λ made. made.items ≡ named_children name.now call (children (⟦<Ops as Listing>⟧.operations ops.now) birth.now row.now name.now call)) }
     ensures memory { OnErr result (MakesSome (⟦<Ops as Listing>⟧.operations ops.now) birth.now row.now name.now) }
 {
-    prove!(0 < row.len());
-    if !row.post(0).kind().makes_communicators() {
+    let Family::NewCommunicator(new) = row.family() else {
         return Ok(Vec::new(alloc));
-    }
+    };
     match verdict(birth, row, ops) {
         Verdict::Fault(_) => Ok(Vec::new(alloc)),
         Verdict::Fine => {
             if has_room(name) {
-                made(alloc, birth, row, name, call)
+                made(alloc, birth, row, new, name, call)
             } else {
                 Ok(Vec::new(alloc))
             }
@@ -63,44 +65,37 @@ pub(crate) fn has_room(name: &Name) -> bool
     name.depth() < MOST_STEPS
 }
 
-// What a fine row makes.
+// What a fine row of this kind makes.
 pub(crate) fn made(
     alloc: Global,
     birth: &Birth,
     row: &Row<'_>,
+    new: NewCommunicator,
     name: &Name,
     call: u32,
 ) -> Result<Vec<(Name, Birth)>, OutOfMemory>
     requires fine { IsFine row.now }
+    requires family { family_of (first_of row.now).kind ≡ Family.NewCommunicator new }
     requires room { length name.now < most_steps }
     requires members { length row.now ≡ length birth.now.members }
     requires call { call < most_calls }
     ensures { IfOk result (λ made. made.items ≡ named_children name.now call (children_made birth.now row.now)) }
 {
-    prove!(0 < row.len());
-    match row.post(0).kind().family() {
-        Family::Exchange(_) => Ok(Vec::new(alloc)),
-        Family::Reduction(_) => Ok(Vec::new(alloc)),
-        Family::Neighbourhood(_) => Ok(Vec::new(alloc)),
-        Family::Free => Ok(Vec::new(alloc)),
-        Family::NewCommunicator(new) => match new {
-            NewCommunicator::Dup => only_child(alloc, birth.copy(alloc)?, name, call),
-            NewCommunicator::Split => split(alloc, birth, row, name, call),
-            NewCommunicator::Create => created(alloc, birth, row, name, call),
-            NewCommunicator::CreateGroup => {
-                only_child(alloc, birth.without_topology()?, name, call)
-            }
-            NewCommunicator::DistGraph => {
-                only_child(alloc, general_graph(alloc, birth, row)?, name, call)
-            }
-            NewCommunicator::DistGraphAdjacent => {
-                only_child(alloc, adjacent_graph(alloc, birth, row)?, name, call)
-            }
-        },
+    match new {
+        NewCommunicator::Dup => only_child(alloc, birth.copy(alloc)?, name, call),
+        NewCommunicator::Split => split(alloc, birth, row, name, call),
+        NewCommunicator::Create => created(alloc, birth, row, name, call),
+        NewCommunicator::CreateGroup => only_child(alloc, birth.without_topology()?, name, call),
+        NewCommunicator::DistGraph => {
+            only_child(alloc, general_graph(alloc, birth, row)?, name, call)
+        }
+        NewCommunicator::DistGraphAdjacent => {
+            only_child(alloc, adjacent_graph(alloc, birth, row)?, name, call)
+        }
     }
 }
 
-// The same members with the topology of all edges that they give.
+// The birth of the general graph: the members, with the topology of all edges that they give.
 fn general_graph(alloc: Global, birth: &Birth, row: &Row<'_>) -> Result<Birth, OutOfMemory>
     requires fine { IsFine row.now }
     requires members { length row.now ≡ length birth.now.members }
@@ -110,7 +105,7 @@ fn general_graph(alloc: Global, birth: &Birth, row: &Row<'_>) -> Result<Birth, O
     birth.with_topology(topology)
 }
 
-// The same members with the topology of the neighbours that each names as its own.
+// The birth of the adjacent graph: the members, with the topology of the neighbours that each names as its own.
 fn adjacent_graph(alloc: Global, birth: &Birth, row: &Row<'_>) -> Result<Birth, OutOfMemory>
     requires fine { IsFine row.now }
     requires members { length row.now ≡ length birth.now.members }

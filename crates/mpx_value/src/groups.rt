@@ -1,4 +1,4 @@
-// The communicator of a group that its members give.
+//! The communicator of a group that its members give.
 ghost use Rattle.std.specs.Prelude.{◌≡◌, ◌<◌, IfOk, length};
 ghost use Rattle.mpx_post.specs.Agreement.{IsFine};
 ghost use Rattle.mpx_post.specs.Drafts.{most_calls, most_steps};
@@ -6,8 +6,9 @@ ghost use Rattle.mpx_value.specs.Children.{created, leads as leads_group, named_
 
 use crate::births::{child, processes};
 use join_core::OutOfMemory;
+use mpx_birth::Birth;
 use mpx_name::Name;
-use mpx_post::{Birth, Row};
+use mpx_post::Row;
 use std::alloc::Global;
 
 // The communicators of `MPI_COMM_CREATE`: one for each group, which the first of its members leads.

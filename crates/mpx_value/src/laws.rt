@@ -1,11 +1,11 @@
-// What is so of all communicators that a call makes.
+//! What is so of all communicators that a call makes.
 ghost use Rattle.std.specs.Prelude.{◌≡◌, ◌<◌, ℕ, List, length};
 ghost use Rattle.std.specs.List.{All, AllPairs};
 ghost use Rattle.mpx_name.specs.Name.{Name};
 ghost use Rattle.mpx_num.specs.declared.own.Operation.{Operation};
-ghost use Rattle.mpx_post.specs.Births.{BirthView};
+ghost use Rattle.mpx_birth.specs.Births.{BirthView};
 ghost use Rattle.mpx_post.specs.Rows.{RowView};
-ghost use Rattle.mpx_value.specs.Children.{AreOfTheirColours, ChildView, IsWithin, children};
+ghost use Rattle.mpx_value.specs.Children.{AreOfTheirColours, ChildView, IsChildWithin, children};
 ghost use Rattle.mpx_value.specs.Histories.{GivesItsChildren};
 
 /// The communicators that a call makes have different colours, in rising order, and each is the one of its colour.
@@ -16,7 +16,7 @@ pub fn children_are_told_apart()
 
 /// The members of the communicators that a call makes are members of its communicator.
 pub fn children_are_within()
-    ensures { (ops : List Operation) (birth : BirthView) (row : RowView) (name : Name) (call : ℕ) → length row ≡ length birth.members → All (IsWithin birth) (children ops birth row name call) }
+    ensures { (ops : List Operation) (birth : BirthView) (row : RowView) (name : Name) (call : ℕ) → length row ≡ length birth.members → All (IsChildWithin birth) (children ops birth row name call) }
 {}
 
 /// A new communicator that a process gets is one that the call makes, with its size, and has the process at this rank.

@@ -1,4 +1,4 @@
-// What a call gives a member: nothing, items, or a communicator.
+//! What a call gives a member: nothing, items, or a communicator.
 ghost use Rattle.std.specs.Prelude.{◌≡◌, IfOk};
 
 use join_core::{Exact, OutOfMemory};
@@ -25,7 +25,7 @@ pub enum Outcome {
 }
 
 impl Outcome {
-    /// The same outcome once more, whose items are shared.
+    /// A copy, which shares the items.
     pub fn copy(&self, alloc: Global) -> Result<Outcome, OutOfMemory>
         ensures { IfOk result (λ copied. copied ≡ self.now) }
     {

@@ -1,20 +1,23 @@
-// What a call gives each member.
+//! What a call gives each member.
 ghost use Rattle.std.specs.Prelude.{◌≡◌, ◌<◌, length};
-ghost use Rattle.mpx_post.specs.Agreement.{AllSuit, IsFine, IsFineWith};
+ghost use Rattle.mpx_post.specs.Agreement.{AllSuit, IsFine, IsFineWith, first_of};
 ghost use Rattle.mpx_post.specs.Drafts.{most_calls};
+ghost use Rattle.mpx_kind.specs.Kinds.{family_of};
 ghost use Rattle.mpx_value.specs.Values.{GivesOutcome, given_to, new_communicator, outcome_of, told, value};
 
 use crate::births::{has_room, made};
 use crate::outcomes::Outcome;
 use join_core::OutOfMemory;
+use mpx_birth::Birth;
 use mpx_fold::fold_value;
 use mpx_group::Proc;
+use mpx_kind::{Family, NewCommunicator};
 use mpx_match::{Fault, FaultKind, Verdict, verdict};
 use mpx_move::move_value;
 use mpx_name::Name;
 use mpx_neigh::neigh_value;
 use mpx_num::{Listing, Ops};
-use mpx_post::{Birth, Family, Row, Value};
+use mpx_post::{Row, Value};
 use std::alloc::Global;
 
 /// What the call with this number on a context with this name and birth, of which this is the row of posts, gives the
@@ -57,13 +60,13 @@ fn given_to(
     requires call { call < most_calls }
     ensures { GivesOutcome (given_to (⟦<Ops as Listing>⟧.operations ops.now) birth.now row.now name.now call rank) result }
 {
-    match row.post(0).kind().family() {
+    match row.family() {
         Family::Exchange(_) => Ok(outcome_of(move_value(alloc, row, rank)?)),
         Family::Reduction(_) => Ok(outcome_of(fold_value(alloc, row, rank, ops)?)),
         Family::Neighbourhood(_) => Ok(outcome_of(neigh_value(alloc, birth, row, rank)?)),
-        Family::NewCommunicator(_) => {
+        Family::NewCommunicator(new) => {
             let process = birth.members()[usize::from(rank)];
-            new_communicator(alloc, birth, row, name, call, process)
+            new_communicator(alloc, birth, row, new, name, call, process)
         }
         Family::Free => Ok(Outcome::Nothing),
     }
@@ -84,17 +87,19 @@ fn new_communicator(
     alloc: Global,
     birth: &Birth,
     row: &Row<'_>,
+    new: NewCommunicator,
     name: &Name,
     call: u32,
     process: Proc,
 ) -> Result<Outcome, OutOfMemory>
     requires fine { IsFine row.now }
+    requires family { family_of (first_of row.now).kind ≡ Family.NewCommunicator new }
     requires members { length row.now ≡ length birth.now.members }
     requires call { call < most_calls }
     ensures { GivesOutcome (new_communicator birth.now row.now name.now call process) result }
 {
     if has_room(name) {
-        Ok(told(made(alloc, birth, row, name, call)?, process))
+        Ok(told(made(alloc, birth, row, new, name, call)?, process))
     } else {
         Ok(Outcome::Fault(Fault {
             what: FaultKind::Amount,

@@ -9,8 +9,8 @@ use Rattle.mpx_name.specs.Order.{name_cmp}
 use Rattle.mpx_board.specs.Looks.{parts_of}
 use Rattle.mpx_board.specs.Parts.{PartsView}
 use Rattle.mpx_board.specs.declared.board.Board.{Board}
-use Rattle.mpx_format.specs.declared.faults.WireError.{WireError}
-use Rattle.mpx_format.specs.declared.faults.WireError.TheVariants as E
+use Rattle.mpx_format.specs.declared.defects.WireError.{WireError}
+use Rattle.mpx_format.specs.declared.defects.WireError.TheVariants as E
 use Rattle.mpx_format.specs.declared.versions.Version.{Version}
 use Rattle.mpx_format.specs.declared.versions.Version.TheVariants.{Two}
 use Rattle.mpx_format.specs.Format.{byte, number, many_fit}

@@ -2,9 +2,9 @@
 use Rattle.std.specs.Prelude.{◌≡◌, Result, Ok, Err}
 use Rattle.mpx_board.specs.Looks.{parts_of}
 use Rattle.mpx_board.specs.declared.board.Board.{Board}
-use Rattle.mpx_format.specs.declared.faults.Fault.TheVariants.{BadMagic}
-use Rattle.mpx_format.specs.declared.faults.WireError.{WireError}
-use Rattle.mpx_format.specs.declared.faults.WireError.TheVariants as E
+use Rattle.mpx_format.specs.declared.defects.Defect.TheVariants.{BadMagic}
+use Rattle.mpx_format.specs.declared.defects.WireError.{WireError}
+use Rattle.mpx_format.specs.declared.defects.WireError.TheVariants as E
 use Rattle.mpx_format.specs.declared.versions.Version.{Version}
 use Rattle.mpx_format.specs.Codes.{version_byte}
 use Rattle.mpx_format.specs.Format.{Format, mark}

@@ -1,4 +1,4 @@
-// Frames to boards.
+//! Reading whole frames, into boards of their own or joined to another.
 ghost use Rattle.std.specs.Prelude.{◌≡◌, IfOk, IfErr, Ok, OnErr, OnOk};
 ghost use Rattle.mpx_board.specs.Boards.{IsBetween, join};
 ghost use Rattle.mpx_board.specs.Contexts.{look_of};
@@ -13,11 +13,11 @@ ghost use Rattle.mpx_wire.specs.Reading.{front};
 use join_core::{Exact, OutOfMemory};
 use mpx_board::{Board, Parts};
 use mpx_decode::{read_parts, read_version, take_parts};
-use mpx_format::{Fault, ReadError, SHORT, Version, WireError, placed};
+use mpx_format::{Defect, ReadError, SHORT, Version, WireError, placed};
 use std::alloc::Global;
 
 // This byte; else the fault.
-fn read_mark(wrong: Fault, mark: u8, bytes: &[u8]) -> Result<&[u8], ReadError>
+fn read_mark(wrong: Defect, mark: u8, bytes: &[u8]) -> Result<&[u8], ReadError>
     ensures { Gives (λ x. x.now) result (mark_at wrong mark bytes.now) }
 {
     match bytes {
@@ -26,7 +26,7 @@ fn read_mark(wrong: Fault, mark: u8, bytes: &[u8]) -> Result<&[u8], ReadError>
             if *b == mark {
                 Ok(rest)
             } else {
-                Err(ReadError::Fault(wrong))
+                Err(ReadError::Defect(wrong))
             }
         }
     }
@@ -45,10 +45,10 @@ fn read_versioned(alloc: Global, bytes: &[u8]) -> Result<((Version, Parts), &[u8
 fn read_frame(alloc: Global, bytes: &[u8]) -> Result<((Version, Parts), &[u8]), ReadError>
     ensures { Gives (λ x. ((x.0.0, ⟦<Parts as Exact>⟧.view x.0.1), x.1.now)) result (frame.read bytes.now) }
 {
-    let rest = read_mark(Fault::BadMagic, 0x4d, bytes)?;
-    let rest = read_mark(Fault::BadMagic, 0x50, rest)?;
-    let rest = read_mark(Fault::BadMagic, 0x58, rest)?;
-    let rest = read_mark(Fault::BadMagic, 0x47, rest)?;
+    let rest = read_mark(Defect::BadMagic, 0x4d, bytes)?;
+    let rest = read_mark(Defect::BadMagic, 0x50, rest)?;
+    let rest = read_mark(Defect::BadMagic, 0x58, rest)?;
+    let rest = read_mark(Defect::BadMagic, 0x47, rest)?;
     read_versioned(alloc, rest)
 }
 
@@ -68,15 +68,19 @@ fn parts_of(alloc: Global, bytes: &[u8]) -> Result<Parts, WireError>
             if rest.is_empty() {
                 Ok(parts)
             } else {
-                Err(placed(bytes.len(), Fault::NotCanonical(rest.len())))
+                Err(placed(bytes.len(), Defect::NotCanonical(rest.len())))
             }
         }
         Err(ReadError::OutOfMemory) => Err(WireError::OutOfMemory),
-        Err(ReadError::Fault(fault)) => Err(placed(bytes.len(), fault)),
+        Err(ReadError::Defect(fault)) => Err(placed(bytes.len(), fault)),
     }
 }
 
 /// The board that the bytes spell, in version 1 or 2.
+///
+/// # Errors
+/// `TooLong` over 1,048,576 bytes; else that of the first field that is wrong, `OutOfLimits` and `NotCanonical` with the offset of
+/// its first byte; `OutOfMemory` where memory is refused.
 pub fn decode(alloc: Global, bytes: &[u8]) -> Result<Board, WireError>
     // What is decoded is spelled so in some version, each byte of it.
     ensures found { IfOk result (λ board. IsSpelled bytes.now (parts_of board)) }
@@ -90,8 +94,9 @@ pub fn decode(alloc: Global, bytes: &[u8]) -> Result<Board, WireError>
 }
 
 /// Joins the board that these bytes spell to the board, in place, as [`decode`] and then [`Board::take`] do, without a board of
-/// its own for what they say: the numbers of acknowledgements are raised as they are read. An `Err` leaves a board between the old
-/// one and the join, each fact of which is one of the board, of the spelled one or of their join.
+/// its own for what they say: the numbers of acknowledgements are raised as they are read. That they spell one is the caller's
+/// condition. An `Err`, for want of memory, leaves a board between the old one and the join, each fact of which is one of the board,
+/// of the spelled one or of their join.
 pub fn take_spelled(alloc: Global, board: &mut Board, bytes: &[u8]) -> Result<(), OutOfMemory>
     requires { (v : PartsView) × IsSpelled bytes.now v }
     ensures ok { OnOk result ((v : PartsView) → IsSpelled bytes.now v → look board.new ≡ join (look board.old) (look_of v)) }
@@ -110,9 +115,9 @@ pub fn take_spelled(alloc: Global, board: &mut Board, bytes: &[u8]) -> Result<()
 fn read_front(bytes: &[u8]) -> Result<(Version, &[u8]), ReadError>
     ensures { Gives (λ x. (x.0, x.1.now)) result (front.read bytes.now) }
 {
-    let rest = read_mark(Fault::BadMagic, 0x4d, bytes)?;
-    let rest = read_mark(Fault::BadMagic, 0x50, rest)?;
-    let rest = read_mark(Fault::BadMagic, 0x58, rest)?;
-    let rest = read_mark(Fault::BadMagic, 0x47, rest)?;
+    let rest = read_mark(Defect::BadMagic, 0x4d, bytes)?;
+    let rest = read_mark(Defect::BadMagic, 0x50, rest)?;
+    let rest = read_mark(Defect::BadMagic, 0x58, rest)?;
+    let rest = read_mark(Defect::BadMagic, 0x47, rest)?;
     read_version(rest)
 }

@@ -1,8 +1,8 @@
-// What follows from the contracts of both ways, as a call that does nothing.
+//! What follows from the contracts of both ways, as a call that does nothing.
 ghost use Rattle.std.specs.Prelude.{◌≡◌, List, Result, false, length, ℕ};
 ghost use Rattle.mpx_board.specs.Looks.{parts_of};
 ghost use Rattle.mpx_board.specs.declared.board.Board.{Board};
-ghost use Rattle.mpx_format.specs.declared.faults.WireError.{WireError};
+ghost use Rattle.mpx_format.specs.declared.defects.WireError.{WireError};
 ghost use Rattle.mpx_format.specs.declared.versions.Version.{Version};
 ghost use Rattle.mpx_format.specs.declared.versions.Version.TheVariants.{Two};
 ghost use Rattle.mpx_format.specs.Decoding.{Decodes, Spells, decoded};

@@ -1,6 +1,8 @@
-//! Frames: boards as bytes. Which bytes spell a board is said in `mpx_format`; [`encode`] writes them and [`frame_len`] tells how
-//! many there are, both handed on from `mpx_encode`, and [`decode`] reads them, by the readers of `mpx_decode`; [`take_spelled`] joins what they say to a board as it reads them; that what one writes
-//! the other reads back as the same board is said by [`boards_are_read_back`].
+//! Frames: boards as bytes.
+//!
+//! Which bytes spell a board is said in `mpx_format`; [`encode`] writes them and [`frame_len`] tells how many there are, both handed
+//! on from `mpx_encode`, and [`decode`] reads them, by the readers of `mpx_decode`; [`take_spelled`] joins what they say to a board
+//! as it reads them. That what one writes the other reads back as the same board is said by [`boards_are_read_back`].
 #![tactic(auto)]
 
 mod decoding;

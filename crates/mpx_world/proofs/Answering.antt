@@ -4,7 +4,7 @@ use Rattle.std.specs.Prelude.{slice_get, is_some, IsTrue, Result, Ok, Err, IfOk}
 use Rattle.join_core.specs.declared.memory.OutOfMemory.{OutOfMemory}
 use Rattle.mpx_name.specs.Name.{Name}
 use Rattle.mpx_num.specs.declared.own.Operation.{Operation}
-use Rattle.mpx_board.specs.Boards.{Look, IsBelow}
+use Rattle.mpx_board.specs.Boards.{Look, IsBoardBelow}
 use Rattle.mpx_board.proofs.Facts.{below_through, join_is_least}
 use Rattle.mpx_node.specs.declared.finished.Finished.{Finished}
 use Rattle.mpx_node.specs.declared.node.Harvest.{Harvest}
@@ -12,7 +12,7 @@ use Rattle.mpx_node.specs.declared.node.Harvest.TheVariants as H
 use Rattle.mpx_node.specs.Harvests.{Harvests as AnswersHarvest, HarvestsOpened}
 use Rattle.mpx_node.specs.Nodes.{NodeView, add_result, front_on, learn, next_result, posted_on}
 use Rattle.mpx_world.specs.Worlds.{ProcessView, WorldView, Harvests, happens, harvests, made_next, start, stores}
-use Rattle.mpx_world.specs.Networks.{GoesOn, IsNetwork, Network, network_of, world_in}
+use Rattle.mpx_world.specs.Networks.{NetworkGoesOn, IsNetwork, Network, network_of, world_in}
 use Rattle.mpx_world.specs.Enough.{AnswerDone, AnswerDoneUpTo, AreDone, HasAllOf, IsEnough, StandOn, TellAll, WasNode, was_in}
 use Rattle.mpx_world.proofs.Later.{later_goes_on, later_happens}
 use Rattle.mpx_world.proofs.Steps.{at_here}
@@ -55,21 +55,21 @@ enough_in n s p node at name k h count l =
 pub is_now : (n : Network) → IsNetwork n → (q : ℕ) (node : NodeView) → slice_get n.nodes q ≡ Some node → WasNode n q node
 is_now n s q node at = record { moment = world_in n; was = record { early = n.happenings; late = []; all = append-nil n.happenings; is = refl }; is = s.each q node at }
 
-pub was_since : (n : Network) (nodes : List NodeView) (parts : List Look) (on : GoesOn n nodes parts) (q : ℕ) (node : NodeView) → WasNode n q node → WasNode (network_of on) q node
+pub was_since : (n : Network) (nodes : List NodeView) (parts : List Look) (on : NetworkGoesOn n nodes parts) (q : ℕ) (node : NodeView) → WasNode n q node → WasNode (network_of on) q node
 was_since n nodes parts on q node h = record {
   moment = h.moment;
   was = record { early = h.was.early; late = h.was.late ++ on.later; all = sym (append_assoc h.was.early h.was.late on.later) ∙ ap (λ hs. hs ++ on.later) h.was.all; is = h.was.is };
   is = h.is;
 }
 
-pub learned_stands : (old new : NodeView) (part : Look) → new ≡ learn part old → IsBelow part new.board
-learned_stands old new part is = subst (λ (x : NodeView). IsBelow part x.board) (sym is) (join_is_least old.board part).right
+pub learned_stands : (old new : NodeView) (part : Look) → new ≡ learn part old → IsBoardBelow part new.board
+learned_stands old new part is = subst (λ (x : NodeView). IsBoardBelow part x.board) (sym is) (join_is_least old.board part).right
 
-pub stands_later : (n : Network) (nodes : List NodeView) (parts : List Look) → IsNetwork n → GoesOn n nodes parts → (p : ℕ) (old new : NodeView) → slice_get n.nodes p ≡ Some old → slice_get nodes p ≡ Some new → (part : Look) → IsBelow part old.board → IsBelow part new.board
+pub stands_later : (n : Network) (nodes : List NodeView) (parts : List Look) → IsNetwork n → NetworkGoesOn n nodes parts → (p : ℕ) (old new : NodeView) → slice_get n.nodes p ≡ Some old → slice_get nodes p ≡ Some new → (part : Look) → IsBoardBelow part old.board → IsBoardBelow part new.board
 stands_later n nodes parts s on p old new at now part below =
     let grown = ((later_on n nodes parts on).kept p).board_kept in
     below_through part old.board new.board below
-    (subst (λ (x : NodeView). IsBelow x.board new.board) (sym (s.each p old at)) (subst (λ (x : NodeView). IsBelow ((world_in n).each p).node.board x.board) (sym (on.network.each p new now)) grown))
+    (subst (λ (x : NodeView). IsBoardBelow x.board new.board) (sym (s.each p old at)) (subst (λ (x : NodeView). IsBoardBelow ((world_in n).each p).node.board x.board) (sym (on.network.each p new now)) grown))
 
 pub heard_of : (n : Network) → IsNetwork n → (p q : ℕ) (node sender : NodeView) → slice_get n.nodes p ≡ Some node → WasNode n q sender → (parts : List Look) → TellAll p sender.board parts → StandOn parts node.board → (name : Name) (k : ℕ) → k < posted_on sender name → HasAllOf (was_in n) node.board q name k
 heard_of n s p q node sender at was parts tell stand name k posted =
@@ -79,6 +79,6 @@ heard_of n s p q node sender at was parts tell stand name k posted =
       moment = was.moment;
       was = was.was;
       posted = subst (λ x. k < posted_on x name) was.is posted;
-      below = subst (λ (x : NodeView). IsBelow (was.moment.each q).node.board x.board) (sym is)
+      below = subst (λ (x : NodeView). IsBoardBelow (was.moment.each q).node.board x.board) (sym is)
           (told_below was.moment (world_in n) p q parts b.0 (well n s) b.1 (subst (λ (x : NodeView). TellAll p x.board parts) was.is tell) (subst (λ (x : NodeView). StandOn parts x.board) is stand));
     }

@@ -8,13 +8,13 @@ use Rattle.join_core.specs.Cases.{yes, no, answer}
 use Rattle.mpx_name.specs.Name.{Name}
 use Rattle.mpx_post.specs.Posts.{Given}
 use Rattle.mpx_post.specs.Equality.{same_given, given_equality}
-use Rattle.mpx_post.specs.Births.{upto}
-use Rattle.mpx_board.specs.Boards.{Look, Born, Held, Front, Dropped, Dead, Acknowledged, Stands, IsBelow}
+use Rattle.mpx_birth.specs.Births.{upto}
+use Rattle.mpx_board.specs.Boards.{Look, Born, Held, Front, Dropped, Dead, Acknowledged, Stands, IsBoardBelow}
 use Rattle.mpx_board.specs.Changes.{is_posted}
 use Rattle.mpx_board.specs.Tidy.{is_unknown}
 use Rattle.mpx_delta.specs.Digests.{Numbers, HasUpTo, IsDigest, common_on, Covers, without}
 use Rattle.mpx_world.specs.Worlds.{WorldView, history}
-use Rattle.mpx_world.specs.Soundness.{Agrees}
+use Rattle.mpx_world.specs.Soundness.{AgreesWithFact}
 use Rattle.mpx_world.specs.Covering.{CommonCovers, IsCommon, OwnCovers}
 use Rattle.mpx_world.proofs.Opened.{upto_has}
 use Rattle.mpx_world.proofs.Later.{Later, has_above}
@@ -26,21 +26,21 @@ pub common_each : (size : ℕ) (b : Look) → IsCommon size b
 common_each size b q lt name p = minimum_below (λ r. b.acks r name p) (upto size) q q (upto_has size q lt)
 
 -- two told values that agree with the same
-told_agree : (v u : FlatView Given) (o : Option Given) → v ≢ unknown → Agrees v o → not (is_unknown u) ≡ true → Agrees u o → flat_leq same_given v u ≡ true
+told_agree : (v u : FlatView Given) (o : Option Given) → v ≢ unknown → AgreesWithFact v o → not (is_unknown u) ≡ true → AgreesWithFact u o → flat_leq same_given v u ≡ true
 told_agree unknown u o some a t b = absurd (some refl)
 told_agree clash u o some a t b = absurd a
 told_agree (known x) unknown o some a t b = cc t
 told_agree (known x) clash o some a t b = absurd b
 told_agree (known x) (known y) o some a t b = subst (λ z. same_given x z ≡ true) (same_Some x y (sym a ∙ b)) (given_equality.reflexive x)
 
-had_stands : (w : WorldView) (b : Look) → LookSo w b → (name : Name) (k p : ℕ) (v : FlatView Given) → v ≢ unknown → Agrees v ((history w).post name k p) → (nat_lt k (b.contexts name).dropped || not (is_unknown ((b.contexts name).posts k p))) ≡ true
+had_stands : (w : WorldView) (b : Look) → LookSo w b → (name : Name) (k p : ℕ) (v : FlatView Given) → v ≢ unknown → AgreesWithFact v ((history w).post name k p) → (nat_lt k (b.contexts name).dropped || not (is_unknown ((b.contexts name).posts k p))) ≡ true
     → (k < (b.contexts name).dropped) ⊎ (flat_leq same_given v ((b.contexts name).posts k p) ≡ true)
 had_stands w b so name k p v some a h = by_answer (nat_lt k (b.contexts name).dropped) refl h where
   by_answer : (x : Bool) → nat_lt k (b.contexts name).dropped ≡ x → (x || not (is_unknown ((b.contexts name).posts k p))) ≡ true → (k < (b.contexts name).dropped) ⊎ (flat_leq same_given v ((b.contexts name).posts k p) ≡ true)
   by_answer true t g = inl (grind (arith, nat_tests, t))
   by_answer false t g = inr (told_agree v ((b.contexts name).posts k p) ((history w).post name k p) some a g ((so.contexts_so name).posts_so k p))
 
-posted_stands : (w : WorldView) (b : Look) → LookSo w b → (name : Name) (k p : ℕ) (v : FlatView Given) → v ≢ unknown → Agrees v ((history w).post name k p) → is_posted (b.contexts name) k p ≡ true → Stands b (Held name k p v)
+posted_stands : (w : WorldView) (b : Look) → LookSo w b → (name : Name) (k p : ℕ) (v : FlatView Given) → v ≢ unknown → AgreesWithFact v ((history w).post name k p) → is_posted (b.contexts name) k p ≡ true → Stands b (Held name k p v)
 posted_stands w b so name k p v some a h = by_dead (b.contexts name).dead refl h where
   by_dead : (x : Bool) → (b.contexts name).dead ≡ x → (x || (nat_lt k (b.contexts name).dropped || not (is_unknown ((b.contexts name).posts k p)))) ≡ true → Stands b (Held name k p v)
   by_dead true t g = inl t
@@ -55,7 +55,7 @@ own_covers old new s t l p q name k r v lt has =
     let had : HasUpTo c name r (b.acks q name r) = has_above (old.each q).node.board c (l.kept q).board_kept name r (b.acks q name r) (so.acks_so q name r) in
     let later : LookSo new b = look_later old new l b so in
     posted_stands new c (board_so new q (new.each q) (t.processes q)) name k r v has.0
-    (subst (λ z. Agrees z ((history new).post name k r)) has.1 ((later.contexts_so name).posts_so k r))
+    (subst (λ z. AgreesWithFact z ((history new).post name k r)) has.1 ((later.contexts_so name).posts_so k r))
     (had k lt)
 
 -- what covers below some numbers covers below lesser ones
@@ -70,7 +70,7 @@ pub digest_had : (d : Numbers) (b : Look) → IsDigest d b → (name : Name) (p 
 digest_had d b is name p k lt = let o = is.others name p (omega (arith, lt)) in (is.listed name p o.0 o.1).below k lt
 
 -- what is below without some posts is below with them where those stand
-pub without_below : (left : Numbers) (a b : Look) → Covers left b a → IsBelow (without left a) b → IsBelow a b
+pub without_below : (left : Numbers) (a b : Look) → Covers left b a → IsBoardBelow (without left a) b → IsBoardBelow a b
 without_below left a b stands lean (Born name v) has = lean (Born name v) has
 without_below left a b stands lean (Held name k p v) has = elim (answer (nat_lt k (left name p))) [
   | yes t ↦ stands name k p v (lower k (left name p) t) has

@@ -4,7 +4,7 @@ use Rattle.std.specs.Prelude.{slice_get}
 use Rattle.std.proofs.lemmas.Option.{same_Some, slice_get_within}
 use Rattle.mpx_name.specs.Name.{Name}
 use Rattle.mpx_post.specs.Posts.{Given}
-use Rattle.mpx_post.specs.Births.{BirthView}
+use Rattle.mpx_birth.specs.Births.{BirthView}
 use Rattle.mpx_value.specs.Histories.{posts_on}
 use Rattle.mpx_world.specs.Worlds.{WorldView, births, history, own_front}
 use Rattle.mpx_world.specs.Soundness.{IsFreed, IsMember}

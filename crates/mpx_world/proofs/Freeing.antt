@@ -6,9 +6,9 @@ use Rattle.std.proofs.lemmas.Option.{get_or_from_slice_get, option_and_then_some
 use Rattle.mpx_name.specs.Name.{Name}
 use Rattle.mpx_num.specs.declared.own.Operation.{Operation}
 use Rattle.mpx_post.specs.Posts.{Given, is_free, nothing_given}
-use Rattle.mpx_post.specs.Births.{BirthView, rank_in}
+use Rattle.mpx_birth.specs.Births.{BirthView, rank_in}
 use Rattle.mpx_post.specs.Rows.{RowView, all_of}
-use Rattle.mpx_post.specs.Topologies.{TopologyView}
+use Rattle.mpx_birth.specs.Topologies.{TopologyView}
 use Rattle.mpx_post.specs.Agreement.{IsFineWith, first_of, post_at}
 use Rattle.mpx_value.specs.declared.outcomes.Outcome.{Outcome}
 use Rattle.mpx_value.specs.declared.outcomes.Outcome.TheVariants.{Nothing, Absent, Items, NewComm, Null, Fault}

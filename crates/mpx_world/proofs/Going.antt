@@ -24,7 +24,7 @@ use Rattle.mpx_node.specs.Harvests.{Harvests, HarvestsOpened}
 use Rattle.mpx_node.specs.Nodes.{NodeView, Opens, Posts as MakesPost, StopsTaking, acknowledge, add_result, checked_on, gathers_on, learn, learn_some, next_result, open_gathering_node, post_at, prune_part, results_on}
 use Rattle.mpx_world.specs.Worlds.{ProcessView, WorldView, MayLeave, makes, made_next, stores, opens_gathering, drops, takes, learns, posts, harvests, gathers, prunes, acknowledges, Happening, Posts, Harvests as HappensHarvest, Gathers, Prunes, Sends, Takes, TakesPartly, Acknowledges, at_process, happens, MayHappen, MayGoOn, start, world_by}
 use Rattle.mpx_world.specs.Soundness.{AgreeAcross, BoardsAgree}
-use Rattle.mpx_world.specs.Networks.{AllAgree, AreAmong, AreKept, AreNew, DeadStaysOn, Gives, GoesOn, HasPruned, IsNetwork, IsStep, IsTake, Network, NodesAgree, network_of, new_network, world_in}
+use Rattle.mpx_world.specs.Networks.{EachAgrees, AreAmong, AreKept, AreNew, DeadStaysOn, NodeGives, NetworkGoesOn, HasPruned, IsNetwork, IsNodeStep, IsTake, Network, NodesAgree, network_of, new_network, world_in}
 use Rattle.mpx_world.proofs.Lists.{cond_cases, itself, same_number, slice_get-push}
 use Rattle.mpx_world.proofs.Kept.{taken_node}
 use Rattle.mpx_world.proofs.Later.{Later, later_goes_on}
@@ -43,7 +43,7 @@ pub well : (n : Network) → IsNetwork n → IsWell (world_in n)
 well n s = well_by n.operations n.ranks n.size n.happenings s.may
 
 -- nothing has happened
-by_nothing : (n : Network) (nodes : List NodeView) (parts : List Look) → IsNetwork n → AreOf (world_in n) nodes → AreAmong parts (world_in n).parts → GoesOn n nodes parts
+by_nothing : (n : Network) (nodes : List NodeView) (parts : List Look) → IsNetwork n → AreOf (world_in n) nodes → AreAmong parts (world_in n).parts → NetworkGoesOn n nodes parts
 by_nothing n nodes parts s each sent =
     let same : n.happenings ≡ n.happenings ++ [] = sym (append-nil n.happenings) in
     record {
@@ -56,7 +56,7 @@ by_nothing n nodes parts s each sent =
     }
 
 -- this has happened
-by_happening : (n : Network) (h : Happening) (nodes : List NodeView) (parts : List Look) → IsNetwork n → MayHappen (world_in n) h → AreOf (happens (world_in n) h) nodes → AreAmong parts (happens (world_in n) h).parts → GoesOn n nodes parts
+by_happening : (n : Network) (h : Happening) (nodes : List NodeView) (parts : List Look) → IsNetwork n → MayHappen (world_in n) h → AreOf (happens (world_in n) h) nodes → AreAmong parts (happens (world_in n) h).parts → NetworkGoesOn n nodes parts
 by_happening n h nodes parts s m each sent =
     let is : happens (world_in n) h ≡ world_by n.operations n.ranks n.size (n.happenings ++ h ∷ []) = sym (goes_on-append n.happenings (h ∷ []) (start n.operations n.ranks n.size)) in
     record {
@@ -68,13 +68,13 @@ by_happening n h nodes parts s m each sent =
       };
     }
 
-pub further : (n : Network) (middle nodes : List NodeView) (sent parts : List Look) (first : GoesOn n middle sent) → GoesOn (network_of first) nodes parts → GoesOn n nodes parts
+pub further : (n : Network) (middle nodes : List NodeView) (sent parts : List Look) (first : NetworkGoesOn n middle sent) → NetworkGoesOn (network_of first) nodes parts → NetworkGoesOn n nodes parts
 further n middle nodes sent parts first next = record {
   later = first.later ++ next.later;
   network = subst (λ hs. IsNetwork (record n { happenings = hs; nodes = nodes; parts = parts })) (append_assoc n.happenings first.later next.later) next.network;
 }
 
-pub fewer_sent : (n : Network) (nodes : List NodeView) (parts fewer : List Look) → AreAmong fewer parts → GoesOn n nodes parts → GoesOn n nodes fewer
+pub fewer_sent : (n : Network) (nodes : List NodeView) (parts fewer : List Look) → AreAmong fewer parts → NetworkGoesOn n nodes parts → NetworkGoesOn n nodes fewer
 fewer_sent n nodes parts fewer among on = record {
   later = on.later;
   network = record {
@@ -93,7 +93,7 @@ operations_in n = sym (later_goes_on n.happenings (start n.operations n.ranks n.
 
 -- ONE NODE CHANGES
 
-pub unchanged_step : (ops : List Operation) (old new : NodeView) → new ≡ old → IsStep ops old new
+pub unchanged_step : (ops : List Operation) (old new : NodeView) → new ≡ old → IsNodeStep ops old new
 unchanged_step ops old new is n s with_ops p at =
     let w = world_in n in
     by_nothing n (set n.nodes p new) n.parts s
@@ -101,7 +101,7 @@ unchanged_step ops old new is n s with_ops p at =
     s.sent
 
 -- where its process makes this step
-by_step : (n : Network) (p : ℕ) (old new : NodeView) (step : ProcessView → ProcessView) (h : Happening) → IsNetwork n → slice_get n.nodes p ≡ Some old → MayHappen (world_in n) h → happens (world_in n) h ≡ at_process p step (world_in n) → new ≡ (step ((world_in n).each p)).node → GoesOn n (set n.nodes p new) n.parts
+by_step : (n : Network) (p : ℕ) (old new : NodeView) (step : ProcessView → ProcessView) (h : Happening) → IsNetwork n → slice_get n.nodes p ≡ Some old → MayHappen (world_in n) h → happens (world_in n) h ≡ at_process p step (world_in n) → new ≡ (step ((world_in n).each p)).node → NetworkGoesOn n (set n.nodes p new) n.parts
 by_step n p old new step h s at m is new_is =
     let w = world_in n in
     let each : AreOf (at_process p step w) (set n.nodes p new) = λ q node e.
@@ -117,7 +117,7 @@ post_cases name (Err refusal) result old new h = inl h.1
 post_cases name (Ok given) (Ok call) old new h = inr (given, refl, h.1)
 post_cases name (Ok given) (Err e) old new h = inl h.1
 
-pub post_step : (ops : List Operation) (old new : NodeView) (name : Name) (draft : Draft) (result : Result ℕ PostError) → MakesPost name (checked_on ops old name draft) result old new → IsStep ops old new
+pub post_step : (ops : List Operation) (old new : NodeView) (name : Name) (draft : Draft) (result : Result ℕ PostError) → MakesPost name (checked_on ops old name draft) result old new → IsNodeStep ops old new
 post_step ops old new name draft result h n s with_ops p at = elim (post_cases name (checked_on ops old name draft) result old new h) [
   | inl same ↦ unchanged_step ops old new same n s with_ops p at
   | inr made ↦ by_step n p old new (posts (world_in n).operations name draft) (Posts p name draft) s at tt refl (let v = (world_in n).each p in let here = s.each p old at in
@@ -138,7 +138,7 @@ harvest_cases : (ops : List Operation) (is_opened : Bool) (name : Name) (next : 
 harvest_cases ops false name next result old new h = inl h.1
 harvest_cases ops true name next result old new h = opened_cases ops name next result old new h
 
-pub harvest_step : (ops : List Operation) (old new : NodeView) (name : Name) (result : Result Harvest OutOfMemory) → Harvests ops (is_some (old.opened name)) name (next_result ops old name) result old new → IsStep ops old new
+pub harvest_step : (ops : List Operation) (old new : NodeView) (name : Name) (result : Result Harvest OutOfMemory) → Harvests ops (is_some (old.opened name)) name (next_result ops old name) result old new → IsNodeStep ops old new
 harvest_step ops old new name result h n s with_ops p at = elim (harvest_cases ops (is_some (old.opened name)) name (next_result ops old name) result old new h) [
   | inl same ↦ unchanged_step ops old new same n s with_ops p at
   | inr made ↦ by_step n p old new (harvests (world_in n).operations name) (HappensHarvest p name) s at tt refl (let v = (world_in n).each p in let here = s.each p old at in let same = operations_in n ∙ with_ops in
@@ -150,14 +150,14 @@ gather_cases parent (Err refusal) result old new h = inl h.1
 gather_cases parent (Ok g) (Ok name) old new h = inr (g, refl, h.1)
 gather_cases parent (Ok g) (Err e) old new h = inl h.1
 
-pub gather_step : (ops : List Operation) (old new : NodeView) (parent : Name) (tag : ℤ) (ranks : List ℤ) (result : Result Name PostError) → Opens parent (gathers_on old parent tag ranks) result old new → IsStep ops old new
+pub gather_step : (ops : List Operation) (old new : NodeView) (parent : Name) (tag : ℤ) (ranks : List ℤ) (result : Result Name PostError) → Opens parent (gathers_on old parent tag ranks) result old new → IsNodeStep ops old new
 gather_step ops old new parent tag ranks result h n s with_ops p at = elim (gather_cases parent (gathers_on old parent tag ranks) result old new h) [
   | inl same ↦ unchanged_step ops old new same n s with_ops p at
   | inr made ↦ by_step n p old new (gathers parent tag ranks) (Gathers p parent tag ranks) s at tt refl (let v = (world_in n).each p in let here = s.each p old at in
       made.2 ∙ ap (open_gathering_node parent made.0) here ∙ ap (λ r. (opens_gathering parent r v).node) (sym (ap (λ x. gathers_on x parent tag ranks) (sym here) ∙ made.1)))
 ]
 
-pub prune_step : (ops : List Operation) (old new : NodeView) (name : Name) (m : ℕ) (result : Result (Unit {0}) PruneError) → HasPruned name m result old new → IsStep ops old new
+pub prune_step : (ops : List Operation) (old new : NodeView) (name : Name) (m : ℕ) (result : Result (Unit {0}) PruneError) → HasPruned name m result old new → IsNodeStep ops old new
 prune_step ops old new name m (Ok u) h n s with_ops p at =
     let v = (world_in n).each p in
     let here = s.each p old at in
@@ -177,7 +177,7 @@ take_step old new part (Err e) ok err n s p at place sent =
     let may : MayLeave v.node.board (slice_get (world_in n).parts there.0) new.board = subst (λ o. MayLeave v.node.board o new.board) (sym there.1) (subst (λ (x : NodeView). IsBetween x.board part new.board) here err.1) in
     by_step n p old new (learns new.board) (TakesPartly p there.0 new.board) s at may refl (err.0 ∙ sym (ap (λ b. record old { board = b }) err.1.joined) ∙ ap (learn new.board) here)
 
-pub deltas_step : (ops : List Operation) (old new : NodeView) → SaysWhatItHas old new → IsStep ops old new
+pub deltas_step : (ops : List Operation) (old new : NodeView) → SaysWhatItHas old new → IsNodeStep ops old new
 deltas_step ops old new says n s with_ops p at =
     let here = s.each p old at in
     let may : MayHappen (world_in n) (Acknowledges p says.numbers) = subst (λ (x : NodeView). (name : Name) (m : ℕ) → HasUpTo x.board name m (says.numbers name m)) here (digest_had says.numbers old.board says.digest) in
@@ -186,7 +186,7 @@ deltas_step ops old new says n s with_ops p at =
 -- PARTS THAT ARE GIVEN
 
 -- a part with facts of the node's board alone
-gives : (n : Network) (p : ℕ) (node : NodeView) (part : Look) → IsNetwork n → slice_get n.nodes p ≡ Some node → OnlyFactsOf part node.board → GoesOn n n.nodes (part ∷ n.parts)
+gives : (n : Network) (p : ℕ) (node : NodeView) (part : Look) → IsNetwork n → slice_get n.nodes p ≡ Some node → OnlyFactsOf part node.board → NetworkGoesOn n n.nodes (part ∷ n.parts)
 gives n p node part s at facts =
     let w = world_in n in
     let may : MayHappen w (Sends p part) = λ f has. inl (own_seen w p (w.each p) f ((well n s).holds.processes p) (subst (λ (x : NodeView). Has x.board f) (s.each p node at) (facts f has))) in
@@ -196,7 +196,7 @@ gives n p node part s at facts =
       more (suc i) x e = let there = s.sent i x e in (there.0, slice_get-append (world_in n).parts (part ∷ []) there.0 x there.1)
 
 -- several
-gives_all : (made : List Board) (n : Network) (p : ℕ) (node : NodeView) → IsNetwork n → slice_get n.nodes p ≡ Some node → ((i : ℕ) (b : Board) → slice_get made i ≡ Some b → OnlyFactsOf (look b) node.board) → GoesOn n n.nodes (map look made ++ n.parts)
+gives_all : (made : List Board) (n : Network) (p : ℕ) (node : NodeView) → IsNetwork n → slice_get n.nodes p ≡ Some node → ((i : ℕ) (b : Board) → slice_get made i ≡ Some b → OnlyFactsOf (look b) node.board) → NetworkGoesOn n n.nodes (map look made ++ n.parts)
 gives_all [] n p node s at facts = by_nothing n n.nodes n.parts s s.each s.sent
 gives_all (b ∷ made) n p node s at facts =
     let first = gives_all made n p node s at (λ i. facts (suc i)) in
@@ -207,18 +207,18 @@ all_facts board [] all i b e = cc e
 all_facts board (x ∷ made) all zero b e = subst (λ y. OnlyFactsOf (look y) board) (same_Some x b e) (all zero x (omega arith))
 all_facts board (x ∷ made) all (suc i) b e = all_facts board made (λ k d lt. all (suc k) d (omega (arith, lt))) i b e
 
-pub part_given : (node : NodeView) (part : Look) → part ≡ node.board → Gives node (part ∷ [])
+pub part_given : (node : NodeView) (part : Look) → part ≡ node.board → NodeGives node (part ∷ [])
 part_given node part is n s p at = gives n p node part s at (λ f has. subst (λ b. Has b f) is has)
 
-pub parts_given : (node : NodeView) (made : List Board) → All (λ part. OnlyFactsOf (look part) node.board) made → Gives node (map look made)
+pub parts_given : (node : NodeView) (made : List Board) → All (λ part. OnlyFactsOf (look part) node.board) made → NodeGives node (map look made)
 parts_given node made all n s p at = gives_all made n p node s at (all_facts node.board made all)
 
 -- AGREEMENT
 
-pub later_on : (n : Network) (nodes : List NodeView) (parts : List Look) (on : GoesOn n nodes parts) → Later (world_in n) (world_in (network_of on))
+pub later_on : (n : Network) (nodes : List NodeView) (parts : List Look) (on : NetworkGoesOn n nodes parts) → Later (world_in n) (world_in (network_of on))
 later_on n nodes parts on = later_by n.operations n.ranks n.size n.happenings on.later
 
-pub across : (n : Network) (nodes : List NodeView) (parts : List Look) → IsNetwork n → (on : GoesOn n nodes parts) → (p q : ℕ) → AgreeAcross (world_in n) (world_in (network_of on)) p q
+pub across : (n : Network) (nodes : List NodeView) (parts : List Look) → IsNetwork n → (on : NetworkGoesOn n nodes parts) → (p q : ℕ) → AgreeAcross (world_in n) (world_in (network_of on)) p q
 across n nodes parts s on = agree_across (world_in n) (world_in (network_of on)) (later_on n nodes parts on) (well n s).holds (well (network_of on) on.network).holds
 
 -- in the words of the nodes
@@ -228,18 +228,18 @@ nodes_agree old new p q a b first second x = record {
   results = λ name k r s er es. x.results name k r s (subst (λ v. slice_get (results_on v name) k ≡ Some r) first er) (subst (λ v. slice_get (results_on v name) k ≡ Some s) second es);
 }
 
-pub all_nodes_agree : (n : Network) → IsNetwork n → AllAgree (world_in n) n.nodes n.nodes
+pub all_nodes_agree : (n : Network) → IsNetwork n → EachAgrees (world_in n) n.nodes n.nodes
 all_nodes_agree n s p q a b ea eb = nodes_agree (world_in n) (world_in n) p q a b (s.each p a ea) (s.each q b eb) (all_agree (world_in n) (well n s).holds p q)
 
-pub later_nodes_agree : (n : Network) (nodes : List NodeView) (parts : List Look) → IsNetwork n → GoesOn n nodes parts → AllAgree (world_in n) n.nodes nodes
+pub later_nodes_agree : (n : Network) (nodes : List NodeView) (parts : List Look) → IsNetwork n → NetworkGoesOn n nodes parts → EachAgrees (world_in n) n.nodes nodes
 later_nodes_agree n nodes parts s on p q a b ea eb = nodes_agree (world_in n) (world_in (network_of on)) p q a b (s.each p a ea) (on.network.each q b eb) (across n nodes parts s on p q)
 
-pub results_kept : (n : Network) (nodes : List NodeView) (parts : List Look) → IsNetwork n → GoesOn n nodes parts → AreKept n.nodes nodes
+pub results_kept : (n : Network) (nodes : List NodeView) (parts : List Look) → IsNetwork n → NetworkGoesOn n nodes parts → AreKept n.nodes nodes
 results_kept n nodes parts s on p a b ea eb name k r er =
     subst (λ v. slice_get (results_on v name) k ≡ Some r) (sym (on.network.each p b eb))
     (((later_on n nodes parts on).kept p).results_kept name k r (subst (λ v. slice_get (results_on v name) k ≡ Some r) (s.each p a ea) er))
 
-pub dead_stays_on : (n : Network) (nodes : List NodeView) (parts : List Look) → IsNetwork n → GoesOn n nodes parts → DeadStaysOn n.nodes nodes
+pub dead_stays_on : (n : Network) (nodes : List NodeView) (parts : List Look) → IsNetwork n → NetworkGoesOn n nodes parts → DeadStaysOn n.nodes nodes
 dead_stays_on n nodes parts s on p a b ea eb name dead =
     let old = world_in n in
     let new = world_in (network_of on) in

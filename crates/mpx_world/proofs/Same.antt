@@ -4,10 +4,10 @@ use Rattle.std.specs.Prelude.{◌⊎◌, nat_le}
 use Rattle.std.specs.List.{fold}
 use Rattle.std.proofs.lemmas.Bool.Decides.{nat_tests}
 use Rattle.join_core.specs.Flat.{FlatView, unknown, flat_leq}
-use Rattle.mpx_post.specs.Births.{BirthView, same_birth}
+use Rattle.mpx_birth.specs.Births.{BirthView, same_birth}
 use Rattle.mpx_post.specs.Posts.{Given}
 use Rattle.mpx_name.specs.Name.{Name}
-use Rattle.mpx_board.specs.Boards.{Context, Look, IsGone, gone, join, join_all, join_live, empty, Fact, Born, Held, Front, Dropped, Dead, Acknowledged, Stands, IsBelow}
+use Rattle.mpx_board.specs.Boards.{Context, Look, IsGone, gone, join, join_all, join_live, empty, Fact, Born, Held, Front, Dropped, Dead, Acknowledged, Stands, IsBoardBelow}
 use Rattle.mpx_board.proofs.Facts.{IsPostUnder, IsLiveUnder, IsContextUnder, IsUnder, looks_below, facts_below, join_all_is_least, births_order, posts_order}
 use Rattle.mpx_world.specs.Soundness.{AreToldBy}
 use Rattle.mpx_world.proofs.Lists.{cond_cases}
@@ -111,7 +111,7 @@ stands_above a b u (Dropped name n) h = dropped_stands n (a.contexts name) (b.co
 stands_above a b u (Dead name) h = facts_below a b u (Dead name) h
 stands_above a b u (Acknowledged q name p n) h = let l = u.acks q name p in omega (arith, l, h)
 
-joined_below : (these those : List Look) → AreToldBy these those → IsBelow (join_all these) (join_all those)
+joined_below : (these those : List Look) → AreToldBy these those → IsBoardBelow (join_all these) (join_all those)
 joined_below these those h =
     let all = join_all_is_least those in
     (join_all_is_least these).least (join_all those) (λ i b e f has. let told = h i b e f has in

@@ -2,10 +2,10 @@
 use Rattle.std.specs.Prelude.{◌≡◌, ◌<◌, ◌≤◌, ◌+◌, ◌⊎◌, ℕ, zero, suc, List, [], ◌∷◌, ◌++◌, length, slice_get, Some, is_some, IsTrue, Result, IfOk}
 use Rattle.join_core.specs.Flat.{known}
 use Rattle.join_core.specs.declared.memory.OutOfMemory.{OutOfMemory}
-use Rattle.mpx_post.specs.Births.{BirthView}
+use Rattle.mpx_birth.specs.Births.{BirthView}
 use Rattle.mpx_name.specs.Name.{Name}
 use Rattle.mpx_num.specs.declared.own.Operation.{Operation}
-use Rattle.mpx_board.specs.Boards.{Look, IsBelow, join_all}
+use Rattle.mpx_board.specs.Boards.{Look, IsBoardBelow, join_all}
 use Rattle.mpx_delta.specs.Digests.{Numbers, without}
 use Rattle.mpx_node.specs.declared.node.Harvest.{Harvest}
 use Rattle.mpx_node.specs.declared.node.Harvest.TheVariants.{Done}
@@ -27,7 +27,7 @@ pub record HasAllOf (earlier : WorldView → Type 0) (board : Look) (q : ℕ) (n
   pub moment : WorldView
   pub was : earlier moment
   pub posted : k < posted_on (moment.each q).node name
-  pub below : IsBelow (moment.each q).node.board board
+  pub below : IsBoardBelow (moment.each q).node.board board
 
 -- a process has opened the context and has posted call k, and has so much of each other member
 pub record IsEnough (earlier : WorldView → Type 0) (node : NodeView) (name : Name) (k : ℕ) : Type 0 where
@@ -104,7 +104,7 @@ pub data TellAll (p : ℕ) (board : Look) (parts : List Look) : Type 0 where
 
 -- all that each of these parts tells stands on the board
 abbrev pub StandOn : (parts : List Look) → (board : Look) → Type 0
-StandOn parts board = (i : ℕ) (part : Look) → slice_get parts i ≡ Some part → IsBelow part board
+StandOn parts board = (i : ℕ) (part : Look) → slice_get parts i ≡ Some part → IsBoardBelow part board
 
 -- first a process sent its whole board, and then another took that part
 abbrev pub sends_and_takes : List Operation → (ranks size : ℕ) → (early : List Event) → (q : ℕ) → (middle : List Event) → (p : ℕ) → (late : List Event) → List Event

@@ -48,17 +48,17 @@ abbrev pub later_network : Network → (later : List Happening) → List NodeVie
 later_network n later nodes parts = record n { happenings = n.happenings ++ later; nodes = nodes; parts = parts }
 
 -- more has happened in a network, and now its nodes are these, and these parts were sent
-pub record GoesOn (n : Network) (nodes : List NodeView) (parts : List Look) : Type 0 where
+pub record NetworkGoesOn (n : Network) (nodes : List NodeView) (parts : List Look) : Type 0 where
   pub later : List Happening
   pub network : IsNetwork (later_network n later nodes parts)
 
 -- that network
-abbrev pub network_of : {n : Network} {nodes : List NodeView} {parts : List Look} → GoesOn n nodes parts → Network
+abbrev pub network_of : {n : Network} {nodes : List NodeView} {parts : List Look} → NetworkGoesOn n nodes parts → Network
 network_of {n} {nodes} {parts} on = later_network n on.later nodes parts
 
 -- a step of one node, with these operations: each network with them that has the node goes on by it
-abbrev pub IsStep : List Operation → (old new : NodeView) → Type 0
-IsStep ops old new = (n : Network) → IsNetwork n → n.operations ≡ ops → (p : ℕ) → slice_get n.nodes p ≡ Some old → GoesOn n (set n.nodes p new) n.parts
+abbrev pub IsNodeStep : List Operation → (old new : NodeView) → Type 0
+IsNodeStep ops old new = (n : Network) → IsNetwork n → n.operations ≡ ops → (p : ℕ) → slice_get n.nodes p ≡ Some old → NetworkGoesOn n (set n.nodes p new) n.parts
 
 -- what a pruning leaves: just these calls are dropped, where they may be, or the context is dead
 abbrev pub HasPruned : Name → ℕ → Result (Unit {0}) PruneError → (old new : NodeView) → Type 0
@@ -67,11 +67,11 @@ HasPruned name m result old new = (result ≡ pruned_on old.board name m) × OnO
 -- a step by which it takes a part: so does each network in which the part was sent
 abbrev pub IsTake : (part : Look) → (old new : NodeView) → Type 0
 IsTake part old new = (n : Network) → IsNetwork n → (p : ℕ) → slice_get n.nodes p ≡ Some old → (place : ℕ) → slice_get n.parts place ≡ Some part
-    → GoesOn n (set n.nodes p new) n.parts
+    → NetworkGoesOn n (set n.nodes p new) n.parts
 
 -- parts that a node gives: each network that has the node goes on by it, and in it they were sent
-abbrev pub Gives : NodeView → (given : List Look) → Type 0
-Gives node given = (n : Network) → IsNetwork n → (p : ℕ) → slice_get n.nodes p ≡ Some node → GoesOn n n.nodes (given ++ n.parts)
+abbrev pub NodeGives : NodeView → (given : List Look) → Type 0
+NodeGives node given = (n : Network) → IsNetwork n → (p : ℕ) → slice_get n.nodes p ≡ Some node → NetworkGoesOn n n.nodes (given ++ n.parts)
 
 -- AGREEMENT
 
@@ -81,8 +81,8 @@ pub record NodesAgree (w : WorldView) (p q : ℕ) (a b : NodeView) : Type 0 wher
   pub results : (name : Name) (k : ℕ) (r s : Finished) → slice_get (results_on a name) k ≡ Some r → slice_get (results_on b name) k ≡ Some s → OfOneRow w p q name k r s
 
 -- each of these agrees with each of those
-abbrev pub AllAgree : WorldView → (these those : List NodeView) → Type 0
-AllAgree w these those = (p q : ℕ) (a b : NodeView) → slice_get these p ≡ Some a → slice_get those q ≡ Some b → NodesAgree w p q a b
+abbrev pub EachAgrees : WorldView → (these those : List NodeView) → Type 0
+EachAgrees w these those = (p q : ℕ) (a b : NodeView) → slice_get these p ≡ Some a → slice_get those q ≡ Some b → NodesAgree w p q a b
 
 -- what these nodes have finished, they have finished later too, with equal results
 abbrev pub AreKept : (nodes later : List NodeView) → Type 0

@@ -1,6 +1,6 @@
 //! All processes together: a world, the events that lead from one to the next, and what is so after every list of events.
 //!
-//! In the order of reading: [`Event`] with its [`Cut`] and [`Reply`], [`Job`], [`World`] with [`Stopped`], and the laws
+//! In the order of reading: [`Event`] with its [`Cut`] and [`Reply`], [`JobOperations`], [`World`] with [`Stopped`], and the laws
 //! [`every_world_is_sound`], [`completed_results_are_permanent`], [`processes_agree_at_any_time`],
 //! [`what_all_acknowledge_all_have`], [`freed_contexts_stay_dead`], [`nodes_are_of_one_world`] and [`every_history_is_sound`];
 //! for nodes of one's own [`networks_begin`], [`networks_go_on`] and [`networks_are_sound`]; and for all of these
@@ -12,7 +12,7 @@
 
 mod enough;
 mod events;
-mod job;
+mod job_operations;
 mod laws;
 mod networks;
 mod processes;
@@ -20,7 +20,7 @@ mod world;
 
 pub use enough::one_part_of_each_is_enough;
 pub use events::{Cut, Event, Names, Reply, Stopped};
-pub use job::Job;
+pub use job_operations::JobOperations;
 pub use laws::{
     completed_results_are_permanent, every_history_is_sound, every_world_is_sound,
     freed_contexts_stay_dead, nodes_are_of_one_world, processes_agree_at_any_time,

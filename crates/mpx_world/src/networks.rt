@@ -16,7 +16,7 @@ ghost use Rattle.mpx_node.specs.Harvests.{Harvests};
 ghost use Rattle.mpx_node.specs.Nodes.{NodeView, Opens, Posts, StopsTaking, checked_on, gathers_on, learn, next_result};
 ghost use Rattle.mpx_world.specs.Soundness.{Agree, AgreeAcross, AreCommunicators, AreLeast, AreMembers, ArePermanent, Retains, Sound};
 ghost use Rattle.mpx_world.specs.Enough.{AnswerDoneUpTo, IsEnough, was_in};
-ghost use Rattle.mpx_world.specs.Networks.{AllAgree, AreAmong, AreKept, AreNew, DeadStaysOn, Gives, GoesOn, HasPruned, IsNetwork, IsStep, IsTake, Network, network_of, new_network, world_in};
+ghost use Rattle.mpx_world.specs.Networks.{EachAgrees, AreAmong, AreKept, AreNew, DeadStaysOn, NodeGives, NetworkGoesOn, HasPruned, IsNetwork, IsNodeStep, IsTake, Network, network_of, new_network, world_in};
 
 /// Nodes that were just made, each at the place of its number and all for the same numbers of ranks and processes, are a network in
 /// which nothing has happened.
@@ -31,24 +31,24 @@ pub fn networks_begin()
 /// sent may be left out, and of two steps the second goes on where the first ended.
 pub fn networks_go_on()
     ensures post { (ops : List Operation) (old new : NodeView) (name : Name) (draft : Draft) (result : Result ℕ PostError)
-        → Posts name (checked_on ops old name draft) result old new → IsStep ops old new }
+        → Posts name (checked_on ops old name draft) result old new → IsNodeStep ops old new }
     ensures harvest { (ops : List Operation) (old new : NodeView) (name : Name) (result : Result Harvest OutOfMemory)
-        → Harvests ops (is_some (old.opened name)) name (next_result ops old name) result old new → IsStep ops old new }
+        → Harvests ops (is_some (old.opened name)) name (next_result ops old name) result old new → IsNodeStep ops old new }
     ensures open_gathering { (ops : List Operation) (old new : NodeView) (parent : Name) (tag : ℤ) (ranks : List ℤ) (result : Result Name PostError)
-        → Opens parent (gathers_on old parent tag ranks) result old new → IsStep ops old new }
+        → Opens parent (gathers_on old parent tag ranks) result old new → IsNodeStep ops old new }
     ensures prune { (ops : List Operation) (old new : NodeView) (name : Name) (m : ℕ) (result : Result (Unit {0}) PruneError)
-        → HasPruned name m result old new → IsStep ops old new }
+        → HasPruned name m result old new → IsNodeStep ops old new }
     ensures take { (old new : NodeView) (part : Look) (result : Result (Unit {0}) OutOfMemory)
         → OnOk result (new ≡ learn part old) → OnErr result (StopsTaking part old new) → IsTake part old new }
-    ensures deltas { (ops : List Operation) (old new : NodeView) → SaysWhatItHas old new → IsStep ops old new }
-    ensures unchanged { (ops : List Operation) (old new : NodeView) → new ≡ old → IsStep ops old new }
-    ensures part { (node : NodeView) (part : Look) → part ≡ node.board → Gives node (part ∷ []) }
+    ensures deltas { (ops : List Operation) (old new : NodeView) → SaysWhatItHas old new → IsNodeStep ops old new }
+    ensures unchanged { (ops : List Operation) (old new : NodeView) → new ≡ old → IsNodeStep ops old new }
+    ensures part { (node : NodeView) (part : Look) → part ≡ node.board → NodeGives node (part ∷ []) }
     ensures parts { (node : NodeView) (made : List Board) → All (λ part. OnlyFactsOf (look part) node.board) made
-        → Gives node (map look made) }
+        → NodeGives node (map look made) }
     ensures fewer { (n : Network) (nodes : List NodeView) (parts fewer : List Look)
-        → AreAmong fewer parts → GoesOn n nodes parts → GoesOn n nodes fewer }
-    ensures further { (n : Network) (middle nodes : List NodeView) (sent parts : List Look) (first : GoesOn n middle sent)
-        → GoesOn (network_of first) nodes parts → GoesOn n nodes parts }
+        → AreAmong fewer parts → NetworkGoesOn n nodes parts → NetworkGoesOn n nodes fewer }
+    ensures further { (n : Network) (middle nodes : List NodeView) (sent parts : List Look) (first : NetworkGoesOn n middle sent)
+        → NetworkGoesOn (network_of first) nodes parts → NetworkGoesOn n nodes parts }
 {}
 
 /// The world of a network is sound, every two of its processes agree, also where one is seen earlier than the other, each board is the
@@ -61,20 +61,20 @@ pub fn networks_go_on()
 pub fn networks_are_sound()
     ensures sound { (n : Network) → IsNetwork n → Sound (world_in n) }
     ensures agree { (n : Network) → IsNetwork n → (p q : ℕ) → Agree (world_in n) p q }
-    ensures agree_across { (n : Network) (nodes : List NodeView) (parts : List Look) → IsNetwork n → (on : GoesOn n nodes parts)
+    ensures agree_across { (n : Network) (nodes : List NodeView) (parts : List Look) → IsNetwork n → (on : NetworkGoesOn n nodes parts)
         → (p q : ℕ) → AgreeAcross (world_in n) (world_in (network_of on)) p q }
     ensures least { (n : Network) → IsNetwork n → AreLeast (world_in n) }
     ensures members { (n : Network) → IsNetwork n → AreMembers (world_in n) }
     ensures communicators { (n : Network) → IsNetwork n → AreCommunicators (world_in n) }
-    ensures permanent { (n : Network) (nodes : List NodeView) (parts : List Look) → IsNetwork n → (on : GoesOn n nodes parts)
+    ensures permanent { (n : Network) (nodes : List NodeView) (parts : List Look) → IsNetwork n → (on : NetworkGoesOn n nodes parts)
         → ArePermanent (world_in n) (world_in (network_of on)) }
     ensures retained { (n : Network) → IsNetwork n → Retains (world_in n) }
     ensures enough { (n : Network) → IsNetwork n → (p : ℕ) (node : NodeView) → slice_get n.nodes p ≡ Some node
         → (name : Name) (k : ℕ) → IsEnough (was_in n) node name k → AnswerDoneUpTo n.operations node name k }
-    ensures nodes { (n : Network) → IsNetwork n → AllAgree (world_in n) n.nodes n.nodes }
-    ensures later_nodes { (n : Network) (nodes : List NodeView) (parts : List Look) → IsNetwork n → GoesOn n nodes parts
-        → AllAgree (world_in n) n.nodes nodes }
-    ensures kept { (n : Network) (nodes : List NodeView) (parts : List Look) → IsNetwork n → GoesOn n nodes parts → AreKept n.nodes nodes }
-    ensures dead { (n : Network) (nodes : List NodeView) (parts : List Look) → IsNetwork n → GoesOn n nodes parts
+    ensures nodes { (n : Network) → IsNetwork n → EachAgrees (world_in n) n.nodes n.nodes }
+    ensures later_nodes { (n : Network) (nodes : List NodeView) (parts : List Look) → IsNetwork n → NetworkGoesOn n nodes parts
+        → EachAgrees (world_in n) n.nodes nodes }
+    ensures kept { (n : Network) (nodes : List NodeView) (parts : List Look) → IsNetwork n → NetworkGoesOn n nodes parts → AreKept n.nodes nodes }
+    ensures dead { (n : Network) (nodes : List NodeView) (parts : List Look) → IsNetwork n → NetworkGoesOn n nodes parts
         → DeadStaysOn n.nodes nodes }
 {}

@@ -1,4 +1,4 @@
-// The processes of a world, each by itself.
+//! The processes of a world, each by itself.
 ghost use Rattle.std.specs.Prelude.{◌≡◌, ◌<◌, ◌≤◌, ◌++◌, ◌∷◌, [], List, Ok, IfOk, IfErr, OnOk, OnErr};
 ghost use Rattle.std.specs.Option.{option_copied};
 ghost use Rattle.mpx_board.specs.Looks.{look};

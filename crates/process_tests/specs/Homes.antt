@@ -2,11 +2,11 @@
 use Rattle.std.specs.Prelude.{◌≡◌, false, []}
 use Rattle.mpx_bus.specs.declared.act.Setup.{Setup}
 use Rattle.mpx_bus.specs.declared.port.Bus.{Bus}
-use Rattle.mpx_bus.specs.Berths.{Berth}
+use Rattle.mpx_bus.specs.Ports.{PortView}
 use Rattle.mpx_bus.specs.Buses.{table_of}
 
 -- the port is of this bus, and by this setup, which is without operations and a plan
-pub record IsHome (bus : Bus) (setup : Setup) (b : Berth) : Type 0 where
+pub record IsHome (bus : Bus) (setup : Setup) (b : PortView) : Type 0 where
   pub table : b.table ≡ table_of bus
   pub setup_is : b.setup ≡ setup
   pub plan : b.setup.planned ≡ false

@@ -1,16 +1,16 @@
 //! Rows of what is done to a board of the world and then seen of it.
 use crate::contexts::post_of;
 use join_core::Exact;
+use mpx_birth::Birth;
 use mpx_board::{AddPostError, Board, KillError, PruneError};
 use mpx_name::Name;
-use mpx_post::Birth;
 use std::alloc::Global;
 use std::process::Abort;
 use std::test::Fail;
 use test_drafts::proc;
 
 #[derive(Clone, Copy)]
-pub enum Step {
+pub enum BoardStep {
     // It is told that there are so many members.
     Members(u8),
     // It is told that a process has harvested so many calls.
@@ -105,26 +105,28 @@ fn prunes_in_vain(
 }
 
 // Does the step, and answers whether it comes out so.
-fn is_so(alloc: Global, board: &mut Board, world: &Name, step: Step) -> Result<bool, Fail> {
+fn is_so(alloc: Global, board: &mut Board, world: &Name, step: BoardStep) -> Result<bool, Fail> {
     match step {
-        Step::Members(count) => has_members(alloc, board, world, count),
-        Step::Front(process, number) => raises(alloc, board, world, process, number),
-        Step::Acknowledges(by, of, number) => acknowledges(alloc, board, world, by, of, number),
-        Step::Adds(call, process, items, told) => {
+        BoardStep::Members(count) => has_members(alloc, board, world, count),
+        BoardStep::Front(process, number) => raises(alloc, board, world, process, number),
+        BoardStep::Acknowledges(by, of, number) => acknowledges(
+            alloc, board, world, by, of, number,
+        ),
+        BoardStep::Adds(call, process, items, told) => {
             Ok(adds(alloc, board, world, call, process, items)? == told)
         }
-        Step::Joins(process, items) => joins(alloc, board, world, process, items),
-        Step::Prunes(number, told) => Ok(board.prune(world, number) == told),
-        Step::PrunesInVain(number) => prunes_in_vain(alloc, board, world, number),
-        Step::Kills(told) => Ok(board.kill(world) == told),
-        Step::IsDead(told) => Ok(board.is_dead(world) == told),
-        Step::HasFloor(floor) => Ok(board.floor(world) == floor),
-        Step::HasDropped(number) => Ok(board.dropped(world) == number),
-        Step::HasFront(process, number) => Ok(board.front(world, proc(process)) == number),
-        Step::Holds(call, by) => Ok(board.holds(world, call, proc(by)).is_some()),
-        Step::Lacks(call, by) => Ok(board.holds(world, call, proc(by)).is_none()),
-        Step::HasRow(told) => Ok(board.row(alloc, world, 0)?.is_some() == told),
-        Step::HasBirth(told) => Ok(board.birth(world).is_some() == told),
+        BoardStep::Joins(process, items) => joins(alloc, board, world, process, items),
+        BoardStep::Prunes(number, told) => Ok(board.prune(world, number) == told),
+        BoardStep::PrunesInVain(number) => prunes_in_vain(alloc, board, world, number),
+        BoardStep::Kills(told) => Ok(board.kill(world) == told),
+        BoardStep::IsDead(told) => Ok(board.is_dead(world) == told),
+        BoardStep::HasFloor(floor) => Ok(board.floor(world) == floor),
+        BoardStep::HasDropped(number) => Ok(board.dropped(world) == number),
+        BoardStep::HasFront(process, number) => Ok(board.front(world, proc(process)) == number),
+        BoardStep::Holds(call, by) => Ok(board.holds(world, call, proc(by)).is_some()),
+        BoardStep::Lacks(call, by) => Ok(board.holds(world, call, proc(by)).is_none()),
+        BoardStep::HasRow(told) => Ok(board.row(alloc, world, 0)?.is_some() == told),
+        BoardStep::HasBirth(told) => Ok(board.birth(world).is_some() == told),
     }
 }
 
@@ -134,7 +136,7 @@ pub fn go_on(
     alloc: Global,
     board: &mut Board,
     shown: &str,
-    steps: &[Step],
+    steps: &[BoardStep],
 ) -> Result<(), Fail> {
     let world = Name::world(alloc);
     for (at, step) in steps.iter().enumerate() {
@@ -148,7 +150,7 @@ pub fn board_of(
     rt: &impl Abort,
     alloc: Global,
     shown: &str,
-    steps: &[Step],
+    steps: &[BoardStep],
 ) -> Result<Board, Fail> {
     let mut board = Board::new(alloc);
     match go_on(rt, alloc, &mut board, shown, steps) {

@@ -1,8 +1,9 @@
 //! Contexts, drafts and posts that the tests use.
 use mpx_group::Group;
+use mpx_kind::Kind;
 use mpx_name::Name;
 use mpx_num::Ty;
-use mpx_post::{Kind, Post};
+use mpx_post::Post;
 use std::alloc::Global;
 use std::test::Fail;
 use test_drafts::{Drafted, bare, just, proc};
@@ -14,7 +15,7 @@ pub enum On {
     Below(u8),
     // The gathering of ranks 0 and 2 with tag 9, below the context of all.
     Gathering,
-    // The same of ranks 2 and 0.
+    // The gathering of ranks 2 and 0 with tag 9, below the context of all.
     Reversed,
     // The first child of the gathering.
     OfGathering,

@@ -1,14 +1,15 @@
 //! What the digest of a board says, what all processes acknowledge, and what deltas leave out.
-use crate::board_rows::{Step, board_of};
+use crate::board_rows::{BoardStep, board_of};
 use crate::long_boards::long_board;
 use join_core::{Exact, OutOfMemory};
 use mpx_board::Board;
 use mpx_delta::{Digest, common, delta_for, digest_of};
 use mpx_group::Proc;
+use mpx_kind::Kind;
 use mpx_name::Name;
 use mpx_node::Node;
 use mpx_num::Ops;
-use mpx_post::Kind;
+use mpx_wire::decode;
 use std::alloc::Global;
 use std::process::Abort;
 use std::test::Fail;
@@ -26,11 +27,11 @@ fn number_of(alloc: Global, digest: &Digest) -> Option<u32> {
 }
 
 // Calls 0, 1 and 3 of process 0.
-const WITH_A_GAP: &[Step] = &[
-    Step::Members(3),
-    Step::Adds(0, 0, &[1], Ok(())),
-    Step::Adds(1, 0, &[2], Ok(())),
-    Step::Adds(3, 0, &[3], Ok(())),
+const WITH_A_GAP: &[BoardStep] = &[
+    BoardStep::Members(3),
+    BoardStep::Adds(0, 0, &[1], Ok(())),
+    BoardStep::Adds(1, 0, &[2], Ok(())),
+    BoardStep::Adds(3, 0, &[3], Ok(())),
 ];
 
 fn stops_at_a_gap(rt: &impl Abort, alloc: Global) -> Result<bool, Fail> {
@@ -48,22 +49,22 @@ fn common_of(alloc: Global, acks: &[(u8, u32)]) -> Result<Option<u32>, Fail> {
     Ok(number_of(alloc, &common(alloc, &board, 3)?))
 }
 
-const TWO_CALLS: &[Step] = &[
-    Step::Members(2),
-    Step::Front(1, 1),
-    Step::Acknowledges(1, 0, 2),
-    Step::Adds(0, 0, &[1], Ok(())),
-    Step::Adds(1, 0, &[2], Ok(())),
+const TWO_CALLS: &[BoardStep] = &[
+    BoardStep::Members(2),
+    BoardStep::Front(1, 1),
+    BoardStep::Acknowledges(1, 0, 2),
+    BoardStep::Adds(0, 0, &[1], Ok(())),
+    BoardStep::Adds(1, 0, &[2], Ok(())),
 ];
 
-const SECOND_CALL: &[Step] = &[
-    Step::Members(2),
-    Step::Front(1, 1),
-    Step::Acknowledges(1, 0, 2),
-    Step::Adds(1, 0, &[2], Ok(())),
+const SECOND_CALL: &[BoardStep] = &[
+    BoardStep::Members(2),
+    BoardStep::Front(1, 1),
+    BoardStep::Acknowledges(1, 0, 2),
+    BoardStep::Adds(1, 0, &[2], Ok(())),
 ];
 
-const FIRST_CALL: &[Step] = &[Step::Members(2), Step::Adds(0, 0, &[1], Ok(()))];
+const FIRST_CALL: &[BoardStep] = &[BoardStep::Members(2), BoardStep::Adds(0, 0, &[1], Ok(()))];
 
 // Whether the board without the posts of the digest is this one, in one part.
 fn is_delta(alloc: Global, board: &Board, digest: &Digest, wanted: &Board) -> Result<bool, Fail> {
@@ -71,7 +72,7 @@ fn is_delta(alloc: Global, board: &Board, digest: &Digest, wanted: &Board) -> Re
     Ok(made.len() == 1 && made.iter().all(|part| part.same(wanted)))
 }
 
-fn digest_by(rt: &impl Abort, alloc: Global, steps: &[Step]) -> Result<Digest, Fail> {
+fn digest_by(rt: &impl Abort, alloc: Global, steps: &[BoardStep]) -> Result<Digest, Fail> {
     let known = board_of(rt, alloc, "known", steps)?;
     Ok(digest_of(alloc, &known)?)
 }
@@ -127,6 +128,32 @@ fn digests_and_deltas(rt: HostRuntime) -> Result<(), Fail> {
     Ok(())
 }
 
+// Whether the frame spells the part.
+fn spells(alloc: Global, frame: &[u8], part: &Board) -> Result<bool, Fail> {
+    Ok(decode(alloc, frame)?.same(part))
+}
+
+// Whether the frames of the one node, written over bytes that were let go, spell what the other's deltas are.
+fn are_framed(alloc: Global, one: &mut Node, other: &mut Node) -> Result<bool, Fail> {
+    let mut spare = Vec::new(alloc);
+    spare.push(vec![in alloc; 7u8; 100]?)?;
+    let frames = one.framed_deltas(alloc, 524_288, &mut spare)?;
+    let parts = other.deltas(alloc, 524_288)?;
+    if frames.len() != 1 || parts.len() != 1 || !spare.is_empty() {
+        return Ok(false);
+    }
+    spells(alloc, frames[0].as_slice(), &parts[0])
+}
+
+// Of two equal nodes the frames of the one spell the deltas of the other.
+fn frames_spell_deltas(alloc: Global, ops: &Ops) -> Result<bool, Fail> {
+    let mut one = Node::new(alloc, Proc::new(0), 2, 2)?;
+    let mut other = Node::new(alloc, Proc::new(0), 2, 2)?;
+    posts_a_barrier(alloc, &mut one, ops)?;
+    posts_a_barrier(alloc, &mut other, ops)?;
+    are_framed(alloc, &mut one, &mut other)
+}
+
 // The one takes all boards of the other's deltas. How many of these have the post of process 0.
 fn takes(alloc: Global, one: &mut Node, other: &mut Node) -> Result<usize, OutOfMemory> {
     let world = Name::world(alloc);
@@ -171,6 +198,7 @@ fn tell_each_other(
 fn what_both_acknowledge_is_not_sent_again(rt: HostRuntime) -> Result<(), Fail> {
     let alloc = rt.alloc();
     let ops = Ops::none(alloc);
+    assert!(rt; frames_spell_deltas(alloc, &ops)?);
     let mut left = Node::new(alloc, Proc::new(0), 2, 2)?;
     let mut right = Node::new(alloc, Proc::new(1), 2, 2)?;
     let told = tell_each_other(&rt, alloc, &mut left, &mut right, &ops);

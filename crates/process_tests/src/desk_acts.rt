@@ -8,7 +8,7 @@ use std::alloc::Global;
 
 // Blocking calls.
 #[derive(Clone, Copy)]
-pub enum Call {
+pub enum WaitingCall {
     Barrier,
     Dup,
     // By colour and key.
@@ -46,16 +46,16 @@ pub fn make_call(
     alloc: Global,
     desk: &mut Desk<Node>,
     comm: &Comm,
-    call: Call,
+    call: WaitingCall,
     ops: &Ops,
 ) -> Result<Finished, CallError> {
     match call {
-        Call::Barrier => desk.barrier(alloc, comm, 0, ops),
-        Call::Dup => desk.dup(alloc, comm, 0, ops),
-        Call::Split(colour, key) => desk.split(alloc, comm, colour, key, 0, ops),
-        Call::Create(ranks) => create(alloc, desk, comm, ranks, ops),
-        Call::CreateGroup(tag, ranks) => desk.create_group(alloc, comm, tag, ranks, 0, ops),
-        Call::Free => desk.free(alloc, comm, 0, ops),
+        WaitingCall::Barrier => desk.barrier(alloc, comm, 0, ops),
+        WaitingCall::Dup => desk.dup(alloc, comm, 0, ops),
+        WaitingCall::Split(colour, key) => desk.split(alloc, comm, colour, key, 0, ops),
+        WaitingCall::Create(ranks) => create(alloc, desk, comm, ranks, ops),
+        WaitingCall::CreateGroup(tag, ranks) => desk.create_group(alloc, comm, tag, ranks, 0, ops),
+        WaitingCall::Free => desk.free(alloc, comm, 0, ops),
     }
 }
 

@@ -2,13 +2,14 @@
 ghost use Rattle.std.specs.Prelude.{◌<◌, ◌≤◌};
 
 use crate::contexts::sum_of;
-use crate::desk_acts::{Call as Called, Start, make_call, post_call};
+use crate::desk_acts::{Start, WaitingCall as Called, make_call, post_call};
 use crate::desks::{desk_of, gathering};
 use join_core::Exact;
 use mpx_comm::{CallError, Comm, Desk, Request, Tested, WaitError};
+use mpx_kind::{Call, Mode, Reduction};
 use mpx_node::{Finished, Harvest, Node};
 use mpx_num::{Items, Ops};
-use mpx_post::{Call, Mode, PostError, Reduction};
+use mpx_post::PostError;
 use mpx_value::Outcome;
 use std::alloc::Global;
 use std::mem;
@@ -18,7 +19,7 @@ use test_drafts::bare;
 
 // What a rank does. Communicators and requests are told by their places in its lists.
 #[derive(Clone, Copy)]
-pub enum Act {
+pub enum DeskAct {
     // A blocking call on a communicator, without a turn.
     Calls(usize, Called),
     Starts(usize, Start),
@@ -34,7 +35,7 @@ pub enum Act {
 
 // What it gets.
 #[derive(Clone, Copy)]
-pub enum Told {
+pub enum DeskTold {
     Refused(PostError),
     // It is posted and not done: the request is the last one of the list.
     Open,
@@ -55,9 +56,9 @@ pub enum Told {
 }
 
 #[derive(Clone, Copy)]
-pub enum Row {
-    Left(Act, Told),
-    Right(Act, Told),
+pub enum DeskRow {
+    Left(DeskAct, DeskTold),
+    Right(DeskAct, DeskTold),
     // Each takes the other's board.
     Swap,
 }
@@ -81,10 +82,10 @@ fn member_of(alloc: Global, me: u8, ranks: u8) -> Result<Member, Fail>
     })
 }
 
-fn keeps_comm(member: &mut Member, comm: Option<Comm>, told: Told) -> Result<bool, Fail> {
+fn keeps_comm(member: &mut Member, comm: Option<Comm>, told: DeskTold) -> Result<bool, Fail> {
     match (comm, told) {
-        (None, Told::NoComm) => Ok(true),
-        (Some(comm), Told::Made(size, rank, depth)) => {
+        (None, DeskTold::NoComm) => Ok(true),
+        (Some(comm), DeskTold::Made(size, rank, depth)) => {
             let of = (comm.size(), comm.rank(), comm.name().depth());
             member.comms.push(comm)?;
             Ok(of == (size, rank, depth))
@@ -109,13 +110,18 @@ fn is_sum_of(
 }
 
 // Whether the call gave that.
-fn gave(alloc: Global, member: &mut Member, finished: &Finished, told: Told) -> Result<bool, Fail> {
+fn gave(
+    alloc: Global,
+    member: &mut Member,
+    finished: &Finished,
+    told: DeskTold,
+) -> Result<bool, Fail> {
     match (&finished.outcome, told) {
-        (Outcome::Items(items), Told::Items(wanted)) => Ok(items.nums() == wanted),
-        (Outcome::Items(items), Told::SumOf(own, sum)) => {
+        (Outcome::Items(items), DeskTold::Items(wanted)) => Ok(items.nums() == wanted),
+        (Outcome::Items(items), DeskTold::SumOf(own, sum)) => {
             is_sum_of(alloc, finished, items, own, sum)
         }
-        (Outcome::Nothing, Told::Nothing) => Ok(true),
+        (Outcome::Nothing, DeskTold::Nothing) => Ok(true),
         _ => keeps_comm(member, Comm::of(alloc, finished)?, told),
     }
 }
@@ -130,7 +136,7 @@ fn calls(
     member: &mut Member,
     at: usize,
     called: Called,
-    told: Told,
+    told: DeskTold,
     ops: &Ops,
 ) -> Result<bool, Fail> {
     let Some(comm) = member.comms.get(at) else {
@@ -139,10 +145,10 @@ fn calls(
     match make_call(alloc, &mut member.desk, comm, called, ops) {
         Ok(finished) => gave(alloc, member, &finished, told),
         Err(CallError::StillWaiting(request)) => {
-            keeps(member, request, matches!(told, Told::Open))
+            keeps(member, request, matches!(told, DeskTold::Open))
         }
         Err(CallError::Refused(refusal)) => {
-            Ok(matches!(told, Told::Refused(wanted) if wanted == refusal))
+            Ok(matches!(told, DeskTold::Refused(wanted) if wanted == refusal))
         }
         Err(CallError::OutOfMemory(_)) => Ok(false),
     }
@@ -153,14 +159,14 @@ fn starts(
     member: &mut Member,
     at: usize,
     started: Start,
-    told: Told,
+    told: DeskTold,
     ops: &Ops,
 ) -> Result<bool, Fail> {
     let Some(comm) = member.comms.get(at) else {
         return Ok(false);
     };
     match post_call(alloc, &mut member.desk, comm, started, ops) {
-        Ok(request) => keeps(member, request, matches!(told, Told::Open)),
+        Ok(request) => keeps(member, request, matches!(told, DeskTold::Open)),
         Err(_) => Ok(false),
     }
 }
@@ -177,13 +183,13 @@ fn tests(
     alloc: Global,
     member: &mut Member,
     at: usize,
-    told: Told,
+    told: DeskTold,
     ops: &Ops,
 ) -> Result<bool, Fail> {
     let request = taken(member, at)?;
     match member.desk.test(alloc, request, ops) {
         Ok(Tested::Done(finished)) => gave(alloc, member, &finished, told),
-        Ok(Tested::NotYet(request)) => keeps(member, request, matches!(told, Told::NotYet)),
+        Ok(Tested::NotYet(request)) => keeps(member, request, matches!(told, DeskTold::NotYet)),
         Err(_) => Ok(false),
     }
 }
@@ -192,14 +198,14 @@ fn waits(
     alloc: Global,
     member: &mut Member,
     at: usize,
-    told: Told,
+    told: DeskTold,
     ops: &Ops,
 ) -> Result<bool, Fail> {
     let request = taken(member, at)?;
     match member.desk.wait(alloc, request, 0, ops) {
         Ok(finished) => gave(alloc, member, &finished, told),
         Err(WaitError::StillWaiting(request)) => {
-            keeps(member, request, matches!(told, Told::NotYet))
+            keeps(member, request, matches!(told, DeskTold::NotYet))
         }
         Err(WaitError::OutOfMemory(_)) => Ok(false),
     }
@@ -209,7 +215,7 @@ fn all_gave(
     alloc: Global,
     member: &mut Member,
     all: &[Finished],
-    told: Told,
+    told: DeskTold,
 ) -> Result<bool, Fail> {
     for finished in all {
         if !gave(alloc, member, finished, told)? {
@@ -219,25 +225,25 @@ fn all_gave(
     Ok(!all.is_empty())
 }
 
-fn tests_all(alloc: Global, member: &mut Member, told: Told, ops: &Ops) -> Result<bool, Fail> {
+fn tests_all(alloc: Global, member: &mut Member, told: DeskTold, ops: &Ops) -> Result<bool, Fail> {
     let requests = mem::replace(&mut member.requests, Vec::new(alloc));
     match member.desk.testall(alloc, requests, ops) {
         Ok(Tested::Done(all)) => all_gave(alloc, member, &all, told),
         Ok(Tested::NotYet(requests)) => {
             member.requests = requests;
-            Ok(matches!(told, Told::NotYet))
+            Ok(matches!(told, DeskTold::NotYet))
         }
         Err(_) => Ok(false),
     }
 }
 
-fn waits_all(alloc: Global, member: &mut Member, told: Told, ops: &Ops) -> Result<bool, Fail> {
+fn waits_all(alloc: Global, member: &mut Member, told: DeskTold, ops: &Ops) -> Result<bool, Fail> {
     let requests = mem::replace(&mut member.requests, Vec::new(alloc));
     match member.desk.waitall(alloc, requests, 1, ops) {
         Ok(all) => all_gave(alloc, member, &all, told),
         Err(WaitError::StillWaiting(requests)) => {
             member.requests = requests;
-            Ok(matches!(told, Told::NotYet))
+            Ok(matches!(told, DeskTold::NotYet))
         }
         Err(WaitError::OutOfMemory(_)) => Ok(false),
     }
@@ -247,9 +253,9 @@ fn is_first(
     member: &mut Member,
     request: Request,
     finished: &Finished,
-    told: Told,
+    told: DeskTold,
 ) -> Result<bool, Fail> {
-    let Told::First(at, wanted) = told else {
+    let DeskTold::First(at, wanted) = told else {
         return Ok(false);
     };
     let is_it = member.requests.get(at) == Some(&request);
@@ -260,9 +266,9 @@ fn is_first(
     }
 }
 
-fn tests_any(alloc: Global, member: &mut Member, told: Told, ops: &Ops) -> Result<bool, Fail> {
+fn tests_any(alloc: Global, member: &mut Member, told: DeskTold, ops: &Ops) -> Result<bool, Fail> {
     match member.desk.testany(alloc, ops)? {
-        None => Ok(matches!(told, Told::NoneIsDone)),
+        None => Ok(matches!(told, DeskTold::NoneIsDone)),
         Some((request, finished)) => is_first(member, request, &finished, told),
     }
 }
@@ -272,29 +278,37 @@ fn harvests_gathering(
     member: &mut Member,
     at: usize,
     tag: u16,
-    told: Told,
+    told: DeskTold,
     ops: &Ops,
 ) -> Result<bool, Fail> {
     let comm = member.comms.get(at).ok_or("no communicator")?;
     let name = gathering(alloc, comm.name(), tag)?;
     match member.desk.harvest(alloc, &name, ops)? {
         Harvest::Done(_) => Ok(false),
-        Harvest::NotYet => Ok(matches!(told, Told::NotYet)),
-        Harvest::NotOpened => Ok(matches!(told, Told::NotOpened)),
+        Harvest::NotYet => Ok(matches!(told, DeskTold::NotYet)),
+        Harvest::NotOpened => Ok(matches!(told, DeskTold::NotOpened)),
     }
 }
 
 // Whether the rank gets that when it does this.
-fn gets(alloc: Global, member: &mut Member, act: Act, told: Told, ops: &Ops) -> Result<bool, Fail> {
+fn gets(
+    alloc: Global,
+    member: &mut Member,
+    act: DeskAct,
+    told: DeskTold,
+    ops: &Ops,
+) -> Result<bool, Fail> {
     match act {
-        Act::Calls(at, called) => calls(alloc, member, at, called, told, ops),
-        Act::Starts(at, started) => starts(alloc, member, at, started, told, ops),
-        Act::Tests(at) => tests(alloc, member, at, told, ops),
-        Act::Waits(at) => waits(alloc, member, at, told, ops),
-        Act::TestsAll => tests_all(alloc, member, told, ops),
-        Act::WaitsAll => waits_all(alloc, member, told, ops),
-        Act::TestsAny => tests_any(alloc, member, told, ops),
-        Act::HarvestsGathering(at, tag) => harvests_gathering(alloc, member, at, tag, told, ops),
+        DeskAct::Calls(at, called) => calls(alloc, member, at, called, told, ops),
+        DeskAct::Starts(at, started) => starts(alloc, member, at, started, told, ops),
+        DeskAct::Tests(at) => tests(alloc, member, at, told, ops),
+        DeskAct::Waits(at) => waits(alloc, member, at, told, ops),
+        DeskAct::TestsAll => tests_all(alloc, member, told, ops),
+        DeskAct::WaitsAll => waits_all(alloc, member, told, ops),
+        DeskAct::TestsAny => tests_any(alloc, member, told, ops),
+        DeskAct::HarvestsGathering(at, tag) => harvests_gathering(
+            alloc, member, at, tag, told, ops,
+        ),
     }
 }
 
@@ -310,14 +324,14 @@ fn go_on(
     left: &mut Member,
     right: &mut Member,
     shown: &str,
-    rows: &[Row],
+    rows: &[DeskRow],
     ops: &Ops,
 ) -> Result<(), Fail> {
     for (at, row) in rows.iter().enumerate() {
         let is_right = match *row {
-            Row::Left(act, told) => gets(alloc, left, act, told, ops)?,
-            Row::Right(act, told) => gets(alloc, right, act, told, ops)?,
-            Row::Swap => swap(alloc, &mut left.desk, &mut right.desk)?,
+            DeskRow::Left(act, told) => gets(alloc, left, act, told, ops)?,
+            DeskRow::Right(act, told) => gets(alloc, right, act, told, ops)?,
+            DeskRow::Swap => swap(alloc, &mut left.desk, &mut right.desk)?,
         };
         assert!(rt; is_right, "{shown}: row {at}");
     }
@@ -330,7 +344,7 @@ pub fn run(
     alloc: Global,
     shown: &str,
     ranks: u8,
-    rows: &[Row],
+    rows: &[DeskRow],
     ops: &Ops,
 ) -> Result<(), Fail> {
     if ranks == 0 || ranks > 64 {

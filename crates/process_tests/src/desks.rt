@@ -1,4 +1,4 @@
-// Desks, numbers and answers that the tests use.
+//! Desks, numbers and answers that the tests use.
 ghost use Rattle.std.specs.Prelude.{◌<◌, ◌≤◌};
 
 use join_core::OutOfMemory;

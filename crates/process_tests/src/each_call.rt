@@ -1,9 +1,10 @@
-// Each call by its name, blocking and nonblocking, by the only rank of a communicator that has an edge to itself.
+//! Each call by its name, blocking and nonblocking, by the only rank of a communicator that has an edge to itself.
 use crate::desks::{desk_of, made, numbers, waited};
 use mpx_comm::{CallError, Comm, Desk, Request};
+use mpx_kind::Kind;
 use mpx_node::{Finished, Node};
 use mpx_num::{Numbers, Op, Ops, Ty};
-use mpx_post::{DraftedEdge, DraftedNeighbour, Kind, PostError};
+use mpx_post::{DraftedEdge, DraftedNeighbour, PostError};
 use mpx_value::Outcome;
 use std::alloc::Global;
 use std::process::Abort;

@@ -2,16 +2,17 @@
 ghost use Rattle.std.specs.Prelude.{◌≡◌, []};
 
 use crate::contexts::{On, WORLD, name_of};
-use crate::looks::{Look, is_seen};
-use crate::world_acts::{Act, Told};
-use crate::world_rows::{Row, go_on};
+use crate::looks::{NodeLook, is_seen};
+use crate::world_acts::{WorldAct, WorldTold};
+use crate::world_rows::{WorldRow, go_on};
 use join_core::Exact;
 use mpx_board::{Board, PruneError};
 use mpx_group::Proc;
+use mpx_kind::Kind;
 use mpx_name::Name;
 use mpx_node::{Harvest, Node};
 use mpx_num::{Listing, Ops};
-use mpx_post::{Kind, PostError};
+use mpx_post::PostError;
 use mpx_world::World;
 use std::alloc::Global;
 use std::marker::Brand;
@@ -22,27 +23,27 @@ use test_drafts::{draft, just, proc};
 const CHILD: On = On::Below(1);
 
 // Three ranks dup the world, and two of them harvest that and dup the child.
-const AHEAD: &[Row] = &[
-    Row::Does(0, Act::Dup(WORLD), Told::Posted(0)),
-    Row::Does(1, Act::Dup(WORLD), Told::Posted(0)),
-    Row::Does(2, Act::Dup(WORLD), Told::Posted(0)),
-    Row::Does(0, Act::Send, Told::Sent(0)),
-    Row::Does(1, Act::Send, Told::Sent(1)),
-    Row::Does(2, Act::Send, Told::Sent(2)),
-    Row::Does(0, Act::Take(1), Told::Taken),
-    Row::Does(0, Act::Take(2), Told::Taken),
-    Row::Does(1, Act::Take(0), Told::Taken),
-    Row::Does(1, Act::Take(2), Told::Taken),
-    Row::Does(0, Act::Harvest(WORLD), Told::Harvested(0)),
-    Row::Sees(0, WORLD, Look::Made(0, CHILD, 3, 0)),
-    Row::Sees(0, CHILD, Look::Born),
-    Row::Does(0, Act::Harvest(CHILD), Told::NotYet),
-    Row::Does(0, Act::Dup(CHILD), Told::Posted(0)),
-    Row::Does(1, Act::Harvest(WORLD), Told::Harvested(0)),
-    Row::Sees(1, WORLD, Look::Made(0, CHILD, 3, 1)),
-    Row::Sees(1, CHILD, Look::Born),
-    Row::Does(1, Act::Harvest(CHILD), Told::NotYet),
-    Row::Does(1, Act::Dup(CHILD), Told::Posted(0)),
+const AHEAD: &[WorldRow] = &[
+    WorldRow::Does(0, WorldAct::Dup(WORLD), WorldTold::Posted(0)),
+    WorldRow::Does(1, WorldAct::Dup(WORLD), WorldTold::Posted(0)),
+    WorldRow::Does(2, WorldAct::Dup(WORLD), WorldTold::Posted(0)),
+    WorldRow::Does(0, WorldAct::Send, WorldTold::Sent(0)),
+    WorldRow::Does(1, WorldAct::Send, WorldTold::Sent(1)),
+    WorldRow::Does(2, WorldAct::Send, WorldTold::Sent(2)),
+    WorldRow::Does(0, WorldAct::Take(1), WorldTold::Taken),
+    WorldRow::Does(0, WorldAct::Take(2), WorldTold::Taken),
+    WorldRow::Does(1, WorldAct::Take(0), WorldTold::Taken),
+    WorldRow::Does(1, WorldAct::Take(2), WorldTold::Taken),
+    WorldRow::Does(0, WorldAct::Harvest(WORLD), WorldTold::Harvested(0)),
+    WorldRow::Sees(0, WORLD, NodeLook::Made(0, CHILD, 3, 0)),
+    WorldRow::Sees(0, CHILD, NodeLook::Born),
+    WorldRow::Does(0, WorldAct::Harvest(CHILD), WorldTold::NotYet),
+    WorldRow::Does(0, WorldAct::Dup(CHILD), WorldTold::Posted(0)),
+    WorldRow::Does(1, WorldAct::Harvest(WORLD), WorldTold::Harvested(0)),
+    WorldRow::Sees(1, WORLD, NodeLook::Made(0, CHILD, 3, 1)),
+    WorldRow::Sees(1, CHILD, NodeLook::Born),
+    WorldRow::Does(1, WorldAct::Harvest(CHILD), WorldTold::NotYet),
+    WorldRow::Does(1, WorldAct::Dup(CHILD), WorldTold::Posted(0)),
 ];
 
 // Adds to the board the process's post on the child, and nothing else that its own board tells.
@@ -88,7 +89,13 @@ fn dup(alloc: Global, node: &mut Node, name: &Name, ops: &Ops) -> Result<u32, Po
     }
 }
 
-fn sees(rt: &impl Abort, alloc: Global, node: &Node, on: On, looks: &[Look]) -> Result<(), Fail> {
+fn sees(
+    rt: &impl Abort,
+    alloc: Global,
+    node: &Node,
+    on: On,
+    looks: &[NodeLook],
+) -> Result<(), Fail> {
     let name = name_of(alloc, on)?;
     for (at, look) in looks.iter().enumerate() {
         assert!(rt; is_seen(alloc, node, &name, *look)?, "at {at}");
@@ -109,7 +116,11 @@ fn has_posts_alone(
         alloc,
         node,
         CHILD,
-        &[Look::Holds(0, 0), Look::Holds(0, 1), Look::Unborn],
+        &[
+            NodeLook::Holds(0, 0),
+            NodeLook::Holds(0, 1),
+            NodeLook::Unborn,
+        ],
     )?;
     assert_eq!(rt; node.harvest(alloc, child, ops), Ok(Harvest::NotOpened));
     assert_eq!(rt; node.prune(child, 0), Err(PruneError::NoBirth));
@@ -128,7 +139,7 @@ fn goes_on_below(
         node.harvest(alloc, &Name::world(alloc), ops),
         Ok(Harvest::Done(0))
     );
-    sees(rt, alloc, node, WORLD, &[Look::Made(0, CHILD, 3, 2)])?;
+    sees(rt, alloc, node, WORLD, &[NodeLook::Made(0, CHILD, 3, 2)])?;
     assert_eq!(rt; node.harvest(alloc, child, ops), Ok(Harvest::NotYet));
     assert_eq!(rt; dup(alloc, node, child, ops), Ok(0));
     assert_eq!(rt; node.harvest(alloc, child, ops), Ok(Harvest::Done(0)));
@@ -137,7 +148,7 @@ fn goes_on_below(
         alloc,
         node,
         CHILD,
-        &[Look::Born, Look::Made(0, On::Below(2), 3, 2)],
+        &[NodeLook::Born, NodeLook::Made(0, On::Below(2), 3, 2)],
     )
 }
 

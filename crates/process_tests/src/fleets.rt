@@ -1,6 +1,6 @@
 //! New buses and their ports.
 ghost use Rattle.std.specs.Prelude.{◌≡◌, ◌<◌, ◌≤◌, IfOk};
-ghost use Rattle.mpx_bus.specs.Berths.{IsFleet};
+ghost use Rattle.mpx_bus.specs.Ports.{IsFleet};
 ghost use Rattle.mpx_bus.specs.Buses.{table_of};
 ghost use Rattle.process_tests.specs.Fresh.{ArePair, IsFresh};
 

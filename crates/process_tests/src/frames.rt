@@ -2,7 +2,7 @@
 //! damaged ones, are lines of `frame_text`.
 ghost use Rattle.std.specs.Prelude.{◌<◌};
 
-use crate::board_rows::{Step, board_of};
+use crate::board_rows::{BoardStep, board_of};
 use mpx_board::Board;
 use mpx_name::Name;
 use mpx_wire::{EncodeError, WireError, decode, encode, frame_len};
@@ -13,10 +13,10 @@ use test_drafts::proc;
 
 const EMPTY: [u8; 8] = [0x4d, 0x50, 0x58, 0x47, 2, 0, 0, 0];
 
-const WORLD_WITH_A_POST: &[Step] = &[
-    Step::Members(2),
-    Step::Front(1, 258),
-    Step::Adds(0, 0, &[-2, 1000], Ok(())),
+const WORLD_WITH_A_POST: &[BoardStep] = &[
+    BoardStep::Members(2),
+    BoardStep::Front(1, 258),
+    BoardStep::Adds(0, 0, &[-2, 1000], Ok(())),
 ];
 
 // The magic, the version and one name, of no step, which isn't dead; a birth of processes 0 and 1 without a topology, and one
@@ -29,11 +29,11 @@ const WRITTEN_OUT: [u8; 58] = [
     0xfe, 0x00, 0x00, 0x00, 0x00, 0x00, 0x00, 0x03, 0xe8, 0x00,
 ];
 
-const FREED_WORLD: &[Step] = &[
-    Step::Members(2),
-    Step::Acknowledges(1, 0, 1),
-    Step::Adds(0, 0, &[7], Ok(())),
-    Step::Kills(Ok(())),
+const FREED_WORLD: &[BoardStep] = &[
+    BoardStep::Members(2),
+    BoardStep::Acknowledges(1, 0, 1),
+    BoardStep::Adds(0, 0, &[7], Ok(())),
+    BoardStep::Kills(Ok(())),
 ];
 
 // One name, of no step, which is dead; and one process, number 1, that acknowledges one call of process 0 there.
@@ -47,7 +47,12 @@ fn is_written(alloc: Global, board: &Board, wanted: &[u8]) -> Result<bool, Fail>
     Ok(bytes.as_slice() == wanted && frame_len(board) == wanted.len())
 }
 
-fn writes(rt: &impl Abort, alloc: Global, steps: &[Step], wanted: &[u8]) -> Result<bool, Fail> {
+fn writes(
+    rt: &impl Abort,
+    alloc: Global,
+    steps: &[BoardStep],
+    wanted: &[u8],
+) -> Result<bool, Fail> {
     let board = board_of(rt, alloc, "written out", steps)?;
     is_written(alloc, &board, wanted)
 }

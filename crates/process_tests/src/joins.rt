@@ -1,5 +1,5 @@
-//! Joins, deltas, cuts and parts of boards.
-use crate::board_rows::{Step, board_of, go_on};
+//! Joins, at once and made ready first, deltas, cuts and parts of boards.
+use crate::board_rows::{BoardStep, board_of, go_on};
 use crate::contexts::{On, WORLD, name_of, post_of};
 use join_core::{Exact, Join, OutOfMemory};
 use mpx_board::Board;
@@ -9,20 +9,24 @@ use std::test::Fail;
 use test_drafts::proc;
 
 // Posts of calls 3 and 6.
-const LATE: &[Step] = &[
-    Step::Adds(3, 1, &[7], Ok(())),
-    Step::Adds(6, 1, &[7], Ok(())),
+const LATE: &[BoardStep] = &[
+    BoardStep::Adds(3, 1, &[7], Ok(())),
+    BoardStep::Adds(6, 1, &[7], Ok(())),
 ];
 
-const DROPPED: &[Step] = &[
-    Step::Members(3),
-    Step::Front(0, 5),
-    Step::Front(1, 5),
-    Step::Front(2, 5),
-    Step::Prunes(5, Ok(())),
+const DROPPED: &[BoardStep] = &[
+    BoardStep::Members(3),
+    BoardStep::Front(0, 5),
+    BoardStep::Front(1, 5),
+    BoardStep::Front(2, 5),
+    BoardStep::Prunes(5, Ok(())),
 ];
 
-const STAYS_DROPPED: &[Step] = &[Step::HasDropped(5), Step::Lacks(3, 1), Step::Holds(6, 1)];
+const STAYS_DROPPED: &[BoardStep] = &[
+    BoardStep::HasDropped(5),
+    BoardStep::Lacks(3, 1),
+    BoardStep::Holds(6, 1),
+];
 
 // Whether the join of both is this board, whichever way it is made.
 fn is_join(alloc: Global, board: &Board, a: &Board, b: &Board) -> Result<bool, OutOfMemory> {
@@ -47,7 +51,11 @@ fn stays_dropped(rt: &impl Abort, alloc: Global) -> Result<bool, Fail> {
     takes_late_posts(rt, alloc, &mut board, &part)
 }
 
-const HARVESTED: &[Step] = &[Step::Members(3), Step::Front(0, 1), Step::Front(2, 2)];
+const HARVESTED: &[BoardStep] = &[
+    BoardStep::Members(3),
+    BoardStep::Front(0, 1),
+    BoardStep::Front(2, 2),
+];
 
 // The join of a list of boards, in this order.
 fn all_of(alloc: Global, parts: &[&Board]) -> Result<Board, OutOfMemory> {
@@ -122,11 +130,31 @@ fn has_parts(rt: &impl Abort, alloc: Global) -> Result<bool, Fail> {
     Ok(is_made_again(alloc, &board)?)
 }
 
+// Makes the part ready, which changes nothing, and then joins it.
+fn joins_prepared(alloc: Global, board: &mut Board, part: &Board) -> Result<bool, OutOfMemory> {
+    let before = board.copy(alloc)?;
+    let prepared = board.prepare(alloc, part)?;
+    let stays = board.same(&before);
+    board.put_prepared(prepared);
+    Ok(stays && is_join(alloc, board, &before, part)?)
+}
+
+const ACKNOWLEDGED: &[BoardStep] = &[BoardStep::Front(1, 4), BoardStep::Acknowledges(0, 1, 2)];
+
+// A part of a context that the board has, of one that it lacks, and of acknowledgements.
+fn is_prepared(rt: &impl Abort, alloc: Global) -> Result<bool, Fail> {
+    let mut board = board_of(rt, alloc, "harvested", HARVESTED)?;
+    let mut part = board_of(rt, alloc, "acknowledged", ACKNOWLEDGED)?;
+    tells_of_a_child(alloc, &mut part)?;
+    Ok(joins_prepared(alloc, &mut board, &part)?)
+}
+
 #[test]
 fn boards_as_whole_values(rt: HostRuntime) -> Result<(), Fail> {
     let alloc = rt.alloc();
     assert!(rt; stays_dropped(&rt, alloc)?, "dropped calls stay dropped");
     assert!(rt; are_joined(&rt, alloc)?, "lists and deltas");
+    assert!(rt; is_prepared(&rt, alloc)?, "a part made ready");
     assert!(rt; cuts_the_child(&rt, alloc)?, "a cut");
     assert!(rt; has_parts(&rt, alloc)?, "parts");
     Ok(())

@@ -47,8 +47,6 @@ mod ports;
 #[cfg(test)]
 mod refused_takes;
 #[cfg(test)]
-mod runs;
-#[cfg(test)]
 mod schedules;
 #[cfg(test)]
 mod shared_alone;
@@ -66,3 +64,5 @@ mod strange_frames;
 mod world_acts;
 #[cfg(test)]
 mod world_rows;
+#[cfg(test)]
+mod world_runs;

@@ -3,11 +3,12 @@ ghost use Rattle.std.specs.Prelude.{◌≤◌};
 
 use crate::contexts::post_of;
 use join_core::Exact;
+use mpx_birth::Birth;
 use mpx_board::Board;
 use mpx_delta::digest_of;
 use mpx_name::Name;
 use mpx_parts::parts;
-use mpx_post::{Birth, Post};
+use mpx_post::Post;
 use mpx_wire::{EncodeError, decode, encode, frame_len};
 use std::alloc::Global;
 use std::test::Fail;

@@ -11,7 +11,7 @@ use test_drafts::proc;
 
 // What is seen, on a context where it is of one.
 #[derive(Clone, Copy)]
-pub enum Look {
+pub enum NodeLook {
     // A call gave this sum, and so does a copy of its result.
     Sum(u32, i128),
     // A call gave this communicator, of so many members, of which the process has this rank.
@@ -73,19 +73,19 @@ fn is_one_part(alloc: Global, node: &Node) -> Result<bool, Fail> {
 }
 
 // Whether this is seen of the node, on the context.
-pub fn is_seen(alloc: Global, node: &Node, name: &Name, look: Look) -> Result<bool, Fail> {
+pub fn is_seen(alloc: Global, node: &Node, name: &Name, look: NodeLook) -> Result<bool, Fail> {
     match look {
-        Look::Sum(call, sum) => Ok(gave_sum(alloc, node.result(name, call), sum)),
-        Look::Made(call, on, size, rank) => {
+        NodeLook::Sum(call, sum) => Ok(gave_sum(alloc, node.result(name, call), sum)),
+        NodeLook::Made(call, on, size, rank) => {
             let made = name_of(alloc, on)?;
             Ok(gave_comm(node.result(name, call), &made, (size, rank)))
         }
-        Look::Posted(number) => Ok(node.posted(name) == number),
-        Look::Holds(call, by) => Ok(node.board().holds(name, call, proc(by)).is_some()),
-        Look::Lacks(call, by) => Ok(node.board().holds(name, call, proc(by)).is_none()),
-        Look::Born => Ok(node.board().birth(name).is_some()),
-        Look::Unborn => Ok(node.board().birth(name).is_none()),
-        Look::OnePart => is_one_part(alloc, node),
-        Look::DoesNotFit => Ok(node.part(alloc, 10).err() == Some(PartError::DoesNotFit)),
+        NodeLook::Posted(number) => Ok(node.posted(name) == number),
+        NodeLook::Holds(call, by) => Ok(node.board().holds(name, call, proc(by)).is_some()),
+        NodeLook::Lacks(call, by) => Ok(node.board().holds(name, call, proc(by)).is_none()),
+        NodeLook::Born => Ok(node.board().birth(name).is_some()),
+        NodeLook::Unborn => Ok(node.board().birth(name).is_none()),
+        NodeLook::OnePart => is_one_part(alloc, node),
+        NodeLook::DoesNotFit => Ok(node.part(alloc, 10).err() == Some(PartError::DoesNotFit)),
     }
 }

@@ -1,7 +1,7 @@
 //! Eight ports on a queue with room for one frame, and on one with room for 256. A frame that comes back is pushed on later, and each that a
 //! port pops in its turn goes in three times more. Results are the same.
 ghost use Rattle.std.specs.Prelude.{◌≡◌, ◌<◌, ◌≤◌, All, []};
-ghost use Rattle.mpx_bus.specs.Berths.{CanPush, GoesOn, IsSamePort};
+ghost use Rattle.mpx_bus.specs.Ports.{CanPush, PortGoesOn, IsSamePort};
 ghost use Rattle.process_tests.specs.Homes.{IsHome, eight};
 
 use crate::ports::{LIMIT, harvests, posts, sum_at};
@@ -23,7 +23,7 @@ struct Results {
 fn pushes<R: Wait>(rt: &R, alloc: Global, bus: &Bus, port: &mut Port, frame: Frame) -> bool
     requires home { IsHome bus.now eight port.old }
     requires frame { CanPush port.old frame }
-    ensures { GoesOn port.old port.new }
+    ensures { PortGoesOn port.old port.new }
 {
     let Push::Full(frame) = bus.push_on(rt, port, frame) else {
         return true;
@@ -43,7 +43,7 @@ fn pushes_thrice<R: Wait>(
 ) -> Result<bool, Fail>
     requires home { IsHome bus.now eight port.old }
     requires frame { CanPush port.old frame }
-    ensures { GoesOn port.old port.new }
+    ensures { PortGoesOn port.old port.new }
 {
     let first = frame.copy()?;
     let second = frame.copy()?;

@@ -1,6 +1,6 @@
 //! Two ports on a queue with room for one frame.
 ghost use Rattle.std.specs.Prelude.{◌≡◌, false};
-ghost use Rattle.mpx_bus.specs.Berths.{IsSamePort};
+ghost use Rattle.mpx_bus.specs.Ports.{IsSamePort};
 ghost use Rattle.mpx_bus.specs.Buses.{table_of};
 
 use crate::fleets::two_ports;

@@ -1,6 +1,6 @@
 //! How many frames a bus has room for, and how long they may be.
 ghost use Rattle.std.specs.Prelude.{◌≡◌, ◌<◌, ◌≤◌, false};
-ghost use Rattle.mpx_bus.specs.Berths.{IsSamePort};
+ghost use Rattle.mpx_bus.specs.Ports.{IsSamePort};
 ghost use Rattle.mpx_bus.specs.Buses.{table_of};
 
 use crate::contexts::sum_of;
@@ -33,7 +33,7 @@ fn pushed_until_full<R: Wait>(
     Ok(300)
 }
 
-// The same of the only port of a new bus with room for so many.
+// How many frames the only port of a new bus with room for so many can push.
 fn room_of<R: Wait>(rt: &R, alloc: Global, room: usize, ops: &Ops) -> Result<usize, Fail>
     requires some { 0 < room }
     requires most { room ≤ 65536 }

@@ -1,7 +1,7 @@
 //! Two ports, in a thread each.
 ghost use Rattle.std.specs.Prelude.{◌≡◌, false, map};
 ghost use Rattle.mpx_num.specs.Own.{operation_of};
-ghost use Rattle.mpx_bus.specs.Berths.{IsSamePort};
+ghost use Rattle.mpx_bus.specs.Ports.{IsSamePort};
 ghost use Rattle.mpx_bus.specs.Buses.{table_of};
 
 use crate::fleets::two_ports;

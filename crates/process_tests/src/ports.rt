@@ -1,6 +1,6 @@
-// Results that the tests use, and what one port does.
+//! Results that the tests use, and what one port does.
 ghost use Rattle.std.specs.Prelude.{◌≡◌, false};
-ghost use Rattle.mpx_bus.specs.Berths.{IsSamePort};
+ghost use Rattle.mpx_bus.specs.Ports.{IsSamePort};
 
 use mpx_bus::Port;
 use mpx_name::Name;

@@ -2,7 +2,7 @@
 ghost use Rattle.std.specs.Prelude.{◌≡◌, []};
 
 use crate::contexts::WORLD;
-use crate::world_acts::{Act, Told, is_told};
+use crate::world_acts::{WorldAct, WorldTold, is_told};
 use mpx_board::PruneError;
 use mpx_num::{Listing, Ops};
 use mpx_world::World;
@@ -13,61 +13,61 @@ use std::test::Fail;
 
 // A process does the same so many times, and is told this the first time; numbers in what it is told go up by one each time.
 #[derive(Clone, Copy)]
-struct Times(u32, u8, Act, Told);
+struct Times(u32, u8, WorldAct, WorldTold);
 
 // All post 20 barriers, and of 1,000 parts none is taken. Then one whole part of each is enough for all 20.
 const NONE_TAKEN: &[Times] = &[
-    Times(20, 0, Act::Barrier, Told::Posted(0)),
-    Times(20, 1, Act::Barrier, Told::Posted(0)),
-    Times(20, 2, Act::Barrier, Told::Posted(0)),
-    Times(334, 0, Act::Send, Told::Sent(0)),
-    Times(333, 1, Act::Send, Told::Sent(334)),
-    Times(333, 2, Act::Send, Told::Sent(667)),
-    Times(1, 0, Act::Harvest(WORLD), Told::NotYet),
-    Times(1, 0, Act::Send, Told::Sent(1000)),
-    Times(1, 1, Act::Send, Told::Sent(1001)),
-    Times(1, 2, Act::Send, Told::Sent(1002)),
-    Times(1, 0, Act::Take(1001), Told::Taken),
-    Times(1, 0, Act::Take(1002), Told::Taken),
-    Times(1, 1, Act::Take(1000), Told::Taken),
-    Times(1, 1, Act::Take(1002), Told::Taken),
-    Times(1, 2, Act::Take(1000), Told::Taken),
-    Times(1, 2, Act::Take(1001), Told::Taken),
-    Times(20, 0, Act::Harvest(WORLD), Told::Harvested(0)),
-    Times(20, 1, Act::Harvest(WORLD), Told::Harvested(0)),
-    Times(20, 2, Act::Harvest(WORLD), Told::Harvested(0)),
-    Times(1, 0, Act::Harvest(WORLD), Told::NotYet),
-    Times(1, 1, Act::Harvest(WORLD), Told::NotYet),
-    Times(1, 2, Act::Harvest(WORLD), Told::NotYet),
+    Times(20, 0, WorldAct::Barrier, WorldTold::Posted(0)),
+    Times(20, 1, WorldAct::Barrier, WorldTold::Posted(0)),
+    Times(20, 2, WorldAct::Barrier, WorldTold::Posted(0)),
+    Times(334, 0, WorldAct::Send, WorldTold::Sent(0)),
+    Times(333, 1, WorldAct::Send, WorldTold::Sent(334)),
+    Times(333, 2, WorldAct::Send, WorldTold::Sent(667)),
+    Times(1, 0, WorldAct::Harvest(WORLD), WorldTold::NotYet),
+    Times(1, 0, WorldAct::Send, WorldTold::Sent(1000)),
+    Times(1, 1, WorldAct::Send, WorldTold::Sent(1001)),
+    Times(1, 2, WorldAct::Send, WorldTold::Sent(1002)),
+    Times(1, 0, WorldAct::Take(1001), WorldTold::Taken),
+    Times(1, 0, WorldAct::Take(1002), WorldTold::Taken),
+    Times(1, 1, WorldAct::Take(1000), WorldTold::Taken),
+    Times(1, 1, WorldAct::Take(1002), WorldTold::Taken),
+    Times(1, 2, WorldAct::Take(1000), WorldTold::Taken),
+    Times(1, 2, WorldAct::Take(1001), WorldTold::Taken),
+    Times(20, 0, WorldAct::Harvest(WORLD), WorldTold::Harvested(0)),
+    Times(20, 1, WorldAct::Harvest(WORLD), WorldTold::Harvested(0)),
+    Times(20, 2, WorldAct::Harvest(WORLD), WorldTold::Harvested(0)),
+    Times(1, 0, WorldAct::Harvest(WORLD), WorldTold::NotYet),
+    Times(1, 1, WorldAct::Harvest(WORLD), WorldTold::NotYet),
+    Times(1, 2, WorldAct::Harvest(WORLD), WorldTold::NotYet),
 ];
 
-const NONE_DROPPED: Told = Told::PruneRefused(PruneError::AboveFloor(0));
+const NONE_DROPPED: WorldTold = WorldTold::PruneRefused(PruneError::AboveFloor(0));
 
 // Rank 1 posts five calls, sends once and stops. The others harvest all five, and drop none, also once they know of each other that they
 // have.
 const STOPS: &[Times] = &[
-    Times(5, 1, Act::Barrier, Told::Posted(0)),
-    Times(1, 1, Act::Send, Told::Sent(0)),
-    Times(5, 0, Act::Barrier, Told::Posted(0)),
-    Times(5, 2, Act::Barrier, Told::Posted(0)),
-    Times(1, 0, Act::Send, Told::Sent(1)),
-    Times(1, 2, Act::Send, Told::Sent(2)),
-    Times(1, 0, Act::Take(0), Told::Taken),
-    Times(1, 0, Act::Take(2), Told::Taken),
-    Times(1, 2, Act::Take(0), Told::Taken),
-    Times(1, 2, Act::Take(1), Told::Taken),
-    Times(5, 0, Act::Harvest(WORLD), Told::Harvested(0)),
-    Times(5, 2, Act::Harvest(WORLD), Told::Harvested(0)),
-    Times(1, 0, Act::Prune(1), NONE_DROPPED),
-    Times(1, 2, Act::Prune(1), NONE_DROPPED),
-    Times(1, 0, Act::Send, Told::Sent(3)),
-    Times(1, 2, Act::Send, Told::Sent(4)),
-    Times(1, 0, Act::Take(4), Told::Taken),
-    Times(1, 2, Act::Take(3), Told::Taken),
-    Times(1, 0, Act::Prune(1), NONE_DROPPED),
-    Times(1, 2, Act::Prune(1), NONE_DROPPED),
-    Times(1, 0, Act::Prune(0), Told::Pruned),
-    Times(1, 0, Act::Harvest(WORLD), Told::NotYet),
+    Times(5, 1, WorldAct::Barrier, WorldTold::Posted(0)),
+    Times(1, 1, WorldAct::Send, WorldTold::Sent(0)),
+    Times(5, 0, WorldAct::Barrier, WorldTold::Posted(0)),
+    Times(5, 2, WorldAct::Barrier, WorldTold::Posted(0)),
+    Times(1, 0, WorldAct::Send, WorldTold::Sent(1)),
+    Times(1, 2, WorldAct::Send, WorldTold::Sent(2)),
+    Times(1, 0, WorldAct::Take(0), WorldTold::Taken),
+    Times(1, 0, WorldAct::Take(2), WorldTold::Taken),
+    Times(1, 2, WorldAct::Take(0), WorldTold::Taken),
+    Times(1, 2, WorldAct::Take(1), WorldTold::Taken),
+    Times(5, 0, WorldAct::Harvest(WORLD), WorldTold::Harvested(0)),
+    Times(5, 2, WorldAct::Harvest(WORLD), WorldTold::Harvested(0)),
+    Times(1, 0, WorldAct::Prune(1), NONE_DROPPED),
+    Times(1, 2, WorldAct::Prune(1), NONE_DROPPED),
+    Times(1, 0, WorldAct::Send, WorldTold::Sent(3)),
+    Times(1, 2, WorldAct::Send, WorldTold::Sent(4)),
+    Times(1, 0, WorldAct::Take(4), WorldTold::Taken),
+    Times(1, 2, WorldAct::Take(3), WorldTold::Taken),
+    Times(1, 0, WorldAct::Prune(1), NONE_DROPPED),
+    Times(1, 2, WorldAct::Prune(1), NONE_DROPPED),
+    Times(1, 0, WorldAct::Prune(0), WorldTold::Pruned),
+    Times(1, 0, WorldAct::Harvest(WORLD), WorldTold::NotYet),
 ];
 
 const SCHEDULES: [(&str, &[Times]); 2] = [
@@ -76,11 +76,11 @@ const SCHEDULES: [(&str, &[Times]); 2] = [
 ];
 
 // What is told so many times later.
-fn later(told: Told, times: u32) -> Told {
+fn later(told: WorldTold, times: u32) -> WorldTold {
     match told {
-        Told::Posted(call) => Told::Posted(call.wrapping_add(times)),
-        Told::Harvested(call) => Told::Harvested(call.wrapping_add(times)),
-        Told::Sent(place) => Told::Sent(place.wrapping_add(times as usize)),
+        WorldTold::Posted(call) => WorldTold::Posted(call.wrapping_add(times)),
+        WorldTold::Harvested(call) => WorldTold::Harvested(call.wrapping_add(times)),
+        WorldTold::Sent(place) => WorldTold::Sent(place.wrapping_add(times as usize)),
         other => other,
     }
 }

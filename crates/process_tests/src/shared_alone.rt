@@ -1,16 +1,17 @@
 //! The only port of a bus of one frame.
 ghost use Rattle.std.specs.Prelude.{◌≡◌, ◌<◌, false, length};
 ghost use Rattle.mpx_bus.specs.Buses.{table_of};
-ghost use Rattle.mpx_shared.specs.Docks.{IsDocked, made_in};
+ghost use Rattle.mpx_shared.specs.LawfulPorts.{IsLawful, made_in};
 
 use crate::fleets::one_port;
 use crate::shared_ports::{Shared, post, share};
 use mpx_bus::{Bus, Port, Push};
+use mpx_kind::Kind;
 use mpx_name::Name;
 use mpx_node::Finished;
 use mpx_num::{Listing, Ops};
-use mpx_post::{Kind, PostError};
-use mpx_shared::{Dock, Poster, Pull, SharedPort, Tested};
+use mpx_post::PostError;
+use mpx_shared::{PortLock, Poster, Pull, SharedPort, TicketTested};
 use mpx_value::Outcome;
 use std::alloc::Global;
 use std::marker::Brand;
@@ -23,7 +24,7 @@ use test_drafts::{draft, just};
 type AllTold = (bool, bool, bool, bool);
 
 // Whether the port's board tells how the communicator came to be.
-fn is_born<L: Dock, R: Wait>(
+fn is_born<L: PortLock, R: Wait>(
     rt: &R,
     alloc: Global,
     port: &SharedPort<L>,
@@ -33,7 +34,7 @@ fn is_born<L: Dock, R: Wait>(
 }
 
 // The world is born, and so is the gathering; a communicator that no call has made isn't.
-fn births<L: Dock, R: Wait>(
+fn births<L: PortLock, R: Wait>(
     rt: &R,
     alloc: Global,
     port: &SharedPort<L>,
@@ -46,7 +47,7 @@ fn births<L: Dock, R: Wait>(
 }
 
 // The queue is empty, and then full after one frame, which the port takes itself.
-fn frames<L: Dock, R: Wait>(
+fn frames<L: PortLock, R: Wait>(
     rt: &R,
     alloc: Global,
     bus: &Bus,
@@ -76,7 +77,7 @@ fn is_alone(finished: &Finished) -> bool {
 }
 
 // A post on the gathering, which the port has opened, makes a communicator once the port has looked.
-fn gathers<L: Dock, R: Wait>(
+fn gathers<L: PortLock, R: Wait>(
     rt: &R,
     alloc: Global,
     bus: &Bus,
@@ -93,13 +94,13 @@ fn gathers<L: Dock, R: Wait>(
     let ticket = post(rt, alloc, port, poster, gathering, drafted, ops)?;
     port.pull(rt, alloc, bus, ops);
     match port.test(rt, alloc, &ticket)? {
-        Tested::Done(finished) => Ok(is_alone(&finished)),
+        TicketTested::Done(finished) => Ok(is_alone(&finished)),
         _ => Ok(false),
     }
 }
 
 // Whether the post is refused, since the port has freed the context.
-fn is_refused<L: Dock, R: Wait>(
+fn is_refused<L: PortLock, R: Wait>(
     rt: &R,
     alloc: Global,
     port: &SharedPort<L>,
@@ -118,7 +119,7 @@ fn is_refused<L: Dock, R: Wait>(
 }
 
 // A free of the world closes it, and no other context.
-fn frees<L: Dock, R: Wait>(
+fn frees<L: PortLock, R: Wait>(
     rt: &R,
     alloc: Global,
     port: &SharedPort<L>,
@@ -139,7 +140,7 @@ fn frees<L: Dock, R: Wait>(
 }
 
 // All that is told of a new port.
-fn all_told<L: Dock, R: Wait>(
+fn all_told<L: PortLock, R: Wait>(
     rt: &R,
     alloc: Global,
     bus: &Bus,
@@ -149,7 +150,7 @@ fn all_told<L: Dock, R: Wait>(
 ) -> Result<AllTold, Fail>
     requires list { ⟦<Ops as Listing>⟧.operations ops.now ≡ L.setup.operations }
     requires ledger { (blank.name ≡ L.name) × ((blank.parts ≡ L.parts) × ((L.all ≡ L.parts) × (0 < L.parts))) }
-    requires port { (0 ≡ L.me) × (IsDocked L.table L.setup L.me port × ((port.journal ≡ L.opening) × (length (made_in port) ≡ L.before))) }
+    requires port { (0 ≡ L.me) × (IsLawful L.table L.setup L.me port × ((port.journal ≡ L.opening) × (length (made_in port) ≡ L.before))) }
     requires bus { (L.setup.planned ≡ false) × (table_of bus.now ≡ L.table) }
 {
     let Shared { port, mut poster } = share::<L>(alloc, port, 0, blank);
@@ -161,7 +162,7 @@ fn all_told<L: Dock, R: Wait>(
     Ok((framed, gathered, born, freed))
 }
 
-// The same of the only port of a bus with room for one frame.
+// What is told of the only port of a bus with room for one frame.
 fn alone<R: Wait>(rt: &R, alloc: Global, ops: &Ops) -> Result<AllTold, Fail> {
     let (bus, port) = one_port(alloc, 1, ops)?;
     all_told::<Brand, R>(rt, alloc, &bus, port, Blank::new(1), ops)

@@ -1,7 +1,7 @@
 //! Two shared ports at one bus.
 ghost use Rattle.std.specs.Prelude.{◌≡◌, ◌<◌, false, length};
 ghost use Rattle.mpx_bus.specs.Buses.{table_of};
-ghost use Rattle.mpx_shared.specs.Docks.{IsDocked, made_in};
+ghost use Rattle.mpx_shared.specs.LawfulPorts.{IsLawful, made_in};
 
 use crate::fleets::two_ports;
 use crate::ports::sum_in;
@@ -11,7 +11,7 @@ use mpx_bus::{Bus, Port};
 use mpx_name::Name;
 use mpx_node::Finished;
 use mpx_num::{Listing, Ops};
-use mpx_shared::{Dock, SharedPort, Tested, Ticket};
+use mpx_shared::{PortLock, SharedPort, Ticket, TicketTested};
 use std::alloc::Global;
 use std::marker::Brand;
 use std::sync::Wait;
@@ -25,13 +25,13 @@ fn mine_in(finished: &Finished) -> Option<i128> {
 }
 
 // What the ticket's call gave, where that is told: the own number, and the sum.
-fn told<L: Dock, R: Wait>(
+fn told<L: PortLock, R: Wait>(
     rt: &R,
     alloc: Global,
     port: &SharedPort<L>,
     ticket: &Ticket,
 ) -> Result<Option<(i128, i128)>, Fail> {
-    let Tested::Done(finished) = port.test(rt, alloc, ticket)? else {
+    let TicketTested::Done(finished) = port.test(rt, alloc, ticket)? else {
         return Ok(None);
     };
     if !finished.mine.same(&ticket.post) {
@@ -41,17 +41,17 @@ fn told<L: Dock, R: Wait>(
 }
 
 // Whether the port has no such post as the ticket's.
-fn is_strange<L: Dock, R: Wait>(
+fn is_strange<L: PortLock, R: Wait>(
     rt: &R,
     alloc: Global,
     port: &SharedPort<L>,
     ticket: &Ticket,
 ) -> Result<bool, Fail> {
-    Ok(matches!(port.test(rt, alloc, ticket)?, Tested::Strange))
+    Ok(matches!(port.test(rt, alloc, ticket)?, TicketTested::Strange))
 }
 
 // Both gossip in turn, until both are told the sum beside their own number.
-fn gossip_on<M: Dock, N: Dock, R: Wait>(
+fn gossip_on<M: PortLock, N: PortLock, R: Wait>(
     rt: &R,
     alloc: Global,
     bus: &Bus,
@@ -76,7 +76,7 @@ fn gossip_on<M: Dock, N: Dock, R: Wait>(
 }
 
 // The port posts its number to the next sum of all.
-fn post_sum<L: Dock, R: Wait>(
+fn post_sum<L: PortLock, R: Wait>(
     rt: &R,
     alloc: Global,
     shared: &mut Shared<L>,
@@ -101,7 +101,7 @@ fn post_sum<L: Dock, R: Wait>(
 
 // Both post a number. Whether the first port's ticket is strange to the second, before and after its own post, and whether both
 // are told the sum.
-fn sum_up<M: Dock, N: Dock, R: Wait>(
+fn sum_up<M: PortLock, N: PortLock, R: Wait>(
     rt: &R,
     alloc: Global,
     bus: &Bus,
@@ -128,8 +128,8 @@ fn sum_up<M: Dock, N: Dock, R: Wait>(
     Ok((unposted && posted, summed))
 }
 
-// The same of two new ports.
-fn share_two<M: Dock, N: Dock, R: Wait>(
+// Shares two new ports: whether a foreign ticket is strange to the second, and whether gossip brings both sums.
+fn share_two<M: PortLock, N: PortLock, R: Wait>(
     rt: &R,
     alloc: Global,
     bus: &Bus,
@@ -139,10 +139,10 @@ fn share_two<M: Dock, N: Dock, R: Wait>(
 ) -> Result<(bool, bool), Fail>
     requires list { (⟦<Ops as Listing>⟧.operations ops.now ≡ M.setup.operations) × (⟦<Ops as Listing>⟧.operations ops.now ≡ N.setup.operations) }
     requires first_ledger { (first.1.name ≡ M.name) × ((first.1.parts ≡ M.parts) × ((M.all ≡ M.parts) × (0 < M.parts))) }
-    requires first_port { (0 ≡ M.me) × (IsDocked M.table M.setup M.me first.0 × ((first.0.journal ≡ M.opening) × (length (made_in first.0) ≡ M.before))) }
+    requires first_port { (0 ≡ M.me) × (IsLawful M.table M.setup M.me first.0 × ((first.0.journal ≡ M.opening) × (length (made_in first.0) ≡ M.before))) }
     requires first_bus { (M.setup.planned ≡ false) × (table_of bus.now ≡ M.table) }
     requires second_ledger { (second.1.name ≡ N.name) × ((second.1.parts ≡ N.parts) × ((N.all ≡ N.parts) × (0 < N.parts))) }
-    requires second_port { (1 ≡ N.me) × (IsDocked N.table N.setup N.me second.0 × ((second.0.journal ≡ N.opening) × (length (made_in second.0) ≡ N.before))) }
+    requires second_port { (1 ≡ N.me) × (IsLawful N.table N.setup N.me second.0 × ((second.0.journal ≡ N.opening) × (length (made_in second.0) ≡ N.before))) }
     requires second_bus { (N.setup.planned ≡ false) × (table_of bus.now ≡ N.table) }
 {
     let first = share::<M>(alloc, first.0, 0, first.1);

@@ -2,15 +2,16 @@
 ghost use Rattle.std.specs.Prelude.{◌≡◌, ◌<◌, false, length, map};
 ghost use Rattle.mpx_num.specs.Own.{operation_of};
 ghost use Rattle.mpx_bus.specs.Buses.{table_of};
-ghost use Rattle.mpx_shared.specs.Docks.{IsDocked, made_in};
+ghost use Rattle.mpx_shared.specs.LawfulPorts.{IsLawful, made_in};
 
 use crate::fleets::one_port;
 use crate::shared_ports::{Shared, post, share};
 use mpx_bus::{Bus, Port};
+use mpx_kind::Kind;
 use mpx_name::Name;
 use mpx_num::{Listing, Ops};
-use mpx_post::{Kind, PostError};
-use mpx_shared::{Dock, Poster, SharedPort};
+use mpx_post::PostError;
+use mpx_shared::{PortLock, Poster, SharedPort};
 use std::alloc::Global;
 use std::marker::Brand;
 use std::sync::Wait;
@@ -19,7 +20,7 @@ use std::test::Fail;
 use std::thread::{Threads, join};
 use test_drafts::{draft, just};
 
-fn post_barrier<L: Dock, R: Wait>(
+fn post_barrier<L: PortLock, R: Wait>(
     rt: &R,
     alloc: Global,
     port: &SharedPort<L>,
@@ -38,7 +39,7 @@ fn post_barrier<L: Dock, R: Wait>(
 }
 
 // Posts so many barriers, and ends at the first refusal.
-fn post_barriers<L: Dock, R: Wait>(
+fn post_barriers<L: PortLock, R: Wait>(
     rt: &R,
     alloc: Global,
     port: &SharedPort<L>,
@@ -59,7 +60,7 @@ fn post_barriers<L: Dock, R: Wait>(
 }
 
 // Both at once. Whether no memory was wanting for the gossip.
-fn post_and_gossip<L: Dock + Send + Sync, R: Threads + Wait + Sync>(
+fn post_and_gossip<L: PortLock + Send + Sync, R: Threads + Wait + Sync>(
     rt: &R,
     alloc: Global,
     bus: &Bus,
@@ -84,7 +85,7 @@ fn post_and_gossip<L: Dock + Send + Sync, R: Threads + Wait + Sync>(
 }
 
 // How many posts the port's node has made on the world.
-fn work<L: Dock + Send + Sync, R: Threads + Wait + Sync>(
+fn work<L: PortLock + Send + Sync, R: Threads + Wait + Sync>(
     rt: &R,
     alloc: Global,
     bus: &Bus,
@@ -94,7 +95,7 @@ fn work<L: Dock + Send + Sync, R: Threads + Wait + Sync>(
 ) -> Result<u32, Fail>
     requires list { ⟦<Ops as Listing>⟧.operations ops.now ≡ L.setup.operations }
     requires ledger { (blank.name ≡ L.name) × ((blank.parts ≡ L.parts) × ((L.all ≡ L.parts) × (0 < L.parts))) }
-    requires port { (0 ≡ L.me) × (IsDocked L.table L.setup L.me port × ((port.journal ≡ L.opening) × (length (made_in port) ≡ L.before))) }
+    requires port { (0 ≡ L.me) × (IsLawful L.table L.setup L.me port × ((port.journal ≡ L.opening) × (length (made_in port) ≡ L.before))) }
     requires bus { (L.setup.planned ≡ false) × (table_of bus.now ≡ L.table) }
 {
     let Shared { port, poster } = share::<L>(alloc, port, 0, blank);

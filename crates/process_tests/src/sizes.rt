@@ -1,7 +1,7 @@
 //! A long list of events.
 ghost use Rattle.std.specs.Prelude.{◌≡◌, []};
 
-use crate::world_acts::{Act, event};
+use crate::world_acts::{WorldAct, event};
 use mpx_num::{Listing, Ops};
 use mpx_world::{Event, Reply, World};
 use std::alloc::Global;
@@ -12,7 +12,7 @@ use test_drafts::proc;
 // A post, its part, and then the same take again and again.
 fn many_takes(alloc: Global) -> Result<Vec<Event>, Fail> {
     let mut events = Vec::new(alloc);
-    for act in [Act::Post(1), Act::Send] {
+    for act in [WorldAct::Post(1), WorldAct::Send] {
         events.push(event(alloc, 0, act)?)?;
     }
     for _ in 2..10_000 {

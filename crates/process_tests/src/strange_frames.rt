@@ -4,7 +4,7 @@
 //! version 1, but for the dead context's.
 use crate::contexts::sum_of;
 use crate::frames::FRAME;
-use crate::looks::{Look, is_seen};
+use crate::looks::{NodeLook, is_seen};
 use mpx_board::PruneError;
 use mpx_group::Proc;
 use mpx_name::Name;
@@ -60,7 +60,7 @@ const DEAD: &[u8] = &[0x4d, 0x50, 0x58, 0x47, 2, 0, 1, 0, 1, 0];
 
 // What comes to the node of rank 0 of two, and what is seen of it.
 #[derive(Clone, Copy)]
-enum Step {
+enum FrameStep {
     // The board of this frame.
     Takes(&'static [u8]),
     // It gives this number to a sum by both.
@@ -71,128 +71,128 @@ enum Step {
     Prunes(u32, Result<(), PruneError>),
     // Whether what others may lack has its first post.
     Tells(bool),
-    Sees(Look),
+    Sees(NodeLook),
 }
 
-const CLASHES: &[Step] = &[
-    Step::Takes(FRAME),
-    Step::Sees(Look::Holds(0, 0)),
-    Step::Posts(1, Ok(0)),
-    Step::Sees(Look::Lacks(0, 0)),
-    Step::Takes(POST_OF_RANK_1),
-    Step::Sees(Look::Holds(0, 1)),
-    Step::Harvests(Harvest::NotYet),
-    Step::Takes(FRAME),
-    Step::Takes(POST_OF_RANK_0),
-    Step::Sees(Look::Lacks(0, 0)),
-    Step::Posts(2, Ok(1)),
-    Step::Sees(Look::Holds(1, 0)),
-    Step::Harvests(Harvest::NotYet),
-    Step::Sees(Look::Posted(2)),
-    Step::Sees(Look::OnePart),
+const CLASHES: &[FrameStep] = &[
+    FrameStep::Takes(FRAME),
+    FrameStep::Sees(NodeLook::Holds(0, 0)),
+    FrameStep::Posts(1, Ok(0)),
+    FrameStep::Sees(NodeLook::Lacks(0, 0)),
+    FrameStep::Takes(POST_OF_RANK_1),
+    FrameStep::Sees(NodeLook::Holds(0, 1)),
+    FrameStep::Harvests(Harvest::NotYet),
+    FrameStep::Takes(FRAME),
+    FrameStep::Takes(POST_OF_RANK_0),
+    FrameStep::Sees(NodeLook::Lacks(0, 0)),
+    FrameStep::Posts(2, Ok(1)),
+    FrameStep::Sees(NodeLook::Holds(1, 0)),
+    FrameStep::Harvests(Harvest::NotYet),
+    FrameStep::Sees(NodeLook::Posted(2)),
+    FrameStep::Sees(NodeLook::OnePart),
 ];
 
-const CLASHES_LATER: &[Step] = &[
-    Step::Posts(1, Ok(0)),
-    Step::Takes(POST_OF_RANK_1),
-    Step::Takes(FRAME),
-    Step::Sees(Look::Lacks(0, 0)),
-    Step::Harvests(Harvest::NotYet),
+const CLASHES_LATER: &[FrameStep] = &[
+    FrameStep::Posts(1, Ok(0)),
+    FrameStep::Takes(POST_OF_RANK_1),
+    FrameStep::Takes(FRAME),
+    FrameStep::Sees(NodeLook::Lacks(0, 0)),
+    FrameStep::Harvests(Harvest::NotYet),
 ];
 
 // A frame that tells the post before it is made.
-const AGREES: &[Step] = &[
-    Step::Takes(POST_OF_RANK_0),
-    Step::Sees(Look::Posted(0)),
-    Step::Takes(POST_OF_RANK_1),
-    Step::Harvests(Harvest::NotYet),
-    Step::Posts(1, Ok(0)),
-    Step::Harvests(Harvest::Done(0)),
-    Step::Sees(Look::Sum(0, 3)),
+const AGREES: &[FrameStep] = &[
+    FrameStep::Takes(POST_OF_RANK_0),
+    FrameStep::Sees(NodeLook::Posted(0)),
+    FrameStep::Takes(POST_OF_RANK_1),
+    FrameStep::Harvests(Harvest::NotYet),
+    FrameStep::Posts(1, Ok(0)),
+    FrameStep::Harvests(Harvest::Done(0)),
+    FrameStep::Sees(NodeLook::Sum(0, 3)),
 ];
 
-const OTHER_BIRTH: &[Step] = &[
-    Step::Posts(1, Ok(0)),
-    Step::Takes(POST_OF_RANK_1),
-    Step::Takes(THREE_MEMBERS),
-    Step::Sees(Look::Unborn),
-    Step::Posts(2, Err(PostError::NotMember)),
-    Step::Opens(Err(PostError::NotMember)),
-    Step::Harvests(Harvest::NotYet),
-    Step::Prunes(0, Err(PruneError::NoBirth)),
-    Step::Sees(Look::Posted(1)),
-    Step::Sees(Look::Holds(0, 0)),
-    Step::Sees(Look::OnePart),
+const OTHER_BIRTH: &[FrameStep] = &[
+    FrameStep::Posts(1, Ok(0)),
+    FrameStep::Takes(POST_OF_RANK_1),
+    FrameStep::Takes(THREE_MEMBERS),
+    FrameStep::Sees(NodeLook::Unborn),
+    FrameStep::Posts(2, Err(PostError::NotMember)),
+    FrameStep::Opens(Err(PostError::NotMember)),
+    FrameStep::Harvests(Harvest::NotYet),
+    FrameStep::Prunes(0, Err(PruneError::NoBirth)),
+    FrameStep::Sees(NodeLook::Posted(1)),
+    FrameStep::Sees(NodeLook::Holds(0, 0)),
+    FrameStep::Sees(NodeLook::OnePart),
 ];
 
-const BORN_TWICE: &[Step] = &[
-    Step::Opens(Ok(())),
-    Step::Takes(TWO_BIRTHS),
-    Step::Sees(Look::Unborn),
-    Step::Posts(1, Err(PostError::NotMember)),
-    Step::Opens(Err(PostError::NotMember)),
-    Step::Sees(Look::Posted(0)),
+const BORN_TWICE: &[FrameStep] = &[
+    FrameStep::Opens(Ok(())),
+    FrameStep::Takes(TWO_BIRTHS),
+    FrameStep::Sees(NodeLook::Unborn),
+    FrameStep::Posts(1, Err(PostError::NotMember)),
+    FrameStep::Opens(Err(PostError::NotMember)),
+    FrameStep::Sees(NodeLook::Posted(0)),
 ];
 
 // Posts below the dropped front are made, and are not on the board; those from it on are.
-const DROPPED_EARLY: &[Step] = &[
-    Step::Posts(1, Ok(0)),
-    Step::Takes(DROPPED),
-    Step::Sees(Look::Lacks(0, 0)),
-    Step::Takes(POST_OF_RANK_1),
-    Step::Sees(Look::Lacks(0, 1)),
-    Step::Posts(2, Ok(1)),
-    Step::Sees(Look::Lacks(1, 0)),
-    Step::Posts(3, Ok(2)),
-    Step::Sees(Look::Holds(2, 0)),
-    Step::Harvests(Harvest::NotYet),
-    Step::Prunes(0, Ok(())),
-    Step::Prunes(1, Err(PruneError::AboveFloor(0))),
+const DROPPED_EARLY: &[FrameStep] = &[
+    FrameStep::Posts(1, Ok(0)),
+    FrameStep::Takes(DROPPED),
+    FrameStep::Sees(NodeLook::Lacks(0, 0)),
+    FrameStep::Takes(POST_OF_RANK_1),
+    FrameStep::Sees(NodeLook::Lacks(0, 1)),
+    FrameStep::Posts(2, Ok(1)),
+    FrameStep::Sees(NodeLook::Lacks(1, 0)),
+    FrameStep::Posts(3, Ok(2)),
+    FrameStep::Sees(NodeLook::Holds(2, 0)),
+    FrameStep::Harvests(Harvest::NotYet),
+    FrameStep::Prunes(0, Ok(())),
+    FrameStep::Prunes(1, Err(PruneError::AboveFloor(0))),
 ];
 
-const HARVESTED_EARLY: &[Step] = &[
-    Step::Posts(1, Ok(0)),
-    Step::Takes(FRONTS),
-    Step::Prunes(8, Err(PruneError::AboveFloor(7))),
-    Step::Prunes(7, Ok(())),
-    Step::Sees(Look::Lacks(0, 0)),
-    Step::Posts(2, Ok(1)),
-    Step::Sees(Look::Lacks(1, 0)),
-    Step::Harvests(Harvest::NotYet),
+const HARVESTED_EARLY: &[FrameStep] = &[
+    FrameStep::Posts(1, Ok(0)),
+    FrameStep::Takes(FRONTS),
+    FrameStep::Prunes(8, Err(PruneError::AboveFloor(7))),
+    FrameStep::Prunes(7, Ok(())),
+    FrameStep::Sees(NodeLook::Lacks(0, 0)),
+    FrameStep::Posts(2, Ok(1)),
+    FrameStep::Sees(NodeLook::Lacks(1, 0)),
+    FrameStep::Harvests(Harvest::NotYet),
 ];
 
 // What all say that they have is left out of what is told on, though one says too much; the board keeps it, and so does the whole part.
-const ACKNOWLEDGED_EARLY: &[Step] = &[
-    Step::Posts(1, Ok(0)),
-    Step::Tells(true),
-    Step::Takes(ACKNOWLEDGED),
-    Step::Tells(false),
-    Step::Sees(Look::Holds(0, 0)),
-    Step::Sees(Look::OnePart),
-    Step::Takes(POST_OF_RANK_1),
-    Step::Harvests(Harvest::Done(0)),
-    Step::Sees(Look::Sum(0, 3)),
+const ACKNOWLEDGED_EARLY: &[FrameStep] = &[
+    FrameStep::Posts(1, Ok(0)),
+    FrameStep::Tells(true),
+    FrameStep::Takes(ACKNOWLEDGED),
+    FrameStep::Tells(false),
+    FrameStep::Sees(NodeLook::Holds(0, 0)),
+    FrameStep::Sees(NodeLook::OnePart),
+    FrameStep::Takes(POST_OF_RANK_1),
+    FrameStep::Harvests(Harvest::Done(0)),
+    FrameStep::Sees(NodeLook::Sum(0, 3)),
 ];
 
 // Of a dead context nothing is known, nothing comes back, and nothing is left to drop.
-const DEAD_EARLY: &[Step] = &[
-    Step::Posts(1, Ok(0)),
-    Step::Takes(DEAD),
-    Step::Sees(Look::Unborn),
-    Step::Sees(Look::Lacks(0, 0)),
-    Step::Posts(2, Err(PostError::NotMember)),
-    Step::Opens(Err(PostError::NotMember)),
-    Step::Harvests(Harvest::NotYet),
-    Step::Prunes(7, Ok(())),
-    Step::Takes(POST_OF_RANK_1),
-    Step::Takes(THREE_MEMBERS),
-    Step::Sees(Look::Lacks(0, 1)),
-    Step::Sees(Look::Unborn),
-    Step::Sees(Look::Posted(1)),
-    Step::Sees(Look::OnePart),
+const DEAD_EARLY: &[FrameStep] = &[
+    FrameStep::Posts(1, Ok(0)),
+    FrameStep::Takes(DEAD),
+    FrameStep::Sees(NodeLook::Unborn),
+    FrameStep::Sees(NodeLook::Lacks(0, 0)),
+    FrameStep::Posts(2, Err(PostError::NotMember)),
+    FrameStep::Opens(Err(PostError::NotMember)),
+    FrameStep::Harvests(Harvest::NotYet),
+    FrameStep::Prunes(7, Ok(())),
+    FrameStep::Takes(POST_OF_RANK_1),
+    FrameStep::Takes(THREE_MEMBERS),
+    FrameStep::Sees(NodeLook::Lacks(0, 1)),
+    FrameStep::Sees(NodeLook::Unborn),
+    FrameStep::Sees(NodeLook::Posted(1)),
+    FrameStep::Sees(NodeLook::OnePart),
 ];
 
-const NODES: [(&str, &[Step]); 9] = [
+const NODES: [(&str, &[FrameStep]); 9] = [
     ("another post before the own one", CLASHES),
     ("another post after the own one", CLASHES_LATER),
     ("the own post before it is made", AGREES),
@@ -240,17 +240,17 @@ fn is_so(
     alloc: Global,
     node: &mut Node,
     world: &Name,
-    step: Step,
+    step: FrameStep,
     ops: &Ops,
 ) -> Result<bool, Fail> {
     match step {
-        Step::Takes(frame) => takes(alloc, node, frame),
-        Step::Posts(number, told) => Ok(posts(alloc, node, world, number, ops)? == told),
-        Step::Opens(told) => Ok(opens(alloc, node, world) == told),
-        Step::Harvests(told) => Ok(node.harvest(alloc, world, ops)? == told),
-        Step::Prunes(number, told) => Ok(node.prune(world, number) == told),
-        Step::Tells(told) => Ok(tells(alloc, node, world)? == told),
-        Step::Sees(look) => is_seen(alloc, node, world, look),
+        FrameStep::Takes(frame) => takes(alloc, node, frame),
+        FrameStep::Posts(number, told) => Ok(posts(alloc, node, world, number, ops)? == told),
+        FrameStep::Opens(told) => Ok(opens(alloc, node, world) == told),
+        FrameStep::Harvests(told) => Ok(node.harvest(alloc, world, ops)? == told),
+        FrameStep::Prunes(number, told) => Ok(node.prune(world, number) == told),
+        FrameStep::Tells(told) => Ok(tells(alloc, node, world)? == told),
+        FrameStep::Sees(look) => is_seen(alloc, node, world, look),
     }
 }
 
@@ -259,7 +259,7 @@ fn go_on(
     alloc: Global,
     node: &mut Node,
     shown: &str,
-    steps: &[Step],
+    steps: &[FrameStep],
     ops: &Ops,
 ) -> Result<(), Fail> {
     let world = Name::world(alloc);
@@ -272,7 +272,13 @@ fn go_on(
     Ok(())
 }
 
-fn run(rt: &impl Abort, alloc: Global, shown: &str, steps: &[Step], ops: &Ops) -> Result<(), Fail> {
+fn run(
+    rt: &impl Abort,
+    alloc: Global,
+    shown: &str,
+    steps: &[FrameStep],
+    ops: &Ops,
+) -> Result<(), Fail> {
     let mut node = Node::new(alloc, Proc::new(0), 2, 2)?;
     let answer = go_on(rt, alloc, &mut node, shown, steps, ops);
     drop(node);

@@ -4,9 +4,10 @@ ghost use Rattle.std.specs.Prelude.{◌≡◌, []};
 use crate::contexts::{On, WORLD, name_of, sum_of};
 use mpx_board::PruneError;
 use mpx_group::Proc;
+use mpx_kind::Kind;
 use mpx_name::Name;
 use mpx_num::{Listing, Numbers, Ops};
-use mpx_post::{Kind, PostError};
+use mpx_post::PostError;
 use mpx_world::{Cut, Event, Names, Reply, World};
 use std::alloc::Global;
 use std::marker::Brand;
@@ -15,7 +16,7 @@ use test_drafts::{Drafted, draft, just, proc};
 
 // What a process does, on the context of all where it names none.
 #[derive(Clone, Copy)]
-pub enum Act {
+pub enum WorldAct {
     // It gives this number to a sum by all.
     Post(i128),
     Barrier,
@@ -37,7 +38,7 @@ pub enum Act {
 
 // What it is told.
 #[derive(Clone, Copy)]
-pub enum Told {
+pub enum WorldTold {
     Posted(u32),
     PostRefused(PostError),
     Harvested(u32),
@@ -78,49 +79,49 @@ fn gathers(alloc: Global, proc: Proc, on: On, tag: i128, ranks: &[i128]) -> Resu
     })
 }
 
-pub fn event(alloc: Global, number: u8, act: Act) -> Result<Event, Fail> {
+pub fn event(alloc: Global, number: u8, act: WorldAct) -> Result<Event, Fail> {
     let proc = proc(number);
     match act {
-        Act::Post(item) => posts(alloc, proc, WORLD, &sum_of(&[item])),
-        Act::Barrier => posts(alloc, proc, WORLD, &just(Kind::Barrier)),
-        Act::Dup(on) => posts(alloc, proc, on, &just(Kind::Dup)),
-        Act::Free => posts(alloc, proc, WORLD, &just(Kind::Free)),
-        Act::CreateGroup => creates_group(alloc, proc),
-        Act::Harvest(on) => {
+        WorldAct::Post(item) => posts(alloc, proc, WORLD, &sum_of(&[item])),
+        WorldAct::Barrier => posts(alloc, proc, WORLD, &just(Kind::Barrier)),
+        WorldAct::Dup(on) => posts(alloc, proc, on, &just(Kind::Dup)),
+        WorldAct::Free => posts(alloc, proc, WORLD, &just(Kind::Free)),
+        WorldAct::CreateGroup => creates_group(alloc, proc),
+        WorldAct::Harvest(on) => {
             let name = name_of(alloc, on)?;
             Ok(Event::Harvest { proc, name })
         }
-        Act::Prune(number) => {
+        WorldAct::Prune(number) => {
             let name = Name::world(alloc);
             Ok(Event::Prune { proc, name, number })
         }
-        Act::Send => {
+        WorldAct::Send => {
             let cut = Cut::Whole;
             Ok(Event::Send { proc, cut })
         }
-        Act::SendNothing => {
+        WorldAct::SendNothing => {
             let cut = Cut::Names(Names::new(Vec::new(alloc)));
             Ok(Event::Send { proc, cut })
         }
-        Act::Take(part) => Ok(Event::Take { proc, part }),
-        Act::Gather(on, tag, ranks) => gathers(alloc, proc, on, tag, &ranks),
+        WorldAct::Take(part) => Ok(Event::Take { proc, part }),
+        WorldAct::Gather(on, tag, ranks) => gathers(alloc, proc, on, tag, &ranks),
     }
 }
 
-fn reply_of(alloc: Global, told: Told) -> Result<Reply, Fail> {
+fn reply_of(alloc: Global, told: WorldTold) -> Result<Reply, Fail> {
     match told {
-        Told::Posted(call) => Ok(Reply::Posted(call)),
-        Told::PostRefused(refusal) => Ok(Reply::PostRefused(refusal)),
-        Told::Harvested(call) => Ok(Reply::Harvested(call)),
-        Told::NotYet => Ok(Reply::NotYet),
-        Told::NotOpened => Ok(Reply::NotOpened),
-        Told::Opened(on) => Ok(Reply::Opened(name_of(alloc, on)?)),
-        Told::Pruned => Ok(Reply::Pruned),
-        Told::PruneRefused(refusal) => Ok(Reply::PruneRefused(refusal)),
-        Told::Sent(part) => Ok(Reply::Sent(part)),
-        Told::Taken => Ok(Reply::Taken),
-        Told::NoSuchProcess => Ok(Reply::NoSuchProcess),
-        Told::NoSuchPart => Ok(Reply::NoSuchPart),
+        WorldTold::Posted(call) => Ok(Reply::Posted(call)),
+        WorldTold::PostRefused(refusal) => Ok(Reply::PostRefused(refusal)),
+        WorldTold::Harvested(call) => Ok(Reply::Harvested(call)),
+        WorldTold::NotYet => Ok(Reply::NotYet),
+        WorldTold::NotOpened => Ok(Reply::NotOpened),
+        WorldTold::Opened(on) => Ok(Reply::Opened(name_of(alloc, on)?)),
+        WorldTold::Pruned => Ok(Reply::Pruned),
+        WorldTold::PruneRefused(refusal) => Ok(Reply::PruneRefused(refusal)),
+        WorldTold::Sent(part) => Ok(Reply::Sent(part)),
+        WorldTold::Taken => Ok(Reply::Taken),
+        WorldTold::NoSuchProcess => Ok(Reply::NoSuchProcess),
+        WorldTold::NoSuchPart => Ok(Reply::NoSuchPart),
     }
 }
 
@@ -129,7 +130,7 @@ fn reply(
     alloc: Global,
     world: &mut World<Brand>,
     number: u8,
-    act: Act,
+    act: WorldAct,
     ops: &Ops,
 ) -> Result<Reply, Fail>
     requires list { ⟦<Ops as Listing>⟧.operations ops.now ≡ [] }
@@ -144,8 +145,8 @@ pub fn is_told(
     alloc: Global,
     world: &mut World<Brand>,
     number: u8,
-    act: Act,
-    told: Told,
+    act: WorldAct,
+    told: WorldTold,
     ops: &Ops,
 ) -> Result<bool, Fail>
     requires list { ⟦<Ops as Listing>⟧.operations ops.now ≡ [] }

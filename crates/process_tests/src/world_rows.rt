@@ -2,8 +2,8 @@
 ghost use Rattle.std.specs.Prelude.{◌≡◌, []};
 
 use crate::contexts::{On, name_of};
-use crate::looks::{Look, is_seen};
-use crate::world_acts::{Act, Told, is_told};
+use crate::looks::{NodeLook, is_seen};
+use crate::world_acts::{WorldAct, WorldTold, is_told};
 use join_core::Exact;
 use mpx_num::{Listing, Ops};
 use mpx_world::World;
@@ -14,18 +14,24 @@ use std::test::Fail;
 use test_drafts::proc;
 
 #[derive(Clone, Copy)]
-pub enum Row {
+pub enum WorldRow {
     // The process does this and is told that.
-    Does(u8, Act, Told),
+    Does(u8, WorldAct, WorldTold),
     // This is seen of it on the context.
-    Sees(u8, On, Look),
+    Sees(u8, On, NodeLook),
     // The two have the same board.
     Same(u8, u8),
     // There is no such process.
     Nobody(u8),
 }
 
-fn sees(alloc: Global, world: &World<Brand>, number: u8, on: On, look: Look) -> Result<bool, Fail> {
+fn sees(
+    alloc: Global,
+    world: &World<Brand>,
+    number: u8,
+    on: On,
+    look: NodeLook,
+) -> Result<bool, Fail> {
     let node = world.node(proc(number)).ok_or("no node")?;
     let name = name_of(alloc, on)?;
     is_seen(alloc, node, &name, look)
@@ -39,14 +45,14 @@ fn have_the_same(world: &World<Brand>, one: u8, other: u8) -> bool {
 }
 
 // Does what the row says, and answers whether it comes out so.
-fn is_so(alloc: Global, world: &mut World<Brand>, row: Row, ops: &Ops) -> Result<bool, Fail>
+fn is_so(alloc: Global, world: &mut World<Brand>, row: WorldRow, ops: &Ops) -> Result<bool, Fail>
     requires list { ⟦<Ops as Listing>⟧.operations ops.now ≡ [] }
 {
     match row {
-        Row::Does(number, act, told) => is_told(alloc, world, number, act, told, ops),
-        Row::Sees(number, on, look) => sees(alloc, world, number, on, look),
-        Row::Same(one, other) => Ok(have_the_same(world, one, other)),
-        Row::Nobody(number) => Ok(world.node(proc(number)).is_none()),
+        WorldRow::Does(number, act, told) => is_told(alloc, world, number, act, told, ops),
+        WorldRow::Sees(number, on, look) => sees(alloc, world, number, on, look),
+        WorldRow::Same(one, other) => Ok(have_the_same(world, one, other)),
+        WorldRow::Nobody(number) => Ok(world.node(proc(number)).is_none()),
     }
 }
 
@@ -56,7 +62,7 @@ pub fn go_on(
     alloc: Global,
     world: &mut World<Brand>,
     shown: &str,
-    rows: &[Row],
+    rows: &[WorldRow],
     ops: &Ops,
 ) -> Result<(), Fail>
     requires list { ⟦<Ops as Listing>⟧.operations ops.now ≡ [] }
@@ -67,14 +73,14 @@ pub fn go_on(
     Ok(())
 }
 
-// The same on a new world of so many ranks and processes.
+// Carries out the rows on a new world of so many ranks and processes.
 pub fn run(
     rt: &impl Abort,
     alloc: Global,
     shown: &str,
     ranks: u8,
     processes: u8,
-    rows: &[Row],
+    rows: &[WorldRow],
     ops: &Ops,
 ) -> Result<(), Fail>
     requires list { ⟦<Ops as Listing>⟧.operations ops.now ≡ [] }

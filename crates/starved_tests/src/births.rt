@@ -3,9 +3,9 @@ use crate::groups::procs;
 use crate::trial::Trial;
 use crate::trouble::{Trouble, both, filled, taken};
 use join_core::Exact;
+use mpx_birth::{Birth, Neighbour, Neighbours, Topology};
 use mpx_group::Proc;
 use mpx_num::Ops;
-use mpx_post::{Birth, Neighbour, Neighbours, Topology};
 use std::alloc::Global;
 
 pub enum BirthCall {

@@ -4,12 +4,14 @@ use crate::names::{child, next_child};
 use crate::trial::Trial;
 use crate::trouble::{Trouble, both, filled, taken, tight};
 use join_core::Exact;
+use mpx_birth::Birth;
 use mpx_board::Board;
 use mpx_delta::{deltas, digest_of};
 use mpx_group::Proc;
+use mpx_kind::Kind;
 use mpx_name::Name;
 use mpx_num::Ops;
-use mpx_post::{Birth, Kind, Post};
+use mpx_post::Post;
 use std::alloc::Global;
 use test_drafts::proc;
 
@@ -86,7 +88,7 @@ pub enum BoardCall {
 
 // A board, what is told of it, and of which contexts.
 #[derive(Drop)]
-pub struct Told {
+pub struct BoardFacts {
     board: Board,
     posts: Vec<Post>,
     births: Vec<Birth>,
@@ -95,17 +97,17 @@ pub struct Told {
 }
 
 // A context that is new to the board gets a post.
-fn add_post(alloc: Global, told: &mut Told) -> Result<(), Trouble> {
+fn add_post(alloc: Global, told: &mut BoardFacts) -> Result<(), Trouble> {
     let post = taken(&mut told.posts)?;
     Ok(told.board.add_post(alloc, &told.child, 3, proc(1), post)?)
 }
 
-fn join_post(alloc: Global, told: &mut Told) -> Result<(), Trouble> {
+fn join_post(alloc: Global, told: &mut BoardFacts) -> Result<(), Trouble> {
     let post = taken(&mut told.posts)?;
     Ok(told.board.join_post(alloc, &told.world, 1, proc(1), post)?)
 }
 
-fn add_birth(alloc: Global, told: &mut Told) -> Result<(), Trouble> {
+fn add_birth(alloc: Global, told: &mut BoardFacts) -> Result<(), Trouble> {
     let birth = taken(&mut told.births)?;
     Ok(told.board.add_birth(alloc, &told.child, birth)?)
 }
@@ -123,7 +125,7 @@ fn acknowledge(alloc: Global, board: &mut Board) -> Result<(), Trouble> {
     Ok(())
 }
 
-fn fill_told(alloc: Global, told: &mut Told) -> Result<(), Trouble> {
+fn fill_told(alloc: Global, told: &mut BoardFacts) -> Result<(), Trouble> {
     for _time in 0..2 {
         told.posts.push(post_of(alloc, Kind::Barrier)?)?;
         told.births.push(born(alloc)?)?;
@@ -132,13 +134,13 @@ fn fill_told(alloc: Global, told: &mut Told) -> Result<(), Trouble> {
 }
 
 impl Trial for BoardCall {
-    type State = Told;
+    type State = BoardFacts;
 
     type Made = ();
 
-    fn start(&self, alloc: Global, _ops: &Ops) -> Result<Told, Trouble> {
+    fn start(&self, alloc: Global, _ops: &Ops) -> Result<BoardFacts, Trouble> {
         let (board, child) = both(some_board(alloc), child(alloc))?;
-        let mut told = Told {
+        let mut told = BoardFacts {
             board,
             posts: Vec::new(alloc),
             births: Vec::new(alloc),
@@ -149,7 +151,7 @@ impl Trial for BoardCall {
         filled(told, done)
     }
 
-    fn call(&self, alloc: Global, told: &mut Told, _ops: &Ops) -> Result<(), Trouble> {
+    fn call(&self, alloc: Global, told: &mut BoardFacts, _ops: &Ops) -> Result<(), Trouble> {
         match self {
             BoardCall::JoinPost => join_post(alloc, told),
             BoardCall::AddPost => add_post(alloc, told),
@@ -166,7 +168,7 @@ impl Trial for BoardCall {
         }
     }
 
-    fn are_same(&self, one: &Told, other: &Told) -> bool {
+    fn are_same(&self, one: &BoardFacts, other: &BoardFacts) -> bool {
         one.board.same(&other.board)
     }
 

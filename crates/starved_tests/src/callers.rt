@@ -1,8 +1,9 @@
 //! Each call of a desk by its name.
 use mpx_comm::{CallError, Comm, Desk, Request};
+use mpx_kind::Kind;
 use mpx_node::{Finished, Node};
 use mpx_num::{Numbers, Op, Ops, Ty};
-use mpx_post::{Kind, PostError};
+use mpx_post::PostError;
 use std::alloc::Global;
 
 fn seven() -> Numbers {

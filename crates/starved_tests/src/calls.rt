@@ -7,10 +7,11 @@ use crate::trial::Trial;
 use crate::trouble::{Trouble, both, filled};
 use NamedCall::{Blocking, Nonblocking, StartCreateGroup};
 use mpx_comm::{CallError, Comm, Desk, Request, WaitError};
+use mpx_kind::Kind;
 use mpx_name::Name;
 use mpx_node::{Finished, Node};
 use mpx_num::{Numbers, Ops};
-use mpx_post::{DraftedEdge, DraftedNeighbour, Kind, PostError};
+use mpx_post::{DraftedEdge, DraftedNeighbour, PostError};
 use mpx_value::Outcome;
 use std::alloc::Global;
 

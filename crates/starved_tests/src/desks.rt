@@ -6,12 +6,13 @@ use crate::same::{is_between, same_boards, same_finished, same_nodes};
 use crate::trial::Trial;
 use crate::trouble::{Trouble, filled, put, taken};
 use mpx_board::Board;
-use mpx_comm::{CallError, Comm, Desk, Gathering, Request, Tested, WaitError};
+use mpx_comm::{CallError, Comm, Desk, OpenedGathering, Request, Tested, WaitError};
 use mpx_group::Proc;
+use mpx_kind::Kind;
 use mpx_name::Name;
 use mpx_node::{Finished, Harvest, Node};
 use mpx_num::{Numbers, Op, Ops, Ty};
-use mpx_post::{Draft, Kind};
+use mpx_post::Draft;
 use std::alloc::{AllocFailed, Global};
 use std::mem;
 
@@ -36,7 +37,7 @@ pub enum DeskCall {
 pub struct Alone {
     desk: Desk<Node>,
     comm: Comm,
-    gatherings: Vec<Gathering>,
+    gatherings: Vec<OpenedGathering>,
     requests: Vec<Request>,
     finished: Vec<Finished>,
     drafts: Vec<Draft>,
@@ -48,7 +49,7 @@ pub struct Alone {
 pub enum DeskMade {
     Nothing,
     Request(Request),
-    Gathering(Gathering),
+    Gathering(OpenedGathering),
     Is(bool),
     Finished(Finished),
     All(Vec<Finished>),

@@ -1,12 +1,13 @@
 //! Drafts and posts of two ranks, each of which gives the same.
 use crate::trouble::{Trouble, filled};
+use mpx_kind::Kind;
 use mpx_num::Ty;
-use mpx_post::{Draft, Kind, Post};
+use mpx_post::{Draft, Post};
 use std::alloc::Global;
-use test_drafts::{Drafted, Edges, bare, draft, just};
+use test_drafts::{Drafted, GraphDraft, bare, draft, just};
 
 // Each rank is a neighbour of both.
-const ALL: Edges<'static> = Edges {
+const ALL: GraphDraft<'static> = GraphDraft {
     weighted: false,
     edges: &[(0, 0, 0), (0, 1, 0), (1, 0, 0), (1, 1, 0)],
     sources: &[(0, 0), (1, 0)],

@@ -1,6 +1,6 @@
 //! New buses and their ports.
 ghost use Rattle.std.specs.Prelude.{◌≡◌, false, IfOk, []};
-ghost use Rattle.mpx_bus.specs.Berths.{IsNew};
+ghost use Rattle.mpx_bus.specs.Ports.{IsNew};
 ghost use Rattle.mpx_bus.specs.Buses.{table_of};
 ghost use Rattle.starved_tests.specs.Setups.{alone};
 

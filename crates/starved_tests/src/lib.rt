@@ -46,11 +46,11 @@ mod ports;
 #[cfg(test)]
 mod posts;
 #[cfg(test)]
-mod runs;
-#[cfg(test)]
 mod same;
 #[cfg(test)]
 mod samples;
+#[cfg(test)]
+mod script_runs;
 #[cfg(test)]
 mod scripts;
 #[cfg(test)]

@@ -4,14 +4,15 @@ use crate::names::child;
 use crate::trial::Trial;
 use crate::trouble::{Trouble, both, filled, put};
 use join_core::Exact;
-use mpx_evaluation::{
+use mpx_birth::{Birth, Neighbour};
+use mpx_group::Proc;
+use mpx_meaning::{
     Found, bind, comparison_answer, idle_line, line, neighbours_answer, neighbours_line,
     refused_line, translation_answer,
 };
-use mpx_group::Proc;
 use mpx_name::Name;
 use mpx_num::{Items, Numbers, Ops, Ty};
-use mpx_post::{Birth, Neighbour, PostError};
+use mpx_post::PostError;
 use mpx_rank::push_where;
 use mpx_statement::{Side, Word};
 use mpx_value::{Fault, FaultKind, Outcome};
@@ -35,7 +36,7 @@ pub enum LineCall {
 
 // A communicator, what calls gave, and words with what they stand for.
 #[derive(Drop)]
-pub struct Told {
+pub struct LineParts {
     birth: Birth,
     name: Name,
     items: Items,
@@ -112,7 +113,7 @@ fn comparison(alloc: Global, name: &Name, birth: &Birth) -> Result<String, Troub
     Ok(text?)
 }
 
-fn text_of(alloc: Global, call: &LineCall, told: &Told) -> Result<String, Trouble> {
+fn text_of(alloc: Global, call: &LineCall, told: &LineParts) -> Result<String, Trouble> {
     let birth = &told.birth;
     match call {
         LineCall::Items => items_line(alloc, &told.items),
@@ -138,19 +139,19 @@ fn text_of(alloc: Global, call: &LineCall, told: &Told) -> Result<String, Troubl
     }
 }
 
-fn fill(alloc: Global, told: &mut Told) -> Result<(), Trouble> {
+fn fill(alloc: Global, told: &mut LineParts) -> Result<(), Trouble> {
     put(&mut told.name, child(alloc))?;
     put(&mut told.items, items(alloc))
 }
 
 impl Trial for LineCall {
-    type State = Told;
+    type State = LineParts;
 
     type Made = Option<String>;
 
-    fn start(&self, alloc: Global, _ops: &Ops) -> Result<Told, Trouble> {
+    fn start(&self, alloc: Global, _ops: &Ops) -> Result<LineParts, Trouble> {
         let (birth, word) = both(all_near(alloc), word(alloc))?;
-        let mut told = Told {
+        let mut told = LineParts {
             birth,
             name: Name::world(alloc),
             items: Items::empty(Ty::I64),
@@ -162,7 +163,12 @@ impl Trial for LineCall {
         filled(told, done)
     }
 
-    fn call(&self, alloc: Global, told: &mut Told, _ops: &Ops) -> Result<Option<String>, Trouble> {
+    fn call(
+        &self,
+        alloc: Global,
+        told: &mut LineParts,
+        _ops: &Ops,
+    ) -> Result<Option<String>, Trouble> {
         match self {
             LineCall::Bind => {
                 bind(alloc, &mut told.bound, Some(&told.word), 5)?;
@@ -176,7 +182,7 @@ impl Trial for LineCall {
         }
     }
 
-    fn are_same(&self, one: &Told, other: &Told) -> bool {
+    fn are_same(&self, one: &LineParts, other: &LineParts) -> bool {
         one.birth.same(&other.birth)
             && one.items.same(&other.items)
             && one.bound.get(&one.word) == other.bound.get(&other.word)
@@ -189,19 +195,16 @@ impl Trial for LineCall {
 }
 
 pub const LINE_CALLS: &[(&str, LineCall)] = &[
-    ("mpx_evaluation line of items", LineCall::Items),
-    (
-        "mpx_evaluation line of a communicator",
-        LineCall::Communicator,
-    ),
-    ("mpx_evaluation line of a fault", LineCall::Fault),
-    ("mpx_evaluation line of nothing", LineCall::Nothing),
-    ("mpx_evaluation refused_line", LineCall::Refused),
-    ("mpx_evaluation idle_line", LineCall::Idle),
-    ("mpx_evaluation neighbours_line", LineCall::Neighbours),
-    ("mpx_evaluation neighbours_answer", LineCall::Sources),
-    ("mpx_evaluation comparison_answer", LineCall::Compare),
-    ("mpx_evaluation translation_answer", LineCall::Translate),
-    ("mpx_evaluation bind", LineCall::Bind),
+    ("mpx_meaning line of items", LineCall::Items),
+    ("mpx_meaning line of a communicator", LineCall::Communicator),
+    ("mpx_meaning line of a fault", LineCall::Fault),
+    ("mpx_meaning line of nothing", LineCall::Nothing),
+    ("mpx_meaning refused_line", LineCall::Refused),
+    ("mpx_meaning idle_line", LineCall::Idle),
+    ("mpx_meaning neighbours_line", LineCall::Neighbours),
+    ("mpx_meaning neighbours_answer", LineCall::Sources),
+    ("mpx_meaning comparison_answer", LineCall::Compare),
+    ("mpx_meaning translation_answer", LineCall::Translate),
+    ("mpx_meaning bind", LineCall::Bind),
     ("mpx_rank push_where", LineCall::PushWhere),
 ];

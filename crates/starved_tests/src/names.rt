@@ -17,7 +17,7 @@ pub enum NameCall {
 }
 
 #[derive(Drop)]
-pub struct Named {
+pub struct NamedGroup {
     name: Name,
     members: Group,
 }
@@ -63,16 +63,16 @@ pub fn next_child(alloc: Global) -> Result<Name, Trouble> {
 }
 
 impl Trial for NameCall {
-    type State = Named;
+    type State = NamedGroup;
 
     type Made = NameMade;
 
-    fn start(&self, alloc: Global, _ops: &Ops) -> Result<Named, Trouble> {
+    fn start(&self, alloc: Global, _ops: &Ops) -> Result<NamedGroup, Trouble> {
         let (name, members) = both(deep(alloc), group(alloc, &[3, 1]))?;
-        Ok(Named { name, members })
+        Ok(NamedGroup { name, members })
     }
 
-    fn call(&self, alloc: Global, named: &mut Named, _ops: &Ops) -> Result<NameMade, Trouble> {
+    fn call(&self, alloc: Global, named: &mut NamedGroup, _ops: &Ops) -> Result<NameMade, Trouble> {
         let name = &named.name;
         match self {
             NameCall::Child => Ok(NameMade::Name(name.child(alloc, 7, 1)?)),
@@ -86,7 +86,7 @@ impl Trial for NameCall {
         }
     }
 
-    fn are_same(&self, one: &Named, other: &Named) -> bool {
+    fn are_same(&self, one: &NamedGroup, other: &NamedGroup) -> bool {
         one.name.same(&other.name) && one.members.same(&other.members)
     }
 

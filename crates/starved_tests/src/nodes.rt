@@ -8,10 +8,11 @@ use crate::trouble::{Trouble, filled, put, taken};
 use join_core::Exact;
 use mpx_board::Board;
 use mpx_group::Proc;
+use mpx_kind::Kind;
 use mpx_name::Name;
 use mpx_node::{Finished, Harvest, Node};
 use mpx_num::Ops;
-use mpx_post::{Draft, Kind};
+use mpx_post::Draft;
 use std::alloc::Global;
 
 pub enum NodeCall {

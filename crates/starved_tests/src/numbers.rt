@@ -16,7 +16,7 @@ pub enum NumberCall {
 
 // Items that another list shares, more of them, lists and numbers, and a text.
 #[derive(Drop)]
-pub struct Given {
+pub struct NumbersGiven {
     items: Items,
     twin: Items,
     more: Items,
@@ -52,7 +52,7 @@ fn twin(items: &Items) -> Result<Items, Trouble> {
     Ok(items.copy()?)
 }
 
-fn fill(alloc: Global, given: &mut Given) -> Result<(), Trouble> {
+fn fill(alloc: Global, given: &mut NumbersGiven) -> Result<(), Trouble> {
     put(&mut given.items, items(alloc, &[5, -6, 7]))?;
     put(&mut given.twin, twin(&given.items))?;
     put(&mut given.more, items(alloc, &[-1, 9, 0]))?;
@@ -95,12 +95,12 @@ fn push(text: &mut String) -> Result<NumberMade, Trouble> {
 }
 
 impl Trial for NumberCall {
-    type State = Given;
+    type State = NumbersGiven;
 
     type Made = NumberMade;
 
-    fn start(&self, alloc: Global, _ops: &Ops) -> Result<Given, Trouble> {
-        let mut given = Given {
+    fn start(&self, alloc: Global, _ops: &Ops) -> Result<NumbersGiven, Trouble> {
+        let mut given = NumbersGiven {
             items: Items::empty(Ty::I64),
             twin: Items::empty(Ty::I64),
             more: Items::empty(Ty::I64),
@@ -112,7 +112,12 @@ impl Trial for NumberCall {
         filled(given, done)
     }
 
-    fn call(&self, alloc: Global, given: &mut Given, ops: &Ops) -> Result<NumberMade, Trouble> {
+    fn call(
+        &self,
+        alloc: Global,
+        given: &mut NumbersGiven,
+        ops: &Ops,
+    ) -> Result<NumberMade, Trouble> {
         match self {
             NumberCall::New => {
                 let list = taken(&mut given.lists)?;
@@ -127,7 +132,7 @@ impl Trial for NumberCall {
         }
     }
 
-    fn are_same(&self, one: &Given, other: &Given) -> bool {
+    fn are_same(&self, one: &NumbersGiven, other: &NumbersGiven) -> bool {
         one.items.same(&other.items)
             && one.twin.same(&other.twin)
             && one.more.same(&other.more)
@@ -146,7 +151,7 @@ impl Trial for NumberCall {
         }
     }
 
-    fn is_kept(&self, left: &Given, before: &Given, _whole: &Given) -> bool {
+    fn is_kept(&self, left: &NumbersGiven, before: &NumbersGiven, _whole: &NumbersGiven) -> bool {
         match self {
             NumberCall::Push => left.items.same(&before.items),
             _ => self.are_same(left, before),

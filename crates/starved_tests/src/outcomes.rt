@@ -5,10 +5,12 @@ use crate::same::same_outcomes;
 use crate::trial::Trial;
 use crate::trouble::{Trouble, both, tight};
 use join_core::Exact;
+use mpx_birth::Birth;
 use mpx_board::Board;
+use mpx_kind::Kind;
 use mpx_name::Name;
 use mpx_num::Ops;
-use mpx_post::{Birth, Kind, Row};
+use mpx_post::Row;
 use mpx_value::{Outcome, children, outcome};
 use std::alloc::Global;
 use test_drafts::proc;
@@ -23,7 +25,7 @@ pub enum ValueCall {
 }
 
 #[derive(Drop)]
-pub struct Posted {
+pub struct PostedBoard {
     board: Board,
     birth: Birth,
     given: Outcome,
@@ -121,9 +123,9 @@ fn with_given(
     board: Board,
     birth: Birth,
     given: Result<Outcome, Trouble>,
-) -> Result<Posted, Trouble> {
+) -> Result<PostedBoard, Trouble> {
     match given {
-        Ok(given) => Ok(Posted {
+        Ok(given) => Ok(PostedBoard {
             board,
             birth,
             given,
@@ -146,18 +148,23 @@ fn same_children(one: &[(Name, Birth)], other: &[(Name, Birth)]) -> bool {
 }
 
 impl Trial for ValueCall {
-    type State = Posted;
+    type State = PostedBoard;
 
     type Made = ValueMade;
 
-    fn start(&self, alloc: Global, ops: &Ops) -> Result<Posted, Trouble> {
+    fn start(&self, alloc: Global, ops: &Ops) -> Result<PostedBoard, Trouble> {
         let kind = kind_of(self);
         let (board, birth) = both(board_of(alloc, kind), all_near(alloc))?;
         let given = given_by(alloc, &board, &birth, ops);
         with_given(board, birth, given)
     }
 
-    fn call(&self, alloc: Global, posted: &mut Posted, ops: &Ops) -> Result<ValueMade, Trouble> {
+    fn call(
+        &self,
+        alloc: Global,
+        posted: &mut PostedBoard,
+        ops: &Ops,
+    ) -> Result<ValueMade, Trouble> {
         let (board, birth) = (&posted.board, &posted.birth);
         match self {
             ValueCall::Outcome(_) => Ok(ValueMade::Outcome(given_by(alloc, board, birth, ops)?)),
@@ -166,7 +173,7 @@ impl Trial for ValueCall {
         }
     }
 
-    fn are_same(&self, one: &Posted, other: &Posted) -> bool {
+    fn are_same(&self, one: &PostedBoard, other: &PostedBoard) -> bool {
         one.board.same(&other.board)
             && one.birth.same(&other.birth)
             && same_outcomes(&one.given, &other.given)

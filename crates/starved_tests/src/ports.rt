@@ -1,6 +1,6 @@
 //! Ports on a bus.
 ghost use Rattle.std.specs.Prelude.{◌≡◌, false, []};
-ghost use Rattle.mpx_bus.specs.Berths.{IsSamePort};
+ghost use Rattle.mpx_bus.specs.Ports.{IsSamePort};
 ghost use Rattle.mpx_bus.specs.Buses.{table_of};
 
 use crate::drafts::{draft_of, two_drafts};
@@ -11,10 +11,11 @@ use crate::same::{is_between, same_nodes};
 use crate::trial::{Trial, tries};
 use crate::trouble::{Trouble, both, taken};
 use mpx_bus::{Bus, Frame, Pop, Port, Push};
+use mpx_kind::Kind;
 use mpx_name::Name;
 use mpx_node::Harvest;
 use mpx_num::{Listing, Ops};
-use mpx_post::{Draft, Kind};
+use mpx_post::Draft;
 use std::alloc::Global;
 use std::marker::Model;
 use std::sync::Wait;

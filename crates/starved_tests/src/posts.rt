@@ -4,9 +4,11 @@ use crate::drafts::{add_drafts, drafted, post_of};
 use crate::trial::Trial;
 use crate::trouble::{Trouble, both, filled, taken};
 use join_core::Exact;
+use mpx_birth::Birth;
+use mpx_kind::Kind;
 use mpx_name::Name;
 use mpx_num::Ops;
-use mpx_post::{Birth, Draft, Gathering, Kind, Post};
+use mpx_post::{Draft, Gathering, Post};
 use std::alloc::Global;
 use test_drafts::{proc, says};
 

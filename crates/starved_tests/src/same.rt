@@ -1,7 +1,7 @@
 //! Whether two nodes, boards, results, outcomes or reports are the same.
 use join_core::{Exact, Join};
 use mpx_board::Board;
-use mpx_evaluation::Report;
+use mpx_meaning::Report;
 use mpx_name::Name;
 use mpx_node::{Finished, Node};
 use mpx_value::Outcome;

@@ -3,8 +3,8 @@ use crate::same::same_reports;
 use crate::trial::Trial;
 use crate::trouble::Trouble;
 use mpx_eval::{Findings, eval, examine};
-use mpx_evaluation::Report;
 use mpx_job::Options;
+use mpx_meaning::Report;
 use mpx_num::Ops;
 use mpx_script::{Script, Statement, Word, read_script, statement_lines};
 use mpx_sim::{Run, run_sim};
@@ -176,7 +176,7 @@ pub const SCRIPT_CALLS: &[(&str, ScriptCall)] = &[
     ("mpx_statement Word::new", ScriptCall::NewWord),
     ("mpx_statement Word::copy", ScriptCall::CopyWord),
     (
-        "mpx_eval eval, mpx_rank Rank::new, go_on, Answered::given",
+        "mpx_eval eval, mpx_rank Interpreter::new, go_on, Answered::given",
         ScriptCall::Eval,
     ),
     ("mpx_eval examine", ScriptCall::Examine),

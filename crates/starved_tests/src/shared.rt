@@ -2,18 +2,20 @@
 //! same before and after, but for what a pull has stored and for the frame that it has lost.
 ghost use Rattle.std.specs.Prelude.{◌≡◌, ◌<◌, false, length, []};
 ghost use Rattle.mpx_bus.specs.Buses.{table_of};
-ghost use Rattle.mpx_shared.specs.Docks.{IsDocked, made_in};
+ghost use Rattle.mpx_shared.specs.LawfulPorts.{IsLawful, made_in};
 
 use crate::drafts::two_drafts;
 use crate::fleets::one_port;
 use crate::notes::{Called, note};
 use crate::trouble::{Trouble, taken};
+use mpx_birth::Birth;
 use mpx_bus::{Bus, Port, Push};
 use mpx_group::Proc;
+use mpx_kind::Kind;
 use mpx_name::Name;
 use mpx_num::{Listing, Ops};
-use mpx_post::{Birth, Draft, Kind, PostError};
-use mpx_shared::{Dock, Poster, Pull, SharedPort, Tested, Ticket};
+use mpx_post::{Draft, PostError};
+use mpx_shared::{PortLock, Poster, Pull, SharedPort, Ticket, TicketTested};
 use std::alloc::Global;
 use std::marker::Brand;
 use std::process::Abort;
@@ -22,7 +24,7 @@ use std::sync::ledger::Blank;
 use std::test::Fail;
 
 // The board says what it said before, after the call of this name.
-fn keeps<L: Dock, R: Abort + Wait>(
+fn keeps<L: PortLock, R: Abort + Wait>(
     rt: &R,
     alloc: Global,
     port: &SharedPort<L>,
@@ -43,7 +45,7 @@ const POST: Called<'static> = Called {
 };
 
 // Makes the draft the port's next post on the world.
-fn posts<L: Dock, R: Abort + Wait>(
+fn posts<L: PortLock, R: Abort + Wait>(
     rt: &R,
     alloc: Global,
     port: &SharedPort<L>,
@@ -78,12 +80,12 @@ const TEST: Called<'static> = Called {
 };
 
 // What the port answers the ticket.
-fn tests<L: Dock, R: Abort + Wait>(
+fn tests<L: PortLock, R: Abort + Wait>(
     rt: &R,
     alloc: Global,
     port: &SharedPort<L>,
     ticket: &Ticket,
-) -> Result<Tested, Trouble> {
+) -> Result<TicketTested, Trouble> {
     let before = port.fingerprint(rt);
     note(alloc, "begins ", TEST);
     let first = port.test(rt, alloc, ticket);
@@ -102,7 +104,7 @@ const OPEN: Called<'static> = Called {
     name: "open_gathering",
 };
 
-fn opens<L: Dock, R: Abort + Wait>(
+fn opens<L: PortLock, R: Abort + Wait>(
     rt: &R,
     alloc: Global,
     port: &SharedPort<L>,
@@ -130,7 +132,7 @@ const BIRTH: Called<'static> = Called {
     name: "birth",
 };
 
-fn birth_of<L: Dock, R: Abort + Wait>(
+fn birth_of<L: PortLock, R: Abort + Wait>(
     rt: &R,
     alloc: Global,
     port: &SharedPort<L>,
@@ -155,7 +157,7 @@ const PUT: Called<'static> = Called {
 };
 
 // Whether the port's frame goes into the queue.
-fn puts<L: Dock, R: Abort + Wait>(
+fn puts<L: PortLock, R: Abort + Wait>(
     rt: &R,
     alloc: Global,
     bus: &Bus,
@@ -183,7 +185,7 @@ fn is_pushed(push: Push) -> bool {
 }
 
 // Whether the ticket is the port's, after the call of this name: its post stands.
-fn stands<L: Dock, R: Abort + Wait>(
+fn stands<L: PortLock, R: Abort + Wait>(
     rt: &R,
     alloc: Global,
     port: &SharedPort<L>,
@@ -191,7 +193,7 @@ fn stands<L: Dock, R: Abort + Wait>(
     ticket: &Ticket,
 ) -> Result<(), Trouble> {
     let tested = port.test(rt, alloc, ticket)?;
-    let is_strange = matches!(&tested, Tested::Strange);
+    let is_strange = matches!(&tested, TicketTested::Strange);
     drop(tested);
     assert!(rt; !is_strange, "{}: the post is gone", call.name);
     note(alloc, "kept ", call);
@@ -204,7 +206,7 @@ const PULL: Called<'static> = Called {
 };
 
 // Whether a frame was taken, or was lost where memory was wanting.
-fn pulls<L: Dock, R: Abort + Wait>(
+fn pulls<L: PortLock, R: Abort + Wait>(
     rt: &R,
     alloc: Global,
     bus: &Bus,
@@ -240,7 +242,7 @@ const GOSSIP: Called<'static> = Called {
     name: "gossip",
 };
 
-fn gossips<L: Dock, R: Abort + Wait>(
+fn gossips<L: PortLock, R: Abort + Wait>(
     rt: &R,
     alloc: Global,
     bus: &Bus,
@@ -264,7 +266,7 @@ fn gossips<L: Dock, R: Abort + Wait>(
 }
 
 // A post, a frame that goes out and comes back, and what is told then: whether all came to what it comes to with memory enough.
-fn makes_each<L: Dock, R: Abort + Wait>(
+fn makes_each<L: PortLock, R: Abort + Wait>(
     rt: &R,
     alloc: Global,
     bus: &Bus,
@@ -284,8 +286,8 @@ fn makes_each<L: Dock, R: Abort + Wait>(
     answer
 }
 
-fn is_done(tested: Tested) -> bool {
-    let is_done = matches!(&tested, Tested::Done(_));
+fn is_done(tested: TicketTested) -> bool {
+    let is_done = matches!(&tested, TicketTested::Done(_));
     drop(tested);
     is_done
 }
@@ -302,7 +304,7 @@ fn is_known(birth: Option<Birth>) -> bool {
     is_known
 }
 
-fn goes_on<L: Dock, R: Abort + Wait>(
+fn goes_on<L: PortLock, R: Abort + Wait>(
     rt: &R,
     alloc: Global,
     bus: &Bus,
@@ -325,8 +327,8 @@ fn goes_on<L: Dock, R: Abort + Wait>(
     Ok(put && pulled && done && opened && born)
 }
 
-// The same of a new port.
-fn of_new_port<L: Dock, R: Abort + Wait>(
+// Shares a new port, and tries its calls.
+fn of_new_port<L: PortLock, R: Abort + Wait>(
     rt: &R,
     alloc: Global,
     bus: &Bus,
@@ -339,7 +341,7 @@ fn of_new_port<L: Dock, R: Abort + Wait>(
     requires list { ⟦<Ops as Listing>⟧.operations ops.now ≡ L.setup.operations }
     requires ledger { (blank.name ≡ L.name) × ((blank.parts ≡ L.parts) × ((L.all ≡ L.parts) × (0 < L.parts))) }
     requires me { (me < 64) × (me ≡ L.me) }
-    requires port { IsDocked L.table L.setup L.me port × ((port.journal ≡ L.opening) × (length (made_in port) ≡ L.before)) }
+    requires port { IsLawful L.table L.setup L.me port × ((port.journal ≡ L.opening) × (length (made_in port) ≡ L.before)) }
     requires bus { (L.setup.planned ≡ false) × (table_of bus.now ≡ L.table) }
 {
     let (port, mut poster) = SharedPort::<L>::new(alloc, port, Proc::new(me), blank);

@@ -97,7 +97,7 @@ fn called<T: Trial, R: Abort>(
     }
 }
 
-/// The same of each of these calls, which are of this crate.
+/// Tries each of these calls, by its name in this crate.
 pub fn tries_each<T: Trial, R: Abort>(
     rt: &R,
     alloc: Global,

@@ -3,11 +3,11 @@
 #![tactic(auto)]
 
 use join_core::OutOfMemory;
+use mpx_birth::Birth;
 use mpx_group::Proc;
+use mpx_kind::{Call, Kind};
 use mpx_num::{Numbers, Op, Ops, Ty};
-use mpx_post::{
-    At, Birth, Call, Draft, DraftedEdge, DraftedGraph, DraftedNeighbour, Kind, Post, PostError,
-};
+use mpx_post::{At, Draft, DraftedEdge, DraftedGraph, DraftedNeighbour, Post, PostError};
 use std::alloc::Global;
 
 /// What a process drafts.
@@ -23,13 +23,13 @@ pub struct Drafted<'a> {
     pub colour: Option<i128>,
     pub key: i128,
     pub group: &'a [i128],
-    pub graph: Option<Edges<'a>>,
+    pub graph: Option<GraphDraft<'a>>,
 }
 
 /// The part of a graph that a process drafts: edges by their source, destination and weight, and neighbours by their rank
 /// and weight.
 #[derive(Clone, Copy)]
-pub struct Edges<'a> {
+pub struct GraphDraft<'a> {
     pub weighted: bool,
     pub edges: &'a [(i128, i128, i128)],
     pub sources: &'a [(i128, i128)],
@@ -90,7 +90,10 @@ fn neighbour_list(
     Ok(neighbours)
 }
 
-fn graph_of(alloc: Global, part: Option<Edges<'_>>) -> Result<Option<DraftedGraph>, OutOfMemory> {
+fn graph_of(
+    alloc: Global,
+    part: Option<GraphDraft<'_>>,
+) -> Result<Option<DraftedGraph>, OutOfMemory> {
     let Some(part) = part else {
         return Ok(None);
     };
@@ -144,7 +147,7 @@ pub fn bare(alloc: Global, drafted: &Drafted<'_>) -> Result<Option<Post>, OutOfM
     draft(alloc, drafted)?.bare(alloc)
 }
 
-fn has_graph(graph: &DraftedGraph, part: &Edges<'_>) -> bool {
+fn has_graph(graph: &DraftedGraph, part: &GraphDraft<'_>) -> bool {
     (graph.weighted() == part.weighted)
         && graph.edges().len() == part.edges.len()
         && graph.edges().iter().zip(part.edges).all(|(edge, told)| {
@@ -162,7 +165,7 @@ fn have_neighbours(neighbours: &[DraftedNeighbour], told: &[(i128, i128)]) -> bo
             .all(|(near, told)| (near.rank, near.weight) == *told)
 }
 
-fn is_graph(graph: &Option<DraftedGraph>, part: &Option<Edges<'_>>) -> bool {
+fn is_graph(graph: &Option<DraftedGraph>, part: &Option<GraphDraft<'_>>) -> bool {
     match (graph, part) {
         (None, None) => true,
         (Some(graph), Some(part)) => has_graph(graph, part),

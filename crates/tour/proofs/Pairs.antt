@@ -8,7 +8,7 @@ use Rattle.mpx_board.specs.Boards.{Look}
 use Rattle.mpx_node.specs.declared.node.Node.{Node}
 use Rattle.mpx_node.specs.Nodes.{NodeView, StopsTaking, learn, start_node}
 use Rattle.mpx_node.specs.Shown.{node_of}
-use Rattle.mpx_world.specs.Networks.{AreNew, IsStep, network_of}
+use Rattle.mpx_world.specs.Networks.{AreNew, IsNodeStep, network_of}
 use Rattle.mpx_world.proofs.Going.{all_nodes_agree, begins, fewer_sent, further, part_given, take_step, unchanged_step}
 use Rattle.tour.specs.Nodes.{AreOne, Carries, StayOne, network_with, two}
 
@@ -24,10 +24,10 @@ pub not_carried : (from old : NodeView) → Carries from old old
 not_carried from old n s p q first second = unchanged_step n.operations old old refl n s refl q second
 
 -- a step of one of the two
-pub left_steps : (ops : List Operation) (left right new : Node) → IsStep ops (node_of left) (node_of new) → StayOne ops left right new right
+pub left_steps : (ops : List Operation) (left right new : Node) → IsNodeStep ops (node_of left) (node_of new) → StayOne ops left right new right
 left_steps ops left right new step hs s = step (network_with ops hs left right) s refl 0 refl
 
-pub right_steps : (ops : List Operation) (left right new : Node) → IsStep ops (node_of right) (node_of new) → StayOne ops left right left new
+pub right_steps : (ops : List Operation) (left right new : Node) → IsNodeStep ops (node_of right) (node_of new) → StayOne ops left right left new
 right_steps ops left right new step hs s = step (network_with ops hs left right) s refl 1 refl
 
 pub left_takes : (ops : List Operation) (left right new : Node) → Carries (node_of right) (node_of left) (node_of new) → StayOne ops left right new right

@@ -57,7 +57,7 @@ pub fn number_of(finished: &Finished) -> Result<i128, Stop> {
     }
 }
 
-/// The same. The result is dropped here, so that no exit of a caller drops it.
+/// The first number that a call gave. The result is dropped here, so that no exit of a caller drops it.
 pub fn number_in(finished: Finished) -> Result<i128, Stop> {
     let number = number_of(&finished);
     drop(finished);

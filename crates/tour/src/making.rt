@@ -39,7 +39,7 @@ pub fn comm_from<H: Host>(
     Ok(comm?)
 }
 
-/// The same where there has to be one.
+/// The communicator that a call gave. Where the rank is in none, the tour stops.
 pub fn made<H: Host>(
     alloc: Global,
     desk: &mut Desk<H>,

@@ -1,7 +1,7 @@
 //! Two nodes of the program's own, between which it carries boards itself.
 ghost use Rattle.std.specs.Prelude.{IfOk, OnOk};
 ghost use Rattle.mpx_node.specs.Shown.{node_of};
-ghost use Rattle.mpx_world.specs.Networks.{IsStep};
+ghost use Rattle.mpx_world.specs.Networks.{IsNodeStep};
 ghost use Rattle.tour.specs.Nodes.{AreOne, Carries, HasSum, StayOne};
 
 use crate::desks::{board_of, number_of};
@@ -42,7 +42,7 @@ pub fn sum_at(alloc: Global, node: &Node) -> Result<i128, Stop>
 
 // The rank posts its number to the sum of all.
 fn post_number(alloc: Global, node: &mut Node, number: i128, ops: &Ops) -> Result<(), Stop>
-    ensures { IsStep (⟦<Ops as Listing>⟧.operations ops.now) (node_of node.old) (node_of node.new) }
+    ensures { IsNodeStep (⟦<Ops as Listing>⟧.operations ops.now) (node_of node.old) (node_of node.new) }
 {
     node.post(alloc, &Name::world(alloc), sum_draft(number), ops)?;
     Ok(())
@@ -60,7 +60,7 @@ fn carry(alloc: Global, from: &Node, to: &mut Node) -> Result<(), Stop>
 
 // The rank stores its next result, where it can be had.
 fn harvest(alloc: Global, node: &mut Node, ops: &Ops) -> Result<(), Stop>
-    ensures { IsStep (⟦<Ops as Listing>⟧.operations ops.now) (node_of node.old) (node_of node.new) }
+    ensures { IsNodeStep (⟦<Ops as Listing>⟧.operations ops.now) (node_of node.old) (node_of node.new) }
 {
     node.harvest(alloc, &Name::world(alloc), ops)?;
     Ok(())

@@ -1,9 +1,9 @@
 //! Two ranks in a thread each, on one bus.
 ghost use Rattle.std.specs.Prelude.{◌≡◌, false, map, IfOk};
 ghost use Rattle.mpx_num.specs.Own.{operation_of};
-ghost use Rattle.mpx_bus.specs.Berths.{HaveMet, IsFleet, IsSamePort, node_in};
+ghost use Rattle.mpx_bus.specs.Ports.{HaveMet, IsFleet, IsSamePort, node_in};
 ghost use Rattle.mpx_bus.specs.Buses.{table_of};
-ghost use Rattle.mpx_bus.specs.Finished.{HaveFinished};
+ghost use Rattle.mpx_bus.specs.Finished.{BothHaveFinished};
 
 use crate::desks::LIMIT;
 use crate::nodes::{sum_at, sum_draft};
@@ -88,7 +88,7 @@ fn sum_where_met(alloc: Global, bus: &Bus, first: Port, second: Port) -> Result<
     requires second { second.table ≡ table_of bus.now }
     requires setup { second.setup ≡ first.setup }
     ensures history { HaveMet first second }
-    ensures both { IfOk result (λ r. HaveFinished (node_in first) (node_in second) r.1) }
+    ensures both { IfOk result (λ r. BothHaveFinished (node_in first) (node_in second) r.1) }
 {
     let met = bus.meet(first, second);
     Ok((sum_at(alloc, &met.first)?, met.both))

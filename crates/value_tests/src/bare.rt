@@ -1,13 +1,14 @@
 //! Posts of drafts without a communicator: what they tell, and how long their lists may be.
 use crate::making::{blocks, create, split};
-use crate::told::{Told, has_created, has_split, is_told, kind_alone, reduced};
+use crate::post_told::{PostTold, has_created, has_split, is_told, kind_alone, reduced};
+use mpx_kind::Kind;
 use mpx_num::{Op, Ty};
-use mpx_post::{Kind, Making, Post};
+use mpx_post::{Making, Post};
 use std::alloc::{AllocError, Global};
 use std::test::Fail;
-use test_drafts::{Drafted, Edges, bare, just};
+use test_drafts::{Drafted, GraphDraft, bare, just};
 
-fn tells(alloc: Global, drafted: &Drafted<'_>, wanted: &Told<'_>) -> bool {
+fn tells(alloc: Global, drafted: &Drafted<'_>, wanted: &PostTold<'_>) -> bool {
     match bare(alloc, drafted) {
         Ok(Some(post)) => is_told(&post, wanted),
         Ok(None) => false,
@@ -36,7 +37,7 @@ fn reduce(root: i128, op: Op, ty: Ty, items: &'static [i128]) -> Drafted<'static
 // As many counts as there are members, and as many items as they tell, are not asked for.
 #[test]
 fn posts_tell_their_fields(rt: HostRuntime) {
-    let exchanged = Told {
+    let exchanged = PostTold {
         has_items: true,
         count: 1,
         sent: 3,
@@ -66,7 +67,7 @@ fn posts_tell_their_fields(rt: HostRuntime) {
 
 fn graph<'a>(kind: Kind, weighted: bool, edges: &'a [(i128, i128, i128)]) -> Drafted<'a> {
     Drafted {
-        graph: Some(Edges {
+        graph: Some(GraphDraft {
             weighted,
             edges,
             sources: &[(64, 0)],

@@ -131,7 +131,7 @@ fn is_of_three(alloc: Global, birth: &Birth) -> Result<bool, Fail> {
     Ok(same & (ranks == (Some(2), None)) & !is_world(alloc, birth, 2)?)
 }
 
-// The same, where there is memory.
+// Whether a new birth of a world of three is that, and the same as its copy.
 fn bears_three(alloc: Global) -> Result<bool, Fail> {
     let world = Birth::world(alloc, 3)?;
     is_of_three(alloc, &world)

@@ -2,20 +2,22 @@
 //! succeed.
 ghost use Rattle.std.specs.Prelude.{length, IfOk, ◌≡◌};
 
-use self::Given::{Comm, Null};
-use self::Posted::{Create, Just, Split};
+use self::GivenComm::{Comm, Null};
+use self::MakingPost::{Create, Just, Split};
 use crate::making::{add_post, create, lent, processes, split};
+use mpx_birth::Birth;
 use mpx_group::{Group, Proc};
+use mpx_kind::Kind;
 use mpx_name::{Name, NameError};
 use mpx_num::Ops;
-use mpx_post::{At, Birth, Kind, Post, PostError, Row};
+use mpx_post::{At, Post, PostError, Row};
 use mpx_value::{FaultKind, Outcome, children, outcome};
 use std::alloc::Global;
 use std::test::Fail;
 use test_drafts::{Drafted, birth, check, just};
 
 // What a call gives rank 0: a communicator by its colour, its size and the rank in it; or nothing, as a free does.
-enum Given {
+enum GivenComm {
     Comm(u16, u8, u8),
     Null,
     Nothing,
@@ -26,14 +28,14 @@ enum Given {
 type Child = (u16, &'static [u8]);
 
 // What a member posts: a split by its colour and key, a creation by its group, or a call of no more.
-enum Posted {
+enum MakingPost {
     Split(Option<i128>, i128),
     Create(&'static [i128]),
     Just(Kind),
 }
 
 // The name that a call is on.
-enum Place {
+enum CallPlace {
     World,
     // The gathering below the world of the members.
     Gathering,
@@ -44,10 +46,10 @@ enum Place {
 // The members of a communicator and its name, what they post to a call, the communicators that it makes, and what it gives rank 0.
 struct Case {
     members: &'static [u8],
-    place: Place,
-    posted: &'static [Posted],
+    place: CallPlace,
+    posted: &'static [MakingPost],
     made: &'static [Child],
-    given: Given,
+    given: GivenComm,
 }
 
 // The number of the call.
@@ -56,7 +58,7 @@ const CALL: u32 = 3;
 const CASES: &[Case] = &[
     Case {
         members: &[0, 1, 2, 3],
-        place: Place::World,
+        place: CallPlace::World,
         posted: &[
             Split(Some(1), 5),
             Split(Some(0), 0),
@@ -68,7 +70,7 @@ const CASES: &[Case] = &[
     },
     Case {
         members: &[0, 1],
-        place: Place::World,
+        place: CallPlace::World,
         posted: &[Split(None, 1), Split(None, 0)],
         made: &[],
         given: Null,
@@ -76,14 +78,14 @@ const CASES: &[Case] = &[
     // The order of the keys reverses that of the ranks.
     Case {
         members: &[4, 5, 9],
-        place: Place::World,
+        place: CallPlace::World,
         posted: &[Split(Some(7), 1), Split(Some(7), 0), Split(Some(7), -5)],
         made: &[(7, &[9, 5, 4])],
         given: Comm(7, 3, 2),
     },
     Case {
         members: &[0, 1, 2],
-        place: Place::World,
+        place: CallPlace::World,
         posted: &[Create(&[2, 0]), Create(&[1]), Create(&[2, 0])],
         made: &[(1, &[1]), (2, &[2, 0])],
         given: Comm(2, 2, 1),
@@ -91,21 +93,21 @@ const CASES: &[Case] = &[
     // The groups differ.
     Case {
         members: &[0, 1, 2],
-        place: Place::World,
+        place: CallPlace::World,
         posted: &[Create(&[0, 1]), Create(&[1, 0]), Create(&[])],
         made: &[],
-        given: Given::Fault(FaultKind::Groups, 0),
+        given: GivenComm::Fault(FaultKind::Groups, 0),
     },
     Case {
         members: &[4, 2],
-        place: Place::World,
+        place: CallPlace::World,
         posted: &[Just(Kind::Dup), Just(Kind::Dup)],
         made: &[(0, &[4, 2])],
         given: Comm(0, 2, 0),
     },
     Case {
         members: &[4, 2],
-        place: Place::Gathering,
+        place: CallPlace::Gathering,
         posted: &[Just(Kind::CreateGroup), Just(Kind::CreateGroup)],
         made: &[(0, &[4, 2])],
         given: Comm(0, 2, 0),
@@ -113,50 +115,50 @@ const CASES: &[Case] = &[
     // Below a name of seven steps there is an eighth, and no ninth.
     Case {
         members: &[0, 1],
-        place: Place::Below(7),
+        place: CallPlace::Below(7),
         posted: &[Just(Kind::Dup), Just(Kind::Dup)],
         made: &[(0, &[0, 1])],
         given: Comm(0, 2, 0),
     },
     Case {
         members: &[0, 1],
-        place: Place::Below(8),
+        place: CallPlace::Below(8),
         posted: &[Just(Kind::Dup), Just(Kind::Dup)],
         made: &[],
-        given: Given::Fault(FaultKind::Amount, 0),
+        given: GivenComm::Fault(FaultKind::Amount, 0),
     },
     // A free makes nothing, and gives nothing, below a name of eight steps too.
     Case {
         members: &[0, 1],
-        place: Place::World,
+        place: CallPlace::World,
         posted: &[Just(Kind::Free), Just(Kind::Free)],
         made: &[],
-        given: Given::Nothing,
+        given: GivenComm::Nothing,
     },
     Case {
         members: &[6, 3],
-        place: Place::Below(8),
+        place: CallPlace::Below(8),
         posted: &[Just(Kind::Free), Just(Kind::Free)],
         made: &[],
-        given: Given::Nothing,
+        given: GivenComm::Nothing,
     },
     Case {
         members: &[0, 1],
-        place: Place::World,
+        place: CallPlace::World,
         posted: &[Just(Kind::Free), Just(Kind::Barrier)],
         made: &[],
-        given: Given::Fault(FaultKind::Kind, 1),
+        given: GivenComm::Fault(FaultKind::Kind, 1),
     },
     Case {
         members: &[0, 1],
-        place: Place::World,
+        place: CallPlace::World,
         posted: &[Just(Kind::Dup), Just(Kind::Free)],
         made: &[],
-        given: Given::Fault(FaultKind::Kind, 1),
+        given: GivenComm::Fault(FaultKind::Kind, 1),
     },
 ];
 
-fn drafted(posted: &Posted) -> Drafted<'static> {
+fn drafted(posted: &MakingPost) -> Drafted<'static> {
     match posted {
         Split(colour, key) => split(*colour, *key),
         Create(group) => create(*group),
@@ -183,7 +185,7 @@ fn is_given(
     alloc: Global,
     name: &Name,
     outcome: &Outcome,
-    given: &Given,
+    given: &GivenComm,
 ) -> Result<bool, NameError> {
     match (outcome, given) {
         (
@@ -198,8 +200,8 @@ fn is_given(
             Ok(same && is_child(alloc, new, name, *colour)?)
         }
         (Outcome::Null, Null) => Ok(true),
-        (Outcome::Nothing, Given::Nothing) => Ok(true),
-        (Outcome::Fault(fault), Given::Fault(what, rank)) => {
+        (Outcome::Nothing, GivenComm::Nothing) => Ok(true),
+        (Outcome::Fault(fault), GivenComm::Fault(what, rank)) => {
             Ok(fault.what == *what && fault.rank == *rank)
         }
         _ => Ok(false),
@@ -261,7 +263,7 @@ fn gives(
     birth: &Birth,
     name: &Name,
     row: &Row<'_>,
-    given: &Given,
+    given: &GivenComm,
     ops: &Ops,
 ) -> Result<bool, Fail>
     requires members { length row.now ≡ length birth.now.members }
@@ -279,7 +281,7 @@ fn posts_of(
     ops: &Ops,
 ) -> Result<Vec<Post>, PostError> {
     let at = match case.place {
-        Place::Below(_) => At::on(&Name::world(alloc), CALL, false),
+        CallPlace::Below(_) => At::on(&Name::world(alloc), CALL, false),
         _ => At::on(name, CALL, false),
     };
     let mut posts = Vec::new(alloc);
@@ -338,11 +340,11 @@ fn below(alloc: Global, steps: usize) -> Result<Name, Fail> {
 }
 
 // The name that the call of these members is on.
-fn name_of(alloc: Global, birth: &Birth, place: &Place) -> Result<Name, Fail> {
+fn name_of(alloc: Global, birth: &Birth, place: &CallPlace) -> Result<Name, Fail> {
     match place {
-        Place::World => Ok(Name::world(alloc)),
-        Place::Gathering => gathering(alloc, birth),
-        Place::Below(steps) => below(alloc, *steps),
+        CallPlace::World => Ok(Name::world(alloc)),
+        CallPlace::Gathering => gathering(alloc, birth),
+        CallPlace::Below(steps) => below(alloc, *steps),
     }
 }
 

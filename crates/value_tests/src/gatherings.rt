@@ -1,6 +1,7 @@
 //! Gatherings: their members in the order given, and three refusals that no script shows.
 use crate::making::processes;
-use mpx_post::{Birth, Gathering, PostError};
+use mpx_birth::Birth;
+use mpx_post::{Gathering, PostError};
 use std::alloc::Global;
 use std::test::Fail;
 use test_drafts::{birth, proc};

@@ -4,15 +4,17 @@ ghost use Rattle.mpx_post.specs.Agreement.{IsFine};
 
 use crate::misfits::{posts_on, row_of};
 use join_core::OutOfMemory;
+use mpx_birth::{Birth, Neighbour, Topology};
 use mpx_graph::{
     NeighbourCounts, counts, destinations, sources, topology_adjacent, topology_general,
 };
+use mpx_kind::Kind;
 use mpx_match::{Verdict, verdict};
 use mpx_num::Ops;
-use mpx_post::{Birth, Kind, Neighbour, Row, Topology};
+use mpx_post::Row;
 use std::alloc::Global;
 use std::test::Fail;
-use test_drafts::{Drafted, Edges, just};
+use test_drafts::{Drafted, GraphDraft, just};
 
 // A rank's sources and destinations.
 type Beside = (&'static [u8], &'static [u8]);
@@ -78,7 +80,7 @@ fn make(
     makes(alloc, &world, &row_of(alloc, &posts)?, wanted, ops)
 }
 
-fn graph(kind: Kind, part: Edges<'static>) -> Drafted<'static> {
+fn graph(kind: Kind, part: GraphDraft<'static>) -> Drafted<'static> {
     Drafted {
         graph: Some(part),
         ..just(kind)
@@ -87,7 +89,7 @@ fn graph(kind: Kind, part: Edges<'static>) -> Drafted<'static> {
 
 // Edges of others' too, in this order.
 fn general(edges: &'static [(i128, i128, i128)]) -> Drafted<'static> {
-    let part = Edges {
+    let part = GraphDraft {
         weighted: false,
         edges,
         sources: &[],
@@ -101,7 +103,7 @@ fn adjacent(
     sources: &'static [(i128, i128)],
     destinations: &'static [(i128, i128)],
 ) -> Drafted<'static> {
-    let part = Edges {
+    let part = GraphDraft {
         weighted: false,
         edges: &[],
         sources,

@@ -21,8 +21,14 @@ mod numbers;
 #[cfg(test)]
 mod own;
 #[cfg(test)]
+mod own_folds;
+#[cfg(test)]
+mod own_lists;
+#[cfg(test)]
+mod own_threads;
+#[cfg(test)]
 mod pairs;
 #[cfg(test)]
-mod refusals;
+mod post_told;
 #[cfg(test)]
-mod told;
+mod refusals;

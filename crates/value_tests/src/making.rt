@@ -1,7 +1,9 @@
 //! Processes, births, places of calls and drafts that the tests use.
+use mpx_birth::Birth;
 use mpx_group::Proc;
+use mpx_kind::Kind;
 use mpx_num::Ops;
-use mpx_post::{At, Birth, Kind, Post, PostError};
+use mpx_post::{At, Post, PostError};
 use std::alloc::{AllocError, Global};
 use test_drafts::{Drafted, check, just, proc};
 

@@ -1,12 +1,14 @@
 //! Verdicts of rows with a post that was made for a communicator of three ranks, where there are two: this is told before
 //! the posts are compared.
 use crate::making::{add_post, blocks, create, in_world, lent};
+use mpx_birth::Birth;
+use mpx_kind::Kind;
 use mpx_match::{Fault, FaultKind, Verdict, verdict};
 use mpx_num::Ops;
-use mpx_post::{Birth, Kind, Post, PostError, Row};
+use mpx_post::{Post, PostError, Row};
 use std::alloc::Global;
 use std::test::Fail;
-use test_drafts::{Drafted, Edges, check, just};
+use test_drafts::{Drafted, GraphDraft, check, just};
 
 // What ranks 0 and 1 of a world post.
 pub fn posts_on(
@@ -57,7 +59,7 @@ fn rooted(drafted: Drafted<'static>, root: i128) -> Drafted<'static> {
 // The neighbour 2.
 fn far() -> Drafted<'static> {
     Drafted {
-        graph: Some(Edges {
+        graph: Some(GraphDraft {
             weighted: false,
             edges: &[],
             sources: &[],

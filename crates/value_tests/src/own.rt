@@ -2,9 +2,11 @@
 use crate::making::{add_post, in_world, post_at};
 use crate::misfits::row_of;
 use mpx_affine::Affine;
+use mpx_birth::Birth;
+use mpx_kind::Kind;
 use mpx_match::{Fault, FaultKind, Verdict, verdict};
 use mpx_num::{Op, Ops, OwnOp, Place, Ty};
-use mpx_post::{Birth, Kind, Post, PostError};
+use mpx_post::{Post, PostError};
 use std::alloc::Global;
 use std::test::Fail;
 use test_drafts::{Drafted, bare, just};

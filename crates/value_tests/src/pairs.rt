@@ -1,8 +1,9 @@
 //! Posts beside others: copies, and posts that differ.
 use crate::making::{create, in_world, post_at, split};
 use join_core::Exact;
+use mpx_kind::Kind;
 use mpx_num::{Ops, Ty};
-use mpx_post::{Kind, Post, PostError};
+use mpx_post::{Post, PostError};
 use std::alloc::Global;
 use std::test::Fail;
 use test_drafts::{Drafted, draft, just, says};

@@ -1,7 +1,9 @@
 //! Refusals of drafts that no script shows: strangers, calls used up, and contexts of other calls.
 use crate::making::{behind_free, blocks, in_world, on, post_at, reduce, split};
+use mpx_birth::Birth;
+use mpx_kind::Kind;
 use mpx_num::{Ops, Ty};
-use mpx_post::{At, Birth, Draft, Kind, PostError};
+use mpx_post::{At, Draft, PostError};
 use std::alloc::Global;
 use std::process::Abort;
 use test_drafts::{Drafted, draft, just, proc};
@@ -32,7 +34,7 @@ fn refusal_of_lent(
     }
 }
 
-// The same, told of the draft alone.
+// Why the draft is refused, asked of a draft that is only lent.
 fn refusal_of_draft(
     alloc: Global,
     number: u8,

@@ -1,3 +1,3 @@
-pub mod Told
+pub mod ToldLines
 pub mod Program
 pub mod Lines

@@ -11,9 +11,9 @@ use Rattle.mpx_script.specs.Reading.{reading}
 use Rattle.mpx_script.specs.ScriptView.{ScriptView}
 use Rattle.mpx_script.specs.declared.faults.ScriptError.{ScriptError}
 use Rattle.waits.specs.declared.blame.Blamed.{Blamed}
-use Rattle.waits.specs.declared.program.Fault.{Fault}
-use Rattle.waits.specs.declared.program.Fault.TheVariants.{Script, Memory, Read, Write}
-use Rattle.waits.specs.Told.{all_told}
+use Rattle.waits.specs.declared.program.Failure.{Failure}
+use Rattle.waits.specs.declared.program.Failure.TheVariants.{Script, Memory, Read, Write}
+use Rattle.waits.specs.ToldLines.{all_told}
 
 -- the text is read as a script, and the lines of those who wait at the end of its evaluation are out, and behind them those of
 -- the calls that were refused or are faults
@@ -28,15 +28,15 @@ pub record Told (ops : List Operation) (text : List ℕ) (old new : Option (List
 
 -- somebody waits, or nobody does, and that is told; or the script is refused, or there is another fault, and then nothing is
 -- written, unless the writer failed
-abbrev pub Answers : List Operation → (text : List ℕ) (old new : Option (List ℕ)) → Result Bool Fault → Type 0
-Answers ops text old new (Ok waits) = Told ops text old new waits
-Answers ops text old new (Err (Script refusal word)) = (reading ops text ≡ Err refusal) × (new ≡ old)
-Answers ops text old new (Err Memory) = new ≡ old
-Answers ops text old new (Err Read) = new ≡ old
-Answers ops text old new (Err Write) = Unit {0}
+abbrev pub AnswersText : List Operation → (text : List ℕ) (old new : Option (List ℕ)) → Result Bool Failure → Type 0
+AnswersText ops text old new (Ok waits) = Told ops text old new waits
+AnswersText ops text old new (Err (Script refusal word)) = (reading ops text ≡ Err refusal) × (new ≡ old)
+AnswersText ops text old new (Err Memory) = new ≡ old
+AnswersText ops text old new (Err Read) = new ≡ old
+AnswersText ops text old new (Err Write) = Unit {0}
 
 -- no fault of the reader, nor want of memory, has kept it from the text
-abbrev pub is_read : Result Bool Fault → Bool
+abbrev pub is_read : Result Bool Failure → Bool
 is_read (Ok waits) = true
 is_read (Err (Script refusal word)) = true
 is_read (Err Memory) = false
@@ -44,13 +44,13 @@ is_read (Err Read) = false
 is_read (Err Write) = true
 
 -- that is so of a text, which then is all that the reader gives
-pub record Tells (ops : List Operation) (there old new : Option (List ℕ)) (answer : Result Bool Fault) : Type 0 where
+pub record TellsWaits (ops : List Operation) (there old new : Option (List ℕ)) (answer : Result Bool Failure) : Type 0 where
   pub text : List ℕ
   pub all : is_read answer ≡ true → IfSome there (λ bytes. text ≡ bytes)
-  pub answers : Answers ops text old new answer
+  pub answers : AnswersText ops text old new answer
 
 -- the exit status
-abbrev pub status : Result Bool Fault → ℕ
+abbrev pub status : Result Bool Failure → ℕ
 status (Ok false) = 0
 status (Ok true) = 3
 status (Err (Script refusal word)) = 2
@@ -63,14 +63,14 @@ abbrev pub blamed_text : ScriptError → Blamed → List ℕ
 blamed_text refusal blamed = error_text refusal ++ codes " (word " ++ decimal blamed.place ++ codes ": " ++ string_bytes blamed.word ++ codes ")\n"
 
 -- that refusal, or want of memory
-abbrev pub IsRefusal : ScriptError → Fault → Type 0
-IsRefusal refusal (Script told word) = told ≡ refusal
-IsRefusal refusal Memory = Unit {0}
-IsRefusal refusal Read = ⊥
-IsRefusal refusal Write = ⊥
+abbrev pub IsScriptRefusal : ScriptError → Failure → Type 0
+IsScriptRefusal refusal (Script told word) = told ≡ refusal
+IsScriptRefusal refusal Memory = Unit {0}
+IsScriptRefusal refusal Read = ⊥
+IsScriptRefusal refusal Write = ⊥
 
 -- what the standard error is told
-abbrev pub message : Result Bool Fault → List ℕ
+abbrev pub message : Result Bool Failure → List ℕ
 message (Ok waits) = []
 message (Err (Script refusal None)) = error_text refusal ++ codes "\n"
 message (Err (Script refusal (Some blamed))) = blamed_text refusal blamed

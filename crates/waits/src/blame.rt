@@ -20,7 +20,7 @@ enum Change {
     One(usize, &'static str),
     /// A number at this place and in each one behind it, but for operations and types.
     Numbers(usize),
-    /// The same up to an arrow.
+    /// A number at this place and in each one behind it up to an arrow, but for operations and types.
     NumbersToArrow(usize),
 }
 

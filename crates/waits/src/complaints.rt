@@ -2,7 +2,7 @@
 ghost use Rattle.std.specs.Prelude.{◌≡◌, ◌++◌, IfOk, OnOk, map};
 ghost use Rattle.std.specs.List.{flat_map};
 ghost use Rattle.mpx_eval.specs.Found.{complaint_view};
-ghost use Rattle.waits.specs.Told.{complaint_text, complaint_told};
+ghost use Rattle.waits.specs.ToldLines.{complaint_text, complaint_told};
 ghost use Rattle.waits.specs.Lines.{AreLinesOf};
 
 use crate::places::line_at;
@@ -47,7 +47,7 @@ fn lines_of(alloc: Global, text: &[u8], rank: u8) -> Result<RankLines, OutOfMemo
     Ok(RankLines { rank, numbers })
 }
 
-// The same, which are at hand where it is still the same rank.
+// The lines of this rank's statements: those at hand, where they are of this rank, else they are found.
 fn lines_now(
     alloc: Global,
     text: &[u8],

@@ -6,14 +6,14 @@
 mod blame;
 mod complaints;
 mod members;
-mod numbers;
+mod number_text;
 mod places;
 mod program;
 mod told;
 
 use mpx_affine::Affine;
 use mpx_num::{Ops, OwnOp};
-use program::{Fault, status_of, tell_waits, write_message};
+use program::{Failure, status_of, tell_waits, write_message};
 use std::io::Write;
 use std::process::ExitCode;
 use std::{env, io};
@@ -28,7 +28,7 @@ fn has_words(rt: &HostRuntime) -> bool {
 
 /// There is no more memory.
 fn starved(rt: &HostRuntime) -> ExitCode {
-    let answer = Err(Fault::Memory);
+    let answer = Err(Failure::Memory);
     let _told = write_message(&answer, &mut rt.stderr());
     ExitCode::from(status_of(&answer))
 }

@@ -1,15 +1,15 @@
 //! The text of the members that have not posted to a call, with where they stand.
 ghost use Rattle.std.specs.Prelude.{◌≡◌, ◌++◌, [], OnOk};
-ghost use Rattle.waits.specs.Told.{follows, is_same_place, member_text, members_text, place_in, place_text, placed_text, row_text, standing};
+ghost use Rattle.waits.specs.ToldLines.{follows, is_same_place, member_text, members_text, place_in, place_text, placed_text, row_text, standing};
 
-use crate::numbers::push_decimal;
+use crate::number_text::push_decimal;
 use join_core::OutOfMemory;
 use mpx_eval::MissingMember;
 use std::alloc::Global;
 
 // Where a member stands that has not posted to a call.
 #[derive(Clone, Copy)]
-enum Place {
+enum Whereabouts {
     // It has freed the communicator, and posts no more there.
     Closed,
     // It has finished.
@@ -51,19 +51,19 @@ fn follows(places: &[(u8, u32)], last: MissingMember, member: MissingMember) -> 
         && is_same_place(place_in(places, last), place_in(places, member))
 }
 
-fn is_same_place(one: Place, other: Place) -> bool
+fn is_same_place(one: Whereabouts, other: Whereabouts) -> bool
     ensures { result ≡ is_same_place one other }
 {
     match (one, other) {
-        (Place::Closed, Place::Closed) => true,
-        (Place::Closed, Place::Finished) => false,
-        (Place::Closed, Place::Line(_)) => false,
-        (Place::Finished, Place::Closed) => false,
-        (Place::Finished, Place::Finished) => true,
-        (Place::Finished, Place::Line(_)) => false,
-        (Place::Line(_), Place::Closed) => false,
-        (Place::Line(_), Place::Finished) => false,
-        (Place::Line(one), Place::Line(other)) => one == other,
+        (Whereabouts::Closed, Whereabouts::Closed) => true,
+        (Whereabouts::Closed, Whereabouts::Finished) => false,
+        (Whereabouts::Closed, Whereabouts::Line(_)) => false,
+        (Whereabouts::Finished, Whereabouts::Closed) => false,
+        (Whereabouts::Finished, Whereabouts::Finished) => true,
+        (Whereabouts::Finished, Whereabouts::Line(_)) => false,
+        (Whereabouts::Line(_), Whereabouts::Closed) => false,
+        (Whereabouts::Line(_), Whereabouts::Finished) => false,
+        (Whereabouts::Line(one), Whereabouts::Line(other)) => one == other,
     }
 }
 
@@ -105,7 +105,7 @@ fn push_member(
 }
 
 // Adds where ranks stand.
-fn push_place(alloc: Global, place: Place, told: &mut Vec<u8>) -> Result<(), OutOfMemory>
+fn push_place(alloc: Global, place: Whereabouts, told: &mut Vec<u8>) -> Result<(), OutOfMemory>
     ensures { OnOk result (told.new.items ≡ told.old.items ++ placed_text [] place) }
 {
     told.extend_from_slice(b" (")?;
@@ -115,13 +115,13 @@ fn push_place(alloc: Global, place: Place, told: &mut Vec<u8>) -> Result<(), Out
 }
 
 // Adds the line at which a rank waits, or that it has finished, or freed the communicator.
-fn push_standing(alloc: Global, place: Place, told: &mut Vec<u8>) -> Result<(), OutOfMemory>
+fn push_standing(alloc: Global, place: Whereabouts, told: &mut Vec<u8>) -> Result<(), OutOfMemory>
     ensures { OnOk result (told.new.items ≡ told.old.items ++ place_text place) }
 {
     match place {
-        Place::Closed => Ok(told.extend_from_slice(b"closed")?),
-        Place::Finished => Ok(told.extend_from_slice(b"finished")?),
-        Place::Line(line) => {
+        Whereabouts::Closed => Ok(told.extend_from_slice(b"closed")?),
+        Whereabouts::Finished => Ok(told.extend_from_slice(b"finished")?),
+        Whereabouts::Line(line) => {
             told.extend_from_slice(b"line ")?;
             push_decimal(alloc, told, line)
         }
@@ -129,15 +129,15 @@ fn push_standing(alloc: Global, place: Place, told: &mut Vec<u8>) -> Result<(), 
 }
 
 // Where a member stands.
-fn place_in(places: &[(u8, u32)], member: MissingMember) -> Place
+fn place_in(places: &[(u8, u32)], member: MissingMember) -> Whereabouts
     ensures { result ≡ place_in places.now member }
 {
     if member.closed {
-        return Place::Closed;
+        return Whereabouts::Closed;
     }
     match standing(places, member.rank) {
-        None => Place::Finished,
-        Some(line) => Place::Line(line),
+        None => Whereabouts::Finished,
+        Some(line) => Whereabouts::Line(line),
     }
 }
 

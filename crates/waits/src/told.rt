@@ -2,11 +2,11 @@
 ghost use Rattle.std.specs.Prelude.{◌≡◌, ◌++◌, IfOk, OnOk, bytes_eq, codes, map};
 ghost use Rattle.std.specs.Option.{option_copied};
 ghost use Rattle.mpx_eval.specs.Found.{complaint_view, missing_view, waiting_view};
-ghost use Rattle.waits.specs.Told.{all_told, apart_words, call_text, call_words, end_text, rank_text, request_text, second_word, start_text, waiting_told, what_text, word_in};
+ghost use Rattle.waits.specs.ToldLines.{all_told, apart_words, call_text, call_words, end_text, rank_text, request_text, second_word, start_text, waiting_told, what_text, word_in};
 
 use crate::complaints::push_complaints;
 use crate::members::push_members;
-use crate::numbers::push_decimal;
+use crate::number_text::push_decimal;
 use crate::places::{line_at, places_of};
 use join_core::OutOfMemory;
 use mpx_eval::{Findings, MissingCall, WaitingRank, started_at};

@@ -2,11 +2,10 @@ use Rattle.std.proofs.Common.{◌≡◌, ◌∙◌, ◌+ℤ◌, ◌*ℤ◌, ℤ,
 use mir.Syntax.{w128}
 use Rattle.std.proofs.lemmas.Int.{to_z-of_z}
 use Rattle.mpx_num.specs.Types.{IsInRange}
-use Rattle.mpx_num.specs.Own.{IsItem, IsSecond}
+use Rattle.mpx_num.specs.Own.{IsSecond}
 use Rattle.mpx_num.specs.Wrapping.{into_range}
 use Rattle.mpx_num.proofs.Congruences.{into_range-wrapping_add, into_range-wrapping_mul}
 use Rattle.mpx_num.proofs.Ranges.{into_range-in_range, into_range-plus}
-use Rattle.mpx_affine.specs.Composition.{composed}
 use Rattle.mpx_affine.proofs.affine.compose.Goals as goal
 
 pub returns-clause-value : goal.returns-clause-value

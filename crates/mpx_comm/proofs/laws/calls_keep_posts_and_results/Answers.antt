@@ -1,10 +1,10 @@
 use Rattle.mpx_node.specs.Nodes.{NodeView, gathers_on, learn}
-use Rattle.mpx_comm.specs.Keeps.{Keeps}
+use Rattle.mpx_comm.specs.Keeps.{NodeKeeps}
 use Rattle.mpx_comm.specs.Later.{Later}
 use Rattle.mpx_comm.proofs.Steps.{later_gathers, later_harvest, later_learns, later_stops}
 use Rattle.mpx_comm.proofs.laws.calls_keep_posts_and_results.Goals as goal
 
-keeps : (old now : NodeView) → Later old now → Keeps old now
+keeps : (old now : NodeView) → Later old now → NodeKeeps old now
 keeps old now l = record { stored = l.stored; own = l.own }
 
 pub returns-clause-later : goal.returns-clause-later

@@ -8,9 +8,9 @@ use Rattle.mpx_decode.proofs.items.read_all.Given as goal
 
 abbrev pub invariant-loop : goal.invariant-loop
 invariant-loop g l = record {
-  read : ReadSoFar (λ before. integer g.N.Number.ty) l.count l.counter l.numbers.items l.rest l.bytes;
-  in_range : All (IsInRange g.N.Number.ty) l.numbers.items;
+  read : ReadSoFar (λ before. integer g.N.BigEndianNumber.ty) l.count l.counter l.numbers.items l.rest l.bytes;
+  in_range : All (IsInRange g.N.BigEndianNumber.ty) l.numbers.items;
   len : length l.numbers.items ≡ l.counter;
   capacity : vec_capacity l.numbers ≡ l.count;
-  enough : width g.N.Number.ty * (l.count - l.counter) ≤ 8 * length l.rest;
+  enough : width g.N.BigEndianNumber.ty * (l.count - l.counter) ≤ 8 * length l.rest;
 }

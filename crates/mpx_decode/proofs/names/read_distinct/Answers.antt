@@ -3,7 +3,7 @@ use Rattle.std.proofs.lemmas.List.Elements.{All-nil, All-push}
 use Rattle.std.proofs.lemmas.Result.{err_from_is_err_and}
 use Rattle.mpx_group.specs.Group.{has}
 use Rattle.mpx_post.proofs.Seen.{seen-none, seen-more}
-use Rattle.mpx_format.specs.declared.faults.ReadError.TheVariants as errors
+use Rattle.mpx_format.specs.declared.defects.ReadError.TheVariants as errors
 use Rattle.mpx_format.specs.Format.{out_of_limits}
 use Rattle.mpx_format.specs.Fields.{member}
 use Rattle.mpx_decode.proofs.Loop.{begins, goes_on, ends, is_done, fails_on}
@@ -23,7 +23,7 @@ pub returns-then-read-number-clause-read : goal.returns-then-read-number-clause-
 unfolding member
 returns-then-read-number-clause-read c =
     let twice : has c.loop.members.items c.in_ok-number.number ≡ true = sym (c.loop.invariant.seen.marked c.in_ok-number.number c.in_ok-number.ensures.small) ∙ c.if-read-number.true in
-    rw c.out_of_limits.ensures (ends member c.loop.members.items c.args.count c.loop.counter c.loop.rest.now c.args.bytes.now (errors.Fault (out_of_limits c.loop.rest.now)) c.loop-test.true (rw (c.in_ok-number.ensures.read, twice) refl) c.loop.invariant.read)
+    rw c.out_of_limits.ensures (ends member c.loop.members.items c.args.count c.loop.counter c.loop.rest.now c.args.bytes.now (errors.Defect (out_of_limits c.loop.rest.now)) c.loop-test.true (rw (c.in_ok-number.ensures.read, twice) refl) c.loop.invariant.read)
 
 pub loop-preserved : goal.loop-preserved
 unfolding member

@@ -6,29 +6,29 @@ use Rattle.mpx_decode.proofs.raising.raise_placed.Goals as goal
 pub raise-requires : goal.raise-requires
 raise-requires g c = value_stands g.K.WireKey.format (g.J.WireJoin.wire c.args.version) c.args.bytes.now c.in-Ok.key c.in-Ok.rest.now c.in-Ok.ensures c.requires.spelled
 
-pub returns-in_err-rest-in-Ok-place-clause-err : goal.returns-in_err-rest-in-Ok-place-clause-err
-returns-in_err-rest-in-Ok-place-clause-err g c =
-    let there = rw c.deref.ensures.value at c.in-Ok-place.ensures.found in
-    let same = key_at g.met.K.Ord.total g.met.K.Key.exact_order g.J.WireJoin.view c.in-Ok.key c.args.entries.now.items c.in-Ok-place.at c.index_mut.result.now there c.index_mut.ensures.value in
+pub returns-in_err-rest-in-Ok-place_of_key-clause-err : goal.returns-in_err-rest-in-Ok-place_of_key-clause-err
+returns-in_err-rest-in-Ok-place_of_key-clause-err g c =
+    let there = rw c.deref.ensures.value at c.in-Ok-place_of_key.ensures.found in
+    let same = key_at g.met.K.Ord.total g.met.K.Key.exact_order g.J.WireJoin.view c.in-Ok.key c.args.entries.now.items c.in-Ok-place_of_key.at c.index_mut.result.now there c.index_mut.ensures.value in
     on_err c.from_residual.result (stops_at g.met.K.Ord.total g.met.K.Key.exact_order g.J.WireJoin.view g.K.WireKey.format (g.J.WireJoin.wire c.args.version) c.args.bytes.now c.in-Ok.key c.in-Ok.rest.now c.in-Ok.ensures c.args.entries.now.items c.requires.rising
-    c.in-Ok-place.at c.index_mut.result.now c.raise.new.self there.in_range c.index_mut.ensures.value same g.met.J.WireJoin.laws g.met.J.WireJoin.between_laws c.in_err-rest-in-Ok-place.ensures.err)
+    c.in-Ok-place_of_key.at c.index_mut.result.now c.raise.new.self there.in_range c.index_mut.ensures.value same g.met.J.WireJoin.laws g.met.J.WireJoin.between_laws c.in_err-rest-in-Ok-place_of_key.ensures.err)
 
-pub returns-in_err-rest-in-Ok-place-clause-rising : goal.returns-in_err-rest-in-Ok-place-clause-rising
-returns-in_err-rest-in-Ok-place-clause-rising g c =
-    let there = rw c.deref.ensures.value at c.in-Ok-place.ensures.found in
-    sorted_at g.met.K.Ord.total g.met.K.Key.exact_order g.J.WireJoin.view c.args.entries.now.items c.requires.rising c.in-Ok-place.at c.index_mut.result.now c.raise.new.self there.in_range c.index_mut.ensures.value
+pub returns-in_err-rest-in-Ok-place_of_key-clause-rising : goal.returns-in_err-rest-in-Ok-place_of_key-clause-rising
+returns-in_err-rest-in-Ok-place_of_key-clause-rising g c =
+    let there = rw c.deref.ensures.value at c.in-Ok-place_of_key.ensures.found in
+    sorted_at g.met.K.Ord.total g.met.K.Key.exact_order g.J.WireJoin.view c.args.entries.now.items c.requires.rising c.in-Ok-place_of_key.at c.index_mut.result.now c.raise.new.self there.in_range c.index_mut.ensures.value
 
-pub returns-in-Ok-place-clause-ok : goal.returns-in-Ok-place-clause-ok
-returns-in-Ok-place-clause-ok g c =
-    let there = rw c.deref.ensures.value at c.in-Ok-place.ensures.found in
-    let same = key_at g.met.K.Ord.total g.met.K.Key.exact_order g.J.WireJoin.view c.in-Ok.key c.args.entries.now.items c.in-Ok-place.at c.index_mut.result.now there c.index_mut.ensures.value in
+pub returns-in-Ok-place_of_key-clause-ok : goal.returns-in-Ok-place_of_key-clause-ok
+returns-in-Ok-place_of_key-clause-ok g c =
+    let there = rw c.deref.ensures.value at c.in-Ok-place_of_key.ensures.found in
+    let same = key_at g.met.K.Ord.total g.met.K.Key.exact_order g.J.WireJoin.view c.in-Ok.key c.args.entries.now.items c.in-Ok-place_of_key.at c.index_mut.result.now there c.index_mut.ensures.value in
     raises_at g.met.K.Ord.total g.met.K.Key.exact_order g.J.WireJoin.view g.K.WireKey.format (g.J.WireJoin.wire c.args.version) c.args.bytes.now c.in-Ok.key c.in-Ok.rest.now c.in-Ok.ensures c.args.entries.now.items c.requires.rising
-    c.in-Ok-place.at c.index_mut.result.now c.raise.new.self there.in_range c.index_mut.ensures.value same g.J.WireJoin.joining c.in_ok-rest-in-Ok-place.rest.now c.in_ok-rest-in-Ok-place.ensures.ok
+    c.in-Ok-place_of_key.at c.index_mut.result.now c.raise.new.self there.in_range c.index_mut.ensures.value same g.J.WireJoin.joining c.in_ok-rest-in-Ok-place_of_key.rest.now c.in_ok-rest-in-Ok-place_of_key.ensures.ok
 
-pub returns-in-Ok-place-clause-rising : goal.returns-in-Ok-place-clause-rising
-returns-in-Ok-place-clause-rising g c =
-    let there = rw c.deref.ensures.value at c.in-Ok-place.ensures.found in
-    sorted_at g.met.K.Ord.total g.met.K.Key.exact_order g.J.WireJoin.view c.args.entries.now.items c.requires.rising c.in-Ok-place.at c.index_mut.result.now c.raise.new.self there.in_range c.index_mut.ensures.value
+pub returns-in-Ok-place_of_key-clause-rising : goal.returns-in-Ok-place_of_key-clause-rising
+returns-in-Ok-place_of_key-clause-rising g c =
+    let there = rw c.deref.ensures.value at c.in-Ok-place_of_key.ensures.found in
+    sorted_at g.met.K.Ord.total g.met.K.Key.exact_order g.J.WireJoin.view c.args.entries.now.items c.requires.rising c.in-Ok-place_of_key.at c.index_mut.result.now c.raise.new.self there.in_range c.index_mut.ensures.value
 
 pub returns-in_err-insert-in-Err-clause-err : goal.returns-in_err-insert-in-Err-clause-err
 returns-in_err-insert-in-Err-clause-err g c =

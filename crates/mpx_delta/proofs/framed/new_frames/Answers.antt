@@ -2,14 +2,14 @@
 use Rattle.std.proofs.Common.{ap, sym, subst}
 use Rattle.mpx_board.specs.Contexts.{look_of}
 use Rattle.mpx_board.specs.Looks.{parts_of}
-use Rattle.mpx_board.specs.Raised.{Leads}
+use Rattle.mpx_board.specs.Raised.{StoringLeads}
 use Rattle.mpx_board.specs.Views.{view_of_acks}
 use Rattle.mpx_delta.specs.Digests.{numbers_of}
 use Rattle.mpx_delta.proofs.Framing.{frames_lack, leads_between, led_back}
 use Rattle.mpx_delta.proofs.framed.new_frames.Goals as goal
 
 pub exchange-said-requires : goal.exchange-said-requires
-exchange-said-requires c = (parts_of c.args.board.now, subst (λ v. Leads c.in_ok-before.before v (parts_of c.args.board.now)) (sym c.lean_frames-made.ensures.board) c.in_ok-before.ensures.back)
+exchange-said-requires c = (parts_of c.args.board.now, subst (λ v. StoringLeads c.in_ok-before.before v (parts_of c.args.board.now)) (sym c.lean_frames-made.ensures.board) c.in_ok-before.ensures.back)
 
 pub returns-in-Ok-clause-board : goal.returns-in-Ok-clause-board
 returns-in-Ok-clause-board c = ap look_of (led_back c.in_ok-before.before (parts_of c.args.board.now) _ _ _ c.in_ok-before.ensures.back c.lean_frames-made.ensures.board c.exchange-said.ensures.new)

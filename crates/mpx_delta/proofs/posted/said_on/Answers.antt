@@ -10,4 +10,4 @@ pub returns-in-None : goal.returns-in-None
 returns-in-None c = ap (option_and_then (λ acks. get acks c.args.name.now)) (ap (λ o. option_map view_of_acks (option_copied o)) (sym c.in-None.is) ∙ c.get.ensures)
 
 pub returns-in-Some : goal.returns-in-Some
-returns-in-Some c = c.get-in-Some.ensures ∙ ap (option_and_then (λ acks. get acks c.args.name.now)) (ap (λ o. option_map view_of_acks (option_copied o)) (sym c.in-Some.is) ∙ c.get.ensures)
+returns-in-Some c = c.value_near.ensures ∙ ap (option_and_then (λ acks. get acks c.args.name.now)) (ap (λ o. option_map view_of_acks (option_copied o)) (sym c.in-Some.is) ∙ c.get.ensures)

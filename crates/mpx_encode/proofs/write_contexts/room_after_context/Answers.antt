@@ -1,13 +1,12 @@
 use Rattle.std.proofs.Common.{◌≡◌, true, not, ◌++◌, length, Some, None, sym, ap, ◌∙◌, rules}
 use Rattle.join_core.specs.Cases.{first_true, second_true}
-use Rattle.mpx_board.specs.Tidy.{all_entries, is_tidy_call}
+use Rattle.mpx_board.specs.Tidy.{all_entries, is_tidy_call, says_nothing, is_neat_entry, has_no_zero}
 use Rattle.mpx_board.specs.Views.{view_of_entry}
 use Rattle.mpx_encode.specs.Room.{room_left}
 use Rattle.mpx_format.specs.declared.versions.Version.TheVariants.{Two}
 use Rattle.mpx_format.specs.Births.{birth}
 use Rattle.mpx_format.specs.Fields.{fronts}
 use Rattle.mpx_format.specs.Contexts.{told, held}
-use Rattle.mpx_board.specs.Tidy.{says_nothing, is_neat_entry, has_no_zero}
 use Rattle.mpx_encode.proofs.Rooms.{room_stops_at, room_behind}
 use Rattle.mpx_encode.proofs.Contexts.{context_spelled, context_fits}
 use Rattle.mpx_encode.proofs.Maps.{where_left}

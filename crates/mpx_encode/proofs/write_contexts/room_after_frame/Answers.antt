@@ -2,18 +2,15 @@ use Rattle.std.proofs.Common.{◌≡◌, ◌+◌, true, ◌&&◌, [], ◌∷◌,
 use Rattle.std.specs.Prelude.{nat_lt, nat_le}
 use Rattle.std.specs.Ordering.{nat_cmp}
 use Rattle.std.specs.FinMap.{entries, len, len-entries}
-use Rattle.std.specs.List.{list_all}
+use Rattle.std.specs.List.{list_all, list_any}
 use Rattle.std.proofs.lemmas.Bool.{leb-true}
 use Rattle.join_core.specs.Cases.{first_true, second_true}
 use Rattle.join_nest.specs.Seen.{seen, sorted_seen}
 use Rattle.mpx_name.specs.Order.{name_cmp}
-use Rattle.mpx_board.specs.Tidy.{is_tidy_acks}
-use Rattle.mpx_board.specs.Views.{view_of_acks, view_of_lifted}
+use Rattle.mpx_board.specs.Tidy.{is_tidy_acks, is_tidy_lifted, are_tidy_entries, are_tidy_acks}
+use Rattle.mpx_board.specs.Views.{view_of_acks, view_of_lifted, view_of_parts}
 use Rattle.mpx_format.specs.Encoding.{most_names}
 use Rattle.mpx_encode.specs.Room.{room_left}
-use Rattle.std.specs.List.{list_any}
-use Rattle.mpx_board.specs.Views.{view_of_parts}
-use Rattle.mpx_board.specs.Tidy.{is_tidy_lifted, are_tidy_entries, are_tidy_acks}
 use Rattle.mpx_format.specs.declared.versions.Version.TheVariants.{Two}
 use Rattle.mpx_format.specs.Fields.{process, name, acks}
 use Rattle.mpx_format.specs.Contexts.{lifted}

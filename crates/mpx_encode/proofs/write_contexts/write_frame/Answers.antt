@@ -4,9 +4,8 @@ use Rattle.std.specs.Ordering.{nat_cmp}
 use Rattle.join_nest.specs.Seen.{seen}
 use Rattle.join_nest.proofs.Steps.{length_seen}
 use Rattle.mpx_name.specs.Order.{name_cmp}
-use Rattle.mpx_board.specs.Views.{view_of_acks, view_of_lifted}
+use Rattle.mpx_board.specs.Views.{view_of_acks, view_of_lifted, view_of_parts}
 use Rattle.mpx_format.specs.Rising.{always}
-use Rattle.mpx_board.specs.Views.{view_of_parts}
 use Rattle.mpx_format.specs.declared.versions.Version.TheVariants.{Two}
 use Rattle.mpx_format.specs.Format.{byte}
 use Rattle.mpx_format.specs.Fields.{process, name, name_count, acks}

@@ -1,6 +1,5 @@
-use Rattle.std.proofs.Common.{◌≡◌, ◌++◌, refl, rules}
+use Rattle.std.proofs.Common.{◌≡◌, ◌++◌, refl, rules, get_or}
 use Rattle.std.specs.Int.{w16, to_be_bytes}
-use Rattle.std.proofs.Common.{get_or}
 use Rattle.mpx_format.specs.Posts.{count}
 use Rattle.mpx_encode.proofs.Loops.{written_at}
 use Rattle.mpx_encode.proofs.write_posts.write_each_count.Goals as goal

@@ -2,10 +2,10 @@ use Rattle.std.proofs.Common.{◌≡◌, List, ℕ, map, length, ap, sym, ◌∙
 use Rattle.std.specs.Prelude.{slice_get}
 use Rattle.mpx_num.specs.declared.own.Operation.{Operation}
 use Rattle.mpx_num.specs.Own.{operation_of}
-use Rattle.mpx_evaluation.specs.Evaluation.{start}
-use Rattle.mpx_evaluation.specs.Reports.{transcripts_of, which}
+use Rattle.mpx_meaning.specs.Evaluation.{start}
+use Rattle.mpx_meaning.specs.Reports.{transcripts_of, which}
 use Rattle.mpx_name.specs.Name.{Name}
-use Rattle.mpx_rank.specs.declared.rank.Rank.{Rank}
+use Rattle.mpx_rank.specs.declared.interpreter.Interpreter.{Interpreter}
 use Rattle.mpx_eval.specs.declared.table.Table.{Table}
 use Rattle.mpx_rank.specs.Places.{CommunicatorView}
 use Rattle.mpx_eval.specs.Places.{TableRank}
@@ -25,9 +25,9 @@ returns g c =
     let t = table_of c.new-table.result in
     let begin = start script.statements script.ranks in
     let are : AreIn ops script.ranks (map shown xs) t begin = are_in_start ops script.statements script.ranks (map shown xs) t many c.in_ok-ranks.ensures c.new-table.ensures in
-    let lent : AreIn ops script.ranks (map shown c.deref_mut.result.now) t begin = subst (λ (ps : List (Rank Table CommunicatorView (Name × ℕ))). AreIn ops script.ranks (map shown ps) t begin) (sym c.deref_mut.ensures.value) are in
+    let lent : AreIn ops script.ranks (map shown c.deref_mut.result.now) t begin = subst (λ (ps : List (Interpreter Table CommunicatorView (Name × ℕ))). AreIn ops script.ranks (map shown ps) t begin) (sym c.deref_mut.ensures.value) are in
     let ran = c.in_ok-rounds.ensures script.statements script.ranks begin (reached_start ops script.statements script.ranks) lent in
     let same = written_back c.in_ok-ranks.ranks.len xs c.rounds.new.ranks (c.rounds.auto.ranks ∙ ap length c.deref_mut.ensures.value) (sym (ap length c.deref_mut.ensures.value) ∙ c.deref_mut.ensures.len) in
     evaluated ops script (map shown c.rounds.new.ranks) (table_of c.rounds.new.table) ran (transcripts_of (record { transcripts = c.in_ok-transcripts.transcripts; waiting = c.in_ok-waiting.waiting })) c.in_ok-waiting.waiting.items
-    (c.in_ok-transcripts.ensures ∙ ap (λ (ps : List (Rank Table CommunicatorView (Name × ℕ))). map (λ (r : TableRank). r.lines) (map shown ps)) same)
-    (c.in_ok-waiting.ensures ∙ ap (λ (ps : List (Rank Table CommunicatorView (Name × ℕ))). which (λ p. is_waiting_at (slice_get (map shown ps) p)) c.ranks.result) (c.as_slice.ensures.value ∙ same) ∙ ap (which (λ p. is_waiting_at (slice_get (map shown c.rounds.new.ranks) p))) c.ranks.ensures.ranks)
+    (c.in_ok-transcripts.ensures ∙ ap (λ (ps : List (Interpreter Table CommunicatorView (Name × ℕ))). map (λ (r : TableRank). r.lines) (map shown ps)) same)
+    (c.in_ok-waiting.ensures ∙ ap (λ (ps : List (Interpreter Table CommunicatorView (Name × ℕ))). which (λ p. is_waiting_at (slice_get (map shown ps) p)) c.ranks.result) (c.as_slice.ensures.value ∙ same) ∙ ap (which (λ p. is_waiting_at (slice_get (map shown c.rounds.new.ranks) p))) c.ranks.ensures.ranks)

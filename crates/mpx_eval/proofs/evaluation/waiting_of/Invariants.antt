@@ -1,6 +1,6 @@
 use Rattle.std.proofs.Common.{◌≡◌, map}
 use Rattle.std.specs.Prelude.{slice_get}
-use Rattle.mpx_evaluation.specs.Reports.{which}
+use Rattle.mpx_meaning.specs.Reports.{which}
 use Rattle.mpx_eval.specs.Rounds.{is_waiting_at}
 use Rattle.mpx_eval.specs.Carrying.{shown}
 use Rattle.mpx_eval.proofs.evaluation.waiting_of.Given as goal

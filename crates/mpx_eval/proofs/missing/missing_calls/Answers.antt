@@ -1,6 +1,6 @@
 use Rattle.std.proofs.Common.{◌++◌, ◌∷◌, [], None, map, ap, sym, ◌∙◌}
 use Rattle.std.specs.Option.{option_copied, option_map}
-use Rattle.mpx_evaluation.specs.Ranks.{doing}
+use Rattle.mpx_meaning.specs.Ranks.{doing}
 use Rattle.mpx_eval.specs.Found.{found_calls, missing_view}
 use Rattle.mpx_eval.specs.Carrying.{at_place, shown}
 use Rattle.mpx_eval.specs.Tables.{table_of}

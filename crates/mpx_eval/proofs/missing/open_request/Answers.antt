@@ -1,5 +1,5 @@
 use Rattle.std.proofs.Common.{cond, None, ap, sym, ◌∙◌}
-use Rattle.mpx_evaluation.specs.Standing.{looked_up}
+use Rattle.mpx_meaning.specs.Standing.{looked_up}
 use Rattle.mpx_eval.proofs.Waits.{closed_any}
 use Rattle.mpx_eval.proofs.missing.open_request.Goals as goal
 

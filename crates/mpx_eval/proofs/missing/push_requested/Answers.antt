@@ -1,6 +1,6 @@
 use Rattle.std.proofs.Common.{List, Option, ℕ, [], ◌++◌, map, ap, ◌∙◌}
 use Rattle.mpx_name.specs.Name.{Name}
-use Rattle.mpx_evaluation.specs.Standing.{looked_up}
+use Rattle.mpx_meaning.specs.Standing.{looked_up}
 use Rattle.mpx_eval.specs.Found.{found_calls, missing_view}
 use Rattle.mpx_eval.specs.Tables.{table_of}
 use Rattle.mpx_eval.specs.Waiting.{asked_then}

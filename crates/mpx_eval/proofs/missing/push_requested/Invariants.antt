@@ -1,5 +1,5 @@
 use Rattle.std.proofs.Common.{◌≡◌, ◌++◌, drop, map, take}
-use Rattle.mpx_evaluation.specs.Standing.{closed_all, looked_up}
+use Rattle.mpx_meaning.specs.Standing.{closed_all, looked_up}
 use Rattle.mpx_eval.specs.Found.{found_calls, missing_view}
 use Rattle.mpx_eval.specs.Tables.{table_of}
 use Rattle.mpx_eval.specs.Waiting.{asked_by}

@@ -3,7 +3,7 @@ use Rattle.mpx_num.specs.declared.own.Operation.{Operation}
 use Rattle.mpx_num.specs.Own.{operation_of}
 use Rattle.mpx_name.specs.Name.{Name}
 use Rattle.mpx_name.specs.declared.steps.Step.TheVariants.{Gathering}
-use Rattle.mpx_post.specs.Births.{of_members}
+use Rattle.mpx_birth.specs.Births.{of_members}
 use Rattle.mpx_eval.specs.Places.{gathering_name}
 use Rattle.mpx_eval.specs.Tables.{table_of}
 use Rattle.mpx_eval.proofs.Trying.{tries_as}

@@ -1,10 +1,12 @@
-use Rattle.std.proofs.Common.{◌≡◌, ℕ, List, ◌∙◌, ap, sym, subst}
+use Rattle.std.proofs.Common.{◌≡◌, ℕ, List, ◌∙◌, refl, ap, sym, subst}
 use Rattle.mpx_num.specs.declared.own.Operation.{Operation}
 use Rattle.mpx_kind.specs.declared.kinds.Kind.{Kind}
 use Rattle.mpx_kind.specs.declared.kinds.Family.{Family}
+use Rattle.mpx_kind.specs.declared.kinds.Family.TheVariants as F
+use Rattle.mpx_kind.specs.declared.kinds.Reduction.{Reduction}
 use Rattle.mpx_post.specs.declared.value.Value.{Value}
-use Rattle.mpx_post.specs.Kinds.{family_of, fields_of}
-use Rattle.mpx_post.specs.Posts.{Given}
+use Rattle.mpx_post.specs.declared.value.Value.TheVariants.{Nothing}
+use Rattle.mpx_kind.specs.Kinds.{family_of, fields_of}
 use Rattle.mpx_post.specs.Rows.{RowView}
 use Rattle.mpx_post.specs.Agreement.{first_of}
 use Rattle.mpx_post.specs.Values.{GivesValue}
@@ -13,39 +15,28 @@ use Rattle.mpx_fold.specs.Folds.{fold_in, fold_value}
 use Rattle.mpx_fold.proofs.Contributions.{reduction_has_op}
 use Rattle.mpx_fold.proofs.folds.fold_value.Goals as goal
 
--- the family that is read is that of rank 0's kind
-first_family : (row : RowView) (first : Given) (kind : Kind) (read family : Family) → first ≡ first_of row → kind ≡ first.kind → read ≡ family_of kind → read ≡ family → family_of (first_of row).kind ≡ family
-first_family row first kind read family f k r e = ap (λ (given : Given). family_of given.kind) (sym f) ∙ ap family_of (sym k) ∙ sym r ∙ e
-
-by_family : (ops : List Operation) (row : RowView) (rank : ℕ) (family : Family) → family_of (first_of row).kind ≡ family → fold_in ops family row rank ≡ fold_value ops row rank
+by_family : (ops : List Operation) (row : RowView) (rank : ℕ) (family : Family) → family ≡ family_of (first_of row).kind → fold_in ops family row rank ≡ fold_value ops row rank
 unfolding fold_value
-by_family ops row rank family e = ap (λ (f : Family). fold_in ops f row rank) (sym e)
+by_family ops row rank family e = ap (λ (f : Family). fold_in ops f row rank) e
+
+-- the other families give nothing
+none_in : (ops : List Operation) (row : RowView) (rank : ℕ) (family : Family) → ((reduction : Reduction) → family ≡ F.Reduction reduction → ⊥) → Nothing ≡ fold_in ops family row rank
+none_in ops row rank (F.Reduction reduction) other = absurd (other reduction refl)
+none_in ops row rank (F.Exchange exchange) other = refl
+none_in ops row rank (F.NewCommunicator new) other = refl
+none_in ops row rank (F.Neighbourhood exchange) other = refl
+none_in ops row rank F.Free other = refl
 
 pub value_of-requires-clause-family : goal.value_of-requires-clause-family
-value_of-requires-clause-family g c = first_family c.args.row.now _ _ _ _ c.post.ensures.value c.kind.ensures c.family.ensures c.in-Reduction.is
+value_of-requires-clause-family g c = sym c.family.ensures ∙ c.in-Reduction.is
 
 pub value_of-requires-clause-reduces : goal.value_of-requires-clause-reduces
 value_of-requires-clause-reduces g c =
-    let family = first_family c.args.row.now _ _ _ _ c.post.ensures.value c.kind.ensures c.family.ensures c.in-Reduction.is in
-    ap (λ (kind : Kind). (fields_of kind).op) (kind_is (first_of c.args.row.now).kind _ family) ∙ reduction_has_op c.in-Reduction.reduction
+    ap (λ (kind : Kind). (fields_of kind).op) (kind_is (first_of c.args.row.now).kind _ (sym c.family.ensures ∙ c.in-Reduction.is)) ∙ reduction_has_op c.in-Reduction.reduction
 
 pub returns-in-Reduction : goal.returns-in-Reduction
 returns-in-Reduction g c =
-    let family = first_family c.args.row.now _ _ _ _ c.post.ensures.value c.kind.ensures c.family.ensures c.in-Reduction.is in
-    subst (λ (value : Value). GivesValue value c.value_of.result) (by_family _ c.args.row.now c.args.rank _ family) c.value_of.ensures
+    subst (λ (value : Value). GivesValue value c.value_of.result) (by_family _ c.args.row.now c.args.rank _ (sym c.in-Reduction.is ∙ c.family.ensures)) c.value_of.ensures
 
-pub returns-in-Exchange : goal.returns-in-Exchange
-returns-in-Exchange g c =
-    by_family _ c.args.row.now c.args.rank _ (first_family c.args.row.now _ _ _ _ c.post.ensures.value c.kind.ensures c.family.ensures c.in-Exchange.is)
-
-pub returns-in-NewCommunicator : goal.returns-in-NewCommunicator
-returns-in-NewCommunicator g c =
-    by_family _ c.args.row.now c.args.rank _ (first_family c.args.row.now _ _ _ _ c.post.ensures.value c.kind.ensures c.family.ensures c.in-NewCommunicator.is)
-
-pub returns-in-Neighbourhood : goal.returns-in-Neighbourhood
-returns-in-Neighbourhood g c =
-    by_family _ c.args.row.now c.args.rank _ (first_family c.args.row.now _ _ _ _ c.post.ensures.value c.kind.ensures c.family.ensures c.in-Neighbourhood.is)
-
-pub returns-in-Free : goal.returns-in-Free
-returns-in-Free g c =
-    by_family _ c.args.row.now c.args.rank _ (first_family c.args.row.now _ _ _ _ c.post.ensures.value c.kind.ensures c.family.ensures c.in-Free.is)
+pub returns-in_default : goal.returns-in_default
+returns-in_default g c = none_in _ c.args.row.now c.args.rank c.family.result c.in_default.not-Reduction ∙ by_family _ c.args.row.now c.args.rank c.family.result c.family.ensures

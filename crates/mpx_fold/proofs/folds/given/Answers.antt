@@ -1,7 +1,7 @@
 use Rattle.std.proofs.Common.{◌∙◌, ap, sym, subst}
 use Rattle.std.specs.Option.{option_copied}
 use Rattle.mpx_num.specs.ItemList.{ItemList, AreItems}
-use Rattle.mpx_post.specs.Kinds.{fields_of}
+use Rattle.mpx_kind.specs.Kinds.{fields_of}
 use Rattle.mpx_post.specs.Posts.{Given}
 use Rattle.mpx_post.specs.Agreement.{first_of}
 use Rattle.mpx_post.proofs.Contributions.{items_are, items_there}

@@ -3,7 +3,7 @@ use Rattle.std.proofs.lemmas.Bool.{cases_eq}
 use Rattle.std.proofs.lemmas.Bool.Decides.{nat_tests}
 use Rattle.mpx_birth.specs.declared.edges.Neighbour.{Neighbour}
 use Rattle.mpx_post.specs.Agreement.{awaited_on, post_at, sent_on}
-use Rattle.mpx_post.specs.Topologies.{destinations_at, sources_at}
+use Rattle.mpx_birth.specs.Topologies.{destinations_at, sources_at}
 use Rattle.mpx_birth.specs.Ends.{rank_at, taken_at}
 use Rattle.mpx_birth.proofs.Passes.{AreMet, destinations_mutual, meet_one, next_small, none_met}
 use Rattle.mpx_match.specs.Questions.{edge_differs}

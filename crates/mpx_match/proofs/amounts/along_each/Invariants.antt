@@ -1,6 +1,6 @@
 use Rattle.std.proofs.Common.{◌≡◌, ◌<◌, ℕ, false}
 use Rattle.mpx_post.specs.Agreement.{post_at}
-use Rattle.mpx_post.specs.Topologies.{destinations_at, sources_at}
+use Rattle.mpx_birth.specs.Topologies.{destinations_at, sources_at}
 use Rattle.mpx_birth.proofs.Passes.{AreMet}
 use Rattle.mpx_match.specs.Questions.{edge_differs}
 use Rattle.mpx_match.proofs.amounts.along_each.Given as goal

@@ -1,6 +1,6 @@
 use Rattle.std.proofs.Common.{◌≡◌, sum}
 use Rattle.mpx_kind.specs.declared.kinds.Sent.TheVariants.{Rcounts, Scounts}
-use Rattle.mpx_post.specs.Kinds.{fields_of, number_in}
+use Rattle.mpx_kind.specs.Kinds.{fields_of, number_in}
 use Rattle.mpx_post.proofs.Sums.{sum-repeated}
 use Rattle.mpx_match.proofs.fits.are_filled.Goals as goal
 

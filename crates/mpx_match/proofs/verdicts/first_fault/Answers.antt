@@ -2,9 +2,9 @@ use Rattle.std.proofs.Common.{◌≡◌, ◌∙◌, ◌<◌, ◌+◌, ℕ, List,
 use Rattle.std.proofs.lemmas.List.{at_drop_more}
 use Rattle.mpx_num.specs.declared.own.Operation.{Operation}
 use Rattle.mpx_post.specs.Rows.{RowView}
-use Rattle.mpx_post.specs.Topologies.{TopologyView}
+use Rattle.mpx_birth.specs.Topologies.{TopologyView}
 use Rattle.mpx_match.specs.declared.faults.Verdict.TheVariants.{Fault}
-use Rattle.mpx_match.specs.declared.verdicts.Question.{Question}
+use Rattle.mpx_match.specs.declared.verdicts.RowQuestion.{RowQuestion}
 use Rattle.mpx_match.specs.Questions.{answer}
 use Rattle.mpx_match.specs.Verdicts.{answers, first_fault, or_else, questions, told_as, verdict}
 use Rattle.mpx_match.proofs.verdicts.first_fault.Goals as goal
@@ -13,14 +13,14 @@ pub loop-question-init : goal.loop-question-init
 unfolding verdict
 loop-question-init g c = refl
 
-module _ (ops : List Operation) (topology : Option TopologyView) (row : RowView) (asked : List Question) (i : ℕ) (d : Question) (l : i < length asked) where
-  abbrev next : Question
+module _ (ops : List Operation) (topology : Option TopologyView) (row : RowView) (asked : List RowQuestion) (i : ℕ) (d : RowQuestion) (l : i < length asked) where
+  abbrev next : RowQuestion
   next = get_or asked i d
 
   -- one question more
   further : (o : Option ℕ) → answer ops topology next row ≡ o → first_fault (answers ops topology (drop i asked) row) ≡ or_else (told_as next) o (first_fault (answers ops topology (drop (i + 1) asked) row))
   further o e =
-      at_drop_more (λ (qs : List Question). first_fault (answers ops topology qs row)) asked i d l
+      at_drop_more (λ (qs : List RowQuestion). first_fault (answers ops topology qs row)) asked i d l
       ∙ ap (λ (found : Option ℕ). or_else (told_as next) found (first_fault (answers ops topology (drop (i + 1) asked) row))) e
 
 pub returns-in-Some : goal.returns-in-Some

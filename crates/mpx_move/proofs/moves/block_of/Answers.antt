@@ -1,7 +1,7 @@
 use Rattle.std.proofs.Common.{◌≡◌, ◌∙◌, ℕ, ◌*◌, List, Bool, length, take, sum, ap, sym, arith}
 use Rattle.mpx_kind.specs.declared.kinds.Kind.{Kind}
 use Rattle.mpx_kind.specs.declared.kinds.Fields.{Fields}
-use Rattle.mpx_post.specs.Kinds.{fields_of, is_had}
+use Rattle.mpx_kind.specs.Kinds.{fields_of, is_had}
 use Rattle.mpx_post.specs.Posts.{Given}
 use Rattle.mpx_post.specs.Agreement.{count_at}
 use Rattle.mpx_move.proofs.Places.{counted_place, each_sent, equal_place, one_received}

@@ -2,7 +2,7 @@ use Rattle.std.proofs.Common.{◌≡◌, ◌∙◌, ℕ, ◌+◌, [], ◌∷◌,
 use Rattle.std.specs.List.{flat_map}
 use Rattle.std.proofs.lemmas.List.Concat.{flat_map-append}
 use Rattle.mpx_num.specs.ItemList.{ItemList}
-use Rattle.mpx_post.specs.Births.{upto}
+use Rattle.mpx_birth.specs.Births.{upto}
 use Rattle.mpx_move.specs.Moves.{block_for}
 use Rattle.mpx_move.proofs.moves.blocks_value.Goals as goal
 

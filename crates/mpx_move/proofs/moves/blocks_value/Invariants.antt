@@ -1,6 +1,6 @@
 use Rattle.std.proofs.Common.{◌≡◌}
 use Rattle.std.specs.List.{flat_map}
-use Rattle.mpx_post.specs.Births.{upto}
+use Rattle.mpx_birth.specs.Births.{upto}
 use Rattle.mpx_post.specs.Posts.{type_of}
 use Rattle.mpx_post.specs.Agreement.{first_of}
 use Rattle.mpx_move.specs.Moves.{block_for}

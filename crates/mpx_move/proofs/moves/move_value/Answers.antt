@@ -1,9 +1,10 @@
-use Rattle.std.proofs.Common.{◌≡◌, ℕ, ◌∙◌, ap, sym, subst}
-use Rattle.mpx_kind.specs.declared.kinds.Kind.{Kind}
+use Rattle.std.proofs.Common.{◌≡◌, ℕ, ◌∙◌, refl, ap, sym, subst}
 use Rattle.mpx_kind.specs.declared.kinds.Family.{Family}
+use Rattle.mpx_kind.specs.declared.kinds.Family.TheVariants as F
+use Rattle.mpx_kind.specs.declared.kinds.Exchange.{Exchange}
 use Rattle.mpx_post.specs.declared.value.Value.{Value}
-use Rattle.mpx_post.specs.Kinds.{family_of}
-use Rattle.mpx_post.specs.Posts.{Given}
+use Rattle.mpx_post.specs.declared.value.Value.TheVariants.{Nothing}
+use Rattle.mpx_kind.specs.Kinds.{family_of}
 use Rattle.mpx_post.specs.Rows.{RowView}
 use Rattle.mpx_post.specs.Agreement.{first_of}
 use Rattle.mpx_post.specs.Values.{GivesValue}
@@ -11,35 +12,24 @@ use Rattle.mpx_kind.proofs.Families.{kind_is}
 use Rattle.mpx_move.specs.Moves.{move_in, move_value}
 use Rattle.mpx_move.proofs.moves.move_value.Goals as goal
 
--- the family that is read is that of rank 0's kind
-first_family : (row : RowView) (first : Given) (kind : Kind) (read family : Family) → first ≡ first_of row → kind ≡ first.kind → read ≡ family_of kind → read ≡ family → family_of (first_of row).kind ≡ family
-first_family row first kind read family f k r e = ap (λ (given : Given). family_of given.kind) (sym f) ∙ ap family_of (sym k) ∙ sym r ∙ e
-
-by_family : (row : RowView) (rank : ℕ) (family : Family) → family_of (first_of row).kind ≡ family → move_in family row rank ≡ move_value row rank
+by_family : (row : RowView) (rank : ℕ) (family : Family) → family ≡ family_of (first_of row).kind → move_in family row rank ≡ move_value row rank
 unfolding move_value
-by_family row rank family e = ap (λ (f : Family). move_in f row rank) (sym e)
+by_family row rank family e = ap (λ (f : Family). move_in f row rank) e
+
+-- the other families give nothing
+none_in : (row : RowView) (rank : ℕ) (family : Family) → ((exchange : Exchange) → family ≡ F.Exchange exchange → ⊥) → Nothing ≡ move_in family row rank
+none_in row rank (F.Exchange exchange) other = absurd (other exchange refl)
+none_in row rank (F.Reduction reduction) other = refl
+none_in row rank (F.NewCommunicator new) other = refl
+none_in row rank (F.Neighbourhood exchange) other = refl
+none_in row rank F.Free other = refl
 
 pub value_of-requires-clause-kind : goal.value_of-requires-clause-kind
-value_of-requires-clause-kind c =
-    kind_is (first_of c.args.row.now).kind _ (first_family c.args.row.now _ _ _ _ c.post.ensures.value c.kind.ensures c.family.ensures c.in-Exchange.is)
+value_of-requires-clause-kind c = kind_is (first_of c.args.row.now).kind _ (sym c.family.ensures ∙ c.in-Exchange.is)
 
 pub returns-in-Exchange : goal.returns-in-Exchange
 returns-in-Exchange c =
-    let family = first_family c.args.row.now _ _ _ _ c.post.ensures.value c.kind.ensures c.family.ensures c.in-Exchange.is in
-    subst (λ (value : Value). GivesValue value c.value_of.result) (by_family c.args.row.now c.args.rank _ family) c.value_of.ensures
+    subst (λ (value : Value). GivesValue value c.value_of.result) (by_family c.args.row.now c.args.rank _ (sym c.in-Exchange.is ∙ c.family.ensures)) c.value_of.ensures
 
-pub returns-in-Reduction : goal.returns-in-Reduction
-returns-in-Reduction c =
-    by_family c.args.row.now c.args.rank _ (first_family c.args.row.now _ _ _ _ c.post.ensures.value c.kind.ensures c.family.ensures c.in-Reduction.is)
-
-pub returns-in-NewCommunicator : goal.returns-in-NewCommunicator
-returns-in-NewCommunicator c =
-    by_family c.args.row.now c.args.rank _ (first_family c.args.row.now _ _ _ _ c.post.ensures.value c.kind.ensures c.family.ensures c.in-NewCommunicator.is)
-
-pub returns-in-Neighbourhood : goal.returns-in-Neighbourhood
-returns-in-Neighbourhood c =
-    by_family c.args.row.now c.args.rank _ (first_family c.args.row.now _ _ _ _ c.post.ensures.value c.kind.ensures c.family.ensures c.in-Neighbourhood.is)
-
-pub returns-in-Free : goal.returns-in-Free
-returns-in-Free c =
-    by_family c.args.row.now c.args.rank _ (first_family c.args.row.now _ _ _ _ c.post.ensures.value c.kind.ensures c.family.ensures c.in-Free.is)
+pub returns-in_default : goal.returns-in_default
+returns-in_default c = none_in c.args.row.now c.args.rank c.family.result c.in_default.not-Exchange ∙ by_family c.args.row.now c.args.rank c.family.result c.family.ensures

@@ -5,7 +5,7 @@ use Rattle.mpx_kind.specs.declared.kinds.Exchange.{Exchange}
 use Rattle.mpx_kind.specs.declared.kinds.Exchange.TheVariants.{Gather}
 use Rattle.mpx_kind.specs.declared.kinds.Kind.{Kind}
 use Rattle.mpx_post.specs.declared.value.Value.TheVariants.{Nothing, Items}
-use Rattle.mpx_post.specs.Kinds.{exchange_kind, fields_of}
+use Rattle.mpx_kind.specs.Kinds.{exchange_kind, fields_of}
 use Rattle.mpx_post.specs.Posts.{numbers_of, root_of}
 use Rattle.mpx_post.specs.Rows.{RowView}
 use Rattle.mpx_post.specs.Agreement.{first_of, post_at}

@@ -1,6 +1,6 @@
 use Rattle.std.proofs.Common.{◌∙◌, []}
 use Rattle.join_core.specs.Flat.{known}
-use Rattle.mpx_post.specs.Births.{BirthView, of_members, upto}
+use Rattle.mpx_birth.specs.Births.{BirthView, of_members, upto}
 use Rattle.mpx_board.specs.Boards.{join, only, Born}
 use Rattle.mpx_node.proofs.Stepping.{first_birth}
 use Rattle.mpx_node.proofs.starting.board_at_start.Goals as goal

@@ -4,7 +4,7 @@ use Rattle.std.specs.Result.{OnOk}
 use Rattle.mpx_board.specs.Looks.{parts_of}
 use Rattle.mpx_board.specs.Parts.{parts_joining}
 use Rattle.mpx_format.specs.Encoding.{length_told}
-use Rattle.mpx_parts.specs.Pieces.{NoNeighboursFit, Says}
+use Rattle.mpx_parts.specs.Pieces.{NoNeighboursFit, SayTogether}
 use Rattle.mpx_parts.proofs.Joining.{front_apart, last_apart, says_fused, says_itself}
 use Rattle.mpx_parts.proofs.packing.+fuse.Goals as goal
 
@@ -26,7 +26,7 @@ pub returns-clause-says : goal.returns-clause-says
 returns-clause-says t c =
     let all = (c.pop.new.self.items ++ c.in-Some.last ∷ []) ++ c.args.board ∷ [] in
     rw (c.in_ok-push-3.ensures.items, c.in_ok-push-2.ensures.items)
-    (subst (λ l. Says c.args.limit (l ++ c.args.board ∷ []) all) (sym c.in-Some.ensures.items) (says_itself c.args.limit all))
+    (subst (λ l. SayTogether c.args.limit (l ++ c.args.board ∷ []) all) (sym c.in-Some.ensures.items) (says_itself c.args.limit all))
 
 pub returns-clause-few : goal.returns-clause-few
 returns-clause-few t c = λ apart.

@@ -2,7 +2,7 @@
 use Rattle.std.proofs.Common.{rules, [], ◌∷◌, ◌++◌, sym, subst, ap}
 use Rattle.std.proofs.lemmas.Iterator.Adapters.{YieldsList-from_vec}
 use Rattle.std.proofs.lemmas.Iterator.Consumers.{YieldsList-end}
-use Rattle.mpx_parts.specs.Pieces.{Says}
+use Rattle.mpx_parts.specs.Pieces.{SayTogether}
 use Rattle.mpx_parts.proofs.Joining.{says_before, says_then}
 use Rattle.mpx_parts.proofs.packing.fused.Goals as goal
 

@@ -8,7 +8,7 @@ use Rattle.mpx_board.specs.Tidy.{is_bare, is_tidy_acks, is_tidy_numbers}
 use Rattle.mpx_board.specs.Views.{view_of_acks}
 use Rattle.std.specs.Ordering.{nat_cmp}
 use Rattle.mpx_parts.specs.Facts.{SaysNumbers, SaysAcks}
-use Rattle.mpx_parts.specs.Pieces.{Adds}
+use Rattle.mpx_parts.specs.Pieces.{AddsPieces}
 use Rattle.mpx_parts.proofs.Adding.{adds_piece, passes_at, some_at}
 use Rattle.mpx_parts.proofs.Halves.{adds_halves, adds_one, adds_none, low_run, high_run}
 use Rattle.mpx_parts.proofs.walk.+add_acks.Goals as goal
@@ -30,7 +30,7 @@ add_names-requires t c =
 pub returns-then-processes-eq1 : goal.returns-then-processes-eq1
 returns-then-processes-eq1 t c = on_ok_weaker c.add_names.result
     (λ adds. adds_one view_of_acks (λ P. SaysAcks P) c.args.processes.now c.index-processes-0.result c.args.made.now.items _ c.if-processes-eq1.true c.index-processes-0.is
-    (subst (λ l. Adds (λ P. All (SaysNumbers P c.index-processes-0.result.0) l) c.args.made.now.items c.add_names.new.made.items) c.entries.ensures.entries adds))
+    (subst (λ l. AddsPieces (λ P. All (SaysNumbers P c.index-processes-0.result.0) l) c.args.made.now.items c.add_names.new.made.items) c.entries.ensures.entries adds))
     c.add_names.ensures
 
 pub add_acks-requires : goal.add_acks-requires

@@ -8,7 +8,7 @@ use Rattle.mpx_board.specs.Looks.{parts_of}
 use Rattle.mpx_board.specs.declared.board.Board.{Board}
 use Rattle.mpx_board.specs.Tidy.{are_tidy_acks, are_tidy_entries, is_tidy_acks, is_tidy_lifted}
 use Rattle.mpx_parts.specs.Facts.{SaysLifted, SaysAcks, SaysParts}
-use Rattle.mpx_parts.specs.Pieces.{Adds}
+use Rattle.mpx_parts.specs.Pieces.{AddsPieces}
 use Rattle.mpx_parts.proofs.Adding.{adds_then}
 use Rattle.mpx_parts.proofs.walk.pieces.Goals as goal
 
@@ -26,10 +26,10 @@ add_acks-requires c = record {
 
 pub returns : goal.returns
 returns c =
-    let contexts : Adds (λ P. All (SaysLifted P) (entries (parts_of c.args.board.now).0)) [] c.add_contexts.new.made.items =
-    subst (λ (bs : List Board). Adds (λ P. All (SaysLifted P) (entries (parts_of c.args.board.now).0)) bs c.add_contexts.new.made.items) c.new-made.ensures.items
-    (subst (λ l. Adds (λ P. All (SaysLifted P) l) c.new-made.result.items c.add_contexts.new.made.items) (c.entries.ensures.entries ∙ ap (λ v. entries v.0) c.pair-parts.ensures.value) c.in_ok-add_contexts.ensures) in
-    let acks : Adds (λ P. All (SaysAcks P) (entries (parts_of c.args.board.now).1)) c.add_contexts.new.made.items c.add_acks.new.made.items =
-    subst (λ l. Adds (λ P. All (SaysAcks P) l) c.add_contexts.new.made.items c.add_acks.new.made.items) (c.entries-2.ensures.entries ∙ ap (λ v. entries v.1) c.pair-parts.ensures.value) c.in_ok-add_acks.ensures in
+    let contexts : AddsPieces (λ P. All (SaysLifted P) (entries (parts_of c.args.board.now).0)) [] c.add_contexts.new.made.items =
+    subst (λ (bs : List Board). AddsPieces (λ P. All (SaysLifted P) (entries (parts_of c.args.board.now).0)) bs c.add_contexts.new.made.items) c.new-made.ensures.items
+    (subst (λ l. AddsPieces (λ P. All (SaysLifted P) l) c.new-made.result.items c.add_contexts.new.made.items) (c.entries.ensures.entries ∙ ap (λ v. entries v.0) c.pair-parts.ensures.value) c.in_ok-add_contexts.ensures) in
+    let acks : AddsPieces (λ P. All (SaysAcks P) (entries (parts_of c.args.board.now).1)) c.add_contexts.new.made.items c.add_acks.new.made.items =
+    subst (λ l. AddsPieces (λ P. All (SaysAcks P) l) c.add_contexts.new.made.items c.add_acks.new.made.items) (c.entries-2.ensures.entries ∙ ap (λ v. entries v.1) c.pair-parts.ensures.value) c.in_ok-add_acks.ensures in
     adds_then (λ P. All (SaysLifted P) (entries (parts_of c.args.board.now).0)) (λ P. All (SaysAcks P) (entries (parts_of c.args.board.now).1)) (λ P. SaysParts P (parts_of c.args.board.now)) [] c.add_contexts.new.made.items c.add_acks.new.made.items contexts acks
     (λ P x y. record { contexts = x; acks = y }) (λ P x. x.contexts) (λ P x. x.acks)

@@ -1,5 +1,5 @@
 use Rattle.std.proofs.Common.{◌≡◌, ◌+◌, ◌++◌, length}
-use Rattle.mpx_evaluation.specs.Ranks.{origins_of}
+use Rattle.mpx_meaning.specs.Ranks.{origins_of}
 use Rattle.mpx_rank.proofs.origins.push_origins.Given as goal
 
 abbrev pub invariant-loop-nth : goal.invariant-loop-nth

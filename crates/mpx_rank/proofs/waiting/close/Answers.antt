@@ -1,7 +1,7 @@
 use Rattle.std.proofs.Common.{ap, ◌∙◌}
 use Rattle.std.specs.Option.{option_map}
-use Rattle.mpx_evaluation.specs.Standing.{looked_up}
-use Rattle.mpx_evaluation.proofs.Standing.{closed_seen}
+use Rattle.mpx_meaning.specs.Standing.{looked_up}
+use Rattle.mpx_meaning.proofs.Standing.{closed_seen}
 use Rattle.mpx_rank.proofs.waiting.close.Goals as goal
 
 pub returns-clause-requests : goal.returns-clause-requests

@@ -1,6 +1,6 @@
 use Rattle.std.proofs.Common.{◌≡◌, ◌++◌, [], ◌∷◌, ◌+◌, map, drop, string_bytes, refl, sym, ap, ◌∙◌, append_assoc}
-use Rattle.mpx_evaluation.specs.Standing.{closed, closed_all}
-use Rattle.mpx_evaluation.specs.Transcripts.{line_text}
+use Rattle.mpx_meaning.specs.Standing.{closed, closed_all}
+use Rattle.mpx_meaning.specs.Transcripts.{line_text}
 use Rattle.mpx_rank.specs.Moves.{are_done, wait_lines}
 use Rattle.mpx_rank.specs.Shown.{requests_of}
 use Rattle.mpx_rank.proofs.Moving.{lines_push}

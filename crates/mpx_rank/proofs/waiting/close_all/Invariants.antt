@@ -1,6 +1,6 @@
 use Rattle.std.proofs.Common.{◌≡◌, ◌++◌, ℕ, List, map, drop, string_bytes, true}
-use Rattle.mpx_evaluation.specs.Standing.{closed_all}
-use Rattle.mpx_evaluation.specs.Transcripts.{line_text}
+use Rattle.mpx_meaning.specs.Standing.{closed_all}
+use Rattle.mpx_meaning.specs.Transcripts.{line_text}
 use Rattle.mpx_num.specs.Own.{operation_of}
 use Rattle.mpx_rank.specs.Moves.{are_done, wait_lines}
 use Rattle.mpx_rank.specs.Shown.{requests_of}

@@ -1,6 +1,6 @@
 use Rattle.std.proofs.Common.{◌∙◌, ap, string_bytes}
-use Rattle.mpx_evaluation.specs.Reports.{transcripts_of}
-use Rattle.mpx_evaluation.specs.Transcripts.{text_upto}
+use Rattle.mpx_meaning.specs.Reports.{transcripts_of}
+use Rattle.mpx_meaning.specs.Transcripts.{text_upto}
 use Rattle.mpx_run.specs.Reports.{lines_at}
 use Rattle.mpx_run.proofs.Reporting.{evaluated, if_both}
 use Rattle.mpx_run.proofs.report.print_evaluation.Goals as goal

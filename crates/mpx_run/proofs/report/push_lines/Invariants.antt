@@ -1,5 +1,5 @@
 use Rattle.std.proofs.Common.{◌≡◌, ◌++◌, map, drop, string_bytes}
-use Rattle.mpx_evaluation.specs.Transcripts.{rank_text}
+use Rattle.mpx_meaning.specs.Transcripts.{rank_text}
 use Rattle.mpx_run.proofs.report.push_lines.Given as goal
 
 abbrev pub invariant-loop-line : goal.invariant-loop-line

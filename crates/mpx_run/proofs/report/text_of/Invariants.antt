@@ -1,6 +1,6 @@
 use Rattle.std.proofs.Common.{◌≡◌, string_bytes}
-use Rattle.mpx_evaluation.specs.Reports.{transcripts_of}
-use Rattle.mpx_evaluation.specs.Transcripts.{text_upto}
+use Rattle.mpx_meaning.specs.Reports.{transcripts_of}
+use Rattle.mpx_meaning.specs.Transcripts.{text_upto}
 use Rattle.mpx_run.specs.Reports.{lines_at}
 use Rattle.mpx_run.proofs.report.text_of.Given as goal
 

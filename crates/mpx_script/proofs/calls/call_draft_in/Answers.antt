@@ -3,17 +3,17 @@ use Rattle.std.proofs.Common.{◌≡◌, [], None, pos, sym, ◌∙◌, rules, s
 use Rattle.std.proofs.lemmas.Int.{to_z-of_z}
 use Rattle.std.specs.List.{filter_map}
 use Rattle.mpx_num.specs.Text.{number_of}
-use Rattle.mpx_post.specs.Kinds.{fields_of}
+use Rattle.mpx_kind.specs.Kinds.{fields_of}
 use Rattle.mpx_script.specs.Fields.{counts_named}
 use Rattle.mpx_script.specs.Meanings.{said}
-use Rattle.mpx_script.specs.Sentences.{IsRefusal, counts_refusal}
+use Rattle.mpx_script.specs.Sentences.{IsLineRefusal, counts_refusal}
 use Rattle.mpx_script.proofs.Accepted.{refusal_of_counts, said_is}
 use Rattle.mpx_script.proofs.calls.call_draft_in.Goals as goal
 
 pub returns-in-Err-clause-refused : goal.returns-in-Err-clause-refused
 returns-in-Err-clause-refused g c =
-    let refused : IsRefusal (counts_refusal (fields_of c.args.kind) c.args.call.now) c.in-Err.e = search rules in
-    subst (λ found. IsRefusal found c.in-Err.e) (sym (refusal_of_counts c.args.kind c.args.call.now c.in-Some.root (search rules) (search rules))) refused
+    let refused : IsLineRefusal (counts_refusal (fields_of c.args.kind) c.args.call.now) c.in-Err.e = search rules in
+    subst (λ found. IsLineRefusal found c.in-Err.e) (sym (refusal_of_counts c.args.kind c.args.call.now c.in-Some.root (search rules) (search rules))) refused
 
 pub returns-clause-accepted : goal.returns-clause-accepted
 returns-clause-accepted g c =

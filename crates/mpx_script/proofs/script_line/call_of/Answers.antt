@@ -1,7 +1,7 @@
 use Rattle.std.proofs.Common.{◌≡◌, pos, rules}
 use Rattle.mpx_num.specs.Text.{number_of}
 use Rattle.mpx_kind.specs.declared.kinds.Family.TheVariants as F
-use Rattle.mpx_post.specs.Kinds.{family_of}
+use Rattle.mpx_kind.specs.Kinds.{family_of}
 use Rattle.mpx_script.specs.Meanings.{said}
 use Rattle.mpx_script.proofs.Accepted.{said_is}
 use Rattle.mpx_script.proofs.script_line.call_of.Goals as goal

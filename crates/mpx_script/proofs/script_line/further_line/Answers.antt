@@ -10,7 +10,7 @@ use Rattle.mpx_script.specs.Meanings.{is_meant, names_rank, statement_in}
 use Rattle.mpx_script.specs.Naming.{names_bound, ranks_labelled}
 use Rattle.mpx_script.specs.Reading.{refusal, plain_context, statements_limit}
 use Rattle.mpx_script.specs.Words.{words}
-use Rattle.mpx_script.specs.Sentences.{IsAssignment, IsRefusal, names_refusal, statement_refusal}
+use Rattle.mpx_script.specs.Sentences.{IsAssignment, IsLineRefusal, names_refusal, statement_refusal}
 use Rattle.mpx_script.specs.declared.script_line.Assignment.{Assignment}
 use Rattle.mpx_script.proofs.Refusals.{count_of_statement, names_asked, refusal_of_label, refusal_of_names, refusal_of_statement}
 use Rattle.mpx_script.proofs.script_line.further_line.Goals as goal
@@ -28,7 +28,7 @@ returns-in-Err-clause-refused g c = refusal_of_label _ c.args.line.now c.args.sc
 pub returns-in-Err-statement_in-clause-refused : goal.returns-in-Err-statement_in-clause-refused
 returns-in-Err-statement_in-clause-refused g c =
     let ops : List Operation = map (λ b. let o = goal.OwnOp-dyn g (b.vtable, b.value) in operation_of (o.word_bytes b.value) (o.fits_type b.value) (o.combination b.value)) c.args.ops.now.list.items in
-    let refused : IsRefusal (statement_refusal ops (directive_in (words c.args.line.now))) c.in-Err-statement_in.e = search rules in
+    let refused : IsLineRefusal (statement_refusal ops (directive_in (words c.args.line.now))) c.in-Err-statement_in.e = search rules in
     refusal_of_statement ops c.args.line.now c.args.script.now.ranks c.args.statements (map names_bound c.args.script.now.statements) c.requires.ascii c.requires.counts (few_statements g (goal.at.returns-in-Err-statement_in-clause-refused g c).After-ranks_labelled) (search rules) c.in-Err-statement_in.e refused
 
 -- the line is refused for its names, where its statement isn't
@@ -46,7 +46,7 @@ returns-clause-refused g c =
     let ops : List Operation = map (λ b. let o = goal.OwnOp-dyn g (b.vtable, b.value) in operation_of (o.word_bytes b.value) (o.fits_type b.value) (o.combination b.value)) c.args.ops.now.list.items in
     let fine : statement_refusal ops (directive_in (words c.args.line.now)) ≡ None = search rules in
     let said : statement_in ops (directive_in (words c.args.line.now)) ≡ Some c.in-Ok-statement_in.statement = search rules in
-    subst (λ found. IfErr c.assigned.result (IsRefusal found)) (sym (names_found g (goal.at.returns-clause-refused g c).After-assigned ops fine said (few_statements g (goal.at.returns-clause-refused g c).After-ranks_labelled))) c.assigned.ensures.refused
+    subst (λ found. IfErr c.assigned.result (IsLineRefusal found)) (sym (names_found g (goal.at.returns-clause-refused g c).After-assigned ops fine said (few_statements g (goal.at.returns-clause-refused g c).After-ranks_labelled))) c.assigned.ensures.refused
 
 pub returns-clause-accepted : goal.returns-clause-accepted
 returns-clause-accepted g c =

@@ -1,7 +1,7 @@
 use Rattle.std.proofs.Common.{◌≡◌, sym, None, OnOk, IfErr, subst, rules, List, map}
 use Rattle.mpx_num.specs.declared.own.Operation.{Operation}
 use Rattle.mpx_num.specs.Own.{operation_of}
-use Rattle.mpx_script.specs.Sentences.{IsRefusal, form_refusal, statement_refusal}
+use Rattle.mpx_script.specs.Sentences.{IsLineRefusal, form_refusal, statement_refusal}
 use Rattle.mpx_script.proofs.Refusals.{refusal_of_form}
 use Rattle.mpx_script.proofs.script_line.statement_in.Goals as goal
 use Rattle.mpx_script.proofs.script_line.statement_in.Goals.{After-statement_as}
@@ -18,5 +18,5 @@ returns-clause-accepted g c =
 pub returns-clause-refused : goal.returns-clause-refused
 returns-clause-refused g c =
     let ops : List Operation = map (λ b. let o = goal.OwnOp-dyn g (b.vtable, b.value) in operation_of (o.word_bytes b.value) (o.fits_type b.value) (o.combination b.value)) c.args.ops.now.list.items in
-    let refused : IfErr c.statement_as.result (IsRefusal (form_refusal ops c.in-Some.form c.args.directive.now.behind)) = search rules in
-    subst (λ found. IfErr c.statement_as.result (IsRefusal found)) (sym (refused_as g (goal.at.returns-clause-refused g c).After-statement_as ops)) refused
+    let refused : IfErr c.statement_as.result (IsLineRefusal (form_refusal ops c.in-Some.form c.args.directive.now.behind)) = search rules in
+    subst (λ found. IfErr c.statement_as.result (IsLineRefusal found)) (sym (refused_as g (goal.at.returns-clause-refused g c).After-statement_as ops)) refused

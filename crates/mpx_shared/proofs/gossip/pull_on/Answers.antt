@@ -1,6 +1,6 @@
 use Rattle.std.proofs.Common.{◌∙◌, sym, ap}
 use Rattle.mpx_bus.specs.declared.act.Setup.{Setup}
-use Rattle.mpx_shared.proofs.Docked.{no_post_pop, no_post_then}
+use Rattle.mpx_shared.proofs.LawfulPorts.{no_post_pop, no_post_then}
 use Rattle.mpx_shared.proofs.gossip.pull_on.Goals as goal
 
 pub settle-requires : goal.settle-requires

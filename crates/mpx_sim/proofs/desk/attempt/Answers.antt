@@ -2,7 +2,8 @@ use Rattle.std.proofs.Common.{ap}
 use Rattle.std.specs.Option.{option_copied}
 use Rattle.mpx_node.specs.Shown.{node_of}
 use Rattle.mpx_statement.specs.Statements.{draft_of, gathers_of}
-use Rattle.mpx_sim.specs.Shown.{call_in, name_in}
+use Rattle.mpx_sim.specs.Running.{name_in}
+use Rattle.mpx_sim.specs.Shown.{call_in}
 use Rattle.mpx_sim.proofs.Tried.{tries_call, tries_group}
 use Rattle.mpx_sim.proofs.desk.attempt.Goals as goal
 

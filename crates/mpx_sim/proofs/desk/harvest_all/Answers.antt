@@ -1,13 +1,12 @@
-use Rattle.std.proofs.Common.{refl}
+use Rattle.mpx_comm.proofs.Harvesting.{harvested_none, harvested_then}
 use Rattle.mpx_node.specs.Shown.{node_of}
-use Rattle.mpx_system.proofs.Running.{keeps_node_itself, keeps_node_then}
 use Rattle.mpx_sim.proofs.desk.harvest_all.Goals as goal
 
 pub loop-name-init : goal.loop-name-init
-loop-name-init g c = keeps_node_itself _ (node_of c.args.desk.now.host) (node_of c.args.desk.now.host) refl
+loop-name-init g c = harvested_none _ (node_of c.args.desk.now.host)
 
 pub loop-name-preserved : goal.loop-name-preserved
-loop-name-preserved g c = keeps_node_then _ (node_of c.args.desk.now.host) (node_of c.loop-name.desk.host) (node_of c.harvest_on.new.desk.host) c.loop-name.invariant c.in_ok-harvest_on.ensures
+loop-name-preserved g c = harvested_then _ (node_of c.args.desk.now.host) (node_of c.loop-name.desk.host) (node_of c.harvest_on.new.desk.host) c.loop-name.invariant c.in_ok-harvest_on.ensures
 
 pub returns : goal.returns
 returns g c = c.loop-name.invariant

@@ -1,6 +1,6 @@
 use Rattle.std.proofs.Common.{refl}
 use Rattle.mpx_node.specs.Shown.{node_of}
-use Rattle.mpx_system.proofs.Running.{keeps_node_itself, keeps_node_then}
+use Rattle.mpx_sim.proofs.Running.{keeps_node_itself, keeps_node_then}
 use Rattle.mpx_sim.proofs.desk.prune_all.Goals as goal
 
 pub loop-name-init : goal.loop-name-init

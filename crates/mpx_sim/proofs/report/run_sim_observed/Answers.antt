@@ -1,18 +1,19 @@
 use Rattle.std.proofs.Common.{◌≡◌, ap, ◌∙◌, inl, inr, map, take}
 use Rattle.std.specs.Prelude.{slice_get}
 use Rattle.mpx_node.specs.Shown.{node_of}
-use Rattle.mpx_evaluation.specs.Reports.{transcripts_of, which}
-use Rattle.mpx_system.specs.Running.{RankView, is_waiting_at}
+use Rattle.mpx_meaning.specs.Reports.{transcripts_of, which}
+use Rattle.mpx_sim.specs.Running.{ProcessView, is_waiting_at}
 use Rattle.mpx_sim.specs.Shown.{process_of}
-use Rattle.mpx_system.proofs.Results.{map_taken, run_said, begin_said, whole_said}
+use Rattle.mpx_system.proofs.Results.{map_taken}
 use Rattle.mpx_sim.proofs.Ends.{over}
+use Rattle.mpx_sim.proofs.Results.{begin_said, run_said, whole_said}
 use Rattle.mpx_sim.proofs.report.run_sim_observed.Goals as goal
 
 pub returns-clause-run : goal.returns-clause-run
 returns-clause-run g c =
     let processes = map process_of c.in_ok-processes.processes.items in
     let said = transcripts_of (record { transcripts = c.truncate.new.self; waiting = c.in_ok-waiting.waiting }) in
-    let lines : said ≡ take c.ranks-ranks.result (map (λ (r : RankView). r.lines) processes) = ap (map _) c.truncate.ensures.items ∙ map_taken _ c.ranks-ranks.result c.in_ok-transcripts.transcripts.items ∙ ap (take c.ranks-ranks.result) c.in_ok-transcripts.ensures.lines in
+    let lines : said ≡ take c.ranks-ranks.result (map (λ (v : ProcessView). v.rank.lines) processes) = ap (map _) c.truncate.ensures.items ∙ map_taken _ c.ranks-ranks.result c.in_ok-transcripts.transcripts.items ∙ ap (take c.ranks-ranks.result) c.in_ok-transcripts.ensures.lines in
     let waiting : c.in_ok-waiting.waiting.items ≡ which (λ p. is_waiting_at (slice_get processes p)) c.ranks-ranks.result = c.in_ok-waiting.ensures ∙ ap (λ ps. which (λ p. is_waiting_at (slice_get (map process_of ps) p)) c.ranks-ranks.result) c.as_slice.ensures.value in
     run_said _ c.args.script.now c.args.options.now.relays c.ranks-ranks.result c.ranks-ranks.ensures.ranks processes c.in_ok-processes.ensures.run.0 c.in_ok-processes.ensures.run.1 (map node_of c.in_ok-transcripts.nodes.items) said c.in_ok-waiting.waiting.items c.in_ok-transcripts.ensures.nodes lines waiting
 
@@ -20,7 +21,7 @@ pub returns-clause-begins : goal.returns-clause-begins
 returns-clause-begins g c =
     let processes = map process_of c.in_ok-processes.processes.items in
     let said = transcripts_of (record { transcripts = c.truncate.new.self; waiting = c.in_ok-waiting.waiting }) in
-    let lines : said ≡ take c.ranks-ranks.result (map (λ (r : RankView). r.lines) processes) = ap (map _) c.truncate.ensures.items ∙ map_taken _ c.ranks-ranks.result c.in_ok-transcripts.transcripts.items ∙ ap (take c.ranks-ranks.result) c.in_ok-transcripts.ensures.lines in
+    let lines : said ≡ take c.ranks-ranks.result (map (λ (v : ProcessView). v.rank.lines) processes) = ap (map _) c.truncate.ensures.items ∙ map_taken _ c.ranks-ranks.result c.in_ok-transcripts.transcripts.items ∙ ap (take c.ranks-ranks.result) c.in_ok-transcripts.ensures.lines in
     let waiting : c.in_ok-waiting.waiting.items ≡ which (λ p. is_waiting_at (slice_get processes p)) c.ranks-ranks.result = c.in_ok-waiting.ensures ∙ ap (λ ps. which (λ p. is_waiting_at (slice_get (map process_of ps) p)) c.ranks-ranks.result) c.as_slice.ensures.value in
     begin_said _ c.args.script.now c.args.options.now.relays c.ranks-ranks.result c.ranks-ranks.ensures.ranks processes c.in_ok-processes.ensures.run.0 c.in_ok-processes.ensures.run.1 (map node_of c.in_ok-transcripts.nodes.items) said c.in_ok-waiting.waiting.items c.in_ok-transcripts.ensures.nodes lines waiting
 
@@ -28,7 +29,7 @@ pub returns-clause-whole : goal.returns-clause-whole
 returns-clause-whole g c =
     let processes = map process_of c.in_ok-processes.processes.items in
     let said = transcripts_of (record { transcripts = c.truncate.new.self; waiting = c.in_ok-waiting.waiting }) in
-    let lines : said ≡ take c.ranks-ranks.result (map (λ (r : RankView). r.lines) processes) = ap (map _) c.truncate.ensures.items ∙ map_taken _ c.ranks-ranks.result c.in_ok-transcripts.transcripts.items ∙ ap (take c.ranks-ranks.result) c.in_ok-transcripts.ensures.lines in
+    let lines : said ≡ take c.ranks-ranks.result (map (λ (v : ProcessView). v.rank.lines) processes) = ap (map _) c.truncate.ensures.items ∙ map_taken _ c.ranks-ranks.result c.in_ok-transcripts.transcripts.items ∙ ap (take c.ranks-ranks.result) c.in_ok-transcripts.ensures.lines in
     let waiting : c.in_ok-waiting.waiting.items ≡ which (λ p. is_waiting_at (slice_get processes p)) c.ranks-ranks.result = c.in_ok-waiting.ensures ∙ ap (λ ps. which (λ p. is_waiting_at (slice_get (map process_of ps) p)) c.ranks-ranks.result) c.as_slice.ensures.value in
     whole_said _ c.args.script.now c.args.options.now.relays c.ranks-ranks.result c.ranks-ranks.ensures.ranks processes c.in_ok-processes.ensures.run.0 c.in_ok-processes.ensures.run.1 (map node_of c.in_ok-transcripts.nodes.items) said c.in_ok-waiting.waiting.items c.in_ok-transcripts.ensures.nodes lines waiting
 

@@ -1,7 +1,7 @@
 use Rattle.std.proofs.Common.{◌≡◌, map}
 use Rattle.std.specs.Prelude.{slice_get}
-use Rattle.mpx_evaluation.specs.Reports.{which}
-use Rattle.mpx_system.specs.Running.{is_waiting_at}
+use Rattle.mpx_meaning.specs.Reports.{which}
+use Rattle.mpx_sim.specs.Running.{is_waiting_at}
 use Rattle.mpx_sim.specs.Shown.{process_of}
 use Rattle.mpx_sim.proofs.report.waiting_of.Given as goal
 

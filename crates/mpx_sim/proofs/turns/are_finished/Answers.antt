@@ -1,7 +1,7 @@
 use Rattle.std.proofs.Common.{◌≡◌, false, inl, inr, map, ap, ◌∙◌, sym, Some, arith}
 use Rattle.std.specs.Prelude.{slice_get}
 use Rattle.std.proofs.lemmas.Bool.{cases_eq}
-use Rattle.mpx_system.specs.Running.{is_waiting_at}
+use Rattle.mpx_sim.specs.Running.{is_waiting_at}
 use Rattle.mpx_post.proofs.Lists.{element}
 use Rattle.mpx_sim.specs.Shown.{process_of}
 use Rattle.mpx_sim.proofs.turns.are_finished.Goals as goal

@@ -1,7 +1,7 @@
 use Rattle.std.proofs.Common.{◌<◌, map, refl, arith}
 use Rattle.mpx_sim.specs.Shown.{process_of}
 use Rattle.mpx_post.proofs.Lists.{written, element}
-use Rattle.mpx_sim.proofs.Sending.{run_same}
+use Rattle.mpx_sim.proofs.Running.{run_same}
 use Rattle.mpx_sim.proofs.turns.go_round.Goals as goal
 
 pub loop-p-preserved : goal.loop-p-preserved

@@ -3,7 +3,7 @@ use Rattle.mpx_num.specs.declared.own.Operation.{Operation}
 use Rattle.mpx_board.specs.Boards.{Look}
 use Rattle.mpx_statement.specs.declared.statement.Statement.{Statement}
 use Rattle.mpx_sim.specs.Shown.{process_of}
-use Rattle.mpx_system.specs.Running.{IsUnderWay}
+use Rattle.mpx_sim.specs.Running.{IsUnderWay}
 use Rattle.mpx_sim.proofs.turns.prune_all.Given as goal
 
 abbrev pub invariant-loop-p : goal.invariant-loop-p

@@ -1,16 +1,28 @@
-use Rattle.std.proofs.Common.{◌≡◌, ◌+◌, ◌++◌, ◌∷◌, [], map, ap, sym, ◌∙◌, subst}
+use Rattle.std.proofs.Common.{◌≡◌, ◌+◌, ◌++◌, ◌∷◌, [], map, length, length-append, ap, sym, ◌∙◌, subst, arith}
+use Rattle.std.specs.Prelude.{slice_get}
 use Rattle.std.proofs.lemmas.List.{map-append}
-use Rattle.mpx_system.specs.Running.{Starts, StartsAt}
+use Rattle.mpx_system.specs.Systems.{start_system}
+use Rattle.mpx_sim.specs.Running.{IsAt}
 use Rattle.mpx_sim.specs.Shown.{process_of}
-use Rattle.mpx_system.proofs.Running.{one_more}
+use Rattle.mpx_sim.proofs.Starting.{one_more, run_starts}
 use Rattle.mpx_sim.proofs.turns.start.Goals as goal
 
 pub loop-me-preserved : goal.loop-me-preserved
 loop-me-preserved c =
     let script = c.args.script.now in
     let xs = c.loop-me.processes.items in
-    let new = c.in_ok-start_at.field-0 in
-    let same : map process_of xs ++ process_of new ∷ [] ≡ map process_of c.push.new.self.items = sym (map-append process_of xs (new ∷ [])) ∙ ap (map process_of) (sym c.in_ok-push.ensures.items) in
+    let v = process_of c.in_ok-start_at.field-0 in
+    let same : map process_of c.push.new.self.items ≡ map process_of xs ++ v ∷ [] = ap (map process_of) c.in_ok-push.ensures.items ∙ map-append process_of xs (c.in_ok-start_at.field-0 ∷ []) in
     let size = script.ranks + c.args.relays in
-    let at : StartsAt script.statements script.ranks size c.loop-me.me (process_of new) = subst (λ n. StartsAt script.statements script.ranks (n + c.args.relays) c.loop-me.me (process_of new)) c.ranks-ranks.ensures.ranks c.in_ok-start_at.ensures in
-    subst (Starts script.statements script.ranks size (c.loop-me.me + 1)) same (one_more script.statements script.ranks size c.loop-me.me (map process_of xs) (process_of new) c.loop-me.invariant at)
+    record {
+      count = ap length same ∙ length-append (map process_of xs) (v ∷ []) ∙ omega (arith, c.loop-me.invariant.count);
+      each = λ ops p x e.
+          one_more ops script.statements script.ranks size (map process_of xs) v c.loop-me.me c.loop-me.invariant.count
+          (subst (λ n. IsAt script.ranks (start_system ops script.statements script.ranks (n + c.args.relays)) c.loop-me.me v) c.ranks-ranks.ensures.ranks (c.in_ok-start_at.ensures ops))
+          (c.loop-me.invariant.each ops) p x (ap (λ ys. slice_get ys p) (sym same) ∙ e);
+    }
+
+pub returns : goal.returns
+returns c ops =
+    let script = c.args.script.now in
+    run_starts ops script.statements script.ranks (script.ranks + c.args.relays) (map process_of c.loop-me.processes.items) (c.loop-me.invariant.count ∙ omega (arith, c.loop-me-test.false, c.ranks-ranks.ensures.ranks)) (c.loop-me.invariant.each ops)

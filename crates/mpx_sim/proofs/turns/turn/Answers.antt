@@ -1,17 +1,17 @@
-use Rattle.std.proofs.Common.{map, refl, sym, ap}
+use Rattle.std.proofs.Common.{map}
 use Rattle.std.proofs.lemmas.Map.Views.{All-map-IsPermutation}
 use Rattle.mpx_sim.specs.Shown.{process_of, part_of}
-use Rattle.mpx_system.proofs.Running.{run_fewer}
-use Rattle.mpx_sim.proofs.Sending.{run_same}
+use Rattle.mpx_sim.proofs.Running.{run_fewer}
 use Rattle.mpx_sim.proofs.turns.turn.Goals as goal
 
 pub returns-clause-run : goal.returns-clause-run
 returns-clause-run g c script ranks size few run =
-    let sent = c.in_ok-send_all.ensures _ script ranks size (c.prune_all-pruned.ensures _ script ranks size (map part_of c.args.frames.now.items) (c.in_ok-moved.ensures script ranks size (map part_of c.args.frames.now.items) few run)) in
-    let mixed = run_fewer _ script ranks size (map process_of c.send_all.new.processes) (map part_of c.send_all.new.frames.items) (map part_of c.shuffle.new.items.items) (λ P. All-map-IsPermutation part_of P c.send_all.new.frames.items c.shuffle.new.items.items c.shuffle.ensures) sent in
-    let came = c.in_ok-deliver.ensures _ script ranks size (run_same _ script ranks size _ _ _ _ refl (ap (map part_of) (sym c.as_slice.ensures.value)) mixed) in
-    c.keep_some.ensures _ script ranks size (map process_of c.deliver.new.processes) (run_same _ script ranks size _ _ _ _ refl (ap (map part_of) c.as_slice.ensures.value) came)
+    let before = map part_of c.args.network.now.frames.items in
+    let sent = c.in_ok-send_all.ensures.run _ script ranks size (c.prune_all-pruned.ensures _ script ranks size before (c.in_ok-moved.ensures script ranks size before few run)) in
+    let mixed = run_fewer _ script ranks size (map process_of c.send_all.new.processes) (map part_of c.send_all.new.network.frames.items) sent (map part_of c.mix.new.self.frames.items) (λ P. All-map-IsPermutation part_of P c.send_all.new.network.frames.items c.mix.new.self.frames.items c.mix.ensures.frames) in
+    c.keep_some.ensures.run _ script ranks size (map process_of c.deliver.new.processes) (c.in_ok-deliver.ensures _ script ranks size mixed)
 
 pub returns-then-is_at_rest-clause-run : goal.returns-then-is_at_rest-clause-run
 returns-then-is_at_rest-clause-run g c script ranks size few run =
-    c.prune_all-pruned.ensures _ script ranks size (map part_of c.args.frames.now.items) (c.in_ok-moved.ensures script ranks size (map part_of c.args.frames.now.items) few run)
+    let before = map part_of c.args.network.now.frames.items in
+    c.prune_all-pruned.ensures _ script ranks size before (c.in_ok-moved.ensures script ranks size before few run)

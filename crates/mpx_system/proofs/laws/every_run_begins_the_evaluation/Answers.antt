@@ -2,9 +2,9 @@ use Rattle.std.proofs.Common.{◌∙◌, ℕ, List}
 use Rattle.mpx_num.specs.declared.own.Operation.{Operation}
 use Rattle.mpx_world.proofs.Steps.{sound_of}
 use Rattle.mpx_statement.specs.declared.statement.Statement.{Statement}
-use Rattle.mpx_evaluation.specs.Evaluation.{known}
-use Rattle.mpx_evaluation.proofs.Ways.{way-adds}
-use Rattle.mpx_evaluation.proofs.Ahead.{on_way-reached, finished}
+use Rattle.mpx_meaning.specs.Evaluation.{known}
+use Rattle.mpx_meaning.proofs.Ways.{way-adds}
+use Rattle.mpx_meaning.proofs.Ahead.{on_way-reached, finished}
 use Rattle.mpx_system.specs.Systems.{Doing, MayDoAll, does_all, start_system}
 use Rattle.mpx_system.proofs.Coupling.{Couples, couples_all, couples_start, tells_results}
 use Rattle.mpx_system.proofs.Happenings.{of_happenings}

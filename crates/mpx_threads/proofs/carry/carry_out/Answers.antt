@@ -1,8 +1,8 @@
 use Rattle.std.proofs.Common.{◌≡◌, ◌<◌, ◌∙◌, [], List, Some, ap, get_or, map, string_bytes, subst, sym, ℕ}
-use Rattle.mpx_post.specs.Births.{of_members, upto}
+use Rattle.mpx_birth.specs.Births.{of_members, upto}
 use Rattle.mpx_rank.specs.Moves.{bound_first}
 use Rattle.mpx_rank.specs.Shown.{rank_of}
-use Rattle.mpx_threads.specs.Told.{place_of}
+use Rattle.mpx_threads.specs.ToldCalls.{place_of}
 use Rattle.mpx_threads.specs.Work.{HasCome}
 use Rattle.mpx_threads.proofs.Coming.{has_come, may_go, stands_first}
 use Rattle.mpx_threads.proofs.Plans.{statements_at}
@@ -10,7 +10,7 @@ use Rattle.mpx_threads.proofs.carry.carry_out.Goals as goal
 
 pub go_on-requires : goal.go_on-requires
 go_on-requires g c =
-    let d = g.L.Dock in
+    let d = g.L.PortLock in
     let script = c.args.script.now in
     let r = rank_of place_of c.in_ok-rank.rank in
     let first = c.in_ok-rank.ensures in
@@ -21,7 +21,7 @@ go_on-requires g c =
 
 pub returns : goal.returns
 returns g c =
-    let d = g.L.Dock in
+    let d = g.L.PortLock in
     let script = c.args.script.now in
     let r = rank_of place_of c.in_ok-rank.rank in
     let first = c.in_ok-rank.ensures in

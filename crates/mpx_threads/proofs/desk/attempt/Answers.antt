@@ -1,12 +1,12 @@
 use Rattle.std.proofs.Common.{Some, subst}
 use Rattle.std.specs.Prelude.{Ok}
-use Rattle.mpx_threads.specs.Told.{PostsAs, on_either}
+use Rattle.mpx_threads.specs.ToldCalls.{PostsAs, on_either}
 use Rattle.mpx_threads.proofs.Looking.{tries_still, unposted_still}
 use Rattle.mpx_threads.proofs.desk.attempt.Goals as goal
 
 pub returns-in-Some : goal.returns-in-Some
 returns-in-Some g c =
-    let d = g.L.Dock in
+    let d = g.L.PortLock in
     let outcome = on_either d.setup.operations d.me c.args.posting.now c.args.name.now in
     let now = c.loop-look.poster.share.amount in
     let new = c.attempt_now.new.poster.share.amount in
@@ -15,7 +15,7 @@ returns-in-Some g c =
 
 pub returns-then-not-goes_on : goal.returns-then-not-goes_on
 returns-then-not-goes_on g c =
-    let d = g.L.Dock in
+    let d = g.L.PortLock in
     let outcome = on_either d.setup.operations d.me c.args.posting.now c.args.name.now in
     let now = c.loop-look.poster.share.amount in
     let new = c.attempt_now.new.poster.share.amount in
@@ -24,7 +24,7 @@ returns-then-not-goes_on g c =
 
 pub loop-look-preserved : goal.loop-look-preserved
 loop-look-preserved g c =
-    let d = g.L.Dock in
+    let d = g.L.PortLock in
     let outcome = on_either d.setup.operations d.me c.args.posting.now c.args.name.now in
     let now = c.loop-look.poster.share.amount in
     let new = c.attempt_now.new.poster.share.amount in

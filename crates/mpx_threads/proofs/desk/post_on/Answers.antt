@@ -8,14 +8,14 @@ use Rattle.mpx_threads.proofs.desk.post_on.Goals as goal
 
 pub returns-in-Ok-post : goal.returns-in-Ok-post
 returns-in-Ok-post g c = λ birth born.
-    let d = g.L.Dock in
+    let d = g.L.PortLock in
     let count = d.before + c.args.poster.now.share.amount in
     let then = subst (λ x. PostsThen d.table d.setup d.me d.opening count c.args.name.now x (Ok c.in-Ok-post.ticket)) c.in-Ok.ensures c.in-Ok-post.ensures.then in
     posted_so d.table d.setup d.me c.requires.planned count c.args.name.now (draft_of c.args.posting.now) birth born c.in-Ok-post.ticket then c.args.poster.now.share.amount c.post.new.poster.share.amount c.in-Ok-post.ensures.ok
 
 pub returns-else-is_no_member : goal.returns-else-is_no_member
 returns-else-is_no_member g c = λ birth born.
-    let d = g.L.Dock in
+    let d = g.L.PortLock in
     let count = d.before + c.args.poster.now.share.amount in
     let then = subst (λ x. PostsThen d.table d.setup d.me d.opening count c.args.name.now x (Err c.in-Err.refusal)) c.in-Ok.ensures c.in-Err.ensures.then in
     let other : c.in-Err.refusal ≡ NotMember → ⊥ = λ e. let yes = c.is_no_member.ensures.1 e in let shut = c.if-is_no_member.false in cc in

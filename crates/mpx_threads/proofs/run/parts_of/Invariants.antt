@@ -1,5 +1,5 @@
 use Rattle.std.proofs.Common.{◌≡◌, map}
-use Rattle.mpx_evaluation.specs.Transcripts.{as_text}
+use Rattle.mpx_meaning.specs.Transcripts.{as_text}
 use Rattle.mpx_threads.specs.declared.worker.Worked.{Worked}
 use Rattle.mpx_threads.specs.Work.{lines_in}
 use Rattle.mpx_threads.proofs.run.parts_of.Given as goal

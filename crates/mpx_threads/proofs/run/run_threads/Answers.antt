@@ -1,7 +1,7 @@
 use Rattle.std.proofs.Common.{◌≡◌, ◌+◌, ◌∙◌, ap, map, sym, take}
 use Rattle.std.specs.Prelude.{slice_get}
 use Rattle.mpx_bus.specs.Buses.{table_of}
-use Rattle.mpx_evaluation.specs.Reports.{transcripts_of, which}
+use Rattle.mpx_meaning.specs.Reports.{transcripts_of, which}
 use Rattle.mpx_system.proofs.Results.{map_taken}
 use Rattle.mpx_threads.specs.Work.{gossip_at, lines_in, waits_at}
 use Rattle.mpx_threads.proofs.Jobs.{gave_up_among}

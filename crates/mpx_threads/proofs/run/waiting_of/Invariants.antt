@@ -1,6 +1,6 @@
 use Rattle.std.proofs.Common.{◌≡◌}
 use Rattle.std.specs.Prelude.{slice_get}
-use Rattle.mpx_evaluation.specs.Reports.{which}
+use Rattle.mpx_meaning.specs.Reports.{which}
 use Rattle.mpx_threads.specs.Work.{waits_at}
 use Rattle.mpx_threads.proofs.run.waiting_of.Given as goal
 

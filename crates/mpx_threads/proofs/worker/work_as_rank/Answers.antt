@@ -1,11 +1,11 @@
 use Rattle.std.proofs.Common.{◌≡◌, arith, length, map, string_bytes, subst}
-use Rattle.mpx_shared.specs.Docks.{made_in}
+use Rattle.mpx_shared.specs.LawfulPorts.{made_in}
 use Rattle.mpx_threads.specs.Work.{HasCome}
 use Rattle.mpx_threads.proofs.worker.work_as_rank.Goals as goal
 
 pub with_port-requires-clause-come : goal.with_port-requires-clause-come
 with_port-requires-clause-come g c =
-    let d = g.L.Dock in
+    let d = g.L.PortLock in
     let script = c.args.script.now in
     let carried = c.in_ok-carried.carried in
     let lines = map string_bytes carried.lines.items in

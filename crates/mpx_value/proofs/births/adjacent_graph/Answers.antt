@@ -1,5 +1,5 @@
 use Rattle.std.proofs.Common.{◌∙◌, length, ap}
-use Rattle.mpx_post.specs.Topologies.{TopologyView}
+use Rattle.mpx_birth.specs.Topologies.{TopologyView}
 use Rattle.mpx_value.proofs.Topologies.{adjacent-ranks}
 use Rattle.mpx_value.proofs.births.adjacent_graph.Goals as goal
 

@@ -4,7 +4,7 @@ use Rattle.std.proofs.lemmas.List.{append-nil}
 use Rattle.mpx_group.specs.Group.{has_twice}
 use Rattle.mpx_name.specs.declared.steps.Step.TheVariants.{Child}
 use Rattle.mpx_name.specs.Name.{Name}
-use Rattle.mpx_post.specs.Births.{BirthView, of_members, upto}
+use Rattle.mpx_birth.specs.Births.{BirthView, of_members, upto}
 use Rattle.mpx_post.specs.Posts.{group_of}
 use Rattle.mpx_post.specs.Rows.{RowView}
 use Rattle.mpx_value.specs.Children.{group_child, leads, named_children, processes}

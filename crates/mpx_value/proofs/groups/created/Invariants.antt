@@ -1,6 +1,6 @@
 use Rattle.std.proofs.Common.{◌≡◌, map}
 use Rattle.std.specs.Prelude.{filter}
-use Rattle.mpx_post.specs.Births.{upto}
+use Rattle.mpx_birth.specs.Births.{upto}
 use Rattle.mpx_value.specs.Children.{group_child, leads, named_children}
 use Rattle.mpx_value.proofs.groups.created.Given as goal
 

@@ -1,5 +1,5 @@
 use Rattle.std.proofs.Common.{sym, subst}
-use Rattle.mpx_bus.specs.Berths.{CanPush}
+use Rattle.mpx_bus.specs.Ports.{CanPush}
 use Rattle.mpx_bus.specs.Answers.{PushesOne}
 use Rattle.mpx_bus.proofs.Goes.{goes_then}
 use Rattle.process_tests.proofs.port_fleets.pushes.Goals as goal

@@ -1,4 +1,4 @@
-use Rattle.mpx_bus.specs.Berths.{IsSamePort}
+use Rattle.mpx_bus.specs.Ports.{IsSamePort}
 use Rattle.process_tests.proofs.port_rooms.posts_much.Given as goal
 
 abbrev pub invariant-loop : goal.invariant-loop

@@ -1,4 +1,4 @@
-use Rattle.mpx_bus.specs.Berths.{IsSamePort}
+use Rattle.mpx_bus.specs.Ports.{IsSamePort}
 use Rattle.tour.proofs.threads.work.Given as goal
 
 abbrev pub invariant-loop : goal.invariant-loop

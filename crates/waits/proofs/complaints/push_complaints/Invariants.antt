@@ -2,7 +2,7 @@ use Rattle.std.proofs.Common.{◌≡◌, ◌++◌, drop, map}
 use Rattle.std.specs.List.{flat_map}
 use Rattle.mpx_eval.specs.Found.{complaint_view}
 use Rattle.waits.specs.Lines.{AreLinesOf}
-use Rattle.waits.specs.Told.{complaint_told}
+use Rattle.waits.specs.ToldLines.{complaint_told}
 use Rattle.waits.proofs.complaints.push_complaints.Given as goal
 
 abbrev pub invariant-loop-complaint : goal.invariant-loop-complaint

@@ -1,5 +1,5 @@
 use Rattle.std.proofs.Common.{◌≡◌, ◌++◌, drop}
-use Rattle.waits.specs.Told.{members_text, rows_text}
+use Rattle.waits.specs.ToldLines.{members_text, rows_text}
 use Rattle.waits.proofs.members.push_members.Given as goal
 
 abbrev pub invariant-loop-member : goal.invariant-loop-member

@@ -1,5 +1,5 @@
 use Rattle.std.proofs.Common.{◌≡◌, drop}
-use Rattle.waits.specs.Told.{standing}
+use Rattle.waits.specs.ToldLines.{standing}
 use Rattle.waits.proofs.members.standing.Given as goal
 
 abbrev pub invariant-loop-waiting : goal.invariant-loop-waiting

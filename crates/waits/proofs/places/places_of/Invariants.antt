@@ -1,6 +1,6 @@
 use Rattle.std.proofs.Common.{◌≡◌, map, take}
 use Rattle.mpx_eval.specs.Found.{waiting_view}
-use Rattle.waits.specs.Told.{place_of}
+use Rattle.waits.specs.ToldLines.{place_of}
 use Rattle.waits.proofs.places.places_of.Given as goal
 
 abbrev pub invariant-loop-waiting : goal.invariant-loop-waiting

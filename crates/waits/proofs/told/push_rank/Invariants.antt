@@ -1,7 +1,7 @@
 use Rattle.std.proofs.Common.{◌≡◌, ◌++◌, drop, map}
 use Rattle.std.specs.List.{flat_map}
 use Rattle.mpx_eval.specs.Found.{missing_view, waiting_view}
-use Rattle.waits.specs.Told.{call_text, rank_text}
+use Rattle.waits.specs.ToldLines.{call_text, rank_text}
 use Rattle.waits.proofs.told.push_rank.Given as goal
 
 abbrev pub invariant-loop-call : goal.invariant-loop-call

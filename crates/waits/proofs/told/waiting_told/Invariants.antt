@@ -1,7 +1,7 @@
 use Rattle.std.proofs.Common.{◌≡◌, ◌++◌, drop, map}
 use Rattle.std.specs.List.{flat_map}
 use Rattle.mpx_eval.specs.Found.{waiting_view}
-use Rattle.waits.specs.Told.{waiting_told, place_of, rank_text}
+use Rattle.waits.specs.ToldLines.{waiting_told, place_of, rank_text}
 use Rattle.waits.proofs.told.waiting_told.Given as goal
 
 abbrev pub invariant-loop-waiting : goal.invariant-loop-waiting

@@ -1,6 +1,4 @@
 use Rattle.std.proofs.Common.{ap, refl, sym, ◌∙◌}
-use Rattle.mpx_board.specs.Looks.{parts_of}
-use Rattle.mpx_board.specs.Parts.{PartsView}
 use Rattle.mpx_board.specs.Tidy.{is_tidy}
 use Rattle.mpx_board.proofs.board.Board.exchange.Goals as goal
 

@@ -1,5 +1,4 @@
 -- What was made is stored, and what stood there is given back.
-use Rattle.std.proofs.Common.{refl}
 use Rattle.mpx_board.specs.Looks.{parts_of}
 use Rattle.mpx_board.proofs.Acknowledging.{stored_gives}
 use Rattle.mpx_board.proofs.Exchanging.{raised_leads}

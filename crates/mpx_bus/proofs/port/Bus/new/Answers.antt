@@ -3,7 +3,7 @@ use Rattle.crossbeam_queue.specs.Passes.{view}
 use Rattle.mpx_node.specs.Nodes.{start_node}
 use Rattle.mpx_bus.specs.declared.act.View.{View}
 use Rattle.mpx_bus.specs.Views.{maker_of, opened, seat_of}
-use Rattle.mpx_bus.specs.Berths.{berth, IsFleet}
+use Rattle.mpx_bus.specs.Ports.{port_view, IsFleet}
 use Rattle.mpx_bus.proofs.Makes.{begins, seats_as, fleet_more}
 use Rattle.mpx_bus.proofs.Ports.{new_port, none_kept}
 use Rattle.mpx_bus.proofs.port.Bus.new.Goals as goal
@@ -23,10 +23,10 @@ loop-me-preserved g c =
       (a.queue.0.0 ∙ i.0.0, a.queue.0.2 ∙ i.0.1),
       a.rule.0 ∙ ap (λ (u : View). maker_of u.setup (u.made + 1)) i.1,
       subst (IsFleet setup c.in_ok-queue.queue.table.shared.table_id (c.loop-me.me + 1)) (sym c.in_ok-push.ensures.items)
-          (fleet_more setup c.in_ok-queue.queue.table.shared.table_id c.loop-me.me c.loop-me.ports.items (berth (view c.another-pass.result) (view c.in_ok-desk.line) c.new-kept.result.items c.another-pass.result.table_id c.another-pass.result.id) i.2
+          (fleet_more setup c.in_ok-queue.queue.table.shared.table_id c.loop-me.me c.loop-me.ports.items (port_view (view c.another-pass.result) (view c.in_ok-empty.line) c.new-kept.result.items c.another-pass.result.table_id c.another-pass.result.id) i.2
           (record {
             me_is = ap (λ (u : View). (seat_of u).me) seat;
-            journal_is = c.in_ok-desk.ensures.1;
+            journal_is = c.in_ok-empty.ensures.1;
             published_is = ap (λ (u : View). (seat_of u).journal) seat;
             kept_is = c.new-kept.ensures.items;
             setup_is = ap (λ (u : View). u.setup) seat;
@@ -39,7 +39,7 @@ invariant_of-push g c =
     let a = c.another-pass.ensures in
     let setup = g.N.Named.setup in (
       a.queue.1.1,
-      c.in_ok-desk.ensures.0,
-      new_port setup c.loop-me.me _ _ _ (c.in_ok-node.ensures ∙ (λ i. start_node (c.new.ensures i) (sym c.requires.setup.0 i) (sym c.requires.setup.1 i))) (a.rule.1 ∙ ap (λ (u : View). opened u.setup u.made) c.loop-me.invariant.1) c.in_ok-desk.ensures.1,
+      c.in_ok-empty.ensures.0,
+      new_port setup c.loop-me.me _ _ _ (c.in_ok-node.ensures ∙ (λ i. start_node (c.new.ensures i) (sym c.requires.setup.0 i) (sym c.requires.setup.1 i))) (a.rule.1 ∙ ap (λ (u : View). opened u.setup u.made) c.loop-me.invariant.1) c.in_ok-empty.ensures.1,
       none_kept _ _ _ c.new-kept.result.items c.new-kept.ensures.items,
     )

@@ -1,7 +1,7 @@
 use Rattle.std.proofs.Common.{◌≡◌}
 use Rattle.crossbeam_queue.specs.Passes.{view, IsPassOf}
 use Rattle.mpx_bus.specs.Views.{maker_of}
-use Rattle.mpx_bus.specs.Berths.{IsFleet}
+use Rattle.mpx_bus.specs.Ports.{IsFleet}
 use Rattle.mpx_bus.proofs.port.Bus.new.Given as goal
 
 abbrev pub invariant-loop-me : goal.invariant-loop-me

@@ -6,7 +6,7 @@ use Rattle.mpx_bus.specs.declared.act.Act.{Act}
 use Rattle.mpx_bus.specs.declared.act.Act.TheVariants as A
 use Rattle.mpx_bus.specs.Acts.{part_of}
 use Rattle.mpx_bus.specs.Rule.{IsPlanned}
-use Rattle.mpx_bus.specs.Berths.{Berth, node_in}
+use Rattle.mpx_bus.specs.Ports.{PortView, node_in}
 use Rattle.mpx_bus.proofs.Moves.{pops}
 use Rattle.mpx_bus.proofs.Ports.{port_popped, port_took, port_stopped, kept_popped, kept_later}
 use Rattle.mpx_bus.proofs.port.Bus.pop_one.Goals as goal
@@ -14,7 +14,7 @@ use Rattle.mpx_bus.proofs.port.Bus.pop_one.Goals as goal
 pub pop_to-requires-clause-rule : goal.pop_to-requires-clause-rule
 pop_to-requires-clause-rule g c =
     let i = c.port.invariant.2 in
-    pops _ _ _ i.stands i.ahead (subst (λ (b : Berth). IsPlanned b.setup b.me b.journal) (sym c.port.view_is) c.requires.plan)
+    pops _ _ _ i.stands i.ahead (subst (λ (b : PortView). IsPlanned b.setup b.me b.journal) (sym c.port.view_is) c.requires.plan)
 
 pub invariant_of-port-in-Ok : goal.invariant_of-port-in-Ok
 invariant_of-port-in-Ok g c =
@@ -51,6 +51,6 @@ returns-in-Err-clause-answer g c =
     stops c.board.ensures c.stopped.ensures.noted in
     inr (record {
       left = c.board.result.now;
-      journal = c.stopped.ensures.noted ∙ ap (λ (j : List Act). j ++ A.StoppedTaking frame c.board.result.now ∷ []) (c.popped.ensures.noted ∙ ap (λ (b : Berth). b.journal ++ A.Popped frame ∷ []) c.port.view_is);
+      journal = c.stopped.ensures.noted ∙ ap (λ (j : List Act). j ++ A.StoppedTaking frame c.board.result.now ∷ []) (c.popped.ensures.noted ∙ ap (λ (b : PortView). b.journal ++ A.Popped frame ∷ []) c.port.view_is);
       board = subst (λ (x : NodeView × NodeView). StopsTaking (part_of frame) x.0 x.1) (λ k. ((i.2.node_is ∙ ap node_in c.port.view_is) k, now.node_is k)) stops;
     })

@@ -6,7 +6,7 @@ use Rattle.mpx_bus.specs.declared.act.Act.TheVariants as A
 use Rattle.mpx_bus.specs.Acts.{IsAhead, MayPush}
 use Rattle.mpx_bus.specs.Views.{seat_of}
 use Rattle.mpx_bus.specs.Rule.{IsPlanned}
-use Rattle.mpx_bus.specs.Berths.{Berth, IsPort, MayPushAll}
+use Rattle.mpx_bus.specs.Ports.{PortView, IsPort, MayPushAll}
 use Rattle.mpx_bus.proofs.Moves.{pushes}
 use Rattle.mpx_bus.proofs.Ports.{port_pushed, kept_pushed}
 use Rattle.mpx_bus.proofs.port.Bus.push.Goals as goal
@@ -17,8 +17,8 @@ push_to-requires-clause-rule g c =
     let v = view c.port.inside.pass in
     let same = sym c.pushed-next.ensures.same.1 in
     pushes _ _ v (view c.pushed-next.new.line) c.args.frame i.stands (subst (λ (j : List Act). IsAhead v.setup (seat_of v).me (seat_of v).journal j) same i.ahead)
-    (subst (λ (j : List Act). IsPlanned v.setup (seat_of v).me j) same (subst (λ (b : Berth). IsPlanned b.setup b.me b.journal) (sym c.port.view_is) c.requires.plan))
-    (subst (λ (j : List Act). MayPush v.setup (seat_of v).me j c.args.frame) same (subst (λ (b : Berth). MayPush b.setup b.me b.journal c.args.frame) (sym c.port.view_is) c.requires.frame))
+    (subst (λ (j : List Act). IsPlanned v.setup (seat_of v).me j) same (subst (λ (b : PortView). IsPlanned b.setup b.me b.journal) (sym c.port.view_is) c.requires.plan))
+    (subst (λ (j : List Act). MayPush v.setup (seat_of v).me j c.args.frame) same (subst (λ (b : PortView). MayPush b.setup b.me b.journal c.args.frame) (sym c.port.view_is) c.requires.frame))
 
 pub invariant_of-port : goal.invariant_of-port
 invariant_of-port g c =

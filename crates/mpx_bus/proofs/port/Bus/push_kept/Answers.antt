@@ -1,7 +1,7 @@
 use Rattle.std.proofs.Common.{[], ◌∷◌, ◌++◌, sym, ap, ◌∙◌, subst}
 use Rattle.crossbeam_queue.specs.Passes.{view}
 use Rattle.mpx_bus.specs.Views.{seat_of}
-use Rattle.mpx_bus.specs.Berths.{Berth, berth, GoesOn}
+use Rattle.mpx_bus.specs.Ports.{PortView, port_view, PortGoesOn}
 use Rattle.mpx_bus.specs.Answers.{PushesLast}
 use Rattle.mpx_bus.proofs.Ports.{fewer_kept, last_kept}
 use Rattle.mpx_bus.proofs.Goes.{goes_kept}
@@ -21,15 +21,15 @@ push-requires-clause-frame g c =
 
 pub returns-clause-port : goal.returns-clause-port
 returns-clause-port g c =
-    let a : Berth = berth (view c.port.inside.pass) (view c.port.inside.line) c.port.inside.kept.items c.port.inside.pass.table_id c.port.inside.pass.id in
-    subst (λ (b : Berth). GoesOn b c.push.new.port) c.port.view_is (goes_kept a c.pop.new.self.items c.push.new.port (goes_push c.in-Some.frame c.push.result _ c.push.new.port c.push.ensures.port c.push.ensures.answer))
+    let a : PortView = port_view (view c.port.inside.pass) (view c.port.inside.line) c.port.inside.kept.items c.port.inside.pass.table_id c.port.inside.pass.id in
+    subst (λ (b : PortView). PortGoesOn b c.push.new.port) c.port.view_is (goes_kept a c.pop.new.self.items c.push.new.port (goes_push c.in-Some.frame c.push.result _ c.push.new.port c.push.ensures.port c.push.ensures.answer))
 
 pub returns-clause-next : goal.returns-clause-next
 returns-clause-next g c =
     let v = view c.port.inside.pass in
-    let a : Berth = berth v (view c.port.inside.line) c.port.inside.kept.items c.port.inside.pass.table_id c.port.inside.pass.id in
+    let a : PortView = port_view v (view c.port.inside.line) c.port.inside.kept.items c.port.inside.pass.table_id c.port.inside.pass.id in
     let may = last_kept v.setup (seat_of v).me (view c.port.inside.line) c.port.inside.kept.items c.pop.new.self.items c.in-Some.frame c.in-Some.ensures.items c.port.invariant.3 in (
       c.in-Some.frame,
-      ap (λ (b : Berth). b.kept) (sym c.port.view_is) ∙ c.in-Some.ensures.items ∙ ap (λ xs. xs ++ c.in-Some.frame ∷ []) (sym c.push.ensures.kept),
-      subst (λ (b : Berth). PushesLast c.in-Some.frame c.push.result b c.push.new.port) c.port.view_is (last_of_one c.in-Some.frame c.push.result a c.pop.new.self.items c.push.new.port may c.push.ensures.answer),
+      ap (λ (b : PortView). b.kept) (sym c.port.view_is) ∙ c.in-Some.ensures.items ∙ ap (λ xs. xs ++ c.in-Some.frame ∷ []) (sym c.push.ensures.kept),
+      subst (λ (b : PortView). PushesLast c.in-Some.frame c.push.result b c.push.new.port) c.port.view_is (last_of_one c.in-Some.frame c.push.result a c.pop.new.self.items c.push.new.port may c.push.ensures.answer),
     )

@@ -7,7 +7,7 @@ use Rattle.mpx_node.proofs.Storing.{stores_lent, stored_there}
 use Rattle.mpx_bus.specs.declared.act.Act.TheVariants as A
 use Rattle.mpx_bus.specs.Frames.{AreSpelled}
 use Rattle.mpx_bus.specs.Views.{seat_of}
-use Rattle.mpx_bus.specs.Berths.{Berth, berth, node_in, GoesOn, AreDeltas, IsPort}
+use Rattle.mpx_bus.specs.Ports.{PortView, port_view, node_in, PortGoesOn, AreDeltas, IsPort}
 use Rattle.mpx_bus.proofs.Ports.{port_said, new_kept, new_deltas, deltas_some}
 use Rattle.mpx_bus.proofs.Goes.{goes_on}
 use Rattle.mpx_bus.proofs.port.Port.new_list.Goals as goal
@@ -38,9 +38,9 @@ invariant_of-self-2 c =
 pub returns-clause-port : goal.returns-clause-port
 returns-clause-port c =
     let v = view c.self.inside.pass in
-    let a : Berth = berth v (view c.self.inside.line) c.self.inside.kept.items c.self.inside.pass.table_id c.self.inside.pass.id in
-    let b : Berth = berth v (view c.acknowledged.new.line) c.in_ok-frames.frames.items c.self.inside.pass.table_id c.self.inside.pass.id in
-    subst (λ (x : Berth). GoesOn x b) c.self.view_is (goes_on a b (A.Acknowledged c.board.result.now ∷ []) (record { table = refl; pass = refl; setup = refl; me = refl }) c.acknowledged.ensures.noted (tt, tt))
+    let a : PortView = port_view v (view c.self.inside.line) c.self.inside.kept.items c.self.inside.pass.table_id c.self.inside.pass.id in
+    let b : PortView = port_view v (view c.acknowledged.new.line) c.in_ok-frames.frames.items c.self.inside.pass.table_id c.self.inside.pass.id in
+    subst (λ (x : PortView). PortGoesOn x b) c.self.view_is (goes_on a b (A.Acknowledged c.board.result.now ∷ []) (record { table = refl; pass = refl; setup = refl; me = refl }) c.acknowledged.ensures.noted (tt, tt))
 
 pub returns-clause-ok : goal.returns-clause-ok
 returns-clause-ok c =
@@ -51,7 +51,7 @@ returns-clause-ok c =
     let deltas = new_deltas c.args.limit (node_of c.self.inside.node) _ c.in_ok-frames.frames.items kept.parts made spelled in
     record {
       said = c.board.result.now;
-      journal = c.acknowledged.ensures.noted ∙ ap (λ (b : Berth). b.journal ++ A.Acknowledged c.board.result.now ∷ []) c.self.view_is;
+      journal = c.acknowledged.ensures.noted ∙ ap (λ (b : PortView). b.journal ++ A.Acknowledged c.board.result.now ∷ []) c.self.view_is;
       deltas = subst (λ (x : NodeView × NodeView). AreDeltas c.args.limit x.0 x.1 c.in_ok-frames.frames.items) (λ k. ((c.self.invariant.2.node_is ∙ ap node_in c.self.view_is) k, now k)) deltas;
     }
 

@@ -7,7 +7,7 @@ use Rattle.mpx_node.specs.Shown.{node_of}
 use Rattle.mpx_bus.specs.declared.act.Act.TheVariants as A
 use Rattle.mpx_bus.specs.Acts.{process_at}
 use Rattle.mpx_bus.specs.Views.{seat_of}
-use Rattle.mpx_bus.specs.Berths.{Berth, berth, node_in, GoesOn}
+use Rattle.mpx_bus.specs.Ports.{PortView, port_view, node_in, PortGoesOn}
 use Rattle.mpx_bus.proofs.Ports.{port_local, gather_does, kept_later}
 use Rattle.mpx_bus.proofs.Goes.{goes_on}
 use Rattle.mpx_bus.proofs.port.Port.open_gathering.Goals as goal
@@ -27,13 +27,13 @@ invariant_of-self c =
 pub returns-in-Ok-clause-port : goal.returns-in-Ok-clause-port
 returns-in-Ok-clause-port c =
     let v = view c.self.inside.pass in
-    let a : Berth = berth v (view c.self.inside.line) c.self.inside.kept.items c.self.inside.pass.table_id c.self.inside.pass.id in
-    let b : Berth = berth v (view c.gathered.new.line) c.self.inside.kept.items c.self.inside.pass.table_id c.self.inside.pass.id in
-    subst (λ (x : Berth). GoesOn x b) c.self.view_is (goes_on a b (A.Gathered c.args.parent.now (to_z w128 (of_z w128 c.args.tag)) c.args.ranks.now ∷ []) (record { table = refl; pass = refl; setup = refl; me = refl }) c.gathered.ensures.noted (tt, tt))
+    let a : PortView = port_view v (view c.self.inside.line) c.self.inside.kept.items c.self.inside.pass.table_id c.self.inside.pass.id in
+    let b : PortView = port_view v (view c.gathered.new.line) c.self.inside.kept.items c.self.inside.pass.table_id c.self.inside.pass.id in
+    subst (λ (x : PortView). PortGoesOn x b) c.self.view_is (goes_on a b (A.Gathered c.args.parent.now (to_z w128 (of_z w128 c.args.tag)) c.args.ranks.now ∷ []) (record { table = refl; pass = refl; setup = refl; me = refl }) c.gathered.ensures.noted (tt, tt))
 
 pub returns-in-Ok-clause-node : goal.returns-in-Ok-clause-node
 returns-in-Ok-clause-node c =
     let i = (invariant_of-self c).2 in
     let read : to_z w128 (of_z w128 c.args.tag) ≡ c.args.tag = to_z-of_z w128 c.args.tag c.ranges.tag in
     subst (λ (x : NodeView × NodeView × ℤ). Opens c.args.parent.now (gathers_on x.0 c.args.parent.now x.2 c.args.ranks.now) (Ok c.in-Ok.name) x.0 x.1)
-    (λ j. ((c.self.invariant.2.node_is ∙ ap (λ (b : Berth). node_in b) c.self.view_is) j, i.node_is j, read j)) c.in-Ok.ensures
+    (λ j. ((c.self.invariant.2.node_is ∙ ap (λ (b : PortView). node_in b) c.self.view_is) j, i.node_is j, read j)) c.in-Ok.ensures

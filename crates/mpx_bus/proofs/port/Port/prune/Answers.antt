@@ -4,7 +4,7 @@ use Rattle.mpx_node.specs.Shown.{node_of}
 use Rattle.mpx_bus.specs.declared.act.Act.TheVariants as A
 use Rattle.mpx_bus.specs.Acts.{process_at}
 use Rattle.mpx_bus.specs.Views.{seat_of}
-use Rattle.mpx_bus.specs.Berths.{Berth, berth, GoesOn}
+use Rattle.mpx_bus.specs.Ports.{PortView, port_view, PortGoesOn}
 use Rattle.mpx_bus.proofs.Ports.{port_local, prune_does, kept_later}
 use Rattle.mpx_bus.proofs.Goes.{goes_on}
 use Rattle.mpx_bus.proofs.port.Port.prune.Goals as goal
@@ -24,6 +24,6 @@ invariant_of-self c =
 pub returns-in-Ok-clause-port : goal.returns-in-Ok-clause-port
 returns-in-Ok-clause-port c =
     let v = view c.self.inside.pass in
-    let a : Berth = berth v (view c.self.inside.line) c.self.inside.kept.items c.self.inside.pass.table_id c.self.inside.pass.id in
-    let b : Berth = berth v (view c.pruned.new.line) c.self.inside.kept.items c.self.inside.pass.table_id c.self.inside.pass.id in
-    subst (λ (x : Berth). GoesOn x b) c.self.view_is (goes_on a b (A.Pruned c.args.name.now c.args.number ∷ []) (record { table = refl; pass = refl; setup = refl; me = refl }) c.pruned.ensures.noted (tt, tt))
+    let a : PortView = port_view v (view c.self.inside.line) c.self.inside.kept.items c.self.inside.pass.table_id c.self.inside.pass.id in
+    let b : PortView = port_view v (view c.pruned.new.line) c.self.inside.kept.items c.self.inside.pass.table_id c.self.inside.pass.id in
+    subst (λ (x : PortView). PortGoesOn x b) c.self.view_is (goes_on a b (A.Pruned c.args.name.now c.args.number ∷ []) (record { table = refl; pass = refl; setup = refl; me = refl }) c.pruned.ensures.noted (tt, tt))

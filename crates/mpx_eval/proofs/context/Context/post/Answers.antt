@@ -1,5 +1,5 @@
 use Rattle.std.proofs.Common.{refl, sym, ap, ◌∙◌}
-use Rattle.mpx_post.specs.Births.{rank_in}
+use Rattle.mpx_birth.specs.Births.{rank_in}
 use Rattle.mpx_post.specs.Drafts.{at}
 use Rattle.mpx_eval.specs.Contexts.{ContextView, count_in, freed_in}
 use Rattle.mpx_eval.proofs.Contexts.{checked_stranger}

@@ -3,7 +3,7 @@ use Rattle.std.proofs.lemmas.List.Sums.{sum_by-le}
 use Rattle.mpx_birth.specs.Topologies.{destinations_at}
 use Rattle.mpx_post.specs.Blocks.{repeated}
 use Rattle.mpx_post.specs.Agreement.{post_at}
-use Rattle.mpx_post.specs.Kinds.{neighbourhood_kind}
+use Rattle.mpx_kind.specs.Kinds.{neighbourhood_kind}
 use Rattle.mpx_post.specs.Posts.{Given, most_items}
 use Rattle.mpx_neigh.specs.Cursors.{AreTaken}
 use Rattle.mpx_neigh.specs.Neighbourhoods.{counts_sent}

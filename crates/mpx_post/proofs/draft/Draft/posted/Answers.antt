@@ -2,7 +2,7 @@ use Rattle.std.proofs.Common.{FitsSigned, rules, ◌∙◌, ◌≡◌, sym}
 use mir.Syntax.{w128}
 use Rattle.std.proofs.lemmas.Int.{to_z-of_z}
 use Rattle.mpx_post.specs.Drafts.{given_by, natural, where_had}
-use Rattle.mpx_post.specs.Kinds.{fields_of, is_had, kind_of}
+use Rattle.mpx_kind.specs.Kinds.{fields_of, is_had, kind_of}
 use Rattle.mpx_post.proofs.Checks.{accepted, making_is_fine, refused_by_items, refused_by_rest}
 use Rattle.mpx_post.proofs.Limits.{counts_given, few_given, is_some-where_had, root_given, type_given}
 use Rattle.mpx_post.proofs.Makings.{has_mode}

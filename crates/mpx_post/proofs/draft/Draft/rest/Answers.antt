@@ -2,7 +2,7 @@ use Rattle.std.proofs.Common.{FitsSigned, rules, ◌≡◌, true, false, refl}
 use mir.Syntax.{w128}
 use Rattle.std.proofs.lemmas.Int.{to_z-of_z}
 use Rattle.mpx_post.specs.Drafts.{drafted_making, naturals, received_counts, sent_counts}
-use Rattle.mpx_post.specs.Kinds.{fields_of, kind_of}
+use Rattle.mpx_kind.specs.Kinds.{fields_of, kind_of}
 use Rattle.mpx_post.proofs.Checks.{colour_is_fine, counted, edges_are_few, edges_are_fine, group_is_fine, key_is_fine}
 use Rattle.mpx_post.proofs.draft.Draft.rest.Goals as goal
 

@@ -1,6 +1,6 @@
 use Rattle.std.proofs.Common.{◌∙◌, ap, sym}
 use Rattle.std.specs.Option.{option_copied}
-use Rattle.mpx_post.specs.Kinds.{fields_of}
+use Rattle.mpx_kind.specs.Kinds.{fields_of}
 use Rattle.mpx_post.specs.Posts.{Given}
 use Rattle.mpx_post.proofs.Contributions.{items_are, items_there}
 use Rattle.mpx_post.proofs.row.Row.given.Goals as goal

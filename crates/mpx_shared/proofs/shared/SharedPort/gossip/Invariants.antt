@@ -4,4 +4,4 @@ use Rattle.mpx_shared.proofs.shared.SharedPort.gossip.Given as goal
 
 -- so many turns were made
 abbrev pub invariant-loop-turn : goal.invariant-loop-turn
-invariant-loop-turn g l = (made : List (Turn g.L.Dock.table g.L.Dock.setup g.L.Dock.me g.L.Dock.opening)) × (length made ≡ l._turn)
+invariant-loop-turn g l = (made : List (Turn g.L.PortLock.table g.L.PortLock.setup g.L.PortLock.me g.L.PortLock.opening)) × (length made ≡ l._turn)

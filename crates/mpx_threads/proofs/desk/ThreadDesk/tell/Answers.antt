@@ -3,7 +3,7 @@ use Rattle.std.specs.Prelude.{IfSome}
 use Rattle.mpx_threads.specs.declared.told.ToldCall.{ToldCall}
 use Rattle.mpx_threads.specs.Plans.{planned_results}
 use Rattle.mpx_rank.specs.Answered.{answer_of}
-use Rattle.mpx_threads.specs.Told.{told_of}
+use Rattle.mpx_threads.specs.ToldCalls.{told_of}
 use Rattle.mpx_threads.proofs.Telling.{at_same, told_last}
 use Rattle.mpx_threads.proofs.desk.ThreadDesk.tell.Goals as goal
 
@@ -16,7 +16,7 @@ returns-in_ok-add-in-Some-clause-hears g c =
 
 pub returns-in_ok-add-in-Some-clause-told : goal.returns-in_ok-add-in-Some-clause-told
 returns-in_ok-add-in-Some-clause-told g c =
-    let known = planned_results g.L.Dock.setup g.L.Dock.me in
+    let known = planned_results g.L.PortLock.setup g.L.PortLock.me in
     let new : ToldCall = record { name = c.in_ok-name-in-Some.name; call = c.args.ticket.now.call; answered = c.in-Some.answered } in
     let a = answer_of c.in-Some.answered in
     let name = c.args.ticket.now.name in

@@ -2,14 +2,14 @@ use Rattle.std.proofs.Common.{◌≡◌, sym, ap, subst}
 use Rattle.mpx_value.specs.Histories.{answer_with, born_by}
 use Rattle.mpx_shared.specs.Tickets.{TellsBirth}
 use Rattle.mpx_rank.specs.Answered.{answer_of}
-use Rattle.mpx_threads.specs.Told.{planned_birth}
+use Rattle.mpx_threads.specs.ToldCalls.{planned_birth}
 use Rattle.mpx_threads.proofs.Asking.{born_so, comm_so, none_so}
 use Rattle.mpx_threads.proofs.desk.ThreadDesk.with_birth.Goals as goal
 use Rattle.mpx_threads.proofs.desk.ThreadDesk.with_birth.Goals.{in-NewComm+in_ok-birth-in-NewComm+in-Some, in-Nothing, in-Absent, in-Items, in-Null, in-Fault}
 
 pub returns : goal.returns
 returns g c =
-    let d = g.L.Dock in
+    let d = g.L.PortLock in
     let births = planned_birth d.setup in
     let o = c.args.outcome in
     elim c.match-outcome.branch [

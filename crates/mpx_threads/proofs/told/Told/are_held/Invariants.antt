@@ -1,6 +1,6 @@
 use Rattle.std.proofs.Common.{take}
 use Rattle.mpx_node.specs.Shown.{node_of}
-use Rattle.mpx_threads.specs.Told.{AllHeld}
+use Rattle.mpx_threads.specs.ToldCalls.{AllHeld}
 use Rattle.mpx_threads.proofs.told.Told.are_held.Given as goal
 
 abbrev pub invariant-loop-told : goal.invariant-loop-told

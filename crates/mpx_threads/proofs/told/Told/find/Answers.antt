@@ -2,7 +2,7 @@ use Rattle.std.proofs.Common.{◌≡◌, ◌∙◌, ◌+◌, suc, Some, arith, f
 use Rattle.std.specs.Prelude.{slice_get}
 use Rattle.mpx_world.proofs.Lists.{names_same}
 use Rattle.mpx_threads.specs.Plans.{planned_results}
-use Rattle.mpx_threads.specs.Told.{is_among}
+use Rattle.mpx_threads.specs.ToldCalls.{is_among}
 use Rattle.mpx_threads.proofs.Jobs.{read_at}
 use Rattle.mpx_threads.proofs.Telling.{among_at, among_next, at_other_call, at_other_name, at_same}
 use Rattle.mpx_threads.proofs.told.Told.find.Goals as goal
@@ -13,7 +13,7 @@ returns-then-same-clause-some g c =
     let t = c.told-item.result in
     let there = subst (λ xs. slice_get xs c.loop-told.told-index ≡ Some t) c.deref-told-items.ensures.value (read_at c.deref-told-items.result.now c.loop-told.told-index t c.loop-told-test.true c.told-item.is) in
     let name_is = names_same t.name c.args.name.now (sym c.same.ensures ∙ c.if-same.true) in
-    (λ i. planned_results g.L.Dock.setup g.L.Dock.me (sym name_is i) (sym c.if-told-call.true i)) ∙ c.self.invariant c.loop-told.told-index t there
+    (λ i. planned_results g.L.PortLock.setup g.L.PortLock.me (sym name_is i) (sym c.if-told-call.true i)) ∙ c.self.invariant c.loop-told.told-index t there
 
 pub returns-then-same-clause-is_there : goal.returns-then-same-clause-is_there
 returns-then-same-clause-is_there g c =

@@ -1,5 +1,5 @@
 use Rattle.std.proofs.Common.{◌≡◌, false, take}
-use Rattle.mpx_threads.specs.Told.{is_among}
+use Rattle.mpx_threads.specs.ToldCalls.{is_among}
 use Rattle.mpx_threads.proofs.told.Told.find.Given as goal
 
 abbrev pub invariant-loop-told : goal.invariant-loop-told

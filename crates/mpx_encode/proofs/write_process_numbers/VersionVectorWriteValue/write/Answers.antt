@@ -1,0 +1,28 @@
+use Rattle.std.proofs.Common.{◌≡◌, ℕ, ◌<◌, [], ◌∷◌, ◌++◌, length, arith, rules}
+use Rattle.std.specs.Ordering.{nat_cmp}
+use Rattle.join_core.specs.declared.max.Max.{Max}
+use Rattle.join_nest.specs.Seen.{seen, keyed_view}
+use Rattle.join_nest.proofs.Steps.{length_seen}
+use Rattle.mpx_format.specs.Fields.{numbers, process, some_calls, some_byte}
+use Rattle.mpx_format.specs.Rising.{always}
+use Rattle.mpx_encode.proofs.Maps.{keyed_count, keyed_spelling, some_byte_below, told_behind}
+use Rattle.mpx_encode.proofs.write_process_numbers.VersionVectorWriteValue.write.Goals as goal
+
+abbrev says : Max → ℕ
+says n = n.0
+
+pub overflow_cast-entries : goal.overflow_cast-entries
+unfolding numbers
+overflow_cast-entries c =
+    let m = keyed_view nat_cmp says c.args.self.now.entries.items in
+    let es = seen says c.entries-entries.result.now in
+    let few : length es < 256 = some_byte_below (length es) (keyed_count nat_cmp some_byte process some_calls always m es c.entries-entries.ensures.entries c.requires) in
+    omega (arith, length_seen says c.entries-entries.result.now)
+
+pub returns : goal.returns
+unfolding numbers some_byte
+returns c =
+    let m = keyed_view nat_cmp says c.args.self.now.entries.items in
+    let es = seen says c.entries-entries.result.now in
+    let first : c.write_u8.new.out.items ≡ c.args.out.now.items ++ length es ∷ [] = rw (length_seen says c.entries-entries.result.now) (search rules) in
+    told_behind c.write_rows.result c.args.out.now.items c.write_u8.new.out.items c.write_rows.new.out.items _ _ _ (keyed_spelling nat_cmp some_byte process some_calls always m es c.entries-entries.ensures.entries) first (search rules)

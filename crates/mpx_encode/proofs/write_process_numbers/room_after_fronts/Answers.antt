@@ -1,0 +1,38 @@
+use Rattle.std.proofs.Common.{◌≡◌, ℕ, true, length, refl, sym, ap, ◌∙◌}
+use Rattle.std.specs.Ordering.{nat_cmp}
+use Rattle.std.specs.FinMap.{is_sorted}
+use Rattle.std.specs.List.{list_all}
+use Rattle.std.specs.Prelude.{nat_lt}
+use Rattle.join_core.specs.declared.max.Max.{Max}
+use Rattle.join_nest.specs.Seen.{seen, keyed_view, sorted_seen}
+use Rattle.mpx_format.specs.Fields.{fronts, process, some_calls}
+use Rattle.mpx_format.specs.Format.{byte}
+use Rattle.mpx_format.specs.Rising.{always}
+use Rattle.mpx_encode.specs.Room.{room_left}
+use Rattle.mpx_encode.proofs.Rising.{always_says}
+use Rattle.mpx_encode.proofs.Maps.{keyed_length, keyed_fits, few_processes, byte_count, where_left}
+use Rattle.mpx_encode.proofs.write_process_numbers.room_after_fronts.Goals as goal
+
+abbrev says : Max → ℕ
+says n = n.0
+
+pub room_after_counted-requires : goal.room_after_counted-requires
+room_after_counted-requires c =
+    ap (list_all (λ e. nat_lt 0 e.1)) c.entries.ensures.entries ∙ c.requires
+
+pub returns-clause-value : goal.returns-clause-value
+unfolding fronts
+returns-clause-value c =
+    let m = keyed_view nat_cmp says c.args.numbers.now.entries.items in
+    let es = seen says c.entries.result.now in
+    c.room_after_counted.ensures.value ∙ ap (λ n. room_left n c.args.room) (sym (keyed_length nat_cmp byte process some_calls always m es 1 c.entries.ensures.entries refl))
+
+pub returns-clause-fits : goal.returns-clause-fits
+unfolding fronts
+returns-clause-fits c =
+    let m = keyed_view nat_cmp says c.args.numbers.now.entries.items in
+    let es = seen says c.entries.result.now in
+    let sorted : is_sorted nat_cmp es ≡ true = sorted_seen nat_cmp says c.entries.result.now ∙ c.entries.ensures.rising in
+    where_left c.room_after_counted.result
+    (λ pass. keyed_fits nat_cmp byte process some_calls always m es c.entries.ensures.entries sorted (byte_count (length es) (few_processes some_calls.fits es sorted pass)) pass (always_says es))
+    c.room_after_counted.ensures.fits

@@ -1,5 +1,0 @@
-use Rattle.mpx_evaluation.proofs.Ends.{eval_of}
-use Rattle.mpx_evaluation.proofs.evaluation.every_script_has_an_evaluation.Goals as goal
-
-pub returns : goal.returns
-returns c = eval_of

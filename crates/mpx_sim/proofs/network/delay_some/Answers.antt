@@ -1,0 +1,14 @@
+use Rattle.std.proofs.Common.{rules, ◌∙◌, ◌<◌, length, ap}
+use Rattle.mpx_format.specs.Decoding.{decoded}
+use Rattle.mpx_sim.specs.Shown.{part_of, shown}
+use Rattle.mpx_sim.proofs.Sending.{kept}
+use Rattle.mpx_sim.proofs.network.delay_some.Goals as goal
+
+pub loop-i-preserved : goal.loop-i-preserved
+loop-i-preserved c =
+    let frames = c.loop-i.network.frames.items in
+    let within : c.loop-i.i < length frames = search rules in
+    record {
+      parts = kept part_of frames c.loop-i.i c.index_mut.result.now c.delay.new.frame within (ap (λ bytes. shown (decoded bytes.items)) c.delay.ensures.bytes ∙ ap part_of c.index_mut.ensures.value) ∙ c.loop-i.invariant.parts;
+      loss = c.delay.ensures.loss ∙ c.loop-i.invariant.loss;
+    }

@@ -1,0 +1,234 @@
+//! What goes from process to process in a run.
+ghost use Rattle.std.specs.Prelude.{◌≡◌, ◌<◌, ◌↔◌, ◌≤◌, ◌++◌, ◌∷◌, [], ◌⊎◌, All, IfOk, IsTrue, List, OnOk, Some, map, slice_get, ℕ};
+ghost use Rattle.std.proofs.Common.{set};
+ghost use Rattle.std.specs.List.Sorted.{IsPermutation};
+ghost use Rattle.mpx_num.specs.declared.own.Operation.{Operation};
+ghost use Rattle.mpx_board.specs.Boards.{Look, join_all};
+ghost use Rattle.mpx_parts.specs.Facts.{OnlyFactsOf};
+ghost use Rattle.mpx_node.specs.Deltas.{lacking_on};
+ghost use Rattle.mpx_meaning.specs.Evaluation.{Script as Statements};
+ghost use Rattle.mpx_sim.specs.Running.{IsUnderWay, Keeps, ProcessView};
+ghost use Rattle.mpx_sim.specs.Shown.{part_of, process_of};
+
+use crate::frame_under_way::FrameUnderWay;
+use crate::frames::frames_with;
+use crate::process::Process;
+use crate::schedule::Schedule;
+use join_core::OutOfMemory;
+use mpx_job::Options;
+use std::alloc::Global;
+
+/// What goes from process to process: the frames that are under way, the bytes of those that have come, and what is drawn.
+#[derive(Drop)]
+pub(crate) struct Network {
+    frames: Vec<FrameUnderWay>,
+    spare: Vec<Vec<u8>>,
+    schedule: Schedule,
+}
+
+impl Network {
+    /// No frame is under way between so many processes.
+    pub(crate) fn new(
+        alloc: Global,
+        options: &Options,
+        processes: usize,
+    ) -> Result<Network, OutOfMemory>
+        ensures frames { IfOk result (λ network. network.frames.items ≡ []) }
+        ensures loss { IfOk result (λ network. network.schedule.loss ≡ options.now.loss) }
+    {
+        Ok(Network {
+            frames: Vec::new(alloc),
+            spare: Vec::new(alloc),
+            schedule: Schedule::new(alloc, options.seed, options.loss, processes)?,
+        })
+    }
+
+    /// Whether every frame is lost.
+    pub(crate) fn loses_all(&self) -> bool
+        ensures { IsTrue result ↔ (100 ≤ self.now.schedule.loss) }
+    {
+        self.schedule.loses_all()
+    }
+
+    /// Brings the frames into an order that is drawn.
+    pub(crate) fn mix(&mut self)
+        ensures frames { IsPermutation self.old.frames.items self.new.frames.items }
+        ensures loss { self.new.schedule.loss ≡ self.old.schedule.loss }
+    {
+        self.schedule.shuffle(&mut self.frames);
+    }
+}
+
+/// Every process whose last list is out sends the frames of what others may lack of its board, one a turn, to a process that is drawn.
+pub(crate) fn send_all(
+    alloc: Global,
+    processes: &mut [Process<'_>],
+    network: &mut Network,
+    turn: u64,
+) -> Result<(), OutOfMemory>
+    ensures run { OnOk result ((operations : List Operation) (script : Statements) (ranks size : ℕ) → IsUnderWay operations script ranks size (map process_of processes.old) (map part_of network.old.frames.items)
+        → IsUnderWay operations script ranks size (map process_of processes.new) (map part_of network.new.frames.items)) }
+    ensures loss { OnOk result (network.new.schedule.loss ≡ network.old.schedule.loss) }
+{
+    let count = processes.len();
+    for p in 0..count {
+        send_from(alloc, &mut processes[p], p, count, network, turn)?;
+    }
+    Ok(())
+}
+
+// So does one of so many.
+fn send_from(
+    alloc: Global,
+    process: &mut Process<'_>,
+    from: usize,
+    processes: usize,
+    network: &mut Network,
+    turn: u64,
+) -> Result<(), OutOfMemory>
+    requires { from < processes }
+    ensures run { OnOk result ((operations : List Operation) (script : Statements) (ranks size : ℕ) (others : List ProcessView) (p : ℕ) → slice_get others p ≡ Some (process_of process.old) → IsUnderWay operations script ranks size others (map part_of network.old.frames.items)
+        → IsUnderWay operations script ranks size (set others p (process_of process.new)) (map part_of network.new.frames.items)) }
+    ensures loss { OnOk result (network.new.schedule.loss ≡ network.old.schedule.loss) }
+{
+    if !process.is_free(turn) {
+        return Ok(());
+    }
+    let to = network.schedule.receiver(from, process.lists(), processes);
+    let made = made_by(alloc, process, to, turn, &mut network.spare)?;
+    send_each(made, network)
+}
+
+// The frames of what others may lack of a process's board, written over spare bytes.
+fn made_by(
+    alloc: Global,
+    process: &mut Process<'_>,
+    to: usize,
+    turn: u64,
+    spare: &mut Vec<Vec<u8>>,
+) -> Result<Vec<FrameUnderWay>, OutOfMemory>
+    ensures keeps { OnOk result ((operations : List Operation) → Keeps operations (process_of process.old) (process_of process.new)) }
+    ensures facts { IfOk result (λ made. All (λ frame. OnlyFactsOf (part_of frame) (process_of process.new).node.board) made.items) }
+    ensures join { IfOk result (λ made. join_all (map part_of made.items) ≡ lacking_on (process_of process.new).node) }
+{
+    let lists = process.deltas(alloc, turn, spare)?;
+    frames_with(alloc, lists, to, turn)
+}
+
+// Frames with facts of a process's board go out, where they aren't lost.
+fn send_each(made: Vec<FrameUnderWay>, network: &mut Network) -> Result<(), OutOfMemory>
+    ensures all { OnOk result (network.old.schedule.loss ≡ 0 → network.new.frames.items ≡ network.old.frames.items ++ made.items) }
+    ensures loss { network.new.schedule.loss ≡ network.old.schedule.loss }
+    ensures run { OnOk result ((operations : List Operation) (script : Statements) (ranks size : ℕ) (processes : List ProcessView) (p : ℕ) (v : ProcessView) → slice_get processes p ≡ Some v
+        → All (λ frame. OnlyFactsOf (part_of frame) v.node.board) made.items → IsUnderWay operations script ranks size processes (map part_of network.old.frames.items)
+        → IsUnderWay operations script ranks size processes (map part_of network.new.frames.items)) }
+{
+    for frame in made {
+        send(frame, network)?;
+    }
+    Ok(())
+}
+
+// A frame goes out, where it isn't lost.
+fn send(frame: FrameUnderWay, network: &mut Network) -> Result<(), OutOfMemory>
+    ensures all { OnOk result (network.old.schedule.loss ≡ 0 → network.new.frames.items ≡ network.old.frames.items ++ frame ∷ []) }
+    ensures loss { network.new.schedule.loss ≡ network.old.schedule.loss }
+    ensures run { OnOk result ((operations : List Operation) (script : Statements) (ranks size : ℕ) (processes : List ProcessView) (p : ℕ) (v : ProcessView) → slice_get processes p ≡ Some v
+        → OnlyFactsOf (part_of frame) v.node.board → IsUnderWay operations script ranks size processes (map part_of network.old.frames.items)
+        → IsUnderWay operations script ranks size processes (map part_of network.new.frames.items)) }
+{
+    if network.schedule.is_lost() {
+        return Ok(());
+    }
+    network.frames.push(frame)?;
+    Ok(())
+}
+
+/// The turn's frames reach their processes.
+pub(crate) fn deliver(
+    alloc: Global,
+    processes: &mut [Process<'_>],
+    network: &Network,
+    turn: u64,
+) -> Result<(), OutOfMemory>
+    ensures { OnOk result ((operations : List Operation) (script : Statements) (ranks size : ℕ) → IsUnderWay operations script ranks size (map process_of processes.old) (map part_of network.now.frames.items)
+        → IsUnderWay operations script ranks size (map process_of processes.new) (map part_of network.now.frames.items)) }
+{
+    for i in 0..network.frames.len() {
+        arrive(alloc, processes, &network.frames[i], turn)?;
+    }
+    Ok(())
+}
+
+// A frame reaches its process, where this is its turn.
+fn arrive(
+    alloc: Global,
+    processes: &mut [Process<'_>],
+    frame: &FrameUnderWay,
+    turn: u64,
+) -> Result<(), OutOfMemory>
+    ensures { OnOk result ((operations : List Operation) (script : Statements) (ranks size : ℕ) (frames : List Look) (i : ℕ) → slice_get frames i ≡ Some (part_of frame.now) → IsUnderWay operations script ranks size (map process_of processes.old) frames
+        → IsUnderWay operations script ranks size (map process_of processes.new) frames) }
+{
+    if frame.turn != turn || frame.to >= processes.len() {
+        return Ok(());
+    }
+    processes[frame.to].receive(alloc, frame)?;
+    Ok(())
+}
+
+/// One in four of the turn's frames is taken again in a later turn. The others are let go, and their bytes are spare.
+pub(crate) fn keep_some(network: &mut Network, turn: u64)
+    requires { turn < 4294967296 }
+    ensures run { (operations : List Operation) (script : Statements) (ranks size : ℕ) (processes : List ProcessView) → IsUnderWay operations script ranks size processes (map part_of network.old.frames.items)
+        → IsUnderWay operations script ranks size processes (map part_of network.new.frames.items) }
+    ensures loss { network.new.schedule.loss ≡ network.old.schedule.loss }
+{
+    delay_some(network, turn);
+    let mut i: usize = 0;
+    for _ in 0..network.frames.len() {
+        i = let_go(network, i, turn);
+    }
+}
+
+// Lets the frame at the place go, where it comes no more, and tells the place of the next one. Where memory for one more is refused, its bytes go
+// too.
+fn let_go(network: &mut Network, i: usize, turn: u64) -> usize
+    ensures run { (operations : List Operation) (script : Statements) (ranks size : ℕ) (processes : List ProcessView) → IsUnderWay operations script ranks size processes (map part_of network.old.frames.items)
+        → IsUnderWay operations script ranks size processes (map part_of network.new.frames.items) }
+    ensures loss { network.new.schedule.loss ≡ network.old.schedule.loss }
+{
+    if i >= network.frames.len() || network.frames[i].turn > turn {
+        return i.wrapping_add(1);
+    }
+    let frame = network.frames.remove(i);
+    let _ = network.spare.push(frame.bytes);
+    i
+}
+
+// One in four of the turn's frames comes again.
+fn delay_some(network: &mut Network, turn: u64)
+    requires { turn < 4294967296 }
+    ensures parts { map part_of network.new.frames.items ≡ map part_of network.old.frames.items }
+    ensures loss { network.new.schedule.loss ≡ network.old.schedule.loss }
+{
+    for i in 0..network.frames.len() {
+        delay(&mut network.frames[i], &mut network.schedule, turn);
+    }
+}
+
+// It comes again, where this is its turn and it is drawn: later, to the same process, and with the same bytes.
+fn delay(frame: &mut FrameUnderWay, schedule: &mut Schedule, turn: u64)
+    requires { turn < 4294967296 }
+    ensures later { (frame.new.turn ≡ frame.old.turn) ⊎ (turn < frame.new.turn) }
+    ensures bytes { frame.new.bytes ≡ frame.old.bytes }
+    ensures to { frame.new.to ≡ frame.old.to }
+    ensures loss { schedule.new.loss ≡ schedule.old.loss }
+{
+    if frame.turn != turn {
+        return;
+    }
+    if let Some(later) = schedule.again() {
+        frame.turn = turn.saturating_add(later);
+    }
+}
