@@ -152,7 +152,8 @@ impl<K: Key, J: Exact> Keyed<K, J> {
         replace_entry(&mut self.entries, key, value)
     }
 
-    /// Puts in what [`Keyed::prepare`] made of this map as it stands, or others for which there is room. It takes no memory and can't fail.
+    /// Puts the entries of `made` over those at their keys: of what [`Keyed::prepare`] made of this map as it stands, or of another map for
+    /// which there is room. It takes no memory and can't fail.
     pub fn put_prepared(&mut self, made: Keyed<K, J>)
         requires { HasRoom self.old made }
         ensures { (q : K) → get (⟦<Keyed<K, J> as Exact>⟧.view self.new) q

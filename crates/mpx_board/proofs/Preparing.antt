@@ -25,6 +25,10 @@ module _ {V : Type 0} {j : Joining V} (p : JoinLaws j) where
   over_there (Some u) None = refl
   over_there (Some u) (Some v) = ap Some (p.commutative u v)
 
+  -- what the other map doesn't have isn't made
+  pub none_there : (made other old : Option V) → made ≡ joined_there j other old → other ≡ None → made ≡ None
+  none_there made other old is none = is ∙ ap (λ o. joined_there j o old) none
+
   module _ {K : Type 0} {R : K → K → Ordering} (o : IsTotalOrder R) where
     -- the join has what is made, and elsewhere what the map has, which stayed the same
     pub join_is_over : (old other made now : FinMap R V) → now ≡ old → ((q : K) → get made q ≡ joined_there j (get other q) (get old q)) → (q : K) → get ((keyed_joining j).join old other) q ≡ put_over (get made q) (get now q)

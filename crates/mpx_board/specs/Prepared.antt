@@ -1,5 +1,5 @@
 -- A part that is made ready to be joined.
-use Rattle.std.specs.Prelude.{◌≡◌, ℕ, true}
+use Rattle.std.specs.Prelude.{◌≡◌, ℕ, None, true}
 use Rattle.std.specs.FinMap.{get}
 use Rattle.join_nest.specs.Prepared.{put_over}
 use Rattle.join_nest.specs.Room.{HasRoom}
@@ -12,6 +12,11 @@ use Rattle.mpx_board.specs.Looks.{parts_of}
 use Rattle.mpx_board.specs.Parts.{PartsView}
 use Rattle.mpx_board.specs.Tidy.{is_tidy}
 use Rattle.mpx_board.specs.Views.{view_of_all_acks, view_of_entries}
+
+-- it has nothing of what the part doesn't name
+pub record OnlyNamedBy (prepared : Prepared) (part : PartsView) : Type 0 where
+  pub contexts : (name : Name) → get part.0 name ≡ None → get (view_of_entries prepared.contexts) name ≡ None
+  pub acks : (process : ℕ) → get part.1 process ≡ None → get (view_of_all_acks prepared.acks) process ≡ None
 
 -- the board has room for it, and shows the new look once it is put in
 pub record IsReady (prepared : Prepared) (board : Board) (new : Look) : Type 0 where

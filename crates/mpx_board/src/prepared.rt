@@ -25,13 +25,14 @@ pub struct Prepared {
 
 impl Board {
     ghost use Rattle.mpx_board.specs.Looks.{look, parts_of};
-    ghost use Rattle.mpx_board.specs.Prepared.{IsReady};
+    ghost use Rattle.mpx_board.specs.Prepared.{IsReady, OnlyNamedBy};
 
     /// Makes what joins the part to this board as it stands, and room for it: only what the part names is copied. The board
     /// stays the same.
     pub fn prepare(&mut self, alloc: Global, part: &Board) -> Result<Prepared, OutOfMemory>
         ensures same { parts_of self.new ≡ parts_of self.old }
         ensures ready { IfOk result (λ made. IsReady made self.new (join (look self.old) (look part.now))) }
+        ensures named { IfOk result (λ made. OnlyNamedBy made (parts_of part.now)) }
     {
         let contexts = prepare_contexts(alloc, &mut self.inside.first, &part.inside.first)?;
         let acks = prepare_acks(alloc, &mut self.inside.second, &part.inside.second)?;

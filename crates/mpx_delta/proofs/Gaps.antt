@@ -31,17 +31,12 @@ use Rattle.mpx_delta.specs.Reach.{digest_lifted, digest_number, digest_numbers, 
 use Rattle.mpx_delta.proofs.Kept.{find_kept, get_keep, sorted_kept}
 use Rattle.mpx_delta.proofs.Lesser.{bare_number, unless_bare_tidy}
 use Rattle.mpx_delta.proofs.Reaching.{one_more}
+use Rattle.mpx_delta.proofs.Telling.{lower, not_lower}
 
 -- HOW FAR CALLS GO WITHOUT A GAP
 
 abbrev told_at : ℕ → Option CallView → Bool
 told_at p o = not (is_unknown (post_in p o))
-
-lower : (k n : ℕ) → nat_lt k n ≡ false → n ≤ k
-lower k n f = grind (arith, nat_tests)
-
-not_lower : (k n : ℕ) → n ≤ k → nat_lt k n ≡ false
-not_lower k n le = grind (arith, nat_tests)
 
 not_from : (k n : ℕ) → k < n → nat_le n k ≡ false
 not_from k n lt = grind (arith, nat_tests)

@@ -7,7 +7,7 @@ use Rattle.mpx_board.specs.Boards.{Look, empty, join, own_acks}
 use Rattle.mpx_board.specs.Contexts.{look_of}
 use Rattle.mpx_board.specs.Parts.{PartsView}
 use Rattle.mpx_board.proofs.Telling.{nothing_told}
-use Rattle.mpx_delta.specs.Digests.{Acknowledges, IsDigest, Numbers, common_on, without}
+use Rattle.mpx_delta.specs.Digests.{Acknowledges, IsDigest, Numbers}
 
 look_learnt : (v : PartsView) (me : ℕ) (numbers : Numbers) (acks : ℕ → Name → ℕ → ℕ) → acks ≡ (join (look_of v) (own_acks me numbers)).acks → record (look_of v) { acks = acks } ≡ join (look_of v) (own_acks me numbers)
 unfolding look_of
@@ -29,6 +29,3 @@ acknowledged me numbers old new digest learnt = record {
   learnt = learnt;
   own = λ name p. subst (λ (l : Look). numbers name p ≤ l.acks me name p) (sym learnt) (own_there me numbers old.acks name p);
 }
-
-pub common_without : (processes : ℕ) (d : Numbers) (said b : Look) → ((name : Name) (p : ℕ) → d name p ≡ common_on processes said name p) → without d b ≡ without (common_on processes said) b
-common_without processes d said b e = ap (λ n. without n b) (λ i name p. e name p i)

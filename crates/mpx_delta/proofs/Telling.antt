@@ -39,10 +39,10 @@ over_zero call = either (nat_lt call 0) 0
 or_above : (call n : ℕ) → or_zero (if_above call n) ≡ over call n
 or_above call n = elim (nat_lt call n) as (λ b. or_zero (cond b (Some n) None) ≡ cond b n 0) [ true ↦ refl | false ↦ refl ]
 
-lower : (k n : ℕ) → nat_lt k n ≡ false → n ≤ k
+pub lower : (k n : ℕ) → nat_lt k n ≡ false → n ≤ k
 lower k n f = grind (arith, nat_tests)
 
-not_lower : (k n : ℕ) → n ≤ k → nat_lt k n ≡ false
+pub not_lower : (k n : ℕ) → n ≤ k → nat_lt k n ≡ false
 not_lower k n le = grind (arith, nat_tests)
 
 over_none : (call n : ℕ) → n ≤ call → over call n ≡ 0

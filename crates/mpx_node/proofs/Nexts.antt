@@ -13,7 +13,7 @@ is_some-then : {A B C : Type 0} (o : Option A) (f : A → Option B) (g : A → O
 is_some-then None f g each = refl
 is_some-then (Some x) f g each = each x
 
-is_some-map : {A B : Type 0} (f : A → B) (o : Option A) → is_some (option_map f o) ≡ is_some o
+pub is_some-map : {A B : Type 0} (f : A → B) (o : Option A) → is_some (option_map f o) ≡ is_some o
 is_some-map f None = refl
 is_some-map f (Some x) = refl
 

@@ -8,11 +8,8 @@ use Rattle.mpx_name.specs.Name.{Name, same_name}
 use Rattle.mpx_node.specs.declared.opened.Opened.{Opened}
 use Rattle.mpx_node.specs.Nodes.{OpenedView, or_new}
 use Rattle.mpx_node.specs.Opened.{opened_of, opened_by}
+use Rattle.mpx_node.proofs.Nexts.{is_some-map}
 use Rattle.mpx_node.proofs.Stepping.{either, same_is}
-
-is_some-map : {A B : Type 0} (f : A → B) (o : Option A) → is_some (option_map f o) ≡ is_some o
-is_some-map f None = refl
-is_some-map f (Some x) = refl
 
 -- what is opened stays as it is
 pub is_kept : (x : Option OpenedView) → is_some x ≡ true → Some (or_new x) ≡ x

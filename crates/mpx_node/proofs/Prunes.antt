@@ -1,6 +1,6 @@
 -- What a prune leaves of a node, and that a context with a floor may be killed.
 use Rattle.std.proofs.Common.{◌≡◌, ℕ, Bool, true, false, cond, map, Option, Some, None, sym, ap}
-use Rattle.std.specs.Prelude.{◌||◌, is_some, Result, Ok, Err, OnOk}
+use Rattle.std.specs.Prelude.{◌||◌, is_some, Result, Ok, Err}
 use Rattle.std.specs.Option.{option_map}
 use Rattle.mpx_birth.specs.Births.{BirthView}
 use Rattle.mpx_name.specs.Name.{Name}
@@ -10,10 +10,6 @@ use Rattle.mpx_board.specs.declared.errors.PruneError.{PruneError}
 use Rattle.mpx_board.specs.Boards.{Look, Dropped, Dead, floor_on, minimum, only, told}
 use Rattle.mpx_board.specs.Changes.{killed, pruned, pruned_on}
 use Rattle.mpx_node.specs.Nodes.{NodeView, is_past_free, learn, learn_some, prune_part, results_on}
-
-pub mapped_ok : {T E P Q : Type 0} (r : Result T E) → (P → Q) → OnOk r P → OnOk r Q
-mapped_ok (Ok x) f p = f p
-mapped_ok (Err e) f p = tt
 
 module _ (node : NodeView) (name : Name) (number : ℕ) where
   abbrev live_part : Bool → Look

@@ -1,5 +1,5 @@
 -- What pulls and puts do.
-use Rattle.std.proofs.Common.{◌≡◌, ℕ, ◌+◌, Bool, true, false, ◌<◌, List, [], ◌∷◌, ◌++◌, length, Option, None, Some, Result, Ok, Err, inl, inr, is_some, slice_get, refl, sym, ap, ◌∙◌, subst, arith}
+use Rattle.std.proofs.Common.{◌≡◌, ℕ, ◌+◌, Bool, true, false, ◌<◌, List, [], ◌∷◌, ◌++◌, Option, None, Some, Result, Ok, Err, inl, inr, is_some, slice_get, refl, sym, ap, ◌∙◌, subst, arith}
 use Rattle.std.specs.Prelude.{All, IfOk, OnOk, OnErr, nat_lt}
 use Rattle.std.proofs.lemmas.Bool.Decides.{nat_tests}
 use Rattle.std.proofs.lemmas.Option.{same_Some}
@@ -30,7 +30,6 @@ use Rattle.mpx_shared.specs.LawfulPorts.{IsListedContext, IsHeldPort, MakesNoPos
 use Rattle.mpx_shared.specs.Gossip.{HarvestsAndPrunes, PortHarvestsNext, IsHarvestOrPruning, Prunes, Pulls, Puts, Settles, SettlesAll, SettlesEach, WantsResult, frame_limit, has_next}
 use Rattle.mpx_shared.specs.Turns.{PullsThen, PutsThen, Sufficed}
 use Rattle.mpx_shared.proofs.LawfulPorts.{lawful_of, held_later, no_post_by, no_post_itself, no_post_then}
-use Rattle.mpx_shared.proofs.Standing.{within}
 
 -- HARVESTS AND PRUNINGS
 
@@ -163,9 +162,6 @@ settled_more contexts count name a b c s here done next = record { done = done_t
       let last : i ≡ count = grind (arith, nat_tests, t, l) in
       let same : name ≡ other = same_Some name other (sym here ∙ ap (slice_get contexts) (sym last) ∙ there) in
       settles_after other a b c s.done (subst (λ n. Settles n b c) same next)
-
-pub settled_each : (contexts : List Name) (a b : PortView) → HasSettled contexts (length contexts) a b → SettlesEach contexts a b
-settled_each contexts a b s i name there = s.each i name (within contexts i name there) there
 
 pub wants_later : (a b c : PortView) (r : Result (Unit {0}) OutOfMemory) → HarvestsAndPrunes a b → OnErr r (WantsResult b c) → OnErr r (WantsResult a c)
 wants_later a b c (Ok u) h w = tt

@@ -1,19 +1,17 @@
 -- What was posted stays, and so do births, whole rows and what they give.
-use Rattle.std.proofs.Common.{◌≡◌, ℕ, Bool, true, false, ◌||◌, cond, List, [], ◌∷◌, ◌++◌, length, Option, Some, None, refl, sym, ap, ◌∙◌}
+use Rattle.std.proofs.Common.{◌≡◌, ℕ, Bool, true, false, cond, List, [], ◌∷◌, ◌++◌, length, Option, Some, None, refl, sym, ap, ◌∙◌}
 use Rattle.std.specs.Prelude.{option_and_then}
-use Rattle.std.specs.List.{list_any}
 use Rattle.std.specs.Option.{option_map}
-use Rattle.std.proofs.lemmas.List.Folds.{list_any-append}
 use Rattle.std.proofs.lemmas.Option.{option_and_then_some}
 use Rattle.mpx_name.specs.declared.steps.Step.TheVariants.{Child, Gathering}
 use Rattle.mpx_name.specs.Name.{Name, same_name}
-use Rattle.mpx_post.specs.Posts.{Given, is_free}
+use Rattle.mpx_post.specs.Posts.{Given}
 use Rattle.mpx_birth.specs.Births.{BirthView, rank_in}
 use Rattle.mpx_post.specs.Rows.{RowView, all_of}
 use Rattle.mpx_value.specs.declared.outcomes.Outcome.{Outcome}
 use Rattle.mpx_value.specs.declared.outcomes.Outcome.TheVariants.{Nothing, Absent, Items, NewComm, Null, Fault}
 use Rattle.mpx_value.specs.Children.{child}
-use Rattle.mpx_value.specs.Histories.{Made, posts_on, has_freed, History, Grows, row_of, child_of, gathered, birth_of, Within, value_for, outcomes_by, outcome_of, answer_with, results_of}
+use Rattle.mpx_value.specs.Histories.{Made, posts_on, History, Grows, row_of, child_of, gathered, birth_of, Within, value_for, outcomes_by, outcome_of, answer_with, results_of}
 use Rattle.mpx_value.proofs.NewCommunicators.{children_exact, new_communicator}
 
 -- POSTS
@@ -26,10 +24,6 @@ by_test false x xs ys zs e = e
 pub posts_on-append : (name : Name) (ms more : List Made) → posts_on name (ms ++ more) ≡ posts_on name ms ++ posts_on name more
 posts_on-append name [] more = refl
 posts_on-append name (m ∷ ms) more = by_test (same_name name m.name) m.given (posts_on name ms) (posts_on name more) (posts_on name (ms ++ more)) (posts_on-append name ms more)
-
--- what was freed stays so, and further posts may free more
-pub has_freed-append : (name : Name) (ms more : List Made) → has_freed name (ms ++ more) ≡ (has_freed name ms || has_freed name more)
-has_freed-append name ms more = ap (λ (posts : List Given). list_any is_free posts) (posts_on-append name ms more) ∙ list_any-append is_free (posts_on name ms) (posts_on name more)
 
 -- ROWS
 

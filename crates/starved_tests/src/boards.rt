@@ -2,7 +2,7 @@
 use crate::drafts::post_of;
 use crate::names::{child, next_child};
 use crate::trial::Trial;
-use crate::trouble::{Trouble, both, filled, taken, tight};
+use crate::trouble::{Trouble, both, filled, put, taken, tight};
 use join_core::Exact;
 use mpx_birth::Birth;
 use mpx_board::Board;
@@ -83,13 +83,15 @@ pub enum BoardCall {
     RaiseFront,
     RaiseAck,
     RaiseAcks,
+    Prepare,
     Deltas,
 }
 
-// A board, what is told of it, and of which contexts.
+// A board, another process's, what is told of them, and of which contexts.
 #[derive(Drop)]
 pub struct BoardFacts {
     board: Board,
+    part: Board,
     posts: Vec<Post>,
     births: Vec<Birth>,
     world: Name,
@@ -120,6 +122,13 @@ fn raise_acks(alloc: Global, board: &mut Board, process: Proc) -> Result<(), Tro
     Ok(raised?)
 }
 
+// The part is made ready, then joined.
+fn prepare(alloc: Global, told: &mut BoardFacts) -> Result<(), Trouble> {
+    let prepared = told.board.prepare(alloc, &told.part)?;
+    told.board.put_prepared(prepared);
+    Ok(())
+}
+
 fn acknowledge(alloc: Global, board: &mut Board) -> Result<(), Trouble> {
     drop(deltas(alloc, board, Proc::new(0), 3, 524_288)?);
     Ok(())
@@ -130,7 +139,7 @@ fn fill_told(alloc: Global, told: &mut BoardFacts) -> Result<(), Trouble> {
         told.posts.push(post_of(alloc, Kind::Barrier)?)?;
         told.births.push(born(alloc)?)?;
     }
-    Ok(())
+    put(&mut told.part, other_board(alloc))
 }
 
 impl Trial for BoardCall {
@@ -142,6 +151,7 @@ impl Trial for BoardCall {
         let (board, child) = both(some_board(alloc), child(alloc))?;
         let mut told = BoardFacts {
             board,
+            part: Board::new(alloc),
             posts: Vec::new(alloc),
             births: Vec::new(alloc),
             world: Name::world(alloc),
@@ -164,6 +174,7 @@ impl Trial for BoardCall {
                 )
             }
             BoardCall::RaiseAcks => raise_acks(alloc, &mut told.board, proc(2)),
+            BoardCall::Prepare => prepare(alloc, told),
             BoardCall::Deltas => acknowledge(alloc, &mut told.board),
         }
     }
@@ -188,5 +199,6 @@ pub const BOARD_CALLS: &[(&str, BoardCall)] = &[
     ("mpx_board Board::raise_front", BoardCall::RaiseFront),
     ("mpx_board Board::raise_ack", BoardCall::RaiseAck),
     ("mpx_board Board::raise_acks, raised", BoardCall::RaiseAcks),
+    ("mpx_board Board::prepare, put_prepared", BoardCall::Prepare),
     ("mpx_delta deltas, new_list", BoardCall::Deltas),
 ];

@@ -28,6 +28,8 @@ pub enum NodeCall {
     Part,
     Parts,
     Deltas,
+    /// Of bytes that are spare none.
+    FramedDeltas,
     CopyFinished,
 }
 
@@ -49,6 +51,7 @@ pub enum NodeMade {
     Harvest(Harvest),
     Board(Board),
     Boards(Vec<Board>),
+    Frames(Vec<Vec<u8>>),
     Finished(Finished),
 }
 
@@ -159,6 +162,13 @@ fn take(alloc: Global, stand: &mut Stand) -> Result<NodeMade, Trouble> {
     Ok(NodeMade::Nothing)
 }
 
+// The frames of what the other may lack, written over no bytes that were let go.
+fn framed(alloc: Global, node: &mut Node) -> Result<NodeMade, Trouble> {
+    let mut spare = Vec::new(alloc);
+    let frames = node.framed_deltas(alloc, 524_288, &mut spare)?;
+    Ok(NodeMade::Frames(frames))
+}
+
 // The result of the first call once more.
 fn copy_finished(alloc: Global, node: &Node) -> Result<NodeMade, Trouble> {
     let world = Name::world(alloc);
@@ -224,6 +234,7 @@ impl Trial for NodeCall {
             NodeCall::Part => Ok(NodeMade::Board(stand.node.part(alloc, 524_288)?)),
             NodeCall::Parts => Ok(NodeMade::Boards(stand.node.parts(alloc, 524_288)?)),
             NodeCall::Deltas => Ok(NodeMade::Boards(stand.node.deltas(alloc, 524_288)?)),
+            NodeCall::FramedDeltas => framed(alloc, &mut stand.node),
             NodeCall::CopyFinished => copy_finished(alloc, &stand.node),
         }
     }
@@ -241,6 +252,7 @@ impl Trial for NodeCall {
             (NodeMade::Harvest(one), NodeMade::Harvest(other)) => one == other,
             (NodeMade::Board(one), NodeMade::Board(other)) => one.same(other),
             (NodeMade::Boards(one), NodeMade::Boards(other)) => same_boards(one, other),
+            (NodeMade::Frames(one), NodeMade::Frames(other)) => one == other,
             (NodeMade::Finished(one), NodeMade::Finished(other)) => same_finished(one, other),
             _ => false,
         }
@@ -269,5 +281,9 @@ pub const NODE_CALLS: &[(&str, NodeCall)] = &[
     ("Node::part", NodeCall::Part),
     ("Node::parts", NodeCall::Parts),
     ("Node::deltas, lacking", NodeCall::Deltas),
+    (
+        "Node::framed_deltas, lacking_frames",
+        NodeCall::FramedDeltas,
+    ),
     ("Finished::copy", NodeCall::CopyFinished),
 ];

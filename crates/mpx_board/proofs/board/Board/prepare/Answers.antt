@@ -1,10 +1,11 @@
 use Rattle.std.specs.Cmp.{nat_cmp_total}
+use Rattle.std.specs.FinMap.{get}
 use Rattle.mpx_name.specs.Order.{name_total}
 use Rattle.mpx_board.specs.Looks.{parts_of}
 use Rattle.mpx_board.specs.Parts.{PartsView, acks_laws, lifted_laws, parts_joining}
 use Rattle.mpx_board.specs.Views.{view_of_all_acks, view_of_entries}
 use Rattle.mpx_board.proofs.Looking.{look-join}
-use Rattle.mpx_board.proofs.Preparing.{join_is_over}
+use Rattle.mpx_board.proofs.Preparing.{join_is_over, none_there}
 use Rattle.mpx_board.proofs.Tidiness.{tidy_join}
 use Rattle.mpx_board.proofs.board.Board.prepare.Goals as goal
 
@@ -20,4 +21,13 @@ returns-clause-ready c =
       room_of_acks = c.in_ok-acks.ensures.room;
       tidy = tidy_join a b c.args.self.now.tidy c.args.part.now.tidy;
       shows = look-join a b;
+    }
+
+pub returns-clause-named : goal.returns-clause-named
+returns-clause-named c =
+    let a : PartsView = parts_of c.args.self.now in
+    let b : PartsView = parts_of c.args.part.now in
+    record {
+      contexts = λ name. none_there lifted_laws (get (view_of_entries c.in_ok-contexts.contexts) name) (get b.0 name) (get a.0 name) (c.in_ok-contexts.ensures.made name);
+      acks = λ process. none_there acks_laws (get (view_of_all_acks c.in_ok-acks.acks) process) (get b.1 process) (get a.1 process) (c.in_ok-acks.ensures.made process);
     }

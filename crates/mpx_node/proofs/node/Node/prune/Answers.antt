@@ -1,7 +1,8 @@
 use Rattle.std.proofs.Common.{sym, ap, ◌∙◌}
 use Rattle.mpx_board.specs.Boards.{Look}
 use Rattle.mpx_node.specs.Shown.{node_of}
-use Rattle.mpx_node.proofs.Prunes.{mapped_ok, prunes_nothing, prunes_dead, prunes_dropped, pruned_alive, pruned_gone}
+use Rattle.mpx_node.proofs.Frames.{mapped_ok}
+use Rattle.mpx_node.proofs.Prunes.{prunes_nothing, prunes_dead, prunes_dropped, pruned_alive, pruned_gone}
 use Rattle.mpx_node.proofs.node.Node.prune.Goals as goal
 
 pub returns-then-is_dead-clause-answer : goal.returns-then-is_dead-clause-answer
