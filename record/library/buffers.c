@@ -3,64 +3,170 @@
 #include <stdlib.h>
 #include <string.h>
 
-static Blocks room_for_blocks(const void *base, int number, MPI_Datatype type)
+enum { LEAST_ADDRESS = 4096 };
+
+/* ---- blocks ---- */
+
+long number_at(Numbers numbers, int place)
 {
-    Blocks blocks = {base, number, room_for(number * sizeof(int)), room_for(number * sizeof(MPI_Aint)), type, 0};
+    if (!numbers.values) return 0;
+    return numbers.width == sizeof(int) ? ((const int *)numbers.values)[place] : (long)((const int64_t *)numbers.values)[place];
+}
+
+static Blocks room_for_blocks(const void *base, int number)
+{
+    Blocks blocks = {base, number, room_for(number * sizeof(Block))};
     return blocks;
 }
 
 /* The place is told in items of the type. */
-Blocks one_block(const void *base, long length, MPI_Datatype type, MPI_Aint place)
+Blocks one_block(const void *base, long length, MPI_Datatype type, long place)
 {
-    Blocks blocks = room_for_blocks(base, 1, type);
-    blocks.lengths[0] = length;
-    blocks.places[0] = place ? place * extent_of(type) : 0;
+    Blocks blocks = room_for_blocks(base, 1);
+    blocks.list[0] = (Block){.length = length, .place = place ? place * extent_of(type) : 0, .type = type};
     return blocks;
 }
 
-Blocks many_blocks(const void *base, int number, const int *lengths, const int *places, MPI_Datatype type)
+Blocks many_blocks(const void *base, int number, Numbers lengths, Numbers places, MPI_Datatype type)
 {
-    Blocks blocks = room_for_blocks(base, number, type);
+    Blocks blocks = room_for_blocks(base, number);
     MPI_Aint extent = extent_of(type);
-    for (int i = 0; i < number; i++) {
-        blocks.lengths[i] = lengths[i];
-        blocks.places[i] = places[i] * extent;
-    }
+    for (int i = 0; i < number; i++) blocks.list[i] = (Block){.length = number_at(lengths, i), .place = number_at(places, i) * extent, .type = type};
     return blocks;
 }
+
+/* One after the other, all of one length. */
+Blocks even_blocks(const void *base, int number, long length, MPI_Datatype type)
+{
+    Blocks blocks = room_for_blocks(base, number);
+    MPI_Aint extent = extent_of(type);
+    for (int i = 0; i < number; i++) blocks.list[i] = (Block){.length = length, .place = i * length * extent, .type = type};
+    return blocks;
+}
+
+/* Each of its own type, at a place in bytes. */
+Blocks typed_blocks(const void *base, int number, Numbers lengths, Numbers places, const MPI_Datatype *types)
+{
+    Blocks blocks = room_for_blocks(base, number);
+    for (int i = 0; i < number; i++)
+        blocks.list[i] = (Block){.length = number_at(lengths, i), .place = number_at(places, i), .type = types ? types[i] : MPI_DATATYPE_NULL};
+    return blocks;
+}
+
+static int is_dense(const Facts *facts) { return facts->size == facts->true_extent && facts->extent == facts->true_extent; }
 
 void drop_blocks(Blocks *blocks)
 {
-    free(blocks->lengths);
-    free(blocks->places);
-    if (blocks->owns_type) PMPI_Type_free(&blocks->type);
+    for (int i = 0; i < blocks->number; i++) if (blocks->list[i].is_own) NEXT(Type_free)(&blocks->list[i].type);
+    free(blocks->list);
     memset(blocks, 0, sizeof *blocks);
+}
+
+void keep_types(Blocks *blocks)
+{
+    for (int i = 0; i < blocks->number; i++) {
+        Block *block = &blocks->list[i];
+        const Facts *facts = facts_of(block->type);
+        if (!facts || facts->is_named) continue;
+        block->gapless = is_dense(facts) && !facts->true_lower ? facts->extent : 0;
+        block->is_own = !PMPI_Type_dup(block->type, &block->type);
+    }
 }
 
 /* Of bytes their number. */
 long items_in(const Blocks *blocks, Type as)
 {
     long items = 0;
-    for (int i = 0; i < blocks->number; i++) items += blocks->lengths[i];
-    return as == RAW && blocks->number ? items * size_of(blocks->type) : items;
+    for (int i = 0; i < blocks->number; i++) items += blocks->list[i].length * (as == RAW ? size_of(blocks->list[i].type) : 1);
+    return items;
 }
 
-/* A type that has no name here is read by MPI_Pack, as bytes. */
-static void put_packed(const char *from, int length, MPI_Datatype type)
+/* Whether no block lies where nothing can: at a null buffer, but for types that have whole addresses. */
+int can_read(const Blocks *blocks, Type as)
+{
+    for (int i = 0; i < blocks->number; i++) {
+        const Block *block = &blocks->list[i];
+        const Facts *facts = block->length > 0 ? facts_of(block->type) : 0;
+        if (!facts || !facts->size) continue;
+        uintptr_t first = (uintptr_t)blocks->base + block->place + (as == RAW ? facts->true_lower : 0);
+        if (first < LEAST_ADDRESS) return 0;
+    }
+    return 1;
+}
+
+/* ---- types that have no name here: MPI_Pack ---- */
+
+/* MPI_BOTTOM is a null pointer, which some MPIs don't pack from: the same bytes from another base. */
+static int pack_from_bottom(long length, MPI_Datatype type, void *bytes, int room, int *used)
+{
+    static char base;
+    int number = length;
+    MPI_Aint place = -(MPI_Aint)&base;
+    MPI_Datatype shifted;
+    if (PMPI_Type_create_hindexed(1, &number, &place, type, &shifted)) return 1;
+    PMPI_Type_commit(&shifted);
+    int error = PMPI_Pack(&base, 1, shifted, bytes, room, used, own_communicator());
+    NEXT(Type_free)(&shifted);
+    return error;
+}
+
+/* Their number, or -1 where MPI_Pack refuses. The caller frees them. */
+static int pack(const char *from, long length, MPI_Datatype type, unsigned char **bytes)
 {
     int room = 0, used = 0;
-    PMPI_Pack_size(length, type, MPI_COMM_WORLD, &room);
-    unsigned char *bytes = room_for(room);
-    PMPI_Pack(from, length, type, bytes, room, &used, MPI_COMM_WORLD);
-    for (int i = 0; i < used; i++) put_unsigned(bytes[i]);
-    free(bytes);
+    *bytes = 0;
+    if (PMPI_Pack_size(length, type, own_communicator(), &room)) return -1;
+    *bytes = room_for(room);
+    int error = from ? PMPI_Pack(from, length, type, *bytes, room, &used, own_communicator()) : pack_from_bottom(length, type, *bytes, room, &used);
+    return error ? -1 : used;
 }
 
+static int put_packed(const char *from, long length, MPI_Datatype type)
+{
+    unsigned char *bytes;
+    int number = pack(from, length, type, &bytes);
+    for (int i = 0; i < number; i++) put_unsigned(bytes[i]);
+    free(bytes);
+    return number >= 0;
+}
+
+/* ---- numbers ---- */
+
 #define EACH(C_TYPE, PUT) \
-    for (int i = 0; i < length; i++) { C_TYPE value; memcpy(&value, from + i * sizeof value, sizeof value); PUT(value); } \
+    for (long i = 0; i < length; i++) { C_TYPE value; memcpy(&value, from + i * sizeof value, sizeof value); PUT(value); } \
     break
 
-static void put_block(const char *from, int length, Type as, MPI_Datatype type)
+/* A field of an item: where it stands, and its size, negative where it has a sign. */
+typedef struct { short place, size; } Field;
+#define PAIR_OF(NAME, FIRST, SECOND) typedef struct { FIRST first; SECOND second; } NAME;
+PAIR_OF(FloatInt, float, int) PAIR_OF(DoubleInt, double, int) PAIR_OF(LongInt, long, int) PAIR_OF(ShortInt, short, int)
+PAIR_OF(LongDoubleInt, long double, int)
+#define SECOND(NAME) {offsetof(NAME, second), -4}
+static const struct { Field fields[3]; int number, size; } composed[RAW] = {
+    [F80] = {{{0, 8}, {8, 2}}, 2, sizeof(long double)}, [C64] = {{{0, 4}, {4, 4}}, 2, 8}, [C128] = {{{0, 8}, {8, 8}}, 2, 16},
+    [F32_INT] = {{{0, 4}, SECOND(FloatInt)}, 2, sizeof(FloatInt)}, [F64_INT] = {{{0, 8}, SECOND(DoubleInt)}, 2, sizeof(DoubleInt)},
+    [F80_INT] = {{{0, 8}, {8, 2}, SECOND(LongDoubleInt)}, 3, sizeof(LongDoubleInt)},
+    [I64_INT] = {{{0, -8}, SECOND(LongInt)}, 2, sizeof(LongInt)}, [I16_INT] = {{{0, -2}, SECOND(ShortInt)}, 2, sizeof(ShortInt)},
+    [TWO_F32] = {{{0, 4}, {4, 4}}, 2, 8}, [TWO_F64] = {{{0, 8}, {8, 8}}, 2, 16}};
+
+static void put_field(const char *from, int size)
+{
+    uint64_t bits = 0;
+    int64_t number;
+    memcpy(&bits, from, size < 0 ? -size : size);
+    if (size > 0) { put_unsigned(bits); return; }
+    number = (int64_t)(bits << (64 + 8 * size)) >> (64 + 8 * size);
+    put_number(number);
+}
+
+static void put_composed(const char *from, long length, Type as)
+{
+    for (long i = 0; i < length; i++)
+        for (int field = 0; field < composed[as].number; field++)
+            put_field(from + i * composed[as].size + composed[as].fields[field].place, composed[as].fields[field].size);
+}
+
+static int put_block(const char *from, long length, Type as, MPI_Datatype type)
 {
     switch (as) {
     case I8: EACH(int8_t, put_number);
@@ -69,15 +175,74 @@ static void put_block(const char *from, int length, Type as, MPI_Datatype type)
     case I64: EACH(int64_t, put_number);
     case U8: EACH(uint8_t, put_unsigned);
     case U16: EACH(uint16_t, put_unsigned);
-    case U32: EACH(uint32_t, put_unsigned);
-    case U64: EACH(uint64_t, put_unsigned);
+    case F32: case U32: EACH(uint32_t, put_unsigned);
+    case F64: case U64: EACH(uint64_t, put_unsigned);
     case PAIR: length *= 2; EACH(int32_t, put_number);
-    case RAW: put_packed(from, length, type); break;
+    case RAW: return put_packed(from, length, type);
+    default: put_composed(from, length, as); break;
     }
+    return 1;
 }
 
-void put_items(const Blocks *blocks, Type as)
+int put_items(const Blocks *blocks, Type as)
 {
-    for (int i = 0; i < blocks->number; i++)
-        if (blocks->lengths[i] > 0) put_block(blocks->base + blocks->places[i], blocks->lengths[i], as, blocks->type);
+    for (int i = 0; i < blocks->number; i++) {
+        const Block *block = &blocks->list[i];
+        if (block->length > 0 && !put_block(blocks->base + block->place, block->length, as, block->type)) return 0;
+    }
+    return 1;
+}
+
+/* ---- whether buffers change, and whether two have bytes in common ---- */
+
+static uint64_t hash_bytes(uint64_t hash, const unsigned char *bytes, long number)
+{
+    for (long i = 0; i < number; i++) hash = (hash ^ bytes[i]) * 1099511628211u;
+    return hash;
+}
+
+static MPI_Aint extent_without_gaps(const Block *block)
+{
+    if (block->is_own) return block->gapless;
+    const Facts *facts = facts_of(block->type);
+    return facts && is_dense(facts) && !facts->true_lower ? facts->extent : 0;
+}
+
+uint64_t hash_of(const Blocks *blocks)
+{
+    uint64_t hash = 14695981039346656037u;
+    for (int i = 0; i < blocks->number; i++) {
+        const Block *block = &blocks->list[i];
+        const char *from = blocks->base + block->place;
+        if (block->length <= 0) continue;
+        MPI_Aint extent = extent_without_gaps(block);
+        if (extent) { hash = hash_bytes(hash, (const unsigned char *)from, block->length * extent); continue; }
+        unsigned char *bytes;
+        int number = pack(from, block->length, block->type, &bytes);
+        hash = hash_bytes(hash, bytes, number);
+        free(bytes);
+    }
+    return hash;
+}
+
+/* Of blocks without gaps the first byte, and behind the last. */
+static int range_of(const Blocks *blocks, int place, uintptr_t *first, uintptr_t *end)
+{
+    const Block *block = &blocks->list[place];
+    const Facts *facts = block->length > 0 ? facts_of(block->type) : 0;
+    if (!facts || !is_dense(facts)) return 0;
+    *first = (uintptr_t)blocks->base + block->place + facts->true_lower;
+    *end = *first + block->length * facts->extent;
+    return *end > *first;
+}
+
+int do_overlap(const Blocks *some, const Blocks *others)
+{
+    uintptr_t first, end, other_first, other_end;
+    for (int i = 0; i < some->number; i++) {
+        if (!range_of(some, i, &first, &end)) continue;
+        for (int j = 0; j < others->number; j++)
+            if (range_of(others, j, &other_first, &other_end) && first < other_end && other_first < end) return 1;
+    }
+    return 0;
 }

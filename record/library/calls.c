@@ -9,50 +9,101 @@ static void put_kind(const Arguments *a, int nonblocking)
     put_text(kind_word(a->kind));
 }
 
-/* Why a call is left out before its buffers are looked at. The type is found on the way. */
-static const char *reason_of(const Arguments *a, const Communicator *communicator, const Parts *parts, Type *as)
+/* ---- whether a call can be written in full ---- */
+
+/* Of one side: `type` where one of its types is none, `count` where one of its counts is negative. */
+static const char *reason_of_side(const Arguments *a, const Communicator *communicator, int is_sent)
 {
-    int size = communicator->size;
-    *as = RAW;
-    if (size > MEMBERS) return "members";
-    if (is_alone(a->kind)) return "kind";
-    if (has_root(a->kind) && (a->root < 0 || a->root >= size)) return "root";
-    if (is_neighbourhood(a->kind) && !communicator->has_graph) return "topology";
-    if (is_fold(a->kind)) {
-        if (!fold_word(a->operation)) return "operation";
-        return folds_as(a->send_type, a->operation, as) ? 0 : "type";
+    for (int i = 0; i < blocks_told(a, communicator, is_sent); i++) {
+        Block block = block_told(a, is_sent, i);
+        if (block.length < 0) return "count";
+        if (has_types(a->kind) && !block.length) continue;
+        if (!facts_of(block.type)) return "type";
+        if (!has_types(a->kind) && i == 0 && !(is_sent ? a->send_counts : a->receive_counts).width) break;
     }
-    if (a->kind == BARRIER) return 0;
-    Type given = parts->sends ? moved_as(a->send_type) : moved_as(a->receive_type);
-    Type awaited = parts->receives ? moved_as(a->receive_type) : given;
-    if (given == awaited) *as = given;
     return 0;
 }
 
-static void put_counts(const Counts *counts, Type as)
+static const char *reason_of(const Arguments *a, const Communicator *communicator, const Parts *parts)
 {
-    if (counts->number >= 0) put_list(counts->number, counts->values, as == RAW && counts->number ? size_of(counts->type) : 1);
+    int size = communicator->size;
+    const char *reason = 0;
+    if (size > MEMBERS) return "members";
+    if (has_root(a->kind) && (a->root < 0 || a->root >= size)) return "root";
+    if (is_neighbourhood(a->kind) && !communicator->has_neighbours) return "topology";
+    if (parts->sends) reason = reason_of_side(a, communicator, 1);
+    if (parts->receives && !reason) reason = reason_of_side(a, communicator, 0);
+    return reason;
 }
 
-static void put_statement(const Arguments *a, const Communicator *communicator, const Parts *parts, Type as)
+static Type type_of(const Arguments *a, const Parts *parts)
+{
+    if (is_fold(a->kind)) return folded_as(a->send_type, a->operation);
+    if (a->kind == BARRIER || has_types(a->kind)) return RAW;
+    Type given = parts->sends ? moved_as(a->send_type) : moved_as(a->receive_type);
+    Type awaited = parts->receives ? moved_as(a->receive_type) : given;
+    return given == awaited ? given : RAW;
+}
+
+/* ---- words ---- */
+
+static void put_counts(const Counts *counts) { if (counts->number >= 0) put_separated(counts->number, counts->values); }
+
+/* Whether all that goes in could be read. */
+static int put_statement(const Arguments *a, const Communicator *communicator, const Parts *parts, Type as)
 {
     put_word(communicator->name);
     if (has_root(a->kind)) put_number(a->root);
     if (is_fold(a->kind)) put_word(fold_word(a->operation));
     if (a->kind != BARRIER) put_word(type_word(as));
-    put_counts(&parts->given, as);
-    put_counts(&parts->awaited, as);
-    put_items(&parts->in, as);
+    put_counts(&parts->given);
+    put_counts(&parts->awaited);
+    return put_items(&parts->in, as);
 }
 
-static void put_left_out(const Arguments *a, const Communicator *communicator, const Parts *parts, const char *reason)
+static void put_left_out(const Arguments *a, const Communicator *communicator, const char *reason)
 {
-    const char *operation = is_fold(a->kind) ? fold_word(a->operation) : "-";
     put_word(communicator->name);
     if (has_root(a->kind)) put_number(a->root); else put_word("-");
-    put_word(operation ? operation : "user");
-    if (parts->sends || parts->receives) put_type_name(parts->sends ? a->send_type : a->receive_type); else put_word("-");
+    put_word(is_fold(a->kind) ? fold_word(a->operation) : "-");
+    put_word("-");
     put_word(reason);
+}
+
+/* Past a grid's border there is no neighbour, and so no block. */
+static int is_border(const Arguments *a, const Communicator *communicator, int is_sent, int place)
+{
+    if (!is_neighbourhood(a->kind) || !(is_sent ? a->send_counts : a->receive_counts).width) return 0;
+    return (is_sent ? communicator->to : communicator->from)[place] == MPI_PROC_NULL;
+}
+
+/* `COUNT*BASICS` of each block, or its count alone where the type is that of the one before; `-` of a side that doesn't count. */
+static void put_side(const Arguments *a, const Communicator *communicator, int is_sent, int counts)
+{
+    const Facts *before = 0;
+    int told = 0;
+    put_text(" ");
+    if (!counts) { put_text("-"); return; }
+    for (int i = 0; i < blocks_told(a, communicator, is_sent); i++) {
+        if (is_border(a, communicator, is_sent, i)) continue;
+        Block block = block_told(a, is_sent, i);
+        const Facts *facts = facts_of(block.type);
+        if (told) put_text(",");
+        put_digits(block.length);
+        if (told++ && facts == before) continue;
+        put_text("*");
+        put_text(facts ? facts->signature : "?");
+        before = facts;
+    }
+    if (!told) put_text("0*-");
+}
+
+static void put_types(int id, const Arguments *a, const Communicator *communicator, const Parts *parts)
+{
+    begin_plain("types", id);
+    put_side(a, communicator, 1, parts->sends);
+    put_side(a, communicator, 0, parts->receives);
+    end_line();
 }
 
 /* One rank may tell its own amount twice, and the two may differ: MPI mostly doesn't see that. */
@@ -61,7 +112,7 @@ static void note_own_amounts(int id, const Arguments *a, const Parts *parts)
     int tells_twice = a->kind == GATHER || a->kind == ALLGATHER || a->kind == SCATTER || a->kind == ALLTOALL;
     if (!tells_twice || !parts->sends || !parts->receives) return;
     Type given = moved_as(a->send_type), awaited = moved_as(a->receive_type);
-    long out = (long)a->send_count * size_of(a->send_type), in = (long)a->receive_count * size_of(a->receive_type);
+    long out = a->send_count * size_of(a->send_type), in = a->receive_count * size_of(a->receive_type);
     if (out == in && (given == awaited || given == RAW || awaited == RAW)) return;
     put_text("note call"); put_number(id); put_text(": sends");
     if (out == in) {
@@ -72,30 +123,86 @@ static void note_own_amounts(int id, const Arguments *a, const Parts *parts)
     end_line();
 }
 
-static void begin_known(Call *call, const Arguments *a, const Communicator *communicator, int nonblocking, void *site)
+/* MPI forbids a buffer for both, which MPI_IN_PLACE is there for. */
+static void note_one_buffer(int id, const Arguments *a, const Parts *parts)
 {
-    Parts parts;
-    memset(&parts, 0, sizeof parts);
-    find_types(a, a->root == communicator->rank, &parts);
-    const char *reason = reason_of(a, communicator, &parts, &call->type);
-    if (!reason) {
-        find_parts(a, communicator, &parts);
-        if (items_in(&parts.in, call->type) > most_items || items_in(&parts.out, call->type) > MEMBERS * most_items) reason = "items";
-    }
-    begin_line(reason ? "left" : "call", call->id, site);
+    if (!parts->sends || !parts->receives || a->send != a->receive || !parts->out.number) return;
+    if (!do_overlap(&parts->in, &parts->out)) return;
+    put_text("slip"); put_number(id); put_text(" aliased"); end_line();
+}
+
+static void note_use(int id, const Parts *parts)
+{
+    const Call *user = user_of(&parts->in, &parts->out);
+    if (!user) return;
+    put_text("slip"); put_number(id); put_text(" in_use"); put_number(user->id); end_line();
+}
+
+/* ---- a call ---- */
+
+static void write_left(Call *call, const Arguments *a, const Communicator *communicator, const Parts *parts, int nonblocking, void *site,
+    const char *reason)
+{
+    begin_line("left", call->id, site);
     put_kind(a, nonblocking);
-    if (reason) put_left_out(a, communicator, &parts, reason);
-    else put_statement(a, communicator, &parts, call->type);
-    if (nonblocking && !reason) {
+    put_left_out(a, communicator, reason);
+    end_line();
+    call->fixed = "-";
+    if (strcmp(reason, "members") && strcmp(reason, "root") && strcmp(reason, "topology") && a->kind != BARRIER)
+        put_types(call->id, a, communicator, parts);
+}
+
+/* 0 where a buffer can't be read. */
+static int write_in_full(Call *call, const Arguments *a, const Communicator *communicator, const Parts *parts, int nonblocking, void *site)
+{
+    begin_line("call", call->id, site);
+    put_kind(a, nonblocking);
+    if (!put_statement(a, communicator, parts, call->type)) { cut_line(); return 0; }
+    if (nonblocking) {
         call->request = call->id;
         put_text(" -> q"); put_digits(call->request);
     }
     end_line();
-    if (!reason) note_own_amounts(call->id, a, &parts);
-    drop_blocks(&parts.in);
-    if (reason) drop_blocks(&parts.out);
-    call->out = parts.out;
-    call->fixed = reason ? "-" : parts.fixed;
+    if (call->type == RAW && a->kind != BARRIER) put_types(call->id, a, communicator, parts);
+    note_own_amounts(call->id, a, parts);
+    note_one_buffer(call->id, a, parts);
+    note_use(call->id, parts);
+    return 1;
+}
+
+/* Whether nothing but the program may change what is sent. */
+static int is_sent_alone(const Arguments *a, const Parts *parts, const Blocks *out)
+{
+    if (a->kind == BCAST || a->send == MPI_IN_PLACE || a->receive == MPI_IN_PLACE || a->send == a->receive) return 0;
+    return parts->in.number && !do_overlap(&parts->in, out);
+}
+
+static void begin_known(Call *call, const Arguments *a, const Communicator *communicator, int nonblocking, void *site)
+{
+    Parts parts;
+    memset(&parts, 0, sizeof parts);
+    parts.given.number = parts.awaited.number = -1;
+    find_sides(a, a->root == communicator->rank, &parts);
+    const char *reason = reason_of(a, communicator, &parts);
+    if (!reason) {
+        call->type = type_of(a, &parts);
+        find_parts(a, communicator, call->type, &parts);
+        if (items_in(&parts.in, call->type) > most_items || items_in(&parts.out, call->type) > MEMBERS * most_items) reason = "items";
+        else if (!can_read(&parts.in, call->type) || !can_read(&parts.out, call->type)) reason = "buffer";
+    }
+    if (!reason && !write_in_full(call, a, communicator, &parts, nonblocking, site)) reason = "buffer";
+    if (reason) write_left(call, a, communicator, &parts, nonblocking, site, reason);
+    else {
+        call->fixed = parts.fixed;
+        call->out = parts.out;
+        memset(&parts.out, 0, sizeof parts.out);
+        if (nonblocking && is_sent_alone(a, &parts, &call->out)) {
+            call->in = parts.in;
+            call->hash = hash_of(&call->in);
+            memset(&parts.in, 0, sizeof parts.in);
+        }
+    }
+    drop_parts(&parts);
 }
 
 void begin_call(Call *call, const Arguments *a, int nonblocking, void *site)
@@ -110,31 +217,39 @@ void begin_call(Call *call, const Arguments *a, int nonblocking, void *site)
         call->fixed = "-";
         begin_line("unknown", call->id, site);
         put_kind(a, nonblocking);
-        put_word(a->communicator == MPI_COMM_NULL ? "null" : "unknown");
+        put_word(why_unknown(a->communicator));
         end_line();
     }
     unlock_record();
 }
 
-void put_error(int error)
+static void put_given(int id, Call *call)
 {
-    int class = 0;
-    PMPI_Error_class(error, &class);
-    put_text(" error");
-    put_number(class);
+    size_t before = line_length();
+    if (!put_items(&call->out, call->type)) {
+        cut_line();
+        begin_plain("gave", id);
+        put_word("-");
+    } else if (line_length() == before) put_word("empty");
+}
+
+static void put_made(const Call *call)
+{
+    Communicator *new = *call->made == MPI_COMM_NULL ? 0 : add_communicator(*call->made, call->made_name);
+    if (!new) { put_word("null"); return; }
+    put_word("comm"); put_number(new->size); put_number(new->rank);
 }
 
 void put_result(int id, Call *call, int error)
 {
+    if (call->in.number && hash_of(&call->in) != call->hash) { begin_plain("slip", call->id); put_text(" changed"); end_line(); }
     begin_plain("gave", id);
     if (error) put_error(error);
+    else if (call->made) put_made(call);
     else if (call->fixed) put_word(call->fixed);
-    else {
-        size_t before = line_length();
-        put_items(&call->out, call->type);
-        if (line_length() == before) put_word("empty");
-    }
+    else put_given(id, call);
     end_line();
+    drop_blocks(&call->in);
     drop_blocks(&call->out);
 }
 

@@ -6,19 +6,60 @@
 
 static Communicator *known;
 
+static int *room_for_ranks(int number) { return room_for(number * sizeof(int)); }
+
+static void find_graph(Communicator *new)
+{
+    int is_weighted, in, out;
+    PMPI_Dist_graph_neighbors_count(new->handle, &in, &out, &is_weighted);
+    int *weights = room_for_ranks(in + out);
+    new->sources = in;
+    new->destinations = out;
+    new->from = room_for_ranks(in);
+    new->to = room_for_ranks(out);
+    PMPI_Dist_graph_neighbors(new->handle, in, new->from, is_weighted ? weights : MPI_UNWEIGHTED, out, new->to,
+        is_weighted ? weights + in : MPI_UNWEIGHTED);
+    free(weights);
+}
+
+/* Of a grid each dimension's lesser neighbour and its greater one, MPI_PROC_NULL at a border (MPI 4.1, 8.6). */
+static void find_grid(Communicator *new)
+{
+    int dimensions = 0;
+    PMPI_Cartdim_get(new->handle, &dimensions);
+    new->sources = new->destinations = 2 * dimensions;
+    new->from = room_for_ranks(2 * dimensions);
+    new->to = room_for_ranks(2 * dimensions);
+    for (int i = 0; i < dimensions; i++) PMPI_Cart_shift(new->handle, i, 1, &new->from[2 * i], &new->from[2 * i + 1]);
+    memcpy(new->to, new->from, 2 * dimensions * sizeof(int));
+}
+
+static void find_general_graph(Communicator *new)
+{
+    int number = 0;
+    PMPI_Graph_neighbors_count(new->handle, new->rank, &number);
+    new->sources = new->destinations = number;
+    new->from = room_for_ranks(number);
+    new->to = room_for_ranks(number);
+    PMPI_Graph_neighbors(new->handle, new->rank, number, new->from);
+    memcpy(new->to, new->from, number * sizeof(int));
+}
+
 Communicator *add_communicator(MPI_Comm handle, const char *name)
 {
     Communicator *new = room_for(sizeof *new);
-    int topology = MPI_UNDEFINED, is_weighted;
     memset(new, 0, sizeof *new);
     new->handle = handle;
+    new->topology = MPI_UNDEFINED;
     new->next = known;
     snprintf(new->name, sizeof new->name, "%s", name);
     PMPI_Comm_size(handle, &new->size);
     PMPI_Comm_rank(handle, &new->rank);
-    PMPI_Topo_test(handle, &topology);
-    new->has_graph = topology == MPI_DIST_GRAPH;
-    if (new->has_graph) PMPI_Dist_graph_neighbors_count(handle, &new->sources, &new->destinations, &is_weighted);
+    PMPI_Topo_test(handle, &new->topology);
+    new->has_neighbours = new->topology != MPI_UNDEFINED;
+    if (new->topology == MPI_DIST_GRAPH) find_graph(new);
+    else if (new->topology == MPI_CART) find_grid(new);
+    else if (new->topology == MPI_GRAPH) find_general_graph(new);
     return known = new;
 }
 
@@ -28,6 +69,8 @@ void drop_communicator(MPI_Comm handle)
         if ((*at)->handle != handle) continue;
         Communicator *gone = *at;
         *at = gone->next;
+        free(gone->from);
+        free(gone->to);
         free(gone);
         return;
     }
@@ -48,4 +91,15 @@ Communicator *find_communicator(MPI_Comm handle)
 {
     for (Communicator *at = known; at; at = at->next) if (at->handle == handle) return at;
     return handle == MPI_COMM_SELF ? add_self() : 0;
+}
+
+const char *why_unknown(MPI_Comm handle)
+{
+    int is_inter = 0;
+    Guard guard;
+    if (handle == MPI_COMM_NULL) return "null";
+    begin_guard(&guard);
+    if (PMPI_Comm_test_inter(handle, &is_inter)) is_inter = 0;
+    end_guard(&guard);
+    return is_inter ? "inter" : "unknown";
 }

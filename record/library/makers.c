@@ -16,7 +16,7 @@ static Making begin_making(MPI_Comm parent, const char *tag, const char *kind, v
     making.id = next_id();
     begin_line(making.parent ? tag : "unknown", making.id, site);
     put_word(kind);
-    put_word(making.parent ? making.parent->name : "unknown");
+    put_word(making.parent ? making.parent->name : why_unknown(parent));
     snprintf(making.name, sizeof making.name, "c%d", ++made);
     return making;
 }
@@ -70,12 +70,13 @@ static void put_members(MPI_Comm communicator, MPI_Group group)
 {
     MPI_Group all;
     int size = 0;
+    if (group == MPI_GROUP_NULL) { put_word("-"); return; }
     PMPI_Comm_group(communicator, &all);
     PMPI_Group_size(group, &size);
     int *own = room_for(size * sizeof *own), *ranks = room_for(size * sizeof *ranks);
     for (int i = 0; i < size; i++) own[i] = i;
     PMPI_Group_translate_ranks(group, size, own, all, ranks);
-    put_list(size, ranks, 1);
+    put_list(size, ranks);
     free(own);
     free(ranks);
     PMPI_Group_free(&all);
@@ -110,32 +111,58 @@ MAKE(Comm_create, "create", (MPI_Comm comm, MPI_Group group), (comm, group), put
 MAKE(Comm_create_group, "create_group", (MPI_Comm comm, MPI_Group group, int tag), (comm, group, tag),
     put_number(tag % 32767); put_members(comm, group);)
 
-/* Scripts have no nonblocking dup: it is left out, and what stands on its communicator. */
+/* A nonblocking dup: its communicator is known once its request is done. */
+static Making begin_idup(MPI_Comm parent, void *site)
+{
+    Making making = begin_statement(parent, "idup", site);
+    end_statement(&making);
+    return making;
+}
+
+static void start_idup(const Making *making, int error, MPI_Comm *new, MPI_Request *request)
+{
+    Call call;
+    if (!making->id) return;
+    memset(&call, 0, sizeof call);
+    call.id = making->id;
+    call.fixed = "-";
+    if (making->parent) {
+        call.request = call.id;
+        call.made = new;
+        memcpy(call.made_name, making->name, sizeof call.made_name);
+    }
+    start_call(&call, error, request);
+}
+
 int MPI_Comm_idup(MPI_Comm comm, MPI_Comm *new, MPI_Request *request)
 {
-    int id = 0;
-    if (!inside && is_recording()) {
-        lock_record();
-        Communicator *parent = find_communicator(comm);
-        begin_line(parent ? "left" : "unknown", id = next_id(), SITE);
-        put_word("idup");
-        put_word(parent ? parent->name : "unknown");
-        if (parent) put_text(" - - - kind");
-        end_line();
-        begin_plain("gave", id); put_word("-"); end_line();
-        unlock_record();
-    }
+    Making making = begin_idup(comm, SITE);
     inside++;
     int error = NEXT(Comm_idup)(comm, new, request);
     inside--;
+    start_idup(&making, error, new, request);
     return error;
 }
 ALSO(Comm_idup)
+
+#if MPI_VERSION >= 4
+int MPI_Comm_idup_with_info(MPI_Comm comm, MPI_Info info, MPI_Comm *new, MPI_Request *request)
+{
+    Making making = begin_idup(comm, SITE);
+    inside++;
+    int error = NEXT(Comm_idup_with_info)(comm, info, new, request);
+    inside--;
+    start_idup(&making, error, new, request);
+    return error;
+}
+ALSO(Comm_idup_with_info)
+#endif
 
 /* ---- graphs ---- */
 
 static void put_neighbours(int number, const int *ranks, const int *weights, int is_weighted)
 {
+    if (number < 0 || !ranks || (is_weighted && !weights)) number = 0;
     put_text(number ? " " : is_weighted ? " -w" : " -");
     for (int i = 0; i < number; i++) {
         if (i) put_text(",");
@@ -147,6 +174,7 @@ static void put_neighbours(int number, const int *ranks, const int *weights, int
 static void put_edges(int number, const int *sources, const int *degrees, const int *destinations, const int *weights)
 {
     int edge = 0, is_weighted = weights != MPI_UNWEIGHTED;
+    if (!sources || !degrees || !destinations || !weights) number = 0;
     for (int i = 0; i < number; i++)
         for (int j = 0; j < degrees[i]; j++, edge++) {
             put_text(edge ? "," : " ");
@@ -172,6 +200,29 @@ static void put_graph(const Communicator *graph)
     end_line();
     unlock_record();
     free(sources);
+}
+
+/* The neighbours on a grid or a general graph, but for those past a border. */
+static void put_known_neighbours(int number, const int *ranks)
+{
+    int some = 0;
+    for (int i = 0; i < number; i++) {
+        if (ranks[i] == MPI_PROC_NULL) continue;
+        put_text(some++ ? "," : " ");
+        put_digits(ranks[i]);
+    }
+    if (!some) put_word("-");
+}
+
+static void put_topology(const Communicator *new)
+{
+    if (new->topology != MPI_CART && new->topology != MPI_GRAPH) return;
+    lock_record();
+    put_text("graph"); put_word(new->name);
+    put_known_neighbours(new->sources, new->from);
+    put_known_neighbours(new->destinations, new->to);
+    end_line();
+    unlock_record();
 }
 
 int MPI_Dist_graph_create_adjacent(MPI_Comm comm, int in, const int sources[], const int weights_in[], int out,
@@ -231,7 +282,8 @@ static void end_adopting(Making *making, void *site, int error, MPI_Comm given)
         if (given != MPI_COMM_NULL) PMPI_Group_free(&members);
         end_statement(making);
     }
-    end_making(making, error, given, 0);
+    Communicator *new = end_making(making, error, given, 0);
+    if (new) put_topology(new);
 }
 
 #define ADOPT(NAME, KIND, PARAMETERS, WORDS) \

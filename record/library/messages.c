@@ -9,6 +9,7 @@ static void put_rank(int rank)
 /* A line's ID, or 0 where nothing is noted. Of a wait there is no communicator. */
 int begin_message(const char *kind, MPI_Comm handle, int rank, int tag, void *site)
 {
+    unwritten++;
     if (!notes_messages || inside || !is_recording()) return 0;
     lock_record();
     int id = next_id();

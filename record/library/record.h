@@ -27,58 +27,108 @@ void put_digits(int64_t number);
 void put_word(const char *word);        /* these four: a blank first */
 void put_number(int64_t number);
 void put_unsigned(uint64_t number);
-void put_list(int number, const int *values, long factor);
+void put_list(int number, const int *values);
+void put_separated(int number, const long *values);
 void begin_line(const char *tag, int id, void *site);
 void begin_plain(const char *tag, int id);
 void end_line(void);
+void cut_line(void);                    /* back to the line's beginning */
 size_t line_length(void);
 int next_id(void);
 int is_recording(void);                 /* opens the file where it isn't open yet */
 void number_run(void);
 void end_record(void);
-void flush_record(void);
+void close_record(void);                /* after a last line: nothing more is written */
+void write_last(const char *line, size_t size);         /* also within a signal: all whole lines, and this one */
+void touch_record(void);              /* a sign that calls were made which the file's time doesn't tell */
+extern volatile long unwritten;         /* such calls */
 void lock_record(void);
 void unlock_record(void);
+MPI_Comm own_communicator(void);        /* of this rank alone, whose errors come back */
+
+/* ---- ends.c, signals.c, watch.c ---- */
+void watch_errors(void);
+void note_signals(void);
+void watch_signals(void);
+void watch_exit(void);
+void watch_hang(const char *folder, int rank, int ranks);
+
+/* ---- guard.c: errors of what the recorder itself asks ---- */
+typedef struct { MPI_Errhandler world, self; } Guard;
+void begin_guard(Guard *guard);
+void end_guard(Guard *guard);
+void put_error(int error);              /* `refused CLASS TEXT` of erroneous arguments, `error CLASS TEXT` of others */
 
 /* ---- site.c: where a call stands ---- */
 enum { SITE_SIZE = 320 };
 void name_site(void *site, char word[SITE_SIZE]);       /* may write a line `module` */
 
 /* ---- types.c: types and operations ---- */
-typedef enum { I8, I16, I32, I64, U8, U16, U32, U64, PAIR, RAW } Type;
+typedef enum {
+    I8, I16, I32, I64, U8, U16, U32, U64, PAIR,                                 /* those of scripts */
+    F32, F64, F80, C64, C128,                                                   /* by their bits */
+    F32_INT, F64_INT, F80_INT, I64_INT, I16_INT, TWO_F32, TWO_F64,
+    RAW                                                                         /* what has no name here: bytes */
+} Type;
+typedef struct Facts {                  /* of a type that is valid */
+    MPI_Datatype handle;
+    long size;
+    MPI_Aint extent, true_lower, true_extent;
+    int is_named, families;
+    Type moves, folds;                  /* as what it is moved, and reduced */
+    char *signature;                    /* its basic types, `3.f64+i32`; `?` where they aren't known */
+    struct Facts *next;
+} Facts;
 void fill_types(void);
+const Facts *facts_of(MPI_Datatype type);               /* 0 where it is none */
+void forget_type(MPI_Datatype type);
 const char *type_word(Type type);
 Type moved_as(MPI_Datatype type);                       /* RAW where it has no name here: moved as bytes */
-const char *fold_word(MPI_Op operation);                /* 0 of a program's own */
-int folds_as(MPI_Datatype type, MPI_Op operation, Type *as);
-int size_of(MPI_Datatype type);
+const char *fold_word(MPI_Op operation);                /* `user` of a program's own */
+Type folded_as(MPI_Datatype type, MPI_Op operation);
+long size_of(MPI_Datatype type);
 MPI_Aint extent_of(MPI_Datatype type);
-void put_type_name(MPI_Datatype type);
+
+/* ---- signature.c ---- */
+const char *name_of_basic(MPI_Datatype type);           /* its basic types, where it is a named type; else 0 */
+char *signature_of(MPI_Datatype type);
 
 /* ---- communicators.c: communicators by their names in the record ---- */
 typedef struct Communicator {
     MPI_Comm handle;
     char name[16];
-    int size, rank, has_graph, sources, destinations;
+    int size, rank, has_neighbours, sources, destinations;
+    int *from, *to;                     /* the neighbours; MPI_PROC_NULL at a border */
+    int topology;                       /* MPI_DIST_GRAPH, MPI_CART, MPI_GRAPH or MPI_UNDEFINED */
     struct Communicator *next;
 } Communicator;
 Communicator *add_communicator(MPI_Comm handle, const char *name);
 Communicator *find_communicator(MPI_Comm handle);
+const char *why_unknown(MPI_Comm handle);
 void drop_communicator(MPI_Comm handle);
 
 /* ---- buffers.c: what lies in buffers ---- */
+typedef struct { const void *values; size_t width; } Numbers;   /* `int`, or wider ones of the large-count forms */
 typedef struct {
-    const char *base;
-    int number, *lengths;               /* blocks, and how many of `type` each has */
-    MPI_Aint *places;                   /* in bytes from the base */
+    long length;
+    MPI_Aint place;                     /* in bytes from the base */
     MPI_Datatype type;
-    int owns_type;
-} Blocks;
-Blocks one_block(const void *base, long length, MPI_Datatype type, MPI_Aint place);
-Blocks many_blocks(const void *base, int number, const int *lengths, const int *places, MPI_Datatype type);
+    int is_own;                         /* a copy of the program's type */
+    MPI_Aint gapless;                   /* of such a copy the extent, where it has no gaps */
+} Block;
+typedef struct { const char *base; int number; Block *list; } Blocks;
+long number_at(Numbers numbers, int place);
+Blocks one_block(const void *base, long length, MPI_Datatype type, long place);
+Blocks many_blocks(const void *base, int number, Numbers lengths, Numbers places, MPI_Datatype type);
+Blocks even_blocks(const void *base, int number, long length, MPI_Datatype type);
+Blocks typed_blocks(const void *base, int number, Numbers lengths, Numbers places, const MPI_Datatype *types);
 void drop_blocks(Blocks *blocks);
+void keep_types(Blocks *blocks);        /* the program may free its types */
 long items_in(const Blocks *blocks, Type as);
-void put_items(const Blocks *blocks, Type as);
+int can_read(const Blocks *blocks, Type as);
+int put_items(const Blocks *blocks, Type as);           /* 0 where MPI_Pack refuses */
+uint64_t hash_of(const Blocks *blocks);
+int do_overlap(const Blocks *some, const Blocks *others);
 
 /* ---- parts.c: what goes in and comes out of each kind of call ---- */
 typedef enum {
@@ -93,17 +143,19 @@ typedef struct {
     MPI_Comm communicator;
     MPI_Op operation;
     const void *send;
-    int send_count;
-    const int *send_counts, *send_places;
+    long send_count;
+    Numbers send_counts, send_places;
     MPI_Datatype send_type;
+    const MPI_Datatype *send_types;
     const void *receive;
-    int receive_count;
-    const int *receive_counts, *receive_places;
+    long receive_count;
+    Numbers receive_counts, receive_places;
     MPI_Datatype receive_type;
+    const MPI_Datatype *receive_types;
 } Arguments;
-typedef struct { const int *values; int number; MPI_Datatype type; } Counts;     /* number -1: none stand in the statement */
+typedef struct { long *values; int number; } Counts;    /* number -1: none stand in the statement */
 typedef struct {
-    int sends, receives;                /* whether the send type, the receive type count here */
+    int sends, receives;                /* whether what is told of sending, of receiving counts here */
     Counts given, awaited;
     Blocks in, out;
     const char *fixed;                  /* the result, where no buffer tells it */
@@ -112,23 +164,29 @@ const char *kind_word(Kind kind);
 int has_root(Kind kind);
 int is_fold(Kind kind);
 int is_neighbourhood(Kind kind);
-int is_alone(Kind kind);                /* alltoallw and its like: types of their own for each rank */
-void find_types(const Arguments *arguments, int is_root, Parts *parts);
-void find_parts(const Arguments *arguments, const Communicator *communicator, Parts *parts);
+int has_types(Kind kind);               /* alltoallw and its like: types of their own for each rank */
+void find_sides(const Arguments *arguments, int is_root, Parts *parts);
+void find_parts(const Arguments *arguments, const Communicator *communicator, Type as, Parts *parts);
+void drop_parts(Parts *parts);
+/* How many blocks what is sent, or awaited, has here (1 where all are alike), and the i-th of them. */
+int blocks_told(const Arguments *arguments, const Communicator *communicator, int is_sent);
+Block block_told(const Arguments *arguments, int is_sent, int place);
 
 /* ---- calls.c: a call and its result ---- */
 typedef struct Call {
     int id, request;                    /* 0 where nothing is recorded; where it blocks */
     Type type;
     const char *fixed;
-    Blocks out;
+    Blocks in, out;
+    uint64_t hash;                      /* of what a nonblocking call sends */
+    MPI_Comm *made;                     /* of MPI_Comm_idup */
+    char made_name[16];
     MPI_Request handle, *at;
     struct Call *next;
 } Call;
 void begin_call(Call *call, const Arguments *arguments, int nonblocking, void *site);
 void end_call(Call *call, int error);
 void put_result(int id, Call *call, int error);
-void put_error(int error);
 
 /* ---- messages.c: messages between two ranks ---- */
 int begin_message(const char *kind, MPI_Comm communicator, int rank, int tag, void *site);
@@ -136,6 +194,7 @@ void end_message(int id);
 
 /* ---- requests.c ---- */
 void start_call(Call *call, int error, MPI_Request *request);
+const Call *user_of(const Blocks *in, const Blocks *out);       /* an unfinished call whose buffers these are */
 
 #pragma GCC visibility pop
 #endif

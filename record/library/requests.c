@@ -14,17 +14,19 @@ void start_call(Call *call, int error, MPI_Request *request)
     kept->handle = *request;
     kept->at = request;
     kept->next = 0;
-    if (kept->type == RAW && kept->out.number) {        /* the program may free its type before the wait */
-        int integers, addresses, types, combiner = MPI_COMBINER_NAMED;
-        PMPI_Type_get_envelope(kept->out.type, &integers, &addresses, &types, &combiner);
-        if (combiner != MPI_COMBINER_NAMED) {
-            PMPI_Type_dup(kept->out.type, &kept->out.type);
-            kept->out.owns_type = 1;
-        }
-    }
+    keep_types(&kept->in);              /* the program may free its types before the wait */
+    keep_types(&kept->out);
     *end_of_open = kept;
     end_of_open = &kept->next;
     unlock_record();
+}
+
+/* An unfinished call into whose result this one reaches, or whose buffers get this one's result. */
+const Call *user_of(const Blocks *in, const Blocks *out)
+{
+    for (Call *call = open_calls; call; call = call->next)
+        if (do_overlap(in, &call->out) || do_overlap(out, &call->out) || do_overlap(out, &call->in)) return call;
+    return 0;
 }
 
 static Call *take_call(MPI_Request *at)

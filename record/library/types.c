@@ -1,27 +1,55 @@
-/* Types and operations: which of this MPI's have a name in scripts. */
+/* Types and operations: which of this MPI's have a name here, and what is known of each type that was met. */
 #include "record.h"
+#include <stdlib.h>
 #include <string.h>
 
-enum { ARITHMETIC = 1, LOGIC = 2, BITS = 4, LOCATION = 8 };
-static const char *const type_words[] = {"i8", "i16", "i32", "i64", "u8", "u16", "u32", "u64", "2int", "bytes"};
-static struct { MPI_Datatype type; Type moves, folds; int families; } types[64];
-static int known_types;
+enum { ARITHMETIC = 1, LOGIC = 2, BITS = 4, LOCATION = 8, BUCKETS = 256 };
+static const char *const type_words[] = {"i8", "i16", "i32", "i64", "u8", "u16", "u32", "u64", "2int", "f32", "f64", "f80", "c64", "c128",
+    "f32_int", "f64_int", "f80_int", "i64_int", "i16_int", "2f32", "2f64", "bytes"};
+typedef struct { MPI_Datatype type; const char *basic; Type moves, folds; int families; } Named;
+static Named named[96];
+static int number_named;
+static Facts *buckets[BUCKETS];
 static struct { MPI_Op operation; const char *word; int family; } operations[12];
 
-static void add_type(MPI_Datatype type, Type moves, Type folds, int families)
+/* ---- named types ---- */
+
+static void add_type(MPI_Datatype type, const char *basic, Type moves, Type folds, int families)
 {
     if (type == MPI_DATATYPE_NULL) return;
-    types[known_types].type = type;
-    types[known_types].moves = moves;
-    types[known_types].folds = folds;
-    types[known_types++].families = families;
+    Named one = {type, basic, moves, folds, families};
+    named[number_named++] = one;
+}
+
+static int plain_size(MPI_Datatype type)
+{
+    int size = 0;
+    if (type != MPI_DATATYPE_NULL) PMPI_Type_size(type, &size);
+    return size;
 }
 
 static void add_integer(MPI_Datatype type, Type least, int families)
 {
-    int size = type == MPI_DATATYPE_NULL ? 0 : size_of(type);
+    int size = plain_size(type);
     int step = size == 1 ? 0 : size == 2 ? 1 : size == 4 ? 2 : size == 8 ? 3 : -1;
-    if (step >= 0) add_type(type, least + step, least + step, families);
+    if (step >= 0) add_type(type, type_words[least + step], least + step, least + step, families);
+}
+
+/* A real or complex type by its size; long double is taken as x86's, of 80 bits in 16 bytes. */
+static void add_real(MPI_Datatype type)
+{
+    int size = plain_size(type);
+    if (size == 4) add_type(type, "f32", RAW, F32, ARITHMETIC);
+    else if (size == 8) add_type(type, "f64", RAW, F64, ARITHMETIC);
+    else if (size == 16) add_type(type, "f128", RAW, RAW, 0);
+}
+
+static void add_complex(MPI_Datatype type)
+{
+    int size = plain_size(type);
+    if (size == 8) add_type(type, "c64", RAW, C64, ARITHMETIC);
+    else if (size == 16) add_type(type, "c128", RAW, C128, ARITHMETIC);
+    else if (size == 32) add_type(type, "c160", RAW, RAW, 0);
 }
 
 static void fill_operations(void)
@@ -36,7 +64,7 @@ static void fill_operations(void)
     }
 }
 
-void fill_types(void)
+static void fill_integers(void)
 {
     const MPI_Datatype with_sign[] = {MPI_INT, MPI_LONG, MPI_SHORT, MPI_SIGNED_CHAR, MPI_LONG_LONG, MPI_INT8_T,
         MPI_INT16_T, MPI_INT32_T, MPI_INT64_T};
@@ -47,63 +75,151 @@ void fill_types(void)
     for (size_t i = 0; i < sizeof with_sign / sizeof *with_sign; i++) add_integer(with_sign[i], I8, ARITHMETIC | LOGIC | BITS);
     for (size_t i = 0; i < sizeof without / sizeof *without; i++) add_integer(without[i], U8, ARITHMETIC | LOGIC | BITS);
     for (size_t i = 0; i < sizeof no_logic / sizeof *no_logic; i++) add_integer(no_logic[i], I8, ARITHMETIC | BITS);
-    add_type(MPI_BYTE, RAW, U8, BITS);
-    if (size_of(MPI_C_BOOL) == 1) add_type(MPI_C_BOOL, RAW, U8, LOGIC);
-    add_type(MPI_2INT, PAIR, PAIR, LOCATION);
-    add_type(MPI_2INTEGER, PAIR, PAIR, LOCATION);
+}
+
+void fill_types(void)
+{
+    const MPI_Datatype reals[] = {MPI_FLOAT, MPI_DOUBLE, MPI_REAL, MPI_DOUBLE_PRECISION, MPI_REAL4, MPI_REAL8, MPI_REAL16};
+    const MPI_Datatype complexes[] = {MPI_C_FLOAT_COMPLEX, MPI_C_DOUBLE_COMPLEX, MPI_C_LONG_DOUBLE_COMPLEX, MPI_COMPLEX,
+        MPI_DOUBLE_COMPLEX, MPI_COMPLEX8, MPI_COMPLEX16, MPI_COMPLEX32};
+    fill_integers();
+    for (size_t i = 0; i < sizeof reals / sizeof *reals; i++) add_real(reals[i]);
+    for (size_t i = 0; i < sizeof complexes / sizeof *complexes; i++) add_complex(complexes[i]);
+#if defined __x86_64__ || defined __i386__
+    add_type(MPI_LONG_DOUBLE, "f80", RAW, F80, ARITHMETIC);
+    add_type(MPI_LONG_DOUBLE_INT, "f80+i32", RAW, F80_INT, LOCATION);
+#endif
+    add_type(MPI_BYTE, "byte", RAW, U8, BITS);
+    add_type(MPI_PACKED, "packed", RAW, RAW, 0);
+    add_type(MPI_CHAR, "char", RAW, RAW, 0);
+    add_type(MPI_CHARACTER, "char", RAW, RAW, 0);
+    add_type(MPI_WCHAR, "wchar", RAW, RAW, 0);
+    add_type(MPI_LOGICAL, "logical", RAW, RAW, 0);
+    add_type(MPI_C_BOOL, "bool", RAW, plain_size(MPI_C_BOOL) == 1 ? U8 : RAW, plain_size(MPI_C_BOOL) == 1 ? LOGIC : 0);
+    add_type(MPI_2INT, "i32+i32", PAIR, PAIR, LOCATION);
+    add_type(MPI_2INTEGER, "i32+i32", PAIR, PAIR, LOCATION);
+    add_type(MPI_FLOAT_INT, "f32+i32", RAW, F32_INT, LOCATION);
+    add_type(MPI_DOUBLE_INT, "f64+i32", RAW, F64_INT, LOCATION);
+    add_type(MPI_LONG_INT, "i64+i32", RAW, I64_INT, LOCATION);
+    add_type(MPI_SHORT_INT, "i16+i32", RAW, I16_INT, LOCATION);
+    add_type(MPI_2REAL, "f32+f32", RAW, TWO_F32, LOCATION);
+    add_type(MPI_2DOUBLE_PRECISION, "f64+f64", RAW, TWO_F64, LOCATION);
     fill_operations();
 }
 
-static int place_of(MPI_Datatype type)
+static const Named *find_named(MPI_Datatype type)
 {
-    int at = 0;
-    while (at < known_types && types[at].type != type) at++;
-    return at;
+    for (int i = 0; i < number_named; i++) if (named[i].type == type) return &named[i];
+    return 0;
 }
+
+const char *name_of_basic(MPI_Datatype type)
+{
+    const Named *found = find_named(type);
+    return found ? found->basic : 0;
+}
+
+/* ---- what is known of each type ---- */
+
+static Facts **bucket_of(MPI_Datatype type)
+{
+    uint64_t bits = (uint64_t)(uintptr_t)type;
+    return &buckets[(bits ^ bits >> 8 ^ bits >> 20) % BUCKETS];
+}
+
+static Facts *add_facts(MPI_Datatype type)
+{
+    int size = 0, integers, addresses, types, combiner = 0;
+    MPI_Aint lower;
+    Guard guard;
+    Facts facts = {.handle = type, .moves = RAW, .folds = RAW};
+    begin_guard(&guard);
+    int is_wrong = type == MPI_DATATYPE_NULL || PMPI_Type_size(type, &size) || PMPI_Type_get_extent(type, &lower, &facts.extent)
+        || PMPI_Type_get_true_extent(type, &facts.true_lower, &facts.true_extent);
+    if (!is_wrong) {
+        facts.size = size;
+        facts.is_named = !PMPI_Type_get_envelope(type, &integers, &addresses, &types, &combiner) && combiner == MPI_COMBINER_NAMED;
+        facts.signature = signature_of(type);
+    }
+    end_guard(&guard);
+    if (is_wrong) return 0;
+    const Named *name = find_named(type);
+    if (name) { facts.moves = name->moves; facts.folds = name->folds; facts.families = name->families; }
+    Facts *kept = room_for(sizeof *kept), **bucket = bucket_of(type);
+    *kept = facts;
+    kept->next = *bucket;
+    return *bucket = kept;
+}
+
+const Facts *facts_of(MPI_Datatype type)
+{
+    for (Facts *at = *bucket_of(type); at; at = at->next) if (at->handle == type) return at;
+    return add_facts(type);
+}
+
+/* Another type may get its handle. */
+void forget_type(MPI_Datatype type)
+{
+    for (Facts **at = bucket_of(type); *at; at = &(*at)->next) {
+        if ((*at)->handle != type) continue;
+        Facts *gone = *at;
+        *at = gone->next;
+        free(gone->signature);
+        free(gone);
+        return;
+    }
+}
+
+int MPI_Type_free(MPI_Datatype *type)
+{
+    if (is_recording()) {
+        lock_record();
+        forget_type(*type);
+        unlock_record();
+    }
+    return NEXT(Type_free)(type);
+}
+ALSO(Type_free)
 
 const char *type_word(Type type) { return type_words[type]; }
 
 Type moved_as(MPI_Datatype type)
 {
-    int at = place_of(type);
-    return at < known_types ? types[at].moves : RAW;
+    const Facts *facts = facts_of(type);
+    return facts ? facts->moves : RAW;
+}
+
+static int place_of_operation(MPI_Op operation)
+{
+    int at = 0;
+    while (at < 12 && operations[at].operation != operation) at++;
+    return at;
 }
 
 const char *fold_word(MPI_Op operation)
 {
-    for (int i = 0; i < 12; i++) if (operations[i].operation == operation) return operations[i].word;
-    return 0;
+    int at = place_of_operation(operation);
+    return at < 12 ? operations[at].word : "user";
 }
 
-int folds_as(MPI_Datatype type, MPI_Op operation, Type *as)
+/* By its own name where MPI has this operation for the type; an operation of a program's own on what is moved under a name, too. */
+Type folded_as(MPI_Datatype type, MPI_Op operation)
 {
-    int at = place_of(type);
-    if (at == known_types) return 0;
-    *as = types[at].folds;
-    for (int i = 0; i < 12; i++)
-        if (operations[i].operation == operation) return (types[at].families & operations[i].family) != 0;
-    return 0;
+    const Facts *facts = facts_of(type);
+    int at = place_of_operation(operation);
+    if (!facts) return RAW;
+    if (at == 12) return facts->folds;
+    return facts->families & operations[at].family ? facts->folds : RAW;
 }
 
-int size_of(MPI_Datatype type)
+long size_of(MPI_Datatype type)
 {
-    int size = 0;
-    PMPI_Type_size(type, &size);
-    return size;
+    const Facts *facts = facts_of(type);
+    return facts ? facts->size : 0;
 }
 
 MPI_Aint extent_of(MPI_Datatype type)
 {
-    MPI_Aint lower, extent;
-    PMPI_Type_get_extent(type, &lower, &extent);
-    return extent;
-}
-
-void put_type_name(MPI_Datatype type)
-{
-    char name[MPI_MAX_OBJECT_NAME + 1] = "";
-    int size = 0;
-    if (type != MPI_DATATYPE_NULL) PMPI_Type_get_name(type, name, &size);
-    for (char *at = name; *at; at++) if (*at <= ' ') *at = '_';
-    put_word(*name ? name : "derived");
+    const Facts *facts = facts_of(type);
+    return facts ? facts->extent : 0;
 }

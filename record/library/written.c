@@ -1,14 +1,18 @@
 /* The file of a rank, RECORD_FOLDER/rank.R (without that: recorded/rank.R). Its lines:
  *
- *   ranks N     rank R     run NUMBER     mpi TEXT
+ *   ranks N     rank R     run NUMBER     messages (with RECORD_MESSAGES)     mpi TEXT
  *   module M PATH                   places are M+0xOFFSET in it, or FILE:LINE
  *   call ID PLACE STATEMENT         a call, before MPI is entered; STATEMENT is one of gossipmpi's scripts
  *   begun ID PLACE KIND WORDS       one whose statement follows under this ID, a wait for one of several requests, or a message
  *   left ID PLACE KIND COMMUNICATOR ROOT OPERATION TYPE REASON     a call that is left out, but counted
  *   unknown ID PLACE KIND WORD      a call on a communicator that has no name here
- *   gave ID LINE                    what this MPI gave, in gossipmpi's words; `-` of a call left out
+ *   unseen ID PLACE KIND            one of which nothing is recorded
+ *   gave ID LINE                    what this MPI gave, in gossipmpi's words, or `refused CLASS TEXT`, `error CLASS TEXT`; `-` of a call left out
  *   graph COMMUNICATOR SOURCES DESTINATIONS        the neighbours that dist_graph gave
- *   note TEXT     abort ID PLACE CODE     end
+ *   types ID SENT AWAITED           the counts and basic types of each block of a call: 3*f64,2*f64
+ *   slip ID WORD                    what MPI forbids the program: aliased, in_use ID, changed
+ *   freed COMMUNICATOR     note TEXT
+ *   end     abort ID PLACE CODE     fatal ERROR     signal NUMBER     exit CODE [inside]     hang SECONDS     the last line
  *
  * A tag that is followed by /T is of the T-th thread that calls, where it isn't the first. */
 #include "record.h"
@@ -19,6 +23,7 @@
 #include <stdio.h>
 #include <stdlib.h>
 #include <string.h>
+#include <sys/mman.h>
 #include <sys/stat.h>
 #include <time.h>
 #include <unistd.h>
@@ -30,7 +35,13 @@ int notes_messages;
 static int file = -1, is_buffered;
 static char *text;
 static size_t length, room;
+static pid_t process;
+enum { WINDOW = 1 << 20 };              /* on the file, in bytes */
+static char *window;
+static size_t window_at, filled;        /* where it begins, and how much of it has lines */
+volatile long unwritten;
 static long run;
+static MPI_Comm own = MPI_COMM_NULL;
 static pthread_mutex_t lock = PTHREAD_RECURSIVE_MUTEX_INITIALIZER_NP;
 
 void lock_record(void) { pthread_mutex_lock(&lock); }
@@ -83,36 +94,127 @@ void put_word(const char *word) { put_bytes(" ", 1); put_text(word); }
 void put_number(int64_t number) { put_bytes(" ", 1); put_digits(number); }
 void put_unsigned(uint64_t number) { put_bytes(" ", 1); put_unsigned_digits(number); }
 
-/* numbers with commas between, each times the factor; `-` is none */
-void put_list(int number, const int *values, long factor)
+/* numbers with commas between; `-` is none */
+void put_separated(int number, const long *values)
 {
     put_text(number ? " " : " -");
     for (int at = 0; at < number; at++) {
         if (at) put_text(",");
-        put_digits(values[at] * factor);
+        put_digits(values[at]);
+    }
+}
+
+void put_list(int number, const int *values)
+{
+    put_text(number ? " " : " -");
+    for (int at = 0; at < number; at++) {
+        if (at) put_text(",");
+        put_digits(values[at]);
     }
 }
 
 /* ---- lines ---- */
 
-void flush_record(void)
+/* With RECORD_BUFFER lines are copied into a window on the file, which outlives the process however it ends. */
+static int open_window(void)
+{
+    if (window) munmap(window, WINDOW);
+    window = posix_fallocate(file, window_at, WINDOW) ? MAP_FAILED : mmap(0, WINDOW, PROT_READ | PROT_WRITE, MAP_SHARED, file, window_at);
+    if (window != MAP_FAILED) return 1;
+    perror("record: no room; nothing more is recorded");
+    window = 0;
+    file = -1;
+    return 0;
+}
+
+static void copy_text(const char *bytes, size_t number)
+{
+    while (number && file >= 0) {
+        if (filled == WINDOW) { window_at += WINDOW; filled = 0; }
+        if ((!window || !filled) && !open_window()) return;
+        size_t some = number < WINDOW - filled ? number : WINDOW - filled;
+        memcpy(window + filled, bytes, some);
+        filled += some;
+        bytes += some;
+        number -= some;
+    }
+}
+
+static void write_text(const char *bytes, size_t number)
 {
     size_t at = 0;
-    while (file >= 0 && at < length) {
-        ssize_t wrote = write(file, text + at, length - at);
+    if (is_buffered) { copy_text(bytes, number); unwritten++; return; }
+    while (file >= 0 && at < number) {
+        ssize_t wrote = write(file, bytes + at, number - at);
         if (wrote < 0 && errno != EINTR) { perror("record: write; nothing more is recorded"); file = -1; }
         if (wrote > 0) at += wrote;
     }
+}
+
+static void flush_record(void)
+{
+    size_t number = length;
     length = 0;
+    write_text(text, number);
+}
+
+static void end_file(void)
+{
+    if (is_buffered && file >= 0 && ftruncate(file, window_at + filled)) return;
+    file = -1;
+}
+
+void close_record(void)
+{
+    flush_record();
+    end_file();
+}
+
+/* Of a line `call ID PLACE KIND COMMUNICATOR ..` that isn't whole, that it was begun. */
+static void write_begun(const char *part, size_t size)
+{
+    size_t end = 0;
+    int blanks = 0;
+    if (size < 5 || memcmp(part, "call", 4)) return;
+    while (end < size && blanks < 5) blanks += part[end++] == ' ';
+    if (blanks < 5) return;
+    write_text("begun", 5);
+    write_text(part + 4, end - 5);
+    write_text("\n", 1);
+}
+
+/* A signal may come while a line is made, as of a buffer that can't be read. A child that was forked writes nothing. */
+void write_last(const char *line, size_t size)
+{
+    size_t whole = length, all = length;
+    if (file < 0 || getpid() != process) return;
+    while (whole && text[whole - 1] != '\n') whole--;
+    length = 0;
+    write_text(text, whole);
+    write_begun(text + whole, all - whole);
+    write_text(line, size);
+    end_file();
+    file = -1;
+}
+
+void touch_record(void)
+{
+    static long seen;
+    lock_record();
+    if (file >= 0 && seen != unwritten) futimens(file, 0);
+    seen = unwritten;
+    unlock_record();
 }
 
 void end_line(void)
 {
     put_bytes("\n", 1);
-    if (!is_buffered || length > 1 << 20) flush_record();
+    flush_record();
 }
 
 size_t line_length(void) { return length; }
+
+void cut_line(void) { while (length && text[length - 1] != '\n') length--; }
 
 int next_id(void)
 {
@@ -137,6 +239,16 @@ void begin_line(const char *tag, int id, void *site)
 
 /* ---- the record ---- */
 
+MPI_Comm own_communicator(void) { return own; }
+
+static void open_own_communicator(void)
+{
+    inside++;
+    NEXT(Comm_dup)(MPI_COMM_SELF, &own);
+    inside--;
+    PMPI_Comm_set_errhandler(own, MPI_ERRORS_RETURN);
+}
+
 static void open_record(void)
 {
     const char *folder = getenv("RECORD_FOLDER"), *items = getenv("RECORD_ITEMS"), *buffer = getenv("RECORD_BUFFER");
@@ -151,8 +263,9 @@ static void open_record(void)
     PMPI_Comm_size(MPI_COMM_WORLD, &ranks);
     mkdir(folder, 0777);
     snprintf(path, sizeof path, "%s/rank.%d", folder, rank);
-    file = open(path, O_WRONLY | O_CREAT | O_TRUNC | O_CLOEXEC, 0666);
+    file = open(path, O_RDWR | O_CREAT | O_TRUNC | O_CLOEXEC, 0666);
     if (file < 0) { fprintf(stderr, "record: %s: %s; nothing is recorded\n", path, strerror(errno)); return; }
+    open_own_communicator();
     fill_types();
     add_communicator(MPI_COMM_WORLD, "world");
     PMPI_Get_library_version(version, &size);
@@ -160,8 +273,14 @@ static void open_record(void)
     put_text("ranks"); put_number(ranks);
     put_text("\nrank"); put_number(rank);
     put_text("\nrun"); put_number(run);
+    if (notes_messages) put_text("\nmessages");
     put_text("\nmpi"); put_word(version);
     end_line();
+    process = getpid();
+    watch_errors();
+    watch_signals();
+    watch_exit();
+    watch_hang(folder, rank, ranks);
 }
 
 /* Handles mean nothing to another MPI than the one for which this was compiled, and two in one program crash. */
@@ -200,10 +319,8 @@ void end_record(void)
     lock_record();
     if (file >= 0) {
         put_text("end"); end_line();
-        flush_record();
-        file = -1;
+        close_record();
+        NEXT(Comm_free)(&own);
     }
     unlock_record();
 }
-
-__attribute__((destructor)) static void flush_last(void) { flush_record(); }

@@ -7,38 +7,58 @@ import collections, re
 from .parts import MAKERS, MESSAGES, WAITS
 
 WORLD = ()
+UNNAMED = dict(unknown='on a communicator that the record has no name for', null='on MPI_COMM_NULL', inter='on an intercommunicator')
+LOST = 'on a communicator whose making has no result'
+UNSEEN = dict(psend_init='partitioned', precv_init='partitioned', session_init='sessions')
 
 
 class Calls:
     """`rows` has each call's parts by rank of the world; `order` a communicator's members, by rank in it; `requests` the call of each
-    rank's request, `waits` the waits for it."""
+    rank's request, `waits` the waits for it; `unnamed` counts the calls on communicators that have no name here, with the reason;
+    `refused` has the parts that this MPI refused for their arguments, which are no calls then."""
 
     def __init__(self, record):
         self.record, self.rows, self.requests = record, collections.OrderedDict(), {}
         self.waits = collections.defaultdict(list)
         self.members, self.order = collections.defaultdict(set), collections.defaultdict(dict)
-        self.maker, self.names, self.lost = {}, {WORLD: 'world'}, 0
+        self.maker, self.names, self.unnamed = {}, {WORLD: 'world'}, collections.Counter()
+        self.children, self.refused = collections.defaultdict(list), []
         for rank, parts in enumerate(record.parts): self.take_rank(rank, parts)
         for (communicator, _), row in self.rows.items():
             for part in row.values(): self.await_group(communicator, part)
 
     def take_rank(self, rank, parts):
-        known, numbers = {'world': WORLD}, collections.Counter()
+        known, numbers, unnamed = {'world': WORLD}, collections.Counter(), collections.Counter()
         self.members[WORLD].add(rank)
         self.order[WORLD][rank] = rank
         for part in parts:
             if part.kind == 'wait': self.waits[rank, part.request].append(part)
-            if part.kind in WAITS + MESSAGES or part.tag in ('unknown', 'abort'): continue
-            if part.communicator not in known:
-                self.lost += 1
+        for part in parts:
+            if part.tag == 'abort' or part.kind in WAITS + MESSAGES: continue
+            if (part.result or '').startswith('refused'):
+                self.refused.append(part)
                 continue
+            if part.tag == 'unseen' or part.communicator not in known:
+                unnamed[self.unnamed_as(part)] += 1
+                continue
+            if part.kind == 'idup' and part.tag == 'call': self.end_idup(rank, part)
             communicator = known[part.communicator]
             if part.kind == 'create_group' and part.tag == 'call': communicator += (('group',) + tuple(part.lists),)
             part.key = communicator, numbers[communicator]
             numbers[communicator] += 1
             self.rows.setdefault(part.key, {})[rank] = part
-            if part.nonblocking and part.tag == 'call': self.requests[rank, part.name] = part
+            if part.nonblocking and part.tag == 'call' and part.kind != 'idup': self.requests[rank, part.name] = part
             if part.kind in MAKERS and part.tag == 'call': self.make(rank, part, known)
+        self.unnamed |= unnamed                         # of each kind the most that one rank has
+
+    def unnamed_as(self, part):
+        if part.tag == 'unseen': return '%s: %s calls aren\'t recorded' % (part.kind, UNSEEN.get(part.kind, 'such'))
+        return part.name_of_kind() + ': ' + UNNAMED.get(part.communicator, LOST)
+
+    def end_idup(self, rank, part):
+        """Its communicator is known once it was waited for."""
+        self.requests[rank, part.request] = part
+        for wait in self.waits[rank, part.request]: part.result = part.result or wait.result
 
     def make(self, rank, part, known):
         made = re.fullmatch(r'comm \d+ (\d+)', part.result or '')
@@ -49,7 +69,8 @@ class Calls:
         known[part.name] = child
         self.members[child].add(rank)
         self.order[child][int(made[1])] = rank
-        self.maker[child] = part.key
+        if child not in self.maker: self.children[part.key].append(child)
+        self.maker.setdefault(child, part.key)
         self.names.setdefault(child, part.name)
 
     def await_group(self, communicator, part):
@@ -69,4 +90,4 @@ class Calls:
         return next(iter(self.rows[key].values())).name_of_kind()
 
     def made_by(self, key):
-        return [child for child, maker in self.maker.items() if maker == key]
+        return self.children.get(key, ())

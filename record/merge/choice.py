@@ -1,30 +1,39 @@
 """Which calls go into scripts, and in which form. A call that is left out is so at all ranks, and what stands on communicators that it makes."""
 import collections, re, struct, sys
 
-from .parts import MAKERS, WIDTH
+from . import folds, types
+from .parts import AS_BYTES, FOLDS, MAKERS, WIDTH
 
 ITEMS, EDGES, RANKS, DEPTH = 4096, 512, 64, 8           # gossipmpi's limits
-REASONS = dict(kind='scripts have no such call', root='its root is out of range', topology='its communicator has no distributed graph',
-               operation='an operation of the program\'s own', type='a reduction of {}', items='more items than RECORD_ITEMS',
-               members='more than 64 members')           # by the recorder's words
-BY_ITEM = 'bcast reduce allreduce scan exscan'.split()  # may be cut into blocks of items
+REASONS = dict(kind='scripts have no such call', root='its root is out of range', topology='its communicator has no neighbours',
+               operation='an operation of the program\'s own', type='a type that is none', items='more items than RECORD_ITEMS',
+               members='more than 64 members', count='a negative count', buffer='a buffer that can\'t be read')      # by the recorder's words
+# What may be cut into blocks of items, and whether what goes in, and what comes out, has a block for each rank.
+CUT = dict(bcast=(0, 0), reduce=(0, 0), allreduce=(0, 0), scan=(0, 0), exscan=(0, 0), gather=(0, 1), allgather=(0, 1), scatter=(1, 0),
+           alltoall=(1, 1), reduce_scatter_block=(1, 0))
 
 
 class Choice:
-    """`taken` has the keys of the calls for scripts; `blocks` those that are cut, with their length; `left` counts the others by reason.
-    `reports` has calls whose parts differ though they are left out."""
+    """`taken` has the keys of the calls for scripts; `blocks` those that are cut, with their length; `bounded` and `left` count the others by
+    what is said of them, and `held` has the keys of the first, of whose numbers so many are `unjudged`. `reports` has calls of which something
+    is told already: key, title, and parts with more lines."""
 
-    def __init__(self, calls):
-        self.calls, self.gone = calls, set()
+    def __init__(self, calls, without_idup=False):
+        self.calls, self.gone, self.without_idup = calls, set(), without_idup
         self.taken, self.blocks, self.left, self.reports = set(), {}, collections.Counter(), []
+        self.bounded, self.held, self.unjudged = collections.Counter(), set(), 0
         for key in sorted(calls.rows, key=lambda key: (len(key[0]), key[1])):
             reason = self.reason_for(key, calls.rows[key])
             if reason: self.leave(key, reason)
-            elif self.base_of(key[0]) is not None: self.taken.add(key)
+            elif key not in self.held and self.base_of(key[0]) is not None: self.taken.add(key)
 
     def leave(self, key, reason):
         self.left[self.calls.kind_of(key) + ': ' + reason] += 1
         self.gone.update(self.calls.made_by(key))
+
+    def tell(self, key, title, more=None):
+        row = self.calls.rows[key]
+        self.reports.append((key, title, more or [(row[rank], []) for rank in sorted(row)]))
 
     def base_of(self, communicator):
         """The communicator that is a script's world for this one: the first on the way from the world that has few enough members."""
@@ -35,50 +44,165 @@ class Choice:
 
     def reason_for(self, key, row):
         communicator, part = key[0], next(iter(row.values()))
+        self.compare_types(key, row)
         if any(communicator[:length] in self.gone for length in range(1, len(communicator) + 1)): return 'its communicator is left out'
         base = self.base_of(communicator)
         if base is None:
+            if part.kind in MAKERS: self.left[part.name_of_kind() + ': more than 64 members'] += 1
             return None if part.kind in MAKERS else 'more than 64 members'
         if any(other.tag != 'call' for other in row.values()): return self.reason_recorded(key, row)
         if any(other.result == 'reordered' for other in row.values()): return 'its ranks are in another order'
         if len(communicator) - len(base) + (part.kind in MAKERS) > DEPTH: return 'more than eight steps from the world'
+        return self.reason_of_kind(key, row)
+
+    def reason_of_kind(self, key, row):
+        kinds, part = {part.kind for part in row.values()}, row[min(row)]
+        if len(kinds) > 1 and any(kind in AS_BYTES for kind in kinds):
+            self.tell(key, 'doesn\'t fit together: its parts differ in the kind')
+            return 'its parts differ in the kind'
+        if 'idup' in kinds and self.without_idup: return 'others wait for it in scripts, which have no such call'
+        if kinds & set(FOLDS) and not folds.is_plain(row):
+            reason = self.reason_of_fold(key, row)
+            if reason or key in self.held: return reason
         make_one_type(self.calls, row)
-        if part.kind == 'dist_graph' and not self.graph_fits(key, row):
-            self.gone.update(self.calls.made_by(key))
-            for other in row.values(): other.graph = None
+        if self.has_topology(row) and not self.graph_fits(key, row): self.leave_graph(key, row)
+        if part.kind.startswith('neighbor'):
+            reason = self.reason_of_grid(key, part.kind)
+            if reason: return reason
         return self.reason_of_length(key, row)
+
+    # ---- parts that don't fit ----
+
+    def compare_types(self, key, row):
+        """Parts whose basic types don't match; of those that are no part of a script also their amounts."""
+        found = types.mismatch(row, self.calls.order[key[0]], lambda: self.neighbours_of(key[0]))
+        if found is None: return
+        is_left = any(part.tag != 'call' for part in row.values())
+        if found[0] == 'types': self.tell(key, 'has types that don\'t match: ' + found[1])
+        elif is_left: self.tell(key, 'doesn\'t fit together: ' + found[1])
 
     def reason_recorded(self, key, row):
         """What the recorder left out. Its kind, mode, root and operation are compared by themselves."""
         part = next(part for part in row.values() if part.tag != 'call')
         self.compare_left(key, row)
         if part.tag == 'begun': return 'not finished'
-        return REASONS.get(part.words[-1], part.words[-1]).format(part.type)
+        reason = part.words[-1]
+        return 'a reduction of ' + part.type if reason == 'type' and part.type != '-' else REASONS.get(reason, reason)
 
     def compare_left(self, key, row):
-        first = row[min(row)]
-        for part in row.values():
+        parts = [row[rank] for rank in sorted(row) if row[rank].tag != 'begun']
+        for part in parts:
+            first = parts[0]
             for name, here, there in (('kind', part.kind, first.kind), ('mode', part.nonblocking, first.nonblocking),
                                       ('root', part.root, first.root), ('operation', part.operation, first.operation)):
                 if here == there or name in ('root', 'operation') and '-' in (here, there): continue
-                self.reports.append((key, 'is left out, but its parts differ in the %s' % name, sorted(row.items())))
+                self.tell(key, 'is left out, but its parts differ in the %s' % name)
                 return
 
-    def reason_of_length(self, key, row):
-        longest = max(part.greatest() for part in row.values())
-        if longest <= ITEMS: return None
-        parts = list(row.values())
-        is_even = len({len(part.items) for part in parts}) == 1 or all(part.kind == 'bcast' for part in parts)
-        if not is_even or not all(part.kind in BY_ITEM for part in parts): return 'more than 4,096 items'
-        self.blocks[key] = longest
+    # ---- reductions that scripts don't have ----
+
+    def reason_of_fold(self, key, row):
+        """Why its results aren't held against anything; None where they are, and then it is in `held` or has the script's numbers."""
+        calls, part, name = self.calls, row[min(row)], folds.difference_of_parts(row)
+        if name:
+            self.tell(key, 'doesn\'t fit together: its parts differ in the %s' % name)
+            return 'its parts don\'t fit together'
+        if part.kind == 'allreduce':
+            ranks = folds.unequal_results(calls, row)
+            if ranks: self.tell(key, 'has other results at other ranks, where MPI requires identical ones', [given_at(calls, row[rank]) for rank in ranks])
+        if part.operation == 'user': return 'an operation of the program\'s own'
+        if part.type in folds.EXACT.get(part.operation, ()) or part.operation in ('maxloc', 'minloc') and part.type in folds.LOCATED:
+            if folds.has_nan(calls, row): return 'a NaN among its numbers'
+            if part.operation in folds.EXACT: folds.take_exact(calls, row)
+            else: folds.take_ranked(calls, row, '2int')
+            return None
+        if part.type in folds.SUMS.get(part.operation, ()) and set(row) == calls.members[key[0]]: return self.hold(key, row, part)
+        return '%s of %s' % (part.operation, folds.basics_of(part))
+
+    def hold(self, key, row, part):
+        reach = folds.Reach(self.calls, row, self.calls.order[key[0]])
+        gives = any(other.items for other in row.values()) and not (part.kind == 'exscan' and len(row) == 1)
+        if gives and not reach.judged and not reach.unjudged: return 'its result was never seen'
+        if reach.unjudged and not reach.judged: return folds.floats.UNJUDGED
+        if reach.found: self.tell(key, 'is out of the reach of any order of its operands (the tool\'s own arithmetic, not proved)', reach.found)
+        self.held.add(key)
+        self.unjudged += reach.unjudged
+        self.bounded['%s %s of %s' % (self.calls.kind_of(key), part.operation, part.type)] += 1
         return None
+
+    # ---- lengths, graphs ----
+
+    def reason_of_length(self, key, row):
+        parts, size = list(row.values()), len(self.calls.members[key[0]])
+        if max(part.greatest() for part in parts) <= ITEMS: return None
+        kind = parts[0].kind
+        if kind not in CUT or len({part.kind for part in parts}) > 1: return 'more than 4,096 items'
+        has_blocks, givers = CUT[kind][0], parts
+        if kind in ('bcast', 'scatter'): givers = [part for part in parts if part.items]        # the root
+        length = max((part.amount() for part in givers), default=0) // (size if has_blocks else 1)
+        counts = {words for part in parts for words in part.lists if kind not in ('gather', 'allgather')}
+        is_even = all(part.amount() == length * (size if has_blocks else 1) for part in givers) and counts <= {str(length)}
+        if not is_even or not length: return 'more than 4,096 items'
+        self.blocks[key] = length, ITEMS // size if has_blocks else ITEMS
+        return None
+
+    def made_as(self, communicator):
+        """The call that gave it its topology: of a copy that of the first."""
+        maker = self.calls.maker.get(communicator)
+        while maker and self.calls.kind_of(maker) in ('dup', 'idup'): maker = self.calls.maker.get(maker[0])
+        return maker
+
+    def neighbours_of(self, communicator):
+        """Of each place in it the sources and the destinations."""
+        maker, places = self.made_as(communicator), {rank: place for place, rank in self.calls.order[communicator].items()}
+        found = {}
+        for rank, part in (self.calls.rows[maker] if maker else {}).items():
+            lists = part.lists if part.kind == 'dist_graph_adjacent' else part.graph
+            if rank in places and lists: found[places[rank]] = [[int(word) for word in graph_words(words)] for words in lists]
+        return found
+
+    def has_topology(self, row):
+        return any(part.kind == 'dist_graph' or part.kind == 'create' and part.graph for part in row.values())
 
     def graph_fits(self, key, row):
         """Whether the neighbours that this MPI gave can be handed on as a dist_graph_adjacent."""
-        graphs = {rank: part.graph for rank, part in row.items()}
-        if any(graph is None for graph in graphs.values()) or set(graphs) != self.calls.members[key[0]]: return False
+        graphs = {rank: part.graph for rank, part in row.items() if part.result != 'null'}
+        if any(graph is None for graph in graphs.values()) or set(row) != self.calls.members[key[0]]: return False
         if len({':' in graph[0] + graph[1] or '-w' in graph for graph in graphs.values()}) > 1: return False
-        return all(sum(words.count(',') + 1 for words in graph) <= EDGES for graph in graphs.values())
+        if not all(sum(words.count(',') + 1 for words in graph) <= EDGES for graph in graphs.values()): return False
+        return all(part.kind == 'dist_graph' for part in row.values()) or self.is_symmetric(key)
+
+    def is_symmetric(self, key):
+        """Of a grid or a general graph: whether each edge is one at both ends."""
+        for child in self.calls.made_by(key):
+            places = {rank: place for place, rank in self.calls.order[child].items()}
+            edges = {places[rank]: collections.Counter(graph_words(part.graph[0])) for rank, part in self.calls.rows[key].items() if rank in places}
+            if any(edges.get(int(to), {}).get(str(place)) != number for place, row in edges.items() for to, number in row.items()): return False
+        return True
+
+    def leave_graph(self, key, row):
+        if all(part.kind == 'dist_graph' for part in row.values()): self.gone.update(self.calls.made_by(key))
+        for part in row.values(): part.graph = None
+
+    def reason_of_grid(self, key, kind):
+        """Why a call among neighbours on a grid or a general graph is left out. Which of two blocks meets which, where both neighbours in a
+        dimension are one rank, isn't told apart here."""
+        maker = self.made_as(key[0])
+        if not maker or self.calls.kind_of(maker) != 'create': return None
+        parts = [part for part in self.calls.rows[maker].values() if part.result != 'null']
+        if any(part.graph is None for part in parts): return 'its grid or graph has an edge that is none at its other end'
+        is_twice = any(len(set(words)) < len(words) for words in (graph_words(part.graph[0]) for part in parts))
+        return 'a neighbour that stands twice on its grid' if is_twice and kind.startswith('neighbor_alltoall') else None
+
+
+def graph_words(words): return [] if words in ('-', '-w') else [word.partition(':')[0] for word in words.split(',')]
+
+
+def given_at(calls, part):
+    numbers = folds.result_of(calls, part)
+    words = folds.floats.shown(numbers, part.type).split() if part.type in folds.floats.FORMS else [str(number) for number in numbers]
+    bits = '' if part.type not in ('f32', 'f64') or len(numbers) > 1 else ' (bits %x)' % numbers[0]
+    return part, ['    this MPI gave %s%s%s' % (' '.join(words[:8]), ' .. (%d numbers)' % len(words) if len(words) > 8 else '', bits)]
 
 
 def bytes_of(items, kind):
@@ -91,10 +215,10 @@ def make_one_type(calls, row):
     """Where some rank's type has no name here, all ranks' items of this call are bytes."""
     if not any(part.type == 'bytes' for part in row.values()): return
     for rank, part in row.items():
-        if part.type not in (None, 'bytes'):
-            width = WIDTH[part.type]
+        if part.type in WIDTH:
+            width, part.plain = WIDTH[part.type], part.told(8)
             part.lists = [words if words == '-' else ','.join(str(int(count) * width) for count in words.split(',')) for words in part.lists]
-            part.items = bytes_of(part.items, part.type)
+            part.items = ' '.join(bytes_of(part.items.split(), part.type))
             for teller in calls.waits[rank, part.name] if part.nonblocking else [part]:
                 if re.fullmatch(r'-?\d+( -?\d+)*', teller.result or ''): teller.result = ' '.join(bytes_of(teller.result.split(), part.type))
     for part in row.values(): part.type = part.type and 'u8'
@@ -106,7 +230,7 @@ def leaves_range(row):
     if part.operation not in ('sum', 'prod') or part.type not in ('i8', 'i16', 'i32', 'i64'): return False
     limit, running = 1 << 8 * WIDTH[part.type] - 1, None
     for rank in sorted(row):
-        items = [int(item) for item in row[rank].items]
+        items = [int(item) for item in row[rank].items.split()]
         if running is None: running = items
         else: running = [old + new if part.operation == 'sum' else old * new for old, new in zip(running, items)]
         if any(not -limit <= value < limit for value in running): return True

@@ -2,9 +2,11 @@
 import collections, re, subprocess
 
 from .choice import leaves_range
-from .parts import Unreadable
+from .parts import Part, Unreadable
+from .slips import Slips
 
 TOLD_RANKS = 8
+ADDRESS = re.compile('0x[0-9a-f]+')
 
 
 class Programs:
@@ -36,12 +38,13 @@ class Programs:
 
 class Comparison:
     """`reports` has what is told of each call that differs: key, title, lines; `waiting` what `waits` says of each part that
-    waits, with its script; `compared` counts results."""
+    waits, with its script; `compared` counts results, `checked` has the keys of their calls."""
 
     def __init__(self, record, calls, choice, programs):
-        self.record, self.calls, self.choice, self.programs = record, calls, choice, programs
-        self.reports = [(key, title, [self.part_line(part) for _, part in row[:TOLD_RANKS]]) for key, title, row in choice.reports]
-        self.compared, self.seen, self.told, self.waiting, self.waiting_ranks, self.has_waits = 0, set(), set(), {}, set(), True
+        self.record, self.calls, self.choice, self.programs, self.slips = record, calls, choice, programs, Slips(record, calls)
+        self.reports = [(key, title, self.part_lines(rows, Part.told_types if 'types' in title else Part.told)) for key, title, rows in choice.reports]
+        self.compared, self.checked, self.seen, self.told = 0, set(), set(), set()
+        self.waiting, self.waiting_ranks, self.has_waits = {}, set(), True
 
     def run(self, script):
         lines, waiting = self.programs.evaluate(script)
@@ -94,35 +97,57 @@ class Comparison:
             return
         if expected.how == 'refused': given = None
         self.compared += 1
+        self.checked.add(expected.call.key)
         is_same = sorted(line.split()) == sorted(given.split()) if expected.how == 'any order' and given else line == given
         if not is_same: rows.append((expected.call, given, line))
 
-    def part_line(self, part):
-        return '  rank %d, %s: %s' % (part.rank, self.record.place_of(part), part.text(most=TOLD_RANKS))
+    def part_line(self, part, told=Part.told):
+        return '  rank %d, %s: %s' % (part.rank, self.record.place_of(part), told(part, TOLD_RANKS))
+
+    def part_lines(self, rows, told=Part.told):
+        """Of pairs of a part and more lines."""
+        lines = [line for part, more in rows[:TOLD_RANKS] for line in [self.part_line(part, told)] + more]
+        return lines + ['  .. and %d ranks more' % (len(rows) - TOLD_RANKS)] * (len(rows) > TOLD_RANKS)
+
+    def refusals(self, calls):
+        """Of each call that this MPI refused for its arguments a title with lines; ranks that were told the same stand together."""
+        groups = {}
+        for part in calls.refused:
+            text = ADDRESS.sub('..', part.result[8:])
+            groups.setdefault((part.kind, self.record.place_of(part), text), []).append(part)
+        return [('a call is refused by this MPI, which is its caller\'s error', self.part_lines([(part, []) for part in parts]) + ['    ' + text])
+                for (_, _, text), parts in groups.items()]
 
     def tell(self, key, rows):
         if key in self.told: return                         # a maker in an earlier script
         self.told.add(key)
+        self.checked.add(key)
         row, line = self.calls.rows[key], rows[0][2]
         if line.startswith('fault'):
-            parts = [self.part_line(row[rank]) for rank in sorted(row)]
-            lines = parts[:TOLD_RANKS] + ['  .. and %d ranks more' % (len(parts) - TOLD_RANKS)] * (len(parts) > TOLD_RANKS)
-            self.reports.append((key, 'doesn\'t fit together: %s' % line, lines))
+            self.reports.append((key, 'doesn\'t fit together: %s' % line, self.part_lines([(row[rank], []) for rank in sorted(row)])))
             return
         lines = []
-        for part, given, line in rows[:TOLD_RANKS]: lines += [self.part_line(part), '    ' + difference(given, line)]
+        for part, given, line in rows[:TOLD_RANKS]: lines += [self.part_line(part), '    ' + difference(part, given, line)]
         if leaves_range(row): lines.append('    (past the range of a signed type, of which C and MPI say nothing; the proved value wraps)')
         if len(rows) > TOLD_RANKS: lines.append('  .. and at %d ranks more' % (len(rows) - TOLD_RANKS))
-        self.reports.append((key, 'differs', lines))
+        use = self.slips.use_of(row)
+        if use: lines.append('    (%s; MPI forbids that, so this isn\'t the MPI\'s fault)' % use)
+        self.reports.append((key, 'differs, where a buffer was in use' if use else 'differs', lines))
 
 
-def difference(given, line):
-    def short(text):
-        words = text.split()
-        return text if len(words) <= 12 else ' '.join(words[:12]) + ' .. (%d numbers)' % len(words)
-    if given is None: return 'this MPI hadn\'t returned; by the standard: %s' % short(line)
-    here, there = given.split(), line.split()
-    text = 'this MPI gave %s, the standard gives %s' % (short(given), short(line))
+def spelled(part, line):
+    """A line of numbers as the program has them."""
+    words = line.split()
+    return part.spelled.line(words) if hasattr(part.spelled, 'line') else [part.spell(word) for word in words]
+
+
+def difference(part, given, line):
+    def short(words): return ' '.join(words) if len(words) <= 12 else ' '.join(words[:12]) + ' .. (%d numbers)' % len(words)
+    there = spelled(part, line)
+    if given is None: return 'this MPI hadn\'t returned; by the standard: %s' % short(there)
+    if not given[0].isdigit() and given[0] != '-': return 'this MPI gave %s, the standard gives %s' % (given, short(there))
+    here = spelled(part, given)
+    text = 'this MPI gave %s, the standard gives %s' % (short(here), short(there))
     if not len(here) == len(there) > 1: return text
     places = [place for place in range(len(here)) if here[place] != there[place]]
     if len(here) <= 12: return text + ' (%d of %d differ)' % (len(places), len(here))

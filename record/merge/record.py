@@ -1,10 +1,13 @@
 """The record of a run: a file of each rank."""
 import collections, os, re, subprocess
 
-from .parts import Part, TAGS, Unreadable
+from .parts import NUMBERS, Part, TAGS, Unreadable
 
-RESULT = re.compile(r'ok|none|null|empty|reordered|-|error \d+|comm \d+ \d+|-?\d+( -?\d+)*')
+RESULT = re.compile(r'ok|none|null|empty|reordered|-|error \d+( .*)?|refused \w+( .*)?|comm \d+ \d+')
 NEIGHBOURS = re.compile(r'-w?|\d+(:\d+)?(,\d+(:\d+)?)*')
+SIDE = re.compile(r'-|\d+\*[^,]+(,\d+(\*[^,]+)?)*|-\d.*')
+LAST = ('end', 'abort', 'fatal', 'signal', 'exit', 'hang')
+SLIPS = ('aliased', 'in_use', 'changed')
 
 
 def texts_of(path):
@@ -23,58 +26,91 @@ def texts_within(text):
 
 
 class Record:
-    """`parts` has each rank's in the order in which they were written; `ended` what its last line was, or None."""
+    """`parts` has each rank's in the order in which they were written; `ended` the tag of its last line (LAST), or None, and `last` that line's
+    words; `missing` ranks without a file; `freed` the names of each rank's communicators that it freed."""
 
     def __init__(self, text_of):
         self.text_of, self.modules, self.notes, self.mpi, self.run = text_of, {}, [], '?', None
-        self.parts, self.ended = [], []
-        first = self.lines_of(0)
-        self.size = int(first[0].split()[1])
-        if self.size < 1: raise Unreadable('rank 0: no ranks')
-        for rank in range(self.size):
-            self.read(rank, first if rank == 0 else self.lines_of(rank))
+        self.parts, self.ended, self.last, self.missing, self.freed, self.has_messages = [], [], [], {}, [], False
+        self.size = self.find_size()
+        for rank in range(self.size): self.read(rank, self.lines_of(rank))
         self.places = self.find_places()
 
+    def find_size(self):
+        """By the first file that there is, of rank 0 in most cases."""
+        for rank in range(64):
+            lines = self.lines_of(rank)
+            if not lines: continue
+            self.missing.clear()
+            size = int(lines[0].split()[1])
+            if size < 1: raise Unreadable('rank %d: no ranks' % rank)
+            return size
+        raise Unreadable('rank 0 has no record: ' + self.missing[0])
+
     def lines_of(self, rank):
+        why = 'its file is empty'
         try: lines = self.text_of(rank).split('\n')[:-1]      # a last line without an end was being written
-        except OSError as error: raise Unreadable('rank %d has no record: %s: %s' % (rank, error.filename, error.strerror))
-        except KeyError: raise Unreadable('rank %d has no record' % rank)
-        if not lines or not re.fullmatch(r'ranks \d{1,6}', lines[0]): raise Unreadable('rank %d: its file has no line `ranks N`' % rank)
+        except OSError as error: lines, why = [], '%s: %s' % (error.filename, error.strerror)
+        except KeyError: lines, why = [], 'it has no file'
+        if not lines: self.missing[rank] = why
+        elif not re.fullmatch(r'ranks \d{1,6}', lines[0]): raise Unreadable('rank %d: its file has no line `ranks N`' % rank)
         return lines
 
     def read(self, rank, lines):
         parts, graphs = {}, {}
         self.ended.append(None)
+        self.last.append([])
+        self.freed.append(set())
         for number, line in enumerate(lines, 1):
-            try: self.read_line(rank, line, line.split(), parts, graphs)
-            except (IndexError, KeyError, ValueError) as error:
+            try: self.read_line(rank, line, parts, graphs)
+            except (IndexError, KeyError, ValueError, TypeError) as error:
                 raise Unreadable('rank %d, line %d can\'t be read (%s): %s' % (rank, number, error, line[:80]))
-        if not any(line.startswith('run ') for line in lines): raise Unreadable('rank %d: its file has no line `run NUMBER`' % rank)
+        if lines and not any(line.startswith('run ') for line in lines[:8]): raise Unreadable('rank %d: its file has no line `run NUMBER`' % rank)
         for part in parts.values(): part.graph = graphs.get(part.name)
         self.parts.append(list(parts.values()))
 
-    def read_line(self, rank, line, words, parts, graphs):
-        tag, _, thread = words[0].partition('/')
-        if tag in TAGS:
-            part = Part(rank, int(words[1]), tag, words[2], words[3:])
-            part.thread = int(thread or 1)
-            if part.id in parts and parts[part.id].tag != 'begun': raise ValueError('a second call %d' % part.id)
-            parts[part.id] = part                # in the place of the begun one, where there is one
-            if tag == 'abort': self.ended[rank] = 'abort'
+    def read_line(self, rank, line, parts, graphs):
+        tag, _, rest = line.partition(' ')
+        tag, _, thread = tag.partition('/')
+        if tag in TAGS: self.read_part(rank, tag, int(thread or 1), rest, parts)
         elif tag == 'gave':
-            result = ' '.join(words[2:])
-            if not RESULT.fullmatch(result): raise ValueError('no result')
-            parts[int(words[1])].result = result
+            ident, result = rest.split(' ', 1)
+            if not NUMBERS.fullmatch(result) and not RESULT.fullmatch(result): raise ValueError('no result')
+            parts[int(ident)].result = result
+        elif tag == 'types':
+            ident, sent, awaited = rest.split()
+            if not SIDE.fullmatch(sent) or not SIDE.fullmatch(awaited): raise ValueError('no types')
+            parts[int(ident)].sent, parts[int(ident)].awaited = sent, awaited
+        elif tag == 'slip':
+            ident, word, *more = rest.split()
+            if word not in SLIPS: raise ValueError('no slip')
+            parts[int(ident)].slips += ((word, *map(int, more)),)
         elif tag == 'graph':
-            if len(words) != 4 or not all(NEIGHBOURS.fullmatch(word) for word in words[2:]): raise ValueError('no neighbours')
-            graphs[words[1]] = words[2:]
-        elif tag == 'module': self.modules[rank, words[1]] = line.split(' ', 2)[2]
-        elif tag == 'end': self.ended[rank] = 'end'
-        elif tag == 'note': self.notes.append('rank %d: %s' % (rank, line[5:]))
-        else: self.read_head(rank, line, words)
+            name, *lists = rest.split()
+            if len(lists) != 2 or not all(NEIGHBOURS.fullmatch(word) for word in lists): raise ValueError('no neighbours')
+            graphs[name] = lists
+        elif tag == 'freed': self.freed[rank].add(rest)
+        elif tag == 'module': self.modules[rank, rest.split(' ', 1)[0]] = rest.split(' ', 1)[1]
+        elif tag == 'note': self.notes.append('rank %d: %s' % (rank, rest))
+        elif tag in LAST: self.end(rank, tag, rest.split())
+        else: self.read_head(rank, line, line.split())
+
+    def read_part(self, rank, tag, thread, rest, parts):
+        ident, place, kind, *more = rest.split(' ', 3)
+        part = Part(rank, int(ident), tag, place, kind, *more)
+        part.thread = thread
+        if part.id in parts and parts[part.id].tag != 'begun': raise ValueError('a second call %d' % part.id)
+        parts[part.id] = part                # in the place of the begun one, where there is one
+        if part.kind in ('send', 'recv', 'ssend', 'sendrecv', 'probe', 'wait_for_messages'): self.has_messages = True
+        if tag == 'abort': self.end(rank, tag, [kind])
+
+    def end(self, rank, tag, words):
+        if tag in ('signal', 'exit', 'hang') and not words[0].isdigit(): raise ValueError('no number')
+        self.ended[rank], self.last[rank] = tag, words
 
     def read_head(self, rank, line, words):
         if words[0] == 'mpi': self.mpi = re.sub(r'\s*Version:\s*', ' ', line[4:]).split(',')[0]
+        elif words[0] == 'messages': self.has_messages = True
         elif words[0] == 'run':
             self.run = self.run or words[1]
             if self.run != words[1]: raise Unreadable('rank %d\'s file is of another run than rank 0\'s' % rank)

@@ -47,7 +47,7 @@ class Weaving:
     def post(self, at, part):
         self.posted[part.key].add(part.rank)
         if self.is_whole(part.key): self.ready += self.held.pop(part.key, [])
-        if part.nonblocking: return self.finish(at)
+        if part.nonblocking and part.kind != 'idup': return self.finish(at)
         self.blocked[part.key].append(at)
         if not self.is_whole(part.key): return False
         for other in self.blocked.pop(part.key):

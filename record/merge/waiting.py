@@ -1,7 +1,11 @@
-"""Who waits for whom. Lines of `waits` where it has them; the rest from the record: calls left out, an endless test, a rank that ended."""
+"""Who waits for whom, and what ended a run early. Lines of `waits` where it has them; the rest from the record: calls left out, an endless
+test, a rank that ended."""
 import re
 
+from .comparison import ADDRESS
 from .parts import MESSAGES, WAITS
+
+DEADLY = {4: 'SIGILL', 6: 'SIGABRT', 7: 'SIGBUS', 8: 'SIGFPE', 11: 'SIGSEGV'}      # others come from outside, as of mpirun
 
 
 def grouped(ranks):
@@ -14,24 +18,52 @@ def grouped(ranks):
 
 
 class Waiting:
-    """`lines` of all ranks that neither finished nor go on."""
+    """`lines` of all ranks that neither finished nor go on; `causes` of a run that was ended early, by rank."""
 
     def __init__(self, record, calls, comparison):
         self.record, self.calls = record, calls
         self.open = [self.open_part(parts) for parts in record.parts]
-        proved = {}
-        for script, part, text in comparison.waiting.values(): proved.setdefault(part.rank, []).append((script, part, text))
-        self.lines = []
+        self.causes = {rank: cause for rank, cause in ((rank, self.cause(rank)) for rank in range(record.size)) if cause}
+        self.lines = self.lines_of_end() if self.causes else self.lines_of_waits(comparison)
+        is_somewhere = self.lines and not record.has_messages and any(self.is_going_on(rank) and self.open[rank] is None for rank in range(record.size))
+        if is_somewhere: self.lines.append('with RECORD_MESSAGES=1 a record tells in which message a rank is')
+
+    def is_going_on(self, rank): return self.record.ended[rank] in (None, 'signal', 'hang') and rank not in self.causes
+
+    def cause(self, rank):
+        """What this rank did to end the run before its time, or None."""
+        tag, words, missing = self.record.ended[rank], self.record.last[rank], self.record.missing
+        if rank in missing: return 'left no record: %s' % missing[rank]
+        if tag == 'abort': return 'called MPI_Abort(%s) at %s' % (words[0], self.record.place_of(self.record.parts[rank][-1]))
+        if tag == 'fatal': return 'was ended by this MPI, %s: %s' % (self.where(rank), ADDRESS.sub('..', ' '.join(words[1:])))
+        if tag == 'exit': return '%s, %s' % (('was ended by this MPI, with exit status %s' if words[1:] else 'ended without MPI_Finalize, with status %s')
+                                            % words[0], self.where(rank))
+        if tag == 'signal' and int(words[0]) in DEADLY: return 'died of %s, %s' % (DEADLY[int(words[0])], self.where(rank))
+        return None
+
+    def lines_of_end(self):
+        lines = ['rank %d %s' % entry for entry in sorted(self.causes.items())]
+        others = [(rank, self.state(rank)) for rank in range(self.record.size) if rank not in self.causes]
+        if others: lines[-1] += '; the others were: ' + grouped(others)
+        return lines
+
+    def lines_of_waits(self, comparison):
+        record, proved, lines = self.record, {}, []
         for rank in range(record.size):
-            if rank in proved: self.lines += [self.translate(*entry) for entry in proved[rank]]
-            elif not record.ended[rank]: self.lines += self.by_record(rank)
-            elif rank in comparison.waiting_ranks and record.ended[rank] == 'end':
-                self.lines.append('rank %d waits by the standard, where this MPI let it go on; the program waits tells in which call' % rank)
+            if record.ended[rank] == 'hang':
+                lines.append('the run was ended since no rank made a call for %s seconds (RECORD_HANG)' % record.last[rank][0])
+        for script, part, text in comparison.waiting.values(): proved.setdefault(part.rank, []).append((script, part, text))
+        for rank in range(record.size):
+            if rank in proved: lines += [self.translate(*entry) for entry in proved[rank]]
+            elif record.ended[rank] != 'end': lines += self.by_record(rank)
+            elif rank in comparison.waiting_ranks:
+                lines.append('rank %d waits by the standard, where this MPI let it go on; the program waits tells in which call' % rank)
+        return lines
 
     def open_part(self, parts):
         """Where a rank is: its last part that has no result."""
         for part in reversed(parts):
-            if part.result is None and part.tag != 'abort' and not (part.nonblocking and part.tag == 'call'): return part
+            if part.result is None and part.tag not in ('abort', 'unseen') and not (part.nonblocking and part.tag == 'call'): return part
         return None
 
     def translate(self, script, part, text):
@@ -52,13 +84,15 @@ class Waiting:
         return 'at %s' % self.record.place_of(part) if part else 'line %d' % line
 
     def state(self, rank):
-        part, parts = self.open[rank], self.record.parts[rank]
         if self.record.ended[rank] == 'end': return 'in MPI_Finalize or past it'
-        if self.record.ended[rank] == 'abort': return 'called MPI_Abort at %s' % self.record.place_of(parts[-1])
+        return self.causes[rank] if rank in self.causes else self.where(rank)
+
+    def where(self, rank):
+        part, parts = self.open[rank], [part for part in self.record.parts[rank] if part.tag != 'abort']
         if part: return 'in ' + self.described(part)
         return 'in no recorded call' + (', the last was %s' % self.described(parts[-1]) if parts else '')
 
-    def described(self, part): return '%s at %s' % (part.text(most=4), self.record.place_of(part))
+    def described(self, part): return '%s at %s' % (part.told(4), self.record.place_of(part))
 
     def by_record(self, rank):
         lines = ['rank %d is %s' % (rank, self.state(rank))]
@@ -74,7 +108,7 @@ class Waiting:
         part, requests = self.open[rank], self.calls.requests
         if part is None:                # it may ask again and again by MPI_Test
             done = {other.request for other in self.record.parts[rank] if other.kind == 'wait'}
-            return [other for other in self.record.parts[rank] if other.nonblocking and other.tag == 'call' and other.name not in done]
+            return [other for other in self.record.parts[rank] if other.nonblocking and other.tag == 'call' and (other.request or other.name) not in done]
         if part.kind in MESSAGES: return []
         if part.kind not in WAITS: return [part]
         names = [part.request] if part.kind == 'wait' else part.words[1:]

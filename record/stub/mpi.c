@@ -13,7 +13,8 @@ struct stub_type stub_types[] = {
     NAMED(8, "MPI_UNSIGNED_LONG_LONG"), NAMED(1, "MPI_INT8_T"), NAMED(2, "MPI_INT16_T"), NAMED(4, "MPI_INT32_T"), NAMED(8, "MPI_INT64_T"),
     NAMED(1, "MPI_UINT8_T"), NAMED(2, "MPI_UINT16_T"), NAMED(4, "MPI_UINT32_T"), NAMED(8, "MPI_UINT64_T"), NAMED(8, "MPI_AINT"),
     NAMED(8, "MPI_OFFSET"), NAMED(8, "MPI_COUNT"), NAMED(1, "MPI_BYTE"), NAMED(1, "MPI_C_BOOL"), NAMED(8, "MPI_2INT"),
-    NAMED(8, "MPI_DOUBLE"), NAMED(8, "MPI_FLOAT_INT")};
+    NAMED(8, "MPI_DOUBLE"), NAMED(8, "MPI_FLOAT_INT"), NAMED(4, "MPI_FLOAT"), NAMED(1, "MPI_CHAR"), NAMED(1, "MPI_PACKED"),
+    NAMED(16, "MPI_DOUBLE_INT")};
 struct stub_communicator stub_world, stub_self;
 struct stub_group stub_empty;
 static struct stub_group all = {1};
@@ -56,9 +57,24 @@ DEFINE(Type_get_extent, MPI_Datatype type, MPI_Aint *lower, MPI_Aint *length) { 
 DEFINE(Type_get_name, MPI_Datatype type, char *name, int *size) { strcpy(name, type->name); *size = strlen(name); return 0; }
 DEFINE(Type_get_envelope, MPI_Datatype type, int *integers, int *addresses, int *types, int *combiner)
 {
-    *integers = *addresses = *types = 0;
+    *integers = type->base ? 3 : 0;
+    *addresses = 0;
+    *types = type->base ? 1 : 0;
     *combiner = type->base ? MPI_COMBINER_VECTOR : MPI_COMBINER_NAMED;
     return 0;
+}
+DEFINE(Type_get_true_extent, MPI_Datatype type, MPI_Aint *lower, MPI_Aint *length) { return PMPI_Type_get_extent(type, lower, length); }
+DEFINE(Type_get_contents, MPI_Datatype type, int integers, int addresses, int types, int values[], MPI_Aint places[], MPI_Datatype within[])
+{
+    (void)integers; (void)addresses; (void)types; (void)places;
+    values[0] = type->blocks; values[1] = type->length; values[2] = type->stride;
+    within[0] = type->base;
+    return 0;
+}
+DEFINE(Type_create_hindexed, int number, const int lengths[], const MPI_Aint places[], MPI_Datatype base, MPI_Datatype *new)
+{
+    (void)number; (void)places;
+    return PMPI_Type_vector(1, lengths[0], 1, base, new);
 }
 DEFINE(Type_dup, MPI_Datatype type, MPI_Datatype *new) { *new = malloc(sizeof **new); **new = *type; return 0; }
 DEFINE(Type_vector, int blocks, int length, int stride, MPI_Datatype base, MPI_Datatype *new)
@@ -257,6 +273,10 @@ DEFINE(Dist_graph_neighbors, MPI_Comm comm, int in, int sources[], int weights_i
     return 0;
 }
 DEFINE(Topo_test, MPI_Comm comm, int *topology) { *topology = comm->has_graph ? MPI_DIST_GRAPH : MPI_UNDEFINED; return 0; }
+DEFINE(Cartdim_get, MPI_Comm comm, int *number) { (void)comm; *number = 0; return 0; }             /* grids have no neighbours here */
+DEFINE(Cart_shift, MPI_Comm comm, int dimension, int by, int *from, int *to) { (void)comm; (void)dimension; (void)by; *from = *to = MPI_PROC_NULL; return 0; }
+DEFINE(Graph_neighbors_count, MPI_Comm comm, int rank, int *number) { (void)comm; (void)rank; *number = 0; return 0; }
+DEFINE(Graph_neighbors, MPI_Comm comm, int rank, int number, int ranks[]) { (void)comm; (void)rank; (void)number; (void)ranks; return 0; }
 DEFINE(Group_size, MPI_Group group, int *size) { *size = group->size; return 0; }
 DEFINE(Group_incl, MPI_Group group, int number, const int ranks[], MPI_Group *new) { (void)group; (void)ranks; *new = number ? &all : &stub_empty; return 0; }
 DEFINE(Group_translate_ranks, MPI_Group one, int number, const int ranks[], MPI_Group other, int there[])
@@ -277,3 +297,10 @@ DEFINE(Finalize, void) { return 0; }
 DEFINE(Abort, MPI_Comm comm, int code) { (void)comm; exit(code); }
 DEFINE(Get_library_version, char *version, int *size) { strcpy(version, "stub of one rank"); *size = strlen(version); return 0; }
 DEFINE(Error_class, int error, int *class) { *class = error; return 0; }
+DEFINE(Error_string, int error, char *text, int *size) { (void)error; strcpy(text, "an error"); *size = strlen(text); return 0; }
+DEFINE(Errhandler_free, MPI_Errhandler *handler) { *handler = MPI_ERRHANDLER_NULL; return 0; }
+DEFINE(Comm_create_errhandler, MPI_Comm_errhandler_function *function, MPI_Errhandler *handler) { (void)function; *handler = 3; return 0; }
+DEFINE(Comm_get_errhandler, MPI_Comm comm, MPI_Errhandler *handler) { *handler = comm->handler ? comm->handler : MPI_ERRORS_ARE_FATAL; return 0; }
+DEFINE(Comm_set_errhandler, MPI_Comm comm, MPI_Errhandler handler) { comm->handler = handler; return 0; }
+DEFINE(Comm_call_errhandler, MPI_Comm comm, int error) { (void)comm; exit(error); }
+DEFINE(Comm_test_inter, MPI_Comm comm, int *is_inter) { (void)comm; *is_inter = 0; return 0; }

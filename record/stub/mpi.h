@@ -7,12 +7,36 @@ typedef struct stub_communicator *MPI_Comm;
 typedef struct stub_group *MPI_Group;
 typedef int MPI_Op;
 typedef long MPI_Aint;
+typedef long MPI_Count;
 typedef int MPI_Info;
+typedef int MPI_Errhandler;
 typedef struct stub_request *MPI_Request;
 typedef struct { int source; } MPI_Status;
 typedef void MPI_User_function(void *, void *, int *, MPI_Datatype *);
+typedef void MPI_Comm_errhandler_function(MPI_Comm *, int *, ...);
 
+#define MPI_VERSION 3
 #define MPI_SUCCESS 0
+#define MPI_ERR_BUFFER 1
+#define MPI_ERR_COUNT 2
+#define MPI_ERR_TYPE 3
+#define MPI_ERR_TAG 4
+#define MPI_ERR_COMM 5
+#define MPI_ERR_RANK 6
+#define MPI_ERR_ROOT 7
+#define MPI_ERR_OP 8
+#define MPI_ERR_GROUP 9
+#define MPI_ERR_ARG 10
+#define MPI_ERR_DIMS 11
+#define MPI_ERR_TOPOLOGY 12
+#define MPI_MAX_ERROR_STRING 64
+#define MPI_ERRHANDLER_NULL 0
+#define MPI_ERRORS_ARE_FATAL 1
+#define MPI_ERRORS_RETURN 2
+#define MPI_CART 1
+#define MPI_GRAPH 2
+#define MPI_COMBINER_STRUCT 3
+#define MPI_BOTTOM ((void *)0)
 #define MPI_UNDEFINED (-32766)
 #define MPI_DIST_GRAPH 3
 #define MPI_ANY_SOURCE (-1)
@@ -31,11 +55,12 @@ typedef void MPI_User_function(void *, void *, int *, MPI_Datatype *);
 #define MPI_STATUS_IGNORE ((MPI_Status *)0)
 #define MPI_STATUSES_IGNORE ((MPI_Status *)0)
 #define MPI_COMM_NULL ((MPI_Comm)0)
+#define MPI_GROUP_NULL ((MPI_Group)0)
 #define MPI_DATATYPE_NULL ((MPI_Datatype)0)
 #define MPI_REQUEST_NULL ((MPI_Request)0)
 
 struct stub_type { int size; const char *name; int blocks, length, stride; MPI_Datatype base; };
-struct stub_communicator { int has_graph, sources, destinations, is_weighted, weights[8]; };
+struct stub_communicator { int has_graph, sources, destinations, is_weighted, weights[8], handler; };
 struct stub_group { int size; };
 extern struct stub_type stub_types[];
 extern struct stub_communicator stub_world, stub_self;
@@ -46,7 +71,8 @@ extern struct stub_group stub_empty;
 
 enum { STUB_INT, STUB_LONG, STUB_SHORT, STUB_SIGNED_CHAR, STUB_LONG_LONG, STUB_UNSIGNED, STUB_UNSIGNED_LONG, STUB_UNSIGNED_SHORT,
     STUB_UNSIGNED_CHAR, STUB_UNSIGNED_LONG_LONG, STUB_INT8, STUB_INT16, STUB_INT32, STUB_INT64, STUB_UINT8, STUB_UINT16, STUB_UINT32,
-    STUB_UINT64, STUB_AINT, STUB_OFFSET, STUB_COUNT, STUB_BYTE, STUB_BOOL, STUB_2INT, STUB_DOUBLE, STUB_FLOAT_INT };
+    STUB_UINT64, STUB_AINT, STUB_OFFSET, STUB_COUNT, STUB_BYTE, STUB_BOOL, STUB_2INT, STUB_DOUBLE, STUB_FLOAT_INT, STUB_FLOAT, STUB_CHAR,
+    STUB_PACKED, STUB_DOUBLE_INT };
 #define MPI_INT (stub_types + STUB_INT)
 #define MPI_LONG (stub_types + STUB_LONG)
 #define MPI_SHORT (stub_types + STUB_SHORT)
@@ -73,7 +99,33 @@ enum { STUB_INT, STUB_LONG, STUB_SHORT, STUB_SIGNED_CHAR, STUB_LONG_LONG, STUB_U
 #define MPI_2INT (stub_types + STUB_2INT)
 #define MPI_DOUBLE (stub_types + STUB_DOUBLE)
 #define MPI_FLOAT_INT (stub_types + STUB_FLOAT_INT)
-#define MPI_INTEGER MPI_DATATYPE_NULL           /* no Fortran here */
+#define MPI_FLOAT (stub_types + STUB_FLOAT)
+#define MPI_CHAR (stub_types + STUB_CHAR)
+#define MPI_PACKED (stub_types + STUB_PACKED)
+#define MPI_DOUBLE_INT (stub_types + STUB_DOUBLE_INT)
+#define MPI_LONG_DOUBLE MPI_DATATYPE_NULL
+#define MPI_LONG_DOUBLE_INT MPI_DATATYPE_NULL
+#define MPI_LONG_INT MPI_DATATYPE_NULL
+#define MPI_SHORT_INT MPI_DATATYPE_NULL
+#define MPI_WCHAR MPI_DATATYPE_NULL
+#define MPI_C_FLOAT_COMPLEX MPI_DATATYPE_NULL
+#define MPI_C_DOUBLE_COMPLEX MPI_DATATYPE_NULL
+#define MPI_C_LONG_DOUBLE_COMPLEX MPI_DATATYPE_NULL
+#define MPI_REAL MPI_DATATYPE_NULL              /* no Fortran here */
+#define MPI_DOUBLE_PRECISION MPI_DATATYPE_NULL
+#define MPI_REAL4 MPI_DATATYPE_NULL
+#define MPI_REAL8 MPI_DATATYPE_NULL
+#define MPI_REAL16 MPI_DATATYPE_NULL
+#define MPI_COMPLEX MPI_DATATYPE_NULL
+#define MPI_DOUBLE_COMPLEX MPI_DATATYPE_NULL
+#define MPI_COMPLEX8 MPI_DATATYPE_NULL
+#define MPI_COMPLEX16 MPI_DATATYPE_NULL
+#define MPI_COMPLEX32 MPI_DATATYPE_NULL
+#define MPI_CHARACTER MPI_DATATYPE_NULL
+#define MPI_LOGICAL MPI_DATATYPE_NULL
+#define MPI_2REAL MPI_DATATYPE_NULL
+#define MPI_2DOUBLE_PRECISION MPI_DATATYPE_NULL
+#define MPI_INTEGER MPI_DATATYPE_NULL
 #define MPI_INTEGER1 MPI_DATATYPE_NULL
 #define MPI_INTEGER2 MPI_DATATYPE_NULL
 #define MPI_INTEGER4 MPI_DATATYPE_NULL
@@ -135,6 +187,17 @@ BOTH(Finalize, void)
 BOTH(Abort, MPI_Comm, int)
 BOTH(Get_library_version, char *, int *)
 BOTH(Error_class, int, int *)
+BOTH(Error_string, int, char *, int *)
+BOTH(Errhandler_free, MPI_Errhandler *)
+BOTH(Comm_create_errhandler, MPI_Comm_errhandler_function *, MPI_Errhandler *)
+BOTH(Comm_get_errhandler, MPI_Comm, MPI_Errhandler *)
+BOTH(Comm_set_errhandler, MPI_Comm, MPI_Errhandler)
+BOTH(Comm_call_errhandler, MPI_Comm, int)
+BOTH(Comm_test_inter, MPI_Comm, int *)
+BOTH(Cartdim_get, MPI_Comm, int *)
+BOTH(Cart_shift, MPI_Comm, int, int, int *, int *)
+BOTH(Graph_neighbors_count, MPI_Comm, int, int *)
+BOTH(Graph_neighbors, MPI_Comm, int, int, int [])
 BOTH(Wait, MPI_Request *, MPI_Status *)
 BOTH(Waitall, int, MPI_Request [], MPI_Status [])
 BOTH(Waitany, int, MPI_Request [], int *, MPI_Status *)
@@ -174,6 +237,9 @@ BOTH(Type_size, MPI_Datatype, int *)
 BOTH(Type_get_extent, MPI_Datatype, MPI_Aint *, MPI_Aint *)
 BOTH(Type_get_name, MPI_Datatype, char *, int *)
 BOTH(Type_get_envelope, MPI_Datatype, int *, int *, int *, int *)
+BOTH(Type_get_true_extent, MPI_Datatype, MPI_Aint *, MPI_Aint *)
+BOTH(Type_get_contents, MPI_Datatype, int, int, int, int [], MPI_Aint [], MPI_Datatype [])
+BOTH(Type_create_hindexed, int, const int [], const MPI_Aint [], MPI_Datatype, MPI_Datatype *)
 BOTH(Type_vector, int, int, int, MPI_Datatype, MPI_Datatype *)
 BOTH(Type_commit, MPI_Datatype *)
 BOTH(Type_dup, MPI_Datatype, MPI_Datatype *)

@@ -1,0 +1,96 @@
+/* Ends that no call tells: deadly signals, and an exit before MPI_Finalize. Each leaves a last line, and the program goes the way that it would. */
+#include "record.h"
+#include <dlfcn.h>
+#include <signal.h>
+#include <stdlib.h>
+#include <string.h>
+#include <sys/syscall.h>
+#include <unistd.h>
+
+static const int deadly[] = {SIGSEGV, SIGBUS, SIGFPE, SIGILL, SIGABRT, SIGTERM, SIGINT, SIGHUP, SIGQUIT};
+enum { SIGNALS = sizeof deadly / sizeof *deadly };
+static int is_free[SIGNALS];            /* whether the program left it as it was */
+static struct sigaction before[SIGNALS];
+
+/* The C library's own: others' libraries stand before it, and keep some signals to themselves. */
+static int set_action(int number, const struct sigaction *new, struct sigaction *old)
+{
+    static int (*set)(int, const struct sigaction *, struct sigaction *);
+    if (!set) {
+        void *library = dlopen("libc.so.6", RTLD_LAZY | RTLD_NOLOAD);
+        if (library) set = (__typeof__(set))dlsym(library, "sigaction");
+        if (!set) set = sigaction;
+    }
+    return set(number, new, old);
+}
+
+/* The line is written, and then what was there before acts: on the fault itself, or on the signal sent again. */
+static void note_signal(int number, siginfo_t *cause, void *unused)
+{
+    char line[] = "signal 00\n";
+    (void)unused;
+    line[7] = '0' + number / 10;
+    line[8] = '0' + number % 10;
+    write_last(line, sizeof line - 1);
+    for (int i = 0; i < SIGNALS; i++) if (deadly[i] == number) set_action(number, &before[i], 0);
+    if (cause->si_code <= 0) raise(number);
+}
+
+/* An MPI and what it stands on may have handlers that print where a program died: those go on. */
+static int is_of_mpi(const struct sigaction *action)
+{
+    static const char *const libraries[] = {"libucs", "libmpi", "libopen-", "libpmix", "libfabric", "libpsm"};
+    Dl_info module;
+    if (!dladdr((void *)action->sa_sigaction, &module) || !module.dli_fname) return 0;
+    for (size_t i = 0; i < sizeof libraries / sizeof *libraries; i++) if (strstr(module.dli_fname, libraries[i])) return 1;
+    return 0;
+}
+
+/* Before MPI is begun. */
+void note_signals(void)
+{
+    for (int i = 0; i < SIGNALS; i++) {
+        struct sigaction now;
+        if (set_action(deadly[i], 0, &now)) continue;
+        is_free[i] = (!(now.sa_flags & SA_SIGINFO) && now.sa_handler == SIG_DFL) || is_of_mpi(&now);
+    }
+}
+
+void watch_signals(void)
+{
+    struct sigaction noting;
+    memset(&noting, 0, sizeof noting);
+    noting.sa_sigaction = note_signal;
+    noting.sa_flags = SA_SIGINFO;
+    for (int i = 0; i < SIGNALS; i++) if (is_free[i]) set_action(deadly[i], &noting, &before[i]);
+}
+
+static void note_exit(int code)
+{
+    char line[32] = "exit ", *at = line + 5;
+    unsigned number = code & 255;
+    if (number >= 100) *at++ = '0' + number / 100;
+    if (number >= 10) *at++ = '0' + number / 10 % 10;
+    *at++ = '0' + number % 10;
+    if (inside) { memcpy(at, " inside", 7); at += 7; }
+    *at++ = '\n';
+    write_last(line, at - line);
+}
+
+/* An MPI may end the process so. */
+void _exit(int code)
+{
+    note_exit(code);
+    for (;;) syscall(SYS_exit_group, code);
+}
+
+/* MPI_Finalize may yet be called by what the program does at its end: the line waits for that. */
+static int ordinary_code;
+static void keep_code(int code, void *unused)
+{
+    (void)unused;
+    ordinary_code = code;
+}
+
+void watch_exit(void) { on_exit(keep_code, 0); }
+__attribute__((destructor)) static void note_ordinary_exit(void) { note_exit(ordinary_code); }

@@ -1,0 +1,38 @@
+"""The report for machines: JSON, and JUnit's XML, of which each difference is a case."""
+import json
+from xml.sax.saxutils import escape, quoteattr
+
+
+def as_json(outcome, told, status):
+    """`told` has the title and the lines of each call that differs."""
+    differences = [dict(title=title, lines=[line.strip() for line in lines]) for title, lines in told]
+    return json.dumps(dict(
+        status=status, mpi=outcome.record.mpi, ranks=outcome.record.size, calls=outcome.calls, checked=outcome.checked,
+        held_to_bounds=outcome.held, results=outcome.comparison.compared, differences=differences,
+        waiting=outcome.waiting, ended_early=outcome.ended, notes=outcome.notes, left_out=dict(outcome.left), summary=outcome.summary()), indent=1) + '\n'
+
+
+def case(name, kind='', message='', text=''):
+    start = '  <testcase classname="record" name=%s' % quoteattr(name)
+    if not kind: return start + '/>'
+    return '%s><%s message=%s>%s</%s></testcase>' % (start, kind, quoteattr(message), escape(text), kind)
+
+
+def as_junit(outcome, told, status):
+    """A case for each difference, one for ranks that wait, one for each kind of calls that are left out, and one for the whole."""
+    cases = [case(title, 'failure', lines[0].strip() if lines else title, '\n'.join(lines)) for title, lines in told]
+    if outcome.waiting: cases.append(case('the run was ended early' if outcome.ended else 'ranks wait', 'failure', outcome.waiting[0], '\n'.join(outcome.waiting)))
+    cases += [case('left out: ' + what, 'skipped', '%d calls' % number) for what, number in sorted(outcome.left.items())]
+    failures = sum('<failure' in line for line in cases)
+    is_green = status == 0 or failures
+    cases.append(case('how much was checked', *(() if is_green else ('failure', outcome.summary(), outcome.summary()))))
+    return '<?xml version="1.0" encoding="UTF-8"?>\n<testsuite name="record" tests="%d" failures="%d" skipped="%d">\n%s\n</testsuite>\n' % (
+        len(cases), sum('<failure' in line for line in cases), sum('<skipped' in line for line in cases), '\n'.join(cases))
+
+
+def unreadable_as_json(message, status): return json.dumps(dict(status=status, error=message)) + '\n'
+
+
+def unreadable_as_junit(message, status):
+    return ('<?xml version="1.0" encoding="UTF-8"?>\n<testsuite name="record" tests="1" errors="1">\n%s\n</testsuite>\n'
+            % case('the record is read', 'error', message, 'status %d' % status))
