@@ -4,11 +4,12 @@
 
 mod progress;
 
-use crate::progress::Progress;
+use crate::progress::HowFar;
 use mpx_affine::Affine;
 use mpx_num::{Ops, OwnOp};
 use mpx_program::{refuse, run_job_observed};
-use mpx_words::not_text;
+use mpx_trace::{Table, Trace};
+use mpx_words::{flags_behind, not_text};
 use std::alloc::AllocError;
 use std::io::Write;
 use std::process::ExitCode;
@@ -34,7 +35,7 @@ fn main(rt: HostRuntime) -> ExitCode {
     let alloc = rt.alloc();
     let err = &mut rt.stderr();
     let mut list: Vec<Box<dyn OwnOp + Send + Sync + Drop>> = Vec::new(alloc);
-    let Ok(affine) = Box::new(alloc, Affine { word: "affine" }) else {
+    let Ok(affine) = Box::new(alloc, Affine::of_programs()) else {
         return starved(err);
     };
     if list.push(affine).is_err() {
@@ -43,18 +44,22 @@ fn main(rt: HostRuntime) -> ExitCode {
     let Ok(ops) = Ops::new(list) else {
         return ExitCode::FAILURE;
     };
-    let exit = match words_of(&rt) {
-        Ok(words) => run_job_observed(
-            &rt,
-            alloc,
-            &words,
-            &mut rt.reader(),
-            &mut io::writer(&rt),
-            err,
-            &mut Progress::new(&rt, rt.stderr()),
-            &ops,
-        ),
-        Err(refusal) => refuse(&refusal, err),
+    let words = match words_of(&rt) {
+        Ok(words) => words,
+        Err(refusal) => return ExitCode::from(refuse(&refusal, err).status),
+    };
+    let reader = &mut rt.reader();
+    let out = &mut io::writer(&rt);
+    let flags = flags_behind(&words);
+    let exit = if flags.trace {
+        let mut trace = Trace::new(alloc, rt.stderr());
+        run_job_observed(&rt, alloc, &words, reader, out, err, &mut trace, &ops)
+    } else if flags.table {
+        let mut table = Table::new(alloc, rt.stderr());
+        run_job_observed(&rt, alloc, &words, reader, out, err, &mut table, &ops)
+    } else {
+        let mut far = HowFar::new(&rt, rt.stderr());
+        run_job_observed(&rt, alloc, &words, reader, out, err, &mut far, &ops)
     };
     ExitCode::from(exit.status)
 }

@@ -6,10 +6,11 @@ use crate::lines::{number_of, word_at, words_of};
 use crate::statements::{last_statement, sizes, statements};
 use crate::streams::{Failing, Holding, Limited};
 use mpx_num::Ops;
-use mpx_program::{refuse, run_job, status_of, write_message};
+use mpx_program::{refuse, run_job, run_job_observed, status_of, write_message};
 use mpx_run::{Command, Gate, Job, Options, Unobserved, run_text, run_text_observed};
 use mpx_script::ReadScriptError;
-use mpx_words::not_text;
+use mpx_trace::{Table, Trace};
+use mpx_words::{flags_behind, not_text};
 use std::alloc::Global;
 use std::io::{self, Read, Write};
 use std::sync::Wait;
@@ -106,10 +107,28 @@ fn called_by<T: Threads + Wait + Sync, R: Read, W: Write>(
     out: &mut W,
     ops: &Ops,
 ) -> io::Result<Vec<u8>> {
+    let flags = flags_behind(words);
     let mut said = Vec::new(alloc);
+    if flags.trace {
+        let mut trace = Trace::new(alloc, Vec::new(alloc));
+        let exit = run_job_observed(rt, alloc, words, reader, out, &mut said, &mut trace, ops);
+        return with_status(trace.into_writer(), &said, exit.status);
+    }
+    if flags.table {
+        let mut table = Table::new(alloc, Vec::new(alloc));
+        let exit = run_job_observed(rt, alloc, words, reader, out, &mut said, &mut table, ops);
+        return with_status(table.into_writer(), &said, exit.status);
+    }
     let exit = run_job(rt, alloc, words, reader, out, &mut said, ops);
-    writeln!(said, "= {}", exit.status)?;
-    Ok(said)
+    with_status(Vec::new(alloc), &said, exit.status)
+}
+
+// What was shown of a run and then said, with the status.
+fn with_status(shown: Vec<u8>, said: &[u8], status: u8) -> io::Result<Vec<u8>> {
+    let mut shown = shown;
+    shown.extend_from_slice(said)?;
+    writeln!(shown, "= {status}")?;
+    Ok(shown)
 }
 
 // `many N WORDS`: behind the words `--seed 1` stands so many times.
@@ -270,7 +289,7 @@ fn strange_job<T: Threads + Wait + Sync>(
     let mut out = Vec::new(alloc);
     let answer = run_text(rt, alloc, &job, &mut reader, &mut out, ops);
     write_message(&answer, &mut out)?;
-    writeln!(out, "= {}", status_of(&answer))?;
+    writeln!(out, "= {}", status_of(&answer, false))?;
     Ok(out)
 }
 
@@ -330,7 +349,7 @@ fn gated<T: Threads + Wait + Sync, G: Gate + Sync>(
     let seen = &mut Unobserved;
     let answer = run_text_observed(rt, alloc, &job, &mut reader, &mut out, seen, gate, ops);
     write_message(&answer, &mut out)?;
-    writeln!(out, "= {}", status_of(&answer))?;
+    writeln!(out, "= {}", status_of(&answer, false))?;
     Ok(out)
 }
 

@@ -171,7 +171,7 @@ fn print_rows<T: Threads + Wait + Sync, R: Read, W: Write>(
 fn main(rt: HostRuntime) -> ExitCode {
     let alloc = rt.alloc();
     let mut list: Vec<Box<dyn OwnOp + Send + Sync + Drop>> = Vec::new(alloc);
-    let Ok(affine) = Box::new(alloc, Affine { word: "affine" }) else {
+    let Ok(affine) = Box::new(alloc, Affine::of_programs()) else {
         return ExitCode::FAILURE;
     };
     if list.push(affine).is_err() {

@@ -99,14 +99,17 @@ fn other_than(came: &[u8], again: Vec<u8>) -> io::Result<Option<Vec<u8>>> {
     Ok(Some(again))
 }
 
-// Whether the row is a run without threads, with streams as they mostly are.
+// Whether the row is a run without threads, with streams as they mostly are, that nobody is shown.
 fn is_run(line: &[u8]) -> bool {
-    word_at(line, 1) == b"run".as_slice() && !has_word(line, b"--threads")
+    word_at(line, 1) == b"run".as_slice()
+        && !has_word(line, b"--threads")
+        && !has_word(line, b"--trace")
+        && !has_word(line, b"--table")
 }
 
-// Whether the row is an evaluation.
+// Whether the row is an evaluation, of which nothing is explained.
 fn is_evaluation(line: &[u8]) -> bool {
-    word_at(line, 1) == b"eval".as_slice()
+    word_at(line, 1) == b"eval".as_slice() && !has_word(line, b"--explain")
 }
 
 // Whether the text ends with the status 0.

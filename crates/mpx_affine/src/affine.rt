@@ -1,5 +1,5 @@
 //! The composition of affine maps.
-ghost use Rattle.std.specs.Prelude.{◌≡◌, IsTrue, true};
+ghost use Rattle.std.specs.Prelude.{◌≡◌, IsTrue, codes, true};
 ghost use Rattle.mpx_num.specs.Types.{is_paired};
 ghost use Rattle.mpx_num.specs.Own.{IsItem};
 ghost use Rattle.mpx_affine.specs.Composition.{composed};
@@ -11,6 +11,15 @@ use mpx_num::{OwnOp, Ty, into_range};
 #[derive(Drop)]
 pub struct Affine {
     pub word: &'static str,
+}
+
+impl Affine {
+    /// The operation by which the programs of this repository compose maps, of the word `affine`.
+    pub fn of_programs() -> Affine
+        ensures { result.word.now ≡ codes "affine" }
+    {
+        Affine { word: "affine" }
+    }
 }
 
 impl OwnOp for Affine {

@@ -27,9 +27,11 @@ use Rattle.mpx_comm.specs.Requests.{same_request, close, close_all, ArePosted, r
 use Rattle.mpx_comm.specs.declared.answers.WaitError.TheVariants as W
 use Rattle.mpx_comm.specs.declared.answers.CallError.{CallError}
 use Rattle.mpx_comm.specs.declared.answers.CallError.TheVariants as C
-use Rattle.mpx_comm.specs.Later.{Later, IsPending, WasPending, IsOwn}
+use Rattle.mpx_comm.specs.Later.{Later, IsPending, IsOwn}
+use Rattle.mpx_comm.specs.Harvested.{ComesByHarvests, WasPending}
 use Rattle.join_core.specs.Cases.{first_true, second_true, TestAnswer, yes, no, answer}
-use Rattle.mpx_comm.proofs.Steps.{get_either, still_pending, pending_now, held_joined, held_added}
+use Rattle.mpx_comm.proofs.Harvesting.{still_pending, pending_now}
+use Rattle.mpx_comm.proofs.Steps.{get_either, held_joined, held_added}
 use Rattle.mpx_node.specs.declared.finished.Finished.{Finished}
 use Rattle.std.proofs.lemmas.Option.{same_Some, slice_get_within}
 use Rattle.std.proofs.lemmas.List.{map-append}
@@ -267,18 +269,18 @@ from_place (y ∷ ys) (suc i) (suc k) x e = let place = from_place ys i k x e in
 pub posted_removed : (node : NodeView) (rs : List Request) (i : ℕ) → ArePosted node rs → ArePosted node (remove rs i)
 posted_removed node rs i all k r e = let place = from_place rs i k r e in all place.0 r place.1
 
-pub were_later : (a b c : NodeView) (n : ℕ) (rs : List Request) → WerePending a b n rs → Later b c → WerePending a c n rs
-were_later a b c n rs w later i r l e = still_pending a b c r.name r.call (w i r l e) later
+pub were_later : (ops : List Operation) (a b c : NodeView) (n : ℕ) (rs : List Request) → WerePending ops a b n rs → ComesByHarvests ops b c → WerePending ops a c n rs
+were_later ops a b c n rs w more i r l e = still_pending ops a b c r.name r.call (w i r l e) more
 
 -- one more was pending
-pub were_more : (a b : NodeView) (n : ℕ) (rs : List Request) (r : Request) → WerePending a b n rs → Later a b → slice_get rs n ≡ Some r → IsPending b r.name r.call → WerePending a b (n + 1) rs
-were_more a b n rs r w later at pending i q l e = by_place (answer (nat_lt i n)) where
-  by_place : TestAnswer (nat_lt i n) → WasPending a b q.name q.call
+pub were_more : (ops : List Operation) (a b : NodeView) (n : ℕ) (rs : List Request) (r : Request) → WerePending ops a b n rs → ComesByHarvests ops a b → slice_get rs n ≡ Some r → IsPending b r.name r.call → WerePending ops a b (n + 1) rs
+were_more ops a b n rs r w since at pending i q l e = by_place (answer (nat_lt i n)) where
+  by_place : TestAnswer (nat_lt i n) → WasPending ops a b q.name q.call
   by_place (yes t) = w i q (grind (arith, nat_tests)) e
   by_place (no f) =
       let place : i ≡ n = grind (arith, nat_tests) in
       let same : r ≡ q = same_Some r q (sym at ∙ ap (slice_get rs) (sym place) ∙ e) in
-      pending_now a b q.name q.call later (subst (λ (x : Request). IsPending b x.name x.call) same pending)
+      pending_now ops a b q.name q.call since (subst (λ (x : Request). IsPending b x.name x.call) same pending)
 
 -- BLOCKING CALLS
 

@@ -24,7 +24,7 @@ use Rattle.mpx_node.specs.declared.node.Harvest.TheVariants.{Done, NotYet, NotOp
 use Rattle.mpx_node.specs.Harvests.{Harvests, HarvestsOpened}
 use Rattle.mpx_node.specs.Deltas.{SaysWhatItHas}
 use Rattle.mpx_node.specs.Nodes.{own_acks, NodeView, OpenedView, posted_by, results_on, results_by, front_on, next_result, next_of, result_of, outcome_on, learn, learn_some, StopsTaking, add_result, children_on, or_new, opens, stores_on, is_new_to, harvest_part, Opens, gathering_fact, gathering_name, open_gathering_node}
-use Rattle.mpx_comm.specs.Later.{result_at, IsAtHand, IsHeld, IsOwn, Later, IsPending, WasPending}
+use Rattle.mpx_comm.specs.Later.{result_at, IsAtHand, IsHeld, IsOwn, Later, IsPending}
 use Rattle.mpx_board.proofs.Facts.{posts_bound, posts_order}
 use Rattle.mpx_node.proofs.Nexts.{no_next, some_next}
 
@@ -48,12 +48,6 @@ later_more a b c x y = record {
 
 pub later_same : (a b : NodeView) → b ≡ a → Later a b
 later_same a b e = subst (λ x. Later a x) (sym e) (later_none a)
-
-pub still_pending : (a b c : NodeView) (name : Name) (call : ℕ) → WasPending a b name call → Later b c → WasPending a c name call
-still_pending a b c name call w l = record { moment = w.moment; after = w.after; before = later_more w.moment b c w.before l; pending = w.pending }
-
-pub pending_now : (a b : NodeView) (name : Name) (call : ℕ) → Later a b → IsPending b name call → WasPending a b name call
-pending_now a b name call l p = record { moment = b; after = l; before = later_none b; pending = p }
 
 -- WHAT IS HELD
 

@@ -37,10 +37,3 @@ pub record IsPending (node : NodeView) (name : Name) (call : ℕ) : Type 0 where
 -- the call has a result, or the next one on its context can be had: here alone may a look want memory
 abbrev pub IsAtHand : NodeView → Name → (call : ℕ) → Type 0
 IsAtHand node name call = IsTrue (is_some (result_at node name call)) ⊎ IsTrue (has_next node name)
-
--- at some moment between the two the call was not done
-pub record WasPending (old new : NodeView) (name : Name) (call : ℕ) : Type 0 where
-  pub moment : NodeView
-  pub after : Later old moment
-  pub before : Later moment new
-  pub pending : IsPending moment name call

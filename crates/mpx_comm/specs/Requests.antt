@@ -21,7 +21,8 @@ use Rattle.mpx_comm.specs.declared.answers.WaitError.{WaitError}
 use Rattle.mpx_comm.specs.declared.answers.WaitError.TheVariants.{StillWaiting, OutOfMemory as NoMemory}
 use Rattle.mpx_comm.specs.declared.answers.CallError.{CallError}
 use Rattle.mpx_comm.specs.declared.answers.CallError.TheVariants as C
-use Rattle.mpx_comm.specs.Later.{result_at, IsAtHand, IsOwn, IsPending, WasPending}
+use Rattle.mpx_comm.specs.Later.{result_at, IsAtHand, IsOwn, IsPending}
+use Rattle.mpx_comm.specs.Harvested.{WasPending}
 use Rattle.mpx_comm.specs.Turns.{Awaits, GivesUp}
 use Rattle.mpx_comm.specs.Lines.{create_group}
 
@@ -106,15 +107,15 @@ TestsAll requests (Ok (NotYet back)) node before after = (back.items ≡ request
 TestsAll requests (Err refused) node before after = (refused.value.items ≡ requests) × OneIsAtHand node requests × (after ≡ before)
 
 -- each of the first so many was not done at some moment
-abbrev pub WerePending : (old new : NodeView) → (number : ℕ) → List Request → Type 0
-WerePending old new number requests = (i : ℕ) (request : Request) → i < number → slice_get requests i ≡ Some request → WasPending old new request.name request.call
+abbrev pub WerePending : List Operation → (old new : NodeView) → (number : ℕ) → List Request → Type 0
+WerePending ops old new number requests = (i : ℕ) (request : Request) → i < number → slice_get requests i ≡ Some request → WasPending ops old new request.name request.call
 
 -- the first open request that is done is closed, or none is done
-abbrev pub TestsAny : Result (Option (Request × Finished)) OutOfMemory → (old new : NodeView) → (before after : List Request) → Type 0
-TestsAny (Ok (Some (request, finished))) old new before after =
-    (place : ℕ) × (slice_get before place ≡ Some request) × WerePending old new place before × (result_of new request ≡ Some finished) × (after ≡ remove before place)
-TestsAny (Ok None) old new before after = WerePending old new (length before) before × (after ≡ before)
-TestsAny (Err e) old new before after = OneIsAtHand new before × (after ≡ before)
+abbrev pub TestsAny : List Operation → Result (Option (Request × Finished)) OutOfMemory → (old new : NodeView) → (before after : List Request) → Type 0
+TestsAny ops (Ok (Some (request, finished))) old new before after =
+    (place : ℕ) × (slice_get before place ≡ Some request) × WerePending ops old new place before × (result_of new request ≡ Some finished) × (after ≡ remove before place)
+TestsAny ops (Ok None) old new before after = WerePending ops old new (length before) before × (after ≡ before)
+TestsAny ops (Err e) old new before after = OneIsAtHand new before × (after ≡ before)
 
 -- WAITS
 

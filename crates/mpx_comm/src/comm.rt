@@ -1,5 +1,5 @@
 //! Communicators, as one of their members has them.
-ghost use Rattle.std.specs.Prelude.{◌≡◌, ◌<◌, ◌≤◌, [], IfOk};
+ghost use Rattle.std.specs.Prelude.{◌≡◌, ◌<◌, ◌≤◌, [], IfOk, IsSome, OnErr};
 ghost use Rattle.mpx_comm.specs.Comms.{comm_of};
 
 use join_core::{Exact, OutOfMemory};
@@ -31,9 +31,10 @@ impl Comm {
     }
 
     /// The new communicator that a call gave the process, where it gave one: not the null communicator, nor a fault. An `Err` is want of
-    /// memory for its name.
+    /// memory for its name, and so only where there is one.
     pub fn of(alloc: Global, finished: &Finished) -> Result<Option<Comm>, OutOfMemory>
-        ensures { IfOk result (λ comm. comm ≡ comm_of finished.now.outcome) }
+        ensures comm { IfOk result (λ comm. comm ≡ comm_of finished.now.outcome) }
+        ensures memory { OnErr result (IsSome (comm_of finished.now.outcome)) }
     {
         match &finished.outcome {
             Outcome::NewComm { name, size, rank } => Ok(Some(Comm {

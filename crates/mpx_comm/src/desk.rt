@@ -201,7 +201,7 @@ impl<H: Host> Desk<H> {
         alloc: Global,
         ops: &Ops,
     ) -> Result<Option<(Request, Finished)>, OutOfMemory>
-        ensures tests { TestsAny result (H.node self.old.host) (H.node self.new.host) self.old.requests.keys self.new.requests.keys }
+        ensures tests { TestsAny (⟦<Ops as Listing>⟧.operations ops.now) result (H.node self.old.host) (H.node self.new.host) self.old.requests.keys self.new.requests.keys }
         ensures later { Later (H.node self.old.host) (H.node self.new.host) }
         ensures harvested { Harvested (⟦<Ops as Listing>⟧.operations ops.now) (H.node self.old.host) (H.node self.new.host) }
         ensures no_turn { H.turned self.old.host 0 self.new.host }

@@ -75,8 +75,8 @@ pub fn look_any<H: Host>(
     ensures harvested { Harvested (⟦<Ops as Listing>⟧.operations ops.now) (H.node host.old) (H.node host.new) }
     ensures no_turn { H.turned host.old 0 host.new }
     ensures found { IfOk result (λ found. MatchOption found
-        (WerePending (H.node host.old) (H.node host.new) (length requests.now) requests.now)
-        (λ p. WerePending (H.node host.old) (H.node host.new) p.0 requests.now
+        (WerePending (⟦<Ops as Listing>⟧.operations ops.now) (H.node host.old) (H.node host.new) (length requests.now) requests.now)
+        (λ p. WerePending (⟦<Ops as Listing>⟧.operations ops.now) (H.node host.old) (H.node host.new) p.0 requests.now
         × ((request : _) × (slice_get requests.now p.0 ≡ Some request) × (result_of (H.node host.new) request ≡ Some p.1)))) }
     ensures wanting { IfErr result (λ e. OneIsAtHand (H.node host.new) requests.now) }
 {

@@ -9,3 +9,4 @@ pub mod Going
 pub mod Reporting
 pub mod Waits
 mod Complaining
+mod Unhearing

@@ -9,3 +9,5 @@ pub mod Waiting
 pub mod Complaints
 pub mod Findings
 pub mod Found
+pub mod Unheard
+pub mod Certain

@@ -7,6 +7,7 @@ use crate::complaints::{Complaint, complaints_of};
 use crate::evaluation::start;
 use crate::rounds::rounds;
 use crate::table::Table;
+use crate::unheard::unheard_of;
 use crate::who_waits::{WaitingRank, waiting_ranks};
 use join_core::OutOfMemory;
 use mpx_num::{Listing, Ops};
@@ -22,12 +23,14 @@ pub struct Findings {
     /// The lines that say that a call was refused or is a fault, rank by rank and in the order of the transcripts, each with
     /// the statement of its call.
     pub complaints: Vec<Complaint>,
+    /// The faults that no line tells, as the requests of their calls are open: rank by rank and in the order of their statements.
+    pub unheard: Vec<Complaint>,
 }
 
 /// Evaluates a script, as [`eval`](crate::eval) does, and finds who waits at the end, and which calls were refused or are faults. An
 /// `Err` is want of memory.
 pub fn examine(alloc: Global, script: &Script, ops: &Ops) -> Result<Findings, OutOfMemory>
-    ensures { IfOk result (λ found. AreFindings (⟦<Ops as Listing>⟧.operations ops.now) script.now (map waiting_view found.waiting.items) (map complaint_view found.complaints.items)) }
+    ensures { IfOk result (λ found. AreFindings (⟦<Ops as Listing>⟧.operations ops.now) script.now (map waiting_view found.waiting.items) (map complaint_view found.complaints.items) (map complaint_view found.unheard.items)) }
 {
     let count = script.ranks();
     let mut ranks = start(alloc, script)?;
@@ -36,8 +39,10 @@ pub fn examine(alloc: Global, script: &Script, ops: &Ops) -> Result<Findings, Ou
     let places = ranks.as_slice();
     let waiting = waiting_ranks(alloc, script, count, places, &table)?;
     let complaints = complaints_of(alloc, script, count, places)?;
+    let unheard = unheard_of(alloc, script, count, places, &table, ops)?;
     Ok(Findings {
         waiting,
         complaints,
+        unheard,
     })
 }

@@ -9,10 +9,14 @@
 //! [`examine`] tells of the ranks that wait at its end at which statement each does, for which calls, and whose posts to
 //! them are missing, also since they have freed the context (`who_waits.rt`, `missing.rt`); what that is stands in
 //! `specs/Waiting.antt`. And it tells which lines say that a call was refused or is a fault, and at which statement each of these
-//! calls is made (`complaints.rt`); what that is stands in `specs/Complaints.antt`.
+//! calls is made (`complaints.rt`); what that is stands in `specs/Complaints.antt`. Faults that no line tells, as nobody has waited
+//! for them, stand beside these (`unheard.rt`, `specs/Unheard.antt`).
+//!
+//! [`certain_refusals`] evaluates nothing: it tells which calls on `world` are refused in any case (`specs/Certain.antt`).
 #![tactic(auto)]
 
 mod carrying;
+mod certain;
 mod complaints;
 mod context;
 mod evaluation;
@@ -21,8 +25,10 @@ mod missing;
 mod posting;
 mod rounds;
 mod table;
+mod unheard;
 mod who_waits;
 
+pub use certain::certain_refusals;
 pub use complaints::{Complaint, started_at};
 pub use evaluation::eval;
 pub use findings::{Findings, examine};

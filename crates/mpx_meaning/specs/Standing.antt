@@ -1,5 +1,5 @@
 -- Where a rank stands between two moves: what its words stand for, by word, and what it waits for.
-use Rattle.std.specs.Prelude.{ℕ, Bool, true, false, cond, List, [], ◌∷◌, bytes_eq, Option, Some, None}
+use Rattle.std.specs.Prelude.{ℕ, Bool, true, false, cond, is_none, List, [], ◌∷◌, bytes_eq, Option, Some, None}
 use Rattle.std.specs.BTreeMap.{BTreeMap, get}
 use Rattle.std.specs.Cmp.Lexicographic.{slice_cmp}
 use Rattle.std.specs.Ordering.{nat_cmp}
@@ -22,6 +22,11 @@ or_new None new = new
 abbrev pub binds : {A : Type 0} → Option (List ℕ) → A → (List ℕ → Option A) → List ℕ → Option A
 binds None to words word = words word
 binds (Some new) to words word = cond (bytes_eq word new) (Some (or_new (words word) to)) (words word)
+
+-- whether there is a word, and nothing that it is bound to yet
+abbrev pub is_new : {A : Type 0} → Option (List ℕ) → (List ℕ → Option A) → Bool
+is_new None words = false
+is_new (Some word) words = is_none (words word)
 
 -- a word fewer
 abbrev pub closed : {A : Type 0} → List ℕ → (List ℕ → Option A) → List ℕ → Option A

@@ -1,43 +1,76 @@
 -- What a call of the program does.
-use Rattle.std.specs.Prelude.{◌≡◌, ◌≢◌, ◌⊎◌, ℕ, List, Option, Some, None, Result, Err, codes}
+use Rattle.std.specs.Prelude.{◌≡◌, ◌≢◌, ◌⊎◌, ℕ, Bool, List, ◌++◌, Option, Some, None, Result, Ok, Err, codes}
+use Rattle.clap.specs.Kinds.{IsAmong}
 use Rattle.clap.specs.declared.error.kind.ErrorKind.{ErrorKind}
 use Rattle.clap.specs.declared.error.kind.ErrorKind.TheVariants as kind
 use Rattle.mpx_num.specs.declared.own.Operation.{Operation}
 use Rattle.mpx_threads.specs.Gates.{nowhere}
-use Rattle.mpx_run.specs.Texts.{Runs}
+use Rattle.mpx_run.specs.Texts.{Prints, Runs, TakesInput}
 use Rattle.mpx_run.specs.declared.end.End.{End}
-use Rattle.mpx_job.specs.declared.Job.{Job}
 use Rattle.mpx_run.specs.declared.texts.RunError.{RunError}
 use Rattle.mpx_run.specs.declared.texts.RunError.TheVariants.{GateGaveUp}
-use Rattle.mpx_program.specs.Status.{message, refusal_status, status}
-use Rattle.mpx_words.specs.Words.{job_in}
+use Rattle.mpx_program.specs.Status.{explanation, message, refusal_status, status}
+use Rattle.mpx_program.specs.Strict.{IsStrict}
+use Rattle.mpx_words.specs.Usage.{refusal_kinds}
+use Rattle.mpx_words.specs.Words.{call_in}
+use Rattle.mpx_words.specs.declared.call.Call.{Call}
 
--- a job is done with a script by its own operations, no gate ends it, and its answer gives the status and what is said
-pub record DoesJobWith (ops : List Operation) (job : Job) (there left old new : Option (List ℕ)) (code : ℕ) (Says : List ℕ → Type 0) : Type 0 where
+-- a job with this answer, whose script has calls to complain of or not, gives the status and what is said
+pub record Exits (answer : Result End RunError) (complains explains : Bool) (more : List ℕ) (code : ℕ) (Says : List ℕ → Type 0) : Type 0 where
+  pub status : code ≡ status complains answer
+  pub says : Says (message answer ++ explanation explains answer more)
+
+-- where a job comes to an end, whether the script has calls to complain of is as `--strict` asks
+abbrev pub StrictOn : List Operation → Call → (text : List ℕ) → Result End RunError → (complains : Bool) → Type 0
+StrictOn ops call text (Ok end) complains = IsStrict ops call text complains
+StrictOn ops call text (Err error) complains = Unit {0}
+
+-- a call's job is done with a text by the job's own operations, and no gate ends it
+pub record AnswersText (ops : List Operation) (call : Call) (text : List ℕ) (old new : Option (List ℕ)) (code : ℕ) (Says : List ℕ → Type 0) : Type 0 where
   pub answer : Result End RunError
-  pub runs : Runs ops nowhere job there left old new answer
+  pub prints : Prints ops nowhere call.job text old new answer
   pub ungated : answer ≢ Err GateGaveUp
-  pub status : code ≡ status answer
-  pub says : Says (message answer)
+  pub complains : Bool
+  pub strict : StrictOn ops call text answer complains
+  pub more : List ℕ
+  pub exits : Exits answer complains call.flags.explain more code Says
+
+-- the same of the text that a reader gives
+abbrev pub StrictBy : List Operation → Call → (there left : Option (List ℕ)) → Result End RunError → (complains : Bool) → Type 0
+StrictBy ops call there left (Ok end) complains = (text : List ℕ) × TakesInput there left text × IsStrict ops call text complains
+StrictBy ops call there left (Err error) complains = Unit {0}
+
+-- a call's job is done with a script by the job's own operations, no gate ends it, and its answer gives the status and what is said. What is asked for
+-- beside the job changes nothing of what is printed: by `--strict` the status is 6 where it is 0 or 3 else and the script has calls to complain of, and by
+-- `--explain` the standard error is told more
+pub record DoesJobWith (ops : List Operation) (call : Call) (there left old new : Option (List ℕ)) (code : ℕ) (Says : List ℕ → Type 0) : Type 0 where
+  pub answer : Result End RunError
+  pub runs : Runs ops nowhere call.job there left old new answer
+  pub ungated : answer ≢ Err GateGaveUp
+  pub complains : Bool
+  pub strict : StrictBy ops call there left answer complains
+  pub more : List ℕ
+  pub exits : Exits answer complains call.flags.explain more code Says
 
 -- a call is refused, for a reason of that kind
 pub record IsRefused (why : ErrorKind) (code : ℕ) (Says : List ℕ → Type 0) : Type 0 where
   pub status : code ≡ refusal_status why
   pub says : why ≡ kind.OutOfMemory → Says (codes "out of memory\n")
 
--- a call is refused for its words: nothing is read or written
+-- a call is refused for its words, for a reason of a kind that clap has for them, or for want of memory: nothing is read or written
 pub record RefusesWords (words : List (List ℕ)) (there left old new : Option (List ℕ)) (code : ℕ) (Says : List ℕ → Type 0) : Type 0 where
   pub why : ErrorKind
-  pub asks : job_in words ≡ None
+  pub asks : call_in words ≡ None
+  pub kinds : (why ≡ kind.OutOfMemory) ⊎ IsAmong why (refusal_kinds words)
   pub refused : IsRefused why code Says
   pub unread : left ≡ there
   pub unwritten : new ≡ old
 
--- the words ask for a job
+-- the words ask for a job, and for what is beside it
 pub record DoesWords (ops : List Operation) (words : List (List ℕ)) (there left old new : Option (List ℕ)) (code : ℕ) (Says : List ℕ → Type 0) : Type 0 where
-  pub job : Job
-  pub asks : job_in words ≡ Some job
-  pub does : DoesJobWith ops job there left old new code Says
+  pub call : Call
+  pub asks : call_in words ≡ Some call
+  pub does : DoesJobWith ops call there left old new code Says
 
 -- the words ask for a job, or are refused
 abbrev pub DoesJob : (ops : List Operation) (words : List (List ℕ)) (there left old new : Option (List ℕ)) (code : ℕ) (Says : List ℕ → Type 0) → Type 0

@@ -1,25 +1,31 @@
 -- The exit status of the program, and what it says on the standard error.
-use Rattle.std.specs.Prelude.{ℕ, List, [], ◌++◌, codes, Result, Ok, Err}
+use Rattle.std.specs.Prelude.{ℕ, Bool, true, false, List, [], ◌++◌, codes, if◌then◌else◌, Result, Ok, Err}
 use Rattle.std.specs.List.{flat_map}
 use Rattle.std.specs.Fmt.{decimal}
 use Rattle.clap.specs.declared.error.kind.ErrorKind.{ErrorKind}
 use Rattle.clap.specs.declared.error.kind.ErrorKind.TheVariants as kind
 use Rattle.mpx_run.specs.Texts.{error_text}
+use Rattle.mpx_run.specs.declared.end.Cause.{Cause}
+use Rattle.mpx_run.specs.declared.end.Cause.TheVariants.{InEveryRun, TurnsUsedUp, AllLost, Unknown}
 use Rattle.mpx_run.specs.declared.end.End.{End}
 use Rattle.mpx_run.specs.declared.end.End.TheVariants.{Finished, Waiting}
 use Rattle.mpx_run.specs.declared.texts.RunError.{RunError}
 use Rattle.mpx_run.specs.declared.texts.RunError.TheVariants.{Script, TooManyProcesses, Memory, Read, Write, GateGaveUp}
 
--- the status of a job
-abbrev pub status : Result End RunError → ℕ
-status (Ok Finished) = 0
-status (Ok (Waiting ranks)) = 3
-status (Err (Script refusal)) = 2
-status (Err TooManyProcesses) = 1
-status (Err Memory) = 4
-status (Err Read) = 5
-status (Err Write) = 5
-status (Err GateGaveUp) = 4
+-- the status of a job that has come to an end
+abbrev pub end_status : End → ℕ
+end_status Finished = 0
+end_status (Waiting ranks cause) = 3
+
+-- the status of a job, whose script has calls to complain of or not
+abbrev pub status : (complains : Bool) → Result End RunError → ℕ
+status complains (Ok end) = if complains then 6 else end_status end
+status complains (Err (Script refusal)) = 2
+status complains (Err TooManyProcesses) = 1
+status complains (Err Memory) = 4
+status complains (Err Read) = 5
+status complains (Err Write) = 5
+status complains (Err GateGaveUp) = 4
 
 -- the status of a call whose words give no job
 abbrev pub refusal_status : ErrorKind → ℕ
@@ -37,5 +43,25 @@ waiting_text ranks = codes "waiting:" ++ ranks_text ranks ++ codes "\n"
 -- what is said of a job: nothing where it is finished
 abbrev pub message : Result End RunError → List ℕ
 message (Ok Finished) = []
-message (Ok (Waiting ranks)) = waiting_text ranks.items
+message (Ok (Waiting ranks cause)) = waiting_text ranks.items
 message (Err error) = error_text error ++ codes "\n"
+
+-- MORE
+
+-- why ranks wait
+abbrev pub cause_text : Cause → List ℕ
+cause_text InEveryRun = codes "these ranks wait in every run\n"
+cause_text (TurnsUsedUp turns) = codes "turns used up: " ++ decimal turns ++ codes "\n"
+cause_text AllLost = codes "every frame was lost\n"
+cause_text Unknown = codes "whether they wait in every run isn't known\n"
+
+-- why a run ended
+abbrev pub why : Result End RunError → List ℕ
+why (Ok Finished) = []
+why (Ok (Waiting ranks cause)) = cause_text cause
+why (Err error) = []
+
+-- what is told behind the message where more is asked for: first why the run ended
+abbrev pub explanation : (explains : Bool) → Result End RunError → (more : List ℕ) → List ℕ
+explanation true answer more = why answer ++ more
+explanation false answer more = []

@@ -1,21 +1,23 @@
 //! What the program says on the standard error, and its exit status.
-ghost use Rattle.std.specs.Prelude.{◌≡◌, OnOk, codes};
+ghost use Rattle.std.specs.Prelude.{◌≡◌, ◌++◌, OnOk, codes};
 ghost use Rattle.std.specs.Io.KnownBytes.{Appends};
 ghost use Rattle.clap.specs.Words.{kind_of};
-ghost use Rattle.mpx_program.specs.Status.{message, refusal_status, status, waiting_text};
+ghost use Rattle.mpx_program.specs.Status.{cause_text, explanation, message, refusal_status, status, waiting_text, why};
 
 use clap::error::ErrorKind;
-use mpx_run::{End, RunError};
+use mpx_run::{Cause, End, RunError};
 use std::io;
 use std::io::Write;
 
-/// The exit status of a job. No program's own gate gives up; where one does, nothing is printed, as where memory is wanting.
-pub fn status_of(answer: &Result<End, RunError>) -> u8
-    ensures { result ≡ status answer.now }
+/// The exit status of a job, whose script has calls to complain of or not. No program's own gate gives up; where one does, nothing is
+/// printed, as where memory is wanting.
+pub fn status_of(answer: &Result<End, RunError>, complains: bool) -> u8
+    ensures { result ≡ status complains answer.now }
 {
     match answer {
+        Ok(_) if complains => 6,
         Ok(End::Finished) => 0,
-        Ok(End::Waiting(_)) => 3,
+        Ok(End::Waiting(_, _)) => 3,
         Err(RunError::Script(_)) => 2,
         Err(RunError::TooManyProcesses) => 1,
         Err(RunError::Memory | RunError::GateGaveUp) => 4,
@@ -40,8 +42,48 @@ pub fn write_message<W: Write>(answer: &Result<End, RunError>, writer: &mut W) -
 {
     match answer {
         Ok(End::Finished) => Ok(()),
-        Ok(End::Waiting(ranks)) => write_waiting(ranks, writer),
+        Ok(End::Waiting(ranks, _)) => write_waiting(ranks, writer),
         Err(error) => writeln!(writer, "{error}"),
+    }
+}
+
+/// Writes the message of a job, and where more is asked for, why it ended, and more.
+pub(crate) fn write_said<W: Write>(
+    answer: &Result<End, RunError>,
+    explains: bool,
+    more: &[u8],
+    writer: &mut W,
+) -> io::Result<()>
+    ensures { OnOk result (Appends (W.contents writer.old) (W.contents writer.new) (message answer.now ++ explanation explains answer.now more.now)) }
+{
+    write_message(answer, writer)?;
+    if explains {
+        write_why(answer, writer)?;
+        writer.write_all(more)?;
+    }
+    Ok(())
+}
+
+// Writes why ranks wait, where some do.
+fn write_why<W: Write>(answer: &Result<End, RunError>, writer: &mut W) -> io::Result<()>
+    ensures { OnOk result (Appends (W.contents writer.old) (W.contents writer.new) (why answer.now)) }
+{
+    match answer {
+        Ok(End::Finished) => Ok(()),
+        Ok(End::Waiting(_, cause)) => write_cause(*cause, writer),
+        Err(_) => Ok(()),
+    }
+}
+
+// Writes the line of a cause.
+fn write_cause<W: Write>(cause: Cause, writer: &mut W) -> io::Result<()>
+    ensures { OnOk result (Appends (W.contents writer.old) (W.contents writer.new) (cause_text cause)) }
+{
+    match cause {
+        Cause::InEveryRun => writer.write_all(b"these ranks wait in every run\n"),
+        Cause::TurnsUsedUp(turns) => writeln!(writer, "turns used up: {turns}"),
+        Cause::AllLost => writer.write_all(b"every frame was lost\n"),
+        Cause::Unknown => writer.write_all(b"whether they wait in every run isn't known\n"),
     }
 }
 

@@ -1,5 +1,5 @@
 -- Where a rank stands in its statements, and what its moves do.
-use Rattle.std.specs.Prelude.{◌≡◌, ℕ, ◌+◌, ◌*◌, Bool, true, false, ◌||◌, cond, is_some, codes, bytes_eq, List, [], ◌∷◌, ◌++◌, length, map, Option, Some, None, Ok, Err}
+use Rattle.std.specs.Prelude.{◌≡◌, ℕ, ◌+◌, ◌*◌, Bool, true, false, ◌||◌, cond, is_some, IsTrue, codes, bytes_eq, List, [], ◌∷◌, ◌++◌, length, map, Option, Some, None, Ok, Err}
 use Rattle.std.specs.List.{list_all}
 use Rattle.mpx_name.specs.Name.{Name}
 use Rattle.mpx_birth.specs.Births.{BirthView}
@@ -182,6 +182,10 @@ pub data Ran {C K : Type 0} (terms : Terms C K) : RankView K → C → RankView 
 -- moves, until there is none
 abbrev pub GoesOn : {C K : Type 0} → Terms C K → RankView K → C → RankView K → C → (moved : Bool) → Type 0
 GoesOn {C} terms r c s d moved = (mid : C) × Ran terms r c s mid moved × Still terms s mid d
+
+-- moves, and then memory was wanting for what was left to do
+abbrev pub StopsShort : {C K : Type 0} → Terms C K → RankView K → C → Type 0
+StopsShort {C} {K} terms r c = (s : RankView K) × (mid : C) × (moved : Bool) × Ran terms r c s mid moved × IsTrue (is_waiting s)
 
 -- where a statement that posts is the next one, the carrier may be asked for it
 abbrev pub MayTry : {C K : Type 0} → Terms C K → RankView K → C → Type 0

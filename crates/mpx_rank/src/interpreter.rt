@@ -1,12 +1,12 @@
 //! A rank that goes on with its statements.
-ghost use Rattle.std.specs.Prelude.{◌≡◌, ◌<◌, ◌+◌, ◌∷◌, length, ℕ, IfOk, List, None, OnOk, Some, [], map, string_bytes, true};
+ghost use Rattle.std.specs.Prelude.{◌≡◌, ◌<◌, ◌+◌, ◌∷◌, length, ℕ, IfOk, IsTrue, List, None, OnErr, OnOk, Some, [], map, string_bytes, true};
 ghost use Rattle.std.specs.Option.{option_copied, option_map};
 ghost use Rattle.mpx_statement.specs.declared.statement.Statement.TheVariants.{Ask, Post, Wait as WaitFor};
 ghost use Rattle.mpx_meaning.specs.Ranks.{Refused};
 ghost use Rattle.mpx_meaning.specs.Transcripts.{line_text};
-ghost use Rattle.mpx_rank.specs.Moves.{GoesOn, MayGo, MayTry, Moves, bound_first, communicator_in, is_waiting, left_of, refused, statements_left};
+ghost use Rattle.mpx_rank.specs.Moves.{GoesOn, MayGo, MayTry, Moves, StopsShort, bound_first, communicator_in, is_waiting, left_of, refused, statements_left};
 ghost use Rattle.mpx_rank.specs.Shown.{place_of, rank_of, requests_of, wait_of};
-ghost use Rattle.mpx_meaning.specs.Standing.{awaited, looked_up};
+ghost use Rattle.mpx_meaning.specs.Standing.{awaited, has_statements, looked_up};
 
 use crate::asking::answer;
 use crate::carrier::{Carrier, Heard};
@@ -138,10 +138,12 @@ impl<'a, C: Carrier> Interpreter<'a, C> {
         self.lines
     }
 
-    /// Goes on with the statements until an outcome is missing. It answers whether there was a move.
+    /// Goes on with the statements until an outcome is missing. It answers whether there was a move. An `Err` is want of memory for a
+    /// move, and so not where nothing is left to do.
     pub fn go_on(&mut self, alloc: Global, carrier: &mut C, ops: &Ops) -> Result<bool, OutOfMemory>
         requires { MayGo (C.terms (⟦<Ops as Listing>⟧.operations ops.now)) (rank_of C.place self.old) carrier.old }
-        ensures { IfOk result (GoesOn (C.terms (⟦<Ops as Listing>⟧.operations ops.now)) (rank_of C.place self.old) carrier.old (rank_of C.place self.new) carrier.new) }
+        ensures goes { IfOk result (GoesOn (C.terms (⟦<Ops as Listing>⟧.operations ops.now)) (rank_of C.place self.old) carrier.old (rank_of C.place self.new) carrier.new) }
+        ensures memory { OnErr result (StopsShort (C.terms (⟦<Ops as Listing>⟧.operations ops.now)) (rank_of C.place self.old) carrier.old) }
     {
         let mut moved = false;
         while self.move_on(alloc, carrier, ops)? {
@@ -154,7 +156,8 @@ impl<'a, C: Carrier> Interpreter<'a, C> {
     // whether there was one.
     fn move_on(&mut self, alloc: Global, carrier: &mut C, ops: &Ops) -> Result<bool, OutOfMemory>
         requires { MayTry (C.terms (⟦<Ops as Listing>⟧.operations ops.now)) (rank_of C.place self.old) carrier.old }
-        ensures { IfOk result (Moves (C.terms (⟦<Ops as Listing>⟧.operations ops.now)) (rank_of C.place self.old) carrier.old (rank_of C.place self.new) carrier.new) }
+        ensures moves { IfOk result (Moves (C.terms (⟦<Ops as Listing>⟧.operations ops.now)) (rank_of C.place self.old) carrier.old (rank_of C.place self.new) carrier.new) }
+        ensures memory { OnErr result (IsTrue (is_waiting (rank_of C.place self.old))) }
     {
         match self.waits.take() {
             Some(wait) => self.hear(alloc, carrier, wait, ops),
@@ -192,7 +195,8 @@ impl<'a, C: Carrier> Interpreter<'a, C> {
     fn do_next(&mut self, alloc: Global, carrier: &mut C, ops: &Ops) -> Result<bool, OutOfMemory>
         requires waits { (rank_of C.place self.old).waits ≡ None }
         requires may { MayTry (C.terms (⟦<Ops as Listing>⟧.operations ops.now)) (rank_of C.place self.old) carrier.old }
-        ensures { IfOk result (Moves (C.terms (⟦<Ops as Listing>⟧.operations ops.now)) (rank_of C.place self.old) carrier.old (rank_of C.place self.new) carrier.new) }
+        ensures moves { IfOk result (Moves (C.terms (⟦<Ops as Listing>⟧.operations ops.now)) (rank_of C.place self.old) carrier.old (rank_of C.place self.new) carrier.new) }
+        ensures memory { OnErr result (IsTrue (has_statements (rank_of C.place self.old).todo)) }
     {
         let Some((statement, rest)) = self.todo.split_first() else {
             return Ok(false);

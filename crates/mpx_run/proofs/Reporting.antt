@@ -1,6 +1,7 @@
 -- What is reported of a run.
-use Rattle.std.proofs.Common.{◌≡◌, ℕ, zero, suc, ◌<◌, List, [], ◌++◌, length, Some, refl, ap, ◌∙◌, subst, arith}
-use Rattle.std.specs.Prelude.{slice_get, unwrap_or, IfOk, Result, Ok, Err}
+use Rattle.std.proofs.Common.{◌≡◌, ℕ, zero, suc, ◌<◌, Bool, true, false, nat_le, List, [], ◌++◌, length, Some, refl, sym, ap, ◌∙◌, subst, arith}
+use Rattle.std.specs.Prelude.{slice_get, unwrap_or, IfOk, Result, Ok, Err, if◌then◌else◌}
+use Rattle.std.proofs.lemmas.Bool.Decides.{nat_tests}
 use Rattle.mpx_num.specs.declared.own.Operation.{Operation}
 use Rattle.atomic_table.specs.Seated.{TableId}
 use Rattle.mpx_node.specs.Nodes.{NodeView}
@@ -10,19 +11,24 @@ use Rattle.mpx_meaning.specs.Evaluation.{State, IsEvaluation}
 use Rattle.mpx_meaning.specs.Transcripts.{rank_text, text_upto}
 use Rattle.mpx_meaning.specs.Reports.{lines_in}
 use Rattle.mpx_eval.specs.Evaluated.{IsEvaluated}
-use Rattle.mpx_system.specs.Runs.{IsRun, Begin, AreWhole}
+use Rattle.mpx_job.specs.declared.Options.{Options}
+use Rattle.mpx_sim.specs.Ends.{AllMadeOr}
+use Rattle.mpx_sim.specs.Turns.{AreAfter}
+use Rattle.mpx_system.specs.Runs.{IsRun, IsOver, Begin, AreAll, AreWhole}
 use Rattle.mpx_system.proofs.Results.{some_at}
 use Rattle.mpx_threads.specs.ThreadRuns.{IsThreadRun}
-use Rattle.mpx_run.specs.Reports.{IsReport, IsThreadReport, IsEvaluatedText, EndsSo, lines_at}
+use Rattle.mpx_run.specs.Reports.{IsAllOf, IsBy, IsForGood, IsReport, IsThreadReport, IsEvaluatedText, EndsSo, cause_of, lines_at, thread_cause}
+use Rattle.mpx_run.specs.declared.end.Cause.{Cause}
+use Rattle.mpx_run.specs.declared.end.Cause.TheVariants.{InEveryRun, TurnsUsedUp, AllLost}
 use Rattle.mpx_run.specs.declared.end.End.{End}
 use Rattle.mpx_run.specs.declared.end.End.TheVariants.{Finished, Waiting}
 
 -- THE TEXT
 
--- two facts of a result that came make a third
-pub if_both : {T E : Type 0} {P Q R : T → Type 0} (r : Result T E) → IfOk r P → IfOk r Q → ((x : T) → P x → Q x → R x) → IfOk r R
-if_both (Ok x) p q f = f x p q
-if_both (Err e) p q f = tt
+-- three facts of a result that came make a fourth
+pub if_three : {T E : Type 0} {P Q R S : T → Type 0} (r : Result T E) → IfOk r P → IfOk r Q → IfOk r R → ((x : T) → P x → Q x → R x → S x) → IfOk r S
+if_three (Ok x) p q s f = f x p q s
+if_three (Err e) p q s f = tt
 
 text_same : (f g : (p : ℕ) → List (List ℕ)) (n : ℕ) → ((p : ℕ) → p < n → f p ≡ g p) → text_upto f n ≡ text_upto g n
 text_same f g zero h = refl
@@ -37,15 +43,41 @@ text_of_state transcripts s n size h = text_same (lines_at transcripts) (lines_i
 
 nobody : (end : End) (waiting : List ℕ) → EndsSo end waiting → end ≡ Finished → waiting ≡ []
 nobody Finished waiting h e = h
-nobody (Waiting ranks) waiting h e = cc e
+nobody (Waiting ranks cause) waiting h e = cc e
 
-pub reported : (ops : List Operation) (script : ScriptView) (relays : ℕ) (nodes : List NodeView) (transcripts : List (List (List ℕ))) (waiting : List ℕ) (end : End) (text : List ℕ) → IsRun ops script relays nodes transcripts waiting
+-- THE CAUSE
+
+-- where it is told that those who wait do in every run, that is the cause
+for_good : (end : End) (cause : Cause) → IsBy cause end → IsForGood end → cause ≡ InEveryRun
+for_good Finished cause by good = absurd good
+for_good (Waiting ranks told) cause by good = sym by ∙ good
+
+-- which it is only where turns are left, and not all frames are lost
+turns_are_left : (made : ℕ) (options : Options) → cause_of made options ≡ InEveryRun → (made < options.turns) × (options.loss < 100)
+turns_are_left made options e = by_turns (nat_le options.turns made) (nat_le 100 options.loss) refl refl e where
+  by_turns : (t l : Bool) → nat_le options.turns made ≡ t → nat_le 100 options.loss ≡ l → (if t then TurnsUsedUp options.turns else (if l then AllLost else InEveryRun)) ≡ InEveryRun → (made < options.turns) × (options.loss < 100)
+  by_turns true l h k f = cc f
+  by_turns false true h k f = cc f
+  by_turns false false h k f = let left : made < options.turns = grind (arith, nat_tests) in let less : options.loss < 100 = grind (arith, nat_tests) in (left, less)
+
+-- what is all of a state's lines, and who waits there
+all_of : (script : ScriptView) (transcripts : List (List (List ℕ))) (waiting : List ℕ) (end : End) (text : List ℕ) (e : State) → length transcripts ≡ script.ranks → text ≡ text_upto (lines_at transcripts) script.ranks → EndsSo end waiting
+    → AreAll transcripts waiting script.ranks e → IsAllOf script end text e
+all_of script transcripts waiting end text e size lines ends all = record {
+  lines = lines ∙ text_of_state transcripts e script.ranks size all.lines;
+  ends = subst (EndsSo end) all.who ends;
+}
+
+pub reported : (ops : List Operation) (script : ScriptView) (options : Options) (nodes : List NodeView) (transcripts : List (List (List ℕ))) (waiting : List ℕ) (turns : ℕ) (end : End) (text : List ℕ) → IsRun ops script options.relays nodes transcripts waiting
     → ((e : State) → IsEvaluation ops script.statements script.ranks e → Begin transcripts e) → ((e : State) → IsEvaluation ops script.statements script.ranks e → AreWhole transcripts waiting e)
-    → text ≡ text_upto (lines_at transcripts) script.ranks → EndsSo end waiting → IsReport ops script relays end text
-reported ops script relays nodes transcripts waiting end text run begins whole lines ends = record {
+    → AreAfter ops script options.relays options.seed options.loss turns nodes → AllMadeOr turns options.turns (IsOver options.loss nodes waiting)
+    → (turns < options.turns → options.loss < 100 → (e : State) → IsEvaluation ops script.statements script.ranks e → AreAll transcripts waiting script.ranks e)
+    → text ≡ text_upto (lines_at transcripts) script.ranks → EndsSo end waiting → IsBy (cause_of turns options) end → IsReport ops script options end text
+reported ops script options nodes transcripts waiting turns end text run begins whole after ended rests lines ends by = record {
   nodes = nodes;
   transcripts = transcripts;
   waiting = waiting;
+  turns = turns;
   run = run;
   lines = lines;
   ends = ends;
@@ -53,12 +85,24 @@ reported ops script relays nodes transcripts waiting end text run begins whole l
   whole = λ e is finished.
       let none = nobody end waiting ends finished in
       lines ∙ text_of_state transcripts e script.ranks run.ranks_are (λ p said at. whole e is p said at (λ place w. cc (w, none)));
+  after = after;
+  ended = ended;
+  cause = by;
+  rests = λ good e is.
+      let left = turns_are_left turns options (for_good end (cause_of turns options) by good) in
+      all_of script transcripts waiting end text e run.ranks_are lines ends (rests left.0 left.1 e is);
 }
 
-pub threads_reported : (ops : List Operation) (script : ScriptView) (relays : ℕ) (table : TableId) (ports : List PortView) (transcripts : List (List (List ℕ))) (waiting : List ℕ) (end : End) (text : List ℕ) → IsThreadRun ops script relays table ports transcripts waiting
+-- a run in threads of which that is told rests
+was_at_rest : (rests : Bool) → thread_cause rests ≡ InEveryRun → rests ≡ true
+was_at_rest true e = refl
+was_at_rest false e = cc e
+
+pub threads_reported : (ops : List Operation) (script : ScriptView) (options : Options) (table : TableId) (ports : List PortView) (transcripts : List (List (List ℕ))) (waiting : List ℕ) (rests : Bool) (end : End) (text : List ℕ) → IsThreadRun ops script options.relays table ports transcripts waiting
     → ((e : State) → IsEvaluation ops script.statements script.ranks e → Begin transcripts e) → ((e : State) → IsEvaluation ops script.statements script.ranks e → AreWhole transcripts waiting e)
-    → text ≡ text_upto (lines_at transcripts) script.ranks → EndsSo end waiting → IsThreadReport ops script relays end text
-threads_reported ops script relays table ports transcripts waiting end text run begins whole lines ends = record {
+    → (rests ≡ true → (e : State) → IsEvaluation ops script.statements script.ranks e → AreAll transcripts waiting script.ranks e)
+    → text ≡ text_upto (lines_at transcripts) script.ranks → EndsSo end waiting → IsBy (thread_cause rests) end → IsThreadReport ops script options end text
+threads_reported ops script options table ports transcripts waiting rests end text run begins whole all lines ends by = record {
   table = table;
   ports = ports;
   transcripts = transcripts;
@@ -70,15 +114,17 @@ threads_reported ops script relays table ports transcripts waiting end text run 
   whole = λ e is finished.
       let none = nobody end waiting ends finished in
       lines ∙ text_of_state transcripts e script.ranks run.ranks_are (λ p said at. whole e is p said at (λ place w. cc (w, none)));
+  rests = λ good e is. all_of script transcripts waiting end text e run.ranks_are lines ends (all (was_at_rest rests (for_good end (thread_cause rests) by good)) e is);
 }
 
 pub evaluated : (ops : List Operation) (script : ScriptView) (transcripts : List (List (List ℕ))) (waiting : List ℕ) (end : End) (text : List ℕ) → IsEvaluated ops script transcripts waiting
-    → text ≡ text_upto (lines_at transcripts) script.ranks → EndsSo end waiting → IsEvaluatedText ops script end text
-evaluated ops script transcripts waiting end text v lines ends = record {
+    → text ≡ text_upto (lines_at transcripts) script.ranks → EndsSo end waiting → IsBy InEveryRun end → IsEvaluatedText ops script end text
+evaluated ops script transcripts waiting end text v lines ends by = record {
   evaluation = v.end;
   is = v.evaluation;
   lines = lines ∙ text_of_state transcripts v.end script.ranks v.ranks_are v.lines;
   ends = subst (EndsSo end) v.waiting_are ends;
+  cause = by;
 }
 
 -- LINES

@@ -6,15 +6,18 @@ use Rattle.mpx_num.specs.Text.{number_text}
 use Rattle.mpx_statement.specs.declared.statement.Statement.{Statement}
 use Rattle.mpx_script.specs.ScriptView.{ScriptView}
 use Rattle.mpx_script.specs.Faults.{error_text as refusal_text}
+use Rattle.mpx_script.specs.declared.faults.ReadScriptError.{ReadScriptError}
+use Rattle.mpx_script.specs.declared.faults.ReadScriptError.TheVariants as R
 use Rattle.mpx_script.specs.Reading.{reading}
 use Rattle.mpx_script.specs.Words.{bytes_limit}
-use Rattle.mpx_run.specs.declared.bytes.ReadFault.{ReadFault}
-use Rattle.mpx_run.specs.declared.bytes.ReadFault.TheVariants as Fault
+use Rattle.mpx_run.specs.declared.streams.ReadFault.{ReadFault}
+use Rattle.mpx_run.specs.declared.streams.ReadFault.TheVariants as Fault
 use Rattle.mpx_run.specs.declared.end.End.{End}
 use Rattle.mpx_run.specs.declared.end.End.TheVariants.{Finished}
 use Rattle.mpx_job.specs.declared.Command.{Command}
 use Rattle.mpx_job.specs.declared.Command.TheVariants.{Run, Eval, Check}
 use Rattle.mpx_job.specs.declared.Job.{Job}
+use Rattle.mpx_job.specs.declared.Options.{Options}
 use Rattle.mpx_run.specs.declared.texts.RunError.{RunError}
 use Rattle.mpx_run.specs.declared.texts.RunError.TheVariants as E
 use Rattle.mpx_threads.specs.declared.gate.Step.{Step}
@@ -38,6 +41,11 @@ abbrev pub told : ReadFault → RunError
 told Fault.OutOfMemory = E.Memory
 told Fault.Reader = E.Read
 
+-- how it is told that a script can't be read: a refused script never as want of memory
+abbrev pub script_told : ReadScriptError → RunError
+script_told R.OutOfMemory = E.Memory
+script_told (R.Refused refusal) = E.Script refusal
+
 -- an error as text
 abbrev pub error_text : RunError → List ℕ
 error_text (E.Script refusal) = refusal_text refusal
@@ -56,22 +64,22 @@ statements_upto statements (suc n) = statements_upto statements n + length (slic
 abbrev pub check_text : ScriptView → List ℕ
 check_text script = codes "ok " ++ number_text (pos script.ranks) ++ codes " ranks " ++ number_text (pos (statements_upto script.statements script.ranks)) ++ codes " statements\n"
 
--- to which end and text a run with so many relays comes by the job's own operations, in threads or simulated
-abbrev pub RunsTo : (ops : List Operation) (threads : Bool) (relays : ℕ) → ScriptView → End → List ℕ → Type 0
-RunsTo ops true relays script end out = IsThreadReport ops script relays end out
-RunsTo ops false relays script end out = IsReport ops script relays end out
+-- to which end and text a run with these options comes by the job's own operations, in threads or simulated
+abbrev pub RunsTo : (ops : List Operation) (threads : Bool) → Options → ScriptView → End → List ℕ → Type 0
+RunsTo ops true options script end out = IsThreadReport ops script options end out
+RunsTo ops false options script end out = IsReport ops script options end out
 
 -- to which end and text a script comes: a run, its evaluation, or the script alone
-abbrev pub ComesTo : List Operation → Command → (threads : Bool) (relays : ℕ) → ScriptView → End → List ℕ → Type 0
-ComesTo ops Run threads relays script end out = (script.ranks + relays ≤ 64) × RunsTo ops threads relays script end out
-ComesTo ops Eval threads relays script end out = IsEvaluatedText ops script end out
-ComesTo ops Check threads relays script end out = (end ≡ Finished) × (out ≡ check_text script)
+abbrev pub ComesTo : List Operation → Command → Options → ScriptView → End → List ℕ → Type 0
+ComesTo ops Run options script end out = (script.ranks + options.relays ≤ 64) × RunsTo ops options.threads options script end out
+ComesTo ops Eval options script end out = IsEvaluatedText ops script end out
+ComesTo ops Check options script end out = (end ≡ Finished) × (out ≡ check_text script)
 
 -- a text is read as a script, with which the job comes to that end and text
 pub record DoneTo (ops : List Operation) (job : Job) (text : List ℕ) (end : End) (out : List ℕ) : Type 0 where
   pub script : ScriptView
   pub read : reading ops text ≡ Ok script
-  pub comes : ComesTo ops job.command job.options.threads job.options.relays script end out
+  pub comes : ComesTo ops job.command job.options script end out
 
 -- a text is read as a script that has too many ranks to be run with so many relays
 pub record HasTooMany (ops : List Operation) (job : Job) (text : List ℕ) : Type 0 where

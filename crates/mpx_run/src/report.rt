@@ -3,9 +3,9 @@ ghost use Rattle.std.specs.Prelude.{◌≡◌, ◌++◌, ◌≤◌, ◌+◌, IfE
 ghost use Rattle.mpx_meaning.specs.Reports.{transcripts_of};
 ghost use Rattle.mpx_meaning.specs.Transcripts.{rank_text, text_upto};
 ghost use Rattle.mpx_threads.specs.Gates.{GivesUpAmong};
-ghost use Rattle.mpx_run.specs.Reports.{EndsSo, IsEvaluatedText, IsReport, IsThreadReport, lines_at};
+ghost use Rattle.mpx_run.specs.Reports.{EndsSo, IsBy, IsEvaluatedText, IsReport, IsThreadReport, cause_of, lines_at, thread_cause};
 
-use crate::end::End;
+use crate::end::{Cause, End};
 use join_core::OutOfMemory;
 use mpx_eval::eval;
 use mpx_job::Options;
@@ -25,7 +25,7 @@ pub(crate) struct Printed {
     pub(crate) end: End,
 }
 
-/// The lines of all ranks of a simulated run, each as `RANK: LINE`, rank by rank, and who waits.
+/// The lines of all ranks of a simulated run, each as `RANK: LINE`, rank by rank, and who waits, and why.
 pub(crate) fn print(
     alloc: Global,
     script: &Script,
@@ -34,10 +34,24 @@ pub(crate) fn print(
     ops: &Ops,
 ) -> Result<Printed, OutOfMemory>
     requires { script.now.ranks + options.now.relays ≤ 64 }
-    ensures { IfOk result (λ printed. IsReport (⟦<Ops as Listing>⟧.operations ops.now) script.now options.now.relays printed.end (string_bytes printed.text)) }
+    ensures { IfOk result (λ printed. IsReport (⟦<Ops as Listing>⟧.operations ops.now) script.now options.now printed.end (string_bytes printed.text)) }
 {
     let run = run_sim_observed(alloc, script, options, observer, ops)?;
-    print_report(alloc, run.report, script.ranks())
+    let cause = cause_of(run.turns, options);
+    print_report(alloc, run.report, script.ranks(), cause)
+}
+
+// Why ranks wait where so many turns of a simulated run were made.
+fn cause_of(made: u32, options: &Options) -> Cause
+    ensures { result ≡ cause_of made options.now }
+{
+    if made >= options.turns {
+        return Cause::TurnsUsedUp(options.turns);
+    }
+    if options.loss >= 100 {
+        return Cause::AllLost;
+    }
+    Cause::InEveryRun
 }
 
 /// The lines of all ranks of a run in threads, each as `RANK: LINE`, rank by rank, and who waits.
@@ -50,13 +64,25 @@ pub(crate) fn print_threads<T: Threads + Wait + Sync, G: Gate + Sync>(
     ops: &Ops,
 ) -> Result<Printed, ThreadsError>
     requires { script.now.ranks + options.now.relays ≤ 64 }
-    ensures printed { IfOk result (λ printed. IsThreadReport (⟦<Ops as Listing>⟧.operations ops.now) script.now options.now.relays printed.end (string_bytes printed.text)) }
+    ensures printed { IfOk result (λ printed. IsThreadReport (⟦<Ops as Listing>⟧.operations ops.now) script.now options.now printed.end (string_bytes printed.text)) }
     ensures gave_up { IfErr result (λ e. e ≡ ThreadsError.GateGaveUp → GivesUpAmong (G.gives_up gate.now) (script.now.ranks + options.now.relays) options.now.turns) }
 {
     let run = run_threads(rt, alloc, script, options, gate, ops)?;
-    match print_report(alloc, run.report, script.ranks()) {
+    let cause = cause_in_threads(run.rests);
+    match print_report(alloc, run.report, script.ranks(), cause) {
         Ok(printed) => Ok(printed),
         Err(_) => Err(ThreadsError::OutOfMemory),
+    }
+}
+
+// Why ranks wait where a run in threads rests, or where that isn't known.
+fn cause_in_threads(rests: bool) -> Cause
+    ensures { result ≡ thread_cause rests }
+{
+    if rests {
+        Cause::InEveryRun
+    } else {
+        Cause::Unknown
     }
 }
 
@@ -69,17 +95,23 @@ pub(crate) fn print_evaluation(
     ensures { IfOk result (λ printed. IsEvaluatedText (⟦<Ops as Listing>⟧.operations ops.now) script.now printed.end (string_bytes printed.text)) }
 {
     let report = eval(alloc, script, ops)?;
-    print_report(alloc, report, script.ranks())
+    print_report(alloc, report, script.ranks(), Cause::InEveryRun)
 }
 
-// The lines of all ranks, and who waits.
-fn print_report(alloc: Global, report: Report, ranks: u8) -> Result<Printed, OutOfMemory>
+// The lines of all ranks, and who waits for this cause.
+fn print_report(
+    alloc: Global,
+    report: Report,
+    ranks: u8,
+    cause: Cause,
+) -> Result<Printed, OutOfMemory>
     requires { ranks ≤ length (transcripts_of report) }
     ensures text { IfOk result (λ printed. string_bytes printed.text ≡ text_upto (lines_at (transcripts_of report)) ranks) }
     ensures end { IfOk result (λ printed. EndsSo printed.end report.waiting.items) }
+    ensures cause { IfOk result (λ printed. IsBy cause printed.end) }
 {
     let text = text_of(alloc, &report, ranks)?;
-    let end = end_of(report.waiting);
+    let end = end_of(report.waiting, cause);
     Ok(Printed { text, end })
 }
 
@@ -108,12 +140,13 @@ fn push_lines(text: &mut String, rank: u8, lines: &[String]) -> Result<(), OutOf
     Ok(())
 }
 
-// Whether all are done, or who waits.
-fn end_of(waiting: Vec<u8>) -> End
-    ensures { EndsSo result waiting.items }
+// Whether all are done, or who waits for this cause.
+fn end_of(waiting: Vec<u8>, cause: Cause) -> End
+    ensures end { EndsSo result waiting.items }
+    ensures cause { IsBy cause result }
 {
     if waiting.is_empty() {
         return End::Finished;
     }
-    End::Waiting(waiting)
+    End::Waiting(waiting, cause)
 }

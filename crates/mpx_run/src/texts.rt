@@ -1,12 +1,12 @@
 //! A job from the bytes of a script to what it prints.
 ghost use Rattle.std.specs.Prelude.{◌≡◌, ◌≢◌, ◌+◌, ◌<◌, ◌≤◌, IfErr, IfOk, IsFalse, IsTrue, Some, false, string_bytes};
 ghost use Rattle.mpx_threads.specs.Gates.{nowhere};
-ghost use Rattle.mpx_run.specs.Texts.{ComesTo, IsEndedByGate, IsGated, Prints, Runs, error_text, told};
+ghost use Rattle.mpx_run.specs.Texts.{ComesTo, IsEndedByGate, IsGated, Prints, Runs, error_text, script_told, told};
 
-use crate::bytes::{ReadFault, WriteFault, read_bytes, write_bytes};
 use crate::check::check_text;
 use crate::end::End;
 use crate::report::{Printed, print, print_evaluation, print_threads};
+use crate::streams::{ReadFault, WriteFault, read_bytes, write_bytes};
 use join_core::OutOfMemory;
 use mpx_job::{Command, Job};
 use mpx_num::{Listing, Ops};
@@ -55,6 +55,17 @@ impl fmt::Display for RunError {
 }
 
 impl std::error::Error for RunError {}
+
+impl From<ReadScriptError> for RunError {
+    ghost from_gives = { λ refused e. e ≡ script_told refused };
+
+    fn from(refused: ReadScriptError) -> RunError {
+        match refused {
+            ReadScriptError::Refused(refusal) => RunError::Script(refusal),
+            ReadScriptError::OutOfMemory => RunError::Memory,
+        }
+    }
+}
 
 impl From<ReadFault> for RunError {
     ghost from_gives = { λ fault e. e ≡ told fault };
@@ -114,7 +125,7 @@ pub fn run_text_observed<T: Threads + Wait + Sync, R: Read, W: Write, G: Gate + 
     ensures { Runs (⟦<Ops as Listing>⟧.operations ops.now) (G.gives_up gate.now) job.now (R.remaining reader.old) (R.remaining reader.new) (W.contents writer.old) (W.contents writer.new) result }
 {
     let text = read_bytes(alloc, reader)?;
-    bytes_observed(rt, alloc, job, &text, writer, observer, gate, ops)
+    run_bytes_observed(rt, alloc, job, &text, writer, observer, gate, ops)
 }
 
 /// Does the job with the script that the bytes are, as [`run_text`] does once it has read them, with its errors but for `Read` and
@@ -130,7 +141,7 @@ pub fn run_bytes<T: Threads + Wait + Sync, W: Write>(
     ensures prints { Prints (⟦<Ops as Listing>⟧.operations ops.now) nowhere job.now text.now (W.contents writer.old) (W.contents writer.new) result }
     ensures never { IfErr result (λ e. e ≢ RunError.GateGaveUp) }
 {
-    bytes_observed(
+    run_bytes_observed(
         rt,
         alloc,
         job,
@@ -142,8 +153,9 @@ pub fn run_bytes<T: Threads + Wait + Sync, W: Write>(
     )
 }
 
-// Does the job with the script that the bytes are; the observer looks on at a simulated run, and the gate may end a run in threads.
-fn bytes_observed<T: Threads + Wait + Sync, W: Write, G: Gate + Sync>(
+/// Does the job with the script that the bytes are, as [`run_text_observed`] does once it has read them: the observer looks on at a
+/// simulated run, and the gate may end a run in threads.
+pub fn run_bytes_observed<T: Threads + Wait + Sync, W: Write, G: Gate + Sync>(
     rt: &T,
     alloc: Global,
     job: &Job,
@@ -155,11 +167,7 @@ fn bytes_observed<T: Threads + Wait + Sync, W: Write, G: Gate + Sync>(
 ) -> Result<End, RunError>
     ensures { Prints (⟦<Ops as Listing>⟧.operations ops.now) (G.gives_up gate.now) job.now text.now (W.contents writer.old) (W.contents writer.new) result }
 {
-    let script = match read_script(alloc, text, ops) {
-        Ok(script) => script,
-        Err(ReadScriptError::Refused(refusal)) => return Err(RunError::Script(refusal)),
-        Err(ReadScriptError::OutOfMemory) => return Err(RunError::Memory),
-    };
+    let script = read_script(alloc, text, ops)?;
     if has_too_many(job, script.ranks()) {
         return Err(RunError::TooManyProcesses);
     }
@@ -198,7 +206,7 @@ fn printed_of<T: Threads + Wait + Sync, G: Gate + Sync>(
     ops: &Ops,
 ) -> Result<Printed, ThreadsError>
     requires { job.now.command ≡ Command.Run → script.now.ranks + job.now.options.relays ≤ 64 }
-    ensures text { IfOk result (λ printed. ComesTo (⟦<Ops as Listing>⟧.operations ops.now) job.now.command job.now.options.threads job.now.options.relays script.now printed.end (string_bytes printed.text)) }
+    ensures text { IfOk result (λ printed. ComesTo (⟦<Ops as Listing>⟧.operations ops.now) job.now.command job.now.options script.now printed.end (string_bytes printed.text)) }
     ensures gave_up { IfErr result (λ e. e ≡ ThreadsError.GateGaveUp → IsEndedByGate (G.gives_up gate.now) job.now script.now) }
 {
     if is_in_threads(job) {
@@ -232,7 +240,7 @@ fn printed_alone(
 ) -> Result<Printed, OutOfMemory>
     requires few { job.now.command ≡ Command.Run → script.now.ranks + job.now.options.relays ≤ 64 }
     requires alone { job.now.command ≡ Command.Run → job.now.options.threads ≡ false }
-    ensures { IfOk result (λ printed. ComesTo (⟦<Ops as Listing>⟧.operations ops.now) job.now.command job.now.options.threads job.now.options.relays script.now printed.end (string_bytes printed.text)) }
+    ensures { IfOk result (λ printed. ComesTo (⟦<Ops as Listing>⟧.operations ops.now) job.now.command job.now.options script.now printed.end (string_bytes printed.text)) }
 {
     match job.command {
         Command::Run => print(alloc, script, &job.options, observer, ops),

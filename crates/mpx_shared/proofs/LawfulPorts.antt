@@ -1,5 +1,5 @@
 -- Lawful and held ports.
-use Rattle.std.proofs.Common.{◌≡◌, ◌≢◌, ◌⊎◌, ℕ, ◌+◌, Bool, false, List, [], ◌∷◌, ◌++◌, length, take, Some, Result, Ok, Err, true, slice_get, refl, sym, ap, ◌∙◌, subst, arith, inl, inr, length-append, ⊎_elim, append_assoc}
+use Rattle.std.proofs.Common.{◌≡◌, ◌≢◌, ◌⊎◌, ℕ, ◌+◌, ◌<◌, Bool, false, List, [], ◌∷◌, ◌++◌, length, take, Some, Result, Ok, Err, true, slice_get, refl, sym, ap, ◌∙◌, subst, arith, inl, inr, length-append, ⊎_elim, append_assoc}
 use Rattle.std.specs.Prelude.{ℤ, Option, None, IfNone, IfOk, IfSome, IsTrue, OnOk, OnErr, is_some}
 use Rattle.std.proofs.lemmas.List.{append-nil}
 use Rattle.join_core.specs.declared.memory.OutOfMemory.{OutOfMemory}
@@ -15,7 +15,7 @@ use Rattle.mpx_post.specs.Drafts.{at, checked}
 use Rattle.mpx_board.specs.Boards.{IsGone, Look, told}
 use Rattle.mpx_value.specs.Histories.{Made, has_freed, posts_on}
 use Rattle.mpx_node.specs.declared.finished.Finished.{Finished}
-use Rattle.mpx_node.specs.Nodes.{NodeView, Posts, checked_on, freed_on, posted_on, results_on}
+use Rattle.mpx_node.specs.Nodes.{NodeView, Posts, checked_on, freed_on, front_on, posted_on, results_on}
 use Rattle.mpx_world.specs.Worlds.{ProcessView, makes}
 use Rattle.mpx_bus.specs.declared.act.Act.{Act}
 use Rattle.mpx_bus.specs.declared.act.Act.TheVariants as A
@@ -31,6 +31,7 @@ use Rattle.mpx_bus.specs.Answers.{Lists, PopsOne, PushesLast, PushesNext, Stoppe
 use Rattle.mpx_post.proofs.Lists.{slice_get-append}
 use Rattle.mpx_world.proofs.Lists.{slice_get-push, slice_get-push_cases}
 use Rattle.mpx_world.proofs.Opened.{member_ranked}
+use Rattle.mpx_world.proofs.Retention.{IsKeptOn}
 use Rattle.mpx_bus.proofs.Journals.{after-append}
 use Rattle.mpx_bus.proofs.Ports.{kept_after, new_stood}
 use Rattle.mpx_bus.proofs.Goes.{NoPosts, goes_itself, goes_then, made_more, two_acts}
@@ -40,7 +41,7 @@ use Rattle.mpx_shared.specs.Tickets.{GathersOne, PostsThen}
 use Rattle.mpx_shared.specs.declared.ticket.Ticket.{Ticket}
 use Rattle.mpx_shared.proofs.Dying.{gone_after, listed_living}
 use Rattle.mpx_shared.proofs.Plans.{operations_of, plan_births, prefix_itself, prefix_next, prefix_take, prefix_then, ranks_of}
-use Rattle.mpx_shared.proofs.Standing.{checked_parts, own_beside, stood_birth, stood_good, stood_member, stood_value, within}
+use Rattle.mpx_shared.proofs.Standing.{checked_parts, gone_stored, own_beside, own_stored, stood_birth, stood_good, stood_member, stood_value, within}
 
 -- NO POSTS
 
@@ -311,6 +312,15 @@ pub lawful_birth : (table : TableId) (setup : Setup) (me : ℕ) (port : PortView
 lawful_birth table setup me port name birth d e =
     subst (λ (x : Setup). IsBirthByPlan x name birth) d.setup_is
     (record { happenings = d.stood.happenings; may = d.stood.may; begins = d.stood.planned; born = stood_birth port.setup port.me port.journal d.stood name birth e })
+
+-- an own post is on its board, or it is dropped, or the context is dead
+pub lawful_stored : (table : TableId) (setup : Setup) (me : ℕ) (port : PortView) (name : Name) (call : ℕ) (x : Given) → IsLawful table setup me port → slice_get (posts_on name (made_in port)) call ≡ Some x → IsKeptOn (node_in port).board name call me x
+lawful_stored table setup me port name call x d mine = subst (λ p. IsKeptOn (node_in port).board name call p x) d.me_is (own_stored port.setup port.me port.journal d.stood name call x mine)
+
+-- and then it has harvested the call
+pub lawful_gone : (table : TableId) (setup : Setup) (me : ℕ) (port : PortView) (name : Name) (call : ℕ) (x : Given) → IsLawful table setup me port → slice_get (posts_on name (made_in port)) call ≡ Some x
+    → IsGone (node_in port).board name ⊎ (call < ((node_in port).board.contexts name).dropped) → call < front_on (node_in port) name
+lawful_gone table setup me port name call x d mine gone = gone_stored port.setup port.me port.journal d.stood name call x mine gone
 
 -- it is a member of each context that it has opened
 pub lawful_member : (table : TableId) (setup : Setup) (me : ℕ) (port : PortView) (name : Name) → IsLawful table setup me port → IsTrue (is_some ((node_in port).opened name)) → (birth : BirthView) × ((rank : ℕ) × (IsBirthByPlan setup name birth × (rank_in me birth.members ≡ Some rank)))

@@ -1,5 +1,5 @@
 -- What is so of a process that stands in a world that can be reached.
-use Rattle.std.proofs.Common.{◌≡◌, ℕ, zero, suc, ◌-◌, ◌<◌, ◌≤◌, Bool, true, false, cond, List, [], ◌∷◌, length, Option, None, Some, Result, Ok, Err, slice_get, refl, sym, ap, ◌∙◌, subst, arith}
+use Rattle.std.proofs.Common.{◌≡◌, ◌⊎◌, ℕ, zero, suc, ◌-◌, ◌<◌, ◌≤◌, Bool, true, false, cond, List, [], ◌∷◌, length, Option, None, Some, Result, Ok, Err, slice_get, refl, sym, ap, ◌∙◌, subst, arith, inl, inr}
 use Rattle.std.specs.Prelude.{◌&&◌, IsTrue, is_some, map, nat_le}
 use Rattle.std.specs.List.{list_any}
 use Rattle.std.specs.Option.{option_map_or}
@@ -13,17 +13,18 @@ use Rattle.mpx_post.specs.declared.draft.Draft.{Draft}
 use Rattle.mpx_post.specs.Drafts.{at, checked}
 use Rattle.mpx_post.specs.declared.draft.PostError.{PostError}
 use Rattle.mpx_post.specs.declared.draft.PostError.TheVariants.{Closed}
-use Rattle.mpx_board.specs.Boards.{floor_on, minimum, told}
+use Rattle.mpx_board.specs.Boards.{IsGone, floor_on, minimum, told}
 use Rattle.mpx_value.specs.Histories.{posts_on}
 use Rattle.mpx_node.specs.declared.finished.Finished.{Finished}
 use Rattle.mpx_node.specs.Nodes.{OpenedView, checked_by, checked_there, freed_by, freed_on, front_on, is_fine_free, is_nothing, is_past_free, posted_by, posted_on, results_on}
-use Rattle.mpx_world.specs.Worlds.{ProcessView, WorldView, births, history}
-use Rattle.mpx_world.specs.Soundness.{AgreesWithFact, IsMember, IsValue}
+use Rattle.mpx_world.specs.Worlds.{ProcessView, WorldView, births, history, own_front}
+use Rattle.mpx_world.specs.Soundness.{AgreesWithFact, HaveHarvested, IsMember, IsValue}
 use Rattle.mpx_world.proofs.Born.{option_map_some}
 use Rattle.mpx_world.proofs.Lists.{any_at}
 use Rattle.mpx_world.proofs.Truth.{told_agrees}
 use Rattle.mpx_world.proofs.Steps.{Good, board_so, minimum_below}
-use Rattle.mpx_world.proofs.Retention.{retention}
+use Rattle.mpx_world.proofs.Freed.{freed_harvested}
+use Rattle.mpx_world.proofs.Retention.{IsKeptOn, StoresOwn, retention}
 use Rattle.mpx_world.proofs.Opened.{are_members}
 use Rattle.mpx_world.proofs.Whole.{IsWell, well_by}
 use Rattle.mpx_bus.specs.declared.act.Act.{Act}
@@ -138,6 +139,28 @@ module _ (setup : Setup) (me : ℕ) (journal : List Act) (s : Stood setup me jou
     by : (o : Option Given) → slice_get (posts_on name ((process_at setup me journal).made)) call ≡ o → o ≡ told (((node_at setup me journal).board.contexts name).posts call me)
     by None e = sym (told_none (((node_at setup me journal).board.contexts name).posts call me) (subst (AgreesWithFact (((node_at setup me journal).board.contexts name).posts call me)) (stood_history name call ∙ e) (((board_so w me (process_at setup me journal) stood_good).contexts_so name).posts_so call me)))
     by (Some x) e = sym (own_kept name call x none e)
+
+  -- an own post is on the board, or it is dropped, or the context is dead
+  pub own_stored : (name : Name) (call : ℕ) (x : Given) → slice_get (posts_on name ((process_at setup me journal).made)) call ≡ Some x → IsKeptOn (node_at setup me journal).board name call me x
+  own_stored name call x mine =
+      subst (λ p. IsKeptOn (node_at setup me journal).board name call p x) stood_good.me_is (subst StoresOwn s.stands (well.stores me) name call x mine)
+
+  -- and then it has harvested the call
+  pub gone_stored : (name : Name) (call : ℕ) (x : Given) → slice_get (posts_on name ((process_at setup me journal).made)) call ≡ Some x
+      → IsGone (node_at setup me journal).board name ⊎ (call < ((node_at setup me journal).board.contexts name).dropped) → call < front_on (node_at setup me journal) name
+  gone_stored name call x mine gone =
+      let v = process_at setup me journal in
+      let l : call < length (posts_on name v.made) = within (posts_on name v.made) call x mine in
+      let b = own_member name (omega (arith, l, stood_good.counted name)) in
+      let so = (board_so w me v stood_good).contexts_so name in
+      let front : call < own_front w name me = elim gone [
+        | inl dead ↦ freed_harvested w well.holds name (so.dead_so dead) me b call x (stood_history name call ∙ mine) b.birth b.born b.rank me b.member
+        | inr low ↦
+            let all : HaveHarvested w name (v.node.board.contexts name).dropped (births w name) = so.dropped_so (omega (arith, low)) in
+            let done = (subst (HaveHarvested w name (v.node.board.contexts name).dropped) b.born all) b.rank me b.member in
+            omega (arith, done, low)
+      ] in
+      subst (λ (u : ProcessView). call < front_on u.node name) s.stands front
 
   -- a result stands beside the own post
   pub own_beside : (name : Name) (call : ℕ) (f : Finished) → slice_get (results_on (node_at setup me journal) name) call ≡ Some f → slice_get (posts_on name ((process_at setup me journal).made)) call ≡ Some f.mine

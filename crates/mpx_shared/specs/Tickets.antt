@@ -9,6 +9,7 @@ use Rattle.mpx_post.specs.declared.draft.Draft.{Draft}
 use Rattle.mpx_post.specs.declared.draft.PostError.{PostError}
 use Rattle.mpx_board.specs.Boards.{told}
 use Rattle.mpx_value.specs.Histories.{has_freed, posts_on}
+use Rattle.mpx_node.specs.declared.finished.Finished.{Finished}
 use Rattle.mpx_node.specs.Nodes.{NodeView, Opens, Posts, checked_on, gathers_on, posted_on, results_on}
 use Rattle.mpx_bus.specs.declared.act.Setup.{Setup}
 use Rattle.mpx_bus.specs.declared.act.Act.{Act}
@@ -69,6 +70,19 @@ pub record AnswersTicket (table : TableId) (setup : Setup) (me : ℕ) (opening :
   pub gone_on : HasGoneOn setup me opening port
   pub answer : IsAnswer port ticket tested
 
+-- the stored result of the ticket's call, beside the ticket's post
+pub record HoldsAnswer (port : PortView) (ticket : Ticket) : Type 0 where
+  pub finished : Finished
+  pub held : slice_get (results_on (node_in port) ticket.name) ticket.call ≡ Some finished
+  pub mine : finished.mine ≡ ticket.post
+
+-- the port held a result that answers the ticket
+pub record HeldAnswer (table : TableId) (setup : Setup) (me : ℕ) (opening : List Act) (ticket : Ticket) : Type 0 where
+  pub port : PortView
+  pub lawful : IsLawful table setup me port
+  pub gone_on : HasGoneOn setup me opening port
+  pub holds : HoldsAnswer port ticket
+
 -- the gathering stands in the journal as the one act of the call; a refusal leaves the port as it was
 abbrev pub GathersOne : Name → ℤ → List ℤ → Result Name PostError → PortView → PortView → Type 0
 GathersOne parent tag ranks (Ok name) old new = new.journal ≡ old.journal ++ A.Gathered parent tag ranks ∷ []
@@ -87,12 +101,21 @@ pub record OpensThen (table : TableId) (setup : Setup) (me : ℕ) (opening : Lis
   pub acts : GathersOne parent tag ranks result before after
   pub kept : after.kept ≡ before.kept
 
+-- how the communicator came to be, where the port's board tells it
+abbrev pub birth_on : PortView → Name → Option BirthView
+birth_on port name = told ((node_in port).board.contexts name).birth
+
 -- the port's board told how the communicator came to be, or didn't
 pub record TellsBirth (table : TableId) (setup : Setup) (me : ℕ) (opening : List Act) (name : Name) (birth : Option BirthView) : Type 0 where
   pub port : PortView
   pub lawful : IsLawful table setup me port
   pub gone_on : HasGoneOn setup me opening port
-  pub told : told ((node_in port).board.contexts name).birth ≡ birth
+  pub told : birth_on port name ≡ birth
+
+-- it did
+pub record ToldBirth (table : TableId) (setup : Setup) (me : ℕ) (opening : List Act) (name : Name) : Type 0 where
+  pub birth : BirthView
+  pub tells : TellsBirth table setup me opening name (Some birth)
 
 -- the port, which had made so many posts, had posted a free on the context, or hadn't
 pub record TellsClosed (table : TableId) (setup : Setup) (me : ℕ) (opening : List Act) (count : ℕ) (name : Name) (closed : Bool) : Type 0 where

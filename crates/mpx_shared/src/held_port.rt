@@ -1,5 +1,5 @@
 //! A port under its lock.
-ghost use Rattle.std.specs.Prelude.{◌≡◌, ◌+◌, ◌<◌, [], ◌∷◌, ◌++◌, length, IfOk, OnOk, OnErr};
+ghost use Rattle.std.specs.Prelude.{◌≡◌, ◌+◌, ◌<◌, [], ◌∷◌, ◌++◌, length, is_some, IfOk, IsTrue, OnOk, OnErr};
 ghost use Rattle.mpx_node.specs.Nodes.{Opens, Posts, checked_on, gathers_on};
 ghost use Rattle.mpx_bus.specs.declared.act.Act.TheVariants as A;
 ghost use Rattle.mpx_bus.specs.Answers.{PushesNext};
@@ -7,7 +7,7 @@ ghost use Rattle.mpx_bus.specs.Ports.{PortGoes, node_in};
 ghost use Rattle.mpx_bus.specs.Buses.{table_of};
 ghost use Rattle.mpx_shared.specs.LawfulPorts.{HasGoneOn, IsLawful, IsNext, MakesNoPost, made_in};
 ghost use Rattle.mpx_shared.specs.Gossip.{Pulls, frame_limit};
-ghost use Rattle.mpx_shared.specs.Tickets.{AnswersTicket, OpensThen, PostsThen, TellsBirth, TellsClosed, call_of};
+ghost use Rattle.mpx_shared.specs.Tickets.{AnswersTicket, HeldAnswer, HoldsAnswer, IsAnswer, OpensThen, PostsThen, TellsBirth, TellsClosed, ToldBirth, birth_on, call_of};
 ghost use Rattle.mpx_shared.specs.Turns.{PullsThen, PutsThen};
 
 use crate::contexts::{add_context, leave_dead, new_context};
@@ -110,9 +110,12 @@ impl<L: PortLock> HeldPort<L> {
     }
 
     /// What the port answers a ticket: the call's result, or that it has none yet, or that the post isn't its own. An `Err` is want of
-    /// memory for a copy of the result.
+    /// memory for a copy of the result, which is there then.
     pub fn test(&self, alloc: Global, ticket: &Ticket) -> Result<TicketTested, OutOfMemory>
-        ensures { IfOk result (λ tested. AnswersTicket L.table L.setup L.me L.opening ticket.now tested) }
+        ensures answer { IfOk result (λ tested. IsAnswer self.now.0 ticket.now tested) }
+        ensures memory { OnErr result (HoldsAnswer self.now.0 ticket.now) }
+        ensures then { IfOk result (λ tested. AnswersTicket L.table L.setup L.me L.opening ticket.now tested) }
+        ensures wanted { OnErr result (HeldAnswer L.table L.setup L.me L.opening ticket.now) }
     {
         let node = self.port.node();
         if let Some(finished) = node.result(&ticket.name, ticket.call) {
@@ -167,9 +170,12 @@ impl<L: PortLock> HeldPort<L> {
         self.port.node().has_freed(name)
     }
 
-    /// How a communicator came to be, where the port's board tells it. An `Err` is want of memory for a copy.
+    /// How a communicator came to be, where the port's board tells it. An `Err` is want of memory for a copy: the board tells it then.
     pub fn birth(&self, alloc: Global, name: &Name) -> Result<Option<Birth>, OutOfMemory>
-        ensures { IfOk result (λ birth. TellsBirth L.table L.setup L.me L.opening name.now birth) }
+        ensures told { IfOk result (λ birth. birth_on self.now.0 name.now ≡ birth) }
+        ensures memory { OnErr result (IsTrue (is_some (birth_on self.now.0 name.now))) }
+        ensures then { IfOk result (λ birth. TellsBirth L.table L.setup L.me L.opening name.now birth) }
+        ensures wanted { OnErr result (ToldBirth L.table L.setup L.me L.opening name.now) }
     {
         match self.port.node().board().birth(name) {
             None => Ok(None),

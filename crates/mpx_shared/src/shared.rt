@@ -2,7 +2,7 @@
 ghost use Rattle.std.specs.Prelude.{◌≡◌, ◌+◌, ◌<◌, length, IfOk, OnOk, OnErr};
 ghost use Rattle.mpx_bus.specs.Buses.{table_of};
 ghost use Rattle.mpx_shared.specs.LawfulPorts.{HasGoneOn, IsLawful, IsNext, made_in};
-ghost use Rattle.mpx_shared.specs.Tickets.{AnswersTicket, OpensThen, PostsThen, TellsBirth, TellsClosed};
+ghost use Rattle.mpx_shared.specs.Tickets.{AnswersTicket, HeldAnswer, OpensThen, PostsThen, TellsBirth, TellsClosed, ToldBirth};
 ghost use Rattle.mpx_shared.specs.Turns.{PullsThen, PutsThen, TurnsThen};
 
 use crate::held_port::HeldPort;
@@ -73,14 +73,15 @@ impl<L: PortLock> SharedPort<L> {
     }
 
     /// What the port answers a ticket: the call's result, or that it has none yet, or that the post isn't its own. It harvests nothing. An
-    /// `Err` is want of memory for a copy of the result.
+    /// `Err` is want of memory for a copy of the result, which the port holds then.
     pub fn test<R: Wait>(
         &self,
         rt: &R,
         alloc: Global,
         ticket: &Ticket,
     ) -> Result<TicketTested, OutOfMemory>
-        ensures { IfOk result (λ tested. AnswersTicket L.table L.setup L.me L.opening ticket.now tested) }
+        ensures then { IfOk result (λ tested. AnswersTicket L.table L.setup L.me L.opening ticket.now tested) }
+        ensures wanted { OnErr result (HeldAnswer L.table L.setup L.me L.opening ticket.now) }
     {
         self.held.lock(rt).test(alloc, ticket)
     }
@@ -114,14 +115,15 @@ impl<L: PortLock> SharedPort<L> {
         self.held.lock(rt).is_closed(&mut poster.share, name)
     }
 
-    /// How a communicator came to be, where the port's board tells it. An `Err` is want of memory for a copy.
+    /// How a communicator came to be, where the port's board tells it. An `Err` is want of memory for a copy: the board tells it then.
     pub fn birth<R: Wait>(
         &self,
         rt: &R,
         alloc: Global,
         name: &Name,
     ) -> Result<Option<Birth>, OutOfMemory>
-        ensures { IfOk result (λ birth. TellsBirth L.table L.setup L.me L.opening name.now birth) }
+        ensures then { IfOk result (λ birth. TellsBirth L.table L.setup L.me L.opening name.now birth) }
+        ensures wanted { OnErr result (ToldBirth L.table L.setup L.me L.opening name.now) }
     {
         self.held.lock(rt).birth(alloc, name)
     }

@@ -1,3 +1,4 @@
+pub mod Phases
 pub mod Running
 pub mod Posting
 pub mod Carried
@@ -5,5 +6,6 @@ pub mod Tried
 pub mod Sending
 pub mod Spelled
 pub mod Starting
+pub mod Resting
 pub mod Results
 pub mod Ends

@@ -1,5 +1,5 @@
 -- Frames, and the board whose bytes they are.
-use Rattle.std.proofs.Common.{◌≡◌, ◌<◌, ℕ, zero, suc, true, false, get_or, take, drop, List, [], ◌∷◌, ◌++◌, length, map, set, Some, Result, Err, refl, sym, ap, ◌∙◌, subst, arith}
+use Rattle.std.proofs.Common.{◌≡◌, ◌<◌, ◌≤◌, ℕ, zero, suc, true, false, get_or, take, drop, List, [], ◌∷◌, ◌++◌, length, map, set, Some, Result, Err, refl, sym, ap, ◌∙◌, subst, arith}
 use Rattle.std.specs.Prelude.{All, IsTrue, is_ok, slice_get}
 use Rattle.std.specs.List.{remove}
 use Rattle.std.proofs.lemmas.List.{map-append}
@@ -15,8 +15,11 @@ use Rattle.mpx_format.proofs.Decoded.{decoded_again}
 use Rattle.mpx_parts.specs.Facts.{OnlyFactsOf}
 use Rattle.mpx_meaning.specs.Evaluation.{Script}
 use Rattle.mpx_sim.specs.declared.frame_under_way.FrameUnderWay.{FrameUnderWay}
+use Rattle.mpx_sim.specs.declared.schedule.Schedule.{Schedule}
+use Rattle.mpx_sim.specs.Draws.{ScheduleView, draw, drawn, drawn_once}
+use Rattle.mpx_sim.specs.Turns.{Going, Moment}
 use Rattle.mpx_sim.specs.Running.{IsUnderWay, ProcessView}
-use Rattle.mpx_sim.specs.Shown.{part_of, shown}
+use Rattle.mpx_sim.specs.Shown.{part_of, schedule_of, shown}
 use Rattle.mpx_sim.proofs.Running.{run_sends}
 
 -- BYTES
@@ -42,10 +45,10 @@ all_same f g P xs ys e h = all_behind f P xs (subst (All P) (sym e) (All-map P g
 
 -- A FRAME GOES OUT
 
-pub goes_out : (ops : List Operation) (script : Script) (ranks size : ℕ) (processes : List ProcessView) (p : ℕ) (v : ProcessView) (frames : List FrameUnderWay) (new : FrameUnderWay) → slice_get processes p ≡ Some v → OnlyFactsOf (part_of new) v.node.board
-    → IsUnderWay ops script ranks size processes (map part_of frames) → IsUnderWay ops script ranks size processes (map part_of (frames ++ new ∷ []))
-goes_out ops script ranks size processes p v frames new at only run =
-    subst (λ (bs : List Look). IsUnderWay ops script ranks size processes bs) (sym (map-append part_of frames (new ∷ []))) (run_sends ops script ranks size processes (map part_of frames) run p v (part_of new) at only)
+pub goes_out : (ops : List Operation) (script : Script) (ranks size : ℕ) (begun : Moment) (t : ScheduleView) → t.loss ≤ draw 100 t.draws → (processes : List ProcessView) (p : ℕ) (v : ProcessView) (frames : List FrameUnderWay) (new : FrameUnderWay) → slice_get processes p ≡ Some v → OnlyFactsOf (part_of new) v.node.board
+    → IsUnderWay ops script ranks size begun (Going t) processes (map part_of frames) → IsUnderWay ops script ranks size begun (Going (drawn_once t)) processes (map part_of (frames ++ new ∷ []))
+goes_out ops script ranks size begun t kept processes p v frames new at only run =
+    subst (λ (bs : List Look). IsUnderWay ops script ranks size begun (Going (drawn_once t)) processes bs) (sym (map-append part_of frames (new ∷ []))) (run_sends ops script ranks size begun t processes (map part_of frames) run p v (part_of new) kept at only)
 
 -- THE CODE'S LISTS
 
@@ -70,3 +73,9 @@ written_back len (y ∷ ys) [] e f = absurd (omega (arith, e))
 written_back zero (y ∷ ys) (x ∷ xs) e f = absurd (omega (arith, f))
 written_back (suc len) [] [] e f = refl
 written_back (suc len) (y ∷ ys) (x ∷ xs) e f = ap (λ zs. x ∷ zs) (written_back len ys xs (omega (arith, e)) (omega (arith, f)))
+
+-- THE CODE'S SCHEDULE
+
+-- once a number is drawn
+pub drawn_of : (old new : Schedule) → new.loss ≡ old.loss → new.words ≡ drawn old.words → schedule_of new ≡ drawn_once (schedule_of old)
+drawn_of old new loss words = λ i. record { loss = loss i; draws = words i }

@@ -13,6 +13,9 @@ use Rattle.mpx_rank.specs.Places.{CommunicatorView, bound_as}
 use Rattle.mpx_system.specs.Systems.{start_system}
 use Rattle.mpx_system.proofs.Leading.{leads_nowhere}
 use Rattle.mpx_world.proofs.Lists.{slice_get-push_cases}
+use Rattle.mpx_sim.specs.Draws.{ScheduleView}
+use Rattle.mpx_sim.specs.Turns.{Alone}
+use Rattle.mpx_sim.proofs.Phases.{begins}
 use Rattle.mpx_sim.specs.Running.{IsAt, IsUnderWay, ProcessView, StandsBy, name_in, name_of}
 
 -- the world, by its name
@@ -52,10 +55,11 @@ one_more ops script ranks size processes v n count at each p x e =
     let s = start_system ops script ranks size in
     slice_get-push_cases (λ y j. IsAt ranks s j y) processes v p x e (each p x) (λ same last. subst (IsAt ranks s p) same (subst (λ j. IsAt ranks s j v) (sym (last ∙ count)) at))
 
-pub run_starts : (ops : List Operation) (script : Script) (ranks size : ℕ) (processes : List ProcessView) → length processes ≡ size → ((p : ℕ) (v : ProcessView) → slice_get processes p ≡ Some v → IsAt ranks (start_system ops script ranks size) p v) → IsUnderWay ops script ranks size processes []
-run_starts ops script ranks size processes count each = record {
+pub run_starts : (ops : List Operation) (script : Script) (ranks size : ℕ) (first : ScheduleView) (processes : List ProcessView) → length processes ≡ size → ((p : ℕ) (v : ProcessView) → slice_get processes p ≡ Some v → IsAt ranks (start_system ops script ranks size) p v) → IsUnderWay ops script ranks size (record { system = start_system ops script ranks size; schedule = first }) Alone processes []
+run_starts ops script ranks size first processes count each = record {
   system = start_system ops script ranks size;
   led = leads_nowhere ranks (start_system ops script ranks size);
+  since = begins ranks (record { system = start_system ops script ranks size; schedule = first });
   count = count;
   each = each;
   sent = λ k d l. absurd (omega (arith, l));

@@ -14,6 +14,8 @@ use Rattle.mpx_meaning.specs.Evaluation.{Script}
 use Rattle.mpx_rank.specs.Moves.{RankView, is_waiting}
 use Rattle.mpx_rank.specs.Places.{CommunicatorView, StandsInScript}
 use Rattle.mpx_system.specs.Systems.{System, Leads, start_system}
+use Rattle.mpx_sim.specs.Draws.{IsLater, ScheduleView, generator}
+use Rattle.mpx_sim.specs.Turns.{Alone, AreTurns, Moment, Phase, Since}
 
 -- a process: its rank, and its node
 pub record ProcessView : Type 0 where
@@ -51,29 +53,36 @@ pub record IsAt (ranks : ℕ) (s : System) (p : ℕ) (v : ProcessView) : Type 0 
 abbrev pub IsAmong : List Look → Look → Type 0
 IsAmong parts b = (place : ℕ) × (slice_get parts place ≡ Some b)
 
--- the processes and frames under way of a run of the script: the processes of a system to which doings lead from the start, and frames of which
--- each was sent there
-pub record IsUnderWay (ops : List Operation) (script : Script) (ranks size : ℕ) (processes : List ProcessView) (frames : List Look) : Type 0 where
+-- the processes and frames under way of a run of the script, in a phase of a turn: the processes of a system to which doings lead from the start, and
+-- which is in this phase of the turn that began there; and frames of which each was sent there
+pub record IsUnderWay (ops : List Operation) (script : Script) (ranks size : ℕ) (begun : Moment) (phase : Phase) (processes : List ProcessView) (frames : List Look) : Type 0 where
   pub system : System
   pub led : Leads ranks (start_system ops script ranks size) system
+  pub since : Since ranks begun phase system
   pub count : length processes ≡ size
   pub each : (p : ℕ) (v : ProcessView) → slice_get processes p ≡ Some v → IsAt ranks system p v
   pub sent : All (IsAmong system.world.parts) frames
 
--- these are the processes of a run of the script with so many relays, whatever its frames are
-abbrev pub AreOfRun : List Operation → ScriptView → (relays : ℕ) → List ProcessView → Type 0
-AreOfRun ops script relays processes = (frames : List Look) × IsUnderWay ops script.statements script.ranks (script.ranks + relays) processes frames
+-- these are the processes of a run of the script with so many relays after so many turns of a schedule with this seed and loss, before frames go out once
+-- more, whatever its frames are
+pub record AreOfRun (ops : List Operation) (script : ScriptView) (relays seed loss turns : ℕ) (processes : List ProcessView) : Type 0 where
+  pub first : ScheduleView
+  pub seeded : IsLater (record { loss = loss; draws = generator seed }) first
+  pub begun : Moment
+  pub made : AreTurns turns script.ranks (record { system = start_system ops script.statements script.ranks (script.ranks + relays); schedule = first }) begun
+  pub frames : List Look
+  pub run : IsUnderWay ops script.statements script.ranks (script.ranks + relays) begun Alone processes frames
 
--- in place of the one in a run stands the other
-abbrev pub Keeps : List Operation → (old new : ProcessView) → Type 0
-Keeps ops old new = (script : Script) (ranks size : ℕ) (processes : List ProcessView) (frames : List Look) (p : ℕ) → slice_get processes p ≡ Some old
-    → IsUnderWay ops script ranks size processes frames → IsUnderWay ops script ranks size (set processes p new) frames
+-- in place of the one in a run stands the other, in this phase of a turn
+abbrev pub Keeps : Phase → List Operation → (old new : ProcessView) → Type 0
+Keeps phase ops old new = (script : Script) (ranks size : ℕ) (begun : Moment) (processes : List ProcessView) (frames : List Look) (p : ℕ) → slice_get processes p ≡ Some old
+    → IsUnderWay ops script ranks size begun phase processes frames → IsUnderWay ops script ranks size begun phase (set processes p new) frames
 
 -- the same of a process whose node alone changes
-abbrev pub KeepsNode : List Operation → (old new : NodeView) → Type 0
-KeepsNode ops old new = (r : RankView Comm) → Keeps ops (record { rank = r; node = old }) (record { rank = r; node = new })
+abbrev pub KeepsNode : Phase → List Operation → (old new : NodeView) → Type 0
+KeepsNode phase ops old new = (r : RankView Comm) → Keeps phase ops (record { rank = r; node = old }) (record { rank = r; node = new })
 
--- the same of a process that is a rank
+-- the same of a process that is a rank, and goes on by itself
 abbrev pub Moves : List Operation → (old new : ProcessView) → Type 0
-Moves ops old new = (script : Script) (ranks size : ℕ) (processes : List ProcessView) (frames : List Look) (p : ℕ) → p < ranks → slice_get processes p ≡ Some old
-    → IsUnderWay ops script ranks size processes frames → IsUnderWay ops script ranks size (set processes p new) frames
+Moves ops old new = (script : Script) (ranks size : ℕ) (begun : Moment) (processes : List ProcessView) (frames : List Look) (p : ℕ) → p < ranks → slice_get processes p ≡ Some old
+    → IsUnderWay ops script ranks size begun Alone processes frames → IsUnderWay ops script ranks size begun Alone (set processes p new) frames

@@ -8,8 +8,12 @@ use Rattle.mpx_post.specs.declared.draft.PostError.{PostError}
 use Rattle.mpx_comm.specs.declared.request.Request.{Request}
 use Rattle.mpx_node.specs.Shown.{node_of}
 use Rattle.mpx_rank.specs.Shown.{rank_of}
+use Rattle.mpx_system.specs.Systems.{System}
 use Rattle.mpx_sim.specs.declared.frame_under_way.FrameUnderWay.{FrameUnderWay}
 use Rattle.mpx_sim.specs.declared.process.Process.{Process}
+use Rattle.mpx_sim.specs.declared.schedule.Schedule.{Schedule}
+use Rattle.mpx_sim.specs.Draws.{ScheduleView}
+use Rattle.mpx_sim.specs.Turns.{Moment}
 use Rattle.mpx_sim.specs.Running.{ProcessView}
 
 abbrev pub call_of : Request → Name × ℕ
@@ -26,3 +30,11 @@ process_of p = record { rank = rank_of call_of p.rank; node = node_of p.desk.des
 -- the board that a frame's bytes spell
 abbrev pub part_of : FrameUnderWay → Look
 part_of f = shown (decoded f.bytes.items)
+
+-- how many of a hundred frames are lost, and the generator
+abbrev pub schedule_of : Schedule → ScheduleView
+schedule_of s = record { loss = s.loss; draws = s.words }
+
+-- the system, where its schedule is this one
+abbrev pub moment_of : System → Schedule → Moment
+moment_of system s = record { system = system; schedule = schedule_of s }

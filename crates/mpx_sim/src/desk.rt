@@ -1,14 +1,19 @@
 //! The desk of a run's process: it carries the posts of the process's rank, and looks at contexts.
-ghost use Rattle.std.specs.Prelude.{◌≡◌, ◌<◌, ◌≤◌, IfOk, List, OnOk};
+ghost use Rattle.std.specs.Prelude.{◌≡◌, ◌<◌, ◌≤◌, IfOk, List, OnOk, Some, true};
 ghost use Rattle.std.specs.Option.{option_copied};
 ghost use Rattle.mpx_num.specs.declared.own.Operation.{Operation};
 ghost use Rattle.mpx_comm.specs.Harvested.{Harvested};
+ghost use Rattle.mpx_comm.specs.Later.{IsPending};
+ghost use Rattle.mpx_comm.specs.declared.request.Request.{Request as Posted};
 ghost use Rattle.mpx_node.specs.Nodes.{checked_on, gathers_on, start_node};
 ghost use Rattle.mpx_node.specs.Shown.{node_of};
 ghost use Rattle.mpx_statement.specs.Statements.{create_group_draft, draft_of};
+ghost use Rattle.mpx_rank.specs.Shown.{requests_of};
 ghost use Rattle.mpx_sim.specs.Carrying.{Tries, tried_gathered, tried_on, tried_post};
+ghost use Rattle.mpx_sim.specs.Ends.{OneIsOpen};
 ghost use Rattle.mpx_sim.specs.Running.{KeepsNode, name_in};
-ghost use Rattle.mpx_sim.specs.Shown.{call_in};
+ghost use Rattle.mpx_sim.specs.Shown.{call_in, call_of};
+ghost use Rattle.mpx_sim.specs.Turns.{Alone};
 
 use join_core::{Exact, OutOfMemory};
 use mpx_birth::Birth;
@@ -20,8 +25,9 @@ use mpx_node::{Harvest, Node};
 use mpx_num::{Listing, Numbers, Ops};
 use mpx_post::PostError;
 use mpx_rank::{Carrier, Heard};
-use mpx_statement::Posting;
+use mpx_statement::{Posting, Word};
 use std::alloc::Global;
+use std::collections::BTreeMap;
 
 /// A desk over a process's node, and the contexts that it looks at.
 #[derive(Drop)]
@@ -73,10 +79,60 @@ impl RunDesk {
         harvest_all(alloc, &mut self.desk, &self.contexts, ops)
     }
 
+    /// Whether the call of a request isn't done, and can't be by what the board has.
+    pub(crate) fn is_open(
+        &mut self,
+        alloc: Global,
+        request: &Request,
+        ops: &Ops,
+    ) -> Result<bool, OutOfMemory>
+        ensures harvested { OnOk result (Harvested (⟦<Ops as Listing>⟧.operations ops.now) (node_of self.old.desk.host) (node_of self.new.desk.host)) }
+        ensures pending { IfOk result (λ pends. pends ≡ true → IsPending (node_of self.new.desk.host) request.now.name request.now.call) }
+    {
+        let done = self.desk.status(alloc, request, ops)?;
+        Ok(!done)
+    }
+
+    // Whether that of a request is, where there is one.
+    fn some_is_open(
+        &mut self,
+        alloc: Global,
+        request: Option<&Request>,
+        ops: &Ops,
+    ) -> Result<bool, OutOfMemory>
+        ensures harvested { OnOk result (Harvested (⟦<Ops as Listing>⟧.operations ops.now) (node_of self.old.desk.host) (node_of self.new.desk.host)) }
+        ensures pending { IfOk result (λ pends. pends ≡ true → (r : Posted) × (option_copied request.entry ≡ Some r) × IsPending (node_of self.new.desk.host) r.name r.call) }
+    {
+        match request {
+            None => Ok(false),
+            Some(request) => self.is_open(alloc, request, ops),
+        }
+    }
+
+    /// Whether that of a request of one of these words is.
+    pub(crate) fn one_is_open(
+        &mut self,
+        alloc: Global,
+        requests: &BTreeMap<Word, Request>,
+        words: &[Word],
+        ops: &Ops,
+    ) -> Result<bool, OutOfMemory>
+        ensures harvested { OnOk result (Harvested (⟦<Ops as Listing>⟧.operations ops.now) (node_of self.old.desk.host) (node_of self.new.desk.host)) }
+        ensures pending { IfOk result (λ pends. pends ≡ true → OneIsOpen (node_of self.new.desk.host) (requests_of call_of requests.now) words.now) }
+    {
+        for word in words {
+            let pends = self.some_is_open(alloc, requests.get(word), ops)?;
+            if pends {
+                return Ok(true);
+            }
+        }
+        Ok(false)
+    }
+
     /// Drops the posts that every member has harvested, of each context that it looks at, by what its board knows of that. It
     /// answers whether there were any. Contexts that are dead then are looked at no more.
     pub(crate) fn prune(&mut self) -> bool
-        ensures { (operations : List Operation) → KeepsNode operations (node_of self.old.desk.host) (node_of self.new.desk.host) }
+        ensures { (operations : List Operation) → KeepsNode Alone operations (node_of self.old.desk.host) (node_of self.new.desk.host) }
     {
         let changed = prune_all(&mut self.desk, &self.contexts);
         let board = self.desk.host().board();
@@ -87,7 +143,6 @@ impl RunDesk {
 
 impl Carrier for RunDesk {
     ghost use Rattle.mpx_sim.specs.Carrying.{desk_terms, hears_more, hears_nothing, stays_told};
-    ghost use Rattle.mpx_sim.specs.Shown.{call_of};
 
     type Communicator = Comm;
 
@@ -278,7 +333,7 @@ fn harvest_on(
 
 // Drops on each context what all members have harvested. It answers whether there was anything.
 fn prune_all(desk: &mut Desk<Node>, contexts: &[Name]) -> bool
-    ensures { (operations : List Operation) → KeepsNode operations (node_of desk.old.host) (node_of desk.new.host) }
+    ensures { (operations : List Operation) → KeepsNode Alone operations (node_of desk.old.host) (node_of desk.new.host) }
 {
     let mut changed = false;
     for name in contexts {
@@ -296,7 +351,7 @@ fn has_none_to_drop(node: &Node, name: &Name, dropped: u32) -> bool {
 // Drops what every member has harvested, where that is more than is dropped. Where it is past a free, the context is dead then, whatever
 // others had dropped before.
 fn prune_on(desk: &mut Desk<Node>, name: &Name) -> bool
-    ensures { (operations : List Operation) → KeepsNode operations (node_of desk.old.host) (node_of desk.new.host) }
+    ensures { (operations : List Operation) → KeepsNode Alone operations (node_of desk.old.host) (node_of desk.new.host) }
 {
     let dropped = desk.host().board().dropped(name);
     if has_none_to_drop(desk.host(), name, dropped) {

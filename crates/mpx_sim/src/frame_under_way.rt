@@ -2,11 +2,27 @@
 ghost use Rattle.std.specs.Prelude.{is_ok, IsTrue};
 ghost use Rattle.mpx_format.specs.Decoding.{decoded};
 
-/// The bytes of a board on their way: to which process, and in which turn they come.
+use crate::observer::FrameSeen;
+
+/// The bytes of a board on their way: from which process to which, in which turn they come, and whether they have come before.
 #[derive(Drop)]
 pub(crate) struct FrameUnderWay {
+    pub(crate) from: u8,
     pub(crate) to: usize,
     pub(crate) turn: u64,
+    pub(crate) again: bool,
     pub(crate) bytes: Vec<u8>,
     ghost spelled: { IsTrue (is_ok (decoded bytes.items)) },
+}
+
+impl FrameUnderWay {
+    /// As whoever looks on is told of it.
+    pub(crate) fn seen(&self) -> FrameSeen {
+        FrameSeen {
+            turn: u32::try_from(self.turn.saturating_add(1)).unwrap_or(u32::MAX),
+            from: self.from,
+            to: u8::try_from(self.to).unwrap_or(u8::MAX),
+            bytes: self.bytes.len(),
+        }
+    }
 }

@@ -10,10 +10,11 @@ use std::alloc::Global;
 /// The most bytes of a frame.
 pub(crate) const MOST_BYTES: usize = 1_048_576;
 
-/// Frames with these bytes, one for each: they come in this turn and those after it, one in each.
+/// Frames with these bytes, one for each, from a process to another: they come in this turn and those after it, one in each.
 pub(crate) fn frames_with(
     alloc: Global,
     lists: Vec<Vec<u8>>,
+    from: u8,
     to: usize,
     turn: u64,
 ) -> Result<Vec<FrameUnderWay>, OutOfMemory>
@@ -23,7 +24,13 @@ pub(crate) fn frames_with(
     let mut made = Vec::new(alloc);
     let mut turn = turn;
     for bytes in lists {
-        let frame = FrameUnderWay { to, turn, bytes };
+        let frame = FrameUnderWay {
+            from,
+            to,
+            turn,
+            again: false,
+            bytes,
+        };
         made.push(frame)?;
         turn = turn.saturating_add(1);
     }

@@ -2,7 +2,7 @@
 //! reordered, and what each rank writes begins what it writes in the script's evaluation.
 //!
 //! In the order of reading: [`run_sim`], which answers a [`Run`]; its processes are `Process`es, each a rank
-//! whose posts a `RunDesk` carries, or a relay; what they send are `Frame`s, which a `Network` carries.
+//! whose posts a `RunDesk` carries, or a relay; what they send is a `FrameUnderWay` each, which a `Network` carries.
 #![tactic(auto)]
 
 mod desk;
@@ -16,5 +16,5 @@ mod schedule;
 mod sender;
 mod turns;
 
-pub use observer::{Observer, Unobserved};
+pub use observer::{FrameSeen, Observer, Progress, Unobserved};
 pub use report::{Run, run_sim, run_sim_observed};

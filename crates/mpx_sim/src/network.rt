@@ -7,11 +7,14 @@ ghost use Rattle.mpx_board.specs.Boards.{Look, join_all};
 ghost use Rattle.mpx_parts.specs.Facts.{OnlyFactsOf};
 ghost use Rattle.mpx_node.specs.Deltas.{lacking_on};
 ghost use Rattle.mpx_meaning.specs.Evaluation.{Script as Statements};
+ghost use Rattle.mpx_sim.specs.Draws.{AreDrawn, ScheduleView, generator};
 ghost use Rattle.mpx_sim.specs.Running.{IsUnderWay, Keeps, ProcessView};
-ghost use Rattle.mpx_sim.specs.Shown.{part_of, process_of};
+ghost use Rattle.mpx_sim.specs.Shown.{part_of, process_of, schedule_of};
+ghost use Rattle.mpx_sim.specs.Turns.{Coming, Going, Moment};
 
 use crate::frame_under_way::FrameUnderWay;
 use crate::frames::frames_with;
+use crate::observer::Observer;
 use crate::process::Process;
 use crate::schedule::Schedule;
 use join_core::OutOfMemory;
@@ -35,6 +38,7 @@ impl Network {
     ) -> Result<Network, OutOfMemory>
         ensures frames { IfOk result (λ network. network.frames.items ≡ []) }
         ensures loss { IfOk result (λ network. network.schedule.loss ≡ options.now.loss) }
+        ensures seed { IfOk result (λ network. AreDrawn (generator options.now.seed) network.schedule.words) }
     {
         Ok(Network {
             frames: Vec::new(alloc),
@@ -53,6 +57,7 @@ impl Network {
     /// Brings the frames into an order that is drawn.
     pub(crate) fn mix(&mut self)
         ensures frames { IsPermutation self.old.frames.items self.new.frames.items }
+        ensures words { AreDrawn self.old.schedule.words self.new.schedule.words }
         ensures loss { self.new.schedule.loss ≡ self.old.schedule.loss }
     {
         self.schedule.shuffle(&mut self.frames);
@@ -65,14 +70,15 @@ pub(crate) fn send_all(
     processes: &mut [Process<'_>],
     network: &mut Network,
     turn: u64,
+    observer: &mut dyn Observer,
 ) -> Result<(), OutOfMemory>
-    ensures run { OnOk result ((operations : List Operation) (script : Statements) (ranks size : ℕ) → IsUnderWay operations script ranks size (map process_of processes.old) (map part_of network.old.frames.items)
-        → IsUnderWay operations script ranks size (map process_of processes.new) (map part_of network.new.frames.items)) }
+    ensures run { OnOk result ((operations : List Operation) (script : Statements) (ranks size : ℕ) (begun : Moment) → IsUnderWay operations script ranks size begun (Going (schedule_of network.old.schedule)) (map process_of processes.old) (map part_of network.old.frames.items)
+        → IsUnderWay operations script ranks size begun (Going (schedule_of network.new.schedule)) (map process_of processes.new) (map part_of network.new.frames.items)) }
     ensures loss { OnOk result (network.new.schedule.loss ≡ network.old.schedule.loss) }
 {
     let count = processes.len();
     for p in 0..count {
-        send_from(alloc, &mut processes[p], p, count, network, turn)?;
+        send_from(alloc, &mut processes[p], p, count, network, turn, observer)?;
     }
     Ok(())
 }
@@ -85,10 +91,11 @@ fn send_from(
     processes: usize,
     network: &mut Network,
     turn: u64,
+    observer: &mut dyn Observer,
 ) -> Result<(), OutOfMemory>
     requires { from < processes }
-    ensures run { OnOk result ((operations : List Operation) (script : Statements) (ranks size : ℕ) (others : List ProcessView) (p : ℕ) → slice_get others p ≡ Some (process_of process.old) → IsUnderWay operations script ranks size others (map part_of network.old.frames.items)
-        → IsUnderWay operations script ranks size (set others p (process_of process.new)) (map part_of network.new.frames.items)) }
+    ensures run { OnOk result ((operations : List Operation) (script : Statements) (ranks size : ℕ) (begun : Moment) (others : List ProcessView) (p : ℕ) → slice_get others p ≡ Some (process_of process.old) → IsUnderWay operations script ranks size begun (Going (schedule_of network.old.schedule)) others (map part_of network.old.frames.items)
+        → IsUnderWay operations script ranks size begun (Going (schedule_of network.new.schedule)) (set others p (process_of process.new)) (map part_of network.new.frames.items)) }
     ensures loss { OnOk result (network.new.schedule.loss ≡ network.old.schedule.loss) }
 {
     if !process.is_free(turn) {
@@ -96,7 +103,7 @@ fn send_from(
     }
     let to = network.schedule.receiver(from, process.lists(), processes);
     let made = made_by(alloc, process, to, turn, &mut network.spare)?;
-    send_each(made, network)
+    send_each(made, network, observer)
 }
 
 // The frames of what others may lack of a process's board, written over spare bytes.
@@ -107,37 +114,47 @@ fn made_by(
     turn: u64,
     spare: &mut Vec<Vec<u8>>,
 ) -> Result<Vec<FrameUnderWay>, OutOfMemory>
-    ensures keeps { OnOk result ((operations : List Operation) → Keeps operations (process_of process.old) (process_of process.new)) }
+    ensures keeps { OnOk result ((t : ScheduleView) (operations : List Operation) → Keeps (Going t) operations (process_of process.old) (process_of process.new)) }
     ensures facts { IfOk result (λ made. All (λ frame. OnlyFactsOf (part_of frame) (process_of process.new).node.board) made.items) }
     ensures join { IfOk result (λ made. join_all (map part_of made.items) ≡ lacking_on (process_of process.new).node) }
 {
     let lists = process.deltas(alloc, turn, spare)?;
-    frames_with(alloc, lists, to, turn)
+    frames_with(alloc, lists, process.me(), to, turn)
 }
 
 // Frames with facts of a process's board go out, where they aren't lost.
-fn send_each(made: Vec<FrameUnderWay>, network: &mut Network) -> Result<(), OutOfMemory>
+fn send_each(
+    made: Vec<FrameUnderWay>,
+    network: &mut Network,
+    observer: &mut dyn Observer,
+) -> Result<(), OutOfMemory>
     ensures all { OnOk result (network.old.schedule.loss ≡ 0 → network.new.frames.items ≡ network.old.frames.items ++ made.items) }
     ensures loss { network.new.schedule.loss ≡ network.old.schedule.loss }
-    ensures run { OnOk result ((operations : List Operation) (script : Statements) (ranks size : ℕ) (processes : List ProcessView) (p : ℕ) (v : ProcessView) → slice_get processes p ≡ Some v
-        → All (λ frame. OnlyFactsOf (part_of frame) v.node.board) made.items → IsUnderWay operations script ranks size processes (map part_of network.old.frames.items)
-        → IsUnderWay operations script ranks size processes (map part_of network.new.frames.items)) }
+    ensures run { OnOk result ((operations : List Operation) (script : Statements) (ranks size : ℕ) (begun : Moment) (processes : List ProcessView) (p : ℕ) (v : ProcessView) → slice_get processes p ≡ Some v
+        → All (λ frame. OnlyFactsOf (part_of frame) v.node.board) made.items → IsUnderWay operations script ranks size begun (Going (schedule_of network.old.schedule)) processes (map part_of network.old.frames.items)
+        → IsUnderWay operations script ranks size begun (Going (schedule_of network.new.schedule)) processes (map part_of network.new.frames.items)) }
 {
     for frame in made {
-        send(frame, network)?;
+        send(frame, network, observer)?;
     }
     Ok(())
 }
 
 // A frame goes out, where it isn't lost.
-fn send(frame: FrameUnderWay, network: &mut Network) -> Result<(), OutOfMemory>
+fn send(
+    frame: FrameUnderWay,
+    network: &mut Network,
+    observer: &mut dyn Observer,
+) -> Result<(), OutOfMemory>
     ensures all { OnOk result (network.old.schedule.loss ≡ 0 → network.new.frames.items ≡ network.old.frames.items ++ frame ∷ []) }
     ensures loss { network.new.schedule.loss ≡ network.old.schedule.loss }
-    ensures run { OnOk result ((operations : List Operation) (script : Statements) (ranks size : ℕ) (processes : List ProcessView) (p : ℕ) (v : ProcessView) → slice_get processes p ≡ Some v
-        → OnlyFactsOf (part_of frame) v.node.board → IsUnderWay operations script ranks size processes (map part_of network.old.frames.items)
-        → IsUnderWay operations script ranks size processes (map part_of network.new.frames.items)) }
+    ensures run { OnOk result ((operations : List Operation) (script : Statements) (ranks size : ℕ) (begun : Moment) (processes : List ProcessView) (p : ℕ) (v : ProcessView) → slice_get processes p ≡ Some v
+        → OnlyFactsOf (part_of frame) v.node.board → IsUnderWay operations script ranks size begun (Going (schedule_of network.old.schedule)) processes (map part_of network.old.frames.items)
+        → IsUnderWay operations script ranks size begun (Going (schedule_of network.new.schedule)) processes (map part_of network.new.frames.items)) }
 {
-    if network.schedule.is_lost() {
+    let lost = network.schedule.is_lost();
+    observer.sent(frame.seen(), lost);
+    if lost {
         return Ok(());
     }
     network.frames.push(frame)?;
@@ -150,12 +167,13 @@ pub(crate) fn deliver(
     processes: &mut [Process<'_>],
     network: &Network,
     turn: u64,
+    observer: &mut dyn Observer,
 ) -> Result<(), OutOfMemory>
-    ensures { OnOk result ((operations : List Operation) (script : Statements) (ranks size : ℕ) → IsUnderWay operations script ranks size (map process_of processes.old) (map part_of network.now.frames.items)
-        → IsUnderWay operations script ranks size (map process_of processes.new) (map part_of network.now.frames.items)) }
+    ensures { OnOk result ((operations : List Operation) (script : Statements) (ranks size : ℕ) (begun : Moment) → IsUnderWay operations script ranks size begun (Coming (schedule_of network.now.schedule)) (map process_of processes.old) (map part_of network.now.frames.items)
+        → IsUnderWay operations script ranks size begun (Coming (schedule_of network.now.schedule)) (map process_of processes.new) (map part_of network.now.frames.items)) }
 {
     for i in 0..network.frames.len() {
-        arrive(alloc, processes, &network.frames[i], turn)?;
+        arrive(alloc, processes, &network.frames[i], turn, observer)?;
     }
     Ok(())
 }
@@ -166,22 +184,24 @@ fn arrive(
     processes: &mut [Process<'_>],
     frame: &FrameUnderWay,
     turn: u64,
+    observer: &mut dyn Observer,
 ) -> Result<(), OutOfMemory>
-    ensures { OnOk result ((operations : List Operation) (script : Statements) (ranks size : ℕ) (frames : List Look) (i : ℕ) → slice_get frames i ≡ Some (part_of frame.now) → IsUnderWay operations script ranks size (map process_of processes.old) frames
-        → IsUnderWay operations script ranks size (map process_of processes.new) frames) }
+    ensures { OnOk result ((operations : List Operation) (script : Statements) (ranks size : ℕ) (begun : Moment) (t : ScheduleView) (frames : List Look) (i : ℕ) → slice_get frames i ≡ Some (part_of frame.now) → IsUnderWay operations script ranks size begun (Coming t) (map process_of processes.old) frames
+        → IsUnderWay operations script ranks size begun (Coming t) (map process_of processes.new) frames) }
 {
     if frame.turn != turn || frame.to >= processes.len() {
         return Ok(());
     }
     processes[frame.to].receive(alloc, frame)?;
+    observer.taken(frame.seen(), frame.again, processes[frame.to].node());
     Ok(())
 }
 
 /// One in four of the turn's frames is taken again in a later turn. The others are let go, and their bytes are spare.
 pub(crate) fn keep_some(network: &mut Network, turn: u64)
     requires { turn < 4294967296 }
-    ensures run { (operations : List Operation) (script : Statements) (ranks size : ℕ) (processes : List ProcessView) → IsUnderWay operations script ranks size processes (map part_of network.old.frames.items)
-        → IsUnderWay operations script ranks size processes (map part_of network.new.frames.items) }
+    ensures run { (operations : List Operation) (script : Statements) (ranks size : ℕ) (begun : Moment) (processes : List ProcessView) → IsUnderWay operations script ranks size begun (Coming (schedule_of network.old.schedule)) processes (map part_of network.old.frames.items)
+        → IsUnderWay operations script ranks size begun (Coming (schedule_of network.new.schedule)) processes (map part_of network.new.frames.items) }
     ensures loss { network.new.schedule.loss ≡ network.old.schedule.loss }
 {
     delay_some(network, turn);
@@ -194,8 +214,8 @@ pub(crate) fn keep_some(network: &mut Network, turn: u64)
 // Lets the frame at the place go, where it comes no more, and tells the place of the next one. Where memory for one more is refused, its bytes go
 // too.
 fn let_go(network: &mut Network, i: usize, turn: u64) -> usize
-    ensures run { (operations : List Operation) (script : Statements) (ranks size : ℕ) (processes : List ProcessView) → IsUnderWay operations script ranks size processes (map part_of network.old.frames.items)
-        → IsUnderWay operations script ranks size processes (map part_of network.new.frames.items) }
+    ensures run { (operations : List Operation) (script : Statements) (ranks size : ℕ) (begun : Moment) (processes : List ProcessView) → IsUnderWay operations script ranks size begun (Coming (schedule_of network.old.schedule)) processes (map part_of network.old.frames.items)
+        → IsUnderWay operations script ranks size begun (Coming (schedule_of network.new.schedule)) processes (map part_of network.new.frames.items) }
     ensures loss { network.new.schedule.loss ≡ network.old.schedule.loss }
 {
     if i >= network.frames.len() || network.frames[i].turn > turn {
@@ -210,6 +230,7 @@ fn let_go(network: &mut Network, i: usize, turn: u64) -> usize
 fn delay_some(network: &mut Network, turn: u64)
     requires { turn < 4294967296 }
     ensures parts { map part_of network.new.frames.items ≡ map part_of network.old.frames.items }
+    ensures words { AreDrawn network.old.schedule.words network.new.schedule.words }
     ensures loss { network.new.schedule.loss ≡ network.old.schedule.loss }
 {
     for i in 0..network.frames.len() {
@@ -223,6 +244,7 @@ fn delay(frame: &mut FrameUnderWay, schedule: &mut Schedule, turn: u64)
     ensures later { (frame.new.turn ≡ frame.old.turn) ⊎ (turn < frame.new.turn) }
     ensures bytes { frame.new.bytes ≡ frame.old.bytes }
     ensures to { frame.new.to ≡ frame.old.to }
+    ensures words { AreDrawn schedule.old.words schedule.new.words }
     ensures loss { schedule.new.loss ≡ schedule.old.loss }
 {
     if frame.turn != turn {
@@ -230,5 +252,6 @@ fn delay(frame: &mut FrameUnderWay, schedule: &mut Schedule, turn: u64)
     }
     if let Some(later) = schedule.again() {
         frame.turn = turn.saturating_add(later);
+        frame.again = true;
     }
 }

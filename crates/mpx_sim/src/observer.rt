@@ -1,9 +1,46 @@
 //! Who looks on at a run.
 
-/// Who looks on at a run: whoever calls for the run gives it. It is told of turns, and can change nothing.
+use mpx_node::Node;
+
+/// How far a run is.
+#[derive(Clone, Copy)]
+pub struct Progress {
+    /// How many ranks have finished.
+    pub finished: usize,
+    /// How many ranks there are.
+    pub ranks: usize,
+    /// How many statements are done, of all ranks: a call whose outcome is missing isn't.
+    pub done: usize,
+    /// How many statements there are, of all ranks.
+    pub all: usize,
+}
+
+/// A frame that goes from process to process.
+#[derive(Clone, Copy)]
+pub struct FrameSeen {
+    /// The turn in which it comes, from 1 on: of a list of frames one comes each turn, from the turn on in which the list is made.
+    pub turn: u32,
+    /// The process that sends it.
+    pub from: u8,
+    /// The process to which it goes.
+    pub to: u8,
+    /// How many bytes it has.
+    pub bytes: usize,
+}
+
+/// Who looks on at a run: whoever calls for the run gives it. It is told what happens, in order, and can change nothing.
 pub trait Observer: Drop {
-    /// A turn was made: its number, from 1 on, and how many of so many ranks have finished.
-    fn turn(&mut self, number: u32, finished: usize, ranks: usize);
+    /// A turn was made: its number, from 1 on, and how far the run is.
+    fn turn(&mut self, number: u32, progress: Progress);
+
+    /// A frame was made, and goes out, or it was drawn to be lost.
+    fn sent(&mut self, _frame: FrameSeen, _lost: bool) {}
+
+    /// A frame came, for the first time or again, and was joined to the board of its process: this is the node there, as it then stands.
+    fn taken(&mut self, _frame: FrameSeen, _again: bool, _node: &Node) {}
+
+    /// A rank has new lines in this turn, from 1 on, be it the one that ends the run: all its lines so far.
+    fn told(&mut self, _turn: u32, _rank: u8, _lines: &[String]) {}
 
     /// The run is over.
     fn over(&mut self);
@@ -14,7 +51,7 @@ pub trait Observer: Drop {
 pub struct Unobserved;
 
 impl Observer for Unobserved {
-    fn turn(&mut self, _number: u32, _finished: usize, _ranks: usize) {}
+    fn turn(&mut self, _number: u32, _progress: Progress) {}
 
     fn over(&mut self) {}
 }

@@ -1,5 +1,5 @@
 //! A process of a run: a rank, which goes on with its statements, or a relay, which has none.
-ghost use Rattle.std.specs.Prelude.{◌≡◌, ◌<◌, ◌≤◌, [], ℕ, List, IfOk, OnOk, Some, map, slice_get, string_bytes};
+ghost use Rattle.std.specs.Prelude.{◌≡◌, ◌<◌, ◌≤◌, [], List, IfOk, OnOk, Some, map, slice_get, string_bytes, true};
 ghost use Rattle.mpx_num.specs.declared.own.Operation.{Operation};
 ghost use Rattle.mpx_node.specs.Deltas.{AreLacked};
 ghost use Rattle.mpx_node.specs.Nodes.{learn};
@@ -34,8 +34,11 @@ impl<'a> Process<'a> {
     ghost use Rattle.mpx_board.specs.Looks.{look};
     ghost use Rattle.mpx_node.specs.Nodes.{start_node};
     ghost use Rattle.mpx_rank.specs.Moves.{is_waiting};
+    ghost use Rattle.mpx_sim.specs.Ends.{Lacks};
     ghost use Rattle.mpx_sim.specs.Running.{Keeps, Moves};
     ghost use Rattle.mpx_sim.specs.Shown.{process_of};
+    ghost use Rattle.mpx_sim.specs.Draws.{ScheduleView};
+    ghost use Rattle.mpx_sim.specs.Turns.{Alone, Going};
 
     /// Process `me` of so many, of which the first are ranks, before its statements.
     pub(crate) fn new(
@@ -84,10 +87,31 @@ impl<'a> Process<'a> {
         self.rank.go_on(alloc, &mut self.desk, ops)
     }
 
+    /// Whether its rank has nothing left, or waits for a call that isn't done and can't be by what its board has.
+    pub(crate) fn lacks(&mut self, alloc: Global, ops: &Ops) -> Result<bool, OutOfMemory>
+        ensures keeps { OnOk result (Keeps Alone (⟦<Ops as Listing>⟧.operations ops.now) (process_of self.old) (process_of self.new)) }
+        ensures lacks { IfOk result (λ lacks. lacks ≡ true → Lacks (process_of self.new)) }
+    {
+        if let Some(call) = self.rank.awaited() {
+            return self.desk.is_open(alloc, call, ops);
+        }
+        let Some(statement) = self.rank.todo().first() else {
+            return Ok(true);
+        };
+        match statement {
+            Statement::Wait(words) => {
+                self.desk
+                    .one_is_open(alloc, self.rank.requests(), words.as_slice(), ops)
+            }
+            Statement::Post(_) => Ok(false),
+            Statement::Ask(_) => Ok(false),
+        }
+    }
+
     /// Drops the posts that every member has harvested, of each context that it looks at, by what its board knows of that. It
     /// answers whether there were any.
     pub(crate) fn prune(&mut self) -> bool
-        ensures { (operations : List Operation) → Keeps operations (process_of self.old) (process_of self.new) }
+        ensures { (operations : List Operation) → Keeps Alone operations (process_of self.old) (process_of self.new) }
     {
         self.desk.prune()
     }
@@ -110,7 +134,7 @@ impl<'a> Process<'a> {
         turn: u64,
         spare: &mut Vec<Vec<u8>>,
     ) -> Result<Vec<Vec<u8>>, OutOfMemory>
-        ensures keeps { OnOk result ((operations : List Operation) → Keeps operations (process_of self.old) (process_of self.new)) }
+        ensures keeps { OnOk result ((t : ScheduleView) (operations : List Operation) → Keeps (Going t) operations (process_of self.old) (process_of self.new)) }
         ensures frames { IfOk result (λ made. AreLacked 1048576 (process_of self.new).node (map (λ frame. frame.items) made.items)) }
     {
         let made = self.desk.desk.framed_deltas(alloc, MOST_BYTES, spare)?;
@@ -127,6 +151,26 @@ impl<'a> Process<'a> {
         ensures { OnOk result (process_of self.new ≡ record { rank = (process_of self.old).rank; node = learn (part_of frame.now) (process_of self.old).node }) }
     {
         self.desk.desk.take_frame(alloc, frame.bytes.as_slice())
+    }
+
+    /// Its number.
+    pub(crate) fn me(&self) -> u8 {
+        self.rank.me().number()
+    }
+
+    /// Its node.
+    pub(crate) fn node(&self) -> &Node {
+        self.desk.desk.host()
+    }
+
+    /// Its lines so far.
+    pub(crate) fn lines(&self) -> &[String] {
+        self.rank.lines()
+    }
+
+    /// How many statements are left, with the one whose outcome it waits for.
+    pub(crate) fn left(&self) -> usize {
+        self.rank.left()
     }
 
     /// The board of its node.

@@ -4,10 +4,11 @@ ghost use Rattle.mpx_node.specs.Shown.{node_of};
 ghost use Rattle.mpx_meaning.specs.Evaluation.{State};
 ghost use Rattle.mpx_meaning.specs.Reports.{transcripts_of, which};
 ghost use Rattle.mpx_meaning.specs.Transcripts.{as_text};
-ghost use Rattle.mpx_system.specs.Runs.{AreWhole, Begin, IsEvaluationOf, IsOver, IsRun};
+ghost use Rattle.mpx_system.specs.Runs.{AreAll, AreWhole, Begin, IsEvaluationOf, IsOver, IsRun};
 ghost use Rattle.mpx_sim.specs.Ends.{AllMadeOr, nodes_of};
 ghost use Rattle.mpx_sim.specs.Running.{ProcessView, is_waiting_at};
 ghost use Rattle.mpx_sim.specs.Shown.{process_of};
+ghost use Rattle.mpx_sim.specs.Turns.{AreAfter};
 
 use crate::observer::{Observer, Unobserved};
 use crate::process::Process;
@@ -45,7 +46,8 @@ pub struct Run {
 /// `script` was read with `ops`, the job's own operations. Of `options` count `relays`, how many processes there are beside the
 /// ranks, with these 64 at most; `turns`, how many are made at most; `loss`, how many frames of a hundred are lost, where 100
 /// loses each; and `seed`, from which all that is drawn follows. That ranks still wait at the end is no error: `report.waiting`
-/// has them. An `Err` is want of memory, and leaves nothing of the run.
+/// has them; where turns were left and not every frame is lost, they wait in every run: the lines are all lines of the evaluation, and those
+/// wait that have something left there. An `Err` is want of memory, and leaves nothing of the run.
 pub fn run_sim(
     alloc: Global,
     script: &Script,
@@ -56,13 +58,15 @@ pub fn run_sim(
     ensures run { IfOk result (λ run. IsRun (⟦<Ops as Listing>⟧.operations ops.now) script.now options.now.relays (map node_of run.nodes.items) (transcripts_of run.report) run.report.waiting.items) }
     ensures begins { IfOk result (λ run. (evaluation : State) → IsEvaluationOf (⟦<Ops as Listing>⟧.operations ops.now) script.now evaluation → Begin (transcripts_of run.report) evaluation) }
     ensures whole { IfOk result (λ run. (evaluation : State) → IsEvaluationOf (⟦<Ops as Listing>⟧.operations ops.now) script.now evaluation → AreWhole (transcripts_of run.report) run.report.waiting.items evaluation) }
+    ensures turns { IfOk result (λ run. AreAfter (⟦<Ops as Listing>⟧.operations ops.now) script.now options.now.relays options.now.seed options.now.loss run.turns (map node_of run.nodes.items)) }
     ensures ended { IfOk result (λ run. AllMadeOr run.turns options.now.turns (IsOver options.now.loss (map node_of run.nodes.items) run.report.waiting.items)) }
+    ensures rests { IfOk result (λ run. run.turns < options.now.turns → options.now.loss < 100 → (evaluation : State) → IsEvaluationOf (⟦<Ops as Listing>⟧.operations ops.now) script.now evaluation → AreAll (transcripts_of run.report) run.report.waiting.items script.now.ranks evaluation) }
 {
     run_sim_observed(alloc, script, options, &mut Unobserved, ops)
 }
 
-/// The same run with the same error, at which somebody looks on: `observer` is told of each turn but the one that ends the run
-/// before its last, and once, in any case, that the run is over.
+/// The same run with the same error, at which somebody looks on: `observer` is told of each frame that is made and of each that came, of
+/// each rank's new lines, of each turn but the one that ends the run before its last, and once, in any case, that the run is over.
 pub fn run_sim_observed(
     alloc: Global,
     script: &Script,
@@ -74,7 +78,9 @@ pub fn run_sim_observed(
     ensures run { IfOk result (λ run. IsRun (⟦<Ops as Listing>⟧.operations ops.now) script.now options.now.relays (map node_of run.nodes.items) (transcripts_of run.report) run.report.waiting.items) }
     ensures begins { IfOk result (λ run. (evaluation : State) → IsEvaluationOf (⟦<Ops as Listing>⟧.operations ops.now) script.now evaluation → Begin (transcripts_of run.report) evaluation) }
     ensures whole { IfOk result (λ run. (evaluation : State) → IsEvaluationOf (⟦<Ops as Listing>⟧.operations ops.now) script.now evaluation → AreWhole (transcripts_of run.report) run.report.waiting.items evaluation) }
+    ensures turns { IfOk result (λ run. AreAfter (⟦<Ops as Listing>⟧.operations ops.now) script.now options.now.relays options.now.seed options.now.loss run.turns (map node_of run.nodes.items)) }
     ensures ended { IfOk result (λ run. AllMadeOr run.turns options.now.turns (IsOver options.now.loss (map node_of run.nodes.items) run.report.waiting.items)) }
+    ensures rests { IfOk result (λ run. run.turns < options.now.turns → options.now.loss < 100 → (evaluation : State) → IsEvaluationOf (⟦<Ops as Listing>⟧.operations ops.now) script.now evaluation → AreAll (transcripts_of run.report) run.report.waiting.items script.now.ranks evaluation) }
 {
     let ran = simulate(alloc, script, options, observer, ops);
     observer.over();

@@ -1,6 +1,7 @@
 //! What is drawn in a run. Equal seeds give equal draws.
 ghost use Rattle.std.specs.Prelude.{◌≡◌, ◌<◌, ◌≤◌, ◌⊎◌, ◌↔◌, IfOk, IfSome, IsFalse, IsTrue};
 ghost use Rattle.std.specs.List.Sorted.{IsPermutation};
+ghost use Rattle.mpx_sim.specs.Draws.{AreDrawn, draw, drawn, generator};
 
 use join_core::OutOfMemory;
 use rand_core::utils::NextWord;
@@ -30,7 +31,8 @@ impl Schedule {
         loss: u8,
         processes: usize,
     ) -> Result<Schedule, OutOfMemory>
-        ensures { IfOk result (λ schedule. schedule.loss ≡ loss) }
+        ensures loss { IfOk result (λ schedule. schedule.loss ≡ loss) }
+        ensures seed { IfOk result (λ schedule. AreDrawn (generator seed) schedule.words) }
     {
         let mut shifts = Vec::new(alloc);
         for place in 0..MOST_SHIFTS {
@@ -73,10 +75,13 @@ impl Schedule {
         }
     }
 
-    /// Whether a frame is lost: of a loss of 0 none is, and of a loss of 100 each.
+    /// Whether a frame is lost, which is drawn: of a loss of 0 none is, and of a loss of 100 each.
     pub(crate) fn is_lost(&mut self) -> bool
         ensures none { self.old.loss ≡ 0 → IsFalse result }
         ensures all { 100 ≤ self.old.loss → IsTrue result }
+        ensures lost { IsTrue result → draw 100 self.old.words < self.old.loss }
+        ensures kept { IsFalse result → self.old.loss ≤ draw 100 self.old.words }
+        ensures words { self.new.words ≡ drawn self.old.words }
         ensures loss { self.new.loss ≡ self.old.loss }
     {
         below(&mut self.words, 100) < self.loss
@@ -92,17 +97,21 @@ impl Schedule {
     /// In how many turns a frame that was taken is taken again, which one in four is: 1 to 4.
     pub(crate) fn again(&mut self) -> Option<u64>
         ensures later { IfSome result (λ later. 0 < later) }
+        ensures words { AreDrawn self.old.words self.new.words }
         ensures loss { self.new.loss ≡ self.old.loss }
     {
-        if below(&mut self.words, 4) != 0 {
+        let comes = below(&mut self.words, 4);
+        if comes != 0 {
             return None;
         }
-        Some(below(&mut self.words, 4) as u64 + 1)
+        let turns = below(&mut self.words, 4);
+        Some(turns as u64 + 1)
     }
 
     /// Brings items into an order that is drawn.
     pub(crate) fn shuffle<T>(&mut self, items: &mut Vec<T>)
         ensures items { IsPermutation items.old.items items.new.items }
+        ensures words { AreDrawn self.old.words self.new.words }
         ensures loss { self.new.loss ≡ self.old.loss }
     {
         shuffle(&mut self.words, items);
@@ -112,14 +121,17 @@ impl Schedule {
 // A number below a limit.
 fn below(words: &mut Pcg32, limit: usize) -> usize
     requires { 0 < limit }
-    ensures { result < limit }
+    ensures less { result < limit }
+    ensures is { result ≡ draw limit words.old }
+    ensures words { words.new ≡ drawn words.old }
 {
     words.next_word() as usize % limit
 }
 
 // Each place gets one of the items that the places before it have left.
 fn shuffle<T>(words: &mut Pcg32, items: &mut Vec<T>)
-    ensures { IsPermutation items.old.items items.new.items }
+    ensures items { IsPermutation items.old.items items.new.items }
+    ensures words { AreDrawn words.old words.new }
 {
     for i in 0..items.len() {
         let j = i + below(words, items.len() - i);

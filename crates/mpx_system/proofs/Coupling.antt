@@ -103,11 +103,11 @@ reached-more ops script ranks s p r = record {
 }
 
 -- who can't move stays
-goes_on-none : (ops : List Operation) (s : State) (p : ℕ) (r : Results) → step ops r (s p) ≡ None → s ≡ goes_on ops s p r
+pub goes_on-none : (ops : List Operation) (s : State) (p : ℕ) (r : Results) → step ops r (s p) ≡ None → s ≡ goes_on ops s p r
 goes_on-none ops s p r e = λ i q. goes_on_cases ops (λ j t. s j ≡ t) s p r (λ j. refl) (λ t f. cc (e, f)) q i
 
 -- who knows more makes the same move
-goes_on-same : (ops : List Operation) (s : State) (p : ℕ) (r more : Results) (t : Local) → step ops r (s p) ≡ Some t → step ops more (s p) ≡ Some t → goes_on ops s p r ≡ goes_on ops s p more
+pub goes_on-same : (ops : List Operation) (s : State) (p : ℕ) (r more : Results) (t : Local) → step ops r (s p) ≡ Some t → step ops more (s p) ≡ Some t → goes_on ops s p r ≡ goes_on ops s p more
 goes_on-same ops s p r more t e f = λ i q. by_rank (λ j. goes_on ops s p r j ≡ goes_on ops s p more j) p q (goes_on-at ops s p r t e ∙ sym (goes_on-at ops s p more t f)) (λ d. goes_on-other ops s p r q d ∙ sym (goes_on-other ops s p more q d)) i
 
 -- A RANK'S DOINGS

@@ -45,7 +45,7 @@ doing_leads : (ranks : ℕ) (s : System) (d : Doing) → MayDo ranks s d → Lea
 doing_leads ranks s (Nets h) m = leads_by s.world h m.1
 doing_leads ranks s (Drives p) m = record { happenings = posts_of p (s.world.each p).made (s.ranks p).bound (s.ranks p).todo; may = may_posts s.world p (s.world.each p).made (s.ranks p).bound (s.ranks p).todo; is = refl }
 
-doings_lead : (ranks : ℕ) (ds : List Doing) (s : System) → MayDoAll ranks s ds → LeadsTo s.world (does_all s ds).world
+pub doings_lead : (ranks : ℕ) (ds : List Doing) (s : System) → MayDoAll ranks s ds → LeadsTo s.world (does_all s ds).world
 doings_lead ranks [] s m = leads_nowhere s.world
 doings_lead ranks (d ∷ ds) s m = leads_on s.world (does s d).world (does_all (does s d) ds).world (doing_leads ranks s d m.0) (doings_lead ranks ds (does s d) m.1)
 

@@ -5,11 +5,11 @@ use Rattle.mpx_meaning.specs.Evaluation.{Script}
 use Rattle.mpx_system.specs.Systems.{System, Doing, does, does_all, MayDo, MayDoAll, Leads, start_system}
 use Rattle.mpx_system.proofs.Coupling.{Couples, couples_all, couples_start}
 
-does_all-push : (ds : List Doing) (d : Doing) (s : System) → does_all s (ds ++ d ∷ []) ≡ does (does_all s ds) d
+pub does_all-push : (ds : List Doing) (d : Doing) (s : System) → does_all s (ds ++ d ∷ []) ≡ does (does_all s ds) d
 does_all-push [] d s = refl
 does_all-push (x ∷ ds) d s = does_all-push ds d (does s x)
 
-may-push : (ranks : ℕ) (ds : List Doing) (d : Doing) (s : System) → MayDoAll ranks s ds → MayDo ranks (does_all s ds) d → MayDoAll ranks s (ds ++ d ∷ [])
+pub may-push : (ranks : ℕ) (ds : List Doing) (d : Doing) (s : System) → MayDoAll ranks s ds → MayDo ranks (does_all s ds) d → MayDoAll ranks s (ds ++ d ∷ [])
 may-push ranks [] d s m n = (n, tt)
 may-push ranks (x ∷ ds) d s m n = (m.0, may-push ranks ds d (does s x) m.1 n)
 

@@ -1,2 +1,3 @@
 pub mod Systems
 pub mod Runs
+pub mod Rest

@@ -40,6 +40,11 @@ abbrev pub AreWhole : List (List (List ℕ)) → List ℕ → State → Type 0
 AreWhole transcripts waiting s = (p : ℕ) (lines : List (List ℕ)) → slice_get transcripts p ≡ Some lines
     → ((place : ℕ) → (slice_get waiting place ≡ Some p) → ⊥) → lines ≡ lines_in s p
 
+-- they are all lines that the ranks have there, and those wait that have something left there
+pub record AreAll (transcripts : List (List (List ℕ))) (waiting : List ℕ) (ranks : ℕ) (s : State) : Type 0 where
+  pub lines : (p : ℕ) (lines : List (List ℕ)) → slice_get transcripts p ≡ Some lines → lines ≡ lines_in s p
+  pub who : waiting ≡ waiting_in s ranks
+
 -- all processes have one board
 abbrev pub HaveOneBoard : List NodeView → Type 0
 HaveOneBoard nodes = (p q : ℕ) (a b : NodeView) → slice_get nodes p ≡ Some a → slice_get nodes q ≡ Some b → a.board ≡ b.board

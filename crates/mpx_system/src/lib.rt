@@ -4,4 +4,4 @@
 
 mod laws;
 
-pub use laws::every_run_begins_the_evaluation;
+pub use laws::{every_run_begins_the_evaluation, who_rests_has_ended};

@@ -22,14 +22,17 @@ use Rattle.mpx_bus.specs.Rule.{planned_posts}
 use Rattle.mpx_rank.specs.Carriers.{IsToldWithin, Terms, outcomes_of}
 use Rattle.mpx_rank.specs.Moves.{GoesOn, MayGo, RankView, bound_first, communicator_in, is_waiting}
 use Rattle.mpx_rank.specs.Places.{CommunicatorView, StandsInScript, attempt_by, bound_as}
+use Rattle.mpx_rank.specs.Shown.{place_of}
 use Rattle.mpx_rank.proofs.Stepping.{Came, GoesBy, StaysTold, goes_on_goes, ran_goes}
 use Rattle.mpx_rank.proofs.Words.{attempt_same, bound_there, communicator_same}
 use Rattle.mpx_script.specs.ScriptView.{ScriptView}
 use Rattle.mpx_threads.specs.declared.told.ToldCall.{ToldCall}
 use Rattle.mpx_threads.specs.Plans.{Plans, planned_results}
+use Rattle.mpx_threads.specs.Rest.{AreAwaited}
 use Rattle.mpx_threads.specs.ToldCalls.{DeskView, MayPost, first_posts, is_among, thread_terms, told_more, told_of}
 use Rattle.mpx_threads.specs.Work.{HasCome}
 use Rattle.mpx_threads.proofs.Plans.{births_are, planned_is, posts_are, results_are}
+use Rattle.mpx_threads.proofs.Resting.{needs_it}
 
 -- LISTS
 
@@ -157,8 +160,8 @@ module _ (script : ScriptView) (relays : ℕ) (setup : Setup) (plan : Plans scri
         let came : Came setup.operations terms by me first c Fits s d = ran_goes setup.operations terms by me Fits goes_by r first me_is refl stands c s d moved fits_first ran in
         (whole, (lent, may_post came.to d came.fits s came.stands came.local_me posting rest waits todo))
 
-    pub has_come : (s : RankView CommunicatorView) (d : DeskView) (moved : Bool) → GoesOn terms r c s d moved → (lines : List (List ℕ)) (left : Bool) → lines ≡ s.lines → left ≡ is_waiting s → HasCome script setup me d.0 d.1 lines left
-    has_come s d moved on lines left lines_are waits_is =
+    pub has_come : (s : RankView CommunicatorView) (d : DeskView) (moved : Bool) → GoesOn terms r c s d moved → (lines : List (List ℕ)) (left : Bool) (calls : List (Name × ℕ)) → lines ≡ s.lines → left ≡ is_waiting s → AreAwaited (option_map place_of s.waits) s.requests s.todo calls → HasCome script setup me d.0 d.1 lines left calls
+    has_come s d moved on lines left calls lines_are waits_is awaited =
         let came : Came setup.operations terms by me first c Fits s d = goes_on_goes setup.operations terms by me Fits goes_by r first me_is refl stands c s d moved fits_first on in
         let count : before + d.1 ≡ d.1 = omega (arith, none) in
         record {
@@ -166,6 +169,7 @@ module _ (script : ScriptView) (relays : ℕ) (setup : Setup) (plan : Plans scri
           goes = came.fits.goes;
           lines_are = lines_are ∙ came.stands.lines;
           waits_is = waits_is ∙ left_is s came.to came.stands;
+          needs = λ i call e. needs_it setup.operations s came.to came.stands call (awaited i call e);
           made_is = came.fits.made ∙ ap (first_posts setup me) count;
           tells = came.tells stay (λ i name call outcome e. cc e);
         } where

@@ -1,5 +1,5 @@
 -- What a rank was told its port holds, at the end.
-use Rattle.std.proofs.Common.{◌≡◌, ℕ, suc, ◌==◌, Bool, true, false, cond, List, [], ◌∷◌, length, get_or, Option, Some, None, refl, sym, ap, ◌∙◌, subst, arith, inl}
+use Rattle.std.proofs.Common.{◌≡◌, ℕ, zero, suc, ◌==◌, Bool, true, false, cond, List, [], ◌∷◌, length, take, get_or, Option, Some, None, refl, sym, ap, ◌∙◌, subst, arith, inl}
 use Rattle.std.specs.Prelude.{slice_get, is_some, IsTrue, not, ◌&&◌, ◌||◌}
 use Rattle.std.specs.Option.{option_map}
 use Rattle.std.proofs.lemmas.Bool.Decides.{Decides-eqb, nat_tests}
@@ -14,6 +14,7 @@ use Rattle.mpx_node.specs.Nodes.{NodeView, results_on}
 use Rattle.mpx_world.proofs.Lists.{names_same}
 use Rattle.mpx_bus.specs.declared.act.Setup.{Setup}
 use Rattle.mpx_bus.specs.Ports.{PortView, node_in}
+use Rattle.mpx_bus.specs.Rule.{planned_posts}
 use Rattle.mpx_shared.specs.LawfulPorts.{IsLawful, made_in}
 use Rattle.mpx_shared.proofs.LawfulPorts.{lawful_mine, lawful_posts, lawful_result}
 use Rattle.mpx_shared.proofs.Plans as P
@@ -35,7 +36,7 @@ use Rattle.mpx_threads.specs.ThreadRuns.{IsDone}
 use Rattle.mpx_threads.specs.ToldCalls.{AllHeld, first_posts, is_among, is_at, planned_birth, told_of}
 use Rattle.mpx_threads.specs.Work.{HasCome, HasWorked}
 use Rattle.mpx_threads.proofs.Less.{Have, carries_out_less}
-use Rattle.mpx_threads.proofs.Plans.{births_are, planned_is, results_are, statements_at}
+use Rattle.mpx_threads.proofs.Plans.{births_are, made_none, planned_is, posts_are, results_are, statements_at}
 
 -- AMONG
 
@@ -86,7 +87,7 @@ module _ (table : TableId) (setup : Setup) (me : ℕ) (port : PortView) (lawful 
       let found = mapped_some (λ (f : Finished). answer_with (planned_birth setup) f.outcome) (slice_get (results_on (node_in port) name) call) answer e in
       result_is name call found.0 found.1 ∙ ap Some found.2
 
-  module _ (script : ScriptView) (relays : ℕ) (plan : Plans script relays setup) (ts : List ToldCall) (count : ℕ) (lines : List (List ℕ)) (waits : Bool) (come : HasCome script setup me ts count lines waits) (counted : length (made_in port) ≡ count) (held : AllHeld (node_in port) ts) where
+  module _ (script : ScriptView) (relays : ℕ) (plan : Plans script relays setup) (ts : List ToldCall) (count : ℕ) (lines : List (List ℕ)) (waits : Bool) (calls : List (Name × ℕ)) (come : HasCome script setup me ts count lines waits calls) (counted : length (made_in port) ≡ count) (held : AllHeld (node_in port) ts) where
     goes_there : Goes setup.operations (known setup.operations script.ranks plan.end me) (start script.statements script.ranks me) come.to
     goes_there = subst (λ r. Goes setup.operations r (start script.statements script.ranks me) come.to) (results_are script relays setup plan me) come.goes
 
@@ -124,29 +125,43 @@ module _ (table : TableId) (setup : Setup) (me : ℕ) (port : PortView) (lawful 
             mine = ap (λ ms. slice_get (posts_on name ms) call) (sym made_same) ∙ lawful_mine table setup me port name call there.0 lawful there.1;
           };
       posts = subst (λ ms. IsPrefixOf come.to.made ms) (sym made_same) (prefix_itself come.to.made);
+      no_others = λ e. made_same;
     }
 
-pub has_worked : (table : TableId) (script : ScriptView) (relays : ℕ) (setup : Setup) (me : ℕ) (port : PortView) (ts : List ToldCall) (count : ℕ) (lines : List (List ℕ)) (waits : Bool) → IsLawful table setup me port → HasCome script setup me ts count lines waits
-    → length (made_in port) ≡ count → AllHeld (node_in port) ts → HasWorked script relays setup me port lines waits
-has_worked table script relays setup me port ts count lines waits lawful come counted held = record {
+pub has_worked : (table : TableId) (script : ScriptView) (relays : ℕ) (setup : Setup) (me : ℕ) (port : PortView) (ts : List ToldCall) (count : ℕ) (lines : List (List ℕ)) (waits : Bool) (calls : List (Name × ℕ)) → IsLawful table setup me port → HasCome script setup me ts count lines waits calls
+    → length (made_in port) ≡ count → AllHeld (node_in port) ts → HasWorked script relays setup me port lines waits calls
+has_worked table script relays setup me port ts count lines waits calls lawful come counted held = record {
   to = come.to;
-  done = λ plan. is_done table setup me port lawful (planned_is script relays setup plan) script relays plan ts count lines waits come counted held;
+  done = λ plan. is_done table setup me port lawful (planned_is script relays setup plan) script relays plan ts count lines waits calls come counted held;
   lines_are = come.lines_are;
   waits_is = come.waits_is;
+  needs = come.needs;
 }
 
+no_statements : (xs : List Statement) → doing xs ≡ [] → xs ≡ []
+no_statements [] e = refl
+no_statements (x ∷ xs) e = cc e
+
+taken_none : {A : Type 0} (n : ℕ) → (let none : List A = [] in take n none) ≡ []
+taken_none zero = refl
+taken_none (suc n) = refl
+
 -- a rank that has done nothing
-pub has_not_worked : (script : ScriptView) (relays : ℕ) (setup : Setup) (me : ℕ) (port : PortView) (waits : Bool) → waits ≡ has_statements (statements_of script.statements me) → HasWorked script relays setup me port [] waits
-has_not_worked script relays setup me port waits e = record {
+pub has_not_worked : (table : TableId) (script : ScriptView) (relays : ℕ) (setup : Setup) (me : ℕ) (port : PortView) (waits : Bool) → IsLawful table setup me port → waits ≡ has_statements (statements_of script.statements me) → HasWorked script relays setup me port [] waits []
+has_not_worked table script relays setup me port waits lawful e = record {
   to = start script.statements script.ranks me;
   done = λ plan. record {
     goes = stays;
     carries_out = inl (record { passed = []; left = statements_of script.statements me; all = refl; todo = refl; passes = none });
     told = λ i name call outcome f. cc f;
     posts = (made_in port, refl);
+    no_others = λ f.
+        let none : planned_posts setup me ≡ [] = posts_are script relays setup plan me ∙ made_none script relays setup plan me (no_statements (statements_of script.statements me) f) in
+        lawful_posts table setup me port (planned_is script relays setup plan) lawful ∙ ap (take (length (made_in port))) none ∙ taken_none (length (made_in port));
   };
   lines_are = refl;
   waits_is = e ∙ by_list (statements_of script.statements me);
+  needs = λ i call f. cc f;
 } where
   by_list : (xs : List Statement) → has_statements xs ≡ is_left (doing xs)
   by_list [] = refl

@@ -1,6 +1,6 @@
 -- The processes of a run before they work, and when they have.
 use Rattle.std.proofs.Common.{◌≡◌, ℕ, zero, suc, ◌+◌, ◌<◌, List, [], ◌∷◌, ◌++◌, length, map, Option, Some, None, refl, sym, ap, ◌∙◌, subst, arith, length-append}
-use Rattle.std.specs.Prelude.{slice_get, slice_index_or, Result, Ok, IfOk}
+use Rattle.std.specs.Prelude.{slice_get, slice_index_or, Result, Ok, Err, IfErr, IfOk}
 use Rattle.std.proofs.lemmas.List.{length-map}
 use Rattle.std.specs.Option.{option_map}
 use Rattle.std.proofs.lemmas.Option.{same_Some, slice_get-map}
@@ -123,3 +123,7 @@ gave_up_among gives_up processes turns ws given count p e = by_process (slice_ge
   by_process : (o : Option Worked) → slice_get ws p ≡ o → gossip_at o ≡ Some GaveUp → GivesUpAmong gives_up processes turns
   by_process None at e = cc e
   by_process (Some w) at e = (p, (subst (λ n. p < n) count (within_get ws p w at), given p w at (same_Some w.gossip GaveUp e)))
+
+pub if_err : {A E : Type 0} {P : E → Type 0} (r : Result A E) → ((e : E) → P e) → IfErr r P
+if_err (Ok x) f = tt
+if_err (Err e) f = f e

@@ -3,6 +3,7 @@ pub mod Looking
 pub mod Less
 pub mod Coming
 pub mod Holding
+pub mod Resting
 pub mod Reporting
 pub mod Telling
 pub mod Posting

@@ -88,11 +88,13 @@ posts_none ops r first s (inl h) = none_passed h.passes (no_first h.passed h.lef
 posts_none ops r first s (inr h) = absurd (no_middle h.passed (Post h.posting) h.left h.all)
 
 module _ (script : ScriptView) (relays : ℕ) (setup : Setup) (plan : Plans script relays setup) where
-  made_past : (p : ℕ) → script.ranks ≤ p → (plan.end p).made ≡ []
-  made_past p past =
-      let no_statements : statements_of script.statements p ≡ [] = ap (λ o. unwrap_or o []) (slice_get_past script.statements p (omega (arith, plan.counted, past))) in
+  pub made_none : (p : ℕ) → statements_of script.statements p ≡ [] → (plan.end p).made ≡ []
+  made_none p no_statements =
       posts_none setup.operations (known setup.operations script.ranks plan.end p) (bound_at_start script.ranks) (plan.end p)
       (subst (λ xs. CarriesOut setup.operations (known setup.operations script.ranks plan.end p) (bound_at_start script.ranks) xs (plan.end p)) no_statements (each-carries_out setup.operations script.statements script.ranks plan.end plan.evaluation.reached p))
+
+  made_past : (p : ℕ) → script.ranks ≤ p → (plan.end p).made ≡ []
+  made_past p past = made_none p (ap (λ o. unwrap_or o []) (slice_get_past script.statements p (omega (arith, plan.counted, past))))
 
   -- what a process posts by the plan it posts in the evaluation
   posts_by : (p : ℕ) → planned_posts (setup_by setup.operations script.ranks relays plan.end) p ≡ (plan.end p).made

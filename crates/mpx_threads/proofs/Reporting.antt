@@ -1,28 +1,33 @@
 -- What all processes of a run come to together.
-use Rattle.std.proofs.Common.{◌≡◌, ℕ, ◌<◌, ◌≤◌, ◌⊎◌, List, [], length, map, take, Some, sym, ap, ◌∙◌, subst, inl, inr, arith}
+use Rattle.std.proofs.Common.{◌≡◌, ℕ, ◌<◌, ◌≤◌, ◌⊎◌, List, [], length, map, take, true, false, Some, None, refl, sym, ap, ◌∙◌, subst, inl, inr, arith}
 use Rattle.std.specs.Prelude.{slice_get}
 use Rattle.std.proofs.lemmas.List.{length-map}
 use Rattle.std.proofs.lemmas.Option.{same_Some}
 use Rattle.atomic_table.specs.Seated.{TableId}
 use Rattle.mpx_num.specs.declared.own.Operation.{Operation}
+use Rattle.mpx_name.specs.Name.{Name}
 use Rattle.mpx_bus.specs.declared.act.Setup.{Setup}
-use Rattle.mpx_bus.specs.Ports.{PortView}
+use Rattle.mpx_bus.specs.Ports.{PortView, node_in}
 use Rattle.mpx_shared.specs.LawfulPorts.{IsLawful, made_in}
 use Rattle.mpx_script.specs.ScriptView.{ScriptView}
-use Rattle.mpx_meaning.specs.Ranks.{Local}
+use Rattle.mpx_meaning.specs.Ranks.{Local, step}
 use Rattle.mpx_meaning.specs.Evaluation.{IsEvaluation, IsPrefixOf, State, known, start}
-use Rattle.mpx_meaning.specs.Going.{Goes}
+use Rattle.mpx_meaning.specs.Going.{Goes, stays}
 use Rattle.mpx_meaning.specs.Reports.{is_left, waiting_in, which, lines_in as lines_of}
 use Rattle.mpx_meaning.specs.Transcripts.{line_text}
 use Rattle.mpx_meaning.proofs.Ahead.{confluent}
+use Rattle.mpx_meaning.proofs.Ends.{start_quiet}
 use Rattle.mpx_meaning.proofs.Going.{goes-adds, goes-whole}
-use Rattle.mpx_system.specs.Runs.{AreWhole, Begin}
+use Rattle.mpx_meaning.proofs.Steps.{step_ends}
+use Rattle.mpx_system.specs.Runs.{AreAll, AreWhole, Begin}
 use Rattle.mpx_system.proofs.Results.{length_taken, mapped_at, nothing_left, prefix_map, some_at, taken_at, which_has, which_same}
 use Rattle.mpx_threads.specs.declared.worker.Worked.{Worked}
 use Rattle.mpx_threads.specs.Plans.{setup_by}
+use Rattle.mpx_threads.specs.Rest.{AreAtRest, HaveOneBoard, LacksOne, NeedsEach}
 use Rattle.mpx_threads.specs.ThreadRuns.{IsDone, IsThreadRun}
 use Rattle.mpx_threads.specs.Work.{AreWorked, HasWorked, lines_in, waits_at}
 use Rattle.mpx_threads.proofs.Plans.{lt_or_ge}
+use Rattle.mpx_threads.proofs.Resting.{HoldsPosts, at_end, unknown}
 
 module _ (script : ScriptView) (relays : ℕ) (setup : Setup) (table : TableId) (ws : List Worked) (are : AreWorked script relays setup table ws) where
   abbrev end : State
@@ -33,8 +38,9 @@ module _ (script : ScriptView) (relays : ℕ) (setup : Setup) (table : TableId) 
     done : IsDone setup.operations script end p w.port s
     lines : lines_in w ≡ map line_text s.lines
     waits : w.waits ≡ is_left s.todo
+    needs : NeedsEach setup.operations s w.calls.items
 
-  worked_at : (p : ℕ) → p < script.ranks → (w : Worked) × ((slice_get ws p ≡ Some w) × HasWorked script relays setup p w.port (lines_in w) w.waits)
+  worked_at : (p : ℕ) → p < script.ranks → (w : Worked) × ((slice_get ws p ≡ Some w) × HasWorked script relays setup p w.port (lines_in w) w.waits w.calls.items)
   worked_at p l = let found = some_at ws p (omega (arith, l, are.count)) in (found.0, (found.1, (are.each p found.0 found.1).rank l))
 
   abbrev local_by : (p : ℕ) → (p < script.ranks) ⊎ (script.ranks ≤ p) → Local
@@ -49,10 +55,64 @@ module _ (script : ScriptView) (relays : ℕ) (setup : Setup) (table : TableId) 
   at_by p w e less (inl l) =
       let found = worked_at p l in
       let same : found.0 ≡ w = same_Some found.0 w (sym found.1.0 ∙ e) in
-      subst (λ v. IsAt p v found.1.1.to) same (record { done = found.1.1.done are.plan; lines = found.1.1.lines_are; waits = found.1.1.waits_is })
+      subst (λ v. IsAt p v found.1.1.to) same (record { done = found.1.1.done are.plan; lines = found.1.1.lines_are; waits = found.1.1.waits_is; needs = found.1.1.needs })
 
   at_local : (p : ℕ) (w : Worked) → slice_get ws p ≡ Some w → p < script.ranks → IsAt p w (local p)
   at_local p w e l = at_by p w e l (lt_or_ge p script.ranks)
+
+  -- each rank has come so far on its way
+  come_by : (p : ℕ) (x : (p < script.ranks) ⊎ (script.ranks ≤ p)) → Goes setup.operations (known setup.operations script.ranks end p) (start script.statements script.ranks p) (local_by p x)
+  come_by p (inl l) = ((worked_at p l).1.1.done are.plan).goes
+  come_by p (inr g) = stays
+
+  come : (p : ℕ) → Goes setup.operations (known setup.operations script.ranks end p) (start script.statements script.ranks p) (local p)
+  come p = come_by p (lt_or_ge p script.ranks)
+
+  -- who is no rank has done nothing
+  past_by : (p : ℕ) → script.ranks ≤ p → (x : (p < script.ranks) ⊎ (script.ranks ≤ p)) → local_by p x ≡ start script.statements script.ranks p
+  past_by p g (inl l) = absurd (omega (arith, g, l))
+  past_by p g (inr h) = refl
+
+  local_past : (p : ℕ) → script.ranks ≤ p → local p ≡ start script.statements script.ranks p
+  local_past p g = past_by p g (lt_or_ge p script.ranks)
+
+  module _ (rest : AreAtRest script.ranks ws) where
+    abbrev holds_at : (p : ℕ) → p < script.ranks → HoldsPosts table setup p (local p)
+    holds_at p l = let found = worked_at p l in record { port = found.0.port; lawful = (are.each p found.0 found.1.0).lawful; posts = (at_local p found.0 found.1.0 l).done.posts }
+
+    ended : (p : ℕ) → p < script.ranks → (w : Worked) → slice_get ws p ≡ Some w → w.waits ≡ false → step setup.operations (known setup.operations script.ranks local p) (local p) ≡ None
+    ended p l w e idle =
+        let none : is_left (local p).todo ≡ false = sym (at_local p w e l).waits ∙ idle in
+        step_ends setup.operations (known setup.operations script.ranks local p) (local p) (nothing_left (local p).todo (λ left. let never : true ≡ false = sym left ∙ none in cc never))
+
+    lacking : HaveOneBoard script.ranks ws → (p : ℕ) (l : p < script.ranks) → LacksOne (node_in (holds_at p l).port) (worked_at p l).0.calls.items → step setup.operations (known setup.operations script.ranks local p) (local p) ≡ None
+    lacking one p l o =
+        let found = worked_at p l in
+        let call : Name × ℕ = o.1.0 in
+        (at_local p found.0 found.1.0 l).needs o.0 call o.1.1.0 (known setup.operations script.ranks local p)
+        (unknown script relays setup are.plan table local
+        (λ q. (goes-adds setup.operations script.statements script.ranks end are.plan.evaluation q (local q) (come q)).0)
+        (λ q g. ap (λ (s : Local). s.made) (local_past q g))
+        holds_at (λ q r m n. one q r (worked_at q m).0 (worked_at r n).0 m n (worked_at q m).1.0 (worked_at r n).1.0) p l call o.1.1.1)
+
+    no_move : (p : ℕ) → p < script.ranks → step setup.operations (known setup.operations script.ranks local p) (local p) ≡ None
+    no_move p l = let found = worked_at p l in elim rest [
+      | inl all ↦ ended p l found.0 found.1.0 (all p found.0 l found.1.0)
+      | inr some ↦ elim (some.1 p found.0 l found.1.0) [
+        | inl idle ↦ ended p l found.0 found.1.0 idle
+        | inr o ↦ lacking some.0 p l o
+      ]
+    ]
+
+    stuck : (p : ℕ) → step setup.operations (known setup.operations script.ranks local p) (local p) ≡ None
+    stuck p = elim (lt_or_ge p script.ranks) [
+      | inl l ↦ no_move p l
+      | inr g ↦ step_ends setup.operations (known setup.operations script.ranks local p) (local p) (ap (λ (s : Local). s.todo) (local_past p g) ∙ (start_quiet script.statements script.ranks (omega (arith, are.plan.counted))).from p g)
+    ]
+
+    -- so they have come to the evaluation's end
+    at_its_end : local ≡ end
+    at_its_end = at_end setup.operations script.statements script.ranks end are.plan.evaluation local come stuck
 
   module _ (ports : List PortView) (said : List (List (List ℕ))) (waiting : List ℕ) (ports_are : ports ≡ map (λ (w : Worked). w.port) ws) (lines_are : said ≡ take script.ranks (map lines_in ws)) (waiting_are : waiting ≡ which (λ p. waits_at (slice_get ws p)) script.ranks) where
     port_at : (p : ℕ) (port : PortView) → slice_get ports p ≡ Some port → (w : Worked) × (slice_get ws p ≡ Some w) × (w.port ≡ port)
@@ -105,6 +165,9 @@ module _ (script : ScriptView) (relays : ℕ) (setup : Setup) (table : TableId) 
           other found.0 (ap (λ xs. slice_get xs found.0) waiting_so ∙ found.1)) in
           here.1 ∙ ap (λ (s : Local). map line_text s.lines) (goes-whole setup.operations script.statements script.ranks end are.plan.evaluation p (local p) (goes_at p here.0) todo) ∙ ap (λ (s : State). lines_of s p) one_end
 
+      pub are_all : AreAtRest script.ranks ws → AreAll said waiting script.ranks evaluation
+      are_all rest = subst (AreAll said waiting script.ranks) (at_its_end rest ∙ one_end) (record { lines = λ p lines e. (lines_at p lines e).1; who = waiting_so })
+
 -- the same by the operations that are lent, which are the setup's
 module _ (ops : List Operation) (script : ScriptView) (relays : ℕ) (setup : Setup) (table : TableId) (ws : List Worked) (are : AreWorked script relays setup table ws) (lent : ops ≡ setup.operations)
     (ports : List PortView) (said : List (List (List ℕ))) (waiting : List ℕ) (ports_are : ports ≡ map (λ (w : Worked). w.port) ws) (lines_are : said ≡ take script.ranks (map lines_in ws)) (waiting_are : waiting ≡ which (λ p. waits_at (slice_get ws p)) script.ranks) where
@@ -119,3 +182,6 @@ module _ (ops : List Operation) (script : ScriptView) (relays : ℕ) (setup : Se
 
   pub whole_lent : (evaluation : State) → IsEvaluation ops script.statements script.ranks evaluation → AreWhole said waiting evaluation
   whole_lent evaluation is = are_whole script relays setup table ws are ports said waiting ports_are lines_are waiting_are evaluation (by_setup evaluation is)
+
+  pub all_lent : AreAtRest script.ranks ws → (evaluation : State) → IsEvaluation ops script.statements script.ranks evaluation → AreAll said waiting script.ranks evaluation
+  all_lent rest evaluation is = are_all script relays setup table ws are ports said waiting ports_are lines_are waiting_are evaluation (by_setup evaluation is) rest

@@ -1,6 +1,7 @@
 pub mod Plans
 pub mod ToldCalls
 pub mod Tasks
+pub mod Rest
 pub mod Work
 pub mod ThreadRuns
 pub mod Gates

@@ -16,12 +16,13 @@ use Rattle.mpx_threads.specs.Plans.{setup_by}
 
 -- the rank has come there by answers of the evaluation, each of which is that of a result that its port's node holds, where
 -- communicators came to be as they do there; each line that tells an outcome tells that of a stored result, beside the rank's own
--- post; and the port has made its posts
+-- post; and the port has made its posts, and where the rank has nothing left, no others
 pub record IsDone (ops : List Operation) (script : ScriptView) (end : State) (p : ℕ) (port : PortView) (s : Local) : Type 0 where
   pub goes : Goes ops (known ops script.ranks end p) (start script.statements script.ranks p) s
   pub carries_out : CarriesOut ops (node_tells (birth_of (history ops end) script.ranks) (node_in port)) (bound_at_start script.ranks) (statements_of script.statements p) s
   pub told : TellsResults (node_in port) s
   pub posts : IsPrefixOf s.made (made_in port)
+  pub no_others : s.todo ≡ [] → made_in port ≡ s.made
 
 -- all ports are of one bus, and what they posted is planned by the script's evaluation by the job's own operations, relays none; each rank has come so far in its
 -- statements, and has these lines; and these ranks have something left

@@ -21,25 +21,28 @@ use Rattle.mpx_threads.specs.declared.gossip.GossipEnd.{GossipEnd}
 use Rattle.mpx_threads.specs.declared.gossip.GossipEnd.TheVariants.{GaveUp}
 use Rattle.mpx_threads.specs.Gates.{GivesUpWithin}
 use Rattle.mpx_threads.specs.Plans.{Plans, planned_results}
+use Rattle.mpx_threads.specs.Rest.{NeedsEach}
 use Rattle.mpx_threads.specs.ThreadRuns.{IsDone}
 use Rattle.mpx_threads.specs.ToldCalls.{first_posts, told_of}
 
--- by what the plan's posts give it the rank has come there, with these lines, and something left or nothing; its posts are the first so
--- many of the plan; and of each line that tells an outcome it was told that
-pub record HasCome (script : ScriptView) (setup : Setup) (me : ℕ) (told : List ToldCall) (count : ℕ) (lines : List (List ℕ)) (waits : Bool) : Type 0 where
+-- by what the plan's posts give it the rank has come there, with these lines, and something left or nothing; it has no move without
+-- these calls; its posts are the first so many of the plan; and of each line that tells an outcome it was told that
+pub record HasCome (script : ScriptView) (setup : Setup) (me : ℕ) (told : List ToldCall) (count : ℕ) (lines : List (List ℕ)) (waits : Bool) (calls : List (Name × ℕ)) : Type 0 where
   pub to : Local
   pub goes : Goes setup.operations (planned_results setup me) (start script.statements script.ranks me) to
   pub lines_are : lines ≡ map line_text to.lines
   pub waits_is : waits ≡ is_left to.todo
+  pub needs : NeedsEach setup.operations to calls
   pub made_is : to.made ≡ first_posts setup me count
   pub tells : (i : ℕ) (name : Name) (call : ℕ) (outcome : Outcome) → slice_get to.lines i ≡ Some (Told name call outcome) → outcomes_of (told_of (planned_results setup me) told) name call ≡ Some outcome
 
--- the rank has come so far, and its port holds what it was told
-pub record HasWorked (script : ScriptView) (relays : ℕ) (setup : Setup) (me : ℕ) (port : PortView) (lines : List (List ℕ)) (waits : Bool) : Type 0 where
+-- the rank has come so far, and has no move without these calls; and its port holds what it was told
+pub record HasWorked (script : ScriptView) (relays : ℕ) (setup : Setup) (me : ℕ) (port : PortView) (lines : List (List ℕ)) (waits : Bool) (calls : List (Name × ℕ)) : Type 0 where
   pub to : Local
   pub done : (plan : Plans script relays setup) → IsDone setup.operations script plan.end me port to
   pub lines_are : lines ≡ map line_text to.lines
   pub waits_is : waits ≡ is_left to.todo
+  pub needs : NeedsEach setup.operations to calls
 
 -- the port of a process that has posted nothing yet, by the plan of the script's evaluation
 pub record IsReadyProcess (script : ScriptView) (relays : ℕ) (setup : Setup) (table : TableId) (j : ReadyProcess) : Type 0 where
@@ -65,7 +68,7 @@ lines_in w = as_text w.lines
 -- a rank has worked so; a relay has posted nothing
 pub record IsWorked (script : ScriptView) (relays : ℕ) (setup : Setup) (table : TableId) (me : ℕ) (w : Worked) : Type 0 where
   pub lawful : IsLawful table setup me w.port
-  pub rank : me < script.ranks → HasWorked script relays setup me w.port (lines_in w) w.waits
+  pub rank : me < script.ranks → HasWorked script relays setup me w.port (lines_in w) w.waits w.calls.items
   pub relay : script.ranks ≤ me → made_in w.port ≡ []
 
 -- where a process's gossip ended for the gate, that gives up at one of its first so many steps of some kind
@@ -95,3 +98,10 @@ gossip_at (Some w) = Some w.gossip
 -- where a process's gossip ended for the gate, that gives up at one of its first so many steps of some kind
 abbrev pub AreGivenUpBy : (ℕ → Step → ℕ → Type 0) → (turns : ℕ) → List Worked → Type 0
 AreGivenUpBy gives_up turns ws = (i : ℕ) (w : Worked) → slice_get ws i ≡ Some w → w.gossip ≡ GaveUp → GivesUpWithin gives_up i turns
+
+-- the gossip of some process ended for the gate
+abbrev pub OneGaveUp : List Worked → Type 0
+OneGaveUp ws = (p : ℕ) × (gossip_at (slice_get ws p) ≡ Some GaveUp)
+
+abbrev pub NoneGaveUp : List Worked → Type 0
+NoneGaveUp ws = (p : ℕ) → (gossip_at (slice_get ws p) ≡ Some GaveUp) → ⊥

@@ -1,5 +1,5 @@
 //! The gossip of one process: it takes frames out of the queue and puts its own in.
-ghost use Rattle.std.specs.Prelude.{◌≡◌, IfOk};
+ghost use Rattle.std.specs.Prelude.{◌≡◌, IfNone, IfOk, IfSome};
 ghost use Rattle.mpx_bus.specs.Buses.{table_of};
 ghost use Rattle.mpx_threads.specs.Gates.{GivesUpAt, GivesUpWithin};
 
@@ -103,28 +103,72 @@ fn turn<L: PortLock, G: Gate, R: Wait>(
     requires queue { table_of bench.now.bus.now ≡ L.table }
     ensures { IfOk result (λ pass. pass ≡ Pass.GiveUp → GivesUpAt (G.gives_up bench.now.gate.now) me nth) }
 {
-    match ask(bench.gate, me, Step::Pop, nth) {
-        Pass::Go => {}
-        Pass::GiveUp => return Ok(Pass::GiveUp),
-    }
-    let pulled = port.pull(rt, alloc, bench.bus, ops);
+    let Some(leave) = ask(bench.gate, me, Step::Pop, nth) else {
+        return Ok(Pass::GiveUp);
+    };
+    let pulled = take_out(rt, alloc, bench.bus, port, leave, nth, ops);
     signal.tell();
     match pulled {
         Pull::OutOfMemory(_) => return Err(OutOfMemory),
         Pull::Empty => {}
         Pull::Took => {}
     }
-    match ask(bench.gate, me, Step::Push, nth) {
-        Pass::Go => {}
-        Pass::GiveUp => return Ok(Pass::GiveUp),
-    }
-    let _ = port.put(rt, alloc, bench.bus)?;
+    let Some(leave) = ask(bench.gate, me, Step::Push, nth) else {
+        return Ok(Pass::GiveUp);
+    };
+    put_in(rt, alloc, bench.bus, port, leave, nth)?;
     Ok(Pass::Go)
 }
 
-// What the gate says to a step.
-fn ask<G: Gate>(gate: &G, me: Proc, step: Step, nth: u32) -> Pass
-    ensures { result ≡ Pass.GiveUp → GivesUpAt (G.gives_up gate.now) me nth }
+// That the gate lets a process take its nth step of this kind.
+#[derive(Drop)]
+struct Leave {
+    step: Step,
+    nth: u32,
+}
+
+// Asks the gate for a step: its leave, where it doesn't give up.
+fn ask<G: Gate>(gate: &G, me: Proc, step: Step, nth: u32) -> Option<Leave>
+    ensures leave { IfSome result (λ leave. (leave.step ≡ step) × (leave.nth ≡ nth)) }
+    ensures none { IfNone result (GivesUpAt (G.gives_up gate.now) me nth) }
 {
-    gate.pass(me, step, u64::from(nth))
+    match gate.pass(me, step, u64::from(nth)) {
+        Pass::Go => Some(Leave { step, nth }),
+        Pass::GiveUp => None,
+    }
+}
+
+// Takes a frame out, with the gate's leave for that.
+fn take_out<L: PortLock, R: Wait>(
+    rt: &R,
+    alloc: Global,
+    bus: &Bus,
+    port: &SharedPort<L>,
+    leave: Leave,
+    nth: u32,
+    ops: &Ops,
+) -> Pull
+    requires leave { (leave.step ≡ Step.Pop) × (leave.nth ≡ nth) }
+    requires list { ⟦<Ops as Listing>⟧.operations ops.now ≡ L.setup.operations }
+    requires queue { table_of bus.now ≡ L.table }
+{
+    let _ = (leave, nth);
+    port.pull(rt, alloc, bus, ops)
+}
+
+// Puts a frame in, with the gate's leave for that.
+fn put_in<L: PortLock, R: Wait>(
+    rt: &R,
+    alloc: Global,
+    bus: &Bus,
+    port: &SharedPort<L>,
+    leave: Leave,
+    nth: u32,
+) -> Result<(), OutOfMemory>
+    requires leave { (leave.step ≡ Step.Push) × (leave.nth ≡ nth) }
+    requires queue { table_of bus.now ≡ L.table }
+{
+    let _ = (leave, nth);
+    let _ = port.put(rt, alloc, bus)?;
+    Ok(())
 }

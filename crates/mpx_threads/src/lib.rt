@@ -3,7 +3,8 @@
 //!
 //! In the order of reading: [`run_threads`], which answers a [`ThreadRun`]; its threads (`at_once.rt`); its processes
 //! (`processes.rt`, `worker.rt`), each a rank beside its gossip (`gossip.rt`), or a relay; the rank's part (`carry.rt`), whose
-//! posts a `ThreadDesk` carries (`desk.rt`); and the [`Gate`], which may hold a process back or end the run.
+//! posts a `ThreadDesk` carries (`desk.rt`); whether no rank can go on at the end (`rest.rt`); and the [`Gate`], which may hold a process
+//! back or end the run.
 #![tactic(auto)]
 
 mod at_once;
@@ -14,6 +15,7 @@ mod gate;
 mod gossip;
 mod looks;
 mod processes;
+mod rest;
 mod run;
 mod task;
 mod told;

@@ -1,20 +1,21 @@
 //! A run in threads: its bus, its processes, and what they come to.
-ghost use Rattle.std.specs.Prelude.{◌≡◌, ◌+◌, ◌++◌, ◌∷◌, ◌<◌, ◌≤◌, [], ℕ, IfErr, IfOk, IsTrue, Ok, OnOk, Some, length, map, slice_get};
+ghost use Rattle.std.specs.Prelude.{◌≡◌, ◌+◌, ◌++◌, ◌∷◌, ◌<◌, ◌≤◌, [], ℕ, IfErr, IfOk, IsFalse, IsTrue, Ok, OnOk, length, map, slice_get, true};
 ghost use Rattle.mpx_meaning.specs.Evaluation.{State};
 ghost use Rattle.mpx_meaning.specs.Reports.{transcripts_of, which};
 ghost use Rattle.mpx_meaning.specs.Transcripts.{as_text};
-ghost use Rattle.mpx_system.specs.Runs.{AreWhole, Begin, IsEvaluationOf};
+ghost use Rattle.mpx_system.specs.Runs.{AreAll, AreWhole, Begin, IsEvaluationOf};
 ghost use Rattle.mpx_bus.specs.Buses.{table_of};
 ghost use Rattle.mpx_bus.specs.declared.act.Setup.{Setup};
 ghost use Rattle.mpx_threads.specs.declared.worker.Worked.{Worked as WorkedView};
 ghost use Rattle.mpx_threads.specs.Gates.{GivesUpAmong};
 ghost use Rattle.mpx_threads.specs.Plans.{Plans};
 ghost use Rattle.mpx_threads.specs.ThreadRuns.{IsThreadRun};
-ghost use Rattle.mpx_threads.specs.Work.{AreJobs, AreReady, gossip_at, lines_in, waits_at};
+ghost use Rattle.mpx_threads.specs.Work.{AreJobs, AreReady, NoneGaveUp, OneGaveUp, lines_in, waits_at};
 
 use crate::gate::Gate;
 use crate::gossip::GossipEnd;
 use crate::processes::work_all;
+use crate::rest::are_at_rest;
 use crate::worker::{ReadyProcess, Worked};
 use join_core::OutOfMemory;
 use mpx_bus::{Bus, Named, Port};
@@ -40,6 +41,9 @@ pub struct ThreadRun {
     pub bus: Bus,
     /// The port of each process: first those of the ranks, then the relays'.
     pub ports: Vec<Port>,
+    /// Whether all ports say, once the threads have ended, that no rank can go on: then the lines are all lines of the evaluation, and the
+    /// ranks that wait, wait in every run. Where it is false the run may have ended too early, as for want of turns.
+    pub rests: bool,
 }
 
 /// Why a run in threads came to nothing.
@@ -65,7 +69,7 @@ impl From<OutOfMemory> for ThreadsError {
 /// statements and one that gossips, each relay one that gossips. A turn of a gossip takes a frame out of the queue and puts one in; each
 /// process makes at most `options.turns` of them, and none once all ranks have ended, or nobody can hear anything new. The gate is asked
 /// before each step. The seed and the loss aren't used. `ops` are the job's own operations, which all threads read: the script was read
-/// with the same. It may wait.
+/// with the same. Whether the run came to rest is told by its ports, once all threads have ended. It may wait.
 ///
 /// # Errors
 /// `OutOfMemory` where memory was wanting in some thread, or the system refused one; `GateGaveUp` where the gate gave up at some
@@ -83,13 +87,13 @@ pub fn run_threads<G: Gate + Sync, R: Threads + Wait + Sync>(
     ensures run { IfOk result (λ run. IsThreadRun (⟦<Ops as Listing>⟧.operations ops.now) script.now options.now.relays (table_of run.bus) run.ports.items (transcripts_of run.report) run.report.waiting.items) }
     ensures begins { IfOk result (λ run. (evaluation : State) → IsEvaluationOf (⟦<Ops as Listing>⟧.operations ops.now) script.now evaluation → Begin (transcripts_of run.report) evaluation) }
     ensures whole { IfOk result (λ run. (evaluation : State) → IsEvaluationOf (⟦<Ops as Listing>⟧.operations ops.now) script.now evaluation → AreWhole (transcripts_of run.report) run.report.waiting.items evaluation) }
+    ensures rests { IfOk result (λ run. run.rests ≡ true → (evaluation : State) → IsEvaluationOf (⟦<Ops as Listing>⟧.operations ops.now) script.now evaluation → AreAll (transcripts_of run.report) run.report.waiting.items script.now.ranks evaluation) }
 {
     let (bus, jobs) = planned_bus(alloc, script, options.relays, ops)?;
     let worked = work_all(rt, alloc, &bus, gate, script, options, jobs, ops)?;
-    if has_given_up(worked.as_slice()) {
-        return Err(ThreadsError::GateGaveUp);
-    }
+    none_gave_up(worked.as_slice())?;
     let waiting = waiting_of(alloc, worked.as_slice(), script.ranks())?;
+    let rests = are_at_rest(worked.as_slice(), script.ranks() as usize);
     let (mut transcripts, ports) = parts_of(alloc, worked)?;
     transcripts.truncate(script.ranks() as usize);
     Ok(ThreadRun {
@@ -99,6 +103,7 @@ pub fn run_threads<G: Gate + Sync, R: Threads + Wait + Sync>(
         },
         bus,
         ports,
+        rests,
     })
 }
 
@@ -148,9 +153,21 @@ fn jobs_of(alloc: Global, ports: Vec<Port>) -> Result<Vec<ReadyProcess>, OutOfMe
     Ok(jobs)
 }
 
+// `GateGaveUp` where the gate gave up at a step of some process, and only there.
+fn none_gave_up(worked: &[Worked]) -> Result<(), ThreadsError>
+    ensures ok { OnOk result (NoneGaveUp worked.now) }
+    ensures err { IfErr result (λ e. (e ≡ ThreadsError.GateGaveUp) × OneGaveUp worked.now) }
+{
+    if has_given_up(worked) {
+        return Err(ThreadsError::GateGaveUp);
+    }
+    Ok(())
+}
+
 // Whether the gate gave up at a step of some process.
 fn has_given_up(worked: &[Worked]) -> bool
-    ensures { IsTrue result → (p : ℕ) × (gossip_at (slice_get worked.now p) ≡ Some GossipEnd.GaveUp) }
+    ensures some { IsTrue result → OneGaveUp worked.now }
+    ensures none { IsFalse result → NoneGaveUp worked.now }
 {
     for p in 0..worked.len() {
         match worked[p].gossip {

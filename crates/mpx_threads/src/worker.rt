@@ -17,6 +17,7 @@ use crate::watch::Signal;
 use join_core::OutOfMemory;
 use mpx_bus::Port;
 use mpx_group::Proc;
+use mpx_name::Name;
 use mpx_num::{Listing, Ops};
 use mpx_script::Script;
 use mpx_shared::{PortLock, Poster, SharedPort};
@@ -33,13 +34,15 @@ pub(crate) struct ReadyProcess {
     pub(crate) port: Port,
 }
 
-/// A process when it has worked: its port, how its gossip ended, and, of a rank, its lines and whether it has something left.
+/// A process when it has worked: its port, how its gossip ended, and, of a rank, its lines, whether it has something left, and the calls
+/// that it waits for.
 #[derive(Drop)]
 pub(crate) struct Worked {
     pub(crate) port: Port,
     pub(crate) gossip: GossipEnd,
     pub(crate) lines: Vec<String>,
     pub(crate) waits: bool,
+    pub(crate) calls: Vec<(Name, u32)>,
 }
 
 /// Lets a process work.
@@ -91,7 +94,7 @@ fn work_as_rank<L: PortLock + Send + Sync, G: Gate + Sync, R: Threads + Wait + S
     requires queue { table_of bench.now.bus.now ≡ L.table }
     requires plan { Plans script.now bench.now.relays L.setup }
     ensures lawful { IfOk result (λ worked. IsLawful L.table L.setup L.me worked.port) }
-    ensures worked { IfOk result (λ worked. HasWorked script.now bench.now.relays L.setup L.me worked.port (lines_in worked) worked.waits) }
+    ensures worked { IfOk result (λ worked. HasWorked script.now bench.now.relays L.setup L.me worked.port (lines_in worked) worked.waits worked.calls.items) }
     ensures gate { IfOk result (λ worked. worked.gossip ≡ GossipEnd.GaveUp → GivesUpWithin (G.gives_up bench.now.gate.now) me bench.now.turns) }
 {
     let (shared, poster) = SharedPort::<L>::new(alloc, port, me, blank);
@@ -102,11 +105,12 @@ fn work_as_rank<L: PortLock + Send + Sync, G: Gate + Sync, R: Threads + Wait + S
     let Carried {
         lines,
         waits,
+        calls,
         told,
         poster,
     } = carried;
     let port = shared.into_port(poster);
-    Ok(with_port(script, me, port, gossip, lines, waits, &told))
+    Ok(with_port(script, me, port, gossip, lines, waits, calls, &told))
 }
 
 // Both at once; where the thread is refused, the run stops.
@@ -127,7 +131,7 @@ fn carry_and_gossip<L: PortLock + Send + Sync, G: Gate + Sync, R: Threads + Wait
     requires new { (L.before ≡ 0) × (poster.share.amount ≡ 0) }
     requires queue { table_of bench.now.bus.now ≡ L.table }
     requires plan { Plans script.now bench.now.relays L.setup }
-    ensures come { IfOk result (λ both. HasCome script.now L.setup me both.0.told both.0.poster.share.amount (map string_bytes both.0.lines.items) both.0.waits) }
+    ensures come { IfOk result (λ both. HasCome script.now L.setup me both.0.told both.0.poster.share.amount (map string_bytes both.0.lines.items) both.0.waits both.0.calls.items) }
     ensures gate { IfOk result (λ both. both.1 ≡ GossipEnd.GaveUp → GivesUpWithin (G.gives_up bench.now.gate.now) me bench.now.turns) }
 {
     let carrying = Carrying {
@@ -175,7 +179,7 @@ impl<'a, L: PortLock, G: Gate, R: Wait> Task<Ops> for Carrying<'a, L, G, R> {
 
     ghost can_run = { λ t operations. (operations ≡ L.setup.operations) × (IsNewLedger L.all L.parts L.before t.poster.share.amount × ((t.me ≡ L.me) × ((t.me < t.script.now.ranks) × Plans t.script.now t.bench.now.relays L.setup))) };
 
-    ghost gives = { λ t r. IfOk r (λ carried. HasCome t.script.now L.setup t.me carried.told carried.poster.share.amount (map string_bytes carried.lines.items) carried.waits) };
+    ghost gives = { λ t r. IfOk r (λ carried. HasCome t.script.now L.setup t.me carried.told carried.poster.share.amount (map string_bytes carried.lines.items) carried.waits carried.calls.items) };
 
     fn run(self, ops: &Ops) -> Result<Carried<L>, OutOfMemory> {
         let Carrying {
@@ -240,7 +244,7 @@ fn carry<L: PortLock, G: Gate, R: Wait>(
     requires me { (me ≡ L.me) × (me < script.now.ranks) }
     requires new { (L.before ≡ 0) × (poster.share.amount ≡ 0) }
     requires plan { Plans script.now bench.now.relays L.setup }
-    ensures { IfOk result (λ carried. HasCome script.now L.setup me carried.told carried.poster.share.amount (map string_bytes carried.lines.items) carried.waits) }
+    ensures { IfOk result (λ carried. HasCome script.now L.setup me carried.told carried.poster.share.amount (map string_bytes carried.lines.items) carried.waits carried.calls.items) }
 {
     let looks = Looks {
         watch: bench.watch,
@@ -264,14 +268,15 @@ fn with_port<L: PortLock>(
     gossip: GossipEnd,
     lines: Vec<String>,
     waits: bool,
+    calls: Vec<(Name, u32)>,
     told: &Told<L>,
 ) -> Worked
     requires port { IsLawful L.table L.setup L.me port }
     requires me { me ≡ L.me }
-    requires come { HasCome script.now L.setup L.me told.now (length (made_in port)) (map string_bytes lines.items) waits }
+    requires come { HasCome script.now L.setup L.me told.now (length (made_in port)) (map string_bytes lines.items) waits calls.items }
     ensures port { result.port ≡ port }
     ensures gossip { result.gossip ≡ gossip }
-    ensures worked { (relays : ℕ) → HasWorked script.now relays L.setup L.me port (lines_in result) result.waits }
+    ensures worked { (relays : ℕ) → HasWorked script.now relays L.setup L.me port (lines_in result) result.waits result.calls.items }
 {
     if told.are_held(port.node()) {
         return Worked {
@@ -279,16 +284,20 @@ fn with_port<L: PortLock>(
             gossip,
             lines,
             waits,
+            calls,
         };
     }
     let mut lines = lines;
     lines.clear();
+    let mut calls = calls;
+    calls.clear();
     let waits = !script.statements(me.number()).is_empty();
     Worked {
         port,
         gossip,
         lines,
         waits,
+        calls,
     }
 }
 
@@ -320,5 +329,6 @@ fn work_as_relay<L: PortLock, G: Gate, R: Wait>(
         gossip,
         lines: Vec::new(alloc),
         waits: false,
+        calls: Vec::new(alloc),
     })
 }

@@ -27,3 +27,11 @@ told_of_usage a words e is told = subst (λ b. HasKind (fault_of b words) e) is 
 pub keeps_kind : (kinds : Kinds) (e r : Error) → HasKind kinds e → (kind_of r ≡ kind_of e) ⊎ (kind_of r ≡ kind.OutOfMemory) → HasKind kinds r
 keeps_kind kinds e r h (inl same) = subst (λ k. (k ≡ kind.OutOfMemory) ⊎ IsAmong k kinds) (sym same) h
 keeps_kind kinds e r h (inr memory) = inl memory
+
+-- where clap takes the words a refusal says that they are invalid, or that memory is wanting
+pub last_kind : (a : App) (words : List Text) (r : Error) → a ≡ usage → (is_simple_and_free a ≡ true → fault_of a words ≡ []) → (kind_of r ≡ kind.InvalidValue) ⊎ (kind_of r ≡ kind.OutOfMemory)
+    → HasKind (or_else (fault_of usage words) (kind.InvalidValue ∷ [])) r
+last_kind a words r is none said = subst (λ ks. HasKind (or_else ks (kind.InvalidValue ∷ [])) r) (sym (subst (λ b. fault_of b words ≡ []) is (none (ap is_simple_and_free is ∙ usage_is_free)))) (either said) where
+  either : (kind_of r ≡ kind.InvalidValue) ⊎ (kind_of r ≡ kind.OutOfMemory) → HasKind (kind.InvalidValue ∷ []) r
+  either (inl same) = inr (inl same)
+  either (inr memory) = inl memory

@@ -2,7 +2,7 @@
 use Rattle.std.proofs.Common.{◌≡◌, Bool, true, false, true≢false, codes, ◌<◌, ℕ, ◌≤◌, ◌-◌, ◌||◌, List, [], ◌∷◌, length, map, drop, take, get_or, Some, None, refl, sym, ap, ◌∙◌, arith}
 use Rattle.std.specs.Prelude.{option_and_then, if◌then◌else◌}
 use Rattle.mpx_job.specs.declared.Options.{Options}
-use Rattle.mpx_words.specs.Words.{begins_with, complaint, is_threads, is_whole, job_in, limits_of, no_pair, options_in, or_more, usual, with_option, with_threads, with_whole}
+use Rattle.mpx_words.specs.Words.{begins_with, complaint, is_flag, is_whole, job_in, limits_of, no_pair, options_in, or_more, usual, with_option, with_flag, with_whole}
 
 pub take_whole : {A : Type 0} (xs : List A) → take (length xs) xs ≡ xs
 take_whole [] = refl
@@ -25,8 +25,8 @@ none_of false false false false false v w x y z n h = refl
 -- a word that is no whole option gives none
 not_whole : (o : Options) (word : List ℕ) → is_whole word ≡ false → with_whole o word ≡ None
 not_whole o word h =
-    none_of (is_threads word) (begins_with word (codes "--seed=")) (begins_with word (codes "--loss=")) (begins_with word (codes "--relays=")) (begins_with word (codes "--turns="))
-    (Some (with_threads o)) (with_option o (codes "--seed") (drop 7 word)) (with_option o (codes "--loss") (drop 7 word)) (with_option o (codes "--relays") (drop 9 word)) (with_option o (codes "--turns") (drop 8 word)) None h
+    none_of (is_flag word) (begins_with word (codes "--seed=")) (begins_with word (codes "--loss=")) (begins_with word (codes "--relays=")) (begins_with word (codes "--turns="))
+    (Some (with_flag o word)) (with_option o (codes "--seed") (drop 7 word)) (with_option o (codes "--loss") (drop 7 word)) (with_option o (codes "--relays") (drop 9 word)) (with_option o (codes "--turns") (drop 8 word)) None h
 
 -- the first word is whole
 pub one_whole : {A : Type 0} (f : A → List ℕ) (o more : Options) (words : List A) (x : A) → 1 ≤ length words → x ≡ get_or words 0 x → is_whole (f x) ≡ true → with_whole o (f x) ≡ Some more

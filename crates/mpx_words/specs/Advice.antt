@@ -7,7 +7,7 @@ use Rattle.clap.specs.Walk.{Text}
 use Rattle.clap.specs.declared.error.kind.ErrorKind.{ErrorKind}
 use Rattle.clap.specs.declared.error.kind.ErrorKind.TheVariants as kind
 use Rattle.mpx_num.specs.Text.{number_of}
-use Rattle.mpx_words.specs.Words.{begins_with, is_whole}
+use Rattle.mpx_words.specs.Words.{begins_with, is_common, is_whole}
 
 -- a word that is `-`, or doesn't begin with it
 abbrev pub is_plain : Text → Bool
@@ -43,6 +43,11 @@ surplus (word ∷ rest) = if bytes_eq word (codes "--") then first_surplus rest 
 abbrev pub surplus_behind : (awaits : Bool) → List Text → Option Text
 surplus_behind awaits [] = None
 surplus_behind awaits (word ∷ rest) = option_map_or (λ next. surplus_behind next rest) (awaits_behind awaits word) (surplus (word ∷ rest))
+
+-- such a word behind those that each command may have
+abbrev pub surplus_alone : List Text → Option Text
+surplus_alone [] = None
+surplus_alone (word ∷ rest) = if is_common word then surplus_alone rest else surplus (word ∷ rest)
 
 -- a file's name as it is shown: `-` is none
 abbrev pub shown : Text → Text
@@ -81,7 +86,7 @@ advice_of [] = None
 advice_of (name ∷ []) = None
 advice_of (name ∷ command ∷ words) =
     if is_run command then option_map (advice command) (surplus_behind false words) else
-    if stands_alone command then option_map (advice command) (surplus words) else
+    if stands_alone command then option_map (advice command) (surplus_alone words) else
     advice_first command
 
 -- what is told in place of clap's text: where a word is no argument or no command, and that is said of the words

@@ -7,14 +7,30 @@ use Rattle.clap.specs.declared.error.kind.ErrorKind.TheVariants as kind
 use Rattle.clap.specs.Kinds.{Kinds, or_else}
 use Rattle.clap.specs.Faults.{fault_of}
 
--- the option that stands alone
-abbrev pub threads : Rule
-threads = record (new_rule (codes "threads")) { long = Some (codes "threads"); action = Some SetTrue }
+-- an option that stands alone
+abbrev pub flag : Text → Rule
+flag name = record (new_rule name) { long = Some name; action = Some SetTrue }
 
--- `run` with its options: each but the first is followed by a value
+-- those that each command has
+abbrev pub common : List Rule
+common = flag (codes "strict") ∷ flag (codes "explain") ∷ []
+
+-- a command that has no others
+abbrev pub plain : Text → Shape
+plain name = record (new_shape name) { rules = common }
+
+-- those of `run` that stand alone
+abbrev pub run_flags : List Rule
+run_flags = flag (codes "strict") ∷ flag (codes "explain") ∷ flag (codes "trace") ∷ flag (codes "table") ∷ flag (codes "threads") ∷ []
+
+-- `run` with its options: each of the others is followed by a value
 abbrev pub run : Shape
 run = record (new_shape (codes "run")) {
-  rules = threads
+  rules = flag (codes "strict")
+      ∷ flag (codes "explain")
+      ∷ flag (codes "trace")
+      ∷ flag (codes "table")
+      ∷ flag (codes "threads")
       ∷ record (new_rule (codes "seed")) { long = Some (codes "seed") }
       ∷ record (new_rule (codes "loss")) { long = Some (codes "loss") }
       ∷ record (new_rule (codes "relays")) { long = Some (codes "relays") }
@@ -33,7 +49,7 @@ bare_usage = record {
 abbrev pub usage : App
 usage = record {
   top = record (bare_usage.top) { is_leaf = false };
-  subs = run ∷ new_shape (codes "eval") ∷ new_shape (codes "check") ∷ [];
+  subs = run ∷ plain (codes "eval") ∷ plain (codes "check") ∷ [];
 }
 
 -- clap's, where it refuses the words (`--help` counts as refused); else the value of an option is wrong

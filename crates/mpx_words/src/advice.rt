@@ -2,9 +2,9 @@
 //! script tells it.
 ghost use Rattle.std.specs.Prelude.{◌≡◌, IfOk, false, map, option_map, string_bytes};
 ghost use Rattle.std.specs.Option.{option_copied};
-ghost use Rattle.mpx_words.specs.Advice.{advice, advice_first, advice_of, asks_ranks, awaits_behind, file_advice, first_surplus, is_file, is_option, is_plain, is_run, ranks_advice, shown, stands_alone, surplus, surplus_behind, told_instead};
+ghost use Rattle.mpx_words.specs.Advice.{advice, advice_first, advice_of, asks_ranks, awaits_behind, file_advice, first_surplus, is_file, is_option, is_plain, is_run, ranks_advice, shown, stands_alone, surplus, surplus_alone, surplus_behind, told_instead};
 
-use crate::command::is_whole;
+use crate::command::{is_common, is_whole};
 use clap::error::ErrorKind;
 use mpx_num::parse_number;
 use std::alloc::{AllocError, Global};
@@ -22,7 +22,7 @@ pub fn advice_of(alloc: Global, words: &[String]) -> Result<Option<String>, Allo
                 return advice_behind(alloc, command.as_str(), surplus_behind(rest));
             }
             if stands_alone(command.as_bytes()) {
-                return advice_behind(alloc, command.as_str(), surplus(rest));
+                return advice_behind(alloc, command.as_str(), surplus_alone(rest));
             }
             advice_first(alloc, command.as_str())
         }
@@ -122,6 +122,20 @@ fn surplus_behind(words: &[String]) -> Option<&str>
             return surplus(rest);
         };
         awaits = next;
+        rest = more;
+    }
+    None
+}
+
+// The word behind those that each command may have that is no part of an option.
+fn surplus_alone(words: &[String]) -> Option<&str>
+    ensures { option_map (λ word. word.now) result ≡ surplus_alone (map string_bytes words.now) }
+{
+    let mut rest = words;
+    while let [word, more @ ..] = rest {
+        if !is_common(word.as_bytes()) {
+            return surplus(rest);
+        }
         rest = more;
     }
     None

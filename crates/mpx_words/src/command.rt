@@ -1,33 +1,95 @@
-//! The words of a call, and the job that they ask for.
-ghost use Rattle.std.specs.Prelude.{◌≡◌, ◌≤◌, ◌⊎◌, IfErr, IfOk, IfSome, None, Some, drop, length, map, string_bytes};
-ghost use Rattle.clap.specs.Words.{HasKind, kind_of};
+//! The words of a call, and what they ask for.
+ghost use Rattle.std.specs.Prelude.{◌≡◌, ◌≤◌, IfErr, IfOk, IfSome, None, Some, drop, length, map, string_bytes};
+ghost use Rattle.clap.specs.Words.{HasKind};
 ghost use Rattle.mpx_words.specs.Usage.{refusal_kinds};
-ghost use Rattle.mpx_words.specs.Words.{alone, complaint, complaint_of, is_joined, is_of, is_threads, is_whole, job_in, limits_of, number_within, options_in, usual, with_joined, with_option, with_threads, with_whole};
+ghost use Rattle.mpx_words.specs.Words.{alone, are_common, call_in, fits, fitting, flags_behind, flags_of, has, is_common, is_flag, is_joined, is_threads, is_view, is_whole, job_in, number_within, options_in, usual, with_flag, with_joined, with_option, with_threads, with_whole};
 
-use crate::advice::told_instead;
-use crate::program::{named, program};
+use crate::call::{Call, Flags};
+use crate::refusal::no_job;
 use clap::Error;
-use clap::error::ErrorKind;
 use mpx_job::{Command, Job, Options};
 use mpx_num::parse_number;
-use std::alloc::{AllocError, Global};
+use std::alloc::Global;
 
-/// The job that `words` ask for, of which the first is the program's own name and the second the command's: `run` with
-/// `--threads`, `--seed N` (any u64, else 1), `--loss P` (0 to 100, else 0), `--relays N` (0 to 63, else 0) and `--turns N` (1 to
-/// 10,000,000, else 100,000), or `eval` or `check` alone. `--seed=N` is `--seed N`, and so of each option with a number. Of an
-/// option that is given twice the last counts. A refusal has clap's text, or is want of memory.
-pub fn job_of(alloc: Global, words: &[String]) -> Result<Job, Error>
-    ensures ok { IfOk result (λ job. job_in (map string_bytes words.now) ≡ Some job) }
-    ensures err { IfErr result (λ e. job_in (map string_bytes words.now) ≡ None) }
+/// What `words` ask for, of which the first is the program's own name and the second the command's: `run` with `--threads`, `--seed N`
+/// (any u64, else 1), `--loss P` (0 to 100, else 0), `--relays N` (0 to 63, else 0), `--turns N` (1 to 10,000,000, else 100,000), and
+/// `--trace` or `--table`, neither with `--threads`; or `eval` or `check`. Each command may have `--strict` and `--explain`. `--seed=N`
+/// is `--seed N`, and so of each option with a number. Of an option that is given twice the last counts. A refusal has clap's text, or
+/// is want of memory.
+pub fn call_of(alloc: Global, words: &[String]) -> Result<Call, Error>
+    ensures ok { IfOk result (λ call. call_in (map string_bytes words.now) ≡ Some call) }
+    ensures err { IfErr result (λ e. call_in (map string_bytes words.now) ≡ None) }
     ensures kind { IfErr result (HasKind (refusal_kinds (map string_bytes words.now))) }
 {
-    match job_in(words) {
-        Some(job) => Ok(job),
+    match call_in(words) {
+        Some(call) => Ok(call),
         None => Err(no_job(alloc, words)),
     }
 }
 
-fn job_in(words: &[String]) -> Option<Job>
+fn call_in(words: &[String]) -> Option<Call>
+    ensures { result ≡ call_in (map string_bytes words.now) }
+{
+    let job = job_in(words)?;
+    fitting(job, flags_behind(words))
+}
+
+// A job with what is asked for beside it, where both fit.
+fn fitting(job: Job, flags: Flags) -> Option<Call>
+    ensures { result ≡ fitting job flags }
+{
+    if fits(job, flags) {
+        Some(Call { job, flags })
+    } else {
+        None
+    }
+}
+
+// A simulated run is shown in one way.
+fn fits(job: Job, flags: Flags) -> bool
+    ensures { result ≡ fits job flags }
+{
+    !((flags.trace || flags.table) && job.options.threads) && !(flags.trace && flags.table)
+}
+
+/// What the words ask for beside a job, behind the program's name and the command's.
+pub fn flags_behind(words: &[String]) -> Flags
+    ensures { result ≡ flags_behind (map string_bytes words.now) }
+{
+    match words {
+        [] => flags_of(&[]),
+        [_] => flags_of(&[]),
+        [_, _, rest @ ..] => flags_of(rest),
+    }
+}
+
+// What these words ask for beside a job.
+fn flags_of(words: &[String]) -> Flags
+    ensures { result ≡ flags_of (map string_bytes words.now) }
+{
+    Flags {
+        strict: has(words, b"--strict"),
+        explain: has(words, b"--explain"),
+        trace: has(words, b"--trace"),
+        table: has(words, b"--table"),
+    }
+}
+
+// Whether a word stands among these.
+fn has(words: &[String], flag: &[u8]) -> bool
+    ensures { result ≡ has (map string_bytes words.now) flag.now }
+{
+    let mut rest = words;
+    while let [word, more @ ..] = rest {
+        if word.as_bytes() == flag {
+            return true;
+        }
+        rest = more;
+    }
+    false
+}
+
+pub(crate) fn job_in(words: &[String]) -> Option<Job>
     ensures { result ≡ job_in (map string_bytes words.now) }
 {
     match words {
@@ -53,11 +115,11 @@ fn job_in(words: &[String]) -> Option<Job>
     }
 }
 
-// A command that has no options.
+// A command that has no options but those of each command.
 fn alone(command: Command, words: &[String]) -> Option<Job>
     ensures { result ≡ alone command (map string_bytes words.now) }
 {
-    if !words.is_empty() {
+    if !are_common(words) {
         return None;
     }
     Some(Job {
@@ -66,8 +128,22 @@ fn alone(command: Command, words: &[String]) -> Option<Job>
     })
 }
 
+// Whether each of the words is one that each command may have.
+fn are_common(words: &[String]) -> bool
+    ensures { result ≡ are_common (map string_bytes words.now) }
+{
+    let mut rest = words;
+    while let [word, more @ ..] = rest {
+        if !is_common(word.as_bytes()) {
+            return false;
+        }
+        rest = more;
+    }
+    true
+}
+
 // Without options.
-fn usual() -> Options
+pub(crate) fn usual() -> Options
     ensures { result ≡ usual }
 {
     Options {
@@ -79,7 +155,7 @@ fn usual() -> Options
     }
 }
 
-// These options with those that the words give: `--threads` alone, each other one with its number behind `=` or as the next word.
+// These options with those that the words give: some words alone, each other option with its number behind `=` or as the next word.
 fn options_in(options: Options, words: &[String]) -> Option<Options>
     ensures { result ≡ options_in options (map string_bytes words.now) }
 {
@@ -104,21 +180,53 @@ fn options_in(options: Options, words: &[String]) -> Option<Options>
 pub(crate) fn is_whole(word: &[u8]) -> bool
     ensures { result ≡ is_whole word.now }
 {
-    is_threads(word) || is_joined(word)
+    is_flag(word) || is_joined(word)
 }
 
 // These options with that one.
-fn with_whole(options: Options, word: &[u8]) -> Option<Options>
+pub(crate) fn with_whole(options: Options, word: &[u8]) -> Option<Options>
     ensures { result ≡ with_whole options word.now }
 {
-    if is_threads(word) {
-        Some(with_threads(options))
+    if is_flag(word) {
+        Some(with_flag(options, word))
     } else {
         with_joined(options, word)
     }
 }
 
-// Whether the word is the option that stands alone.
+// Whether the word is an option of `run` that stands alone.
+fn is_flag(word: &[u8]) -> bool
+    ensures { result ≡ is_flag word.now }
+{
+    is_threads(word) || is_view(word) || is_common(word)
+}
+
+// Whether the word shows a run as it goes.
+fn is_view(word: &[u8]) -> bool
+    ensures { result ≡ is_view word.now }
+{
+    word == b"--trace".as_slice() || word == b"--table".as_slice()
+}
+
+// Whether each command may have the word.
+pub(crate) fn is_common(word: &[u8]) -> bool
+    ensures { result ≡ is_common word.now }
+{
+    word == b"--strict".as_slice() || word == b"--explain".as_slice()
+}
+
+// These options with that one.
+fn with_flag(options: Options, word: &[u8]) -> Options
+    ensures { result ≡ with_flag options word.now }
+{
+    if is_threads(word) {
+        with_threads(options)
+    } else {
+        options
+    }
+}
+
+// Whether the word is the option of a run that stands alone.
 fn is_threads(word: &[u8]) -> bool
     ensures { result ≡ is_threads word.now }
 {
@@ -172,7 +280,7 @@ fn behind(word: &[u8], count: usize) -> &[u8]
 }
 
 // These options with one more that has a number.
-fn with_option(options: Options, option: &[u8], value: &[u8]) -> Option<Options>
+pub(crate) fn with_option(options: Options, option: &[u8], value: &[u8]) -> Option<Options>
     ensures { result ≡ with_option options option.now value.now }
 {
     if option == b"--seed".as_slice() {
@@ -205,139 +313,4 @@ fn number_within(least: u64, most: u64, word: &[u8]) -> Option<u64>
     } else {
         None
     }
-}
-
-// Why the words ask for no job: clap's refusal, or what the first option that gives none should be followed by.
-fn no_job(alloc: Global, words: &[String]) -> Error
-    ensures { HasKind (refusal_kinds (map string_bytes words.now)) result }
-{
-    let Ok(program) = program(alloc) else {
-        return Error::from(AllocError);
-    };
-    match program.try_get_matches_from(words) {
-        Ok(_) => refusal(alloc, words, ErrorKind::InvalidValue, complaint_of(words)),
-        Err(refusal) => with_advice(alloc, words, refusal),
-    }
-}
-
-// The refusal, which tells how a file is handed in where the words name one.
-fn with_advice(alloc: Global, words: &[String], refused: Error) -> Error
-    ensures { (kind_of result ≡ kind_of refused) ⊎ (kind_of result ≡ ErrorKind.OutOfMemory) }
-{
-    match told_instead(alloc, refused.kind(), words) {
-        Ok(Some(text)) => refusal(alloc, words, refused.kind(), text.as_str()),
-        Ok(None) => refused,
-        Err(error) => Error::from(error),
-    }
-}
-
-/// What is said of words that `clap` takes though they ask for no job: what the first option that gives none is followed by,
-/// or that the command has no options.
-pub fn complaint_of(words: &[String]) -> &'static str
-    ensures { result.now ≡ complaint_of (map string_bytes words.now) }
-{
-    match words {
-        [] => STANDS_ALONE,
-        [_] => STANDS_ALONE,
-        [_, command, options @ ..] => {
-            if command.as_bytes() == b"run".as_slice() {
-                complaint(options)
-            } else {
-                STANDS_ALONE
-            }
-        }
-    }
-}
-
-const STANDS_ALONE: &str = "this command stands alone";
-
-// What is wrong with the first of these options that gives none.
-fn complaint(words: &[String]) -> &'static str
-    ensures { result.now ≡ complaint (map string_bytes words.now) }
-{
-    let mut rest = words;
-    while let [option, behind @ ..] = rest {
-        if is_whole(option.as_bytes()) {
-            let Some(_) = with_whole(usual(), option.as_bytes()) else {
-                return limits_of(option.as_bytes());
-            };
-            rest = behind;
-            continue;
-        }
-        let [_, value, more @ ..] = rest else {
-            return NO_PAIR;
-        };
-        let Some(_) = with_option(usual(), option.as_bytes(), value.as_bytes()) else {
-            return limits_of(option.as_bytes());
-        };
-        rest = more;
-    }
-    NO_PAIR
-}
-
-const NO_PAIR: &str = "each option but --threads is followed by its number";
-
-// Whether the word is an option of this name, with or without its number behind `=`.
-fn is_of(option: &[u8], name: &[u8], joined: &[u8]) -> bool
-    ensures { result ≡ is_of option.now name.now joined.now }
-{
-    option == name || option.starts_with(joined)
-}
-
-// What an option is followed by.
-fn limits_of(option: &[u8]) -> &'static str
-    ensures { result.now ≡ limits_of option.now }
-{
-    if is_of(option, b"--seed", b"--seed=") {
-        return "--seed is followed by a number from 0 to 18446744073709551615";
-    }
-    if is_of(option, b"--loss", b"--loss=") {
-        return "--loss is followed by a number from 0 to 100";
-    }
-    if is_of(option, b"--relays", b"--relays=") {
-        return "--relays is followed by a number from 0 to 63";
-    }
-    if is_of(option, b"--turns", b"--turns=") {
-        return "--turns is followed by a number from 1 to 10000000";
-    }
-    NO_PAIR
-}
-
-/// The refusal of words of which one is no text.
-pub fn not_text(alloc: Global) -> Error
-    ensures { (kind_of result ≡ ErrorKind.InvalidValue) ⊎ (kind_of result ≡ ErrorKind.OutOfMemory) }
-{
-    refusal(
-        alloc,
-        &[],
-        ErrorKind::InvalidValue,
-        "an argument is not valid UTF-8",
-    )
-}
-
-// A refusal with the usage of the command that the words name.
-fn refusal(alloc: Global, words: &[String], kind: ErrorKind, message: &str) -> Error
-    ensures { (kind_of result ≡ kind) ⊎ (kind_of result ≡ ErrorKind.OutOfMemory) }
-{
-    match error(alloc, words, kind, message) {
-        Ok(error) => error,
-        Err(error) => Error::from(error),
-    }
-}
-
-fn error(
-    alloc: Global,
-    words: &[String],
-    kind: ErrorKind,
-    message: &str,
-) -> Result<Error, AllocError>
-    ensures { IfOk result (λ e. kind_of e ≡ kind) }
-{
-    let mut command = match words {
-        [_, name, ..] => named(alloc, name.as_bytes())?,
-        _ => program(alloc)?,
-    };
-    let error = command.error(kind, message);
-    drop(command);
-    error
 }

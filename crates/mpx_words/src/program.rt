@@ -3,7 +3,7 @@ ghost use Rattle.std.specs.Prelude.{◌≡◌, [], ◌∷◌, IfOk, Some, codes,
 ghost use Rattle.clap.specs.Words.{app_of, new_rule, rule_of, shape_of};
 ghost use Rattle.clap.specs.declared.builder.command.Command.TheViews.{out-Command as fields_of};
 ghost use Rattle.clap.specs.Simple.{new_shape};
-ghost use Rattle.mpx_words.specs.Usage.{bare_usage, run, threads, usage};
+ghost use Rattle.mpx_words.specs.Usage.{bare_usage, common, flag, plain, run, run_flags, usage};
 
 use clap::{Arg, ArgAction, Command};
 use std::alloc::{AllocError, Global};
@@ -12,10 +12,12 @@ pub(crate) fn program<'a>(alloc: Global) -> Result<Command<'a>, AllocError>
     ensures { IfOk result (λ c. app_of c ≡ usage) }
 {
     let run = run(alloc)?;
+    let eval = plain(alloc, "eval", EVAL)?;
+    let check = plain(alloc, "check", CHECK)?;
     bare_program(alloc)?
         .subcommand(run)?
-        .subcommand(bare(alloc, "eval", EVAL))?
-        .subcommand(bare(alloc, "check", CHECK))
+        .subcommand(eval)?
+        .subcommand(check)
 }
 
 /// The command of that name by itself, for its usage; the whole program, where there is none.
@@ -24,10 +26,10 @@ pub(crate) fn named<'a>(alloc: Global, name: &[u8]) -> Result<Command<'a>, Alloc
         return run(alloc)?.bin_name("gossipmpi run");
     }
     if name == b"eval".as_slice() {
-        return bare(alloc, "eval", EVAL).bin_name("gossipmpi eval");
+        return plain(alloc, "eval", EVAL)?.bin_name("gossipmpi eval");
     }
     if name == b"check".as_slice() {
-        return bare(alloc, "check", CHECK).bin_name("gossipmpi check");
+        return plain(alloc, "check", CHECK)?.bin_name("gossipmpi check");
     }
     program(alloc)
 }
@@ -54,7 +56,7 @@ fn run<'a>(alloc: Global) -> Result<Command<'a>, AllocError>
     ensures shape { IfOk result (λ c. shape_of c ≡ run) }
     ensures local { IfOk result (λ c. (fields_of c).has_globals ≡ false) }
 {
-    run_in_threads(alloc)?
+    with_run_flags(alloc)?
         .arg(option(alloc, "seed", SEED))?
         .arg(option(alloc, "loss", LOSS))?
         .arg(option(alloc, "relays", RELAYS))?
@@ -62,20 +64,43 @@ fn run<'a>(alloc: Global) -> Result<Command<'a>, AllocError>
 }
 
 // `run` without the options that are followed by a number.
-fn run_in_threads<'a>(alloc: Global) -> Result<Command<'a>, AllocError>
-    ensures shape { IfOk result (λ c. shape_of c ≡ record (new_shape (codes "run")) { rules = threads ∷ [] }) }
+fn with_run_flags<'a>(alloc: Global) -> Result<Command<'a>, AllocError>
+    ensures shape { IfOk result (λ c. shape_of c ≡ record (new_shape (codes "run")) { rules = run_flags }) }
     ensures local { IfOk result (λ c. (fields_of c).has_globals ≡ false) }
 {
-    bare(
+    plain(
         alloc,
         "run",
         "Run the script on the standard input (gossipmpi run < SCRIPT) and print what each rank gets",
-    )
+    )?
     .after_help(
-        "Each option but --threads is followed by its number: --seed 7, or --seed=7. The script says how many ranks there are.",
+        "An option that has a number is followed by it: --seed 7, or --seed=7. The script says how many ranks there are.",
     )
+    .arg(flag(alloc, "trace", TRACE))?
+    .arg(flag(alloc, "table", TABLE))?
     .arg(flag(alloc, "threads", THREADS))
 }
+
+// A command that has no options but those of each command.
+fn plain<'a>(alloc: Global, name: &'a str, about: &'a str) -> Result<Command<'a>, AllocError>
+    ensures shape { IfOk result (λ c. shape_of c ≡ plain name.entry.now) }
+    ensures local { IfOk result (λ c. (fields_of c).has_globals ≡ false) }
+{
+    bare(alloc, name, about)
+        .arg(flag(alloc, "strict", STRICT))?
+        .arg(flag(alloc, "explain", EXPLAIN))
+}
+
+const STRICT: &str = "Exit with status 6 where the script has a call that is refused or is a fault";
+
+const EXPLAIN: &str =
+    "Tell more on the standard error: why a run ended, and what is wrong with the script";
+
+const TRACE: &str =
+    "Tell each event on the standard error: what is sent, lost and taken, and what ranks get; not with --threads";
+
+const TABLE: &str =
+    "Show on the standard error, turn by turn, what each process has heard; not with --threads";
 
 const THREADS: &str =
     "Run each rank and relay on threads of its own, over one queue of frames: --seed and --loss are read, and not used";

@@ -1,7 +1,6 @@
 //! Rows of what ranks call, and what they get.
 ghost use Rattle.std.specs.Prelude.{◌<◌, ◌≤◌};
 
-use crate::contexts::sum_of;
 use crate::desk_acts::{Start, WaitingCall as Called, make_call, post_call};
 use crate::desks::{desk_of, gathering};
 use join_core::Exact;
@@ -16,6 +15,7 @@ use std::mem;
 use std::process::Abort;
 use std::test::Fail;
 use test_drafts::bare;
+use test_drafts::contexts::sum_of;
 
 // What a rank does. Communicators and requests are told by their places in its lists.
 #[derive(Clone, Copy)]

@@ -1,7 +1,6 @@
 //! Posts on a communicator that come before its birth.
 ghost use Rattle.std.specs.Prelude.{◌≡◌, []};
 
-use crate::contexts::{On, WORLD, name_of};
 use crate::looks::{NodeLook, is_seen};
 use crate::world_acts::{WorldAct, WorldTold};
 use crate::world_rows::{WorldRow, go_on};
@@ -18,6 +17,7 @@ use std::alloc::Global;
 use std::marker::Brand;
 use std::process::Abort;
 use std::test::Fail;
+use test_drafts::contexts::{On, WORLD, name_of};
 use test_drafts::{draft, just, proc};
 
 const CHILD: On = On::Below(1);

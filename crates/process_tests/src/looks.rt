@@ -1,5 +1,4 @@
 //! What is seen of a node.
-use crate::contexts::{On, name_of};
 use join_core::Exact;
 use mpx_encode::frame_len;
 use mpx_name::Name;
@@ -7,6 +6,7 @@ use mpx_node::{Finished, Node, PartError};
 use mpx_value::Outcome;
 use std::alloc::Global;
 use std::test::Fail;
+use test_drafts::contexts::{On, name_of};
 use test_drafts::proc;
 
 // What is seen, on a context where it is of one.

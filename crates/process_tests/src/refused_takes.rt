@@ -1,5 +1,4 @@
 //! A take that memory is refused.
-use crate::frames::FRAME;
 use join_core::{Exact, Join};
 use mpx_board::Board;
 use mpx_group::Proc;
@@ -8,6 +7,7 @@ use mpx_wire::decode;
 use std::alloc::Global;
 use std::process::Abort;
 use std::test::Fail;
+use test_drafts::contexts::FRAME;
 
 // The node takes the part, once more where memory was refused: then the board stood between the old one and the join.
 fn takes(rt: &impl Abort, alloc: Global, node: &mut Node, part: &Board) -> Result<(), Fail> {

@@ -1,7 +1,6 @@
 //! Hostile schedules of worlds: parts of which none is taken, and a rank that stops.
 ghost use Rattle.std.specs.Prelude.{◌≡◌, []};
 
-use crate::contexts::WORLD;
 use crate::world_acts::{WorldAct, WorldTold, is_told};
 use mpx_board::PruneError;
 use mpx_num::{Listing, Ops};
@@ -10,6 +9,7 @@ use std::alloc::Global;
 use std::marker::Brand;
 use std::process::Abort;
 use std::test::Fail;
+use test_drafts::contexts::WORLD;
 
 // A process does the same so many times, and is told this the first time; numbers in what it is told go up by one each time.
 #[derive(Clone, Copy)]

@@ -2,8 +2,6 @@
 //! process's own, which is never harvested then; a birth that such a frame makes a clash refuses posts; calls that it tells dropped, or
 //! harvested, are; a context that it tells dead is; and what it tells acknowledged is left out of what is told on. Those frames are of
 //! version 1, but for the dead context's.
-use crate::contexts::sum_of;
-use crate::frames::FRAME;
 use crate::looks::{NodeLook, is_seen};
 use mpx_board::PruneError;
 use mpx_group::Proc;
@@ -15,6 +13,7 @@ use mpx_wire::decode;
 use std::alloc::Global;
 use std::process::Abort;
 use std::test::Fail;
+use test_drafts::contexts::{FRAME, sum_of};
 use test_drafts::{draft, proc};
 
 // On world, where all is that is said below: of call 0 the post of process 1, a sum of the one item 2 of type i64.

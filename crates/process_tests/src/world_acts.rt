@@ -1,7 +1,6 @@
 //! What processes of a world do, and what they are told.
 ghost use Rattle.std.specs.Prelude.{◌≡◌, []};
 
-use crate::contexts::{On, WORLD, name_of, sum_of};
 use mpx_board::PruneError;
 use mpx_group::Proc;
 use mpx_kind::Kind;
@@ -12,6 +11,7 @@ use mpx_world::{Cut, Event, Names, Reply, World};
 use std::alloc::Global;
 use std::marker::Brand;
 use std::test::Fail;
+use test_drafts::contexts::{On, WORLD, name_of, sum_of};
 use test_drafts::{Drafted, draft, just, proc};
 
 // What a process does, on the context of all where it names none.

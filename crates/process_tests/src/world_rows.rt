@@ -1,7 +1,6 @@
 //! Rows of what processes of a world do and what is then seen.
 ghost use Rattle.std.specs.Prelude.{◌≡◌, []};
 
-use crate::contexts::{On, name_of};
 use crate::looks::{NodeLook, is_seen};
 use crate::world_acts::{WorldAct, WorldTold, is_told};
 use join_core::Exact;
@@ -11,6 +10,7 @@ use std::alloc::Global;
 use std::marker::Brand;
 use std::process::Abort;
 use std::test::Fail;
+use test_drafts::contexts::{On, name_of};
 use test_drafts::proc;
 
 #[derive(Clone, Copy)]

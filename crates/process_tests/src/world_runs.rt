@@ -1,5 +1,4 @@
 //! Rows of worlds: posts that travel through a relay; refusals; what is kept and what is dropped; parts in any order; a gathering.
-use crate::contexts::{On, WORLD};
 use crate::looks::NodeLook;
 use crate::world_acts::{WorldAct, WorldTold};
 use crate::world_rows::{WorldRow, run};
@@ -7,6 +6,7 @@ use mpx_board::PruneError;
 use mpx_num::Ops;
 use mpx_post::PostError;
 use std::test::Fail;
+use test_drafts::contexts::{On, WORLD};
 
 const RELAY: &[WorldRow] = &[
     WorldRow::Does(0, WorldAct::Post(1), WorldTold::Posted(0)),

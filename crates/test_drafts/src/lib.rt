@@ -2,6 +2,8 @@
 //! quickly: each exit of a function walks the drop of all that it owns.
 #![tactic(auto)]
 
+pub mod contexts;
+
 use join_core::OutOfMemory;
 use mpx_birth::Birth;
 use mpx_group::Proc;

@@ -10,7 +10,7 @@ use Rattle.mpx_script.specs.Faults.{error_text}
 use Rattle.mpx_script.specs.Reading.{reading}
 use Rattle.mpx_script.specs.ScriptView.{ScriptView}
 use Rattle.mpx_script.specs.declared.faults.ScriptError.{ScriptError}
-use Rattle.waits.specs.declared.blame.Blamed.{Blamed}
+use Rattle.mpx_explain.specs.declared.blame.Blamed.{Blamed}
 use Rattle.waits.specs.declared.program.Failure.{Failure}
 use Rattle.waits.specs.declared.program.Failure.TheVariants.{Script, Memory, Read, Write}
 use Rattle.waits.specs.ToldLines.{all_told}
@@ -22,7 +22,8 @@ pub record Told (ops : List Operation) (text : List ℕ) (old new : Option (List
   pub read : reading ops text ≡ Ok script
   pub waiting : List WaitingView
   pub complaints : List ComplaintView
-  pub found : AreFindings ops script waiting complaints
+  pub unheard : List ComplaintView
+  pub found : AreFindings ops script waiting complaints unheard
   pub somebody : waits ≡ not (length waiting == 0)
   pub written : Appends old new (all_told text script.statements waiting complaints)
 

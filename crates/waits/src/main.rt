@@ -3,7 +3,6 @@
 //! a fault, its rank, its line, and what the transcript says of it.
 #![tactic(auto)]
 
-mod blame;
 mod complaints;
 mod members;
 mod number_text;
@@ -45,7 +44,7 @@ fn main(rt: HostRuntime) -> ExitCode {
     }
     let alloc = rt.alloc();
     let mut list: Vec<Box<dyn OwnOp + Send + Sync + Drop>> = Vec::new(alloc);
-    let Ok(affine) = Box::new(alloc, Affine { word: "affine" }) else {
+    let Ok(affine) = Box::new(alloc, Affine::of_programs()) else {
         return starved(&rt);
     };
     if list.push(affine).is_err() {

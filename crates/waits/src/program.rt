@@ -3,9 +3,9 @@ ghost use Rattle.std.specs.Prelude.{◌≡◌, OnOk};
 ghost use Rattle.std.specs.Io.KnownBytes.{Appends};
 ghost use Rattle.waits.specs.Program.{AnswersText, IsScriptRefusal, TellsWaits, blamed_text, message, status};
 
-use crate::blame::{Blamed, word_to_blame};
 use crate::told::all_told;
 use mpx_eval::examine;
+use mpx_explain::{Blamed, word_to_blame};
 use mpx_num::{Listing, Ops};
 use mpx_script::{ReadScriptError, ScriptError, read_script};
 use std::alloc::Global;

@@ -15,7 +15,9 @@ use Rattle.mpx_eval.specs.Carrying.{shown}
 use Rattle.mpx_eval.specs.Tables.{table_of}
 use Rattle.mpx_eval.proofs.Going.{written_back}
 use Rattle.mpx_eval.proofs.Reporting.{are_in_start, reached_start}
+use Rattle.mpx_eval.specs.Unheard.{unheard_found}
 use Rattle.mpx_eval.proofs.Complaining.{complaints_same}
+use Rattle.mpx_eval.proofs.Unhearing.{unheard_same}
 use Rattle.mpx_eval.proofs.Waits.{waits_found}
 use Rattle.mpx_eval.proofs.findings.examine.Goals as goal
 
@@ -39,9 +41,13 @@ returns g c =
     let complaints = c.in_ok-complaints.ensures
     ∙ ap (λ (ps : List (Interpreter Table CommunicatorView (Name × ℕ))). complaints_upto (λ p. complaints_found script.statements p (slice_get (map shown ps) p)) c.ranks-count.result) places
     ∙ ap (complaints_upto (λ p. complaints_found script.statements p (slice_get (map shown c.rounds.new.ranks) p))) c.ranks-count.ensures.ranks in
+    let unheard = c.in_ok-unheard.ensures
+    ∙ ap (λ (ps : List (Interpreter Table CommunicatorView (Name × ℕ))). complaints_upto (λ p. unheard_found ops script.statements after p (slice_get (map shown ps) p)) c.ranks-count.result) places
+    ∙ ap (complaints_upto (λ p. unheard_found ops script.statements after p (slice_get (map shown c.rounds.new.ranks) p))) c.ranks-count.ensures.ranks in
     record {
       end = ran.end;
       evaluation = ran.evaluation;
       waiting_are = waits_found ops script (map shown c.rounds.new.ranks) after ran (map waiting_view c.in_ok-waiting.waiting.items) waiting;
       complaints_are = complaints ∙ complaints_same ops script (map shown c.rounds.new.ranks) after ran;
+      unheard_are = unheard ∙ unheard_same ops script (map shown c.rounds.new.ranks) after ran;
     }

@@ -3,8 +3,9 @@ use Rattle.mpx_num.specs.Own.{operation_of}
 use Rattle.mpx_board.specs.Boards.{Look}
 use Rattle.mpx_statement.specs.declared.statement.Statement.{Statement}
 use Rattle.mpx_sim.specs.Shown.{process_of}
+use Rattle.mpx_sim.specs.Turns.{Alone, Moment}
 use Rattle.mpx_sim.specs.Running.{IsUnderWay}
 use Rattle.mpx_sim.proofs.turns.go_round.Given as goal
 
 abbrev pub invariant-loop-p : goal.invariant-loop-p
-invariant-loop-p g l = (script : List (List Statement)) (ranks size : ℕ) (frames : List Look) → l.count ≤ ranks → IsUnderWay (map (λ b. let o = goal.OwnOp-dyn g (b.vtable, b.value) in operation_of (o.word_bytes b.value) (o.fits_type b.value) (o.combination b.value)) l.ops.list.items) script ranks size (map process_of l.fn.processes) frames → IsUnderWay (map (λ b. let o = goal.OwnOp-dyn g (b.vtable, b.value) in operation_of (o.word_bytes b.value) (o.fits_type b.value) (o.combination b.value)) l.ops.list.items) script ranks size (map process_of l.processes) frames
+invariant-loop-p g l = (script : List (List Statement)) (ranks size : ℕ) (begun : Moment) (frames : List Look) → l.count ≤ ranks → IsUnderWay (map (λ b. let o = goal.OwnOp-dyn g (b.vtable, b.value) in operation_of (o.word_bytes b.value) (o.fits_type b.value) (o.combination b.value)) l.ops.list.items) script ranks size begun Alone (map process_of l.fn.processes) frames → IsUnderWay (map (λ b. let o = goal.OwnOp-dyn g (b.vtable, b.value) in operation_of (o.word_bytes b.value) (o.fits_type b.value) (o.combination b.value)) l.ops.list.items) script ranks size begun Alone (map process_of l.processes) frames

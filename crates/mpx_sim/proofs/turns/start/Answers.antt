@@ -23,6 +23,6 @@ loop-me-preserved c =
     }
 
 pub returns : goal.returns
-returns c ops =
+returns c ops first =
     let script = c.args.script.now in
-    run_starts ops script.statements script.ranks (script.ranks + c.args.relays) (map process_of c.loop-me.processes.items) (c.loop-me.invariant.count ∙ omega (arith, c.loop-me-test.false, c.ranks-ranks.ensures.ranks)) (c.loop-me.invariant.each ops)
+    run_starts ops script.statements script.ranks (script.ranks + c.args.relays) first (map process_of c.loop-me.processes.items) (c.loop-me.invariant.count ∙ omega (arith, c.loop-me-test.false, c.ranks-ranks.ensures.ranks)) (c.loop-me.invariant.each ops)

@@ -1,19 +1,21 @@
-use Rattle.std.proofs.Common.{◌≡◌, ◌+◌, ◌∙◌, ap, map, sym, take}
+use Rattle.std.proofs.Common.{◌≡◌, ◌+◌, ◌∙◌, ℕ, List, ap, map, subst, sym, take}
 use Rattle.std.specs.Prelude.{slice_get}
 use Rattle.mpx_bus.specs.Buses.{table_of}
 use Rattle.mpx_meaning.specs.Reports.{transcripts_of, which}
 use Rattle.mpx_system.proofs.Results.{map_taken}
+use Rattle.mpx_threads.specs.declared.worker.Worked.{Worked}
+use Rattle.mpx_threads.specs.Rest.{AreAtRest}
 use Rattle.mpx_threads.specs.Work.{gossip_at, lines_in, waits_at}
-use Rattle.mpx_threads.proofs.Jobs.{gave_up_among}
-use Rattle.mpx_threads.proofs.Reporting.{begins_lent, run_lent, whole_lent}
+use Rattle.mpx_threads.proofs.Jobs.{gave_up_among, if_err}
+use Rattle.mpx_threads.proofs.Reporting.{all_lent, begins_lent, run_lent, whole_lent}
 use Rattle.mpx_threads.proofs.run.run_threads.Goals as goal
 
-pub returns-then-has_given_up-clause-gate : goal.returns-then-has_given_up-clause-gate
-returns-then-has_given_up-clause-gate g c = λ e.
+pub returns-in_err-none_gave_up-clause-gate : goal.returns-in_err-none_gave_up-clause-gate
+returns-in_err-none_gave_up-clause-gate g c =
     let ws = c.in_ok-worked.worked.items in
-    let gave = c.has_given_up.ensures c.if-has_given_up.true in
-    gave_up_among (g.G.Gate.gives_up c.args.gate.now) (c.args.script.now.ranks + c.args.options.now.relays) c.args.options.now.turns ws
-    c.in_ok-worked.ensures.gate c.in_ok-worked.ensures.worked.1.0.count gave.0 (ap (λ xs. gossip_at (slice_get xs gave.0)) (sym c.as_slice.ensures.value) ∙ gave.1)
+    let gave = c.in_err-none_gave_up.ensures.err.1 in
+    if_err c.from_residual-in_err-none_gave_up.result (λ e is. gave_up_among (g.G.Gate.gives_up c.args.gate.now) (c.args.script.now.ranks + c.args.options.now.relays) c.args.options.now.turns ws
+    c.in_ok-worked.ensures.gate c.in_ok-worked.ensures.worked.1.0.count gave.0 (ap (λ xs. gossip_at (slice_get xs gave.0)) (sym c.as_slice.ensures.value) ∙ gave.1))
 
 pub returns-clause-run : goal.returns-clause-run
 returns-clause-run g c =
@@ -21,7 +23,7 @@ returns-clause-run g c =
     let made = c.in_ok-worked.ensures.worked in
     let ws = c.in_ok-worked.worked.items in
     let said = transcripts_of (record { transcripts = c.truncate.new.self; waiting = c.in_ok-waiting.waiting }) in
-    let lines : said ≡ take script.ranks (map lines_in ws) = ap (map _) c.truncate.ensures.items ∙ map_taken _ c.ranks-2.result c.in_ok-transcripts.transcripts.items ∙ ap (take c.ranks-2.result) c.in_ok-transcripts.ensures.lines ∙ ap (λ n. take n (map lines_in ws)) c.ranks-2.ensures.ranks in
+    let lines : said ≡ take script.ranks (map lines_in ws) = ap (map _) c.truncate.ensures.items ∙ map_taken _ c.ranks-3.result c.in_ok-transcripts.transcripts.items ∙ ap (take c.ranks-3.result) c.in_ok-transcripts.ensures.lines ∙ ap (λ n. take n (map lines_in ws)) c.ranks-3.ensures.ranks in
     let waiting : c.in_ok-waiting.waiting.items ≡ which (λ p. waits_at (slice_get ws p)) script.ranks = c.in_ok-waiting.ensures ∙ ap (λ xs. which (λ p. waits_at (slice_get xs p)) c.ranks.result) c.as_slice-2.ensures.value ∙ ap (which (λ p. waits_at (slice_get ws p))) c.ranks.ensures.ranks in
     run_lent _ script c.args.options.now.relays made.0 (table_of c.in_ok-bus.bus) ws made.1.0 made.1.1 c.in_ok-transcripts.ports.items said c.in_ok-waiting.waiting.items c.in_ok-transcripts.ensures.ports lines waiting
 
@@ -31,7 +33,7 @@ returns-clause-begins g c =
     let made = c.in_ok-worked.ensures.worked in
     let ws = c.in_ok-worked.worked.items in
     let said = transcripts_of (record { transcripts = c.truncate.new.self; waiting = c.in_ok-waiting.waiting }) in
-    let lines : said ≡ take script.ranks (map lines_in ws) = ap (map _) c.truncate.ensures.items ∙ map_taken _ c.ranks-2.result c.in_ok-transcripts.transcripts.items ∙ ap (take c.ranks-2.result) c.in_ok-transcripts.ensures.lines ∙ ap (λ n. take n (map lines_in ws)) c.ranks-2.ensures.ranks in
+    let lines : said ≡ take script.ranks (map lines_in ws) = ap (map _) c.truncate.ensures.items ∙ map_taken _ c.ranks-3.result c.in_ok-transcripts.transcripts.items ∙ ap (take c.ranks-3.result) c.in_ok-transcripts.ensures.lines ∙ ap (λ n. take n (map lines_in ws)) c.ranks-3.ensures.ranks in
     let waiting : c.in_ok-waiting.waiting.items ≡ which (λ p. waits_at (slice_get ws p)) script.ranks = c.in_ok-waiting.ensures ∙ ap (λ xs. which (λ p. waits_at (slice_get xs p)) c.ranks.result) c.as_slice-2.ensures.value ∙ ap (which (λ p. waits_at (slice_get ws p))) c.ranks.ensures.ranks in
     begins_lent _ script c.args.options.now.relays made.0 (table_of c.in_ok-bus.bus) ws made.1.0 made.1.1 c.in_ok-transcripts.ports.items said c.in_ok-waiting.waiting.items c.in_ok-transcripts.ensures.ports lines waiting
 
@@ -41,6 +43,17 @@ returns-clause-whole g c =
     let made = c.in_ok-worked.ensures.worked in
     let ws = c.in_ok-worked.worked.items in
     let said = transcripts_of (record { transcripts = c.truncate.new.self; waiting = c.in_ok-waiting.waiting }) in
-    let lines : said ≡ take script.ranks (map lines_in ws) = ap (map _) c.truncate.ensures.items ∙ map_taken _ c.ranks-2.result c.in_ok-transcripts.transcripts.items ∙ ap (take c.ranks-2.result) c.in_ok-transcripts.ensures.lines ∙ ap (λ n. take n (map lines_in ws)) c.ranks-2.ensures.ranks in
+    let lines : said ≡ take script.ranks (map lines_in ws) = ap (map _) c.truncate.ensures.items ∙ map_taken _ c.ranks-3.result c.in_ok-transcripts.transcripts.items ∙ ap (take c.ranks-3.result) c.in_ok-transcripts.ensures.lines ∙ ap (λ n. take n (map lines_in ws)) c.ranks-3.ensures.ranks in
     let waiting : c.in_ok-waiting.waiting.items ≡ which (λ p. waits_at (slice_get ws p)) script.ranks = c.in_ok-waiting.ensures ∙ ap (λ xs. which (λ p. waits_at (slice_get xs p)) c.ranks.result) c.as_slice-2.ensures.value ∙ ap (which (λ p. waits_at (slice_get ws p))) c.ranks.ensures.ranks in
     whole_lent _ script c.args.options.now.relays made.0 (table_of c.in_ok-bus.bus) ws made.1.0 made.1.1 c.in_ok-transcripts.ports.items said c.in_ok-waiting.waiting.items c.in_ok-transcripts.ensures.ports lines waiting
+
+pub returns-clause-rests : goal.returns-clause-rests
+returns-clause-rests g c so evaluation is =
+    let script = c.args.script.now in
+    let made = c.in_ok-worked.ensures.worked in
+    let ws = c.in_ok-worked.worked.items in
+    let said = transcripts_of (record { transcripts = c.truncate.new.self; waiting = c.in_ok-waiting.waiting }) in
+    let lines : said ≡ take script.ranks (map lines_in ws) = ap (map _) c.truncate.ensures.items ∙ map_taken _ c.ranks-3.result c.in_ok-transcripts.transcripts.items ∙ ap (take c.ranks-3.result) c.in_ok-transcripts.ensures.lines ∙ ap (λ n. take n (map lines_in ws)) c.ranks-3.ensures.ranks in
+    let waiting : c.in_ok-waiting.waiting.items ≡ which (λ p. waits_at (slice_get ws p)) script.ranks = c.in_ok-waiting.ensures ∙ ap (λ xs. which (λ p. waits_at (slice_get xs p)) c.ranks.result) c.as_slice-2.ensures.value ∙ ap (which (λ p. waits_at (slice_get ws p))) c.ranks.ensures.ranks in
+    let rest = subst (λ (x : ℕ × List Worked). AreAtRest x.0 x.1) (λ i. (c.ranks-2.ensures.ranks i, c.as_slice-3.ensures.value i)) (c.are_at_rest-rests.ensures so) in
+    all_lent _ script c.args.options.now.relays made.0 (table_of c.in_ok-bus.bus) ws made.1.0 made.1.1 c.in_ok-transcripts.ports.items said c.in_ok-waiting.waiting.items c.in_ok-transcripts.ensures.ports lines waiting rest evaluation is

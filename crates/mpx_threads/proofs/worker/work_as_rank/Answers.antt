@@ -10,5 +10,5 @@ with_port-requires-clause-come g c =
     let carried = c.in_ok-carried.carried in
     let lines = map string_bytes carried.lines.items in
     let posts : carried.poster.share.amount ≡ length (made_in c.into_port-port.result) = omega (arith, c.into_port-port.ensures.posts, c.requires.new.0) in
-    subst (λ n. HasCome script d.setup d.me carried.told n lines carried.waits) posts
-    (subst (λ p. HasCome script d.setup p carried.told carried.poster.share.amount lines carried.waits) c.requires.me.0 c.in_ok-carried.ensures.come)
+    subst (λ n. HasCome script d.setup d.me carried.told n lines carried.waits carried.calls.items) posts
+    (subst (λ p. HasCome script d.setup p carried.told carried.poster.share.amount lines carried.waits carried.calls.items) c.requires.me.0 c.in_ok-carried.ensures.come)

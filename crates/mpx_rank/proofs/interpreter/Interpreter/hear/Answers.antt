@@ -29,5 +29,5 @@ returns-in_ok-bind-in-Told g c =
     let text = string_bytes c.in-Told.text in
     let lines = lines_push string_bytes c.args.self.now.lines.items c.push.new.self.items c.in-Told.text text c.in_ok-push-in-Told.ensures.items refl in
     subst (λ (r : RankView g.row.C-Communicator.Denot). Move terms waiting c.args.carrier.now r c.hear.new.self)
-    (λ i. record { me = old.me; bound = λ word. sym (c.in_ok-bind-in-Told.ensures word) i; requests = old.requests; todo = old.todo; waits = sym c.requires i; lines = sym lines i; origins = sym c.in_ok-push_origins-in-Told.ensures i })
+    (λ i. record { me = old.me; bound = λ word. sym (c.in_ok-bind-in-Told.ensures.bound word) i; requests = old.requests; todo = old.todo; waits = sym c.requires i; lines = sym lines i; origins = sym c.in_ok-push_origins-in-Told.ensures i })
     (hears w heard.0 text c.in-Told.given refl c.in_ok-call.ensures.hears heard.1 heard.2 heard.3)

@@ -25,7 +25,7 @@ returns-in_ok-bind-in-Some g c =
     let tried = subst (λ o. terms.tries c.args.carrier.now old.me posting (communicator_in (old.bound (posted_on posting))) (Ok (option_map place o)) c.post.new.self) c.in-Ok-Some.field-0-is said in
     let open_as : started_as posting ≡ Some word = sym c.request.ensures ∙ ap option_copied c.in-Some.is in
     subst (λ (r : RankView g.row.C-Communicator.Denot). Move terms old c.args.carrier.now r c.post.new.self)
-    (λ i. record { me = old.me; bound = old.bound; requests = λ other. sym (ap (option_map place) (c.in_ok-bind-in-Some.ensures other) ∙ binds_seen place (Some word) c.in-Ok-Some.call (looked_up c.args.self.now.requests) other) i; todo = c.args.rest.now; waits = sym c.requires.waits i; lines = old.lines; origins = old.origins })
+    (λ i. record { me = old.me; bound = old.bound; requests = λ other. sym (ap (option_map place) (c.in_ok-bind-in-Some.ensures.bound other) ∙ binds_seen place (Some word) c.in-Ok-Some.call (looked_up c.args.self.now.requests) other) i; todo = c.args.rest.now; waits = sym c.requires.waits i; lines = old.lines; origins = old.origins })
     (starts posting c.args.rest.now word at.0 at.1 c.requires.waits c.requires.todo open_as tried)
 
 pub returns-in-None : goal.returns-in-None

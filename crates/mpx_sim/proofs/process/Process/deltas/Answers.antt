@@ -6,7 +6,7 @@ use Rattle.mpx_sim.proofs.Running.{keeps_node_acknowledge}
 use Rattle.mpx_sim.proofs.process.Process.deltas.Goals as goal
 
 pub returns-clause-keeps : goal.returns-clause-keeps
-returns-clause-keeps c ops =
+returns-clause-keeps c t ops =
     let old = node_of c.args.self.now.desk.desk.host in
     let says = c.in_ok-made.ensures.own in
-    keeps_node_acknowledge ops says.numbers old (node_of c.framed_deltas.new.self.host) (digest_had says.numbers old.board says.digest) says.learnt (rank_of call_of c.args.self.now.rank)
+    keeps_node_acknowledge t ops says.numbers old (node_of c.framed_deltas.new.self.host) (digest_had says.numbers old.board says.digest) says.learnt (rank_of call_of c.args.self.now.rank)

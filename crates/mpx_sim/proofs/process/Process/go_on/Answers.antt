@@ -13,7 +13,7 @@ returns g c =
     let rank = rank_of call_of c.args.self.now.rank in
     let desk = c.harvest.new.self in
     let mid : ProcessView = record { rank = rank; node = node_of desk.desk.host } in
-    on_if_ok c.go_on.result (λ moved goes. moves_then _ old mid _ (moves_node _ rank old.node mid.node (keeps_harvested _ old.node mid.node c.in_ok-harvest.ensures)) (goes_is _ rank desk (rank_of call_of c.go_on.new.self) c.go_on.new.carrier moved goes)) c.go_on.ensures
+    on_if_ok c.go_on.result (λ moved goes. moves_then _ old mid _ (moves_node _ rank old.node mid.node (keeps_harvested _ old.node mid.node c.in_ok-harvest.ensures)) (goes_is _ rank desk (rank_of call_of c.go_on.new.self) c.go_on.new.carrier moved goes)) c.go_on.ensures.goes
 
 pub go_on-requires : goal.go_on-requires
 go_on-requires g c = λ s d moved ran posting rest waits todo. tt

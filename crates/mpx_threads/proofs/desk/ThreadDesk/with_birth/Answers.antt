@@ -14,7 +14,7 @@ returns g c =
     let o = c.args.outcome in
     elim c.match-outcome.branch [
       | in-NewComm+in_ok-birth-in-NewComm+in-Some w ↦
-          let tells = subst (TellsBirth d.table d.setup d.me d.opening w.in-NewComm.name) w.in-Some.is w.in_ok-birth-in-NewComm.ensures in
+          let tells = subst (TellsBirth d.table d.setup d.me d.opening w.in-NewComm.name) w.in-Some.is w.in_ok-birth-in-NewComm.ensures.then in
           let born = born_so d.table d.setup d.me c.self.invariant.0 w.in-NewComm.name w.in-Some.birth tells in
           subst (λ b. answer_of (record { outcome = o; born = b }) ≡ answer_with births o) (sym w.born-is) (comm_so d.setup o w.in-NewComm.name w.in-NewComm.size w.in-NewComm.rank w.in-Some.birth w.in-NewComm.is born)
       | in-Nothing w ↦ none_so d.setup o c.match-outcome.born w.born-is (ap (born_by births) w.in-Nothing.is)

@@ -1,0 +1,248 @@
+//! Which word of a refused line is to blame, found by trials of the line with other words. Nothing is claimed of it.
+use join_core::OutOfMemory;
+use mpx_num::Ops;
+use mpx_script::{ReadScriptError, ScriptError, ScriptFault, read_script};
+use std::alloc::Global;
+
+/// A word of a line, and its place in it, from 1 on.
+#[derive(Debug, Drop)]
+pub struct Blamed {
+    pub place: usize,
+    pub word: String,
+}
+
+// What is changed of a line's words, whose places are counted from 0 on.
+#[derive(Clone, Copy, Drop)]
+enum Change {
+    /// So many words are left.
+    Cut(usize),
+    /// Another word at this place.
+    One(usize, &'static str),
+    /// A number at this place and in each one behind it, but for operations and types.
+    Numbers(usize),
+    /// A number at this place and in each one behind it up to an arrow, but for operations and types.
+    NumbersToArrow(usize),
+}
+
+// In a line of more words than these none is to blame.
+const MOST_WORDS: usize = 64;
+
+// Behind a text of more bytes than these no word is tried that has to be bound there, since each trial reads that text.
+const MOST_BEFORE: usize = 65_536;
+
+/// The word that is to blame for a script's refusal, where it can be told: in a line of at most 64 words.
+pub fn word_to_blame(
+    alloc: Global,
+    text: &[u8],
+    refusal: ScriptError,
+    ops: &Ops,
+) -> Result<Option<Blamed>, OutOfMemory> {
+    let Ok(text) = str::from_utf8(text) else {
+        return Ok(None);
+    };
+    let (before, line) = line_of(text, refusal.line);
+    let mut words = Vec::new(alloc);
+    for word in line.split_whitespace() {
+        if words.len() == MOST_WORDS {
+            return Ok(None);
+        }
+        words.push(word)?;
+    }
+    let Some(place) = place_of(alloc, before, &words, refusal.what, ops)? else {
+        return Ok(None);
+    };
+    match words.get(place) {
+        Some(word) => Ok(Some(Blamed {
+            place: place.saturating_add(1),
+            word: String::from_str(alloc, word)?,
+        })),
+        None => Ok(None),
+    }
+}
+
+// The line with this number, from 1 on, and the text before it.
+fn line_of(text: &str, number: u32) -> (&str, &str) {
+    let mut rest = text;
+    let mut before = 0usize;
+    for _ in 1..number {
+        let Some((line, behind)) = rest.split_once('\n') else {
+            return (text, "");
+        };
+        before = before.saturating_add(line.len()).saturating_add(1);
+        rest = behind;
+    }
+    let line = match rest.split_once('\n') {
+        Some((line, _)) => line,
+        None => rest,
+    };
+    (text.get(..before).unwrap_or(""), line)
+}
+
+// The place of the word that is to blame, from 0 on.
+fn place_of(
+    alloc: Global,
+    before: &str,
+    words: &[&str],
+    what: ScriptFault,
+    ops: &Ops,
+) -> Result<Option<usize>, OutOfMemory> {
+    match what {
+        ScriptFault::NotAscii | ScriptFault::TooLarge | ScriptFault::NoRanksLine => Ok(None),
+        ScriptFault::RanksOutOfRange => Ok(Some(1)),
+        ScriptFault::RankOutOfRange => Ok(Some(0)),
+        ScriptFault::UnknownStatement => unknown(alloc, words, ops),
+        ScriptFault::WrongWords => surplus(alloc, words, ops),
+        ScriptFault::BadNumber => strange_number(alloc, words, ops),
+        ScriptFault::BadList => strange(alloc, words, "-", ops),
+        ScriptFault::BadName => strange(alloc, words, "world", ops),
+        ScriptFault::NameUnknown if before.len() > MOST_BEFORE => Ok(None),
+        ScriptFault::NameUnknown => unbound(alloc, before, words, ops),
+        ScriptFault::NameTaken => Ok(words.len().checked_sub(1)),
+    }
+}
+
+// The line's beginning is no label, or the first word that makes it an unknown statement.
+fn unknown(alloc: Global, words: &[&str], ops: &Ops) -> Result<Option<usize>, OutOfMemory> {
+    let Some(label) = words.first() else {
+        return Ok(None);
+    };
+    let known = [*label, "barrier", "world"];
+    if fault_of(alloc, RANKS, &known, Change::Cut(3), ops)? == Some(ScriptFault::UnknownStatement) {
+        return Ok(Some(0));
+    }
+    for place in 1..words.len() {
+        let told = fault_of(
+            alloc,
+            RANKS,
+            words,
+            Change::Cut(place.saturating_add(1)),
+            ops,
+        )?;
+        if told == Some(ScriptFault::UnknownStatement) {
+            return Ok(Some(place));
+        }
+    }
+    Ok(None)
+}
+
+// The first word behind those that a statement has, or one where an arrow belongs.
+fn surplus(alloc: Global, words: &[&str], ops: &Ops) -> Result<Option<usize>, OutOfMemory> {
+    for place in 3..words.len() {
+        let told = fault_of(alloc, RANKS, words, Change::Cut(place), ops)?;
+        if told != Some(ScriptFault::WrongWords) {
+            return Ok(Some(place));
+        }
+    }
+    strange(alloc, words, "->", ops)
+}
+
+// The first word that is no number, though one stands there: the last one such that with numbers there and behind it none is to blame.
+fn strange_number(alloc: Global, words: &[&str], ops: &Ops) -> Result<Option<usize>, OutOfMemory> {
+    let mut found = None;
+    let mut found_to_arrow = None;
+    for place in 2..words.len() {
+        let told = fault_of(alloc, RANKS, words, Change::Numbers(place), ops)?;
+        if told != Some(ScriptFault::BadNumber) {
+            found = Some(place);
+        }
+        let told = fault_of(alloc, RANKS, words, Change::NumbersToArrow(place), ops)?;
+        if told != Some(ScriptFault::BadNumber) {
+            found_to_arrow = Some(place);
+        }
+    }
+    Ok(found_to_arrow.or(found))
+}
+
+// The first word in whose place another one leaves nothing to refuse, but for names that a line alone can't tell of.
+fn strange(
+    alloc: Global,
+    words: &[&str],
+    other: &'static str,
+    ops: &Ops,
+) -> Result<Option<usize>, OutOfMemory> {
+    for place in 2..words.len() {
+        match fault_of(alloc, RANKS, words, Change::One(place, other), ops)? {
+            None | Some(ScriptFault::NameUnknown) | Some(ScriptFault::NameTaken) => {
+                return Ok(Some(place));
+            }
+            Some(_) => {}
+        }
+    }
+    Ok(None)
+}
+
+// The first word that is bound to nothing: a request of a wait, else a communicator.
+fn unbound(
+    alloc: Global,
+    before: &str,
+    words: &[&str],
+    ops: &Ops,
+) -> Result<Option<usize>, OutOfMemory> {
+    let [label, statement, ..] = words else {
+        return Ok(None);
+    };
+    let waits = *statement == "wait" || *statement == "waitall";
+    let asks = if waits { "wait" } else { "barrier" };
+    for place in 2..words.len() {
+        let tried = [*label, asks, words[place]];
+        let told = fault_of(alloc, before, &tried, Change::Cut(3), ops)?;
+        if told == Some(ScriptFault::NameUnknown) {
+            return Ok(Some(place));
+        }
+    }
+    Ok(None)
+}
+
+// Before a line that is tried alone.
+const RANKS: &str = "ranks 64\n";
+
+// What a line of changed words is refused for behind such lines.
+fn fault_of(
+    alloc: Global,
+    before: &str,
+    words: &[&str],
+    change: Change,
+    ops: &Ops,
+) -> Result<Option<ScriptFault>, OutOfMemory> {
+    let text = tried(alloc, before, words, change, ops)?;
+    match read_script(alloc, text.as_bytes(), ops) {
+        Ok(_) => Ok(None),
+        Err(ReadScriptError::Refused(refusal)) => Ok(Some(refusal.what)),
+        Err(ReadScriptError::OutOfMemory) => Err(OutOfMemory),
+    }
+}
+
+// Whether the word is an operation, one of the job's own too, or a type.
+fn is_named(word: &str, ops: &Ops) -> bool {
+    NAMED.contains(&word) || ops.place_named(word.as_bytes()).is_some()
+}
+
+const NAMED: [&str; 21] = [
+    "max", "min", "sum", "prod", "land", "lor", "lxor", "band", "bor", "bxor", "maxloc", "minloc",
+    "i8", "i16", "i32", "i64", "u8", "u16", "u32", "u64", "2int",
+];
+
+fn tried(
+    alloc: Global,
+    before: &str,
+    words: &[&str],
+    change: Change,
+    ops: &Ops,
+) -> Result<String, OutOfMemory> {
+    let mut text = String::from_str(alloc, before)?;
+    let mut is_behind_arrow = false;
+    for (place, word) in words.iter().enumerate() {
+        is_behind_arrow |= *word == "->";
+        let word = match change {
+            Change::Cut(count) if place >= count => "",
+            Change::One(at, other) if place == at => other,
+            Change::Numbers(from) if place >= from && !is_named(word, ops) => "0",
+            Change::NumbersToArrow(from)
+                if place >= from && !is_behind_arrow && !is_named(word, ops) => "0",
+            _ => *word,
+        };
+        text.push_str(word)?;
+        text.push_str(" ")?;
+    }
+    Ok(text)
+}

@@ -1,0 +1,167 @@
+//! The word of scripts that another one was meant to be, perhaps.
+
+use join_core::OutOfMemory;
+use std::alloc::Global;
+
+// The words of calls that have a nonblocking form, with `i` before them.
+const BOTH: [&str; 20] = [
+    "barrier",
+    "bcast",
+    "gather",
+    "gatherv",
+    "scatter",
+    "scatterv",
+    "allgather",
+    "allgatherv",
+    "alltoall",
+    "alltoallv",
+    "reduce",
+    "allreduce",
+    "scan",
+    "exscan",
+    "reduce_scatter_block",
+    "reduce_scatter",
+    "neighbor_allgather",
+    "neighbor_allgatherv",
+    "neighbor_alltoall",
+    "neighbor_alltoallv",
+];
+
+// The others: statements, operations and types.
+const OTHERS: [&str; 34] = [
+    "dup",
+    "split",
+    "create",
+    "create_group",
+    "dist_graph",
+    "dist_graph_adjacent",
+    "wait",
+    "waitall",
+    "sources",
+    "destinations",
+    "compare",
+    "translate",
+    "free",
+    "max",
+    "min",
+    "sum",
+    "prod",
+    "land",
+    "lor",
+    "lxor",
+    "band",
+    "bor",
+    "bxor",
+    "maxloc",
+    "minloc",
+    "i8",
+    "i16",
+    "i32",
+    "i64",
+    "u8",
+    "u16",
+    "u32",
+    "u64",
+    "2int",
+];
+
+/// The word that this one was meant to be, perhaps: the same one in small letters and without MPI's prefixes, or one from which one
+/// letter more, less or other, or two letters in another order, tell it apart.
+pub(crate) fn meant(alloc: Global, word: &str) -> Result<Option<String>, OutOfMemory> {
+    let small = in_small_letters(alloc, word)?;
+    let bare = without_prefix(small.as_str());
+    if is_floating(bare) {
+        return Ok(None);
+    }
+    if let Some(known) = known_as(bare) {
+        return where_other(alloc, word, known);
+    }
+    let Some(rest) = bare.strip_prefix("i") else {
+        return Ok(None);
+    };
+    match among(&BOTH, rest) {
+        Some(known) => {
+            let found = format!(in alloc; "i{known}")?;
+            where_other(alloc, word, found.as_str())
+        }
+        None => Ok(None),
+    }
+}
+
+// The known word, where it isn't the word itself.
+fn where_other(alloc: Global, word: &str, known: &str) -> Result<Option<String>, OutOfMemory> {
+    if word == known {
+        return Ok(None);
+    }
+    Ok(Some(String::from_str(alloc, known)?))
+}
+
+// Whether the word is a floating type, of which scripts have none.
+fn is_floating(word: &str) -> bool {
+    word.starts_with("f1")
+        || word.starts_with("f3")
+        || word.starts_with("f6")
+        || word.starts_with("float")
+}
+
+fn in_small_letters(alloc: Global, word: &str) -> Result<String, OutOfMemory> {
+    let mut small = String::new(alloc);
+    for letter in word.chars() {
+        small.push(letter.to_ascii_lowercase())?;
+    }
+    Ok(small)
+}
+
+fn without_prefix(word: &str) -> &str {
+    let word = word.strip_prefix("mpi_").unwrap_or(word);
+    word.strip_prefix("comm_").unwrap_or(word)
+}
+
+// The word of a program's type, or a word of scripts.
+fn known_as(word: &str) -> Option<&'static str> {
+    match word {
+        "int" => Some("i32"),
+        "long" => Some("i64"),
+        "short" => Some("i16"),
+        "unsigned" => Some("u32"),
+        "byte" => Some("u8"),
+        "char" => Some("i8"),
+        _ => among(&BOTH, word).or(among(&OTHERS, word)),
+    }
+}
+
+// The word itself, where it is among these, else one that is near.
+fn among(words: &[&'static str], word: &str) -> Option<&'static str> {
+    let mut found = None;
+    for known in words {
+        if *known == word {
+            return Some(known);
+        }
+        if found.is_none() && is_near(word.as_bytes(), known.as_bytes()) {
+            found = Some(*known);
+        }
+    }
+    found
+}
+
+// Whether one letter more, less or other tells the words apart, or two letters beside each other in another order.
+fn is_near(word: &[u8], known: &[u8]) -> bool {
+    if word.len() < 3 || known.len() < 3 {
+        return false;
+    }
+    let same = word.iter().zip(known).take_while(|(a, b)| a == b).count();
+    let word = word.get(same..).unwrap_or(&[]);
+    let known = known.get(same..).unwrap_or(&[]);
+    let same = word
+        .iter()
+        .rev()
+        .zip(known.iter().rev())
+        .take_while(|(a, b)| a == b)
+        .count();
+    let more = word.len().saturating_sub(same);
+    let fewer = known.len().saturating_sub(same);
+    if more <= 1 && fewer <= 1 {
+        return true;
+    }
+    more == 2 && fewer == 2 && word.first() == known.get(1) && word.get(1) == known.first()
+}

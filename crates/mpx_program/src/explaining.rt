@@ -1,0 +1,54 @@
+//! What `--explain` tells beside why a run ended.
+ghost use Rattle.std.specs.Prelude.{◌≡◌, [], false};
+
+use join_core::OutOfMemory;
+use mpx_eval::{certain_refusals, examine};
+use mpx_explain::{explain_calls, explain_refusals};
+use mpx_num::Ops;
+use mpx_run::Command;
+use mpx_script::{ReadScriptError, Script, read_script};
+use mpx_words::Call;
+use std::alloc::Global;
+
+/// Further lines, where `--explain` is asked for: of a refused script its refused lines, else its calls that are refused or are
+/// faults. Where memory is wanting, fewer lines.
+pub(crate) fn explained(alloc: Global, call: &Call, text: &[u8], ops: &Ops) -> Vec<u8>
+    ensures { call.now.flags.explain ≡ false → result.items ≡ [] }
+{
+    let mut told = Vec::new(alloc);
+    if call.flags.explain {
+        let _ = push_explained(alloc, call.job.command, text, ops, &mut told);
+    }
+    told
+}
+
+fn push_explained(
+    alloc: Global,
+    command: Command,
+    text: &[u8],
+    ops: &Ops,
+    told: &mut Vec<u8>,
+) -> Result<(), OutOfMemory> {
+    match read_script(alloc, text, ops) {
+        Ok(script) => push_calls(alloc, command, text, &script, ops, told),
+        Err(ReadScriptError::Refused(_)) => explain_refusals(alloc, text, ops, told),
+        Err(ReadScriptError::OutOfMemory) => Err(OutOfMemory),
+    }
+}
+
+fn push_calls(
+    alloc: Global,
+    command: Command,
+    text: &[u8],
+    script: &Script,
+    ops: &Ops,
+    told: &mut Vec<u8>,
+) -> Result<(), OutOfMemory> {
+    if command == Command::Check {
+        let found = certain_refusals(alloc, script, ops)?;
+        return explain_calls(alloc, text, script, &found, false, told);
+    }
+    let found = examine(alloc, script, ops)?;
+    explain_calls(alloc, text, script, &found.complaints, false, told)?;
+    explain_calls(alloc, text, script, &found.unheard, true, told)
+}

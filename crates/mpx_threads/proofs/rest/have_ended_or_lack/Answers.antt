@@ -1,0 +1,16 @@
+use Rattle.std.proofs.Common.{◌≡◌, ◌∙◌, Some, ap, arith, inl, inr, subst, sym}
+use Rattle.std.specs.Prelude.{slice_get}
+use Rattle.std.proofs.lemmas.Bool.{cases_eq}
+use Rattle.std.proofs.lemmas.Option.{same_Some}
+use Rattle.mpx_threads.specs.Rest.{HasEndedOrLacks}
+use Rattle.mpx_threads.proofs.Jobs.{read_at}
+use Rattle.mpx_threads.proofs.rest.have_ended_or_lack.Goals as goal
+
+pub loop-p-preserved : goal.loop-p-preserved
+loop-p-preserved c q w l e =
+    let xs = c.args.worked.now in
+    let here : slice_get xs c.loop-p.p ≡ Some c.index-worked-p.result = read_at xs c.loop-p.p c.index-worked-p.result (omega arith) c.index-worked-p.is in
+    elim (cases_eq q c.loop-p.p) [
+      | inl same ↦ subst HasEndedOrLacks (same_Some c.index-worked-p.result w (sym here ∙ ap (slice_get xs) (sym same) ∙ e)) (c.has_ended_or_lacks.ensures c.if-not-has_ended_or_lacks.false)
+      | inr other ↦ c.loop-p.invariant q w (omega (arith, l, other)) e
+    ]

@@ -1,0 +1,14 @@
+//! A simulated run as it goes, told line by line or as a table: who looks on at a run by [`Trace`] or [`Table`] writes what happens, and
+//! by [`Progress`](mpx_sim::Progress) alone how far the run is.
+//!
+//! In the order of reading: [`Trace`], a line an event; [`Table`], a row a turn. What a board holds is told by
+//! `holding.rt`. What fails on the writer is let go: a run goes on as if nobody looked on.
+#![tactic(auto)]
+
+mod holding;
+mod news;
+mod table;
+mod trace;
+
+pub use table::Table;
+pub use trace::Trace;

@@ -1,0 +1,79 @@
+//! A simulated run, a line an event.
+
+use crate::holding::push_held;
+use crate::news::News;
+use mpx_node::Node;
+use mpx_sim::{FrameSeen, Observer, Progress};
+use std::alloc::Global;
+use std::io::{self, Write};
+
+/// Tells each event of a simulated run in a line: `turn T: F -> D sent N bytes` where a frame goes out that comes in this turn, or `lost` in
+/// place of `sent`; `turn T: F -> D taken: D has CALLS` where one comes for the first time, or `again`, with what the process then
+/// holds; and `turn T: rank R result LINE` for each new line of a rank.
+#[derive(Drop)]
+pub struct Trace<W: Write> {
+    alloc: Global,
+    out: W,
+    news: News,
+}
+
+impl<W: Write> Trace<W> {
+    pub fn new(alloc: Global, out: W) -> Trace<W> {
+        Trace {
+            alloc,
+            out,
+            news: News::new(),
+        }
+    }
+
+    /// Gives the writer back.
+    pub fn into_writer(self) -> W {
+        self.out
+    }
+
+    fn tell_sent(&mut self, frame: FrameSeen, lost: bool) -> io::Result<()> {
+        let what = if lost { "lost" } else { "sent" };
+        let (turn, from, to, bytes) = (frame.turn, frame.from, frame.to, frame.bytes);
+        let mut line = Vec::new(self.alloc);
+        writeln!(line, "turn {turn}: {from} -> {to} {what} {bytes} bytes")?;
+        self.out.write_all(&line)
+    }
+
+    fn tell_taken(&mut self, frame: FrameSeen, again: bool, node: &Node) -> io::Result<()> {
+        let what = if again { "again" } else { "taken" };
+        let (turn, from, to) = (frame.turn, frame.from, frame.to);
+        let mut line = Vec::new(self.alloc);
+        write!(line, "turn {turn}: {from} -> {to} {what}: {to} has ")?;
+        push_held(node.board(), &mut line)?;
+        line.extend_from_slice(b"\n")?;
+        self.out.write_all(&line)
+    }
+
+    fn tell_line(&mut self, turn: u32, rank: u8, line: &str) -> io::Result<()> {
+        let mut text = Vec::new(self.alloc);
+        writeln!(text, "turn {turn}: rank {rank} result {line}")?;
+        self.out.write_all(&text)
+    }
+}
+
+impl<W: Write + Drop> Observer for Trace<W> {
+    fn turn(&mut self, _number: u32, _progress: Progress) {}
+
+    fn sent(&mut self, frame: FrameSeen, lost: bool) {
+        let _ = self.tell_sent(frame, lost);
+    }
+
+    fn taken(&mut self, frame: FrameSeen, again: bool, node: &Node) {
+        let _ = self.tell_taken(frame, again, node);
+    }
+
+    fn told(&mut self, turn: u32, rank: u8, lines: &[String]) {
+        for line in self.news.of(rank, lines) {
+            let _ = self.tell_line(turn, rank, line.as_str());
+        }
+    }
+
+    fn over(&mut self) {
+        let _ = self.out.flush();
+    }
+}

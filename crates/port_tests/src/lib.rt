@@ -1,0 +1,24 @@
+//! Tests of ports on a bus, and of shared ports, with values from outside. They stand in a crate of their own, so that the crates
+//! below are proved once. Functions with many exits own no port, since each exit of a function walks the drop of all that it owns.
+#![tactic(auto)]
+
+#[cfg(test)]
+mod fleets;
+#[cfg(test)]
+mod port_fleets;
+#[cfg(test)]
+mod port_pairs;
+#[cfg(test)]
+mod port_rooms;
+#[cfg(test)]
+mod port_threads;
+#[cfg(test)]
+mod ports;
+#[cfg(test)]
+mod shared_alone;
+#[cfg(test)]
+mod shared_pairs;
+#[cfg(test)]
+mod shared_ports;
+#[cfg(test)]
+mod shared_threads;
