@@ -1,9 +1,9 @@
 #!/usr/bin/env python3
-"""Draws what README shows of a run: which ranks' posts each process holds after each turn, of one call of all ranks, and when each
-rank has its line. The draws are those of crates/mpx_sim/src/schedule.rt, told a second time here; with the built program's path as
+"""Draws a run of three ranks: which ranks' posts each process holds after each turn, of one call of all ranks, and when each
+rank has its line, as `run --table` tells it. The draws are those of crates/mpx_sim/src/schedule.rt, told a second time here; with the built program's path as
 the first word the turns at which ranks get on are held against runs of it, for 200 seeds.
 
-gossip.py [PROGRAM]                      the table of README
+gossip.py [PROGRAM]                      with seed 27 and a loss of 40
 gossip.py [PROGRAM] SEED LOSS RELAYS     another one, of three ranks
 """
 import subprocess

@@ -3,7 +3,8 @@
 
     bench/places.py
 
-Each file of src/ and specs/ is to be named in the section "Files" of its crate's page, as `src/turns.rt`, and each that is named there is to be there.
+Each file of src/ and specs/ is to be named in the section "Files" of its crate's page, as `src/turns.rt`, and each that is named there is to be there. Where a
+page has no such table, each of these files begins with a comment that says what it holds, but for the lists of modules (`lib.rt` has its own, `Lib.antt` none).
 Each crate of crates.txt is to have a page, and a row in the map's table with a link to it, and no other has one. Links from one document to another are to lead
 to a file that is there, and to a heading where they name one."""
 import pathlib
@@ -25,6 +26,13 @@ def named(page):
     """The files that a page names in its section "Files"."""
     section = page.read_text().partition("\n## Files\n")[2].partition("\n## ")[0]
     return set(re.findall(r"`((?:src|specs)/[\w/]+\.(?:rt|antt))`", section))
+
+
+def silent(crate, files):
+    """Those of a crate's files that don't begin with a comment. A list of modules needs none."""
+    for file in files:
+        if not file.endswith("Lib.antt") and not (CRATES / crate / file).read_text().startswith(("//", "--")):
+            yield file
 
 
 def present(crate):
@@ -62,7 +70,10 @@ def main():
     for crate in sorted(folders):
         told, there = named(CRATES / crate / "README.md"), present(crate)
         count += len(there)
-        faults += [f"{crate}/{file} isn't named" for file in sorted(there - told)]
+        if "\n| `src/" in (CRATES / crate / "README.md").read_text().partition("\n## Files\n")[2]:
+            faults += [f"{crate}/{file} isn't named" for file in sorted(there - told)]
+        else:
+            faults += [f"{crate}/{file} doesn't say what it holds" for file in silent(crate, sorted(there))]
         faults += [f"{crate}/{file} isn't there" for file in sorted(told - there)]
     for file in sorted([*ROOT.glob("*.md"), *(page for folder in ("docs", "bench", "crates", "record", "open") for page in (ROOT / folder).rglob("*.md"))]):
         faults += [f"{file.relative_to(ROOT)}: {target} leads nowhere" for target in lost_links(file)]

@@ -4,9 +4,10 @@
 Each examples/NAME.job with its NAME.out is to be a row of `run` and one of `eval`. Of `check`, `eval` and `run` the second opinion
 tells what a row prints on both streams, and the status. A run with options that ends early prints a beginning of each rank's
 lines, and has status 3. Texts of usage, and calls with more than 64 processes, are known to the program alone, and so are
-words that are no call (`statements`, `reader 5 run`). Scripts that are made of pieces (`>*`) would take it minutes. The last line of all
-tells how many runs were made in threads too, the first of each script that ends well, and how many after an evaluation that ends well
-before any run, where the script is no longer than 2,000 bytes.
+words that are no call (`statements`, `reader 5 run`), and what `--strict`, `--explain`, `--trace` and `--table` tell beside. Scripts that are made
+of pieces (`>*`) would take it minutes. The last line of all tells how many runs were made in threads too, the first of each script that ends
+well and that nobody is shown, and how many after an evaluation that ends well before any run and isn't explained, where the script is no longer
+than 2,000 bytes.
 
 rows.py     prints what disagrees, and how many rows were held; exit status 1 if any disagrees. No gate runs it.
 """
@@ -16,6 +17,8 @@ import sys
 sys.dont_write_bytecode = True
 import reference
 
+# Options that tell more than the second opinion knows of.
+BESIDE = {"--strict", "--explain", "--trace", "--table"}
 TOP = os.path.join(os.path.dirname(os.path.abspath(__file__)), "..")
 
 
@@ -93,9 +96,9 @@ def more_runs(asked, told):
             is_threaded = is_run = False
         if status != 0:
             continue
-        if words[1:2] == [b"run"] and b"--threads" not in words and not is_threaded:
+        if words[1:2] == [b"run"] and not {b"--threads", b"--trace", b"--table"} & {*words} and not is_threaded:
             threaded, is_threaded, is_run = threaded + 1, True, True
-        elif words[1:2] == [b"eval"] and not is_run and len(script) <= 2000:
+        elif words[1:2] == [b"eval"] and b"--explain" not in words and not is_run and len(script) <= 2000:
             simulated, is_run = simulated + 1, True
     return threaded, simulated
 
@@ -103,7 +106,7 @@ def more_runs(asked, told):
 def is_held(words, script, told, opinions):
     """Whether the row is as the second opinion says; None where that says nothing."""
     text, status = told
-    if not words or words[0] not in ("run", "eval", "check") or status == 1:
+    if not words or words[0] not in ("run", "eval", "check") or status == 1 or BESIDE & {*words}:
         return None
     if (words[0] == "check", script) not in opinions:
         opinions[words[0] == "check", script] = (reference.checked if words[0] == "check" else reference.answer)(script)

@@ -1,32 +1,45 @@
 #!/usr/bin/env python3
-"""Counts the lines of definitions that a contract stands on: what a reader has to trust, besides the library's own.
+"""Counts, and prints, the definitions that a promise stands on: what a reader has to trust, besides the library's own.
 
-    bench/trusted.py                     the promises of README: the headline's, and what is printed
-    bench/trusted.py CRATE FUNCTION..    these functions of a crate
-    bench/trusted.py -v ..               with the lines of each file
+    bench/trusted.py                        the promises of README, those of the table PROMISES below
+    bench/trusted.py NAME..                 what these say together: a promise of the table, as "boards and worlds", or a public function
+    bench/trusted.py --text NAME..          its definitions as one text, in order of use: each behind the first that names it
+    bench/trusted.py -v ..                  with the lines of each file
 
-It follows names: from a function's clauses to the definitions that they name, in `specs/` of any crate, to the types of `src/` that
-these name, and so on. What counts are lines with something in them, without comments and without `use`. What only the crates of threads lead
-to is counted apart."""
+A function is named as FUNCTION, or CRATE::FILE::FUNCTION where several are called so; FUNCTION.CLAUSE is one clause of it, as `run_job.done`.
+
+It follows names: from the clauses to the definitions that they name, in `specs/` of any crate, to the types of `src/` that these name, and so on.
+Words inside texts are no names, nor are fields: the record that a field belongs to is named by the type of what has it. Lines count that have
+something in them, without comments and without `use`. An equality test is not entered where a lemma of `specs/`, which the prover has checked, says
+that it is true of equal values alone: its signature counts, and the text names the lemma. What only the crates of threads lead to is counted apart."""
 import collections
 import pathlib
 import re
 import sys
 
 ROOT = pathlib.Path(__file__).resolve().parent.parent / "crates"
-WORD = re.compile(r"[^\W\d][\w'-]*(?:\.[^\W\d][\w'-]*)*")
+WORD = re.compile(r"(?<![\w'.-])[^\W\d][\w'-]*(?:\.[^\W\d][\w'-]*)*")
+# What stands in a definition and names no other: texts, comments, and fields, where a record is made and where it is declared.
+NO_NAMES = re.compile(r' --.*$|"(?:[^"\\]|\\.)*"|(?<=[{;] )[\w\'-]+(?= =)|^ +(?:pub )?[\w\'-]+(?= : )', re.M)
+# README's first promises: a rank's lines are a beginning of what the evaluation gives it, and these where all ranks finish.
+HEADLINE = ["every_run_begins_the_evaluation.lines", "every_run_begins_the_evaluation.whole"]
+HEADLINE += ["run_sim.begins", "run_sim.whole", "run_threads.begins", "run_threads.whole"]
 PROMISES = {
-    "the headline": [
-        ("mpx_board", ["joining_boards_is_a_semilattice"]),
-        ("mpx_world", ["every_world_is_sound", "completed_results_are_permanent", "processes_agree_at_any_time"]),
-    ],
-    "what is printed": [("mpx_program", ["run_job"]), ("mpx_system", ["every_run_begins_the_evaluation"])],
+    "the headline": HEADLINE,
+    "every run": ["every_run_begins_the_evaluation"],
+    "boards and worlds": ["joining_boards_is_a_semilattice", "every_world_is_sound", "completed_results_are_permanent", "processes_agree_at_any_time"],
+    "what is printed": ["run_job", "every_run_begins_the_evaluation"],
 }
 THREADS = {"mpx_bus", "mpx_shared", "mpx_threads"}
+# A lemma that decides an equality test, and the test's name in it.
+LEMMAS = [
+    re.compile(r"^(?:pub )?([\w'-]+) : IsEquality ([\w'-]+)$"),
+    re.compile(r"^(?:pub )?([\w'-]+) : \((\w+) (\w+) : [^()]+\) → Decides \((?P<test>[\w'-]+) \2 \3\) \(\2 ≡ \3\)$"),
+]
 
-
-def without_comments(text, mark):
-    return [line for line in text.splitlines() if line.strip() and not line.strip().startswith(mark)]
+# One definition: a file and a name there, the lines that count, the comments and the module's parameters that go with them, and, where a lemma
+# decides it, that lemma's name and file.
+Definition = collections.namedtuple("Definition", "file name lines above lemma")
 
 
 def imports(text):
@@ -41,128 +54,203 @@ def imports(text):
     return found
 
 
-class Definitions:
-    """The definitions of a file of specs, by name: their lines, and the name of what a constructor or a field belongs to."""
+class Specs:
+    """A file of specs: of each definition its lines, its comment, and its module's parameters; and whose a constructor is."""
 
-    def __init__(self, text):
+    def __init__(self, file):
+        self.file, text = file, file.read_text()
         self.imports = imports(text)
-        self.lines = collections.defaultdict(list)
-        self.owner = {}
-        # where the definitions of a module begin, behind its blanks
-        current, base = None, 0
+        self.lines, self.above, self.owner, self.lemmas = collections.defaultdict(list), {}, {}, {}
+        current, base, module, comment, is_data = None, 0, [], [], False
         for line in text.splitlines():
-            if not line.strip() or line.strip().startswith("--") or line.startswith("use "):
+            bare = line.strip()
+            if not bare or bare.startswith("use ") or bare.startswith("pub use "):
+                comment = []
+                continue
+            if bare.startswith("--"):
+                comment.append(line)
                 continue
             indent = len(line) - len(line.lstrip())
-            base = min(base, indent)
+            if indent < base:
+                base, module = indent, []
+            if indent == base and bare.startswith("module "):
+                current, base, module, comment = None, indent + 2, [line], []
+                continue
             if indent == base:
-                if line.lstrip().startswith("module "):
-                    current, base = None, indent + 2
-                    continue
-                bare = re.sub(r"^(abbrev|unfoldable|pattern|pub|data|record|\s)*\b(pub |data |record )*", "", line)
-                head = WORD.match(bare)
-                current = head.group(0) if head else current
-            elif current:
-                inner = re.match(r"\s+(?:pub )?([^\W\d][\w'-]*) :", line)
-                if inner:
-                    self.owner.setdefault(inner.group(1), current)
+                head = WORD.match(re.sub(r"^(abbrev|unfoldable|pattern|pub|data|record|\s)*\b(pub |data |record )*", "", line))
+                if head and head.group(0) != current:
+                    current, is_data = head.group(0), re.search(r"\bdata\b", line.partition(" : ")[0]) is not None
+                    self.above.setdefault(current, module + comment)
+                self.note_lemma(bare)
+            elif is_data:
+                constructor = re.match(r"\s+(?:pub )?([^\W\d][\w'-]*) :", line)
+                if constructor:
+                    self.owner.setdefault(constructor.group(1), current)
+            comment = []
             if current:
                 self.lines[current].append(line)
 
-
-def spec(module):
-    """The file of a module of specs: its crate and place."""
-    parts = module.split(".")
-    if len(parts) >= 4 and parts[0] == "Rattle" and parts[2] == "specs" and parts[3] != "declared":
-        file = ROOT / parts[1] / "specs" / ("/".join(parts[3:]) + ".antt")
-        return file if file.exists() else None
-    return None
+    def note_lemma(self, line):
+        for form in LEMMAS:
+            found = form.match(line)
+            if found:
+                self.lemmas.setdefault(found.groupdict().get("test") or found.group(2), found.group(1))
 
 
-def declared(module):
-    """A type of `src/`: its file and its name."""
-    parts = module.split(".")
-    if len(parts) >= 6 and parts[2:4] == ["specs", "declared"]:
+class House:
+    """All files of specs, and the types of `src/`, as they are asked for."""
+
+    def __init__(self):
+        self.files = {file: Specs(file) for file in sorted(ROOT.glob("*/specs/**/*.antt"))}
+        self.lemmas = {}
+        for file, specs in self.files.items():
+            for test, lemma in specs.lemmas.items():
+                home = file if test in specs.lines else self.of_specs(*(specs.imports.get(test) or ("", "")))
+                if home:
+                    self.lemmas.setdefault((home, test), (lemma, file))
+
+    def of_specs(self, module, _):
+        parts = module.split(".")
+        if len(parts) >= 4 and parts[0] == "Rattle" and parts[2] == "specs" and parts[3] != "declared":
+            file = ROOT / parts[1] / "specs" / ("/".join(parts[3:]) + ".antt")
+            return file if file in self.files else None
+        return None
+
+    def found(self, module, name):
+        """The definition that a module's name stands for, with the names that it uses; None where it is the library's."""
+        file = self.of_specs(module, name)
+        if not file:
+            return self.of_source(module)
+        specs = self.files[file]
+        name = name if name in specs.lines else specs.owner.get(name, name)
+        if name not in specs.lines:
+            # handed on by `pub use`
+            path, there = specs.imports.get(name, (None, None))
+            return self.found(path, there) if path and there else None
+        lines, lemma = specs.lines[name], self.lemmas.get((file, name))
+        lines = lines[:1] if lemma else lines
+        used = names_in("\n".join(lines), specs, module)
+        used += [("Rattle.join_core.specs.Laws", "IsEquality")] if lemma else []
+        return Definition(file, name, lines, specs.above[name], lemma), used
+
+    def of_source(self, module):
+        """A type of `src/`, which leads no further."""
+        parts = module.split(".")
+        if len(parts) < 6 or parts[2:4] != ["specs", "declared"]:
+            return None
         names = [part for part in parts[4:] if part != "TheVariants"]
-        for split in range(len(names) - 1, 0, -1):
-            file = ROOT / parts[1] / "src" / ("/".join(names[:split]) + ".rt")
-            if file.exists():
-                return file, names[split]
-        file = ROOT / parts[1] / "src" / "lib.rt"
-        return (file, names[0]) if file.exists() else None
-    return None
+        places = [(ROOT / parts[1] / "src" / ("/".join(names[:split]) + ".rt"), names[split]) for split in range(len(names) - 1, 0, -1)]
+        places.append((ROOT / parts[1] / "src" / "lib.rt", names[0]))
+        file, name = next((it for it in places if it[0].exists()), (None, None))
+        text = re.search(rf"^(?:pub(?:\(crate\))? )?(?:struct|enum) {name}\b.*?(?:;\n|\n\}})", file.read_text(), re.S | re.M) if file else None
+        lines = [line for line in text.group(0).splitlines() if line.strip() and not line.strip().startswith("//")] if text else []
+        return Definition(file, name, lines, [], None), []
 
 
-def type_lines(file, name):
-    text = file.read_text()
-    found = re.search(rf"pub(?:\(crate\))? (?:struct|enum) {name}\b.*?(?:;\n|\n\}})", text, re.S)
-    return without_comments(found.group(0), "//") if found else []
+def names_in(text, specs, module):
+    """Which definitions a text of a file of specs may name, in order."""
+    found = []
+    for word in WORD.findall(NO_NAMES.sub("", text)):
+        first, _, rest = word.partition(".")
+        if first in specs.imports:
+            path, there = specs.imports[first]
+            found.append((path, there or rest))
+        elif first in specs.lines or first in specs.owner:
+            found.append((module, first))
+    return found
 
 
-def clauses(crate, function):
-    """The text of a function's clauses, and what its file brings in."""
-    for file in sorted((ROOT / crate / "src").rglob("*.rt")):
-        text = file.read_text()
-        found = re.search(rf"pub fn {function}\b(.*?)\n(?:    )?\{{", text, re.S)
-        if found:
-            said = found.group(1)
-            return said[said.find("requires") if "requires" in said else said.find("ensures"):], imports(text), file
-    sys.exit(f"{crate} has no public function {function}")
+def clauses(asked):
+    """The clauses of a public function, or the one that is asked for, with its file."""
+    path, _, clause = asked.partition(".")
+    *places, function = path.split("::")
+    found = []
+    for file in sorted(ROOT.glob("*/src/**/*.rt")):
+        where = [file.relative_to(ROOT).parts[0], *file.relative_to(ROOT).with_suffix("").parts[2:]]
+        said = re.search(rf"^ *pub fn {re.escape(function)}\b(.*?)\n(?:    )?\{{", file.read_text(), re.S | re.M)
+        if said and all(it in where for it in places):
+            found.append((file, "::".join([*where, function]), said.group(1)))
+    if len(found) != 1:
+        sys.exit(f"trusted.py: no public function is called {path}" if not found else f"trusted.py: which one? {', '.join(it[1] for it in found)}")
+    file, _, said = found[0]
+    every = re.findall(r"^ *((?:requires|ensures)\b.*?)(?=\n *(?:requires|ensures)\b|\Z)", said, re.S | re.M)
+    lines = [it for it in every if not clause or re.match(rf"ensures {re.escape(clause)}\b", it)]
+    if not lines:
+        sys.exit(f"trusted.py: {path} has no clause {clause or 'at all'}")
+    return file, function, lines
 
 
-def count(starts, without=()):
-    """The lines by file; no definition or type of the crates `without` is entered."""
-    files, seen, total = {}, set(), collections.Counter()
-    todo = []
-    for crate, functions in starts:
-        for function in functions:
-            said, brought, file = clauses(crate, function)
-            total[str(file.relative_to(ROOT))] += len(said.splitlines())
-            todo += [brought[word.split(".")[0]] if brought[word.split(".")[0]][1] else (brought[word.split(".")[0]][0], word.split(".")[-1])
-                     for word in WORD.findall(said) if word.split(".")[0] in brought]
-    while todo:
-        module, name = todo.pop()
-        if (module, name) in seen or module.split(".")[1:2] and module.split(".")[1] in without:
-            continue
-        seen.add((module, name))
-        file = spec(module)
-        if file:
-            if file not in files:
-                files[file] = Definitions(file.read_text())
-            at = files[file]
-            name = name if name in at.lines else at.owner.get(name, name)
-            if (file, name) in seen or name not in at.lines:
+def gathered(house, functions, without=()):
+    """The definitions in order of use, each behind the first that names it; none of the crates `without`."""
+    definitions, seen = [], set()
+    for asked in functions:
+        file, function, lines = clauses(asked)
+        definitions.append(Definition(file, function, "\n".join(lines).splitlines(), [], None))
+        brought = imports(file.read_text())
+        todo = []
+        for word in WORD.findall(NO_NAMES.sub("", "\n".join(lines))):
+            path, there = brought.get(word.split(".")[0], (None, None))
+            if path:
+                todo.append((path, there or word.split(".")[-1]))
+        todo.reverse()
+        while todo:
+            module, name = todo.pop()
+            if not module or module.split(".")[1:2] and module.split(".")[1] in without:
                 continue
-            seen.add((file, name))
-            total[str(file.relative_to(ROOT))] += len(at.lines[name])
-            for word in WORD.findall("\n".join(at.lines[name])):
-                first, _, rest = word.partition(".")
-                if first in at.imports:
-                    path, there = at.imports[first]
-                    todo.append((path, there or rest))
-                elif first in at.lines or first in at.owner:
-                    todo.append((module, first))
-            continue
-        kind = declared(module)
-        if kind and kind not in seen:
-            seen.add(kind)
-            total[str(kind[0].relative_to(ROOT))] += len(type_lines(*kind))
+            came = house.found(module, name)
+            if came and (came[0].file, came[0].name) not in seen:
+                seen.add((came[0].file, came[0].name))
+                definitions.append(came[0])
+                todo += reversed(came[1])
+    return definitions
+
+
+def by_file(definitions):
+    total = collections.Counter()
+    for it in definitions:
+        if it.file:
+            total[str(it.file.relative_to(ROOT))] += len(it.lines)
     return total
 
 
+def print_text(definitions):
+    """The definitions as one text, each file named where it changes."""
+    last = None
+    for it in definitions:
+        if not it.lines:
+            continue
+        if it.file != last:
+            print(f"\n== {it.file.relative_to(ROOT)}")
+            last = it.file
+        print()
+        print("\n".join([*it.above, *it.lines]))
+        if it.lemma:
+            print(f"-- not entered: true just of equal values, by the lemma {it.lemma[0]} of {it.lemma[1].relative_to(ROOT)}")
+
+
 def main(words):
-    told = "-v" in words
-    words = [word for word in words if word != "-v"]
-    asked = {words[0]: [(words[0], words[1:])]} if len(words) > 1 else PROMISES
-    for what, starts in asked.items():
-        total, apart = count(starts), count(starts, THREADS)
+    flags, names = [it for it in words if it.startswith("-")], [it for it in words if not it.startswith("-")]
+    if {*flags} - {"-v", "--text"} or "--text" in flags and not names:
+        print(__doc__)
+        return 2
+    house = House()
+    asked = {it: PROMISES.get(it) for it in names or PROMISES}
+    if names and None in asked.values():
+        asked = {" and ".join(names): [function for it in names for function in PROMISES.get(it, [it])]}
+    for what, functions in asked.items():
+        definitions = gathered(house, functions)
+        if "--text" in flags:
+            print_text(definitions)
+            continue
+        total, apart = by_file(definitions), by_file(gathered(house, functions, THREADS))
         threads = sum(total.values()) - sum(apart.values())
         more = f", and {threads} for threads" * (threads > 0)
-        print(f"{what}: {sum(apart.values())} lines in {len(apart)} files{more}")
-        if told:
+        print(f"{what}: {sum(apart.values())} lines in {len(apart)} files{more}; {len(definitions)} definitions in all")
+        if "-v" in flags:
             for place, lines in total.most_common():
                 print(f"    {lines:4} {place}")
+    return 0
 
 
 if __name__ == "__main__":
-    main(sys.argv[1:])
+    sys.exit(main(sys.argv[1:]))

@@ -1,0 +1,90 @@
+"""The toolchain's own Python, as bench/prove and bench/wrong.py use it: the crates of this repository with the words of a check, and what `rt ci` kept."""
+import importlib.machinery
+import importlib.util
+import json
+import os
+import pathlib
+import re
+import shutil
+import subprocess
+import sys
+
+ROOT = pathlib.Path(__file__).resolve().parent.parent
+
+
+def load():
+    """The module of the command `rt`."""
+    said = subprocess.run(["rt", "doc"], stdout=subprocess.PIPE, universal_newlines=True).stdout.strip() if shutil.which("rt") else ""
+    if not said:
+        sys.exit("rt isn't on the PATH: install the Rattle toolchain first, as README's \"Get it\" says")
+    place = os.path.join(os.path.dirname(said), "bin")
+    sys.path.insert(0, place)
+    loader = importlib.machinery.SourceFileLoader("rt_command", os.path.join(place, "rt"))
+    module = importlib.util.module_from_spec(importlib.util.spec_from_loader("rt_command", loader))
+    sys.modules["rt_command"] = module
+    loader.exec_module(module)
+    return module
+
+
+class Kit:
+    def __init__(self):
+        sys.dont_write_bytecode = True
+        self.rt = load()
+        self.lib = self.rt.rtlib
+        self.lib.Crate = self.rt.Crate
+        self.rt.Crate.allowed = self.rt.handles_of(str(ROOT))
+        self.crates = {it.name: it for it in self.lib.crates_below(str(ROOT))}
+
+    def take(self):
+        """Links the libraries that `rt ci` kept of just these files into the crates' out/, and gives the names of those that have none. One that
+        bench/prove built of these files stays."""
+        kept, lacking = self.rt.Kept(list(self.crates.values())), []
+        for crate in sorted((it for it in self.crates.values() if not it.is_program), key=lambda it: len(it.below())):
+            if any(it.name in lacking for it in crate.below()) or not self.takes(kept, crate):
+                lacking.append(crate.name)
+        return lacking
+
+    def takes(self, kept, crate):
+        """Whether the crate has a library of just these files now."""
+        key = kept.key(crate)
+        at, folder, mark = kept.place(crate, False, key), f"{crate.folder}/out/rlib", f"{crate.folder}/out/rlib/kept"
+        if not os.path.isdir(at):
+            if text_of(f"{folder}/built") == self.sum_of(crate):
+                kept.is_built(crate)
+                return True
+            shutil.rmtree(folder, ignore_errors=True)
+            return False
+        if text_of(mark) != key:
+            shutil.rmtree(folder, ignore_errors=True)
+            with open(f"{at}/made.json") as file:
+                made = json.load(file)["files"]
+            for number, (path, _) in enumerate(made):
+                os.makedirs(os.path.dirname(f"{crate.folder}/out/{path}"), exist_ok=True)
+                self.rt.link_or_copy(f"{at}/{number}", f"{crate.folder}/out/{path}")
+            with open(mark, "w") as file:
+                file.write(key)
+        kept.is_built(crate)
+        return True
+
+    def sum_of(self, crate):
+        """Of all that the crate's library is built of."""
+        libraries = [text_of(f"{it.rlib}/format") or it.name for it in crate.below()]
+        return self.lib.hashlib.sha256("\0".join([self.rt.own_sum(crate), *libraries]).encode()).hexdigest()
+
+    def check(self, crate, words, folder=None, **how):
+        """Runs the checker on the crate, or on a copy of it in another folder."""
+        return subprocess.run([self.lib.RATTLE, *words], cwd=folder or crate.folder, **how)
+
+    def compiles(self, crate, folder):
+        """What the checker says before any proof of this copy of the crate; nothing where it compiles."""
+        built = all(os.path.isdir(it.rlib) for it in crate.below())
+        words = ["check", *crate.words(["--jobs", "1", "--only", ""], keeps=False, as_source=not built)]
+        ran = self.check(crate, words, folder, stdin=subprocess.DEVNULL, stdout=subprocess.PIPE, stderr=subprocess.STDOUT, errors="replace")
+        return "" if re.search(r"^only=.*\n\Z", ran.stdout, re.M) else ran.stdout
+
+
+def text_of(file):
+    try:
+        return pathlib.Path(file).read_text(errors="replace")
+    except OSError:
+        return ""
