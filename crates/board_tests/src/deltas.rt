@@ -2,8 +2,8 @@
 use crate::board_rows::{BoardStep, board_of};
 use crate::long_boards::long_board;
 use join_core::Exact;
-use mpx_board::Board;
-use mpx_delta::{Digest, common, delta_for, digest_of};
+use mpx_board::{Acks, Board};
+use mpx_delta::{common, delta_for, digest_of};
 use mpx_name::Name;
 use std::alloc::Global;
 use std::process::Abort;
@@ -11,7 +11,7 @@ use std::test::Fail;
 use test_drafts::proc;
 
 // The number of process 0 on the context of all.
-fn number_of(alloc: Global, digest: &Digest) -> Option<u32> {
+fn number_of(alloc: Global, digest: &Acks) -> Option<u32> {
     let Some(numbers) = digest.get(&Name::world(alloc)) else {
         return None;
     };
@@ -62,12 +62,12 @@ const SECOND_CALL: &[BoardStep] = &[
 const FIRST_CALL: &[BoardStep] = &[BoardStep::Members(2), BoardStep::Adds(0, 0, &[1], Ok(()))];
 
 // Whether the board without the posts of the digest is this one, in one part.
-fn is_delta(alloc: Global, board: &Board, digest: &Digest, wanted: &Board) -> Result<bool, Fail> {
+fn is_delta(alloc: Global, board: &Board, digest: &Acks, wanted: &Board) -> Result<bool, Fail> {
     let made = delta_for(alloc, board, digest, 524_288)?;
     Ok(made.len() == 1 && made.iter().all(|part| part.same(wanted)))
 }
 
-fn digest_by(rt: &impl Abort, alloc: Global, steps: &[BoardStep]) -> Result<Digest, Fail> {
+fn digest_by(rt: &impl Abort, alloc: Global, steps: &[BoardStep]) -> Result<Acks, Fail> {
     let known = board_of(rt, alloc, "known", steps)?;
     Ok(digest_of(alloc, &known)?)
 }
@@ -83,7 +83,7 @@ fn leaves_out(rt: &impl Abort, alloc: Global) -> Result<bool, Fail> {
 // The board has no frame, and without the posts that it has itself it is one part.
 fn is_one_part(alloc: Global, board: &Board) -> Result<bool, Fail> {
     let digest = digest_of(alloc, board)?;
-    let whole = delta_for(alloc, board, &Digest::new(alloc), 1_048_576)?;
+    let whole = delta_for(alloc, board, &Acks::new(alloc), 1_048_576)?;
     let lean = delta_for(alloc, board, &digest, 1_048_576)?;
     Ok(whole.len() > 1 && lean.len() == 1)
 }

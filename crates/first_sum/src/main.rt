@@ -1,77 +1,71 @@
-//! The program `first_sum`: two ranks, each with a board of its own, add their numbers. `docs/CALLING.md` begins with it.
+//! The program `first_sum`: four ranks, each in a thread of its own, add their numbers, split, and gather. `docs/CALLING.md` begins
+//! with it.
 #![tactic(auto)]
 
-ghost use Rattle.std.specs.Prelude.{◌<◌};
-
-use mpx_comm::{Comm, Desk, Tested};
-use mpx_group::Proc;
-use mpx_node::{Finished, Node};
+use mpx_comm::{Comm, Desk, Host};
+use mpx_node::Finished;
 use mpx_num::{Numbers, Op, Ops, Ty};
+use mpx_ranks::{Program, ranks};
 use mpx_value::Outcome;
 use std::alloc::Global;
 use std::process::ExitCode;
 
-// The desk of one of two ranks.
-fn desk_of(alloc: Global, rank: u8) -> Option<Desk<Node>>
-    requires { rank < 2 }
-{
-    let node = Node::new(alloc, Proc::new(rank), 2, 2).ok()?;
-    Some(Desk::new(alloc, node))
-}
+// So many turns a call waits at most.
+const TURNS: u64 = 1_000_000;
 
-// One number, as calls take it.
-fn number(alloc: Global, number: i128) -> Option<Numbers> {
-    let mut list = Vec::new(alloc);
-    list.push(number).ok()?;
-    Numbers::new(alloc, list).ok()
-}
-
-// The first number that a call gave.
-fn number_of(finished: &Finished) -> Option<i128> {
+// What a call gave this rank.
+fn numbers_of(finished: &Finished) -> &[i128] {
     match &finished.outcome {
-        Outcome::Items(items) => items.nums().first().copied(),
-        _ => None,
+        Outcome::Items(items) => items.nums(),
+        _ => &[],
     }
 }
 
-// Both ranks call an allreduce, and rank 0 hears of rank 1. None where memory is wanting.
-fn sum(alloc: Global, ops: &Ops) -> Option<i128> {
-    let mut left = desk_of(alloc, 0)?;
-    let mut right = desk_of(alloc, 1)?;
-    let request = left
-        .iallreduce(
-            alloc,
-            &Comm::world(alloc, 2, 0),
-            Op::Sum,
-            Ty::I64,
-            number(alloc, 3)?,
-            ops,
-        )
-        .ok()?;
-    right
-        .iallreduce(
-            alloc,
-            &Comm::world(alloc, 2, 1),
-            Op::Sum,
-            Ty::I64,
-            number(alloc, 4)?,
-            ops,
-        )
-        .ok()?;
-    left.take(alloc, right.host().board()).ok()?;
-    match left.test(alloc, request, ops).ok()? {
-        Tested::Done(finished) => number_of(&finished),
-        Tested::NotYet(_) => None,
+struct FirstSum;
+
+impl Program for FirstSum {
+    type Answer = Option<String>;
+
+    fn run<H: Host>(
+        &self,
+        alloc: Global,
+        desk: &mut Desk<H>,
+        world: &Comm,
+        ops: &Ops,
+    ) -> Option<String> {
+        let mine = i128::from(world.rank()) + 1;
+        let added = desk
+            .allreduce(
+                alloc,
+                world,
+                Op::Sum,
+                Ty::I64,
+                Numbers::one(mine),
+                TURNS,
+                ops,
+            )
+            .ok()?;
+        let split = desk
+            .split(alloc, world, Some(mine % 2), 0, TURNS, ops)
+            .ok()?;
+        let half = Comm::of(alloc, &split).ok()??;
+        let gathered = desk
+            .gather(alloc, &half, 0, Ty::I64, Numbers::one(mine), TURNS, ops)
+            .ok()?;
+        let (sum, all) = (numbers_of(&added), numbers_of(&gathered));
+        format!(in alloc; "{sum:?}, {} of {}, {all:?}", half.rank(), half.size()).ok()
     }
 }
 
 fn main(rt: HostRuntime) -> ExitCode {
     let ops = Ops::none(rt.alloc());
-    match sum(rt.alloc(), &ops) {
-        Some(sum) => {
-            let _printed = println!(rt; "{sum}");
-            ExitCode::SUCCESS
+    let Ok(ran) = ranks(&rt, rt.alloc(), 4, 0, &FirstSum, &ops) else {
+        return ExitCode::FAILURE;
+    };
+    for (rank, answer) in ran.answers.iter().enumerate() {
+        if let Some(text) = answer {
+            let _printed = println!(rt; "rank {rank}: {text}");
         }
-        None => ExitCode::FAILURE,
     }
+    ExitCode::SUCCESS
 }

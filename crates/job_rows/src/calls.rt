@@ -42,7 +42,7 @@ pub fn told<T: Threads + Wait + Sync>(
     } else if word == b"begins".as_slice() {
         begins(rt, alloc, line, script, ops)
     } else if word == b"dead".as_slice() {
-        dead(alloc, line, script, ops)
+        dead(rt, alloc, line, script, ops)
     } else if word == b"no-text".as_slice() {
         no_text(alloc)
     } else if word == b"memory".as_slice() {
@@ -264,6 +264,7 @@ const STRANGE: Options = Options {
     loss: 100,
     relays: 63,
     turns: 100_000,
+    workers: None,
 };
 
 // `job WORD`: the job of this word with strange options, which do nothing for a check and an evaluation.

@@ -9,6 +9,7 @@ use mpx_run::{Options, run_sim};
 use mpx_script::{Script, read_script};
 use std::alloc::Global;
 use std::io::{self, Write};
+use std::thread::Threads;
 
 // A run in which half of all frames are lost, and three processes only carry frames.
 fn options(seed: usize) -> Options
@@ -20,6 +21,7 @@ fn options(seed: usize) -> Options
         loss: 50,
         relays: 3,
         turns: 100_000,
+        workers: None,
     }
 }
 
@@ -36,7 +38,8 @@ fn push_board(text: &mut Vec<u8>, process: usize, board: &Board) -> io::Result<(
     writeln!(text, "process {process}: {contexts} contexts, {dead} dead")
 }
 
-fn push_run(
+fn push_run<T: Threads + Sync>(
+    rt: &T,
     alloc: Global,
     text: &mut Vec<u8>,
     script: &Script,
@@ -46,7 +49,7 @@ fn push_run(
     if script.ranks() > 61 {
         return writeln!(text, "too many processes");
     }
-    let Ok(run) = run_sim(alloc, script, &options(seed), ops) else {
+    let Ok(run) = run_sim(rt, alloc, script, &options(seed), ops) else {
         return writeln!(text, "out of memory");
     };
     for (process, node) in run.nodes.iter().enumerate() {
@@ -56,10 +59,23 @@ fn push_run(
 }
 
 /// `dead SEED`: of each process how many contexts its board knows at the end of such a run, and how many of these are dead there.
-pub fn dead(alloc: Global, line: &[u8], script: &[u8], ops: &Ops) -> io::Result<Vec<u8>> {
+pub fn dead<T: Threads + Sync>(
+    rt: &T,
+    alloc: Global,
+    line: &[u8],
+    script: &[u8],
+    ops: &Ops,
+) -> io::Result<Vec<u8>> {
     let mut text = Vec::new(alloc);
     match read_script(alloc, script, ops) {
-        Ok(script) => push_run(alloc, &mut text, &script, number_of(word_at(line, 2)), ops)?,
+        Ok(script) => push_run(
+            rt,
+            alloc,
+            &mut text,
+            &script,
+            number_of(word_at(line, 2)),
+            ops,
+        )?,
         Err(error) => writeln!(text, "{error}")?,
     }
     text.extend_from_slice(b"= 0\n")?;

@@ -110,7 +110,7 @@ fn push_statement(alloc: Global, text: &mut Vec<u8>, statement: &Statement) -> i
     if let Some(word) = statement.request() {
         push_word(text, " as", word)?;
     }
-    match statement.draft(alloc) {
+    match statement.draft() {
         Ok(Some(draft)) => push_draft(text, &draft),
         Ok(None) => Ok(()),
         Err(_) => text

@@ -7,9 +7,9 @@ use Rattle.std.proofs.lemmas.List.{get_or_past}
 use Rattle.std.proofs.lemmas.List.Elements.{All-get_or, All-weaker}
 use Rattle.std.proofs.lemmas.List.Sums.{AllPass-from_list_all, get_or-le-sum_by, sum-map}
 use Rattle.mpx_birth.specs.declared.edges.Neighbour.{Neighbour}
-use Rattle.mpx_birth.specs.Edges.{is_rank, often}
+use Rattle.mpx_birth.specs.Edges.{has_rank, often}
 use Rattle.mpx_birth.specs.Orders.{upto}
-use Rattle.mpx_birth.specs.Topologies.{AgreesAtBothEnds, IsFew, IsTopology, Near, TopologyView, are_paired, destinations_in, destinations_in_all, is_near, is_neighbour, is_topology, is_weight, most_neighbours, nobody, sources_in, sources_in_all, tell_alike}
+use Rattle.mpx_birth.specs.Topologies.{AgreesAtBothEnds, IsFew, IsTopology, Near, TopologyView, are_paired, destinations_near, destinations_in_all, is_near, fits_neighbour, is_topology, fits_weight, most_neighbours, nobody, sources_near, sources_in_all, tell_alike}
 use Rattle.mpx_birth.proofs.Below.{all_below, each_below}
 
 -- ranks of so many
@@ -26,7 +26,7 @@ none_pass {A} p (x ∷ xs) none =
 -- no other rank stands there
 pub often-far : (size rank : ℕ) (ns : List Neighbour) → size ≤ rank → AreBelow size ns → often rank ns ≡ 0
 often-far size rank ns far all =
-    ap length (none_pass (is_rank rank) ns (λ k d l. ne_eqb _ _ (λ e. let below = all k d l in omega arith)))
+    ap length (none_pass (has_rank rank) ns (λ k d l. ne_eqb _ _ (λ e. let below = all k d l in omega arith)))
 
 -- THE PARTS OF THE TEST
 
@@ -53,11 +53,11 @@ topology-from topology parts =
 
 -- WHAT A TOPOLOGY KEEPS
 
-neighbours-below : (size : ℕ) (weighted : Bool) (ns : List Neighbour) → list_all (is_neighbour size weighted) ns ≡ true → AreBelow size ns
+neighbours-below : (size : ℕ) (weighted : Bool) (ns : List Neighbour) → list_all (fits_neighbour size weighted) ns ≡ true → AreBelow size ns
 neighbours-below size weighted ns t =
-    All-weaker (λ (n : Neighbour). is_neighbour size weighted n ≡ true) (λ (n : Neighbour). n.rank < size)
-    (λ n u. ltb-true n.rank size (and_parts (nat_lt n.rank size) (is_weight weighted n.weight) u).0) ns
-    (AllPass-from_list_all (is_neighbour size weighted) ns t)
+    All-weaker (λ (n : Neighbour). fits_neighbour size weighted n ≡ true) (λ (n : Neighbour). n.rank < size)
+    (λ n u. ltb-true n.rank size (and_parts (nat_lt n.rank size) (fits_weight weighted n.weight) u).0) ns
+    (AllPass-from_list_all (fits_neighbour size weighted) ns t)
 
 module _ (topology : TopologyView) (parts : Parts topology) where
   -- the neighbours of one of its ranks
@@ -66,22 +66,22 @@ module _ (topology : TopologyView) (parts : Parts topology) where
       All-get_or (λ (near : Near). is_near (length topology.ranks) topology.weighted near ≡ true) topology.ranks rank nobody l
       (AllPass-from_list_all (is_near (length topology.ranks) topology.weighted) topology.ranks parts.near)
 
-  sources_below : (rank : ℕ) → rank < length topology.ranks → AreBelow (length topology.ranks) (sources_in topology.ranks rank)
+  sources_below : (rank : ℕ) → rank < length topology.ranks → AreBelow (length topology.ranks) (sources_near topology.ranks rank)
   sources_below rank l = neighbours-below _ topology.weighted _ (and_parts _ _ (near_at rank l)).0
 
-  destinations_below : (rank : ℕ) → rank < length topology.ranks → AreBelow (length topology.ranks) (destinations_in topology.ranks rank)
+  destinations_below : (rank : ℕ) → rank < length topology.ranks → AreBelow (length topology.ranks) (destinations_near topology.ranks rank)
   destinations_below rank l = neighbours-below _ topology.weighted _ (and_parts _ _ (near_at rank l)).1
 
-  alike : (i j : ℕ) → i < length topology.ranks → j < length topology.ranks → often j (destinations_in topology.ranks i) ≡ often i (sources_in topology.ranks j)
+  alike : (i j : ℕ) → i < length topology.ranks → j < length topology.ranks → often j (destinations_near topology.ranks i) ≡ often i (sources_near topology.ranks j)
   alike i j l m =
       eqb-true _ _
       (each_below (λ i. tell_alike topology.ranks i j) (length topology.ranks)
       (each_below (λ j. list_all (λ i. tell_alike topology.ranks i j) (upto (length topology.ranks))) (length topology.ranks) parts.paired j m) i l)
 
-  no_sources : (j i : ℕ) → length topology.ranks ≤ j → often i (sources_in topology.ranks j) ≡ 0
+  no_sources : (j i : ℕ) → length topology.ranks ≤ j → often i (sources_near topology.ranks j) ≡ 0
   no_sources j i far = ap (λ (near : Near). often i near.sources) (get_or_past topology.ranks j nobody far)
 
-  no_destinations : (i j : ℕ) → length topology.ranks ≤ i → often j (destinations_in topology.ranks i) ≡ 0
+  no_destinations : (i j : ℕ) → length topology.ranks ≤ i → often j (destinations_near topology.ranks i) ≡ 0
   no_destinations i j far = ap (λ (near : Near). often j near.destinations) (get_or_past topology.ranks i nobody far)
 
   agree : AgreesAtBothEnds topology.ranks

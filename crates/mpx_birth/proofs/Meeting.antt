@@ -3,7 +3,7 @@ use Rattle.std.proofs.Common.{◌≡◌, ℕ, ◌<◌, List, length, take, sym, 
 use Rattle.std.proofs.lemmas.Bool.{cases_lt}
 use Rattle.std.proofs.lemmas.List.{get_or_past}
 use Rattle.mpx_birth.specs.Edges.{often}
-use Rattle.mpx_birth.specs.Topologies.{AgreesAtBothEnds, Near, TopologyView, destinations_at, destinations_in, nobody, sources_at, sources_in}
+use Rattle.mpx_birth.specs.Topologies.{AgreesAtBothEnds, Near, TopologyView, destinations_at, destinations_near, nobody, sources_at, sources_near}
 use Rattle.mpx_birth.specs.Ends.{Meet, place_of, rank_at, sent_at, taken_at, turn}
 use Rattle.mpx_birth.proofs.Turns.{Stands, stands, stands_once, turn_below}
 
@@ -61,22 +61,22 @@ pub sent_once : (topology : TopologyView) (i j k l m : ℕ) → Meet topology i 
 sent_once topology i j k l m meets again = sent_of topology i k j m meets ∙ sym (sent_of topology i l j m again)
 
 -- whoever stands there is one of the ranks
-pub source_is_rank : (ranks : List Near) → AgreesAtBothEnds ranks → (j l : ℕ) → l < length (sources_in ranks j) → rank_at (sources_in ranks j) l < length ranks
+pub source_is_rank : (ranks : List Near) → AgreesAtBothEnds ranks → (j l : ℕ) → l < length (sources_near ranks j) → rank_at (sources_near ranks j) l < length ranks
 source_is_rank ranks promise j l w =
-    let i = rank_at (sources_in ranks j) l in
-    let t = turn_below (sources_in ranks j) l w in
+    let i = rank_at (sources_near ranks j) l in
+    let t = turn_below (sources_near ranks j) l w in
     let p = promise.both i j in
     elim (cases_lt i (length ranks)) [
       | inl m ↦ m
-      | inr far ↦ absurd (let e : often j (destinations_in ranks i) ≡ 0 = ap (λ (near : Near). often j near.destinations) (get_or_past ranks i nobody far) in omega (arith, t, p, e))
+      | inr far ↦ absurd (let e : often j (destinations_near ranks i) ≡ 0 = ap (λ (near : Near). often j near.destinations) (get_or_past ranks i nobody far) in omega (arith, t, p, e))
     ]
 
-pub destination_is_rank : (ranks : List Near) → AgreesAtBothEnds ranks → (i k : ℕ) → k < length (destinations_in ranks i) → rank_at (destinations_in ranks i) k < length ranks
+pub destination_is_rank : (ranks : List Near) → AgreesAtBothEnds ranks → (i k : ℕ) → k < length (destinations_near ranks i) → rank_at (destinations_near ranks i) k < length ranks
 destination_is_rank ranks promise i k w =
-    let j = rank_at (destinations_in ranks i) k in
-    let t = turn_below (destinations_in ranks i) k w in
+    let j = rank_at (destinations_near ranks i) k in
+    let t = turn_below (destinations_near ranks i) k w in
     let p = promise.both i j in
     elim (cases_lt j (length ranks)) [
       | inl m ↦ m
-      | inr far ↦ absurd (let e : often i (sources_in ranks j) ≡ 0 = ap (λ (near : Near). often i near.sources) (get_or_past ranks j nobody far) in omega (arith, t, p, e))
+      | inr far ↦ absurd (let e : often i (sources_near ranks j) ≡ 0 = ap (λ (near : Near). often i near.sources) (get_or_past ranks j nobody far) in omega (arith, t, p, e))
     ]

@@ -2,12 +2,13 @@
 use Rattle.std.specs.Prelude.{◌≡◌, ℕ, ◌<◌, ◌==◌, ◌&&◌, nat_eq, nat_le, nat_lt, not, Bool, true, false, List, length, Option, Some, None, refl}
 use Rattle.std.proofs.Common.{ap}
 use Rattle.std.specs.Bool.{Decides}
-use Rattle.std.specs.List.{list_all, position}
+use Rattle.std.specs.List.{list_all}
 use Rattle.std.proofs.lemmas.Bool.Decides.{Decides-and, Decides-eqb, Decides-like}
 use Rattle.std.proofs.lemmas.Slice.Eq.{slice_eq-Decides}
 use lib.Pointwise.{pointwise}
 use Rattle.join_core.specs.Laws.{IsEquality}
 use Rattle.mpx_group.specs.Group.{IsGroup, has_twice}
+pub use Rattle.mpx_group.specs.Group.{rank_in}
 pub use Rattle.mpx_birth.specs.Orders.{upto}
 use Rattle.mpx_birth.specs.Topologies.{TopologyView, same_topology, topologies_decided}
 
@@ -48,10 +49,6 @@ is_birth birth =
 abbrev pub IsBirthOf : BirthView → Option BirthView → Type 0
 IsBirthOf parts None = is_birth parts ≡ false
 IsBirthOf parts (Some birth) = (is_birth parts ≡ true) × (birth ≡ parts)
-
--- the place of a process in such a list: its rank
-abbrev pub rank_in : ℕ → List ℕ → Option ℕ
-rank_in p ps = position (λ q. q == p) ps
 
 abbrev pub same_topologies : Option TopologyView → Option TopologyView → Bool
 same_topologies None None = true

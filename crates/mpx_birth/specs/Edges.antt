@@ -6,16 +6,13 @@ use Rattle.mpx_birth.specs.declared.edges.Edge.{Edge}
 use Rattle.mpx_birth.specs.declared.edges.Neighbour.{Neighbour}
 use Rattle.mpx_birth.specs.Orders.{ordered}
 
--- how many pass the test
-abbrev pub count : {A : Type 0} → (A → Bool) → List A → ℕ
-count test xs = length (filter test xs)
-
-abbrev pub is_rank : ℕ → Neighbour → Bool
-is_rank rank n = n.rank == rank
+-- whether it is the neighbour with this rank
+abbrev pub has_rank : ℕ → Neighbour → Bool
+has_rank rank n = n.rank == rank
 
 -- how often the rank stands there
 abbrev pub often : ℕ → List Neighbour → ℕ
-often rank ns = count (is_rank rank) ns
+often rank ns = length (filter (has_rank rank) ns)
 
 abbrev pub source_of : Edge → Neighbour
 source_of e = record { rank = e.source; weight = e.weight }
@@ -30,10 +27,6 @@ sources_among rank edges = map source_of (filter (λ e. e.destination == rank) e
 abbrev pub destinations_among : ℕ → List Edge → List Neighbour
 destinations_among rank edges = map destination_of (filter (λ e. e.source == rank) edges)
 
--- numbers in rising order
-abbrev pub sorted : List ℕ → List ℕ
-sorted ns = ordered (λ (x y : ℕ). is_lt (nat_cmp x y)) ns
-
 -- the weights of the edges between this rank and one with these neighbours on that side, in rising order
 abbrev pub weights_of : ℕ → List Neighbour → List ℕ
-weights_of rank ns = sorted (map (λ (n : Neighbour). n.weight) (filter (is_rank rank) ns))
+weights_of rank ns = ordered (λ (x y : ℕ). is_lt (nat_cmp x y)) (map (λ (n : Neighbour). n.weight) (filter (has_rank rank) ns))

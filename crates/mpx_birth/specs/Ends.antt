@@ -1,7 +1,7 @@
 -- Which place among a rank's destinations and which among another's sources are the two ends of one edge (MPI 4.1, section 8.6).
 use Rattle.std.specs.Prelude.{◌≡◌, ℕ, zero, suc, ◌+◌, ◌<◌, List, [], ◌∷◌, length, take, cond, slice_index_or}
 use Rattle.mpx_birth.specs.declared.edges.Neighbour.{Neighbour}
-use Rattle.mpx_birth.specs.Edges.{is_rank, often}
+use Rattle.mpx_birth.specs.Edges.{has_rank, often}
 use Rattle.mpx_birth.specs.Topologies.{TopologyView, destinations_at, sources_at}
 
 abbrev pub no_neighbour : Neighbour
@@ -18,8 +18,8 @@ turn ns place = often (rank_at ns place) (take place ns)
 -- the place at which the rank stands for the time of this number, counted from 0; the length where it doesn't
 abbrev pub place_of : (rank : ℕ) → (time : ℕ) → List Neighbour → ℕ
 place_of rank time [] = 0
-place_of rank zero (n ∷ ns) = cond (is_rank rank n) 0 (1 + place_of rank zero ns)
-place_of rank (suc time) (n ∷ ns) = 1 + cond (is_rank rank n) (place_of rank time ns) (place_of rank (suc time) ns)
+place_of rank zero (n ∷ ns) = cond (has_rank rank n) 0 (1 + place_of rank zero ns)
+place_of rank (suc time) (n ∷ ns) = 1 + cond (has_rank rank n) (place_of rank time ns) (place_of rank (suc time) ns)
 
 -- place k among i's destinations meets place l among j's sources: the n-th j there and the n-th i here
 pub record Meet (topology : TopologyView) (i k j l : ℕ) : Type 0 where

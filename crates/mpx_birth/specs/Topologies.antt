@@ -23,21 +23,21 @@ pub record TopologyView : Type 0 where
 abbrev pub nobody : Near
 nobody = record { sources = []; destinations = [] }
 
-abbrev pub sources_in : List Near → ℕ → List Neighbour
-sources_in ranks rank = (slice_index_or ranks rank nobody).sources
+abbrev pub sources_near : List Near → ℕ → List Neighbour
+sources_near ranks rank = (slice_index_or ranks rank nobody).sources
 
-abbrev pub destinations_in : List Near → ℕ → List Neighbour
-destinations_in ranks rank = (slice_index_or ranks rank nobody).destinations
+abbrev pub destinations_near : List Near → ℕ → List Neighbour
+destinations_near ranks rank = (slice_index_or ranks rank nobody).destinations
 
 abbrev pub sources_at : TopologyView → ℕ → List Neighbour
-sources_at topology rank = sources_in topology.ranks rank
+sources_at topology rank = sources_near topology.ranks rank
 
 abbrev pub destinations_at : TopologyView → ℕ → List Neighbour
-destinations_at topology rank = destinations_in topology.ranks rank
+destinations_at topology rank = destinations_near topology.ranks rank
 
 -- j stands among i's destinations as often as i among j's sources. So no rank stands there that is none of the ranks.
 pub record AgreesAtBothEnds (ranks : List Near) : Type 0 where
-  pub both : (i j : ℕ) → often j (destinations_in ranks i) ≡ often i (sources_in ranks j)
+  pub both : (i j : ℕ) → often j (destinations_near ranks i) ≡ often i (sources_near ranks j)
 
 -- so many sources have all ranks together at most, and as many destinations: each of 64 members tells of 512 edges
 abbrev pub most_neighbours : ℕ
@@ -50,17 +50,17 @@ pub record IsFew (near : Near) : Type 0 where
 -- WHAT A TOPOLOGY IS
 
 -- a weight is below 2^31, and 0 where edges have none
-abbrev pub is_weight : Bool → ℕ → Bool
-is_weight weighted weight = cond weighted (nat_lt weight (2 ^ 31)) (nat_eq weight 0)
+abbrev pub fits_weight : Bool → ℕ → Bool
+fits_weight weighted weight = cond weighted (nat_lt weight (2 ^ 31)) (nat_eq weight 0)
 
 -- a neighbour is one of so many ranks
-abbrev pub is_neighbour : (size : ℕ) → (weighted : Bool) → Neighbour → Bool
-is_neighbour size weighted neighbour = nat_lt neighbour.rank size && is_weight weighted neighbour.weight
+abbrev pub fits_neighbour : (size : ℕ) → (weighted : Bool) → Neighbour → Bool
+fits_neighbour size weighted neighbour = nat_lt neighbour.rank size && fits_weight weighted neighbour.weight
 
 -- one rank's neighbours
 abbrev pub is_near : (size : ℕ) → (weighted : Bool) → Near → Bool
 is_near size weighted near =
-    list_all (is_neighbour size weighted) near.sources && list_all (is_neighbour size weighted) near.destinations
+    list_all (fits_neighbour size weighted) near.sources && list_all (fits_neighbour size weighted) near.destinations
 
 -- how many neighbours stand among the sources of all ranks, and how many among their destinations
 
@@ -72,7 +72,7 @@ destinations_in_all ranks = sum (map (λ (near : Near). length near.destinations
 
 -- of the edges from i to j both tell the same number
 abbrev pub tell_alike : List Near → (i j : ℕ) → Bool
-tell_alike ranks i j = nat_eq (often j (destinations_in ranks i)) (often i (sources_in ranks j))
+tell_alike ranks i j = nat_eq (often j (destinations_near ranks i)) (often i (sources_near ranks j))
 
 -- of each two ranks both tell the same number of edges between them
 abbrev pub are_paired : List Near → Bool

@@ -1,7 +1,7 @@
 //! Whether lists of neighbours are within the limits of a topology.
 ghost use Rattle.std.specs.Prelude.{◌≡◌, ◌≤◌, ◌^◌, length, nat_le};
 ghost use Rattle.std.specs.List.{list_all};
-ghost use Rattle.mpx_birth.specs.Topologies.{destinations_in_all, is_near, is_neighbour, is_topology, is_weight, most_neighbours, sources_in_all};
+ghost use Rattle.mpx_birth.specs.Topologies.{destinations_in_all, is_near, fits_neighbour, is_topology, fits_weight, most_neighbours, sources_in_all};
 
 use crate::edges::Neighbour;
 use crate::pairs::are_paired;
@@ -44,24 +44,24 @@ fn is_near(size: usize, weighted: bool, near: &Neighbours) -> bool
 }
 
 fn are_neighbours(size: usize, weighted: bool, neighbours: &[Neighbour]) -> bool
-    ensures { result ≡ list_all (is_neighbour size weighted) neighbours.now }
+    ensures { result ≡ list_all (fits_neighbour size weighted) neighbours.now }
 {
     for neighbour in neighbours {
-        if !is_neighbour(size, weighted, *neighbour) {
+        if !fits_neighbour(size, weighted, *neighbour) {
             return false;
         }
     }
     true
 }
 
-fn is_neighbour(size: usize, weighted: bool, neighbour: Neighbour) -> bool
-    ensures { result ≡ is_neighbour size weighted neighbour }
+fn fits_neighbour(size: usize, weighted: bool, neighbour: Neighbour) -> bool
+    ensures { result ≡ fits_neighbour size weighted neighbour }
 {
-    (usize::from(neighbour.rank) < size) & is_weight(weighted, neighbour.weight)
+    (usize::from(neighbour.rank) < size) & fits_weight(weighted, neighbour.weight)
 }
 
-fn is_weight(weighted: bool, weight: u32) -> bool
-    ensures { result ≡ is_weight weighted weight }
+fn fits_weight(weighted: bool, weight: u32) -> bool
+    ensures { result ≡ fits_weight weighted weight }
 {
     if weighted {
         weight < WEIGHTS_END

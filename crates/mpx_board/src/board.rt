@@ -163,7 +163,8 @@ impl Board {
         self.join_in(alloc, part)
     }
 
-    /// Joins to the board that the process made this post as this call. An `Err` changes nothing.
+    /// Joins to the board that the process made this post as this call. An `Err` changes nothing, and a dead context wants no
+    /// memory.
     pub fn join_post(
         &mut self,
         alloc: Global,
@@ -175,6 +176,7 @@ impl Board {
         requires { call < most_calls }
         ensures ok { OnOk result (look self.new ≡ join (look self.old) (only (Held name.now call process (knows post)))) }
         ensures err { OnErr result (look self.new ≡ look self.old) }
+        ensures memory { OnErr result (((look self.old).contexts name.now).dead ≡ false) }
     {
         tell(
             alloc,
@@ -209,15 +211,17 @@ impl Board {
         Ok(self.join_post(alloc, name, call, process, post)?)
     }
 
-    /// Joins to the board how the context came to be. An `Err` changes nothing.
+    /// Joins to the board how the context came to be. An `Err` changes nothing, and a dead context wants no memory.
     pub fn add_birth(&mut self, alloc: Global, name: &Name, birth: Birth) -> Result<(), OutOfMemory>
         ensures ok { OnOk result (look self.new ≡ join (look self.old) (only (Born name.now (knows birth)))) }
         ensures err { OnErr result (look self.new ≡ look self.old) }
+        ensures memory { OnErr result (((look self.old).contexts name.now).dead ≡ false) }
     {
         tell(alloc, &mut self.inside.first, name, Fact::Birth(birth))
     }
 
-    /// Joins to the board that the process has harvested so many calls. An `Err` changes nothing.
+    /// Joins to the board that the process has harvested so many calls. An `Err` changes nothing, and a dead context wants no
+    /// memory.
     pub fn raise_front(
         &mut self,
         alloc: Global,
@@ -227,6 +231,7 @@ impl Board {
     ) -> Result<(), OutOfMemory>
         ensures ok { OnOk result (look self.new ≡ join (look self.old) (only (Front name.now process number))) }
         ensures err { OnErr result (look self.new ≡ look self.old) }
+        ensures memory { OnErr result (((look self.old).contexts name.now).dead ≡ false) }
     {
         if number == 0 {
             return Ok(());

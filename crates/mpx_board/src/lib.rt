@@ -2,8 +2,8 @@
 //! values are.
 //!
 //! In the order of reading: [`Board`] with its calls, [`Parts`], the maps inside it, and the laws
-//! [`joining_boards_is_a_semilattice`], [`boards_are_joined_by_their_facts`], [`boards_are_their_facts`] and
-//! [`dead_contexts_stay_dead`]. Contracts see a board by look-ups (`specs/Boards.antt`, `specs/Looks.antt`).
+//! [`joining_boards_is_a_semilattice`], [`joining_parts_is_a_semilattice`], [`boards_are_joined_by_their_facts`],
+//! [`boards_are_their_facts`] and [`dead_contexts_stay_dead`]. Contracts see a board by look-ups (`specs/Boards.antt`, `specs/Looks.antt`).
 #![tactic(auto)]
 
 mod acks;
@@ -23,7 +23,7 @@ pub use board::Board;
 pub use errors::{AddPostError, KillError, PruneError};
 pub use laws::{
     boards_are_joined_by_their_facts, boards_are_their_facts, boards_stay_tidy,
-    dead_contexts_stay_dead, joining_boards_is_a_semilattice,
+    dead_contexts_stay_dead, joining_boards_is_a_semilattice, joining_parts_is_a_semilattice,
 };
 pub use nested::{
     Acks, CallPosts, Entry, Lifted, Parts, VersionVector, is_said, is_told, says_something,

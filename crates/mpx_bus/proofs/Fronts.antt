@@ -14,7 +14,8 @@ use Rattle.mpx_board.proofs.Facts.{IsContextUnder, IsUnder, fold_above_each, und
 use Rattle.mpx_node.specs.declared.finished.Finished.{Finished}
 use Rattle.mpx_node.specs.Nodes.{NodeView, fresh, results_by, results_on, front_on, front_fact, births_of, harvest_part, checked_on, next_result, gathers_on, gathering_name, gathering_fact, learn, prune_part}
 use Rattle.std.specs.Prelude.{nat_lt, ◌&&◌}
-use Rattle.mpx_world.specs.Worlds.{ProcessView, makes, made_next, stores, opens_gathering, drops, takes, learns, post_fact}
+use Rattle.mpx_world.specs.Drafted.{makes_checked}
+use Rattle.mpx_world.specs.Worlds.{ProcessView, made_next, stores, opens_gathering, drops, takes, learns, post_fact}
 use Rattle.mpx_world.proofs.Lists.{itself, name_itself}
 use Rattle.mpx_world.proofs.Kept.{results_posted, results_stored, results_opened, results_added}
 use Rattle.mpx_bus.specs.declared.act.Act.{Act}
@@ -42,7 +43,7 @@ Tells v = TellsFronts v.node
 tells_learns : (part : Look) (v : ProcessView) → Tells v → Tells (learns part v)
 tells_learns part v t name = front_above v.node.board (join v.node.board part) name v.node.me (front_on v.node name) (under_first v.node.board part) (t name)
 
-tells_makes : (name : Name) (r : Result Given PostError) (v : ProcessView) → Tells v → Tells (makes name r v)
+tells_makes : (name : Name) (r : Result Given PostError) (v : ProcessView) → Tells v → Tells (makes_checked name r v)
 tells_makes name (Ok given) v t n =
     subst (λ xs. IsFront ((join v.node.board (post_fact name given v.node)).contexts n) v.node.me (length xs)) (sym (results_posted name n given v.node))
     (tells_learns (post_fact name given v.node) v t n)

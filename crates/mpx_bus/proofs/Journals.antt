@@ -1,5 +1,5 @@
 -- Journals, and the worlds to which they lead.
-use Rattle.std.proofs.Common.{◌≡◌, ◌≢◌, ◌⊎◌, ℕ, zero, suc, ◌≤◌, ◌==◌, Bool, cond, List, [], ◌∷◌, ◌++◌, length, Some, true, false, refl, sym, ap, ◌∙◌, subst, ⊎_elim, inl, inr, arith, append_assoc}
+use Rattle.std.proofs.Common.{◌≡◌, ◌≢◌, ◌⊎◌, ℕ, zero, suc, ◌≤◌, ◌==◌, cond, List, [], ◌∷◌, ◌++◌, length, Some, refl, sym, ap, ◌∙◌, subst, ⊎_elim, inl, inr, arith, append_assoc}
 use Rattle.std.specs.Prelude.{slice_get}
 use Rattle.std.proofs.lemmas.List.{append-nil}
 use Rattle.mpx_name.specs.Name.{Name}
@@ -10,11 +10,12 @@ use Rattle.mpx_board.specs.Looks.{look}
 use Rattle.mpx_board.specs.Contexts.{look_of}
 use Rattle.mpx_format.proofs.Decoded.{decoded_again}
 use Rattle.mpx_delta.specs.Digests.{HasUpTo}
-use Rattle.mpx_world.specs.Worlds.{ProcessView, WorldView, learns, takes, acknowledges, at_process, Happening, Posts, Harvests, Gathers, Prunes, Sends, Takes, TakesPartly, Acknowledges, IsSeen, happens, goes_on, MayLeave, MayHappen, MayGoOn}
+use Rattle.mpx_world.specs.Worlds.{ProcessView, WorldView, learns, takes, acknowledges, at_process, Happening, Harvests, Gathers, Prunes, Sends, Takes, TakesPartly, Acknowledges, IsSeen, happens, goes_on, MayLeave, MayHappen, MayGoOn}
 use Rattle.mpx_world.proofs.Lists.{itself, same_number, cond_cases, slice_get-push}
-use Rattle.mpx_world.proofs.Steps.{Holds, board_so, holds_happens}
+use Rattle.mpx_world.proofs.Steps.{Holds, board_so}
+use Rattle.mpx_world.proofs.Drafted.{at_same}
 use Rattle.mpx_world.proofs.Later.{later_goes_on}
-use Rattle.mpx_world.proofs.Whole.{goes_on-append, may_append, well_by}
+use Rattle.mpx_world.proofs.Whole.{LeadsTo, goes_on-append, holds_goes_on, leads_by, leads_draft, may_append, well_by}
 use Rattle.mpx_bus.specs.declared.act.Act.{Act}
 use Rattle.mpx_bus.specs.declared.act.Act.TheVariants as A
 use Rattle.mpx_bus.specs.declared.act.Setup.{Setup}
@@ -104,17 +105,12 @@ sent_later parts more bytes s = record { view = s.view; spells = s.spells; place
 
 -- ACTS IN A WORLD
 
-record Step (w : WorldView) (p : ℕ) (a : Act) : Type 0 where
-  happening : Happening
-  may : MayHappen w happening
-  is : happens w happening ≡ at_process p (act_on w.operations a) w
+-- an act of a process leads to the world after it
+abbrev Step : WorldView → ℕ → Act → Type 0
+Step w p a = LeadsTo w (at_process p (act_on w.operations a) w)
 
--- two steps of a process that come to the same where it stands
-at_same : (w : WorldView) (p : ℕ) (f g : ProcessView → ProcessView) → f (w.each p) ≡ g (w.each p) → at_process p f w ≡ at_process p g w
-at_same w p f g e i = record w { each = λ q. by q (q == p) refl i } where
-  by : (q : ℕ) (b : Bool) → (q == p) ≡ b → cond b (f (w.each q)) (w.each q) ≡ cond b (g (w.each q)) (w.each q)
-  by q true t = subst (λ r. f (w.each r) ≡ g (w.each r)) (sym (same_number q p t)) e
-  by q false t = refl
+by_one : (w to : WorldView) (h : Happening) → MayHappen w h → happens w h ≡ to → LeadsTo w to
+by_one w to h m is = record { happenings = h ∷ []; may = (m, tt); is = is }
 
 -- a process has what its board says that it has
 has_said : (w : WorldView) (p : ℕ) → Holds w → (name : Name) (m : ℕ) → HasUpTo (w.each p).node.board name m ((w.each p).node.board.acks (w.each p).node.me name m)
@@ -130,20 +126,20 @@ says_so w p board s says name m k lt =
     (says name m)
 
 step_of : (published : List Act) (w : WorldView) (p : ℕ) (a : Act) → Holds w → ((bytes : List ℕ) → DidIn published (A.Popped bytes) → IsSent w.parts bytes) → IsLocal published (w.each p) a → Step w p a
-step_of published w p (A.Posted name draft) h sent is = record { happening = Posts p name draft; may = tt; is = refl }
-step_of published w p (A.Harvested name) h sent is = record { happening = Harvests p name; may = tt; is = refl }
-step_of published w p (A.Gathered parent tag ranks) h sent is = record { happening = Gathers p parent tag ranks; may = tt; is = refl }
-step_of published w p (A.Pruned name n) h sent is = record { happening = Prunes p name n; may = tt; is = refl }
+step_of published w p (A.Posted name draft) h sent is = leads_draft w p name draft
+step_of published w p (A.Harvested name) h sent is = leads_by w (Harvests p name) tt
+step_of published w p (A.Gathered parent tag ranks) h sent is = leads_by w (Gathers p parent tag ranks) tt
+step_of published w p (A.Pruned name n) h sent is = leads_by w (Prunes p name n) tt
 step_of published w p (A.Took bytes) h sent is =
     let s : IsSent w.parts bytes = sent bytes is in
-    record { happening = Takes p s.place; may = tt; is = ap (λ o. at_process p (takes o) w) s.sent ∙ ap (λ b. at_process p (learns b) w) (sym (part_is w.parts bytes s)) }
+    by_one w _ (Takes p s.place) tt (ap (λ o. at_process p (takes o) w) s.sent ∙ ap (λ b. at_process p (learns b) w) (sym (part_is w.parts bytes s)))
 step_of published w p (A.StoppedTaking bytes left) h sent is =
     let s : IsSent w.parts bytes = sent bytes is.0 in
     let same : Some (part_of bytes) ≡ slice_get w.parts s.place = ap Some (part_is w.parts bytes s) ∙ sym s.sent in
-    record { happening = TakesPartly p s.place (look left); may = subst (λ o. MayLeave (w.each p).node.board o (look left)) same is.1; is = refl }
+    leads_by w (TakesPartly p s.place (look left)) (subst (λ o. MayLeave (w.each p).node.board o (look left)) same is.1)
 step_of published w p (A.Acknowledged board) h sent is =
     let numbers = said_on board (w.each p) in
-    record { happening = Acknowledges p numbers; may = says_so w p board h is; is = at_same w p (acknowledges numbers) (act_on w.operations (A.Acknowledged board)) refl }
+    by_one w _ (Acknowledges p numbers) (says_so w p board h is) (at_same w p (acknowledges numbers) (act_on w.operations (A.Acknowledged board)) refl)
 step_of published w p (A.Pushed bytes) h sent is = absurd is
 step_of published w p (A.Popped bytes) h sent is = absurd is
 
@@ -166,16 +162,17 @@ way published [] w p h sent are = record { more = []; may = tt; here = refl; oth
 way published (a ∷ acts) w p h sent are =
     let one : Step w p a = step_of published w p a h sent are.0 in
     let w1 : WorldView = at_process p (act_on w.operations a) w in
-    let h1 : Holds w1 = subst Holds one.is (holds_happens w one.happening h one.may) in
+    let h1 : Holds w1 = subst Holds one.is (holds_goes_on one.happenings w one.may h) in
     let are1 : AreLocal w.operations published (w1.each p) acts = subst (λ (v : ProcessView). AreLocal w.operations published v acts) (sym (at_self w p (act_on w.operations a))) are.1 in
     let rest : Way w1 p (after w.operations acts (w1.each p)) = way published acts w1 p h1 sent are1 in
-    let there : Way (happens w one.happening) p (after w.operations acts (w1.each p)) = subst (λ (u : WorldView). Way u p (after w.operations acts (w1.each p))) (sym one.is) rest in
+    let there : Way (goes_on w one.happenings) p (after w.operations acts (w1.each p)) = subst (λ (u : WorldView). Way u p (after w.operations acts (w1.each p))) (sym one.is) rest in
+    let all : goes_on w (one.happenings ++ there.more) ≡ goes_on (goes_on w one.happenings) there.more = goes_on-append one.happenings there.more w in
     record {
-      more = one.happening ∷ there.more;
-      may = (one.may, there.may);
-      here = there.here ∙ ap (after w.operations acts) (at_self w p (act_on w.operations a));
-      others = λ q ne. there.others q ne ∙ (ap (λ (u : WorldView). u.each q) one.is ∙ at_other w p (act_on w.operations a) q ne);
-      parts = there.parts ∙ ap (λ (u : WorldView). u.parts) one.is;
+      more = one.happenings ++ there.more;
+      may = may_append one.happenings there.more w one.may there.may;
+      here = ap (λ (u : WorldView). u.each p) all ∙ there.here ∙ ap (after w.operations acts) (at_self w p (act_on w.operations a));
+      others = λ q ne. ap (λ (u : WorldView). u.each q) all ∙ there.others q ne ∙ (ap (λ (u : WorldView). u.each q) one.is ∙ at_other w p (act_on w.operations a) q ne);
+      parts = ap (λ (u : WorldView). u.parts) all ∙ there.parts ∙ ap (λ (u : WorldView). u.parts) one.is;
     }
 
 -- what can happen after this, so that one process is as given and the parts are these

@@ -9,3 +9,4 @@ pub mod Goes
 pub mod Answers
 pub mod Fronts
 pub mod Counts
+pub mod Meetings

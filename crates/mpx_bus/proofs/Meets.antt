@@ -1,5 +1,5 @@
 -- Two ports that meet.
-use Rattle.std.proofs.Common.{◌≡◌, ◌≢◌, ◌⊎◌, ℕ, zero, suc, List, [], ◌∷◌, ◌++◌, set, Some, true, true≢false, slice_get, refl, sym, ap, ◌∙◌, subst, ⊎_elim, inl, inr, arith}
+use Rattle.std.proofs.Common.{◌≡◌, ◌≢◌, ◌⊎◌, ℕ, zero, suc, List, [], ◌∷◌, ◌++◌, length, set, Some, true, true≢false, slice_get, refl, sym, ap, ◌∙◌, subst, ⊎_elim, inl, inr, arith}
 use Rattle.std.proofs.lemmas.Bool.{cases_eq}
 use mathlib.Core.Option.{some, some-injective}
 use lib.ListN.{get_elem?}
@@ -21,51 +21,47 @@ use Rattle.mpx_bus.specs.Rule.{Seating, IsSent, IsPushed, world_of, FitsSeat, Fi
 use Rattle.mpx_bus.specs.Ports.{IsPort, port_view, HaveMet}
 use Rattle.mpx_bus.proofs.Journals.{onward}
 use Rattle.mpx_bus.proofs.Moves.{at_here, my_seat, one_seat, none_some, pair_of_some, apart}
+use Rattle.mpx_post.proofs.Lists.{slice_get-append}
+use Rattle.mpx_world.proofs.Lists.{slice_get-push, slice_get-push_cases}
 use Rattle.mpx_bus.proofs.Makes.{seated, seated_here, seated_else, nothing_there}
-
-two_seats : {A : Type 0} (a b c : A) (place : ℕ) → slice_get (a ∷ b ∷ []) place ≡ Some c → ((place ≡ 0) × (a ≡ c)) ⊎ ((place ≡ 1) × (b ≡ c))
-two_seats a b c zero e = inl (refl, cc)
-two_seats a b c (suc zero) e = inr (refl, cc)
-two_seats a b c (suc (suc k)) e = absurd (cc)
 
 second_of_some : (x y : ℕ × ℕ) → Some x ≡ Some y → x.1 ≡ y.1
 second_of_some x y e = ap (λ (z : ℕ × ℕ). z.1) (pair_of_some x y e)
 
 -- what was pushed before two passes were joined stands pushed after it
 pushed_join : (views : List View) (pass other : ℕ) (v u both : View) (bytes : List ℕ) → other ≢ pass → get_elem? views pass ≡ some v → get_elem? views other ≡ some u
-    → v ≡ standing v.setup (seat_of v ∷ []) → u ≡ standing u.setup (seat_of u ∷ []) → both.seats ≡ seat_of v ∷ seat_of u ∷ []
+    → u ≡ standing u.setup (seat_of u ∷ []) → both.seats ≡ v.seats ++ seat_of u ∷ []
     → IsPushed views bytes → IsPushed (set (set views pass both) other nobody) bytes
-pushed_join views pass other v u both bytes ne at at' is is' two p =
+pushed_join views pass other v u both bytes ne at at' is' all p =
     let here : get_elem? (set (set views pass both) other nobody) pass ≡ some both = set_else (set views pass both) other pass nobody (λ e. ne (sym e)) ∙ at_here views pass v both at in
     ⊎_elim
     (λ (e : p.pass ≡ pass).
     let same : p.view ≡ v = some-injective p.view v (sym p.here ∙ (ap (λ k. get_elem? views k) e ∙ at)) in
-    let o = one_seat (seat_of v) p.seen p.place (subst (λ (y : View). slice_get y.seats p.place ≡ Some p.seen) (same ∙ is) p.there) in
-    record { pass = pass; view = both; here = here; place = 0; seen = seat_of v; there = ap (λ xs. slice_get xs 0) two; pushed = subst (λ (y : Seen). DidIn y.journal (A.Pushed bytes)) (sym o.1) p.pushed })
+    let there : slice_get v.seats p.place ≡ Some p.seen = subst (λ (y : View). slice_get y.seats p.place ≡ Some p.seen) same p.there in
+    record { pass = pass; view = both; here = here; place = p.place; seen = p.seen; there = ap (λ xs. slice_get xs p.place) all ∙ slice_get-append v.seats (seat_of u ∷ []) p.place p.seen there; pushed = p.pushed })
     (λ (n : p.pass ≢ pass). ⊎_elim
     (λ (e : p.pass ≡ other).
     let same : p.view ≡ u = some-injective p.view u (sym p.here ∙ (ap (λ k. get_elem? views k) e ∙ at')) in
     let o = one_seat (seat_of u) p.seen p.place (subst (λ (y : View). slice_get y.seats p.place ≡ Some p.seen) (same ∙ is') p.there) in
-    record { pass = pass; view = both; here = here; place = 1; seen = seat_of u; there = ap (λ xs. slice_get xs 1) two; pushed = subst (λ (y : Seen). DidIn y.journal (A.Pushed bytes)) (sym o.1) p.pushed })
+    record { pass = pass; view = both; here = here; place = length v.seats; seen = seat_of u; there = ap (λ xs. slice_get xs (length v.seats)) all ∙ slice_get-push v.seats (seat_of u); pushed = subst (λ (y : Seen). DidIn y.journal (A.Pushed bytes)) (sym o.1) p.pushed })
     (λ (n' : p.pass ≢ other). record { pass = p.pass; view = p.view; here = set_else (set views pass both) other p.pass nobody n' ∙ (set_else views pass p.pass both n ∙ p.here); place = p.place; seen = p.seen; there = p.there; pushed = p.pushed })
     (cases_eq p.pass other))
     (cases_eq p.pass pass)
 
-pub merges : (pass : ℕ) (v : View) (other : ℕ) (u : View) → v ≡ standing v.setup (seat_of v ∷ []) → u ≡ standing u.setup (seat_of u ∷ [])
+-- a pass that stands for any processes takes in one that stands for one more
+pub merges : (pass : ℕ) (v : View) (other : ℕ) (u : View) → v ≡ standing v.setup v.seats → u ≡ standing u.setup (seat_of u ∷ [])
     → Merges SoundQueue pass v other u (met v u) nobody
 merges pass v other u is is' items views h at ne there =
-    let s : Seen = seat_of v in
     let t : Seen = seat_of u in
     let both : View = met v u in
     let at' : get_elem? views other ≡ some u = ⊎_elim (λ (x : (other ≡ pass) × (both ≡ u)). absurd (ne x.0)) (λ (x : (other ≢ pass) × (get_elem? views other ≡ some u)). x.1) (at_set views pass other both u there) in
     let mine = h.passes pass v at in
     let theirs = h.passes other u at' in
-    let fs = mine.seats 0 s (my_seat v is) in
     let ft = theirs.seats 0 t (my_seat u is') in
-    let two : both.seats ≡ s ∷ t ∷ [] = λ i. (is i).seats ++ (is' i).seats in
-    let s_not_t : s.me ≢ t.me = apart h.seat other pass 0 t.me s.me ft.here fs.here (λ e. ne (sym e)) in
+    let all : both.seats ≡ v.seats ++ t ∷ [] = λ i. v.seats ++ (is' i).seats in
+    let last : ℕ = length v.seats in
     let now : List View = set (set views pass both) other nobody in
-    let seat : Seating = seated h.seat t.me (Some (pass, 1)) in
+    let seat : Seating = seated h.seat t.me (Some (pass, last)) in
     let W : WorldView = world_of h.setup h.happenings in
     let Fit : ℕ → View → Type 0 = FitsView W seat h.named h.setup h.maker in
     record {
@@ -76,7 +72,7 @@ merges pass v other u is is' items views h at ne there =
       maker = h.maker;
       may = h.may;
       planned = h.planned;
-      frames = λ k bytes e. pushed_join views pass other v u both bytes ne at at' is is' two (h.frames k bytes e);
+      frames = λ k bytes e. pushed_join views pass other v u both bytes ne at at' is' all (h.frames k bytes e);
       passes = λ q y e. ⊎_elim
           (λ (x : (q ≡ other) × (nobody ≡ y)). subst (λ (z : ℕ × View). Fit z.0 z.1) (λ i. (sym x.0 i, x.1 i))
           (record { makes = λ m. absurd (true≢false (sym m)); names = λ n. absurd (true≢false (sym n)); seats = λ place y' e'. absurd (nothing_there place y' e') }))
@@ -85,26 +81,31 @@ merges pass v other u is is' items views h at ne there =
           (record {
             makes = λ m. absurd (true≢false (sym m));
             names = λ _. mine.names (ap (λ (z : View). z.named) is);
-            seats = λ place y' e'. ⊎_elim
-                (λ (o : (place ≡ 0) × (s ≡ y')). subst (λ (z : ℕ × Seen). FitsSeat W seat h.setup pass z.0 z.1) (λ i. (sym o.0 i, o.1 i))
-                (record { here = seated_else h.seat t.me (Some (pass, 1)) s.me s_not_t ∙ fs.here; process = fs.process; pushed = fs.pushed; popped = fs.popped }))
-                (λ (o : (place ≡ 1) × (t ≡ y')). subst (λ (z : ℕ × Seen). FitsSeat W seat h.setup pass z.0 z.1) (λ i. (sym o.0 i, o.1 i))
-                (record { here = seated_here h.seat t.me (Some (pass, 1)); process = ft.process; pushed = ft.pushed; popped = ft.popped }))
-                (two_seats s t y' place (subst (λ xs. slice_get xs place ≡ Some y') two e'));
+            seats = λ place y' e'. slice_get-push_cases (λ (s : Seen) (k : ℕ). FitsSeat W seat h.setup pass k s) v.seats t place y' (subst (λ xs. slice_get xs place ≡ Some y') all e')
+                (λ (old : slice_get v.seats place ≡ Some y').
+                let f = mine.seats place y' old in
+                let n : y'.me ≢ t.me = apart h.seat other pass place t.me y'.me ft.here f.here (λ e2. ne (sym e2)) in
+                record { here = seated_else h.seat t.me (Some (pass, last)) y'.me n ∙ f.here; process = f.process; pushed = f.pushed; popped = f.popped })
+                (λ (same : t ≡ y') (k : place ≡ last). subst (λ (z : ℕ × Seen). FitsSeat W seat h.setup pass z.0 z.1) (λ i. (sym k i, same i))
+                (record { here = seated_here h.seat t.me (Some (pass, last)); process = ft.process; pushed = ft.pushed; popped = ft.popped }));
           }))
           (λ (x' : (q ≢ pass) × (get_elem? views q ≡ some y)).
           let f = h.passes q y x'.1 in
           record {
-            makes = λ m. let o = f.makes m in (o.0, (λ p le. let r = o.1 p le in (seated_else h.seat t.me (Some (pass, 1)) p (λ (e2 : p ≡ t.me). none_some (other, 0) (sym r.0 ∙ (ap h.seat e2 ∙ ft.here))) ∙ r.0, r.1)), o.2);
+            makes = λ m. let o = f.makes m in (o.0, (λ p le. let r = o.1 p le in (seated_else h.seat t.me (Some (pass, last)) p (λ (e2 : p ≡ t.me). none_some (other, 0) (sym r.0 ∙ (ap h.seat e2 ∙ ft.here))) ∙ r.0, r.1)), o.2);
             names = f.names;
             seats = λ place y' e'.
                 let g = f.seats place y' e' in
                 let n : y'.me ≢ t.me = apart h.seat other q place t.me y'.me ft.here g.here x.0 in
-                record { here = seated_else h.seat t.me (Some (pass, 1)) y'.me n ∙ g.here; process = g.process; pushed = g.pushed; popped = g.popped };
+                record { here = seated_else h.seat t.me (Some (pass, last)) y'.me n ∙ g.here; process = g.process; pushed = g.pushed; popped = g.popped };
           })
           (at_set views pass q both y x.1))
           (at_set (set views pass both) other q nobody y e);
     }
+
+-- a pass that stands for one process stands for its seats
+pub one_stands : (v : View) → v ≡ standing v.setup (seat_of v ∷ []) → v ≡ standing v.setup v.seats
+one_stands v is = is ∙ ap (standing v.setup) (sym (ap (λ (u : View). u.seats) is))
 
 pub learns : (pass : ℕ) (v : View) → v.named ≡ true → Learns SoundQueue pass v (λ items. StandsForOneWorld v)
 learns pass v named items views h at =

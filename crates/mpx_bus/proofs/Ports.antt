@@ -29,9 +29,11 @@ use Rattle.mpx_node.specs.declared.node.Harvest.TheVariants as H
 use Rattle.mpx_node.specs.Harvests.{Harvests}
 use Rattle.mpx_node.specs.Deltas.{LacksOn, SaysWhatItHas, lacking_on}
 use Rattle.mpx_node.specs.Nodes.{NodeView, Posts, Opens, StopsTaking, checked_on, next_result, gathers_on, start_node, learn, learn_some, prune_part}
-use Rattle.mpx_world.specs.Worlds.{ProcessView, makes, stores, opens_gathering, drops, takes, in_board}
+use Rattle.mpx_world.specs.Drafted.{makes_checked}
+use Rattle.mpx_world.specs.Worlds.{ProcessView, stores, opens_gathering, drops, takes, in_board}
 use Rattle.mpx_world.proofs.Lists.{itself, same_number, name_itself, slice_get-push, take-all, join_all-push}
-use Rattle.mpx_world.proofs.Kept.{Kept, kept_itself, kept_makes, kept_stores, kept_opens, kept_drops, kept_learns, kept_then, taken_node}
+use Rattle.mpx_world.proofs.Drafted.{kept_checked}
+use Rattle.mpx_world.proofs.Kept.{Kept, kept_itself, kept_stores, kept_opens, kept_drops, kept_learns, kept_then, taken_node}
 use Rattle.mpx_world.proofs.Covering.{digest_had}
 use Rattle.mpx_world.proofs.Whole.{well_by}
 use Rattle.mpx_bus.specs.declared.act.Act.{Act}
@@ -57,7 +59,7 @@ IsJoined v = v.node.board ≡ join_all v.learned
 grown : (v : ProcessView) (part : Look) → IsJoined v → join v.node.board part ≡ join_all (v.learned ++ part ∷ [])
 grown v part e = ap (λ b. join b part) e ∙ sym (join_all-push v.learned part)
 
-joined_makes : (name : Name) (r : Result Given PostError) (v : ProcessView) → IsJoined v → IsJoined (makes name r v)
+joined_makes : (name : Name) (r : Result Given PostError) (v : ProcessView) → IsJoined v → IsJoined (makes_checked name r v)
 joined_makes name (Ok given) v e = grown v _ e
 joined_makes name (Err refusal) v e = e
 
@@ -108,7 +110,7 @@ sends_part setup p journal bytes view spells only =
 -- A PROCESS KEEPS THE BIRTH OF THE WORLD
 
 kept_act : (ops : List Operation) (a : Act) (v : ProcessView) → Kept v (act_on ops a v)
-kept_act ops (A.Posted name draft) v = kept_makes name (checked_on ops v.node name draft) v
+kept_act ops (A.Posted name draft) v = kept_checked name (checked_on ops v.node name draft) v
 kept_act ops (A.Harvested name) v = kept_stores ops name (next_result ops v.node name) v
 kept_act ops (A.Gathered parent tag ranks) v = kept_opens parent (gathers_on v.node parent tag ranks) v
 kept_act ops (A.Pruned name n) v = kept_drops name n (pruned_on v.node.board name n) v
@@ -246,7 +248,7 @@ new_port setup me node v journal is here none =
       stood = new_stood setup me;
     })
 
-makes_node : (name : Name) (r : Result Given PostError) (call : ℕ) (v : ProcessView) (now : NodeView) → Posts name r (Ok call) v.node now → now ≡ (makes name r v).node
+makes_node : (name : Name) (r : Result Given PostError) (call : ℕ) (v : ProcessView) (now : NodeView) → Posts name r (Ok call) v.node now → now ≡ (makes_checked name r v).node
 makes_node name (Ok given) call v now p = p.1
 makes_node name (Err refusal) call v now p = absurd (cc)
 

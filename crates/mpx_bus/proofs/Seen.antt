@@ -13,7 +13,8 @@ use Rattle.mpx_board.specs.Looks.{look}
 use Rattle.mpx_board.specs.Changes.{pruned_on}
 use Rattle.mpx_node.specs.declared.finished.Finished.{Finished}
 use Rattle.mpx_node.specs.Nodes.{harvest_part, gathering_fact, checked_on, next_result, gathers_on, prune_part}
-use Rattle.mpx_world.specs.Worlds.{ProcessView, makes, made_next, stores, opens_gathering, drops, takes, post_fact, IsSeen, in_board, in_part}
+use Rattle.mpx_world.specs.Drafted.{makes_checked}
+use Rattle.mpx_world.specs.Worlds.{ProcessView, made_next, stores, opens_gathering, drops, takes, post_fact, IsSeen, in_board, in_part}
 use Rattle.mpx_post.proofs.Lists.{slice_get-append}
 use Rattle.mpx_bus.specs.declared.act.Act.{Act}
 use Rattle.mpx_bus.specs.declared.act.Act.TheVariants as A
@@ -29,7 +30,7 @@ record Grows (v u : ProcessView) : Type 0 where
 no_growth : (v : ProcessView) → Grows v v
 no_growth v = record { more = []; is = sym (append-nil v.learned) }
 
-grows_makes : (name : Name) (r : Result Given PostError) (v : ProcessView) → Grows v (makes name r v)
+grows_makes : (name : Name) (r : Result Given PostError) (v : ProcessView) → Grows v (makes_checked name r v)
 grows_makes name (Ok given) v = record { more = post_fact name given v.node ∷ []; is = refl }
 grows_makes name (Err refusal) v = no_growth v
 

@@ -10,7 +10,8 @@ use Rattle.mpx_board.specs.Parts.{PartsView}
 use Rattle.mpx_format.specs.Decoding.{IsSpelled}
 use Rattle.mpx_delta.specs.Digests.{Numbers, HasUpTo}
 use Rattle.mpx_node.specs.Nodes.{NodeView}
-use Rattle.mpx_world.specs.Worlds.{ProcessView, WorldView, posts, harvests, gathers, prunes, learns, acknowledges, start, IsSeen}
+use Rattle.mpx_world.specs.Worlds.{ProcessView, WorldView, harvests, gathers, prunes, learns, acknowledges, start, IsSeen}
+use Rattle.mpx_world.specs.Drafted.{posts}
 use Rattle.mpx_bus.specs.declared.act.Act.{Act}
 use Rattle.mpx_bus.specs.declared.act.Act.TheVariants as A
 use Rattle.mpx_bus.specs.declared.act.Setup.{Setup}

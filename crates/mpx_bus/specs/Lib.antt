@@ -6,3 +6,4 @@ pub mod Ports
 pub mod Answers
 pub mod Buses
 pub mod Finished
+pub mod Meetings

@@ -6,6 +6,7 @@
 mod act;
 mod both;
 mod frame;
+mod meeting;
 mod port;
 mod rule;
 mod steps;

@@ -36,18 +36,18 @@ use std::sync::Wait;
 /// The queue of frames that all ports share.
 #[derive(Drop)]
 pub struct Bus {
-    queue: Queue,
+    pub(crate) queue: Queue,
 }
 
 /// A process: its node, its place at the queue, the frames of its list that are not sent yet, and the list of what it did, which
 /// contracts alone see.
 #[derive(Drop)]
 pub struct Port {
-    node: Node,
-    kept: Vec<Frame>,
-    pass: QueuePass,
-    empty: EmptyQueue,
-    line: JournalPass,
+    pub(crate) node: Node,
+    pub(crate) kept: Vec<Frame>,
+    pub(crate) pass: QueuePass,
+    pub(crate) empty: EmptyQueue,
+    pub(crate) line: JournalPass,
 }
 
 impl Model for Port {

@@ -1,5 +1,5 @@
 -- Harvests one after the other.
-use Rattle.std.proofs.Common.{ℕ, List, refl, subst}
+use Rattle.std.proofs.Common.{◌≡◌, ℕ, List, refl, subst}
 use Rattle.std.specs.Prelude.{is_some, Result}
 use Rattle.join_core.specs.declared.memory.OutOfMemory.{OutOfMemory}
 use Rattle.mpx_name.specs.Name.{Name}
@@ -7,7 +7,7 @@ use Rattle.mpx_num.specs.declared.own.Operation.{Operation}
 use Rattle.mpx_node.specs.declared.node.Harvest.{Harvest}
 use Rattle.mpx_node.specs.Harvests.{Harvests}
 use Rattle.mpx_node.specs.Nodes.{NodeView, next_result}
-use Rattle.mpx_comm.specs.Later.{Later, IsPending}
+use Rattle.mpx_comm.specs.Later.{IsPending}
 use Rattle.mpx_comm.specs.Harvested.{Harvested, ComesByHarvests, WasPending, stay, on}
 use Rattle.mpx_comm.proofs.Steps.{later_more, later_none}
 
@@ -20,6 +20,12 @@ harvested_then ops a b c (on x d y name answer done more) h = on a d c name answ
 
 pub harvested_more : (ops : List Operation) (a b c : NodeView) (name : Name) (answer : Result Harvest OutOfMemory) → Harvested ops a b → Harvests ops (is_some (b.opened name)) name (next_result ops b name) answer b c → Harvested ops a c
 harvested_more ops a b c name answer h done = harvested_then ops a b c h (on b c c name answer done (harvested_none ops c))
+
+-- BY THE SAME OPERATIONS
+
+-- what holds by the operations of a later state of a host, holds by those of an earlier one
+pub by_first : {H : Type 0} (goes_by : H → List Operation → List Operation) (a b : H) (lent : List Operation) (Holds : List Operation → Type 0) → goes_by b ≡ goes_by a → Holds (goes_by b lent) → Holds (goes_by a lent)
+by_first goes_by a b lent Holds same h = subst (λ (by : List Operation → List Operation). Holds (by lent)) same h
 
 -- WHAT WAS PENDING ON THE WAY
 

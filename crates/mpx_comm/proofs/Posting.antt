@@ -1,27 +1,24 @@
 -- Posts, and the open requests.
 use Rattle.std.proofs.Common.{◌≡◌, ℕ, zero, suc, ◌+◌, ◌<◌, ◌≤◌, ◌==◌, ◌&&◌, Bool, true, false, cond, List, [], ◌∷◌, ◌++◌, length, Option, Some, None, ◌⊎◌, inl, inr, refl, sym, ap, ◌∙◌, subst, arith}
 use Rattle.std.specs.Prelude.{Result, Ok, Err, IsOk, IfOk, slice_get, map, drop, remove, nat_lt}
-use Rattle.std.specs.Option.{option_map}
+use Rattle.std.specs.Option.{option_map, unwrap_or}
 use Rattle.std.specs.List.{list_any}
 use Rattle.std.specs.Set.{remove_key}
 use Rattle.indexmap.specs.IndexSet.{insert_key}
 use Rattle.std.proofs.lemmas.Bool.Decides.{Decides-eqb, nat_tests}
 use Rattle.mpx_name.specs.Order.{name_equality}
 use Rattle.mpx_post.specs.Posts.{Given}
-use Rattle.mpx_birth.specs.Births.{BirthView, rank_in}
+use Rattle.mpx_birth.specs.Births.{BirthView}
 use Rattle.mpx_post.specs.declared.draft.Draft.{Draft}
 use Rattle.mpx_post.specs.declared.draft.PostError.{PostError}
 use Rattle.mpx_post.specs.declared.draft.PostError.TheVariants as R
-use Rattle.mpx_post.specs.declared.draft.At.{At}
-use Rattle.mpx_kind.specs.Kinds.{kind_of}
-use Rattle.mpx_post.specs.Seats.{lacks_topology}
-use Rattle.mpx_post.specs.Drafts.{at, checked, checked_as, checked_at, drafted_seat, first_that_holds, given_by, refusal_of, refusals, stray_refusals, unless}
+use Rattle.mpx_post.specs.Drafts.{at, checked, given_by, refusal_of}
 use Rattle.join_core.specs.Flat.{known, unknown}
 use Rattle.mpx_name.specs.Name.{Name, same_name}
 use Rattle.mpx_num.specs.declared.own.Operation.{Operation}
-use Rattle.mpx_num.specs.Operations.{is_for}
 use Rattle.mpx_board.specs.Boards.{Look, Held, only, nothing, told}
-use Rattle.mpx_node.specs.Nodes.{NodeView, OpenedView, posted_on, posted_by, Posts, post_at, posts_more, checked_on, checked_by, checked_there, results_on, results_by, front_on}
+use Rattle.mpx_node.proofs.Drafted.{accepted}
+use Rattle.mpx_node.specs.Nodes.{NodeView, OpenedView, posted_on, posted_by, Posts, with_post, posts_more, checked_on, checked_by, results_on, results_by, front_on}
 use Rattle.mpx_comm.specs.declared.request.Request.{Request}
 use Rattle.mpx_comm.specs.Requests.{same_request, close, close_all, ArePosted, result_of, AreResults, WerePending, HasPosted, next_call, IsRefusal, Asks, AwaitsOne, GivesUpOne, Waits, PostsAnd, Calls}
 use Rattle.mpx_comm.specs.declared.answers.WaitError.TheVariants as W
@@ -91,7 +88,7 @@ pub record IsMade (name : Name) (call : ℕ) (old new : NodeView) (r : Result Gi
   pub given : Given
   pub checked : r ≡ Ok given
   pub last : call ≡ posted_on old name
-  pub made : new ≡ post_at name given old
+  pub made : new ≡ with_post name given old
 
 pub is_made : (name : Name) (call : ℕ) (old new : NodeView) (r : Result Given PostError) → Posts name r (Ok call) old new → IsMade name call old new r
 is_made name call old new (Err e) h = cc (h.0)
@@ -101,6 +98,12 @@ no_fewer : (given : Given) (b : Bool) (o : Option OpenedView) → posted_by o �
 no_fewer given true None = omega arith
 no_fewer given true (Some o) = omega arith
 no_fewer given false o = omega arith
+
+-- whatever a post comes to, what was posted before it is
+pub posts_keep : (name : Name) (r : Result Given PostError) (result : Result ℕ PostError) (old new : NodeView) (rs : List Request) → Posts name r result old new → ArePosted old rs → ArePosted new rs
+posts_keep name (Err x) result old new rs h all = subst (λ n. ArePosted n rs) (sym h.1) all
+posts_keep name (Ok given) (Err e) old new rs h all = subst (λ n. ArePosted n rs) (sym h.1) all
+posts_keep name (Ok given) (Ok call) old new rs h all = λ i r e. subst (λ x. r.call < posted_on x r.name) (sym h.1) (let m = no_fewer given (same_name r.name name) (old.opened r.name) in omega (arith, all i r e, m))
 
 one_more : (ops : List Operation) (o : Option OpenedView) (birth : Option BirthView) (me : ℕ) (name : Name) (draft : Draft) (given : Given) → checked_by ops o birth me name draft ≡ Ok given → posted_by (option_map (posts_more given) o) ≡ posted_by o + 1
 one_more ops None birth me name draft given e = cc e
@@ -120,42 +123,6 @@ posted_added ops old new draft rs after q all made e i r f = by_place (get_eithe
   by_place (inl there) = omega (arith, all i r there, grown r.name)
   by_place (inr last) = subst (λ (x : Request). x.call < posted_on new x.name) last.1 (omega (arith, next, made.last))
 
--- a draft's post is its own
-given_in : Given → Result Given PostError → Given
-given_in other (Ok given) = given
-given_in other (Err e) = other
-
-drafted : (e : Option PostError) (x y : Given) → unless e x ≡ Ok y → y ≡ x
-unfolding given_in
-drafted None x y f = ap (given_in x) (sym f)
-drafted (Some r) x y f = cc f
-
-given_drafted : (ops : List Operation) (birth : BirthView) (me : ℕ) (at : At) (draft : Draft) (given : Given) → checked ops birth me at draft ≡ Ok given → given ≡ given_by draft
-unfolding checked
-given_drafted ops birth me at draft given e = by_rank (rank_in me birth.members) e where
-  by_test : (b : Bool) (x y : Option PostError) → cond b (unless x (given_by draft)) (unless y (given_by draft)) ≡ Ok given → given ≡ given_by draft
-  by_test true x y f = drafted x (given_by draft) given f
-  by_test false x y f = drafted y (given_by draft) given f
-
-  by_closed : (rank : ℕ) (b : Bool) → (let x : Result Given PostError = cond b (Err R.Closed) (checked_as ops rank birth at draft) in x) ≡ Ok given → given ≡ given_by draft
-  by_closed rank true f = cc f
-  by_closed rank false f = by_test (lacks_topology birth.topology (kind_of draft.call)) (first_that_holds (stray_refusals draft)) (first_that_holds (refusals (is_for ops draft.op draft.ty) (drafted_seat birth rank draft) at draft)) f
-
-  by_rank : (o : Option ℕ) → checked_at ops o birth at draft ≡ Ok given → given ≡ given_by draft
-  by_rank None f = cc f
-  by_rank (Some rank) f = by_closed rank at.closed f
-
-given_there : (ops : List Operation) (posted : ℕ) (birth : Option BirthView) (me : ℕ) (name : Name) (draft : Draft) (given : Given) → checked_there ops posted birth me name draft ≡ Ok given → given ≡ given_by draft
-given_there ops posted None me name draft given e = cc e
-given_there ops posted (Some birth) me name draft given e = given_drafted ops birth me (at name posted false) draft given e
-
-given_is : (ops : List Operation) (o : Option OpenedView) (birth : Option BirthView) (me : ℕ) (name : Name) (draft : Draft) (given : Given) → checked_by ops o birth me name draft ≡ Ok given → given ≡ given_by draft
-given_is ops None birth me name draft given e = cc e
-given_is ops (Some o) birth me name draft given e = by_freed o.freed e where
-  by_freed : (b : Bool) → (let x : Result Given PostError = cond b (Err R.Closed) (checked_there ops o.posted birth me name draft) in x) ≡ Ok given → given ≡ given_by draft
-  by_freed true f = cc f
-  by_freed false f = given_there ops o.posted birth me name draft given f
-
 results_stay : (given : Given) (b : Bool) (o : Option OpenedView) → results_by (cond b (option_map (posts_more given) o) o) ≡ results_by o
 results_stay given true None = refl
 results_stay given true (Some o) = refl
@@ -163,7 +130,7 @@ results_stay given false o = refl
 
 module _ (old : NodeView) (name : Name) (given : Given) where
   abbrev posting : NodeView
-  posting = post_at name given old
+  posting = with_post name given old
 
   abbrev fact : Look
   fact = only (Held name (posted_on old name) old.me (known given))
@@ -189,11 +156,11 @@ module _ (old : NodeView) (name : Name) (given : Given) where
 
   pub has_posted : (ops : List Operation) (draft : Draft) → front_on old name ≤ posted_on old name → checked_on ops old name draft ≡ Ok given → HasPosted ops name draft old posting
   has_posted ops draft bounded e =
-      let is : given ≡ given_by draft = given_is ops (old.opened name) (told (old.board.contexts name).birth) old.me name draft given e in
+      let is : given ≡ given_by draft = (accepted ops old name draft given e).gives in
       record {
         accepted = e ∙ ap Ok is;
         own = subst (λ g. IsOwn posting name (posted_on old name) g) is (own_by bounded);
-        posted = λ n. ap (λ g. posted_on (post_at name g old) n) is;
+        posted = λ n. ap (λ g. posted_on (with_post name g old) n) is;
         stored = λ n k f h. ap (λ rs. slice_get rs k) (results_stay given (same_name n name) (old.opened n)) ∙ h;
         kept = kept_by;
       }
@@ -218,10 +185,10 @@ post_done ops old new name call draft rs after q bounded all posts is keys =
     ((is ∙ (λ i. record { name = name; call = at.last i }), subst (HasPosted ops name draft old) (sym at.made) (has_posted old name at.given ops draft bounded at.checked), last), posted_added ops old new draft rs after q all made last)
 
 -- it is posted as it was drafted, and nothing else changes
-pub posted_exactly : (ops : List Operation) (old new : NodeView) (name : Name) (call : ℕ) (draft : Draft) → Posts name (checked_on ops old name draft) (Ok call) old new → new ≡ post_at name (given_by draft) old
+pub posted_exactly : (ops : List Operation) (old new : NodeView) (name : Name) (call : ℕ) (draft : Draft) → Posts name (checked_on ops old name draft) (Ok call) old new → new ≡ with_post name (given_by draft) old
 posted_exactly ops old new name call draft posts =
     let at : IsMade name call old new (checked_on ops old name draft) = is_made name call old new (checked_on ops old name draft) posts in
-    at.made ∙ ap (λ given. post_at name given old) (given_is ops (old.opened name) (told (old.board.contexts name).birth) old.me name draft at.given at.checked)
+    at.made ∙ ap (λ given. with_post name given old) (accepted ops old name draft at.given at.checked).gives
 
 -- REFUSALS
 
@@ -230,10 +197,11 @@ pub is_refused : (r : Result Given PostError) (e : PostError) → Some e ≡ ref
 is_refused (Ok given) e h = cc h
 is_refused (Err x) e h = inl (ap Err (sym (same_Some e x h)))
 
--- what isn't refused comes to a post
-pub accepted : (r : Result Given PostError) → None ≡ refusal_of r → IsOk r
-accepted (Ok given) h = refl
-accepted (Err x) h = cc h
+-- the refusal, or want of memory where there is none
+pub refused_or : (o : Option PostError) (r : Result Given PostError) → o ≡ refusal_of r → IsRefusal r (unwrap_or o R.OutOfMemory)
+refused_or (Some e) r h = is_refused r e h
+refused_or None (Ok given) h = inr (refl, refl)
+refused_or None (Err x) h = cc h
 
 -- LOOKING AT MANY
 

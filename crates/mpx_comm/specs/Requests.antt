@@ -13,7 +13,7 @@ use Rattle.mpx_post.specs.declared.draft.Draft.{Draft}
 use Rattle.mpx_post.specs.declared.draft.PostError.{PostError}
 use Rattle.mpx_post.specs.declared.draft.PostError.TheVariants as R
 use Rattle.mpx_node.specs.declared.finished.Finished.{Finished}
-use Rattle.mpx_node.specs.Nodes.{NodeView, Opens, posted_on, post_at, checked_on, gathers_on}
+use Rattle.mpx_node.specs.Nodes.{NodeView, Opens, posted_on, with_post, checked_on, gathers_on}
 use Rattle.mpx_comm.specs.declared.request.Request.{Request}
 use Rattle.mpx_comm.specs.declared.answers.Tested.{Tested}
 use Rattle.mpx_comm.specs.declared.answers.Tested.TheVariants.{Done, NotYet}
@@ -50,7 +50,7 @@ ArePosted node rs = (i : ℕ) (request : Request) → slice_get rs i ≡ Some re
 pub record HasPosted (ops : List Operation) (name : Name) (draft : Draft) (old new : NodeView) : Type 0 where
   pub accepted : checked_on ops old name draft ≡ Ok (given_by draft)
   pub own : IsOwn new name (posted_on old name) (given_by draft)
-  pub posted : (n : Name) → posted_on new n ≡ posted_on (post_at name (given_by draft) old) n
+  pub posted : (n : Name) → posted_on new n ≡ posted_on (with_post name (given_by draft) old) n
   pub stored : (n : Name) (call : ℕ) (finished : Finished) → result_at old n call ≡ Some finished → result_at new n call ≡ Some finished
   pub kept : (n : Name) (call : ℕ) (given : Given) → IsOwn old n call given → IsOwn new n call given
 
@@ -65,7 +65,7 @@ IsRefusal checked e = (checked ≡ Err e) ⊎ ((e ≡ R.OutOfMemory) × IsOk che
 -- just the draft is posted, and its request is the last open one; or it is refused, and nothing changes
 abbrev pub Asks : List Operation → Name → Draft → Result Request PostError → (old new : NodeView) → (before after : List Request) → Type 0
 Asks ops name draft (Ok request) old new before after =
-    (request ≡ next_call old name) × HasPosted ops name draft old new × (after ≡ before ++ request ∷ []) × (new ≡ post_at name (given_by draft) old)
+    (request ≡ next_call old name) × HasPosted ops name draft old new × (after ≡ before ++ request ∷ []) × (new ≡ with_post name (given_by draft) old)
 Asks ops name draft (Err e) old new before after = IsRefusal (checked_on ops old name draft) e × (new ≡ old) × (after ≡ before)
 
 -- a gathering is opened, and stays so, and then its call is asked for; or it isn't opened, and nothing changes
@@ -154,7 +154,7 @@ WaitsAll node turned refused requests turns (Err (NoMemory back)) old new before
 
 -- the draft is posted, with no turn, and from there on the host waits
 abbrev pub PostsAnd : {H : Type 0} → (node : H → NodeView) → (turned : H → ℕ → H → Type 0) → Name → Draft → H → (waits : H → Type 0) → Type 0
-PostsAnd {H} node turned name draft old waits = (posted : H) × turned old 0 posted × (node posted ≡ post_at name (given_by draft) (node old)) × waits posted
+PostsAnd {H} node turned name draft old waits = (posted : H) × turned old 0 posted × (node posted ≡ with_post name (given_by draft) (node old)) × waits posted
 
 -- a blocking call is a post and a wait: its result says the draft's post; where it doesn't come, its request is handed out, still open
 abbrev pub Calls : {H : Type 0} → List Operation → (node : H → NodeView) → (turned : H → ℕ → H → Type 0) → (refused : H → H → Type 0) → Name → Draft → (turns : ℕ) → Result Finished CallError → (old new : H) → (before after : List Request) → Type 0

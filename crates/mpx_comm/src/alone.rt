@@ -1,12 +1,12 @@
 //! A desk over a node alone, whose user carries the boards.
-ghost use Rattle.std.specs.Prelude.{◌≡◌, ◌≤◌, All, IfOk, IsTrue, OnOk, OnErr, is_ok, map};
+ghost use Rattle.std.specs.Prelude.{◌≡◌, ◌≤◌, All, IfOk, IsTrue, OnOk, OnErr, is_ok, map, refl};
 ghost use Rattle.mpx_board.specs.Boards.{IsBoardBelow, join_all};
 ghost use Rattle.mpx_board.specs.Changes.{pruned_on};
 ghost use Rattle.mpx_board.specs.Looks.{look, parts_of};
 ghost use Rattle.mpx_format.specs.Decoding.{decoded, shown};
 ghost use Rattle.mpx_format.specs.Encoding.{length_told};
 ghost use Rattle.mpx_parts.specs.Facts.{OnlyFactsOf};
-ghost use Rattle.mpx_node.specs.Bounded.{node_bounded};
+ghost use Rattle.mpx_node.specs.laws.Bounded.{node_bounded};
 ghost use Rattle.mpx_node.specs.Deltas.{AreLacked, SaysWhatItHas, lacking_on};
 ghost use Rattle.mpx_node.specs.Nodes.{StopsTaking, learn, learn_some, prune_part};
 ghost use Rattle.mpx_comm.specs.Harvested.{HarvestsNext};
@@ -26,6 +26,9 @@ impl Host for Node {
     ghost use Rattle.mpx_node.specs.Shown.{node_of};
 
     ghost node = { node_of };
+
+    // By those that are lent.
+    ghost goes_by = { λ h lent. lent };
 
     ghost turned = { λ a n b. Unit {0} };
 
@@ -69,6 +72,8 @@ impl Host for Node {
     }
 
     ghost bounded = { node_bounded };
+
+    ghost stays_by = { λ a b n x. refl };
 
     ghost turns_none = { λ h. tt };
 

@@ -27,7 +27,7 @@ impl<H: Host> Desk<H> {
         turns: u64,
         ops: &Ops,
     ) -> Result<Finished, CallError>
-        ensures { DeskCalls (⟦<Ops as Listing>⟧.operations ops.now) H.node H.turned H.turn_refused comm.now.name line.dup turns result self.old self.new }
+        ensures { DeskCalls (H.goes_by self.old.host (⟦<Ops as Listing>⟧.operations ops.now)) H.node H.turned H.turn_refused comm.now.name line.dup turns result self.old self.new }
     {
         let draft = lines::dup();
         self.call_on(alloc, &comm.name, draft, turns, ops)
@@ -45,7 +45,7 @@ impl<H: Host> Desk<H> {
         turns: u64,
         ops: &Ops,
     ) -> Result<Finished, CallError>
-        ensures { DeskCalls (⟦<Ops as Listing>⟧.operations ops.now) H.node H.turned H.turn_refused comm.now.name (line.split colour key) turns result self.old self.new }
+        ensures { DeskCalls (H.goes_by self.old.host (⟦<Ops as Listing>⟧.operations ops.now)) H.node H.turned H.turn_refused comm.now.name (line.split colour key) turns result self.old self.new }
     {
         let draft = lines::split(colour, key);
         self.call_on(alloc, &comm.name, draft, turns, ops)
@@ -63,7 +63,7 @@ impl<H: Host> Desk<H> {
         turns: u64,
         ops: &Ops,
     ) -> Result<Finished, CallError>
-        ensures { DeskCalls (⟦<Ops as Listing>⟧.operations ops.now) H.node H.turned H.turn_refused comm.now.name (line.create ranks) turns result self.old self.new }
+        ensures { DeskCalls (H.goes_by self.old.host (⟦<Ops as Listing>⟧.operations ops.now)) H.node H.turned H.turn_refused comm.now.name (line.create ranks) turns result self.old self.new }
     {
         let draft = lines::create(ranks);
         self.call_on(alloc, &comm.name, draft, turns, ops)
@@ -82,7 +82,7 @@ impl<H: Host> Desk<H> {
         turns: u64,
         ops: &Ops,
     ) -> Result<Finished, CallError>
-        ensures { DeskCallsGathered (⟦<Ops as Listing>⟧.operations ops.now) H.node H.turned H.turn_refused comm.now.name tag ranks.now turns result self.old self.new }
+        ensures { DeskCallsGathered (H.goes_by self.old.host (⟦<Ops as Listing>⟧.operations ops.now)) H.node H.turned H.turn_refused comm.now.name tag ranks.now turns result self.old self.new }
     {
         match self.open_gathering(alloc, comm, tag, ranks) {
             Err(refusal) => Err(CallError::Refused(refusal)),
@@ -103,7 +103,7 @@ impl<H: Host> Desk<H> {
         ranks: &[i128],
         ops: &Ops,
     ) -> Result<Request, PostError>
-        ensures asks { DeskAsksGathered (⟦<Ops as Listing>⟧.operations ops.now) H.node H.turned comm.now.name tag ranks.now result self.old self.new }
+        ensures asks { DeskAsksGathered (H.goes_by self.old.host (⟦<Ops as Listing>⟧.operations ops.now)) H.node H.turned comm.now.name tag ranks.now result self.old self.new }
         ensures no_turn { H.turned self.old.host 0 self.new.host }
     {
         match self.open_gathering(alloc, comm, tag, ranks) {
@@ -128,7 +128,7 @@ impl<H: Host> Desk<H> {
         turns: u64,
         ops: &Ops,
     ) -> Result<Finished, CallError>
-        ensures { DeskCalls (⟦<Ops as Listing>⟧.operations ops.now) H.node H.turned H.turn_refused comm.now.name (line.dist_graph weighted edges.items) turns result self.old self.new }
+        ensures { DeskCalls (H.goes_by self.old.host (⟦<Ops as Listing>⟧.operations ops.now)) H.node H.turned H.turn_refused comm.now.name (line.dist_graph weighted edges.items) turns result self.old self.new }
     {
         let (sources, destinations) = (Vec::new(alloc), Vec::new(alloc));
         let new = NewCommunicator::DistGraph;
@@ -149,7 +149,7 @@ impl<H: Host> Desk<H> {
         turns: u64,
         ops: &Ops,
     ) -> Result<Finished, CallError>
-        ensures { DeskCalls (⟦<Ops as Listing>⟧.operations ops.now) H.node H.turned H.turn_refused comm.now.name (line.dist_graph_adjacent weighted sources.items destinations.items) turns result self.old self.new }
+        ensures { DeskCalls (H.goes_by self.old.host (⟦<Ops as Listing>⟧.operations ops.now)) H.node H.turned H.turn_refused comm.now.name (line.dist_graph_adjacent weighted sources.items destinations.items) turns result self.old self.new }
     {
         let new = NewCommunicator::DistGraphAdjacent;
         let draft = lines::of_graph(new, weighted, Vec::new(alloc), sources, destinations);
@@ -166,7 +166,7 @@ impl<H: Host> Desk<H> {
         turns: u64,
         ops: &Ops,
     ) -> Result<Finished, CallError>
-        ensures { DeskCalls (⟦<Ops as Listing>⟧.operations ops.now) H.node H.turned H.turn_refused comm.now.name line.free turns result self.old self.new }
+        ensures { DeskCalls (H.goes_by self.old.host (⟦<Ops as Listing>⟧.operations ops.now)) H.node H.turned H.turn_refused comm.now.name line.free turns result self.old self.new }
     {
         let draft = lines::free();
         self.call_on(alloc, &comm.name, draft, turns, ops)

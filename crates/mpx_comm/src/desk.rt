@@ -1,12 +1,14 @@
 //! The user's calls over a host.
-ghost use Rattle.std.specs.Prelude.{◌≡◌, ◌≤◌, [], ℕ, OnOk, IfOk, IfErr};
+ghost use Rattle.std.specs.Prelude.{◌≡◌, ◌≤◌, [], ℕ, Result, OnOk, IfOk, IfErr};
 ghost use Rattle.indexmap.specs.IndexSet.{spare};
-ghost use Rattle.mpx_node.specs.Nodes.{Opens, gathers_on, post_at};
-ghost use Rattle.mpx_post.specs.Drafts.{given_by};
+ghost use Rattle.mpx_node.specs.Nodes.{Opens, gathers_on, with_post};
+ghost use Rattle.mpx_post.specs.declared.draft.PostError.{PostError as PostErrorView};
+ghost use Rattle.mpx_post.specs.Drafts.{given_by, refusal_of};
+ghost use Rattle.mpx_post.specs.Posts.{Given};
 ghost use Rattle.mpx_comm.specs.Comms.{gathering_in};
 ghost use Rattle.mpx_comm.specs.Harvested.{Harvested};
 ghost use Rattle.mpx_comm.specs.Later.{Later, IsAtHand};
-ghost use Rattle.mpx_comm.specs.Requests.{HasStatus, Tests, TestsAll, TestsAny, Waits, WaitsAll, ArePosted};
+ghost use Rattle.mpx_comm.specs.Requests.{HasStatus, IsRefusal, Tests, TestsAll, TestsAny, Waits, WaitsAll, ArePosted};
 
 use crate::answers::{CallError, Tested, WaitError};
 use crate::comm::{Comm, OpenedGathering};
@@ -80,7 +82,7 @@ impl<H: Host> Desk<H> {
         draft: Draft,
         ops: &Ops,
     ) -> Result<Request, PostError>
-        ensures asks { DeskAsks (⟦<Ops as Listing>⟧.operations ops.now) H.node comm.now.name draft result self.old self.new }
+        ensures asks { DeskAsks (H.goes_by self.old.host (⟦<Ops as Listing>⟧.operations ops.now)) H.node comm.now.name draft result self.old self.new }
         ensures no_turn { H.turned self.old.host 0 self.new.host }
     {
         self.post_on(alloc, &comm.name, draft, ops)
@@ -116,7 +118,7 @@ impl<H: Host> Desk<H> {
         draft: Draft,
         ops: &Ops,
     ) -> Result<Request, PostError>
-        ensures asks { DeskAsks (⟦<Ops as Listing>⟧.operations ops.now) H.node gathering.now.name draft result self.old self.new }
+        ensures asks { DeskAsks (H.goes_by self.old.host (⟦<Ops as Listing>⟧.operations ops.now)) H.node gathering.now.name draft result self.old self.new }
         ensures no_turn { H.turned self.old.host 0 self.new.host }
     {
         self.post_on(alloc, &gathering.name, draft, ops)
@@ -133,7 +135,7 @@ impl<H: Host> Desk<H> {
     ) -> Result<Tested<Finished, Request>, AllocFailed<Request>>
         ensures tests { Tests request result (H.node self.new.host) self.old.requests.keys self.new.requests.keys }
         ensures later { Later (H.node self.old.host) (H.node self.new.host) }
-        ensures harvested { Harvested (⟦<Ops as Listing>⟧.operations ops.now) (H.node self.old.host) (H.node self.new.host) }
+        ensures harvested { Harvested (H.goes_by self.old.host (⟦<Ops as Listing>⟧.operations ops.now)) (H.node self.old.host) (H.node self.new.host) }
         ensures no_turn { H.turned self.old.host 0 self.new.host }
     {
         match look(alloc, &mut self.host, &request, ops) {
@@ -157,7 +159,7 @@ impl<H: Host> Desk<H> {
         ensures status { IfOk result (λ done. HasStatus done request.now (H.node self.new.host)) }
         ensures wanting { IfErr result (λ e. IsAtHand (H.node self.new.host) request.now.name request.now.call) }
         ensures later { Later (H.node self.old.host) (H.node self.new.host) }
-        ensures harvested { Harvested (⟦<Ops as Listing>⟧.operations ops.now) (H.node self.old.host) (H.node self.new.host) }
+        ensures harvested { Harvested (H.goes_by self.old.host (⟦<Ops as Listing>⟧.operations ops.now)) (H.node self.old.host) (H.node self.new.host) }
         ensures no_turn { H.turned self.old.host 0 self.new.host }
         ensures requests { self.new.requests.keys ≡ self.old.requests.keys }
     {
@@ -180,7 +182,7 @@ impl<H: Host> Desk<H> {
     ) -> Result<Tested<Vec<Finished>, Vec<Request>>, AllocFailed<Vec<Request>>>
         ensures tests { TestsAll requests.items result (H.node self.new.host) self.old.requests.keys self.new.requests.keys }
         ensures later { Later (H.node self.old.host) (H.node self.new.host) }
-        ensures harvested { Harvested (⟦<Ops as Listing>⟧.operations ops.now) (H.node self.old.host) (H.node self.new.host) }
+        ensures harvested { Harvested (H.goes_by self.old.host (⟦<Ops as Listing>⟧.operations ops.now)) (H.node self.old.host) (H.node self.new.host) }
         ensures no_turn { H.turned self.old.host 0 self.new.host }
     {
         match look_all(alloc, &mut self.host, &requests, ops) {
@@ -201,9 +203,9 @@ impl<H: Host> Desk<H> {
         alloc: Global,
         ops: &Ops,
     ) -> Result<Option<(Request, Finished)>, OutOfMemory>
-        ensures tests { TestsAny (⟦<Ops as Listing>⟧.operations ops.now) result (H.node self.old.host) (H.node self.new.host) self.old.requests.keys self.new.requests.keys }
+        ensures tests { TestsAny (H.goes_by self.old.host (⟦<Ops as Listing>⟧.operations ops.now)) result (H.node self.old.host) (H.node self.new.host) self.old.requests.keys self.new.requests.keys }
         ensures later { Later (H.node self.old.host) (H.node self.new.host) }
-        ensures harvested { Harvested (⟦<Ops as Listing>⟧.operations ops.now) (H.node self.old.host) (H.node self.new.host) }
+        ensures harvested { Harvested (H.goes_by self.old.host (⟦<Ops as Listing>⟧.operations ops.now)) (H.node self.old.host) (H.node self.new.host) }
         ensures no_turn { H.turned self.old.host 0 self.new.host }
     {
         match look_any(alloc, &mut self.host, self.requests.as_slice(), ops)? {
@@ -270,16 +272,13 @@ impl<H: Host> Desk<H> {
         draft: Draft,
         ops: &Ops,
     ) -> Result<Request, PostError>
-        ensures asks { DeskAsks (⟦<Ops as Listing>⟧.operations ops.now) H.node name.now draft result self.old self.new }
+        ensures asks { DeskAsks (H.goes_by self.old.host (⟦<Ops as Listing>⟧.operations ops.now)) H.node name.now draft result self.old self.new }
         ensures no_turn { H.turned self.old.host 0 self.new.host }
     {
-        if let Some(refusal) = self.host.refusal(name, &draft, ops) {
-            drop(draft);
-            return Err(refusal);
-        }
         let Ok((mine, twin)) = room_and_names(alloc, &mut self.requests, name) else {
+            let refusal = self.host.refusal(name, &draft, ops);
             drop(draft);
-            return Err(PostError::OutOfMemory);
+            return Err(refusal_or_memory(refusal));
         };
         let call = self.host.post(alloc, name, draft, ops)?;
         self.requests.insert(Request::new(twin, call)).unwrap();
@@ -295,7 +294,7 @@ impl<H: Host> Desk<H> {
         turns: u64,
         ops: &Ops,
     ) -> Result<Finished, CallError>
-        ensures { DeskCalls (⟦<Ops as Listing>⟧.operations ops.now) H.node H.turned H.turn_refused name.now draft turns result self.old self.new }
+        ensures { DeskCalls (H.goes_by self.old.host (⟦<Ops as Listing>⟧.operations ops.now)) H.node H.turned H.turn_refused name.now draft turns result self.old self.new }
     {
         let request = match self.post_on(alloc, name, draft, ops) {
             Ok(request) => request,
@@ -307,6 +306,13 @@ impl<H: Host> Desk<H> {
             Err(WaitError::OutOfMemory(request)) => Err(CallError::OutOfMemory(request)),
         }
     }
+}
+
+// The draft's refusal, or want of memory where it has none.
+fn refusal_or_memory(refusal: Option<PostError>) -> PostError
+    ensures { (checked : Result Given PostErrorView) → refusal ≡ refusal_of checked → IsRefusal checked result }
+{
+    refusal.unwrap_or(PostError::OutOfMemory)
 }
 
 // Room for one more request, and the name of its context twice. Here stand most exits of a post, and no draft is dropped at them.

@@ -29,7 +29,7 @@ impl<H: Host> Desk<H> {
         turns: u64,
         ops: &Ops,
     ) -> Result<Finished, CallError>
-        ensures { DeskCalls (⟦<Ops as Listing>⟧.operations ops.now) H.node H.turned H.turn_refused comm.now.name (line.allgather Blocking ty items) turns result self.old self.new }
+        ensures { DeskCalls (H.goes_by self.old.host (⟦<Ops as Listing>⟧.operations ops.now)) H.node H.turned H.turn_refused comm.now.name (line.allgather Blocking ty items) turns result self.old self.new }
     {
         let draft = lines::allgather(Mode::Blocking, ty, items);
         self.call_on(alloc, &comm.name, draft, turns, ops)
@@ -44,7 +44,7 @@ impl<H: Host> Desk<H> {
         items: Numbers,
         ops: &Ops,
     ) -> Result<Request, PostError>
-        ensures asks { DeskAsks (⟦<Ops as Listing>⟧.operations ops.now) H.node comm.now.name (line.allgather Nonblocking ty items) result self.old self.new }
+        ensures asks { DeskAsks (H.goes_by self.old.host (⟦<Ops as Listing>⟧.operations ops.now)) H.node comm.now.name (line.allgather Nonblocking ty items) result self.old self.new }
         ensures no_turn { H.turned self.old.host 0 self.new.host }
     {
         let draft = lines::allgather(Mode::Nonblocking, ty, items);
@@ -63,7 +63,7 @@ impl<H: Host> Desk<H> {
         turns: u64,
         ops: &Ops,
     ) -> Result<Finished, CallError>
-        ensures { DeskCalls (⟦<Ops as Listing>⟧.operations ops.now) H.node H.turned H.turn_refused comm.now.name (line.allgatherv Blocking ty rcounts items) turns result self.old self.new }
+        ensures { DeskCalls (H.goes_by self.old.host (⟦<Ops as Listing>⟧.operations ops.now)) H.node H.turned H.turn_refused comm.now.name (line.allgatherv Blocking ty rcounts items) turns result self.old self.new }
     {
         let draft = lines::allgatherv(Mode::Blocking, ty, rcounts, items);
         self.call_on(alloc, &comm.name, draft, turns, ops)
@@ -79,7 +79,7 @@ impl<H: Host> Desk<H> {
         items: Numbers,
         ops: &Ops,
     ) -> Result<Request, PostError>
-        ensures asks { DeskAsks (⟦<Ops as Listing>⟧.operations ops.now) H.node comm.now.name (line.allgatherv Nonblocking ty rcounts items) result self.old self.new }
+        ensures asks { DeskAsks (H.goes_by self.old.host (⟦<Ops as Listing>⟧.operations ops.now)) H.node comm.now.name (line.allgatherv Nonblocking ty rcounts items) result self.old self.new }
         ensures no_turn { H.turned self.old.host 0 self.new.host }
     {
         let draft = lines::allgatherv(Mode::Nonblocking, ty, rcounts, items);
@@ -98,7 +98,7 @@ impl<H: Host> Desk<H> {
         turns: u64,
         ops: &Ops,
     ) -> Result<Finished, CallError>
-        ensures { DeskCalls (⟦<Ops as Listing>⟧.operations ops.now) H.node H.turned H.turn_refused comm.now.name (line.alltoall Blocking ty count items) turns result self.old self.new }
+        ensures { DeskCalls (H.goes_by self.old.host (⟦<Ops as Listing>⟧.operations ops.now)) H.node H.turned H.turn_refused comm.now.name (line.alltoall Blocking ty count items) turns result self.old self.new }
     {
         let draft = lines::alltoall(Mode::Blocking, ty, count, items);
         self.call_on(alloc, &comm.name, draft, turns, ops)
@@ -114,7 +114,7 @@ impl<H: Host> Desk<H> {
         items: Numbers,
         ops: &Ops,
     ) -> Result<Request, PostError>
-        ensures asks { DeskAsks (⟦<Ops as Listing>⟧.operations ops.now) H.node comm.now.name (line.alltoall Nonblocking ty count items) result self.old self.new }
+        ensures asks { DeskAsks (H.goes_by self.old.host (⟦<Ops as Listing>⟧.operations ops.now)) H.node comm.now.name (line.alltoall Nonblocking ty count items) result self.old self.new }
         ensures no_turn { H.turned self.old.host 0 self.new.host }
     {
         let draft = lines::alltoall(Mode::Nonblocking, ty, count, items);
@@ -135,7 +135,7 @@ impl<H: Host> Desk<H> {
         turns: u64,
         ops: &Ops,
     ) -> Result<Finished, CallError>
-        ensures { DeskCalls (⟦<Ops as Listing>⟧.operations ops.now) H.node H.turned H.turn_refused comm.now.name (line.alltoallv Blocking ty scounts rcounts items) turns result self.old self.new }
+        ensures { DeskCalls (H.goes_by self.old.host (⟦<Ops as Listing>⟧.operations ops.now)) H.node H.turned H.turn_refused comm.now.name (line.alltoallv Blocking ty scounts rcounts items) turns result self.old self.new }
     {
         let draft = lines::alltoallv(Mode::Blocking, ty, scounts, rcounts, items);
         self.call_on(alloc, &comm.name, draft, turns, ops)
@@ -152,7 +152,7 @@ impl<H: Host> Desk<H> {
         items: Numbers,
         ops: &Ops,
     ) -> Result<Request, PostError>
-        ensures asks { DeskAsks (⟦<Ops as Listing>⟧.operations ops.now) H.node comm.now.name (line.alltoallv Nonblocking ty scounts rcounts items) result self.old self.new }
+        ensures asks { DeskAsks (H.goes_by self.old.host (⟦<Ops as Listing>⟧.operations ops.now)) H.node comm.now.name (line.alltoallv Nonblocking ty scounts rcounts items) result self.old self.new }
         ensures no_turn { H.turned self.old.host 0 self.new.host }
     {
         let draft = lines::alltoallv(Mode::Nonblocking, ty, scounts, rcounts, items);

@@ -1,6 +1,7 @@
 //! Who posts for a process and hears of others.
-ghost use Rattle.std.specs.Prelude.{◌≡◌, ◌+◌, ◌≤◌, ℕ, OnOk, OnErr, slice_get};
+ghost use Rattle.std.specs.Prelude.{◌≡◌, ◌+◌, ◌≤◌, ℕ, List, OnOk, OnErr, slice_get};
 ghost use Rattle.std.specs.Option.{option_copied};
+ghost use Rattle.mpx_num.specs.declared.own.Operation.{Operation};
 ghost use Rattle.mpx_post.specs.Drafts.{refusal_of};
 ghost use Rattle.mpx_node.specs.Nodes.{NodeView, Opens, Posts, checked_on, gathers_on, results_on, posted_on, front_on};
 ghost use Rattle.mpx_comm.specs.Harvested.{HarvestsNext};
@@ -18,6 +19,10 @@ pub trait Host: Drop {
     /// The node that it shows.
     ghost node: { Self → NodeView };
 
+    /// The operations of the job's own by which it goes, where these are lent: a node goes by those, and who has a list of its own by
+    /// that one.
+    ghost goes_by: { Self → List Operation → List Operation };
+
     /// It may go from one state to another by making so many turns.
     ghost turned: { Self → ℕ → Self → Type 0 };
 
@@ -33,12 +38,12 @@ pub trait Host: Drop {
         draft: Draft,
         ops: &Ops,
     ) -> Result<u32, PostError>
-        ensures posts { Posts name.now (checked_on (⟦<Ops as Listing>⟧.operations ops.now) (node self.old) name.now draft) result (node self.old) (node self.new) }
+        ensures posts { Posts name.now (checked_on (goes_by self.old (⟦<Ops as Listing>⟧.operations ops.now)) (node self.old) name.now draft) result (node self.old) (node self.new) }
         ensures no_turn { turned self.old 0 self.new };
 
     /// Why the post of the draft would be refused, where it would. It takes no memory.
     fn refusal(&self, name: &Name, draft: &Draft, ops: &Ops) -> Option<PostError>
-        ensures { result ≡ refusal_of (checked_on (⟦<Ops as Listing>⟧.operations ops.now) (node self.now) name.now draft.now) };
+        ensures { result ≡ refusal_of (checked_on (goes_by self.now (⟦<Ops as Listing>⟧.operations ops.now)) (node self.now) name.now draft.now) };
 
     /// Opens the gathering with this tag of the members of the parent with these ranks: its name. It makes no turn. An `Err` changes
     /// nothing.
@@ -54,7 +59,7 @@ pub trait Host: Drop {
 
     /// Harvests the next call on a context, where its row is whole. It makes no turn. An `Err` is want of memory, and changes nothing.
     fn harvest(&mut self, alloc: Global, name: &Name, ops: &Ops) -> Result<Harvest, OutOfMemory>
-        ensures harvests { HarvestsNext (⟦<Ops as Listing>⟧.operations ops.now) name.now result (node self.old) (node self.new) }
+        ensures harvests { HarvestsNext (goes_by self.old (⟦<Ops as Listing>⟧.operations ops.now)) name.now result (node self.old) (node self.new) }
         ensures no_turn { turned self.old 0 self.new };
 
     /// The result of a call that was harvested, kept for good; none of one that wasn't.
@@ -70,6 +75,9 @@ pub trait Host: Drop {
 
     /// There are no more results than posts.
     ghost bounded: { (h : Self) (name : _) → front_on (node h) name ≤ posted_on (node h) name };
+
+    /// Through all turns it goes by the same operations.
+    ghost stays_by: { (a b : Self) (n : ℕ) → turned a n b → goes_by b ≡ goes_by a };
 
     ghost turns_none: { (h : Self) → turned h 0 h };
 

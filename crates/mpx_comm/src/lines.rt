@@ -1,5 +1,6 @@
 //! The drafts of the calls, as the rows of `specs/Lines.antt` say them, with the mode as an argument where a call has both.
 ghost use Rattle.std.specs.Prelude.{◌≡◌, Some};
+ghost use Rattle.mpx_post.specs.Drafts.{empty_draft};
 ghost use Rattle.mpx_comm.specs.Lines as line;
 
 use mpx_kind::{Call, Exchange, Mode, Neighbourhood, NewCommunicator, Reduction};
@@ -8,21 +9,14 @@ use mpx_post::{Draft, DraftedEdge, DraftedGraph, DraftedNeighbour};
 
 // Of items, which are sent in blocks of so many, and received so.
 fn of_items(call: Call, ty: Ty, scounts: Numbers, rcounts: Numbers, items: Numbers) -> Draft
-    ensures { result ≡ record (line.plain call) { ty = ty; scounts = scounts; rcounts = rcounts; items = items } }
+    ensures { result ≡ record (empty_draft call) { ty = ty; scounts = scounts; rcounts = rcounts; items = items } }
 {
-    let group = Numbers::none();
     Draft {
-        call,
-        root: 0,
-        op: Op::Sum,
         ty,
         scounts,
         rcounts,
         items,
-        colour: None,
-        key: 0,
-        group,
-        graph: None,
+        ..Draft::of(call)
     }
 }
 
@@ -35,7 +29,7 @@ fn rooted(
     rcounts: Numbers,
     items: Numbers,
 ) -> Draft
-    ensures { result ≡ record (line.plain call) { root = root; ty = ty; scounts = scounts; rcounts = rcounts; items = items } }
+    ensures { result ≡ record (empty_draft call) { root = root; ty = ty; scounts = scounts; rcounts = rcounts; items = items } }
 {
     let mut draft = of_items(call, ty, scounts, rcounts, items);
     draft.root = root;
@@ -44,19 +38,11 @@ fn rooted(
 
 // Of items that are combined.
 fn combined(call: Call, op: Op, ty: Ty, rcounts: Numbers, items: Numbers) -> Draft
-    ensures { result ≡ record (line.plain call) { op = op; ty = ty; rcounts = rcounts; items = items } }
+    ensures { result ≡ record (empty_draft call) { op = op; ty = ty; rcounts = rcounts; items = items } }
 {
     let mut draft = of_items(call, ty, Numbers::none(), rcounts, items);
     draft.op = op;
     draft
-}
-
-// It tells nothing but the call.
-fn plain(call: Call) -> Draft
-    ensures { result ≡ line.plain call }
-{
-    let (scounts, rcounts) = (Numbers::none(), Numbers::none());
-    of_items(call, Ty::I8, scounts, rcounts, Numbers::none())
 }
 
 // Exchanges.
@@ -64,7 +50,7 @@ fn plain(call: Call) -> Draft
 pub fn barrier(mode: Mode) -> Draft
     ensures { result ≡ line.barrier mode }
 {
-    plain(Call::Exchange(Exchange::Barrier, mode))
+    Draft::of(Call::Exchange(Exchange::Barrier, mode))
 }
 
 pub fn bcast(mode: Mode, root: i128, ty: Ty, count: i128, items: Numbers) -> Draft
@@ -224,13 +210,13 @@ pub fn neighbor_alltoallv(
 pub fn dup() -> Draft
     ensures { result ≡ line.dup }
 {
-    plain(Call::NewCommunicator(NewCommunicator::Dup))
+    Draft::of(Call::NewCommunicator(NewCommunicator::Dup))
 }
 
 pub fn split(colour: Option<i128>, key: i128) -> Draft
     ensures { result ≡ line.split colour key }
 {
-    let mut draft = plain(Call::NewCommunicator(NewCommunicator::Split));
+    let mut draft = Draft::of(Call::NewCommunicator(NewCommunicator::Split));
     draft.colour = colour;
     draft.key = key;
     draft
@@ -239,7 +225,7 @@ pub fn split(colour: Option<i128>, key: i128) -> Draft
 pub fn create(ranks: Numbers) -> Draft
     ensures { result ≡ line.create ranks }
 {
-    let mut draft = plain(Call::NewCommunicator(NewCommunicator::Create));
+    let mut draft = Draft::of(Call::NewCommunicator(NewCommunicator::Create));
     draft.group = ranks;
     draft
 }
@@ -247,7 +233,7 @@ pub fn create(ranks: Numbers) -> Draft
 pub fn create_group() -> Draft
     ensures { result ≡ line.create_group }
 {
-    plain(Call::NewCommunicator(NewCommunicator::CreateGroup))
+    Draft::of(Call::NewCommunicator(NewCommunicator::CreateGroup))
 }
 
 // Of a new communicator with a graph.
@@ -261,7 +247,7 @@ pub fn of_graph(
     ensures { result ≡ line.of_graph new (record { weighted = weighted; edges = edges.items; sources = sources.items; destinations = destinations.items }) }
 {
     let graph = DraftedGraph::new(weighted, edges, sources, destinations);
-    let mut draft = plain(Call::NewCommunicator(new));
+    let mut draft = Draft::of(Call::NewCommunicator(new));
     draft.graph = Some(graph);
     draft
 }
@@ -271,5 +257,5 @@ pub fn of_graph(
 pub fn free() -> Draft
     ensures { result ≡ line.free }
 {
-    plain(Call::Free)
+    Draft::of(Call::Free)
 }

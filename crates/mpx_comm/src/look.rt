@@ -20,7 +20,7 @@ pub fn look<H: Host>(
     ops: &Ops,
 ) -> Result<Option<Finished>, OutOfMemory>
     ensures later { Later (H.node host.old) (H.node host.new) }
-    ensures harvested { Harvested (⟦<Ops as Listing>⟧.operations ops.now) (H.node host.old) (H.node host.new) }
+    ensures harvested { Harvested (H.goes_by host.old (⟦<Ops as Listing>⟧.operations ops.now)) (H.node host.old) (H.node host.new) }
     ensures no_turn { H.turned host.old 0 host.new }
     ensures found { IfOk result (λ found. MatchOption found
         (IsPending (H.node host.new) request.now.name request.now.call)
@@ -47,7 +47,7 @@ pub fn look_all<H: Host>(
     ops: &Ops,
 ) -> Result<Option<Vec<Finished>>, OutOfMemory>
     ensures later { Later (H.node host.old) (H.node host.new) }
-    ensures harvested { Harvested (⟦<Ops as Listing>⟧.operations ops.now) (H.node host.old) (H.node host.new) }
+    ensures harvested { Harvested (H.goes_by host.old (⟦<Ops as Listing>⟧.operations ops.now)) (H.node host.old) (H.node host.new) }
     ensures no_turn { H.turned host.old 0 host.new }
     ensures found { IfOk result (λ found. MatchOption found
         (OneIsPending (H.node host.new) requests.now)
@@ -72,11 +72,11 @@ pub fn look_any<H: Host>(
     ops: &Ops,
 ) -> Result<Option<(usize, Finished)>, OutOfMemory>
     ensures later { Later (H.node host.old) (H.node host.new) }
-    ensures harvested { Harvested (⟦<Ops as Listing>⟧.operations ops.now) (H.node host.old) (H.node host.new) }
+    ensures harvested { Harvested (H.goes_by host.old (⟦<Ops as Listing>⟧.operations ops.now)) (H.node host.old) (H.node host.new) }
     ensures no_turn { H.turned host.old 0 host.new }
     ensures found { IfOk result (λ found. MatchOption found
-        (WerePending (⟦<Ops as Listing>⟧.operations ops.now) (H.node host.old) (H.node host.new) (length requests.now) requests.now)
-        (λ p. WerePending (⟦<Ops as Listing>⟧.operations ops.now) (H.node host.old) (H.node host.new) p.0 requests.now
+        (WerePending (H.goes_by host.old (⟦<Ops as Listing>⟧.operations ops.now)) (H.node host.old) (H.node host.new) (length requests.now) requests.now)
+        (λ p. WerePending (H.goes_by host.old (⟦<Ops as Listing>⟧.operations ops.now)) (H.node host.old) (H.node host.new) p.0 requests.now
         × ((request : _) × (slice_get requests.now p.0 ≡ Some request) × (result_of (H.node host.new) request ≡ Some p.1)))) }
     ensures wanting { IfErr result (λ e. OneIsAtHand (H.node host.new) requests.now) }
 {

@@ -30,7 +30,7 @@ impl<H: Host> Desk<H> {
         turns: u64,
         ops: &Ops,
     ) -> Result<Finished, CallError>
-        ensures { DeskCalls (⟦<Ops as Listing>⟧.operations ops.now) H.node H.turned H.turn_refused comm.now.name (line.neighbor_allgather Blocking ty count items) turns result self.old self.new }
+        ensures { DeskCalls (H.goes_by self.old.host (⟦<Ops as Listing>⟧.operations ops.now)) H.node H.turned H.turn_refused comm.now.name (line.neighbor_allgather Blocking ty count items) turns result self.old self.new }
     {
         let draft = lines::neighbor_allgather(Mode::Blocking, ty, count, items);
         self.call_on(alloc, &comm.name, draft, turns, ops)
@@ -46,7 +46,7 @@ impl<H: Host> Desk<H> {
         items: Numbers,
         ops: &Ops,
     ) -> Result<Request, PostError>
-        ensures asks { DeskAsks (⟦<Ops as Listing>⟧.operations ops.now) H.node comm.now.name (line.neighbor_allgather Nonblocking ty count items) result self.old self.new }
+        ensures asks { DeskAsks (H.goes_by self.old.host (⟦<Ops as Listing>⟧.operations ops.now)) H.node comm.now.name (line.neighbor_allgather Nonblocking ty count items) result self.old self.new }
         ensures no_turn { H.turned self.old.host 0 self.new.host }
     {
         let draft = lines::neighbor_allgather(Mode::Nonblocking, ty, count, items);
@@ -66,7 +66,7 @@ impl<H: Host> Desk<H> {
         turns: u64,
         ops: &Ops,
     ) -> Result<Finished, CallError>
-        ensures { DeskCalls (⟦<Ops as Listing>⟧.operations ops.now) H.node H.turned H.turn_refused comm.now.name (line.neighbor_allgatherv Blocking ty rcounts items) turns result self.old self.new }
+        ensures { DeskCalls (H.goes_by self.old.host (⟦<Ops as Listing>⟧.operations ops.now)) H.node H.turned H.turn_refused comm.now.name (line.neighbor_allgatherv Blocking ty rcounts items) turns result self.old self.new }
     {
         let draft = lines::neighbor_allgatherv(Mode::Blocking, ty, rcounts, items);
         self.call_on(alloc, &comm.name, draft, turns, ops)
@@ -82,7 +82,7 @@ impl<H: Host> Desk<H> {
         items: Numbers,
         ops: &Ops,
     ) -> Result<Request, PostError>
-        ensures asks { DeskAsks (⟦<Ops as Listing>⟧.operations ops.now) H.node comm.now.name (line.neighbor_allgatherv Nonblocking ty rcounts items) result self.old self.new }
+        ensures asks { DeskAsks (H.goes_by self.old.host (⟦<Ops as Listing>⟧.operations ops.now)) H.node comm.now.name (line.neighbor_allgatherv Nonblocking ty rcounts items) result self.old self.new }
         ensures no_turn { H.turned self.old.host 0 self.new.host }
     {
         let draft = lines::neighbor_allgatherv(Mode::Nonblocking, ty, rcounts, items);
@@ -103,7 +103,7 @@ impl<H: Host> Desk<H> {
         turns: u64,
         ops: &Ops,
     ) -> Result<Finished, CallError>
-        ensures { DeskCalls (⟦<Ops as Listing>⟧.operations ops.now) H.node H.turned H.turn_refused comm.now.name (line.neighbor_alltoall Blocking ty scount rcount items) turns result self.old self.new }
+        ensures { DeskCalls (H.goes_by self.old.host (⟦<Ops as Listing>⟧.operations ops.now)) H.node H.turned H.turn_refused comm.now.name (line.neighbor_alltoall Blocking ty scount rcount items) turns result self.old self.new }
     {
         let draft = lines::neighbor_alltoall(Mode::Blocking, ty, scount, rcount, items);
         self.call_on(alloc, &comm.name, draft, turns, ops)
@@ -120,7 +120,7 @@ impl<H: Host> Desk<H> {
         items: Numbers,
         ops: &Ops,
     ) -> Result<Request, PostError>
-        ensures asks { DeskAsks (⟦<Ops as Listing>⟧.operations ops.now) H.node comm.now.name (line.neighbor_alltoall Nonblocking ty scount rcount items) result self.old self.new }
+        ensures asks { DeskAsks (H.goes_by self.old.host (⟦<Ops as Listing>⟧.operations ops.now)) H.node comm.now.name (line.neighbor_alltoall Nonblocking ty scount rcount items) result self.old self.new }
         ensures no_turn { H.turned self.old.host 0 self.new.host }
     {
         let draft = lines::neighbor_alltoall(Mode::Nonblocking, ty, scount, rcount, items);
@@ -141,7 +141,7 @@ impl<H: Host> Desk<H> {
         turns: u64,
         ops: &Ops,
     ) -> Result<Finished, CallError>
-        ensures { DeskCalls (⟦<Ops as Listing>⟧.operations ops.now) H.node H.turned H.turn_refused comm.now.name (line.neighbor_alltoallv Blocking ty scounts rcounts items) turns result self.old self.new }
+        ensures { DeskCalls (H.goes_by self.old.host (⟦<Ops as Listing>⟧.operations ops.now)) H.node H.turned H.turn_refused comm.now.name (line.neighbor_alltoallv Blocking ty scounts rcounts items) turns result self.old self.new }
     {
         let draft = lines::neighbor_alltoallv(Mode::Blocking, ty, scounts, rcounts, items);
         self.call_on(alloc, &comm.name, draft, turns, ops)
@@ -158,7 +158,7 @@ impl<H: Host> Desk<H> {
         items: Numbers,
         ops: &Ops,
     ) -> Result<Request, PostError>
-        ensures asks { DeskAsks (⟦<Ops as Listing>⟧.operations ops.now) H.node comm.now.name (line.neighbor_alltoallv Nonblocking ty scounts rcounts items) result self.old self.new }
+        ensures asks { DeskAsks (H.goes_by self.old.host (⟦<Ops as Listing>⟧.operations ops.now)) H.node comm.now.name (line.neighbor_alltoallv Nonblocking ty scounts rcounts items) result self.old self.new }
         ensures no_turn { H.turned self.old.host 0 self.new.host }
     {
         let draft = lines::neighbor_alltoallv(Mode::Nonblocking, ty, scounts, rcounts, items);

@@ -32,7 +32,7 @@ impl<H: Host> Desk<H> {
         turns: u64,
         ops: &Ops,
     ) -> Result<Finished, CallError>
-        ensures { DeskCalls (⟦<Ops as Listing>⟧.operations ops.now) H.node H.turned H.turn_refused comm.now.name (line.reduce Blocking root op ty items) turns result self.old self.new }
+        ensures { DeskCalls (H.goes_by self.old.host (⟦<Ops as Listing>⟧.operations ops.now)) H.node H.turned H.turn_refused comm.now.name (line.reduce Blocking root op ty items) turns result self.old self.new }
     {
         let draft = lines::reduce(Mode::Blocking, root, op, ty, items);
         self.call_on(alloc, &comm.name, draft, turns, ops)
@@ -49,7 +49,7 @@ impl<H: Host> Desk<H> {
         items: Numbers,
         ops: &Ops,
     ) -> Result<Request, PostError>
-        ensures asks { DeskAsks (⟦<Ops as Listing>⟧.operations ops.now) H.node comm.now.name (line.reduce Nonblocking root op ty items) result self.old self.new }
+        ensures asks { DeskAsks (H.goes_by self.old.host (⟦<Ops as Listing>⟧.operations ops.now)) H.node comm.now.name (line.reduce Nonblocking root op ty items) result self.old self.new }
         ensures no_turn { H.turned self.old.host 0 self.new.host }
     {
         let draft = lines::reduce(Mode::Nonblocking, root, op, ty, items);
@@ -68,7 +68,7 @@ impl<H: Host> Desk<H> {
         turns: u64,
         ops: &Ops,
     ) -> Result<Finished, CallError>
-        ensures { DeskCalls (⟦<Ops as Listing>⟧.operations ops.now) H.node H.turned H.turn_refused comm.now.name (line.allreduce Blocking op ty items) turns result self.old self.new }
+        ensures { DeskCalls (H.goes_by self.old.host (⟦<Ops as Listing>⟧.operations ops.now)) H.node H.turned H.turn_refused comm.now.name (line.allreduce Blocking op ty items) turns result self.old self.new }
     {
         let draft = lines::allreduce(Mode::Blocking, op, ty, items);
         self.call_on(alloc, &comm.name, draft, turns, ops)
@@ -84,7 +84,7 @@ impl<H: Host> Desk<H> {
         items: Numbers,
         ops: &Ops,
     ) -> Result<Request, PostError>
-        ensures asks { DeskAsks (⟦<Ops as Listing>⟧.operations ops.now) H.node comm.now.name (line.allreduce Nonblocking op ty items) result self.old self.new }
+        ensures asks { DeskAsks (H.goes_by self.old.host (⟦<Ops as Listing>⟧.operations ops.now)) H.node comm.now.name (line.allreduce Nonblocking op ty items) result self.old self.new }
         ensures no_turn { H.turned self.old.host 0 self.new.host }
     {
         let draft = lines::allreduce(Mode::Nonblocking, op, ty, items);
@@ -105,7 +105,7 @@ impl<H: Host> Desk<H> {
         turns: u64,
         ops: &Ops,
     ) -> Result<Finished, CallError>
-        ensures { DeskCalls (⟦<Ops as Listing>⟧.operations ops.now) H.node H.turned H.turn_refused comm.now.name (line.reduce_scatter_block Blocking op ty count items) turns result self.old self.new }
+        ensures { DeskCalls (H.goes_by self.old.host (⟦<Ops as Listing>⟧.operations ops.now)) H.node H.turned H.turn_refused comm.now.name (line.reduce_scatter_block Blocking op ty count items) turns result self.old self.new }
     {
         let draft = lines::reduce_scatter_block(Mode::Blocking, op, ty, count, items);
         self.call_on(alloc, &comm.name, draft, turns, ops)
@@ -122,7 +122,7 @@ impl<H: Host> Desk<H> {
         items: Numbers,
         ops: &Ops,
     ) -> Result<Request, PostError>
-        ensures asks { DeskAsks (⟦<Ops as Listing>⟧.operations ops.now) H.node comm.now.name (line.reduce_scatter_block Nonblocking op ty count items) result self.old self.new }
+        ensures asks { DeskAsks (H.goes_by self.old.host (⟦<Ops as Listing>⟧.operations ops.now)) H.node comm.now.name (line.reduce_scatter_block Nonblocking op ty count items) result self.old self.new }
         ensures no_turn { H.turned self.old.host 0 self.new.host }
     {
         let draft = lines::reduce_scatter_block(Mode::Nonblocking, op, ty, count, items);
@@ -143,7 +143,7 @@ impl<H: Host> Desk<H> {
         turns: u64,
         ops: &Ops,
     ) -> Result<Finished, CallError>
-        ensures { DeskCalls (⟦<Ops as Listing>⟧.operations ops.now) H.node H.turned H.turn_refused comm.now.name (line.reduce_scatter Blocking op ty rcounts items) turns result self.old self.new }
+        ensures { DeskCalls (H.goes_by self.old.host (⟦<Ops as Listing>⟧.operations ops.now)) H.node H.turned H.turn_refused comm.now.name (line.reduce_scatter Blocking op ty rcounts items) turns result self.old self.new }
     {
         let draft = lines::reduce_scatter(Mode::Blocking, op, ty, rcounts, items);
         self.call_on(alloc, &comm.name, draft, turns, ops)
@@ -160,7 +160,7 @@ impl<H: Host> Desk<H> {
         items: Numbers,
         ops: &Ops,
     ) -> Result<Request, PostError>
-        ensures asks { DeskAsks (⟦<Ops as Listing>⟧.operations ops.now) H.node comm.now.name (line.reduce_scatter Nonblocking op ty rcounts items) result self.old self.new }
+        ensures asks { DeskAsks (H.goes_by self.old.host (⟦<Ops as Listing>⟧.operations ops.now)) H.node comm.now.name (line.reduce_scatter Nonblocking op ty rcounts items) result self.old self.new }
         ensures no_turn { H.turned self.old.host 0 self.new.host }
     {
         let draft = lines::reduce_scatter(Mode::Nonblocking, op, ty, rcounts, items);
@@ -179,7 +179,7 @@ impl<H: Host> Desk<H> {
         turns: u64,
         ops: &Ops,
     ) -> Result<Finished, CallError>
-        ensures { DeskCalls (⟦<Ops as Listing>⟧.operations ops.now) H.node H.turned H.turn_refused comm.now.name (line.scan Blocking op ty items) turns result self.old self.new }
+        ensures { DeskCalls (H.goes_by self.old.host (⟦<Ops as Listing>⟧.operations ops.now)) H.node H.turned H.turn_refused comm.now.name (line.scan Blocking op ty items) turns result self.old self.new }
     {
         let draft = lines::scan(Mode::Blocking, op, ty, items);
         self.call_on(alloc, &comm.name, draft, turns, ops)
@@ -195,7 +195,7 @@ impl<H: Host> Desk<H> {
         items: Numbers,
         ops: &Ops,
     ) -> Result<Request, PostError>
-        ensures asks { DeskAsks (⟦<Ops as Listing>⟧.operations ops.now) H.node comm.now.name (line.scan Nonblocking op ty items) result self.old self.new }
+        ensures asks { DeskAsks (H.goes_by self.old.host (⟦<Ops as Listing>⟧.operations ops.now)) H.node comm.now.name (line.scan Nonblocking op ty items) result self.old self.new }
         ensures no_turn { H.turned self.old.host 0 self.new.host }
     {
         let draft = lines::scan(Mode::Nonblocking, op, ty, items);
@@ -214,7 +214,7 @@ impl<H: Host> Desk<H> {
         turns: u64,
         ops: &Ops,
     ) -> Result<Finished, CallError>
-        ensures { DeskCalls (⟦<Ops as Listing>⟧.operations ops.now) H.node H.turned H.turn_refused comm.now.name (line.exscan Blocking op ty items) turns result self.old self.new }
+        ensures { DeskCalls (H.goes_by self.old.host (⟦<Ops as Listing>⟧.operations ops.now)) H.node H.turned H.turn_refused comm.now.name (line.exscan Blocking op ty items) turns result self.old self.new }
     {
         let draft = lines::exscan(Mode::Blocking, op, ty, items);
         self.call_on(alloc, &comm.name, draft, turns, ops)
@@ -230,7 +230,7 @@ impl<H: Host> Desk<H> {
         items: Numbers,
         ops: &Ops,
     ) -> Result<Request, PostError>
-        ensures asks { DeskAsks (⟦<Ops as Listing>⟧.operations ops.now) H.node comm.now.name (line.exscan Nonblocking op ty items) result self.old self.new }
+        ensures asks { DeskAsks (H.goes_by self.old.host (⟦<Ops as Listing>⟧.operations ops.now)) H.node comm.now.name (line.exscan Nonblocking op ty items) result self.old self.new }
         ensures no_turn { H.turned self.old.host 0 self.new.host }
     {
         let draft = lines::exscan(Mode::Nonblocking, op, ty, items);

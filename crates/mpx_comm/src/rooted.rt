@@ -26,7 +26,7 @@ impl<H: Host> Desk<H> {
         turns: u64,
         ops: &Ops,
     ) -> Result<Finished, CallError>
-        ensures { DeskCalls (⟦<Ops as Listing>⟧.operations ops.now) H.node H.turned H.turn_refused comm.now.name (line.barrier Blocking) turns result self.old self.new }
+        ensures { DeskCalls (H.goes_by self.old.host (⟦<Ops as Listing>⟧.operations ops.now)) H.node H.turned H.turn_refused comm.now.name (line.barrier Blocking) turns result self.old self.new }
     {
         let draft = lines::barrier(Mode::Blocking);
         self.call_on(alloc, &comm.name, draft, turns, ops)
@@ -34,7 +34,7 @@ impl<H: Host> Desk<H> {
 
     /// `MPI_IBARRIER` (MPI 4.1 section 6.12.1): posts what [`Desk::barrier`] does, and waits for nobody.
     pub fn ibarrier(&mut self, alloc: Global, comm: &Comm, ops: &Ops) -> Result<Request, PostError>
-        ensures asks { DeskAsks (⟦<Ops as Listing>⟧.operations ops.now) H.node comm.now.name (line.barrier Nonblocking) result self.old self.new }
+        ensures asks { DeskAsks (H.goes_by self.old.host (⟦<Ops as Listing>⟧.operations ops.now)) H.node comm.now.name (line.barrier Nonblocking) result self.old self.new }
         ensures no_turn { H.turned self.old.host 0 self.new.host }
     {
         let draft = lines::barrier(Mode::Nonblocking);
@@ -54,7 +54,7 @@ impl<H: Host> Desk<H> {
         turns: u64,
         ops: &Ops,
     ) -> Result<Finished, CallError>
-        ensures { DeskCalls (⟦<Ops as Listing>⟧.operations ops.now) H.node H.turned H.turn_refused comm.now.name (line.bcast Blocking root ty count items) turns result self.old self.new }
+        ensures { DeskCalls (H.goes_by self.old.host (⟦<Ops as Listing>⟧.operations ops.now)) H.node H.turned H.turn_refused comm.now.name (line.bcast Blocking root ty count items) turns result self.old self.new }
     {
         let draft = lines::bcast(Mode::Blocking, root, ty, count, items);
         self.call_on(alloc, &comm.name, draft, turns, ops)
@@ -71,7 +71,7 @@ impl<H: Host> Desk<H> {
         items: Numbers,
         ops: &Ops,
     ) -> Result<Request, PostError>
-        ensures asks { DeskAsks (⟦<Ops as Listing>⟧.operations ops.now) H.node comm.now.name (line.bcast Nonblocking root ty count items) result self.old self.new }
+        ensures asks { DeskAsks (H.goes_by self.old.host (⟦<Ops as Listing>⟧.operations ops.now)) H.node comm.now.name (line.bcast Nonblocking root ty count items) result self.old self.new }
         ensures no_turn { H.turned self.old.host 0 self.new.host }
     {
         let draft = lines::bcast(Mode::Nonblocking, root, ty, count, items);
@@ -90,7 +90,7 @@ impl<H: Host> Desk<H> {
         turns: u64,
         ops: &Ops,
     ) -> Result<Finished, CallError>
-        ensures { DeskCalls (⟦<Ops as Listing>⟧.operations ops.now) H.node H.turned H.turn_refused comm.now.name (line.gather Blocking root ty items) turns result self.old self.new }
+        ensures { DeskCalls (H.goes_by self.old.host (⟦<Ops as Listing>⟧.operations ops.now)) H.node H.turned H.turn_refused comm.now.name (line.gather Blocking root ty items) turns result self.old self.new }
     {
         let draft = lines::gather(Mode::Blocking, root, ty, items);
         self.call_on(alloc, &comm.name, draft, turns, ops)
@@ -106,7 +106,7 @@ impl<H: Host> Desk<H> {
         items: Numbers,
         ops: &Ops,
     ) -> Result<Request, PostError>
-        ensures asks { DeskAsks (⟦<Ops as Listing>⟧.operations ops.now) H.node comm.now.name (line.gather Nonblocking root ty items) result self.old self.new }
+        ensures asks { DeskAsks (H.goes_by self.old.host (⟦<Ops as Listing>⟧.operations ops.now)) H.node comm.now.name (line.gather Nonblocking root ty items) result self.old self.new }
         ensures no_turn { H.turned self.old.host 0 self.new.host }
     {
         let draft = lines::gather(Mode::Nonblocking, root, ty, items);
@@ -127,7 +127,7 @@ impl<H: Host> Desk<H> {
         turns: u64,
         ops: &Ops,
     ) -> Result<Finished, CallError>
-        ensures { DeskCalls (⟦<Ops as Listing>⟧.operations ops.now) H.node H.turned H.turn_refused comm.now.name (line.gatherv Blocking root ty rcounts items) turns result self.old self.new }
+        ensures { DeskCalls (H.goes_by self.old.host (⟦<Ops as Listing>⟧.operations ops.now)) H.node H.turned H.turn_refused comm.now.name (line.gatherv Blocking root ty rcounts items) turns result self.old self.new }
     {
         let draft = lines::gatherv(Mode::Blocking, root, ty, rcounts, items);
         self.call_on(alloc, &comm.name, draft, turns, ops)
@@ -144,7 +144,7 @@ impl<H: Host> Desk<H> {
         items: Numbers,
         ops: &Ops,
     ) -> Result<Request, PostError>
-        ensures asks { DeskAsks (⟦<Ops as Listing>⟧.operations ops.now) H.node comm.now.name (line.gatherv Nonblocking root ty rcounts items) result self.old self.new }
+        ensures asks { DeskAsks (H.goes_by self.old.host (⟦<Ops as Listing>⟧.operations ops.now)) H.node comm.now.name (line.gatherv Nonblocking root ty rcounts items) result self.old self.new }
         ensures no_turn { H.turned self.old.host 0 self.new.host }
     {
         let draft = lines::gatherv(Mode::Nonblocking, root, ty, rcounts, items);
@@ -165,7 +165,7 @@ impl<H: Host> Desk<H> {
         turns: u64,
         ops: &Ops,
     ) -> Result<Finished, CallError>
-        ensures { DeskCalls (⟦<Ops as Listing>⟧.operations ops.now) H.node H.turned H.turn_refused comm.now.name (line.scatter Blocking root ty count items) turns result self.old self.new }
+        ensures { DeskCalls (H.goes_by self.old.host (⟦<Ops as Listing>⟧.operations ops.now)) H.node H.turned H.turn_refused comm.now.name (line.scatter Blocking root ty count items) turns result self.old self.new }
     {
         let draft = lines::scatter(Mode::Blocking, root, ty, count, items);
         self.call_on(alloc, &comm.name, draft, turns, ops)
@@ -182,7 +182,7 @@ impl<H: Host> Desk<H> {
         items: Numbers,
         ops: &Ops,
     ) -> Result<Request, PostError>
-        ensures asks { DeskAsks (⟦<Ops as Listing>⟧.operations ops.now) H.node comm.now.name (line.scatter Nonblocking root ty count items) result self.old self.new }
+        ensures asks { DeskAsks (H.goes_by self.old.host (⟦<Ops as Listing>⟧.operations ops.now)) H.node comm.now.name (line.scatter Nonblocking root ty count items) result self.old self.new }
         ensures no_turn { H.turned self.old.host 0 self.new.host }
     {
         let draft = lines::scatter(Mode::Nonblocking, root, ty, count, items);
@@ -204,7 +204,7 @@ impl<H: Host> Desk<H> {
         turns: u64,
         ops: &Ops,
     ) -> Result<Finished, CallError>
-        ensures { DeskCalls (⟦<Ops as Listing>⟧.operations ops.now) H.node H.turned H.turn_refused comm.now.name (line.scatterv Blocking root ty scounts count items) turns result self.old self.new }
+        ensures { DeskCalls (H.goes_by self.old.host (⟦<Ops as Listing>⟧.operations ops.now)) H.node H.turned H.turn_refused comm.now.name (line.scatterv Blocking root ty scounts count items) turns result self.old self.new }
     {
         let draft = lines::scatterv(Mode::Blocking, root, ty, scounts, count, items);
         self.call_on(alloc, &comm.name, draft, turns, ops)
@@ -222,7 +222,7 @@ impl<H: Host> Desk<H> {
         items: Numbers,
         ops: &Ops,
     ) -> Result<Request, PostError>
-        ensures asks { DeskAsks (⟦<Ops as Listing>⟧.operations ops.now) H.node comm.now.name (line.scatterv Nonblocking root ty scounts count items) result self.old self.new }
+        ensures asks { DeskAsks (H.goes_by self.old.host (⟦<Ops as Listing>⟧.operations ops.now)) H.node comm.now.name (line.scatterv Nonblocking root ty scounts count items) result self.old self.new }
         ensures no_turn { H.turned self.old.host 0 self.new.host }
     {
         let draft = lines::scatterv(Mode::Nonblocking, root, ty, scounts, count, items);

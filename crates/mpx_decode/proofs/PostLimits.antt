@@ -1,5 +1,5 @@
 -- Posts that are read field by field are within the limits of posts.
-use Rattle.std.proofs.Common.{◌≡◌, ℕ, ℤ, Bool, true, false, List, [], Option, Some, None, Result, Ok, refl, sym, ap, subst, ◌∙◌}
+use Rattle.std.proofs.Common.{◌≡◌, ℕ, ℤ, Bool, true, false, cond, List, [], Option, Some, None, Result, Ok, refl, sym, ap, subst, ◌∙◌}
 use Rattle.std.specs.Prelude.{is_some}
 use Rattle.std.specs.Option.{option_map, option_map_or}
 use Rattle.mpx_num.specs.ItemList.{ItemList}
@@ -8,13 +8,13 @@ use Rattle.mpx_num.specs.declared.types.Ty.{Ty}
 use Rattle.mpx_num.specs.declared.types.Ty.TheVariants.{I8}
 use Rattle.mpx_num.specs.declared.operations.Op.{Op}
 use Rattle.mpx_kind.specs.declared.kinds.Kind.{Kind}
-use Rattle.mpx_kind.specs.declared.kinds.Kind.TheVariants.{Reduce, Allreduce, ReduceScatterBlock, ReduceScatter, Scan, Exscan}
 use Rattle.mpx_kind.specs.Kinds.{fields_of}
 use Rattle.mpx_kind.specs.declared.kinds.Mode.{Mode}
 use Rattle.mpx_post.specs.declared.making.Making.{Making}
 use Rattle.mpx_post.specs.Posts.{Given}
 use Rattle.mpx_format.specs.declared.defects.Defect.{Defect}
 use Rattle.mpx_format.specs.Posts.{nums_of, given_from}
+use Rattle.mpx_format.proofs.CodeLaws.{each_kind}
 
 abbrev type_in : Option ItemList → Option Ty
 type_in items = option_map (λ (i : ItemList). i.ty) items
@@ -34,13 +34,7 @@ items_there (Some i) ty had e h = ap is_some e ∙ h
 
 -- a kind with an operation has items
 op_needs_items : (k : Kind) → (fields_of k).op ≡ true → (fields_of k).items ≡ true
-op_needs_items Reduce e = refl
-op_needs_items Allreduce e = refl
-op_needs_items ReduceScatterBlock e = refl
-op_needs_items ReduceScatter e = refl
-op_needs_items Scan e = refl
-op_needs_items Exscan e = refl
-op_needs_items k e = absurd cc
+op_needs_items k e = ap (λ (b : Bool). cond b (fields_of k).items true) (sym e) ∙ each_kind (λ (kind : Kind). cond (fields_of kind).op (fields_of kind).items true) refl refl k
 
 -- the operation, where there is one, fits the type
 fits_by_type : (op : Option Op) (items : Option ItemList) → option_map_or (λ ty. option_map_or (λ o. fits o ty) op true) (type_in items) true ≡ true

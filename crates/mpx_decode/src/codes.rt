@@ -2,18 +2,16 @@
 ghost use Rattle.std.specs.Prelude.{◌≡◌, ◌<◌, ◌≤◌, nat_lt, IfOk, is_some, true};
 ghost use Rattle.std.specs.Option.{option_map_or};
 ghost use Rattle.mpx_num.specs.Operations.{fits};
-ghost use Rattle.mpx_kind.specs.Kinds.{family_of, may_be};
+ghost use Rattle.mpx_kind.specs.Kinds.{may_be};
 ghost use Rattle.mpx_format.specs.Format.{Gives};
 ghost use Rattle.mpx_format.specs.Fields.{process};
 ghost use Rattle.mpx_format.specs.Codes.{flag, is_operation_code, item_type, kind, kinds_in, mode, operation, version_byte, when};
-ghost use Rattle.mpx_kind.specs.Codes.{kind_at};
-ghost use Rattle.mpx_num.specs.Codes.{type_at};
 ghost use Rattle.mpx_format.specs.Posts.{type_for};
 
 use crate::big_endian::read_u8;
 use crate::fields::read_process;
 use mpx_format::{Defect, ReadError, Version, out_of_limits};
-use mpx_kind::{Family, Kind, Mode};
+use mpx_kind::{Kind, Mode};
 use mpx_num::{Op, Ty, may_stand};
 
 // VERSIONS
@@ -52,45 +50,9 @@ pub fn read_kind(version: Version, bytes: &[u8]) -> Result<(Kind, &[u8]), ReadEr
 {
     let (code, rest) = read_u8(bytes)?;
     if code < kinds_in(version) {
-        Ok((kind_at(code), rest))
+        Ok((Kind::at(code), rest))
     } else {
         Err(out_of_limits(bytes))
-    }
-}
-
-fn kind_at(code: u8) -> Kind
-    requires { code < 27 }
-    ensures { result ≡ kind_at code }
-{
-    match code {
-        0 => Kind::Barrier,
-        1 => Kind::Bcast,
-        2 => Kind::Gather,
-        3 => Kind::Gatherv,
-        4 => Kind::Scatter,
-        5 => Kind::Scatterv,
-        6 => Kind::Allgather,
-        7 => Kind::Allgatherv,
-        8 => Kind::Alltoall,
-        9 => Kind::Alltoallv,
-        10 => Kind::Reduce,
-        11 => Kind::Allreduce,
-        12 => Kind::ReduceScatterBlock,
-        13 => Kind::ReduceScatter,
-        14 => Kind::Scan,
-        15 => Kind::Exscan,
-        16 => Kind::Dup,
-        17 => Kind::Split,
-        18 => Kind::Create,
-        19 => Kind::CreateGroup,
-        20 => Kind::DistGraph,
-        21 => Kind::DistGraphAdjacent,
-        22 => Kind::NeighborAllgather,
-        23 => Kind::NeighborAllgatherv,
-        24 => Kind::NeighborAlltoall,
-        25 => Kind::NeighborAlltoallv,
-        26 => Kind::Free,
-        _ => unreachable!(),
     }
 }
 
@@ -98,27 +60,15 @@ fn kind_at(code: u8) -> Kind
 #[tactic(auto, unfolding(mpx_format::specs::Codes::mode))]
 pub fn read_mode(kind: Kind, bytes: &[u8]) -> Result<(Mode, &[u8]), ReadError>
     ensures read { Gives (λ x. (x.0, x.1.now)) result ((mode kind).read bytes.now) }
-    ensures may { IfOk result (λ x. may_be x.0 (family_of kind) ≡ true) }
+    ensures may { IfOk result (λ x. may_be x.0 kind ≡ true) }
 {
     let (code, rest) = read_u8(bytes)?;
     if code == 0 {
         Ok((Mode::Blocking, rest))
-    } else if code == 1 && may_be_nonblocking(kind) {
+    } else if code == 1 && kind.may_be_nonblocking() {
         Ok((Mode::Nonblocking, rest))
     } else {
         Err(out_of_limits(bytes))
-    }
-}
-
-fn may_be_nonblocking(kind: Kind) -> bool
-    ensures { result ≡ may_be Mode.Nonblocking (family_of kind) }
-{
-    match kind.family() {
-        Family::Exchange(_) => true,
-        Family::Reduction(_) => true,
-        Family::NewCommunicator(_) => false,
-        Family::Neighbourhood(_) => true,
-        Family::Free => false,
     }
 }
 
@@ -152,28 +102,9 @@ fn read_item_type(bytes: &[u8]) -> Result<(Ty, &[u8]), ReadError>
 {
     let (code, rest) = read_u8(bytes)?;
     if 0 < code && code < 10 {
-        Ok((type_at(code), rest))
+        Ok((Ty::at(code), rest))
     } else {
         Err(out_of_limits(bytes))
-    }
-}
-
-fn type_at(code: u8) -> Ty
-    requires some { 0 < code }
-    requires below { code < 10 }
-    ensures { result ≡ type_at code }
-{
-    match code {
-        1 => Ty::I8,
-        2 => Ty::I16,
-        3 => Ty::I32,
-        4 => Ty::I64,
-        5 => Ty::U8,
-        6 => Ty::U16,
-        7 => Ty::U32,
-        8 => Ty::U64,
-        9 => Ty::TwoInt,
-        _ => unreachable!(),
     }
 }
 

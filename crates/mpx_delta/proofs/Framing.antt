@@ -1,16 +1,22 @@
 -- Frames of boards, one for each.
 use Rattle.std.proofs.Common.{◌≡◌, ◌≤◌, ◌<◌, ◌+◌, ℕ, suc, Bool, true, false, cond, List, [], ◌∷◌, ◌++◌, length, get_or, take, refl, sym, ap, ◌∙◌, subst, arith}
-use Rattle.std.specs.Prelude.{All}
+use Rattle.std.specs.Prelude.{All, nat_lt}
+use Rattle.std.proofs.lemmas.Bool.Decides.{nat_tests}
+use Rattle.join_core.specs.Flat.{unknown}
+use Rattle.mpx_name.specs.Name.{Name}
+use Rattle.mpx_name.specs.Order.{name_total, name_exact}
 use Rattle.std.proofs.lemmas.List.{take_more}
 use Rattle.std.proofs.lemmas.List.Elements.{All-weaker}
 use Rattle.mpx_board.specs.declared.acks.Raised.{Raised}
 use Rattle.mpx_board.specs.declared.board.Board.{Board}
-use Rattle.mpx_board.specs.Boards.{IsBoardBelow, join, own_acks}
-use Rattle.mpx_board.specs.Contexts.{look_of}
+use Rattle.mpx_board.specs.Boards.{IsBoardBelow, Look, join, own_acks}
+use Rattle.mpx_board.specs.Contexts.{look_of, number_in}
 use Rattle.mpx_board.specs.Looks.{look, parts_of}
 use Rattle.mpx_board.specs.Parts.{OfNames, AcksView, LiftedView, PartsView}
 use Rattle.mpx_board.specs.Raised.{StoringLeads}
+use Rattle.mpx_board.specs.Tidy.{is_bare}
 use Rattle.mpx_board.proofs.Acknowledging.{look_replaced}
+use Rattle.mpx_board.proofs.Entries.{bare_gets}
 use Rattle.mpx_board.proofs.Exchanging.{leads_raises}
 use Rattle.mpx_board.proofs.Facts.{join_is_least}
 use Rattle.mpx_format.specs.declared.versions.Version.TheVariants.{Two}
@@ -53,6 +59,26 @@ told_length bytes v s not_long = short (is_too_long v) (length (frame.spelling (
 pub lean_own : (d : AcksView) (v : PartsView) (first : OfNames LiftedView) → first ≡ keep (lean_context d) v.0 → look_of (first, v.1) ≡ without (numbers_of d) (look_of v)
 lean_own d v first is = look_replaced (first, v.1) v ∙ lean_said d v first v.1 (look_of v) is
 
+-- without the posts below no number it is the board
+pub nothing_left_out : (d : AcksView) (b : Look) → is_bare d ≡ true → without (numbers_of d) b ≡ b
+nothing_left_out d b bare i = record {
+  contexts = λ name. record {
+    birth = (b.contexts name).birth;
+    fronts = (b.contexts name).fronts;
+    dropped = (b.contexts name).dropped;
+    posts = λ k p. stays name k p i;
+    dead = (b.contexts name).dead;
+  };
+  acks = b.acks;
+} where
+  below_none : (k : ℕ) → nat_lt k 0 ≡ false
+  below_none k = grind (arith, nat_tests)
+
+  stays : (name : Name) (k p : ℕ) → cond (nat_lt k (numbers_of d name p)) unknown ((b.contexts name).posts k p) ≡ (b.contexts name).posts k p
+  stays name k p =
+      let none : numbers_of d name p ≡ 0 = ap (number_in p) (bare_gets name_total name_exact d bare name) in
+      rw (none, below_none k) refl
+
 -- what leads back from a board leads back from one that is the same
 pub led_back : (before : Raised) (old mid lent back : PartsView) → StoringLeads before mid old → lent ≡ mid → ((new : PartsView) → StoringLeads before lent new → back ≡ new) → back ≡ old
 led_back before old mid lent back l same gives = gives old (subst (λ v. StoringLeads before v old) (sym same) l)
@@ -73,6 +99,7 @@ frames_lack me processes limit numbers old new before said frames digest is back
         facts = All-weaker (λ part. OnlyFactsOf (look part) (without (common_on processes (look_of new)) (look_of new))) (λ part. OnlyFactsOf (look part) (look_of new)) (λ part only f has. without_only (common_on processes (look_of new)) (look_of new) f (only f has)) made.parts made.facts;
         fit = made.fit;
         join = made.join;
+        few = made.few;
       };
       spelled = made.spelled;
     }

@@ -4,6 +4,7 @@ pub mod Leaning
 pub mod Serving
 pub mod Lesser
 pub mod Reaching
+pub mod Passing
 pub mod Gaps
 pub mod Saying
 pub mod Telling

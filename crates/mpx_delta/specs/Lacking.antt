@@ -9,6 +9,7 @@ use Rattle.mpx_format.specs.declared.versions.Version.TheVariants.{Two}
 use Rattle.mpx_format.specs.Decoding.{Spells}
 use Rattle.mpx_format.specs.Encoding.{length_told}
 use Rattle.mpx_parts.specs.Facts.{OnlyFactsOf}
+use Rattle.mpx_parts.specs.Pieces.{NoNeighboursFit}
 use Rattle.mpx_delta.specs.Digests.{Acknowledges, common_on, without}
 
 -- the board `after` is the one on which the process has said what it has; the parts are those of that board, without the posts that all have
@@ -19,6 +20,7 @@ pub record IsLacking (me processes limit : ℕ) (board : Look) (said : Raised) (
   pub facts : All (λ part. OnlyFactsOf (look part) after) parts
   pub fit : All (λ part. length_told (parts_of part) ≤ limit) parts
   pub join : join_all (map look parts) ≡ without (common_on processes after) after
+  pub few : NoNeighboursFit limit parts
 
 -- one frame for each board, in the same order, with its bytes
 abbrev pub AreSpelled : List (List ℕ) → List Board → Type 0
@@ -33,6 +35,7 @@ pub record AreFramesOf (limit : ℕ) (board : Look) (frames : List (List ℕ)) :
   pub facts : All (λ part. OnlyFactsOf (look part) board) parts
   pub fit : All (λ part. length_told (parts_of part) ≤ limit) parts
   pub join : join_all (map look parts) ≡ board
+  pub few : NoNeighboursFit limit parts
   pub spelled : AreSpelled frames parts
 
 -- the frames of what others lack

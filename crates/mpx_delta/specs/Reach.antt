@@ -15,6 +15,10 @@ use Rattle.mpx_delta.specs.Keep.{kept, keep, unless_bare}
 abbrev pub is_told_of : ℕ → CallView → Bool
 is_told_of p posts = not (is_unknown (post_in p (Some posts)))
 
+-- the number past the call, where it is the call's and the post is told
+abbrev pub next_number : ℕ → Bool → ℕ → ℕ
+next_number call told n = cond (nat_eq call n && told) (n + 1) n
+
 -- the first number from n on that isn't the next call with a post of the process
 abbrev pub reach : (p n : ℕ) → List (ℕ × CallView) → ℕ
 reach p n [] = n

@@ -5,14 +5,14 @@ ghost use Rattle.mpx_board.specs.Looks.{look, parts_of};
 ghost use Rattle.mpx_board.specs.Views.{view_of_acks, view_of_call, view_of_calls, view_of_entries, view_of_entry, view_of_lifted, view_of_numbers};
 ghost use Rattle.mpx_format.specs.Encoding.{length_told};
 ghost use Rattle.mpx_parts.specs.Facts.{OnlyFactsOf};
+ghost use Rattle.mpx_parts.specs.Pieces.{NoNeighboursFit};
 ghost use Rattle.mpx_delta.specs.Digests.{Covers, number_at, numbers_of, without};
 ghost use Rattle.mpx_delta.specs.Keep.{keep};
 ghost use Rattle.mpx_delta.specs.Lean.{lean_call, lean_calls, lean_context, lean_entry, lean_lifted, lean_post};
 
-use crate::digest::Digest;
 use join_core::{Exact, OutOfMemory, Pair};
 use join_nest::{Keyed, Lift, Trunc};
-use mpx_board::{Board, CallPosts, Entry, Lifted, VersionVector, is_said};
+use mpx_board::{Acks, Board, CallPosts, Entry, Lifted, VersionVector, is_said};
 use mpx_group::Proc;
 use mpx_name::Name;
 use mpx_parts::parts;
@@ -20,11 +20,11 @@ use std::alloc::Global;
 
 /// The board without the posts below the digest, in parts, each of which has only facts of the board and a frame of at
 /// most `limit` bytes, from 524,288 to 1,048,576: they serve each board in which those posts stand as the whole would. They tell of each
-/// dead context that it is dead. An `Err` is want of memory.
+/// dead context that it is dead. Of no two parts beside each other would the join have such a frame. An `Err` is want of memory.
 pub fn delta_for(
     alloc: Global,
     board: &Board,
-    digest: &Digest,
+    digest: &Acks,
     limit: usize,
 ) -> Result<Vec<Board>, OutOfMemory>
     requires least { 524288 ≤ limit }
@@ -34,6 +34,7 @@ pub fn delta_for(
     ensures join { IfOk result (λ made. join_all (map look made.items) ≡ without (numbers_of (view_of_acks digest.now)) (look board.now)) }
     ensures serves { IfOk result (λ made. (b : Look) → Covers (numbers_of (view_of_acks digest.now)) b (look board.now)
         → join b (join_all (map look made.items)) ≡ join (look board.now) b) }
+    ensures few { IfOk result (λ made. NoNeighboursFit limit made.items) }
 {
     let said = board.only_acks(alloc)?;
     let lean = lean_board(alloc, board, said, digest)?;
@@ -45,7 +46,7 @@ pub fn lean_board(
     alloc: Global,
     board: &Board,
     said: Board,
-    digest: &Digest,
+    digest: &Acks,
 ) -> Result<Board, OutOfMemory>
     ensures { IfOk result (λ made. look made ≡ without (numbers_of (view_of_acks digest.now)) (record (look board.now) { acks = (look said).acks })) }
 {
@@ -66,7 +67,7 @@ pub fn lean_board(
 pub fn lean_contexts(
     alloc: Global,
     contexts: &Keyed<Name, Lifted>,
-    digest: &Digest,
+    digest: &Acks,
 ) -> Result<Keyed<Name, Lifted>, OutOfMemory>
     ensures { IfOk result (λ made. view_of_entries made ≡ keep (lean_context (view_of_acks digest.now)) (view_of_entries contexts.now)) }
 {
@@ -85,7 +86,7 @@ fn lean_lifted(
     alloc: Global,
     name: &Name,
     known: &Lifted,
-    digest: &Digest,
+    digest: &Acks,
 ) -> Result<Lifted, OutOfMemory>
     ensures { IfOk result (λ made. view_of_lifted made ≡ lean_lifted (numbers_of (view_of_acks digest.now) name.now) (view_of_lifted known.now)) }
 {
@@ -100,7 +101,7 @@ fn lean_context(
     alloc: Global,
     name: &Name,
     entry: &Entry,
-    digest: &Digest,
+    digest: &Acks,
 ) -> Result<Entry, OutOfMemory>
     ensures { IfOk result (λ made. view_of_entry made ≡ lean_entry (numbers_of (view_of_acks digest.now) name.now) (view_of_entry entry.now)) }
 {

@@ -1,5 +1,5 @@
 //! How many calls of each process are known.
-ghost use Rattle.std.specs.Prelude.{◌≡◌, ◌||◌, ℕ, Bool, IfOk, IsTrue, true};
+ghost use Rattle.std.specs.Prelude.{◌≡◌, ◌<◌, ◌||◌, ℕ, Bool, IfOk, IsTrue, true, false, cond, get_or};
 ghost use Rattle.std.specs.FinMap.{entries};
 ghost use Rattle.join_core.specs.FlatSeen.{flat_view};
 ghost use Rattle.mpx_board.specs.Boards.{told};
@@ -7,23 +7,21 @@ ghost use Rattle.mpx_board.specs.Looks.{look, parts_of};
 ghost use Rattle.mpx_board.specs.Tidy.{all_entries, are_tidy_numbers, is_tidy_call, is_tidy_lifted};
 ghost use Rattle.mpx_board.specs.Views.{view_of_acks, view_of_call, view_of_calls, view_of_entry, view_of_lifted, view_of_numbers};
 ghost use Rattle.mpx_group.specs.Group.{has};
+ghost use Rattle.mpx_post.specs.Drafts.{most_calls};
 ghost use Rattle.mpx_delta.specs.Digests.{IsDigest, numbers_of};
-ghost use Rattle.mpx_delta.specs.Reach.{AreMarks, digest_lifted, digest_number, digest_numbers, has_posted, is_member_of, is_told_of, reach};
+ghost use Rattle.mpx_delta.specs.Reach.{AreMarks, digest_lifted, digest_numbers, has_posted, is_member_of, is_told_of, next_number, reach};
 
 use join_core::{Exact, Flat, Max, OutOfMemory};
 use join_nest::{Keyed, Lift, Trunc};
 use mpx_birth::Birth;
-use mpx_board::{Board, CallPosts, Entry, Lifted, VersionVector};
+use mpx_board::{Acks, Board, CallPosts, Entry, Lifted, VersionVector, is_told};
 use mpx_group::Proc;
 use mpx_name::Name;
 use std::alloc::Global;
 
-/// For each context, and each process of it, a number of calls; a 0 isn't kept.
-pub type Digest = Keyed<Name, VersionVector>;
-
 /// For each live context, and each process that is a member or has a post there, how many of its calls are told or dropped,
 /// in order up to the first gap. Dead contexts are left out. An `Err` is want of memory.
-pub fn digest_of(alloc: Global, board: &Board) -> Result<Digest, OutOfMemory>
+pub fn digest_of(alloc: Global, board: &Board) -> Result<Acks, OutOfMemory>
     ensures digest { IfOk result (λ made. IsDigest (numbers_of (view_of_acks made)) (look board.now)) }
     ensures tidy { IfOk result (λ made. IsTrue (are_tidy_numbers (view_of_acks made))) }
 {
@@ -55,11 +53,10 @@ fn entry_digest(alloc: Global, entry: &Entry) -> Result<VersionVector, OutOfMemo
 {
     let are_members = members_of(&entry.first);
     let have_posted = posters_of(&entry.second.second);
+    let reached = reaches(&entry.second.second);
     let mut made = Vec::new(alloc);
     for process in 0..64 {
-        let is_member = are_members[process as usize];
-        let posted = have_posted[process as usize];
-        let number = digest_number(entry, is_member, posted, Proc::new(process));
+        let number = digest_number(&are_members, &have_posted, &reached, process);
         if number != 0 {
             made.push((Proc::new(process), Max(number)))?;
         }
@@ -67,15 +64,19 @@ fn entry_digest(alloc: Global, entry: &Entry) -> Result<VersionVector, OutOfMemo
     Ok(Keyed::from_rising(made))
 }
 
-// How many calls of the process, where it is a member or has a post.
-fn digest_number(entry: &Entry, is_member: bool, posted: bool, process: Proc) -> u32
-    requires tidy { all_entries is_tidy_call (view_of_entry entry.now).1.1.calls ≡ true }
-    requires member { is_member ≡ is_member_of process (told (view_of_entry entry.now).0) }
-    requires posted { posted ≡ has_posted process (entries (view_of_entry entry.now).1.1.calls) }
-    ensures { result ≡ digest_number (view_of_entry entry.now) process }
+// How far the process has come, where it is a member or has a post.
+fn digest_number(
+    are_members: &[bool; 64],
+    have_posted: &[bool; 64],
+    reached: &[u32; 64],
+    process: u8,
+) -> u32
+    requires { process < 64 }
+    ensures { result ≡ cond (get_or are_members.now process false || get_or have_posted.now process false) (get_or reached.now process 0) 0 }
 {
-    if is_member || posted {
-        reach(&entry.second.second, process)
+    let at = process as usize;
+    if are_members[at] || have_posted[at] {
+        reached[at]
     } else {
         0
     }
@@ -125,27 +126,37 @@ fn mark_posters(posts: &CallPosts, marks: &mut [bool; 64])
     }
 }
 
-// Whether the process's post is told.
-fn is_told_of(posts: &CallPosts, process: Proc) -> bool
-    ensures { result ≡ is_told_of process (view_of_call posts.now) }
+// How many calls of each process are told or dropped, in order up to the first gap, in one pass over the posts.
+fn reaches(calls: &Trunc<CallPosts>) -> [u32; 64]
+    requires { all_entries is_tidy_call (view_of_calls calls.now).calls ≡ true }
+    ensures { (p : ℕ) → p < 64 → get_or result p 0 ≡ reach p (view_of_calls calls.now).dropped (entries (view_of_calls calls.now).calls) }
 {
-    match posts.get(&process) {
-        None => false,
-        Some(post) => !matches!(post, Flat::Unknown),
+    let mut numbers = [calls.dropped(); 64];
+    for call in calls.entries() {
+        reach_call(call.0, &call.1, &mut numbers);
+    }
+    numbers
+}
+
+// Steps over this call, for each process with a post on it that has come so far.
+fn reach_call(call: u32, posts: &CallPosts, numbers: &mut [u32; 64])
+    requires { call < most_calls }
+    ensures { (p : ℕ) → p < 64 → get_or numbers.new p 0 ≡ next_number call (is_told_of p (view_of_call posts.now)) (get_or numbers.old p 0) }
+{
+    for (process, post) in posts.entries() {
+        let at = process.number() as usize;
+        numbers[at] = next_number(call, is_told(post), numbers[at]);
     }
 }
 
-// How many calls of the process are told or dropped, in order up to the first gap.
-fn reach(calls: &Trunc<CallPosts>, process: Proc) -> u32
-    requires { all_entries is_tidy_call (view_of_calls calls.now).calls ≡ true }
-    ensures { result ≡ reach process (view_of_calls calls.now).dropped (entries (view_of_calls calls.now).calls) }
+// The number past the call, where that is the number's and its post is told.
+fn next_number(call: u32, told: bool, number: u32) -> u32
+    requires { call < most_calls }
+    ensures { result ≡ next_number call told number }
 {
-    let mut number = calls.dropped();
-    for (call, posts) in calls.entries() {
-        if *call != number || !is_told_of(posts, process) {
-            return number;
-        }
-        number = call + 1;
+    if told && number == call {
+        call + 1
+    } else {
+        number
     }
-    number
 }

@@ -2,10 +2,11 @@
 ghost use Rattle.std.specs.Prelude.{◌≡◌, ◌<◌, ◌≤◌, All, IfOk, IfSome, map};
 ghost use Rattle.mpx_board.specs.Contexts.{look_of};
 ghost use Rattle.mpx_board.specs.Looks.{look, parts_of};
+ghost use Rattle.mpx_board.specs.Views.{view_of_acks};
 ghost use Rattle.mpx_format.specs.declared.versions.Version.TheVariants.{Two};
 ghost use Rattle.mpx_format.specs.Decoding.{Spells};
 ghost use Rattle.mpx_format.specs.Encoding.{length_told};
-ghost use Rattle.mpx_delta.specs.Digests.{common_on, without};
+ghost use Rattle.mpx_delta.specs.Digests.{common_on, numbers_of, without};
 ghost use Rattle.mpx_delta.specs.Lacking.{AreFramesOf, AreLacking, AreSpelled};
 
 use crate::delta::lean_contexts;
@@ -13,7 +14,7 @@ use crate::digest::digest_of;
 use crate::posted::common_of_posts;
 use join_core::{OutOfMemory, Pair};
 use join_nest::Keyed;
-use mpx_board::{Board, Raised};
+use mpx_board::{Acks, Board, Raised};
 use mpx_encode::{EncodeError, encode, encode_over};
 use mpx_group::Proc;
 use mpx_parts::parts;
@@ -57,7 +58,8 @@ pub fn new_frames(
     }
 }
 
-// The frames of the board without the posts that all of so many processes say that they have, in parts.
+// The frames of the board without the posts that all of so many processes say that they have, in parts: of the board itself, where it has
+// no such post.
 fn lean_frames(
     alloc: Global,
     board: &mut Board,
@@ -72,7 +74,11 @@ fn lean_frames(
     ensures board { parts_of board.new ≡ parts_of board.old }
     ensures frames { IfOk result (λ made. AreFramesOf limit (without (common_on processes (look board.old)) (look board.old)) (map (λ frame. frame.items) made.items)) }
 {
-    let mut lean = lean_of(alloc, board, processes)?;
+    let shared = common_of_posts(alloc, board, board, processes)?;
+    if shared.is_empty() {
+        return frames_of(alloc, board, limit, spare);
+    }
+    let mut lean = lean_of(alloc, board, &shared)?;
     board.swap_acks(&mut lean);
     let made = frames_of(alloc, &lean, limit, spare);
     board.swap_acks(&mut lean);
@@ -80,14 +86,11 @@ fn lean_frames(
     made
 }
 
-// The contexts of the board without those posts, and nothing that anyone says.
-fn lean_of(alloc: Global, board: &Board, processes: u8) -> Result<Board, OutOfMemory>
-    requires some { 0 < processes }
-    requires few { processes ≤ 64 }
-    ensures { IfOk result (λ made. look_of ((parts_of made).0, (parts_of board.now).1) ≡ without (common_on processes (look board.now)) (look board.now)) }
+// The contexts of the board without the posts below these numbers, and nothing that anyone says.
+fn lean_of(alloc: Global, board: &Board, shared: &Acks) -> Result<Board, OutOfMemory>
+    ensures { IfOk result (λ made. look_of ((parts_of made).0, (parts_of board.now).1) ≡ without (numbers_of (view_of_acks shared.now)) (look board.now)) }
 {
-    let shared = common_of_posts(alloc, board, board, processes)?;
-    let first = lean_contexts(alloc, &board.pair().first, &shared)?;
+    let first = lean_contexts(alloc, &board.pair().first, shared)?;
     let second = Keyed::new(alloc);
     Ok(Board::from_tidy(Pair { first, second }))
 }

@@ -6,14 +6,15 @@ ghost use Rattle.mpx_board.specs.Tidy.{are_tidy_numbers};
 ghost use Rattle.mpx_board.specs.Views.{view_of_acks};
 ghost use Rattle.mpx_format.specs.Encoding.{length_told};
 ghost use Rattle.mpx_parts.specs.Facts.{OnlyFactsOf};
+ghost use Rattle.mpx_parts.specs.Pieces.{NoNeighboursFit};
 ghost use Rattle.mpx_delta.specs.Digests.{Acknowledges, common_on, numbers_of, without};
 ghost use Rattle.mpx_delta.specs.Lacking.{IsLacking};
 
 use crate::delta::lean_board;
-use crate::digest::{Digest, digest_of};
+use crate::digest::digest_of;
 use crate::posted::common_of_posts;
 use join_core::OutOfMemory;
-use mpx_board::{Board, Raised};
+use mpx_board::{Acks, Board, Raised};
 use mpx_encode::frame_len;
 use mpx_group::Proc;
 use mpx_parts::parts;
@@ -74,6 +75,7 @@ pub fn deltas(
     ensures facts { IfOk result (λ made. All (λ part. OnlyFactsOf (look part) (look board.new)) made.items) }
     ensures fit { IfOk result (λ made. All (λ part. length_told (parts_of part) ≤ limit) made.items) }
     ensures join { IfOk result (λ made. join_all (map look made.items) ≡ without (common_on processes (look board.new)) (look board.new)) }
+    ensures few { IfOk result (λ made. NoNeighboursFit limit made.items) }
     ensures err { OnErr result (look board.new ≡ look board.old) }
 {
     let NewList { said, parts } = new_list(alloc, board, me, processes, limit)?;
@@ -82,12 +84,7 @@ pub fn deltas(
 }
 
 // What all processes say, where the process says what the digest says.
-fn raised_acks(
-    alloc: Global,
-    board: &Board,
-    me: Proc,
-    digest: &Digest,
-) -> Result<Board, OutOfMemory>
+fn raised_acks(alloc: Global, board: &Board, me: Proc, digest: &Acks) -> Result<Board, OutOfMemory>
     requires { IsTrue (are_tidy_numbers (view_of_acks digest.now)) }
     ensures { IfOk result (λ made. record (look board.now) { acks = (look made).acks } ≡ join (look board.now) (own_acks me (numbers_of (view_of_acks digest.now)))) }
 {
@@ -103,6 +100,7 @@ fn in_parts(alloc: Global, board: Board, limit: usize) -> Result<Vec<Board>, Out
     ensures facts { IfOk result (λ made. All (λ part. OnlyFactsOf (look part) (look board)) made.items) }
     ensures fit { IfOk result (λ made. All (λ part. length_told (parts_of part) ≤ limit) made.items) }
     ensures join { IfOk result (λ made. join_all (map look made.items) ≡ look board) }
+    ensures few { IfOk result (λ made. NoNeighboursFit limit made.items) }
 {
     if limit < frame_len(&board) {
         return parts(alloc, &board, limit);

@@ -10,7 +10,6 @@ ghost use Rattle.mpx_delta.specs.Digests.{common_on, numbers_of};
 ghost use Rattle.mpx_delta.specs.Keep.{keep};
 ghost use Rattle.mpx_delta.specs.Least.{least, least_number, least_numbers};
 
-use crate::digest::Digest;
 use join_core::{Exact, Join, Key, Max, OutOfMemory};
 use join_nest::Keyed;
 use mpx_board::{Acks, Board, VersionVector};
@@ -21,7 +20,7 @@ use std::cmp::Ordering;
 
 /// For each context and process the least number that one of the first `processes` processes acknowledges, 1 to 64 of them. An `Err`
 /// is want of memory.
-pub fn common(alloc: Global, board: &Board, processes: u8) -> Result<Digest, OutOfMemory>
+pub fn common(alloc: Global, board: &Board, processes: u8) -> Result<Acks, OutOfMemory>
     requires some { 0 < processes }
     requires few { processes ≤ 64 }
     ensures least { IfOk result (λ made. (name : NameView) (p : ℕ) → numbers_of (view_of_acks made) name p ≡ common_on processes (look board.now) name p) }
@@ -38,7 +37,7 @@ pub fn common(alloc: Global, board: &Board, processes: u8) -> Result<Digest, Out
 }
 
 // What the process acknowledges.
-fn acks_of(alloc: Global, board: &Board, process: Proc) -> Result<Digest, OutOfMemory>
+fn acks_of(alloc: Global, board: &Board, process: Proc) -> Result<Acks, OutOfMemory>
     ensures numbers { IfOk result (λ made. (name : NameView) (p : ℕ) → numbers_of (view_of_acks made) name p ≡ (look board.now).acks process name p) }
     ensures tidy { IfOk result (λ made. IsTrue (are_tidy_numbers (view_of_acks made))) }
 {
@@ -49,19 +48,14 @@ fn acks_of(alloc: Global, board: &Board, process: Proc) -> Result<Digest, OutOfM
 }
 
 // The lesser of these numbers and those that the process acknowledges: mostly these, since the least is soon found.
-fn least_of(
-    alloc: Global,
-    board: &Board,
-    process: Proc,
-    numbers: Digest,
-) -> Result<Digest, OutOfMemory>
+fn least_of(alloc: Global, board: &Board, process: Proc, numbers: Acks) -> Result<Acks, OutOfMemory>
     requires { IsTrue (are_tidy_numbers (view_of_acks numbers)) }
     ensures least { IfOk result (λ made. (name : NameView) (p : ℕ) → numbers_of (view_of_acks made) name p
         ≡ min (numbers_of (view_of_acks numbers) name p) ((look board.now).acks process name p)) }
     ensures tidy { IfOk result (λ made. IsTrue (are_tidy_numbers (view_of_acks made))) }
 {
     match board.pair().second.get(&process) {
-        None => Ok(Digest::new(alloc)),
+        None => Ok(Acks::new(alloc)),
         Some(acks) => {
             if numbers.leq(acks) {
                 return Ok(numbers);
@@ -72,7 +66,7 @@ fn least_of(
 }
 
 // The lesser numbers of both, where both have one, in one walk of both.
-fn least(alloc: Global, numbers: &Digest, others: &Acks) -> Result<Digest, OutOfMemory>
+fn least(alloc: Global, numbers: &Acks, others: &Acks) -> Result<Acks, OutOfMemory>
     ensures { IfOk result (λ made. view_of_acks made ≡ least (view_of_acks numbers.now) (view_of_acks others.now)) }
 {
     let mut made = Vec::new(alloc);

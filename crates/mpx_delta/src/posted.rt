@@ -6,7 +6,6 @@ ghost use Rattle.mpx_board.specs.Views.{view_of_acks, view_of_all_acks, view_of_
 ghost use Rattle.mpx_delta.specs.Digests.{common_on, number_at, numbers_of, without};
 ghost use Rattle.mpx_delta.specs.Posted.{above, least_above, least_posted, lesser, said_on};
 
-use crate::digest::Digest;
 use crate::least::{place_from, value_near};
 use join_core::{Exact, Max, OutOfMemory};
 use join_nest::{Keyed, Lift};
@@ -22,7 +21,7 @@ pub fn common_of_posts(
     board: &Board,
     said: &Board,
     processes: u8,
-) -> Result<Digest, OutOfMemory>
+) -> Result<Acks, OutOfMemory>
     requires some { 0 < processes }
     requires few { processes ≤ 64 }
     ensures { IfOk result (λ made. without (numbers_of (view_of_acks made)) (look board.now) ≡ without (common_on processes (look said.now)) (look board.now)) }

@@ -8,7 +8,7 @@ ghost use Rattle.mpx_format.specs.Fields.{process};
 ghost use Rattle.mpx_format.specs.Codes.{operation, when};
 ghost use Rattle.mpx_format.specs.Posts.{count as count_format, counts as counts_format, counts_if, items_spelled, post as post_format, type_spelled};
 
-use crate::write_codes::{code_of_kind, code_of_mode, code_of_operation, code_of_type};
+use crate::write_codes::{code_of_mode, code_of_operation};
 use crate::write_items::{items_len, write_items};
 use crate::write_makings::{making_len, write_making};
 use crate::write_numbers::{write_u8, write_u16};
@@ -29,7 +29,11 @@ fn write_operation(given: &Post, out: &mut Vec<u8>) -> Result<(), OutOfMemory>
 {
     match given.op() {
         None => Ok(()),
-        Some(op) => write_u8(code_of_operation(op), out),
+        Some(op) => {
+            // so that the proof knows that the operation fits its type
+            given.limits();
+            write_u8(code_of_operation(op), out)
+        }
     }
 }
 
@@ -38,7 +42,7 @@ fn write_type(given: &Post, out: &mut Vec<u8>) -> Result<(), OutOfMemory>
 {
     match given.items() {
         None => Ok(()),
-        Some(items) => write_u8(code_of_type(items.ty()), out),
+        Some(items) => write_u8(items.ty().code(), out),
     }
 }
 
@@ -135,7 +139,7 @@ pub fn write_post(given: &Post, out: &mut Vec<u8>) -> Result<(), OutOfMemory>
     ensures { OnOk result (out.new.items ≡ out.old.items ++ (post_format Two).spelling given.now) }
 {
     let fields = given.kind().fields();
-    write_u8(code_of_kind(given.kind()), out)?;
+    write_u8(given.kind().code(), out)?;
     write_u8(code_of_mode(given.mode()), out)?;
     write_root(given, out)?;
     write_operation(given, out)?;

@@ -36,7 +36,7 @@ pub(crate) fn attempt(
         return Err(PostError::NotMember);
     };
     let (name, birth) = (&there.0, &there.1);
-    let Ok(draft) = posting.draft(alloc) else {
+    let Ok(draft) = posting.draft() else {
         return Err(PostError::OutOfMemory);
     };
     match posting {

@@ -7,12 +7,13 @@ use Rattle.mpx_num.specs.Operations.{is_for}
 use Rattle.mpx_num.specs.Types.{item_len}
 use Rattle.mpx_num.specs.ItemList.{AreItems, is_whole}
 use Rattle.mpx_kind.specs.declared.kinds.Kind.{Kind}
-use Rattle.mpx_kind.specs.declared.kinds.Kind.TheVariants.{Barrier, Bcast, Gather, Gatherv, Scatter, Scatterv, Allgather, Allgatherv, Alltoall, Alltoallv, Reduce, Allreduce, ReduceScatterBlock, ReduceScatter, Scan, Exscan, Dup, Split, Create, CreateGroup, DistGraph, DistGraphAdjacent, NeighborAllgather, NeighborAllgatherv, NeighborAlltoall, NeighborAlltoallv, Free}
-use Rattle.mpx_kind.specs.declared.kinds.Family.TheVariants as F
+use Rattle.mpx_kind.specs.declared.kinds.Kind.TheVariants as K
+use Rattle.mpx_kind.specs.declared.kinds.Exchange.TheVariants as E
 use Rattle.mpx_kind.specs.declared.kinds.Reduction.{Reduction}
 use Rattle.mpx_kind.specs.declared.kinds.Reduction.TheVariants as R
+use Rattle.mpx_kind.specs.declared.kinds.NewCommunicator.TheVariants as N
+use Rattle.mpx_kind.specs.declared.kinds.Neighbourhood.TheVariants as H
 use Rattle.mpx_kind.specs.Kinds.{fields_of}
-use Rattle.mpx_kind.proofs.Families.{kind_in}
 use Rattle.mpx_post.specs.Posts.{Given, type_of, numbers_of, count_of, suits}
 use Rattle.mpx_post.specs.Rows.{RowView}
 use Rattle.mpx_post.specs.Blocks.{repeated}
@@ -55,39 +56,39 @@ module _ (row : RowView) (rank : ℕ) (fine : IsFine row) (l : rank < length row
   by_count w v e = same_by_count (post_at row rank) (first_of row) (same_type row rank fine l) w v e
 
   as_many_by : (kind : Kind) → (first_of row).kind ≡ kind → AmountsAgree fine.topology kind row rank (post_at row rank) → (fields_of kind).op ≡ true → IsWhole (post_at row rank) → IsWhole (first_of row) → length (numbers_of (post_at row rank)) ≡ length (numbers_of (first_of row))
-  as_many_by Reduce is e op w v = by_count w v e
-  as_many_by Allreduce is e op w v = by_count w v e
-  as_many_by Scan is e op w v = by_count w v e
-  as_many_by Exscan is e op w v = by_count w v e
-  as_many_by ReduceScatterBlock is e op w v =
+  as_many_by (K.Reduction R.Reduce) is e op w v = by_count w v e
+  as_many_by (K.Reduction R.Allreduce) is e op w v = by_count w v e
+  as_many_by (K.Reduction R.Scan) is e op w v = by_count w v e
+  as_many_by (K.Reduction R.Exscan) is e op w v = by_count w v e
+  as_many_by (K.Reduction R.ReduceScatterBlock) is e op w v =
       let size = length row in
-      let one = rcounts_as fine.topology ReduceScatterBlock size rank (post_at row rank) (here.kind ∙ is) here.fit in
-      let alone = rcounts_as fine.topology ReduceScatterBlock size 0 (first_of row) is start.fit in
-      same_by_blocks (post_at row rank) (first_of row) size size (same_type row rank fine l) (same_alone _ _ one alone e) (filled_as fine.topology ReduceScatterBlock size rank (post_at row rank) (here.kind ∙ is) here.fit) (filled_as fine.topology ReduceScatterBlock size 0 (first_of row) is start.fit)
-  as_many_by ReduceScatter is e op w v =
+      let one = rcounts_as fine.topology (K.Reduction R.ReduceScatterBlock) size rank (post_at row rank) (here.kind ∙ is) here.fit in
+      let alone = rcounts_as fine.topology (K.Reduction R.ReduceScatterBlock) size 0 (first_of row) is start.fit in
+      same_by_blocks (post_at row rank) (first_of row) size size (same_type row rank fine l) (same_alone _ _ one alone e) (filled_as fine.topology (K.Reduction R.ReduceScatterBlock) size rank (post_at row rank) (here.kind ∙ is) here.fit) (filled_as fine.topology (K.Reduction R.ReduceScatterBlock) size 0 (first_of row) is start.fit)
+  as_many_by (K.Reduction R.ReduceScatter) is e op w v =
       let size = length row in
-      same_by_blocks (post_at row rank) (first_of row) size 1 (same_type row rank fine l) e (filled_as fine.topology ReduceScatter size rank (post_at row rank) (here.kind ∙ is) here.fit) (filled_as fine.topology ReduceScatter size 0 (first_of row) is start.fit)
-  as_many_by Barrier is e op w v = cc op
-  as_many_by Bcast is e op w v = cc op
-  as_many_by Gather is e op w v = cc op
-  as_many_by Gatherv is e op w v = cc op
-  as_many_by Scatter is e op w v = cc op
-  as_many_by Scatterv is e op w v = cc op
-  as_many_by Allgather is e op w v = cc op
-  as_many_by Allgatherv is e op w v = cc op
-  as_many_by Alltoall is e op w v = cc op
-  as_many_by Alltoallv is e op w v = cc op
-  as_many_by Dup is e op w v = cc op
-  as_many_by Split is e op w v = cc op
-  as_many_by Create is e op w v = cc op
-  as_many_by CreateGroup is e op w v = cc op
-  as_many_by DistGraph is e op w v = cc op
-  as_many_by DistGraphAdjacent is e op w v = cc op
-  as_many_by NeighborAllgather is e op w v = cc op
-  as_many_by NeighborAllgatherv is e op w v = cc op
-  as_many_by NeighborAlltoall is e op w v = cc op
-  as_many_by NeighborAlltoallv is e op w v = cc op
-  as_many_by Free is e op w v = cc op
+      same_by_blocks (post_at row rank) (first_of row) size 1 (same_type row rank fine l) e (filled_as fine.topology (K.Reduction R.ReduceScatter) size rank (post_at row rank) (here.kind ∙ is) here.fit) (filled_as fine.topology (K.Reduction R.ReduceScatter) size 0 (first_of row) is start.fit)
+  as_many_by (K.Exchange E.Barrier) is e op w v = cc op
+  as_many_by (K.Exchange E.Bcast) is e op w v = cc op
+  as_many_by (K.Exchange E.Gather) is e op w v = cc op
+  as_many_by (K.Exchange E.Gatherv) is e op w v = cc op
+  as_many_by (K.Exchange E.Scatter) is e op w v = cc op
+  as_many_by (K.Exchange E.Scatterv) is e op w v = cc op
+  as_many_by (K.Exchange E.Allgather) is e op w v = cc op
+  as_many_by (K.Exchange E.Allgatherv) is e op w v = cc op
+  as_many_by (K.Exchange E.Alltoall) is e op w v = cc op
+  as_many_by (K.Exchange E.Alltoallv) is e op w v = cc op
+  as_many_by (K.NewCommunicator N.Dup) is e op w v = cc op
+  as_many_by (K.NewCommunicator N.Split) is e op w v = cc op
+  as_many_by (K.NewCommunicator N.Create) is e op w v = cc op
+  as_many_by (K.NewCommunicator N.CreateGroup) is e op w v = cc op
+  as_many_by (K.NewCommunicator N.DistGraph) is e op w v = cc op
+  as_many_by (K.NewCommunicator N.DistGraphAdjacent) is e op w v = cc op
+  as_many_by (K.Neighbourhood H.Allgather) is e op w v = cc op
+  as_many_by (K.Neighbourhood H.Allgatherv) is e op w v = cc op
+  as_many_by (K.Neighbourhood H.Alltoall) is e op w v = cc op
+  as_many_by (K.Neighbourhood H.Alltoallv) is e op w v = cc op
+  as_many_by K.Free is e op w v = cc op
 
   -- each gives as many numbers as rank 0
   pub as_many : reduces row ≡ true → AreItems (type_of (first_of row)) (numbers_of (post_at row rank)) → AreItems (type_of (first_of row)) (numbers_of (first_of row)) → length (numbers_of (post_at row rank)) ≡ length (numbers_of (first_of row))
@@ -100,7 +101,7 @@ suits_first ops row op ty all l e t =
     ap (λ (u : Ty). is_for ops op u) t ∙ rw e at first
 
 -- a reduction has an operation
-pub reduction_has_op : (reduction : Reduction) → (fields_of (kind_in (F.Reduction reduction))).op ≡ true
+pub reduction_has_op : (reduction : Reduction) → (fields_of (K.Reduction reduction)).op ≡ true
 reduction_has_op R.Reduce = refl
 reduction_has_op R.Allreduce = refl
 reduction_has_op R.ReduceScatterBlock = refl
@@ -110,12 +111,30 @@ reduction_has_op R.Exscan = refl
 
 -- a reduction's posts have items
 pub has_items : (kind : Kind) → (fields_of kind).op ≡ true → (fields_of kind).items ≡ true
-has_items Barrier op = cc op
-has_items Dup op = cc op
-has_items Split op = cc op
-has_items Create op = cc op
-has_items CreateGroup op = cc op
-has_items DistGraph op = cc op
-has_items DistGraphAdjacent op = cc op
-has_items Free op = cc op
-has_items kind op = refl
+has_items (K.Exchange E.Barrier) op = cc op
+has_items (K.Exchange E.Bcast) op = refl
+has_items (K.Exchange E.Gather) op = refl
+has_items (K.Exchange E.Gatherv) op = refl
+has_items (K.Exchange E.Scatter) op = refl
+has_items (K.Exchange E.Scatterv) op = refl
+has_items (K.Exchange E.Allgather) op = refl
+has_items (K.Exchange E.Allgatherv) op = refl
+has_items (K.Exchange E.Alltoall) op = refl
+has_items (K.Exchange E.Alltoallv) op = refl
+has_items (K.Reduction R.Reduce) op = refl
+has_items (K.Reduction R.Allreduce) op = refl
+has_items (K.Reduction R.ReduceScatterBlock) op = refl
+has_items (K.Reduction R.ReduceScatter) op = refl
+has_items (K.Reduction R.Scan) op = refl
+has_items (K.Reduction R.Exscan) op = refl
+has_items (K.NewCommunicator N.Dup) op = cc op
+has_items (K.NewCommunicator N.Split) op = cc op
+has_items (K.NewCommunicator N.Create) op = cc op
+has_items (K.NewCommunicator N.CreateGroup) op = cc op
+has_items (K.NewCommunicator N.DistGraph) op = cc op
+has_items (K.NewCommunicator N.DistGraphAdjacent) op = cc op
+has_items (K.Neighbourhood H.Allgather) op = refl
+has_items (K.Neighbourhood H.Allgatherv) op = refl
+has_items (K.Neighbourhood H.Alltoall) op = refl
+has_items (K.Neighbourhood H.Alltoallv) op = refl
+has_items K.Free op = cc op

@@ -2,13 +2,13 @@
 use Rattle.std.specs.Prelude.{ℕ, Bool, ◌+◌, ◌==◌, List, ℤ, length, map, take, cond}
 use Rattle.mpx_num.specs.declared.own.Operation.{Operation}
 use Rattle.mpx_num.specs.Operations.{fold_items}
-use Rattle.mpx_kind.specs.declared.kinds.Family.{Family}
-use Rattle.mpx_kind.specs.declared.kinds.Family.TheVariants as F
+use Rattle.mpx_kind.specs.declared.kinds.Kind.{Kind}
+use Rattle.mpx_kind.specs.declared.kinds.Kind.TheVariants as K
 use Rattle.mpx_kind.specs.declared.kinds.Reduction.{Reduction}
 use Rattle.mpx_kind.specs.declared.kinds.Reduction.TheVariants.{Reduce, Allreduce, ReduceScatterBlock, ReduceScatter, Scan, Exscan}
 use Rattle.mpx_post.specs.declared.value.Value.{Value}
 use Rattle.mpx_post.specs.declared.value.Value.TheVariants.{Nothing, Absent}
-use Rattle.mpx_kind.specs.Kinds.{family_of, fields_of}
+use Rattle.mpx_kind.specs.Kinds.{fields_of}
 use Rattle.mpx_post.specs.Posts.{root_of, operation_of, type_of, numbers_of}
 use Rattle.mpx_post.specs.Rows.{RowView}
 use Rattle.mpx_post.specs.Agreement.{first_of}
@@ -41,11 +41,7 @@ fold_of ops ReduceScatter row rank = as_items row (folded_block ops row (first_o
 fold_of ops Scan row rank = as_items row (folded ops row (rank + 1))
 fold_of ops Exscan row rank = cond (rank == 0) Absent (as_items row (folded ops row rank))
 
--- kinds of other families give nothing here
-abbrev pub fold_in : List Operation → Family → RowView → ℕ → Value
-fold_in ops (F.Reduction reduction) row rank = fold_of ops reduction row rank
-fold_in ops family row rank = Nothing
-
--- what a fine row of a reduction gives the member with this rank
-unfoldable pub fold_value : List Operation → RowView → ℕ → Value
-fold_value ops row rank = fold_in ops (family_of (first_of row).kind) row rank
+-- what a fine row of this kind gives the member with this rank: other kinds than reductions give nothing here
+abbrev pub fold_value : Kind → List Operation → RowView → ℕ → Value
+fold_value (K.Reduction reduction) ops row rank = fold_of ops reduction row rank
+fold_value kind ops row rank = Nothing

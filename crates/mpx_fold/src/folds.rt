@@ -4,13 +4,12 @@ ghost use Rattle.mpx_num.specs.ItemList.{AreItems};
 ghost use Rattle.mpx_num.specs.Types.{item_len};
 ghost use Rattle.mpx_post.specs.Agreement.{AllSuit, IsFine, first_of, post_at};
 ghost use Rattle.mpx_post.specs.Blocks.{IsBlock, part, repeated};
-ghost use Rattle.mpx_kind.specs.Kinds.{family_of};
 ghost use Rattle.mpx_post.specs.Posts.{numbers_of, type_of};
 ghost use Rattle.mpx_post.specs.Values.{GivesValue, as_items};
 ghost use Rattle.mpx_fold.specs.Folds.{all_folded, fold_of, fold_value, folded, reduces};
 
 use join_core::OutOfMemory;
-use mpx_kind::{Family, Reduction};
+use mpx_kind::{Kind, Reduction};
 use mpx_num::{Items, Listing, Ops, apply};
 use mpx_post::{Block, Row, Value};
 use std::alloc::Global;
@@ -21,10 +20,10 @@ pub fn fold_value(alloc: Global, row: &Row<'_>, rank: u8, ops: &Ops) -> Result<V
     requires fine { IsFine row.now }
     requires suits { AllSuit (⟦<Ops as Listing>⟧.operations ops.now) row.now }
     requires rank { rank < length row.now }
-    ensures { GivesValue (fold_value (⟦<Ops as Listing>⟧.operations ops.now) row.now rank) result }
+    ensures { GivesValue (fold_value (first_of row.now).kind (⟦<Ops as Listing>⟧.operations ops.now) row.now rank) result }
 {
-    match row.family() {
-        Family::Reduction(reduction) => value_of(alloc, row, reduction, rank, ops),
+    match row.kind() {
+        Kind::Reduction(reduction) => value_of(alloc, row, reduction, rank, ops),
         _ => Ok(Value::Nothing),
     }
 }
@@ -39,7 +38,7 @@ fn value_of(
 ) -> Result<Value, OutOfMemory>
     requires fine { IsFine row.now }
     requires suits { AllSuit (⟦<Ops as Listing>⟧.operations ops.now) row.now }
-    requires family { family_of (first_of row.now).kind ≡ Family.Reduction reduction }
+    requires kind { (first_of row.now).kind ≡ Kind.Reduction reduction }
     requires reduces { reduces row.now ≡ true }
     requires rank { rank < length row.now }
     ensures { GivesValue (fold_of (⟦<Ops as Listing>⟧.operations ops.now) reduction row.now rank) result }
@@ -71,7 +70,7 @@ fn value_of(
 // The block of this rank, where each has as many items.
 fn equal_block(row: &Row<'_>, rank: u8) -> Block
     requires fine { IsFine row.now }
-    requires family { family_of (first_of row.now).kind ≡ Family.Reduction Reduction.ReduceScatterBlock }
+    requires kind { (first_of row.now).kind ≡ Kind.Reduction Reduction.ReduceScatterBlock }
     requires rank { rank < length row.now }
     ensures { IsBlock (type_of (first_of row.now)) (repeated (length row.now) (first_of row.now).rcounts) rank (length (numbers_of (first_of row.now))) result }
 {
@@ -85,7 +84,7 @@ fn equal_block(row: &Row<'_>, rank: u8) -> Block
 // The block of this rank, where each rank has a count.
 fn counted_block(row: &Row<'_>, rank: u8) -> Block
     requires fine { IsFine row.now }
-    requires family { family_of (first_of row.now).kind ≡ Family.Reduction Reduction.ReduceScatter }
+    requires kind { (first_of row.now).kind ≡ Kind.Reduction Reduction.ReduceScatter }
     requires rank { rank < length row.now }
     ensures { IsBlock (type_of (first_of row.now)) (first_of row.now).rcounts rank (length (numbers_of (first_of row.now))) result }
 {

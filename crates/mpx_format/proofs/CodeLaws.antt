@@ -1,7 +1,8 @@
 -- The laws of codes, and of values that may be missing.
-use Rattle.std.proofs.Common.{◌≡◌, ℕ, zero, suc, ◌<◌, ◌≤◌, Bool, true, false, ◌&&◌, ◌||◌, ltb, Option, Some, None, refl, sym, ap, ◌∙◌, arith}
-use Rattle.std.proofs.Math.Bool.{and-false}
-use Rattle.std.proofs.lemmas.Bool.{ltb-true, lt-ltb, le-ltb, and_parts}
+use Rattle.std.proofs.Common.{◌≡◌, ℕ, zero, suc, ◌<◌, ◌≤◌, Bool, true, false, ◌&&◌, ◌||◌, ltb, List, [], ◌∷◌, get_or, Option, Some, None, refl, sym, ap, ◌∙◌, arith}
+use Rattle.std.specs.List.{list_all}
+use Rattle.std.proofs.lemmas.Bool.{ltb-true, lt-ltb, and_parts}
+use Rattle.std.proofs.lemmas.List.{get_or_past}
 use Rattle.mpx_num.specs.declared.types.Ty.{Ty}
 use Rattle.mpx_num.specs.declared.operations.Op.{Op}
 use Rattle.mpx_kind.specs.declared.kinds.Kind.{Kind}
@@ -11,10 +12,11 @@ use Rattle.mpx_format.specs.declared.defects.Defect.TheVariants.{BadVersion}
 use Rattle.mpx_format.specs.declared.versions.Version.{Version}
 use Rattle.mpx_format.specs.declared.versions.Version.TheVariants.{One, Two}
 use Rattle.mpx_format.specs.Format.{Format, byte, out_of_limits}
-use Rattle.mpx_kind.specs.Codes.{code_of_kind, kind_at}
-use Rattle.mpx_kind.proofs.Codes.{kind_forth}
+use Rattle.mpx_kind.specs.declared.kinds.Kind.TheVariants.{Free}
+use Rattle.mpx_kind.specs.Codes.{code_of_kind, kind_at, kinds}
+use Rattle.mpx_kind.proofs.Codes.{kind_forth, kind_back}
 use Rattle.mpx_num.specs.Codes.{code_of_operation, operation_at, code_of_type, type_at}
-use Rattle.mpx_num.proofs.Codes.{operation_forth, type_forth}
+use Rattle.mpx_num.proofs.Codes.{operation_forth, own_back, predefined_back, type_forth, type_back}
 use Rattle.mpx_format.specs.Codes.{code_of_version, version_at, version_byte, kinds_in, kind, code_of_mode, mode_at, mode, is_operation_code, operation, item_type, code_of_flag, flag_at, flag, of_none, missing, there, when}
 use Rattle.mpx_format.proofs.FormatLaws.{Exactly, byte_laws, nothing_laws, only_laws, through_laws, some_is}
 
@@ -34,34 +36,14 @@ version_laws = through_laws version_at (λ x. Some (code_of_version x)) (only_la
 
 -- KINDS AND MODES
 
-kind_back : (n : ℕ) → ltb n 27 ≡ true → code_of_kind (kind_at n) ≡ n
-kind_back zero t = refl
-kind_back (suc zero) t = refl
-kind_back (suc (suc zero)) t = refl
-kind_back (suc (suc (suc zero))) t = refl
-kind_back (suc (suc (suc (suc zero)))) t = refl
-kind_back (suc (suc (suc (suc (suc zero))))) t = refl
-kind_back (suc (suc (suc (suc (suc (suc zero)))))) t = refl
-kind_back (suc (suc (suc (suc (suc (suc (suc zero))))))) t = refl
-kind_back (suc (suc (suc (suc (suc (suc (suc (suc zero)))))))) t = refl
-kind_back (suc (suc (suc (suc (suc (suc (suc (suc (suc zero))))))))) t = refl
-kind_back (suc (suc (suc (suc (suc (suc (suc (suc (suc (suc zero)))))))))) t = refl
-kind_back (suc (suc (suc (suc (suc (suc (suc (suc (suc (suc (suc zero))))))))))) t = refl
-kind_back (suc (suc (suc (suc (suc (suc (suc (suc (suc (suc (suc (suc zero)))))))))))) t = refl
-kind_back (suc (suc (suc (suc (suc (suc (suc (suc (suc (suc (suc (suc (suc zero))))))))))))) t = refl
-kind_back (suc (suc (suc (suc (suc (suc (suc (suc (suc (suc (suc (suc (suc (suc zero)))))))))))))) t = refl
-kind_back (suc (suc (suc (suc (suc (suc (suc (suc (suc (suc (suc (suc (suc (suc (suc zero))))))))))))))) t = refl
-kind_back (suc (suc (suc (suc (suc (suc (suc (suc (suc (suc (suc (suc (suc (suc (suc (suc zero)))))))))))))))) t = refl
-kind_back (suc (suc (suc (suc (suc (suc (suc (suc (suc (suc (suc (suc (suc (suc (suc (suc (suc zero))))))))))))))))) t = refl
-kind_back (suc (suc (suc (suc (suc (suc (suc (suc (suc (suc (suc (suc (suc (suc (suc (suc (suc (suc zero)))))))))))))))))) t = refl
-kind_back (suc (suc (suc (suc (suc (suc (suc (suc (suc (suc (suc (suc (suc (suc (suc (suc (suc (suc (suc zero))))))))))))))))))) t = refl
-kind_back (suc (suc (suc (suc (suc (suc (suc (suc (suc (suc (suc (suc (suc (suc (suc (suc (suc (suc (suc (suc zero)))))))))))))))))))) t = refl
-kind_back (suc (suc (suc (suc (suc (suc (suc (suc (suc (suc (suc (suc (suc (suc (suc (suc (suc (suc (suc (suc (suc zero))))))))))))))))))))) t = refl
-kind_back (suc (suc (suc (suc (suc (suc (suc (suc (suc (suc (suc (suc (suc (suc (suc (suc (suc (suc (suc (suc (suc (suc zero)))))))))))))))))))))) t = refl
-kind_back (suc (suc (suc (suc (suc (suc (suc (suc (suc (suc (suc (suc (suc (suc (suc (suc (suc (suc (suc (suc (suc (suc (suc zero))))))))))))))))))))))) t = refl
-kind_back (suc (suc (suc (suc (suc (suc (suc (suc (suc (suc (suc (suc (suc (suc (suc (suc (suc (suc (suc (suc (suc (suc (suc (suc zero)))))))))))))))))))))))) t = refl
-kind_back (suc (suc (suc (suc (suc (suc (suc (suc (suc (suc (suc (suc (suc (suc (suc (suc (suc (suc (suc (suc (suc (suc (suc (suc (suc zero))))))))))))))))))))))))) t = refl
-kind_back (suc (suc (suc (suc (suc (suc (suc (suc (suc (suc (suc (suc (suc (suc (suc (suc (suc (suc (suc (suc (suc (suc (suc (suc (suc (suc n)))))))))))))))))))))))))) t = omega (arith, ltb-true (suc (suc (suc (suc (suc (suc (suc (suc (suc (suc (suc (suc (suc (suc (suc (suc (suc (suc (suc (suc (suc (suc (suc (suc (suc (suc n)))))))))))))))))))))))))) 27 t)
+each_passes : {A : Type 0} (test : A → Bool) (xs : List A) (last : A) (i : ℕ) → list_all test xs ≡ true → test last ≡ true → test (get_or xs i last) ≡ true
+each_passes test [] last i all passes = ap test (get_or_past [] i last (omega arith)) ∙ passes
+each_passes test (x ∷ xs) last zero all passes = (and_parts (test x) (list_all test xs) all).0
+each_passes test (x ∷ xs) last (suc i) all passes = each_passes test xs last i (and_parts (test x) (list_all test xs) all).1 passes
+
+-- what all pass that are listed each kind passes
+pub each_kind : (test : Kind → Bool) → list_all test kinds ≡ true → test Free ≡ true → (k : Kind) → test k ≡ true
+each_kind test all last k = ap test (sym (kind_forth k)) ∙ each_passes test kinds Free (code_of_kind k) all last
 
 in_some_version : (version : Version) (n : ℕ) → ltb n (kinds_in version) ≡ true → ltb n 27 ≡ true
 in_some_version One n t = lt-ltb n 27 (omega (arith, ltb-true n 26 t))
@@ -69,7 +51,7 @@ in_some_version Two n t = t
 
 pub kind_laws : (version : Version) → Exactly (kind version)
 unfolding kind
-kind_laws version = through_laws kind_at (λ x. Some (code_of_kind x)) (only_laws out_of_limits _ byte_laws) (λ n fits. ap Some (kind_back n (in_some_version version n (and_parts (byte.fits n) (ltb n (kinds_in version)) fits).1))) (λ x n e. ap kind_at (sym (some_is (code_of_kind x) n e)) ∙ kind_forth x)
+kind_laws version = through_laws kind_at (λ x. Some (code_of_kind x)) (only_laws out_of_limits _ byte_laws) (λ n fits. ap Some (kind_back n (ltb-true n 27 (in_some_version version n (and_parts (byte.fits n) (ltb n (kinds_in version)) fits).1)))) (λ x n e. ap kind_at (sym (some_is (code_of_kind x) n e)) ∙ kind_forth x)
 
 mode_forth : (x : Mode) → mode_at (code_of_mode x) ≡ x
 mode_forth Blocking = refl
@@ -85,49 +67,12 @@ mode_laws k = only_laws out_of_limits _ (through_laws mode_at (λ x. Some (code_
 
 -- OPERATIONS AND TYPES
 
-either : (a b : Bool) → (a || b) ≡ true → a ≡ false → b ≡ true
-either true b t f = absurd cc
-either false b t f = t
-
--- past the predefined ones
-own_code : (n : ℕ) → 16 ≤ n → is_operation_code Two n ≡ true → n < 32
-own_code n l t =
-    let past : (ltb 0 n && ltb n 13) ≡ false = ap (λ b. ltb 0 n && b) (le-ltb n 13 (omega (arith, l))) ∙ and-false (ltb 0 n) in
-    ltb-true n 32 (and_parts (ltb 15 n) (ltb n 32) (either (ltb 0 n && ltb n 13) (ltb 15 n && ltb n 32) t past)).1
+back_by : (n : ℕ) (predefined : Bool) → (ltb 0 n && ltb n 13) ≡ predefined → (predefined || (ltb 15 n && ltb n 32)) ≡ true → code_of_operation (operation_at n) ≡ n
+back_by n true is t = let within = and_parts (ltb 0 n) (ltb n 13) is in predefined_back n (ltb-true 0 n within.0) (ltb-true n 13 within.1)
+back_by n false is t = let past : 15 < n = ltb-true 15 n (and_parts (ltb 15 n) (ltb n 32) t).0 in own_back n (omega (arith, past))
 
 operation_back : (n : ℕ) → is_operation_code Two n ≡ true → code_of_operation (operation_at n) ≡ n
-operation_back zero t = absurd cc
-operation_back (suc zero) t = refl
-operation_back (suc (suc zero)) t = refl
-operation_back (suc (suc (suc zero))) t = refl
-operation_back (suc (suc (suc (suc zero)))) t = refl
-operation_back (suc (suc (suc (suc (suc zero))))) t = refl
-operation_back (suc (suc (suc (suc (suc (suc zero)))))) t = refl
-operation_back (suc (suc (suc (suc (suc (suc (suc zero))))))) t = refl
-operation_back (suc (suc (suc (suc (suc (suc (suc (suc zero)))))))) t = refl
-operation_back (suc (suc (suc (suc (suc (suc (suc (suc (suc zero))))))))) t = refl
-operation_back (suc (suc (suc (suc (suc (suc (suc (suc (suc (suc zero)))))))))) t = refl
-operation_back (suc (suc (suc (suc (suc (suc (suc (suc (suc (suc (suc zero))))))))))) t = refl
-operation_back (suc (suc (suc (suc (suc (suc (suc (suc (suc (suc (suc (suc zero)))))))))))) t = refl
-operation_back (suc (suc (suc (suc (suc (suc (suc (suc (suc (suc (suc (suc (suc zero))))))))))))) t = absurd cc
-operation_back (suc (suc (suc (suc (suc (suc (suc (suc (suc (suc (suc (suc (suc (suc zero)))))))))))))) t = absurd cc
-operation_back (suc (suc (suc (suc (suc (suc (suc (suc (suc (suc (suc (suc (suc (suc (suc zero))))))))))))))) t = absurd cc
-operation_back (suc (suc (suc (suc (suc (suc (suc (suc (suc (suc (suc (suc (suc (suc (suc (suc zero)))))))))))))))) t = refl
-operation_back (suc (suc (suc (suc (suc (suc (suc (suc (suc (suc (suc (suc (suc (suc (suc (suc (suc zero))))))))))))))))) t = refl
-operation_back (suc (suc (suc (suc (suc (suc (suc (suc (suc (suc (suc (suc (suc (suc (suc (suc (suc (suc zero)))))))))))))))))) t = refl
-operation_back (suc (suc (suc (suc (suc (suc (suc (suc (suc (suc (suc (suc (suc (suc (suc (suc (suc (suc (suc zero))))))))))))))))))) t = refl
-operation_back (suc (suc (suc (suc (suc (suc (suc (suc (suc (suc (suc (suc (suc (suc (suc (suc (suc (suc (suc (suc zero)))))))))))))))))))) t = refl
-operation_back (suc (suc (suc (suc (suc (suc (suc (suc (suc (suc (suc (suc (suc (suc (suc (suc (suc (suc (suc (suc (suc zero))))))))))))))))))))) t = refl
-operation_back (suc (suc (suc (suc (suc (suc (suc (suc (suc (suc (suc (suc (suc (suc (suc (suc (suc (suc (suc (suc (suc (suc zero)))))))))))))))))))))) t = refl
-operation_back (suc (suc (suc (suc (suc (suc (suc (suc (suc (suc (suc (suc (suc (suc (suc (suc (suc (suc (suc (suc (suc (suc (suc zero))))))))))))))))))))))) t = refl
-operation_back (suc (suc (suc (suc (suc (suc (suc (suc (suc (suc (suc (suc (suc (suc (suc (suc (suc (suc (suc (suc (suc (suc (suc (suc zero)))))))))))))))))))))))) t = refl
-operation_back (suc (suc (suc (suc (suc (suc (suc (suc (suc (suc (suc (suc (suc (suc (suc (suc (suc (suc (suc (suc (suc (suc (suc (suc (suc zero))))))))))))))))))))))))) t = refl
-operation_back (suc (suc (suc (suc (suc (suc (suc (suc (suc (suc (suc (suc (suc (suc (suc (suc (suc (suc (suc (suc (suc (suc (suc (suc (suc (suc zero)))))))))))))))))))))))))) t = refl
-operation_back (suc (suc (suc (suc (suc (suc (suc (suc (suc (suc (suc (suc (suc (suc (suc (suc (suc (suc (suc (suc (suc (suc (suc (suc (suc (suc (suc zero))))))))))))))))))))))))))) t = refl
-operation_back (suc (suc (suc (suc (suc (suc (suc (suc (suc (suc (suc (suc (suc (suc (suc (suc (suc (suc (suc (suc (suc (suc (suc (suc (suc (suc (suc (suc zero)))))))))))))))))))))))))))) t = refl
-operation_back (suc (suc (suc (suc (suc (suc (suc (suc (suc (suc (suc (suc (suc (suc (suc (suc (suc (suc (suc (suc (suc (suc (suc (suc (suc (suc (suc (suc (suc zero))))))))))))))))))))))))))))) t = refl
-operation_back (suc (suc (suc (suc (suc (suc (suc (suc (suc (suc (suc (suc (suc (suc (suc (suc (suc (suc (suc (suc (suc (suc (suc (suc (suc (suc (suc (suc (suc (suc zero)))))))))))))))))))))))))))))) t = refl
-operation_back (suc (suc (suc (suc (suc (suc (suc (suc (suc (suc (suc (suc (suc (suc (suc (suc (suc (suc (suc (suc (suc (suc (suc (suc (suc (suc (suc (suc (suc (suc (suc n))))))))))))))))))))))))))))))) t = omega (arith, own_code (suc (suc (suc (suc (suc (suc (suc (suc (suc (suc (suc (suc (suc (suc (suc (suc (suc (suc (suc (suc (suc (suc (suc (suc (suc (suc (suc (suc (suc (suc (suc n))))))))))))))))))))))))))))))) (omega arith) t)
+operation_back n t = back_by n (ltb 0 n && ltb n 13) refl t
 
 in_some_operation : (version : Version) (n : ℕ) → is_operation_code version n ≡ true → is_operation_code Two n ≡ true
 in_some_operation One n t = ap (λ b. b || (ltb 15 n && ltb n 32)) t
@@ -137,21 +82,12 @@ pub operation_laws : (version : Version) → Exactly (operation version)
 unfolding operation
 operation_laws version = through_laws operation_at (λ x. Some (code_of_operation x)) (only_laws out_of_limits _ byte_laws) (λ n fits. ap Some (operation_back n (in_some_operation version n (and_parts (byte.fits n) (is_operation_code version n) fits).1))) (λ x n e. ap operation_at (sym (some_is (code_of_operation x) n e)) ∙ operation_forth x)
 
-type_back : (n : ℕ) → (ltb 0 n && ltb n 10) ≡ true → code_of_type (type_at n) ≡ n
-type_back zero t = absurd cc
-type_back (suc zero) t = refl
-type_back (suc (suc zero)) t = refl
-type_back (suc (suc (suc zero))) t = refl
-type_back (suc (suc (suc (suc zero)))) t = refl
-type_back (suc (suc (suc (suc (suc zero))))) t = refl
-type_back (suc (suc (suc (suc (suc (suc zero)))))) t = refl
-type_back (suc (suc (suc (suc (suc (suc (suc zero))))))) t = refl
-type_back (suc (suc (suc (suc (suc (suc (suc (suc zero)))))))) t = refl
-type_back (suc (suc (suc (suc (suc (suc (suc (suc (suc n))))))))) t = omega (arith, ltb-true (suc (suc (suc (suc (suc (suc (suc (suc (suc n))))))))) 10 (and_parts (ltb 0 (suc (suc (suc (suc (suc (suc (suc (suc (suc n)))))))))) (ltb (suc (suc (suc (suc (suc (suc (suc (suc (suc n))))))))) 10) t).1)
+coded_type_back : (n : ℕ) → (ltb 0 n && ltb n 10) ≡ true → code_of_type (type_at n) ≡ n
+coded_type_back n t = let within = and_parts (ltb 0 n) (ltb n 10) t in type_back n (ltb-true 0 n within.0) (ltb-true n 10 within.1)
 
 pub item_type_laws : Exactly item_type
 unfolding item_type
-item_type_laws = through_laws type_at (λ x. Some (code_of_type x)) (only_laws out_of_limits _ byte_laws) (λ n fits. ap Some (type_back n (and_parts (byte.fits n) (ltb 0 n && ltb n 10) fits).1)) (λ x n e. ap type_at (sym (some_is (code_of_type x) n e)) ∙ type_forth x)
+item_type_laws = through_laws type_at (λ x. Some (code_of_type x)) (only_laws out_of_limits _ byte_laws) (λ n fits. ap Some (coded_type_back n (and_parts (byte.fits n) (ltb 0 n && ltb n 10) fits).1)) (λ x n e. ap type_at (sym (some_is (code_of_type x) n e)) ∙ type_forth x)
 
 -- YES OR NO
 

@@ -8,7 +8,8 @@ use Rattle.join_nest.specs.Lift.{live, dead}
 use Rattle.join_nest.specs.Trunc.{trunc_of}
 use Rattle.mpx_num.specs.declared.operations.Op.TheVariants.{Sum}
 use Rattle.mpx_num.specs.declared.types.Ty.TheVariants.{I32}
-use Rattle.mpx_kind.specs.declared.kinds.Kind.TheVariants.{Allreduce}
+use Rattle.mpx_kind.specs.declared.kinds.Kind.TheVariants.{Reduction}
+use Rattle.mpx_kind.specs.declared.kinds.Reduction.TheVariants.{Allreduce}
 use Rattle.mpx_name.specs.declared.steps.Step.TheVariants.{Child}
 use Rattle.mpx_post.specs.Posts.{Given, nothing_given}
 use Rattle.mpx_board.specs.Parts.{CallView, EntryView, PartsView}
@@ -48,7 +49,7 @@ spoilt at byte = take at whole ++ byte ∷ drop (suc at) whole
 -- WHAT IT SAYS
 
 abbrev given : Given
-given = record nothing_given { kind = Allreduce; op = Some Sum; items = Some (record { ty = I32; nums = pos 9 ∷ [] }) }
+given = record nothing_given { kind = Reduction Allreduce; op = Some Sum; items = Some (record { ty = I32; nums = pos 9 ∷ [] }) }
 
 -- nobody's birth and no fronts, and these calls
 abbrev calling : List (ℕ × CallView) → EntryView

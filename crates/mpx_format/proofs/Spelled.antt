@@ -12,7 +12,7 @@ use Rattle.mpx_name.specs.declared.steps.Step.{Step}
 use Rattle.mpx_name.specs.declared.steps.Step.TheVariants.{Child, Gathering}
 use Rattle.mpx_name.specs.Name.{IsStep, IsName}
 use Rattle.mpx_birth.specs.declared.edges.Neighbour.{Neighbour}
-use Rattle.mpx_birth.specs.Topologies.{Near, TopologyView, IsFew, IsKept, nobody, most_neighbours, is_weight, is_neighbour, is_near, is_topology}
+use Rattle.mpx_birth.specs.Topologies.{Near, TopologyView, IsFew, IsKept, nobody, most_neighbours, fits_weight, fits_neighbour, is_near, is_topology}
 use Rattle.mpx_birth.specs.Births.{BirthView, has_ranks, is_birth}
 use Rattle.mpx_birth.proofs.Kept.{topology-parts, topology-kept}
 use Rattle.mpx_format.specs.Format.{Format, many_fit}
@@ -83,28 +83,28 @@ name_fits n h =
 
 -- BIRTHS
 
-pub weight_fits : (weighted : Bool) (w : ℕ) → is_weight weighted w ≡ true → (weight weighted).fits w ≡ true
+pub weight_fits : (weighted : Bool) (w : ℕ) → fits_weight weighted w ≡ true → (weight weighted).fits w ≡ true
 unfolding weight
 weight_fits true w h = let lt : w < 2 ^ 31 = ltb-true w (2 ^ 31) h in and_from _ _ (lt-ltb w (256 ^ 4) (omega arith)) h
 weight_fits false zero h = refl
 weight_fits false (suc w) h = absurd (omega (arith, eqb-true (suc w) 0 h))
 
-neighbour_fits : (size : ℕ) → size ≤ 64 → (weighted : Bool) (n : Neighbour) → is_neighbour size weighted n ≡ true → (neighbour weighted).fits n ≡ true
+neighbour_fits : (size : ℕ) → size ≤ 64 → (weighted : Bool) (n : Neighbour) → fits_neighbour size weighted n ≡ true → (neighbour weighted).fits n ≡ true
 unfolding neighbour
 neighbour_fits size few weighted n h =
-    and_from _ _ (process_fits n.rank (omega (arith, few, ltb-true _ _ (and_parts (ltb n.rank size) (is_weight weighted n.weight) h).0))) (weight_fits weighted n.weight (and_parts (ltb n.rank size) (is_weight weighted n.weight) h).1)
+    and_from _ _ (process_fits n.rank (omega (arith, few, ltb-true _ _ (and_parts (ltb n.rank size) (fits_weight weighted n.weight) h).0))) (weight_fits weighted n.weight (and_parts (ltb n.rank size) (fits_weight weighted n.weight) h).1)
 
-neighbours_fit : (size : ℕ) → size ≤ 64 → (weighted : Bool) (ns : List Neighbour) → length ns ≤ most_neighbours → list_all (is_neighbour size weighted) ns ≡ true → (neighbours weighted).fits ns ≡ true
+neighbours_fit : (size : ℕ) → size ≤ 64 → (weighted : Bool) (ns : List Neighbour) → length ns ≤ most_neighbours → list_all (fits_neighbour size weighted) ns ≡ true → (neighbours weighted).fits ns ≡ true
 unfolding neighbours
 neighbours_fit size few weighted ns short h =
     and_from _ _ (lt-ltb (length ns) (256 ^ 2) (omega (arith, short)))
-    (each_fit (neighbour weighted) [] ns (λ k d lt. neighbour_fits size few weighted (slice_index_or ns k d) (AllPass-from_list_all (is_neighbour size weighted) ns h k d lt)))
+    (each_fit (neighbour weighted) [] ns (λ k d lt. neighbour_fits size few weighted (slice_index_or ns k d) (AllPass-from_list_all (fits_neighbour size weighted) ns h k d lt)))
 
 near_fits : (size : ℕ) → size ≤ 64 → (weighted : Bool) (n : Near) → IsFew n → is_near size weighted n ≡ true → (near weighted).fits n ≡ true
 unfolding near
 near_fits size few weighted n short h =
-    and_from _ _ (neighbours_fit size few weighted n.sources short.sources (and_parts (list_all (is_neighbour size weighted) n.sources) (list_all (is_neighbour size weighted) n.destinations) h).0)
-    (neighbours_fit size few weighted n.destinations short.destinations (and_parts (list_all (is_neighbour size weighted) n.sources) (list_all (is_neighbour size weighted) n.destinations) h).1)
+    and_from _ _ (neighbours_fit size few weighted n.sources short.sources (and_parts (list_all (fits_neighbour size weighted) n.sources) (list_all (fits_neighbour size weighted) n.destinations) h).0)
+    (neighbours_fit size few weighted n.destinations short.destinations (and_parts (list_all (fits_neighbour size weighted) n.sources) (list_all (fits_neighbour size weighted) n.destinations) h).1)
 
 nears_fit : (weighted : Bool) (ns : List Near) → length ns ≤ 64 → All IsFew ns → list_all (is_near (length ns) weighted) ns ≡ true → (nears weighted (length ns)).fits ns ≡ true
 nears_fit weighted ns few short h =

@@ -1,11 +1,11 @@
 -- Posts within the limits of their type have a spelling in version 2.
-use Rattle.std.proofs.Common.{◌≡◌, ℕ, ℤ, pos, negsuc, neg_ℤ, ◌≤ℤ◌, ◌+◌, ◌-◌, ◌*◌, ◌/◌, ◌^◌, ◌<◌, ◌≤◌, Bool, true, false, cond, ltb, List, [], length, Option, Some, None, refl, ap, subst, ◌∙◌, arith}
+use Rattle.std.proofs.Common.{◌≡◌, ℕ, ℤ, pos, negsuc, neg_ℤ, ◌≤ℤ◌, ◌+◌, ◌-◌, ◌*◌, ◌/◌, ◌^◌, ◌<◌, ◌≤◌, Bool, true, false, cond, ltb, ◌&&◌, List, [], length, Option, Some, None, refl, ap, subst, ◌∙◌, arith}
 use Rattle.std.specs.Prelude.{is_some, slice_index_or}
 use Rattle.std.specs.List.{All}
 use Rattle.std.specs.Option.{option_map, option_map_or}
 use Rattle.std.specs.Int.{w16, w32, w64}
 use Rattle.std.proofs.lemmas.Int.{ints}
-use Rattle.std.proofs.lemmas.Bool.{lt-ltb, le-leb, ltb-true, eqb-true, eq-eqb, and_from}
+use Rattle.std.proofs.lemmas.Bool.{lt-ltb, le-leb, ltb-true, eqb-true, eq-eqb, and_from, or_right}
 use Rattle.mpx_group.proofs.Members.{length_distinct}
 use Rattle.mpx_num.specs.ItemList.{ItemList, AreItems}
 use Rattle.mpx_num.specs.Types.{IsInRange, item_len}
@@ -14,94 +14,55 @@ use Rattle.mpx_num.specs.declared.types.Ty.{Ty}
 use Rattle.mpx_num.specs.declared.types.Ty.TheVariants.{I8, I16, I32, I64, U8, U16, U32, U64, TwoInt}
 use Rattle.mpx_num.specs.declared.operations.Op.{Op}
 use Rattle.mpx_num.specs.declared.operations.Op.TheVariants.{Max, Min, Sum, Prod, Land, Lor, Lxor, Band, Bor, Bxor, Maxloc, Minloc, Own}
-use Rattle.mpx_num.specs.declared.own.Place.TheVariants.{P0, P1, P2, P3, P4, P5, P6, P7, P8, P9, P10, P11, P12, P13, P14, P15}
 use Rattle.mpx_kind.specs.declared.kinds.Kind.{Kind}
-use Rattle.mpx_kind.specs.declared.kinds.Kind.TheVariants.{Barrier, Bcast, Gather, Gatherv, Scatter, Scatterv, Allgather, Allgatherv, Alltoall, Alltoallv, Reduce, Allreduce, ReduceScatterBlock, ReduceScatter, Scan, Exscan, Dup, Split as SplitKind, Create, CreateGroup, DistGraph, DistGraphAdjacent, NeighborAllgather, NeighborAllgatherv, NeighborAlltoall, NeighborAlltoallv, Free}
 use Rattle.mpx_kind.specs.declared.kinds.Mode.{Mode}
 use Rattle.mpx_kind.specs.declared.kinds.Mode.TheVariants.{Blocking, Nonblocking}
 use Rattle.mpx_kind.specs.declared.kinds.Makes.{Makes}
-use Rattle.mpx_kind.specs.Kinds.{family_of, fields_of, is_had, may_be}
+use Rattle.mpx_kind.specs.Kinds.{fields_of, is_had, may_be}
 use Rattle.mpx_birth.specs.declared.edges.Edge.{Edge}
 use Rattle.mpx_birth.specs.declared.edges.Neighbour.{Neighbour}
-use Rattle.mpx_birth.specs.Topologies.{is_weight}
+use Rattle.mpx_birth.specs.Topologies.{fits_weight}
 use Rattle.mpx_post.specs.declared.making.Making.{Making}
 use Rattle.mpx_post.specs.declared.making.Making.TheVariants.{Nothing, Split, Group, Edges, Neighbours}
 use Rattle.mpx_post.specs.Graphs.{EdgesView, NeighboursView, most_edges, IsWeight, IsEdge, IsNeighbour, AreEdges, AreNeighbours}
 use Rattle.mpx_post.specs.Ranks.{AreRanks}
-use Rattle.mpx_post.specs.Posts.{Given, most_items, most_counts, AreCounts, few_items, IsColour, makes_of, IsWithin, IsMaking, key_in, key_of, NoneUnless, are_items_of, IsPost}
+use Rattle.mpx_post.specs.Posts.{Given, most_items, most_counts, AreCounts, few_items, IsColour, makes_of, IsWithin, IsMaking, key_in, key_of, type_of, NoneUnless, are_items_of, IsPost}
 use Rattle.mpx_format.specs.declared.versions.Version.TheVariants.{Two}
 use Rattle.mpx_format.specs.Format.{Format, byte, number, fits_by, many_fit}
 use Rattle.mpx_format.specs.Fields.{process}
 use Rattle.mpx_format.specs.Codes.{kind, mode, operation, item_type, flag, when}
 use Rattle.mpx_format.specs.Births.{neighbour}
 use Rattle.mpx_format.specs.Posts.{type_for, no_list, count, counts, counts_if, of_signed, integer, item_count, items, items_for, choice, split, ranks, group, edge, edge_count, edges, few_neighbours, own, making_for, nums_of, post}
+use Rattle.mpx_format.proofs.CodeLaws.{each_kind}
 use Rattle.mpx_format.proofs.Spelled.{each_fit, process_fits, distinct_fit, colour_fits, weight_fits}
 
 kind_fits : (k : Kind) → (kind Two).fits k ≡ true
 unfolding kind
-kind_fits Barrier = refl
-kind_fits Bcast = refl
-kind_fits Gather = refl
-kind_fits Gatherv = refl
-kind_fits Scatter = refl
-kind_fits Scatterv = refl
-kind_fits Allgather = refl
-kind_fits Allgatherv = refl
-kind_fits Alltoall = refl
-kind_fits Alltoallv = refl
-kind_fits Reduce = refl
-kind_fits Allreduce = refl
-kind_fits ReduceScatterBlock = refl
-kind_fits ReduceScatter = refl
-kind_fits Scan = refl
-kind_fits Exscan = refl
-kind_fits Dup = refl
-kind_fits SplitKind = refl
-kind_fits Create = refl
-kind_fits CreateGroup = refl
-kind_fits DistGraph = refl
-kind_fits DistGraphAdjacent = refl
-kind_fits NeighborAllgather = refl
-kind_fits NeighborAllgatherv = refl
-kind_fits NeighborAlltoall = refl
-kind_fits NeighborAlltoallv = refl
-kind_fits Free = refl
+kind_fits = each_kind (kind Two).fits refl refl
 
-mode_fits : (k : Kind) (m : Mode) → may_be m (family_of k) ≡ true → (mode k).fits m ≡ true
+mode_fits : (k : Kind) (m : Mode) → may_be m k ≡ true → (mode k).fits m ≡ true
 unfolding mode
 mode_fits k Blocking h = and_from _ _ refl h
 mode_fits k Nonblocking h = and_from _ _ refl h
 
-operation_fits : (o : Op) → (operation Two).fits o ≡ true
+operation_fits : (o : Op) (ty : Ty) → fits o ty ≡ true → (operation Two).fits o ≡ true
 unfolding operation
-operation_fits Max = refl
-operation_fits Min = refl
-operation_fits Sum = refl
-operation_fits Prod = refl
-operation_fits Land = refl
-operation_fits Lor = refl
-operation_fits Lxor = refl
-operation_fits Band = refl
-operation_fits Bor = refl
-operation_fits Bxor = refl
-operation_fits Maxloc = refl
-operation_fits Minloc = refl
-operation_fits (Own P0) = refl
-operation_fits (Own P1) = refl
-operation_fits (Own P2) = refl
-operation_fits (Own P3) = refl
-operation_fits (Own P4) = refl
-operation_fits (Own P5) = refl
-operation_fits (Own P6) = refl
-operation_fits (Own P7) = refl
-operation_fits (Own P8) = refl
-operation_fits (Own P9) = refl
-operation_fits (Own P10) = refl
-operation_fits (Own P11) = refl
-operation_fits (Own P12) = refl
-operation_fits (Own P13) = refl
-operation_fits (Own P14) = refl
-operation_fits (Own P15) = refl
+operation_fits Max ty h = refl
+operation_fits Min ty h = refl
+operation_fits Sum ty h = refl
+operation_fits Prod ty h = refl
+operation_fits Land ty h = refl
+operation_fits Lor ty h = refl
+operation_fits Lxor ty h = refl
+operation_fits Band ty h = refl
+operation_fits Bor ty h = refl
+operation_fits Bxor ty h = refl
+operation_fits Maxloc ty h = refl
+operation_fits Minloc ty h = refl
+operation_fits (Own place) ty h =
+    let below : place < 16 = ltb-true place 16 h in
+    and_from _ _ (lt-ltb (place + 16) 256 (omega (arith, below)))
+    (or_right (ltb 0 (place + 16) && ltb (place + 16) 13) _ (and_from _ _ (lt-ltb 15 (place + 16) (omega arith)) (lt-ltb (place + 16) 32 (omega (arith, below)))))
 
 type_fits : (t : Ty) → item_type.fits t ≡ true
 unfolding item_type
@@ -121,11 +82,11 @@ root_fits true (Some r) e below = process_fits r (ltb-true r 64 below)
 root_fits false None e below = refl
 root_fits false (Some r) e below = absurd cc
 
-had_operation_fits : (had : Bool) (o : Option Op) → is_some o ≡ had → (when had (operation Two)).fits o ≡ true
-had_operation_fits true None e = absurd cc
-had_operation_fits true (Some op) e = operation_fits op
-had_operation_fits false None e = refl
-had_operation_fits false (Some op) e = absurd cc
+had_operation_fits : (had : Bool) (o : Option Op) (ty : Ty) → is_some o ≡ had → option_map_or (λ op. fits op ty) o true ≡ true → (when had (operation Two)).fits o ≡ true
+had_operation_fits true None ty e h = absurd cc
+had_operation_fits true (Some op) ty e h = operation_fits op ty h
+had_operation_fits false None ty e h = refl
+had_operation_fits false (Some op) ty e h = absurd cc
 
 had_type_fits : (had : Bool) (o : Option Op) (i : Option ItemList) → is_some i ≡ had → option_map_or (λ op. fits op (option_map_or (λ (i : ItemList). i.ty) i I8)) o true ≡ true → (when had (type_for o)).fits (option_map (λ (i : ItemList). i.ty) i) ≡ true
 had_type_fits true o None e h = absurd cc
@@ -194,7 +155,7 @@ given_items_fit (Some i) h few = items_fit i.ty i.nums h few
 
 -- WHAT IS SAID OF A NEW COMMUNICATOR
 
-is_weight_of : (weighted : Bool) (w : ℕ) → IsWeight weighted w → is_weight weighted w ≡ true
+is_weight_of : (weighted : Bool) (w : ℕ) → IsWeight weighted w → fits_weight weighted w ≡ true
 is_weight_of true w h = lt-ltb w (2 ^ 31) h
 is_weight_of false w h = eq-eqb w 0 h
 
@@ -257,7 +218,7 @@ unfolding post
 post_fits g h scounts rcounts whole key =
     let fields = fields_of g.kind in
     and_from _ _ (kind_fits g.kind) (and_from _ _ (mode_fits g.kind g.mode h.mode)
-    (and_from _ _ (root_fits fields.root g.root h.root h.root_below) (and_from _ _ (had_operation_fits fields.op g.op h.op)
+    (and_from _ _ (root_fits fields.root g.root h.root h.root_below) (and_from _ _ (had_operation_fits fields.op g.op (type_of g) h.op h.type)
     (and_from _ _ (had_type_fits fields.items g.op g.items h.items h.type)
     (and_from _ _ (had_counts_fit (is_had fields.scounts) g.scounts scounts h.scounts) (and_from _ _ (had_counts_fit (is_had fields.rcounts) g.rcounts rcounts h.rcounts)
     (and_from _ _ (given_items_fit g.items whole h.few) (making_fits fields.makes g.making h.making key))))))))

@@ -5,7 +5,7 @@ use Rattle.mpx_num.specs.declared.operations.Op.{Op}
 use Rattle.mpx_kind.specs.declared.kinds.Kind.{Kind}
 use Rattle.mpx_kind.specs.declared.kinds.Mode.{Mode}
 use Rattle.mpx_kind.specs.declared.kinds.Mode.TheVariants.{Blocking, Nonblocking}
-use Rattle.mpx_kind.specs.Kinds.{family_of, may_be}
+use Rattle.mpx_kind.specs.Kinds.{may_be}
 use Rattle.mpx_kind.specs.Codes.{code_of_kind, kind_at}
 use Rattle.mpx_num.specs.Codes.{code_of_operation, operation_at, code_of_type, type_at}
 use Rattle.mpx_format.specs.declared.defects.Defect.TheVariants.{BadVersion}
@@ -48,7 +48,7 @@ mode_at (suc n) = Nonblocking
 
 -- a mode of which calls of this kind may be: those that make communicators or free one only block
 unfoldable pub mode : Kind → Format Mode
-mode k = only out_of_limits (λ m. may_be m (family_of k)) (through mode_at (λ m. Some (code_of_mode m)) (only out_of_limits (λ n. nat_lt n 2) byte))
+mode k = only out_of_limits (λ m. may_be m k) (through mode_at (λ m. Some (code_of_mode m)) (only out_of_limits (λ n. nat_lt n 2) byte))
 
 -- OPERATIONS AND TYPES
 

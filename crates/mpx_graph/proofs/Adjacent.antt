@@ -6,8 +6,8 @@ use Rattle.std.proofs.lemmas.Bool.{cases_lt}
 use Rattle.std.proofs.lemmas.List.{get_or_past, length-map, map_push, take_more}
 use Rattle.std.proofs.Math.ListN.{get_or-map}
 use Rattle.mpx_birth.specs.declared.edges.Neighbour.{Neighbour}
-use Rattle.mpx_birth.specs.Edges.{is_rank, often, weights_of}
-use Rattle.mpx_birth.specs.Topologies.{Near, AgreesAtBothEnds, sources_in, destinations_in}
+use Rattle.mpx_birth.specs.Edges.{has_rank, often, weights_of}
+use Rattle.mpx_birth.specs.Topologies.{Near, AgreesAtBothEnds, sources_near, destinations_near}
 use Rattle.mpx_post.specs.Posts.{Given, destinations_of, nothing_given, sources_of}
 use Rattle.mpx_post.specs.Rows.{RowView}
 use Rattle.mpx_post.specs.Agreement.{IsFine, post_at}
@@ -19,8 +19,8 @@ use Rattle.mpx_graph.proofs.Fine.{destinations-below, sources-below}
 -- as many weights as neighbours
 often-weights : (rank : ℕ) (ns : List Neighbour) → length (weights_of rank ns) ≡ often rank ns
 often-weights rank ns =
-    length-ordered (λ (x y : ℕ). is_lt (nat_cmp x y)) (map (λ (n : Neighbour). n.weight) (filter (is_rank rank) ns))
-    ∙ length-map (filter (is_rank rank) ns) (λ (n : Neighbour). n.weight)
+    length-ordered (λ (x y : ℕ). is_lt (nat_cmp x y)) (map (λ (n : Neighbour). n.weight) (filter (has_rank rank) ns))
+    ∙ length-map (filter (has_rank rank) ns) (λ (n : Neighbour). n.weight)
 
 -- one member's neighbours more
 pub near_given-more : (row : RowView) (rank : ℕ) → rank < length row → map near_given (take (rank + 1) row) ≡ map near_given (take rank row) ++ near_given (post_at row rank) ∷ []
@@ -46,7 +46,7 @@ module _ (row : RowView) (fine : IsFine row) where
   pub adjacent-agrees : AgreesAtBothEnds (map near_given row)
   adjacent-agrees = record {
     both = λ i j.
-        let out : destinations_in (map near_given row) i ≡ destinations_of (post_at row i) = ap (λ (near : Near). near.destinations) (get_or-map near_given row i nothing_given) in
-        let come : sources_in (map near_given row) j ≡ sources_of (post_at row j) = ap (λ (near : Near). near.sources) (get_or-map near_given row j nothing_given) in
+        let out : destinations_near (map near_given row) i ≡ destinations_of (post_at row i) = ap (λ (near : Near). near.destinations) (get_or-map near_given row i nothing_given) in
+        let come : sources_near (map near_given row) j ≡ sources_of (post_at row j) = ap (λ (near : Near). near.sources) (get_or-map near_given row j nothing_given) in
         ap (often j) out ∙ both_told i j ∙ sym (ap (often i) come);
   }

@@ -4,8 +4,10 @@ use Rattle.std.specs.Prelude.{◌&&◌, nat_lt}
 use Rattle.std.specs.List.{filter, sum_by}
 use Rattle.std.proofs.lemmas.Bool.{cases_order, eq-eqb, le-ltb, lt-ltb, ne_eqb}
 use Rattle.std.proofs.lemmas.List.Sums.{count_by-le-length, length-filter, sum_by_push}
-use Rattle.mpx_birth.specs.Edges.{count}
 use Rattle.mpx_birth.specs.Orders.{upto}
+
+abbrev pub count : {A : Type 0} → (A → Bool) → List A → ℕ
+count test xs = length (filter test xs)
 
 length-cond : {A : Type 0} (b : Bool) (x : A) (xs : List A) → length (cond b (x ∷ xs) xs) ≡ cond b 1 0 + length xs
 length-cond true x xs = omega arith

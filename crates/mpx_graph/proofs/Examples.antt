@@ -3,7 +3,8 @@ use Rattle.std.proofs.Common.{◌≡◌, ℕ, Bool, true, false, List, [], ◌�
 use Rattle.mpx_birth.specs.declared.edges.Edge.{Edge}
 use Rattle.mpx_birth.specs.declared.edges.Neighbour.{Neighbour}
 use Rattle.mpx_birth.specs.Topologies.{TopologyView, destinations_at, sources_at}
-use Rattle.mpx_kind.specs.declared.kinds.Kind.TheVariants.{DistGraph, DistGraphAdjacent}
+use Rattle.mpx_kind.specs.declared.kinds.Kind.TheVariants.{NewCommunicator}
+use Rattle.mpx_kind.specs.declared.kinds.NewCommunicator.TheVariants.{DistGraph, DistGraphAdjacent}
 use Rattle.mpx_post.specs.declared.making.Making.TheVariants as Making
 use Rattle.mpx_post.specs.Posts.{Given, nothing_given}
 use Rattle.mpx_graph.specs.Graphs.{adjacent, counts_at, general}
@@ -15,10 +16,10 @@ abbrev near : (rank weight : ℕ) → Neighbour
 near r w = record { rank = r; weight = w }
 
 abbrev gives : Bool → List Edge → Given
-gives weighted edges = record nothing_given { kind = DistGraph; making = Making.Edges (record { weighted = weighted; edges = edges }) }
+gives weighted edges = record nothing_given { kind = NewCommunicator DistGraph; making = Making.Edges (record { weighted = weighted; edges = edges }) }
 
 abbrev names : (sources destinations : List Neighbour) → Given
-names sources destinations = record nothing_given { kind = DistGraphAdjacent; making = Making.Neighbours (record { weighted = false; sources = sources; destinations = destinations }) }
+names sources destinations = record nothing_given { kind = NewCommunicator DistGraphAdjacent; making = Making.Neighbours (record { weighted = false; sources = sources; destinations = destinations }) }
 
 -- ANY EDGES
 

@@ -9,7 +9,7 @@ use Rattle.mpx_birth.specs.declared.edges.Edge.{Edge}
 use Rattle.mpx_birth.specs.declared.edges.Neighbour.{Neighbour}
 use Rattle.mpx_birth.specs.Edges.{often, source_of, destination_of, sources_among, destinations_among}
 use Rattle.mpx_birth.specs.Births.{upto}
-use Rattle.mpx_birth.specs.Topologies.{Near, AgreesAtBothEnds, nobody, sources_in, destinations_in}
+use Rattle.mpx_birth.specs.Topologies.{Near, AgreesAtBothEnds, nobody, sources_near, destinations_near}
 use Rattle.mpx_birth.proofs.Kept.{none_pass}
 use Rattle.mpx_graph.specs.Graphs.{IsEdgeBetween, near_among, graph_among}
 use Rattle.mpx_graph.proofs.Pairs.{ends_agree, sources-more, destinations-more}
@@ -46,13 +46,13 @@ module _ (size : ℕ) (edges : List Edge) (within : All (IsEdgeBetween size) edg
   past_destinations rank l =
       ap (map destination_of) (none_pass (λ e. e.source == rank) edges (λ k d m. ne_eqb _ _ (λ e. let w = (within k d m).source in omega arith)))
 
-  pub sources-graph : (rank : ℕ) → sources_in (graph_among size edges) rank ≡ sources_among rank edges
+  pub sources-graph : (rank : ℕ) → sources_near (graph_among size edges) rank ≡ sources_among rank edges
   sources-graph rank = elim (cases_lt rank size) [
     | inl l ↦ ap (λ (near : Near). near.sources) (near-at size edges rank l)
     | inr l ↦ ap (λ (near : Near). near.sources) (get_or_past (graph_among size edges) rank nobody (let e = length-graph size edges in omega arith)) ∙ sym (past_sources rank l)
   ]
 
-  pub destinations-graph : (rank : ℕ) → destinations_in (graph_among size edges) rank ≡ destinations_among rank edges
+  pub destinations-graph : (rank : ℕ) → destinations_near (graph_among size edges) rank ≡ destinations_among rank edges
   destinations-graph rank = elim (cases_lt rank size) [
     | inl l ↦ ap (λ (near : Near). near.destinations) (near-at size edges rank l)
     | inr l ↦ ap (λ (near : Near). near.destinations) (get_or_past (graph_among size edges) rank nobody (let e = length-graph size edges in omega arith)) ∙ sym (past_destinations rank l)

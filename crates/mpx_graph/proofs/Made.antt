@@ -13,7 +13,7 @@ use Rattle.mpx_birth.specs.declared.edges.Edge.{Edge}
 use Rattle.mpx_birth.specs.declared.edges.Neighbour.{Neighbour}
 use Rattle.mpx_birth.specs.Edges.{destination_of, destinations_among, source_of, sources_among}
 use Rattle.mpx_birth.specs.Orders.{upto}
-use Rattle.mpx_birth.specs.Topologies.{Near, destinations_in_all, is_near, is_neighbour, is_topology, is_weight, sources_in_all}
+use Rattle.mpx_birth.specs.Topologies.{Near, destinations_in_all, is_near, fits_neighbour, is_topology, fits_weight, sources_in_all}
 use Rattle.mpx_birth.proofs.Kept.{AreBelow, paired-from, topology-from}
 use Rattle.mpx_post.specs.Graphs.{AreEdges, AreNeighbours, EdgesView, IsEdge, IsNeighbour, IsWeight, NeighboursView, most_edges}
 use Rattle.mpx_post.specs.Posts.{Given, destinations_of, edges_of, nothing_given, sources_of, weighted_of}
@@ -27,16 +27,16 @@ use Rattle.mpx_graph.proofs.Graphs.{graph-agrees, length-graph}
 
 -- WEIGHTS
 
-weight-passes : (weighted : Bool) (weight : ℕ) → IsWeight weighted weight → is_weight weighted weight ≡ true
+weight-passes : (weighted : Bool) (weight : ℕ) → IsWeight weighted weight → fits_weight weighted weight ≡ true
 weight-passes true weight l = lt-ltb weight (2 ^ 31) l
 weight-passes false weight e = eq-eqb weight 0 e
 
-neighbour-passes : (size : ℕ) (weighted : Bool) (n : Neighbour) → n.rank < size → is_weight weighted n.weight ≡ true → is_neighbour size weighted n ≡ true
+neighbour-passes : (size : ℕ) (weighted : Bool) (n : Neighbour) → n.rank < size → fits_weight weighted n.weight ≡ true → fits_neighbour size weighted n ≡ true
 neighbour-passes size weighted n l w = and_from _ _ (lt-ltb n.rank size l) w
 
-neighbours-pass : (size : ℕ) (weighted : Bool) (ns : List Neighbour) → AreBelow size ns → All (IsNeighbour weighted) ns → list_all (is_neighbour size weighted) ns ≡ true
+neighbours-pass : (size : ℕ) (weighted : Bool) (ns : List Neighbour) → AreBelow size ns → All (IsNeighbour weighted) ns → list_all (fits_neighbour size weighted) ns ≡ true
 neighbours-pass size weighted ns below are =
-    list_all-from_AllPass (is_neighbour size weighted) ns
+    list_all-from_AllPass (fits_neighbour size weighted) ns
     (λ k d l. neighbour-passes size weighted _ (below k d l) (weight-passes weighted _ ((are k d l).weight)))
 
 -- SUMS
@@ -99,20 +99,20 @@ abbrev pub given_of : Given → EdgesView
 given_of given = record { weighted = weighted_of given; edges = edges_of given }
 
 module _ (row : RowView) (fine : IsFine row) (few : length row ≤ 64) (given : (rank : ℕ) → rank < length row → AreEdges (given_of (post_at row rank))) where
-  weights : All (λ (e : Edge). is_weight (weighted_of (first_of row)) e.weight ≡ true) (all_edges row)
-  weights = All-all_edges (λ (e : Edge). is_weight (weighted_of (first_of row)) e.weight ≡ true) row (λ k l.
-      All-weaker (IsEdge (weighted_of (post_at row k))) (λ (e : Edge). is_weight (weighted_of (first_of row)) e.weight ≡ true)
+  weights : All (λ (e : Edge). fits_weight (weighted_of (first_of row)) e.weight ≡ true) (all_edges row)
+  weights = All-all_edges (λ (e : Edge). fits_weight (weighted_of (first_of row)) e.weight ≡ true) row (λ k l.
+      All-weaker (IsEdge (weighted_of (post_at row k))) (λ (e : Edge). fits_weight (weighted_of (first_of row)) e.weight ≡ true)
       (λ e is. weight-passes _ e.weight (subst (λ (w : Bool). IsWeight w e.weight) ((fine.with.each k l).weights) is.weight))
       (edges_of (post_at row k)) ((given k l).each))
 
   ends-pass : (end : Edge → Neighbour) → ((e : Edge) → IsEdgeBetween (length row) e → (end e).rank < length row) → ((e : Edge) → (end e).weight ≡ e.weight) → (p : Edge → Bool)
-      → list_all (is_neighbour (length row) (weighted_of (first_of row))) (map end (filter p (all_edges row))) ≡ true
+      → list_all (fits_neighbour (length row) (weighted_of (first_of row))) (map end (filter p (all_edges row))) ≡ true
   ends-pass end below same p =
-      list_all-from_AllPass (is_neighbour (length row) (weighted_of (first_of row))) (map end (filter p (all_edges row)))
-      (All-map (λ n. is_neighbour (length row) (weighted_of (first_of row)) n ≡ true) end (filter p (all_edges row))
-      (All-filter p (λ e. is_neighbour (length row) (weighted_of (first_of row)) (end e) ≡ true) (all_edges row)
+      list_all-from_AllPass (fits_neighbour (length row) (weighted_of (first_of row))) (map end (filter p (all_edges row)))
+      (All-map (λ n. fits_neighbour (length row) (weighted_of (first_of row)) n ≡ true) end (filter p (all_edges row))
+      (All-filter p (λ e. fits_neighbour (length row) (weighted_of (first_of row)) (end e) ≡ true) (all_edges row)
       (λ k d l. let e : Edge = get_or (all_edges row) k d in
-      neighbour-passes (length row) (weighted_of (first_of row)) (end e) (below e (all_edges-between row fine k d l)) (ap (is_weight (weighted_of (first_of row))) (same e) ∙ weights k d l))))
+      neighbour-passes (length row) (weighted_of (first_of row)) (end e) (below e (all_edges-between row fine k d l)) (ap (fits_weight (weighted_of (first_of row))) (same e) ∙ weights k d l))))
 
   among-pass : (rank : ℕ) → is_near (length row) (weighted_of (first_of row)) (near_among (all_edges row) rank) ≡ true
   among-pass rank =

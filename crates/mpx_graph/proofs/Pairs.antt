@@ -4,7 +4,7 @@ use Rattle.std.specs.Prelude.{◌==◌, ◌&&◌}
 use Rattle.std.proofs.lemmas.List.{map-append}
 use Rattle.std.proofs.lemmas.List.Elements.{filter-append}
 use Rattle.mpx_birth.specs.declared.edges.Edge.{Edge}
-use Rattle.mpx_birth.specs.Edges.{often, is_rank, source_of, destination_of, sources_among, destinations_among}
+use Rattle.mpx_birth.specs.Edges.{often, has_rank, source_of, destination_of, sources_among, destinations_among}
 use Rattle.mpx_graph.proofs.Counting.{count-map-filter, count-same}
 
 and_comm : (a b : Bool) → (a && b) ≡ (b && a)
@@ -18,9 +18,9 @@ pub ends_agree : (edges : List Edge) (i j : ℕ) → often j (destinations_among
 ends_agree edges i j =
     let starts : Edge → Bool = λ e. e.source == i in
     let stops : Edge → Bool = λ e. e.destination == j in
-    count-map-filter (is_rank j) destination_of starts edges
+    count-map-filter (has_rank j) destination_of starts edges
     ∙ count-same (λ e. starts e && stops e) (λ e. stops e && starts e) (λ e. and_comm (starts e) (stops e)) edges
-    ∙ sym (count-map-filter (is_rank i) source_of stops edges)
+    ∙ sym (count-map-filter (has_rank i) source_of stops edges)
 
 -- more edges
 pub sources-more : (rank : ℕ) (xs ys : List Edge) → sources_among rank (xs ++ ys) ≡ sources_among rank xs ++ sources_among rank ys

@@ -34,8 +34,8 @@ abbrev pub difference_of : List ℕ → List ℕ → List ℕ
 difference_of a b = filter (λ p. not (has b p)) a
 
 -- the rank of a process: its place in the list
-abbrev pub rank_in : List ℕ → ℕ → Option ℕ
-rank_in g p = position (λ q. q == p) g
+abbrev pub rank_in : ℕ → List ℕ → Option ℕ
+rank_in p g = position (λ q. q == p) g
 
 -- the same list, the same members in another order, or neither
 abbrev pub comparison_of : List ℕ → List ℕ → Comparison

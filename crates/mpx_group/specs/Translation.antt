@@ -10,7 +10,7 @@ rank_or_undefined (Some r) = At r
 
 abbrev pub rank_of_member : List ℕ → Option ℕ → Rank
 rank_of_member to None = Undefined
-rank_of_member to (Some p) = rank_or_undefined (rank_in to p)
+rank_of_member to (Some p) = rank_or_undefined (rank_in p to)
 
 -- the rank in the second group of the process at a rank of the first; no correspondence is Undefined
 abbrev pub translated : List ℕ → List ℕ → Rank → Rank

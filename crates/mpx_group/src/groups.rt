@@ -69,7 +69,7 @@ impl Group {
 
     /// The rank of a process, where it is a member.
     pub fn rank_of(&self, process: Proc) -> Option<u8>
-        ensures { result ≡ rank_in self.now process }
+        ensures { result ≡ rank_in process self.now }
     {
         for (rank, member) in self.members.iter().enumerate() {
             if *member == process {

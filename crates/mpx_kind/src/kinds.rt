@@ -1,10 +1,21 @@
-//! The kinds of calls, their families and modes, and what their posts may have.
+//! The kinds of calls, their modes, and what their posts may have.
 ghost use Rattle.std.specs.Prelude.{◌≡◌};
-ghost use Rattle.mpx_kind.specs.Kinds.{blocking, exchange_kind, is_had, kind_of, mode_of, neighbourhood_kind, new_communicator_kind, number_in, reduction_kind};
+ghost use Rattle.mpx_kind.specs.Kinds.{blocking, is_had, kind_of, mode_of, number_in};
 
-/// The kinds of calls (MPI 4.1 sections 6.3 to 6.12, 7.4, 8.5 and 8.6).
+/// The kinds of calls (MPI 4.1 sections 6.3 to 6.12, 7.4, 8.5 and 8.6), by the way in which their values are found.
 #[derive(Clone, Copy, Debug, PartialEq, Eq)]
 pub enum Kind {
+    Exchange(Exchange),
+    Reduction(Reduction),
+    NewCommunicator(NewCommunicator),
+    Neighbourhood(Neighbourhood),
+    /// `MPI_COMM_FREE` (section 7.4.3), the one kind that frees a communicator.
+    Free,
+}
+
+/// The kinds that move items as they are (MPI 4.1 sections 6.3 to 6.8).
+#[derive(Clone, Copy, Debug, PartialEq, Eq)]
+pub enum Exchange {
     /// `MPI_BARRIER` (section 6.3).
     Barrier,
     /// `MPI_BCAST` (section 6.4).
@@ -25,6 +36,11 @@ pub enum Kind {
     Alltoall,
     /// `MPI_ALLTOALLV` (section 6.8).
     Alltoallv,
+}
+
+/// The kinds that combine items (MPI 4.1 sections 6.9 to 6.11).
+#[derive(Clone, Copy, Debug, PartialEq, Eq)]
+pub enum Reduction {
     /// `MPI_REDUCE` (section 6.9.1).
     Reduce,
     /// `MPI_ALLREDUCE` (section 6.9.6).
@@ -37,6 +53,11 @@ pub enum Kind {
     Scan,
     /// `MPI_EXSCAN` (section 6.11.2).
     Exscan,
+}
+
+/// The kinds that make communicators (MPI 4.1 sections 7.4.2 and 8.5.4).
+#[derive(Clone, Copy, Debug, PartialEq, Eq)]
+pub enum NewCommunicator {
     /// `MPI_COMM_DUP` (section 7.4.2).
     Dup,
     /// `MPI_COMM_SPLIT` (section 7.4.2).
@@ -49,73 +70,19 @@ pub enum Kind {
     DistGraph,
     /// `MPI_DIST_GRAPH_CREATE_ADJACENT` (section 8.5.4).
     DistGraphAdjacent,
-    /// `MPI_NEIGHBOR_ALLGATHER` (section 8.6.1).
-    NeighborAllgather,
-    /// `MPI_NEIGHBOR_ALLGATHERV` (section 8.6.1).
-    NeighborAllgatherv,
-    /// `MPI_NEIGHBOR_ALLTOALL` (section 8.6.2).
-    NeighborAlltoall,
-    /// `MPI_NEIGHBOR_ALLTOALLV` (section 8.6.2).
-    NeighborAlltoallv,
-    /// `MPI_COMM_FREE` (section 7.4.3).
-    Free,
-}
-
-/// The kinds that move items as they are (MPI 4.1 sections 6.3 to 6.8).
-#[derive(Clone, Copy, Debug, PartialEq, Eq)]
-pub enum Exchange {
-    Barrier,
-    Bcast,
-    Gather,
-    Gatherv,
-    Scatter,
-    Scatterv,
-    Allgather,
-    Allgatherv,
-    Alltoall,
-    Alltoallv,
-}
-
-/// The kinds that combine items (MPI 4.1 sections 6.9 to 6.11).
-#[derive(Clone, Copy, Debug, PartialEq, Eq)]
-pub enum Reduction {
-    Reduce,
-    Allreduce,
-    ReduceScatterBlock,
-    ReduceScatter,
-    Scan,
-    Exscan,
-}
-
-/// The kinds that make communicators (MPI 4.1 sections 7.4.2 and 8.5.4).
-#[derive(Clone, Copy, Debug, PartialEq, Eq)]
-pub enum NewCommunicator {
-    Dup,
-    Split,
-    Create,
-    CreateGroup,
-    DistGraph,
-    DistGraphAdjacent,
 }
 
 /// The kinds that move items along the edges of a topology (MPI 4.1 section 8.6).
 #[derive(Clone, Copy, Debug, PartialEq, Eq)]
 pub enum Neighbourhood {
+    /// `MPI_NEIGHBOR_ALLGATHER` (section 8.6.1).
     Allgather,
+    /// `MPI_NEIGHBOR_ALLGATHERV` (section 8.6.1).
     Allgatherv,
+    /// `MPI_NEIGHBOR_ALLTOALL` (section 8.6.2).
     Alltoall,
+    /// `MPI_NEIGHBOR_ALLTOALLV` (section 8.6.2).
     Alltoallv,
-}
-
-/// The families of kinds: the values of each are found in a way of its own.
-#[derive(Clone, Copy, Debug, PartialEq, Eq)]
-pub enum Family {
-    Exchange(Exchange),
-    Reduction(Reduction),
-    NewCommunicator(NewCommunicator),
-    Neighbourhood(Neighbourhood),
-    /// The one kind that frees a communicator.
-    Free,
 }
 
 /// Whether a call blocks. Blocking and nonblocking calls don't match (MPI 4.1 section 6.12).
@@ -210,12 +177,12 @@ impl Call {
     pub fn blocking(kind: Kind) -> Call
         ensures { result ≡ blocking kind }
     {
-        match kind.family() {
-            Family::Exchange(exchange) => Call::Exchange(exchange, Mode::Blocking),
-            Family::Reduction(reduction) => Call::Reduction(reduction, Mode::Blocking),
-            Family::NewCommunicator(new) => Call::NewCommunicator(new),
-            Family::Neighbourhood(exchange) => Call::Neighbourhood(exchange, Mode::Blocking),
-            Family::Free => Call::Free,
+        match kind {
+            Kind::Exchange(exchange) => Call::Exchange(exchange, Mode::Blocking),
+            Kind::Reduction(reduction) => Call::Reduction(reduction, Mode::Blocking),
+            Kind::NewCommunicator(new) => Call::NewCommunicator(new),
+            Kind::Neighbourhood(exchange) => Call::Neighbourhood(exchange, Mode::Blocking),
+            Kind::Free => Call::Free,
         }
     }
 
@@ -224,10 +191,10 @@ impl Call {
         ensures { result ≡ kind_of self }
     {
         match self {
-            Call::Exchange(exchange, _) => exchange.kind(),
-            Call::Reduction(reduction, _) => reduction.kind(),
-            Call::NewCommunicator(new) => new.kind(),
-            Call::Neighbourhood(exchange, _) => exchange.kind(),
+            Call::Exchange(exchange, _) => Kind::Exchange(exchange),
+            Call::Reduction(reduction, _) => Kind::Reduction(reduction),
+            Call::NewCommunicator(new) => Kind::NewCommunicator(new),
+            Call::Neighbourhood(exchange, _) => Kind::Neighbourhood(exchange),
             Call::Free => Kind::Free,
         }
     }
@@ -239,75 +206,8 @@ impl Call {
         match self {
             Call::Exchange(_, mode) => mode,
             Call::Reduction(_, mode) => mode,
-            Call::NewCommunicator(_) => Mode::Blocking,
             Call::Neighbourhood(_, mode) => mode,
-            Call::Free => Mode::Blocking,
-        }
-    }
-}
-
-impl Exchange {
-    /// It as one of all kinds.
-    pub fn kind(self) -> Kind
-        ensures { result ≡ exchange_kind self }
-    {
-        match self {
-            Exchange::Barrier => Kind::Barrier,
-            Exchange::Bcast => Kind::Bcast,
-            Exchange::Gather => Kind::Gather,
-            Exchange::Gatherv => Kind::Gatherv,
-            Exchange::Scatter => Kind::Scatter,
-            Exchange::Scatterv => Kind::Scatterv,
-            Exchange::Allgather => Kind::Allgather,
-            Exchange::Allgatherv => Kind::Allgatherv,
-            Exchange::Alltoall => Kind::Alltoall,
-            Exchange::Alltoallv => Kind::Alltoallv,
-        }
-    }
-}
-
-impl Reduction {
-    /// It as one of all kinds.
-    pub fn kind(self) -> Kind
-        ensures { result ≡ reduction_kind self }
-    {
-        match self {
-            Reduction::Reduce => Kind::Reduce,
-            Reduction::Allreduce => Kind::Allreduce,
-            Reduction::ReduceScatterBlock => Kind::ReduceScatterBlock,
-            Reduction::ReduceScatter => Kind::ReduceScatter,
-            Reduction::Scan => Kind::Scan,
-            Reduction::Exscan => Kind::Exscan,
-        }
-    }
-}
-
-impl NewCommunicator {
-    /// It as one of all kinds.
-    pub fn kind(self) -> Kind
-        ensures { result ≡ new_communicator_kind self }
-    {
-        match self {
-            NewCommunicator::Dup => Kind::Dup,
-            NewCommunicator::Split => Kind::Split,
-            NewCommunicator::Create => Kind::Create,
-            NewCommunicator::CreateGroup => Kind::CreateGroup,
-            NewCommunicator::DistGraph => Kind::DistGraph,
-            NewCommunicator::DistGraphAdjacent => Kind::DistGraphAdjacent,
-        }
-    }
-}
-
-impl Neighbourhood {
-    /// It as one of all kinds.
-    pub fn kind(self) -> Kind
-        ensures { result ≡ neighbourhood_kind self }
-    {
-        match self {
-            Neighbourhood::Allgather => Kind::NeighborAllgather,
-            Neighbourhood::Allgatherv => Kind::NeighborAllgatherv,
-            Neighbourhood::Alltoall => Kind::NeighborAlltoall,
-            Neighbourhood::Alltoallv => Kind::NeighborAlltoallv,
+            Call::NewCommunicator(_) | Call::Free => Mode::Blocking,
         }
     }
 }
@@ -334,12 +234,7 @@ impl Number {
     {
         match self {
             Number::Zero => false,
-            Number::One => true,
-            Number::OneAtRoot => true,
-            Number::Members => true,
-            Number::MembersAtRoot => true,
-            Number::Indegree => true,
-            Number::Outdegree => true,
+            _ => true,
         }
     }
 }

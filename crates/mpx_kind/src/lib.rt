@@ -1,11 +1,12 @@
-//! The kinds of calls: one row each of what the posts of a kind have ([`Kind::fields`]), and one of its family
-//! ([`Kind::family`]), by which its value is found. `specs/Kinds.antt` has both tables.
+//! The kinds of calls, by the way in which their values are found: one row each of what the posts of a kind have
+//! ([`Kind::fields`]), as `specs/Kinds.antt` has it, and its number ([`Kind::code`]), as `specs/Codes.antt` has it.
 #![tactic(auto)]
 
+mod coding;
 mod kinds;
 mod tables;
 
 pub use kinds::{
-    Call, Exchange, Family, Fields, Kind, Makes, Mode, Neighbourhood, NewCommunicator, Number,
-    Reduction, Seat, Sent,
+    Call, Exchange, Fields, Kind, Makes, Mode, Neighbourhood, NewCommunicator, Number, Reduction,
+    Seat, Sent,
 };

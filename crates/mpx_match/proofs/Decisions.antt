@@ -1,5 +1,5 @@
 -- The tests decide in what posts differ.
-use Rattle.std.proofs.Common.{◌≡◌, ℕ, zero, suc, ◌<◌, nat_eq, Bool, true, false, not, ◌||◌, is_some, List, [], ◌∷◌, length, Option, Some, None, inl, inr, refl, sym, ◌∙◌, subst}
+use Rattle.std.proofs.Common.{◌≡◌, ◌==◌, ℕ, zero, suc, ◌<◌, nat_eq, Bool, true, false, not, ◌||◌, is_some, List, [], ◌∷◌, length, Option, Some, None, inl, inr, refl, sym, ◌∙◌, subst}
 use Rattle.std.specs.Prelude.{slice_get}
 use Rattle.std.specs.List.{list_any}
 use Rattle.std.proofs.lemmas.Option.{same_Some}
@@ -8,22 +8,17 @@ use Rattle.std.specs.Cmp.{booleans_Decides}
 use Rattle.std.proofs.lemmas.Bool.{cases_Bool, false_from_ne_true, false≢true}
 use Rattle.std.proofs.lemmas.Bool.Decides.{Decides-eqb}
 use Rattle.mpx_num.specs.declared.own.Operation.{Operation}
-use Rattle.mpx_kind.specs.declared.kinds.Kind as K
-use Rattle.mpx_kind.specs.declared.kinds.Kind.TheVariants.{Barrier, Bcast, Gather, Gatherv, Scatter, Scatterv, Allgather, Allgatherv, Alltoall, Alltoallv, Reduce, Allreduce, ReduceScatterBlock, ReduceScatter, Scan, Exscan, Dup, Split, Create, CreateGroup, DistGraph, DistGraphAdjacent, NeighborAllgather, NeighborAllgatherv, NeighborAlltoall, NeighborAlltoallv, Free}
 use Rattle.mpx_post.specs.Posts.{Given, group_of}
 use Rattle.mpx_post.specs.Rows.{RowView}
-use Rattle.mpx_kind.specs.declared.kinds.Neighbourhood.{Neighbourhood}
-use Rattle.mpx_kind.specs.declared.kinds.Neighbourhood.TheVariants as H
 use Rattle.mpx_birth.specs.Births.{upto}
-use Rattle.mpx_birth.specs.Topologies.{IsKept, TopologyView, destinations_at}
-use Rattle.mpx_birth.specs.Ends.{rank_at, taken_at}
-use Rattle.mpx_birth.proofs.Meeting.{taken_meets, taken_of}
-use Rattle.mpx_post.specs.Agreement.{AlongEdges, AmountsAgree, awaited_on, first_of, post_at, sent_on}
+use Rattle.mpx_birth.specs.Topologies.{TopologyView}
+use Rattle.mpx_post.specs.Agreement.{Asked, Any, Same, SameCounts, SameAtEach, IsGiven, asked_of, first_of, post_at}
 use Rattle.mpx_post.specs.Equality.{same_operation, kinds_decided, modes_decided, operations_decided, options_decided, types_decided, numbers_decided}
+use Rattle.mpx_match.specs.declared.faults.FaultKind.TheVariants as F
 use Rattle.mpx_match.specs.declared.verdicts.RowQuestion.{RowQuestion}
-use Rattle.mpx_match.specs.declared.verdicts.RowQuestion.TheVariants.{Fit, Kind, Mode, Root, Op, ItemType, Amount, Weights, Edges, Groups}
+use Rattle.mpx_match.specs.declared.verdicts.RowQuestion.TheVariants.{Fit, Agree}
 use Rattle.mpx_match.specs.Faults.{AgreesIn}
-use Rattle.mpx_match.specs.Questions.{along_edges_differ, amounts_differ, edge_differs, is_faulty, least_rank}
+use Rattle.mpx_match.specs.Questions.{is_faulty, is_missed, least_rank}
 use Rattle.mpx_match.proofs.Below.{none_below, some_below}
 use Rattle.mpx_match.proofs.Least.{least_rank-passes, least_rank-none}
 
@@ -31,14 +26,6 @@ use Rattle.mpx_match.proofs.Least.{least_rank-passes, least_rank-none}
 pub record Refutes (test : Bool) (P : Type 0) : Type 0 where
   pub holds : test ≡ false → P
   pub fails : test ≡ true → P → ⊥
-
--- the same, where the second needs something
-pub record RefutesWhere (Kept : Type 0) (test : Bool) (P : Type 0) : Type 0 where
-  pub holds : test ≡ false → P
-  pub fails : Kept → test ≡ true → P → ⊥
-
-anyway : {Kept : Type 0} {test : Bool} {P : Type 0} → Refutes test P → RefutesWhere Kept test P
-anyway r = record { holds = r.holds; fails = λ kept. r.fails }
 
 not_same : (same : Bool) {P : Type 0} → Decides same P → Refutes (not same) P
 not_same true decided = record { holds = λ e. decided.0 refl; fails = λ e. cc e }
@@ -78,55 +65,20 @@ of_below test P each n = record {
   fails = λ some all. false≢true (sym (none_below test n (λ k l. false_from_ne_true (test k) (λ t. (each k).fails t (all k l)))) ∙ some);
 }
 
--- on each edge from the member
-along_edges_decided : (topology : Option TopologyView) (exchange : Neighbourhood) (row : RowView) (rank : ℕ) (given : Given) → RefutesWhere (IsKept topology) (along_edges_differ exchange topology row rank given) (AlongEdges exchange topology row rank given)
-along_edges_decided None exchange row rank given = record { holds = λ e. tt; fails = λ kept e. cc e }
-along_edges_decided (Some topology) exchange row rank given =
-    let each = of_below (edge_differs exchange topology row rank given) (λ place. sent_on exchange given place ≡ awaited_on exchange (post_at row (rank_at (destinations_at topology rank) place)) (taken_at topology rank place)) (λ place. not_same _ (Decides-eqb _ _)) (length (destinations_at topology rank)) in
-    record {
-      holds = λ none place other theirs meet.
-          each.holds none place meet.sent_within
-          ∙ (λ i. awaited_on exchange (post_at row (meet.sent_to i)) (sym (taken_of topology rank place other theirs meet) i));
-      fails = λ kept some all. each.fails some (λ place l. all place _ _ (taken_meets topology kept.agree rank place l));
-    }
+asked_decided : (asked : Asked) → Refutes (is_missed asked) (IsGiven asked)
+asked_decided Any = record { holds = λ e. tt; fails = λ e. cc e }
+asked_decided (Same given asked) = not_same _ (Decides-eqb _ _)
+asked_decided (SameCounts given asked) = not_same _ (numbers_decided _ _)
+asked_decided (SameAtEach places given asked) = of_below (λ place. not (given place == asked place)) (λ place. given place ≡ asked place) (λ place. not_same _ (Decides-eqb _ _)) places
 
-pub amounts_decided : (topology : Option TopologyView) (kind : K.Kind) (row : RowView) (rank : ℕ) (given : Given) → RefutesWhere (IsKept topology) (amounts_differ topology kind row rank given) (AmountsAgree topology kind row rank given)
-amounts_decided topology Barrier row rank given = record { holds = λ e. tt; fails = λ kept e. cc e }
-amounts_decided topology Bcast row rank given = anyway (not_same _ (Decides-eqb _ _))
-amounts_decided topology Gather row rank given = anyway (not_same _ (Decides-eqb _ _))
-amounts_decided topology Gatherv row rank given = anyway (not_same _ (Decides-eqb _ _))
-amounts_decided topology Scatter row rank given = anyway (not_same _ (Decides-eqb _ _))
-amounts_decided topology Scatterv row rank given = anyway (not_same _ (Decides-eqb _ _))
-amounts_decided topology Allgather row rank given = anyway (not_same _ (Decides-eqb _ _))
-amounts_decided topology Allgatherv row rank given = anyway (of_posts _ _ row (λ j. not_same _ (Decides-eqb _ _)))
-amounts_decided topology Alltoall row rank given = anyway (not_same _ (Decides-eqb _ _))
-amounts_decided topology Alltoallv row rank given = anyway (of_posts _ _ row (λ j. not_same _ (Decides-eqb _ _)))
-amounts_decided topology Reduce row rank given = anyway (not_same _ (Decides-eqb _ _))
-amounts_decided topology Allreduce row rank given = anyway (not_same _ (Decides-eqb _ _))
-amounts_decided topology ReduceScatterBlock row rank given = anyway (not_same _ (Decides-eqb _ _))
-amounts_decided topology ReduceScatter row rank given = anyway (not_same _ (numbers_decided _ _))
-amounts_decided topology Scan row rank given = anyway (not_same _ (Decides-eqb _ _))
-amounts_decided topology Exscan row rank given = anyway (not_same _ (Decides-eqb _ _))
-amounts_decided topology Dup row rank given = record { holds = λ e. tt; fails = λ kept e. cc e }
-amounts_decided topology Split row rank given = record { holds = λ e. tt; fails = λ kept e. cc e }
-amounts_decided topology Create row rank given = record { holds = λ e. tt; fails = λ kept e. cc e }
-amounts_decided topology CreateGroup row rank given = record { holds = λ e. tt; fails = λ kept e. cc e }
-amounts_decided topology DistGraph row rank given = record { holds = λ e. tt; fails = λ kept e. cc e }
-amounts_decided topology DistGraphAdjacent row rank given = record { holds = λ e. tt; fails = λ kept e. cc e }
-amounts_decided topology NeighborAllgather row rank given = along_edges_decided topology H.Allgather row rank given
-amounts_decided topology NeighborAllgatherv row rank given = along_edges_decided topology H.Allgatherv row rank given
-amounts_decided topology NeighborAlltoall row rank given = along_edges_decided topology H.Alltoall row rank given
-amounts_decided topology NeighborAlltoallv row rank given = along_edges_decided topology H.Alltoallv row rank given
-amounts_decided topology Free row rank given = record { holds = λ e. tt; fails = λ kept e. cc e }
-
-pub decided : (ops : List Operation) (topology : Option TopologyView) (question : RowQuestion) (row : RowView) (rank : ℕ) → RefutesWhere (IsKept topology) (is_faulty ops topology question row rank (post_at row rank)) (AgreesIn ops topology question row rank)
-decided ops topology Fit row rank = anyway (not_same _ (same_test _))
-decided ops topology Kind row rank = anyway (not_same _ (kinds_decided _ _))
-decided ops topology Mode row rank = anyway (not_same _ (modes_decided _ _))
-decided ops topology Root row rank = anyway (not_same _ (options_decided nat_eq Decides-eqb _ _))
-decided ops topology Op row rank = anyway (not_same _ (options_decided same_operation operations_decided _ _))
-decided ops topology ItemType row rank = anyway (not_same _ (types_decided _ _))
-decided ops topology Amount row rank = amounts_decided topology (first_of row).kind row rank (post_at row rank)
-decided ops topology Weights row rank = anyway (not_same _ (booleans_Decides _ _))
-decided ops topology Edges row rank = anyway (of_posts _ _ row (λ other. not_same _ (numbers_decided _ _)))
-decided ops topology Groups row rank = anyway (of_each _ _ (λ member. not_same _ (numbers_decided _ _)) (group_of (post_at row rank)))
+pub decided : (ops : List Operation) (topology : Option TopologyView) (question : RowQuestion) (row : RowView) (rank : ℕ) → Refutes (is_faulty ops topology question row rank (post_at row rank)) (AgreesIn ops topology question row rank)
+decided ops topology Fit row rank = not_same _ (same_test _)
+decided ops topology (Agree F.Kind) row rank = not_same _ (kinds_decided _ _)
+decided ops topology (Agree F.Mode) row rank = not_same _ (modes_decided _ _)
+decided ops topology (Agree F.Root) row rank = not_same _ (options_decided nat_eq Decides-eqb _ _)
+decided ops topology (Agree F.Op) row rank = not_same _ (options_decided same_operation operations_decided _ _)
+decided ops topology (Agree F.ItemType) row rank = not_same _ (types_decided _ _)
+decided ops topology (Agree F.Amount) row rank = asked_decided (asked_of topology (first_of row).kind row rank (post_at row rank))
+decided ops topology (Agree F.Weights) row rank = not_same _ (booleans_Decides _ _)
+decided ops topology (Agree F.Edges) row rank = of_posts _ _ row (λ other. not_same _ (numbers_decided _ _))
+decided ops topology (Agree F.Groups) row rank = of_each _ _ (λ member. not_same _ (numbers_decided _ _)) (group_of (post_at row rank))

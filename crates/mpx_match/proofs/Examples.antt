@@ -1,7 +1,8 @@
 -- Rows of small graphs.
 use Rattle.std.proofs.Common.{◌≡◌, Bool, true, false, List, [], ◌∷◌, None, ℕ, refl}
 use Rattle.mpx_birth.specs.declared.edges.Neighbour.{Neighbour}
-use Rattle.mpx_kind.specs.declared.kinds.Kind.TheVariants.{DistGraphAdjacent}
+use Rattle.mpx_kind.specs.declared.kinds.Kind.TheVariants.{NewCommunicator}
+use Rattle.mpx_kind.specs.declared.kinds.NewCommunicator.TheVariants.{DistGraphAdjacent}
 use Rattle.mpx_kind.specs.declared.kinds.Mode.TheVariants.{Blocking}
 use Rattle.mpx_post.specs.declared.making.Making.TheVariants.{Neighbours}
 use Rattle.mpx_post.specs.Posts.{Given}
@@ -17,7 +18,7 @@ near rank weight = record { rank = rank; weight = weight }
 -- a member's own sources and destinations
 abbrev own : Bool → (sources destinations : List Neighbour) → Given
 own weighted sources destinations = record {
-  kind = DistGraphAdjacent;
+  kind = NewCommunicator DistGraphAdjacent;
   mode = Blocking;
   root = None;
   op = None;

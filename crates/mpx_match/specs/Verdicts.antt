@@ -1,5 +1,6 @@
 -- The verdict of a row: its first fault, with the least rank that differs.
-use Rattle.std.specs.Prelude.{◌≡◌, ℕ, ◌<◌, ◌⊎◌, List, [], ◌∷◌, length, map, Option, Some, None}
+use Rattle.std.specs.Prelude.{◌≡◌, ℕ, ◌<◌, ◌⊎◌, List, [], ◌∷◌, length, map, Option}
+use Rattle.std.specs.Option.{option_map_or}
 use Rattle.mpx_num.specs.declared.own.Operation.{Operation}
 use Rattle.mpx_post.specs.Rows.{RowView}
 use Rattle.mpx_birth.specs.Topologies.{TopologyView}
@@ -8,26 +9,18 @@ use Rattle.mpx_match.specs.declared.faults.FaultKind.TheVariants.{Kind, Mode, Ro
 use Rattle.mpx_match.specs.declared.faults.Verdict.{Verdict}
 use Rattle.mpx_match.specs.declared.faults.Verdict.TheVariants.{Fine, Fault}
 use Rattle.mpx_match.specs.declared.verdicts.RowQuestion.{RowQuestion}
-use Rattle.mpx_match.specs.declared.verdicts.RowQuestion.TheVariants as Q
+use Rattle.mpx_match.specs.declared.verdicts.RowQuestion.TheVariants.{Fit, Agree}
 use Rattle.mpx_match.specs.Faults.{AgreesIn, Differs}
-use Rattle.mpx_match.specs.Questions.{answer}
+use Rattle.mpx_match.specs.Questions.{is_faulty, least_rank}
 
 -- what is asked of all posts, in this order
 abbrev pub questions : List RowQuestion
-questions = Q.Fit ∷ Q.Kind ∷ Q.Mode ∷ Q.Root ∷ Q.Op ∷ Q.ItemType ∷ Q.Amount ∷ Q.Weights ∷ Q.Edges ∷ Q.Groups ∷ []
+questions = Fit ∷ map Agree (Kind ∷ Mode ∷ Root ∷ Op ∷ ItemType ∷ Amount ∷ Weights ∷ Edges ∷ Groups ∷ [])
 
 -- what is told: a post that doesn't fit its communicator is a fault of the amounts
 abbrev pub told_as : RowQuestion → FaultKind
-told_as Q.Fit = Amount
-told_as Q.Kind = Kind
-told_as Q.Mode = Mode
-told_as Q.Root = Root
-told_as Q.Op = Op
-told_as Q.ItemType = ItemType
-told_as Q.Amount = Amount
-told_as Q.Weights = Weights
-told_as Q.Edges = Edges
-told_as Q.Groups = Groups
+told_as Fit = Amount
+told_as (Agree what) = what
 
 -- in a communicator with this topology, by the job's own operations
 
@@ -53,19 +46,12 @@ IsFirstFault ops topology (question ∷ more) row verdict = Tells ops topology q
 
 -- THE SAME, COMPUTED
 
--- the fault with this rank, where there is one, else the other verdict
-abbrev pub or_else : FaultKind → Option ℕ → Verdict → Verdict
-or_else what (Some rank) other = Fault (record { what = what; rank = rank })
-or_else what None other = other
-
--- the first of these faults that names a rank
-abbrev pub first_fault : List (FaultKind × Option ℕ) → Verdict
-first_fault [] = Fine
-first_fault (asked ∷ more) = or_else asked.0 asked.1 (first_fault more)
-
-abbrev pub answers : List Operation → Option TopologyView → List RowQuestion → RowView → List (FaultKind × Option ℕ)
-answers ops topology asked row = map (λ question. (told_as question, answer ops topology question row)) asked
+-- the fault of the first of these questions that some post fails, with the least rank that fails it
+abbrev pub first_fault : List Operation → Option TopologyView → List RowQuestion → RowView → Verdict
+first_fault ops topology [] row = Fine
+first_fault ops topology (question ∷ more) row =
+    option_map_or (λ rank. Fault (record { what = told_as question; rank = rank })) (least_rank (is_faulty ops topology question row) row) (first_fault ops topology more row)
 
 -- the verdict of a row, in a communicator with this topology, by the job's own operations
 unfoldable pub verdict : List Operation → Option TopologyView → RowView → Verdict
-verdict ops topology row = first_fault (answers ops topology questions row)
+verdict ops topology row = first_fault ops topology questions row

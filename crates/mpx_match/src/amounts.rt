@@ -1,48 +1,63 @@
 //! Whether the amounts of a row fit together.
-ghost use Rattle.std.specs.Prelude.{◌≡◌, ◌<◌, Some, None, length};
+ghost use Rattle.std.specs.Prelude.{◌≡◌, ◌<◌, Some, length};
 ghost use Rattle.mpx_post.specs.Posts.{count_of, root_of};
-ghost use Rattle.mpx_post.specs.Agreement.{awaited_on, count_at, post_at, sent_on};
-ghost use Rattle.mpx_match.specs.Questions.{along_edges_differ, amounts_differ as differ};
+ghost use Rattle.mpx_post.specs.Agreement.{asked_of, asked_of_exchange, asked_of_reduction, asked_on_edges, awaited_on, count_at, post_at, sent_on};
+ghost use Rattle.mpx_match.specs.Questions.{is_missed};
 
 use mpx_birth::{Birth, EdgePass, Topology};
-use mpx_kind::{Kind, Neighbourhood};
+use mpx_kind::{Exchange, Kind, Neighbourhood, Reduction};
 use mpx_post::{Counts, Post, Row};
 
 /// Whether the amounts of the post of this rank differ from what the kind asks of them.
 pub(crate) fn amounts_differ(birth: &Birth, row: &Row<'_>, kind: Kind, rank: usize) -> bool
     requires { rank < length row.now }
-    ensures { result ≡ differ birth.now.topology kind row.now rank (post_at row.now rank) }
+    ensures { result ≡ is_missed (asked_of birth.now.topology kind row.now rank (post_at row.now rank)) }
+{
+    match kind {
+        Kind::Exchange(exchange) => exchange_differs(row, exchange, rank),
+        Kind::Reduction(reduction) => reduction_differs(row, reduction, rank),
+        Kind::Neighbourhood(exchange) => along_edges(birth, row, exchange, rank),
+        Kind::NewCommunicator(_) | Kind::Free => false,
+    }
+}
+
+fn exchange_differs(row: &Row<'_>, exchange: Exchange, rank: usize) -> bool
+    requires { rank < length row.now }
+    ensures { result ≡ is_missed (asked_of_exchange exchange row.now rank (post_at row.now rank)) }
 {
     let root = root_of(row.post(0));
-    match kind {
-        Kind::Barrier | Kind::Dup | Kind::Split | Kind::Create | Kind::CreateGroup => false,
-        Kind::DistGraph | Kind::DistGraphAdjacent | Kind::Free => false,
-        Kind::Bcast | Kind::Alltoall | Kind::ReduceScatterBlock => {
-            received(row, rank, 0) != received(row, 0, 0)
-        }
-        Kind::Allgather | Kind::Reduce | Kind::Allreduce | Kind::Scan | Kind::Exscan => {
-            given(row, rank) != given(row, 0)
-        }
-        Kind::Gather => given(row, rank) != given(row, root),
-        Kind::Gatherv => given(row, rank) != received(row, root, rank),
-        Kind::Scatter => received(row, rank, 0) != received(row, root, 0),
-        Kind::Scatterv => received(row, rank, 0) != sent(row, root, rank),
-        Kind::Allgatherv => allgatherv_differs(row, rank),
-        Kind::Alltoallv => alltoallv_differs(row, rank),
-        Kind::ReduceScatter => {
+    match exchange {
+        Exchange::Barrier => false,
+        Exchange::Bcast | Exchange::Alltoall => received(row, rank, 0) != received(row, 0, 0),
+        Exchange::Gather => given(row, rank) != given(row, root),
+        Exchange::Gatherv => given(row, rank) != received(row, root, rank),
+        Exchange::Scatter => received(row, rank, 0) != received(row, root, 0),
+        Exchange::Scatterv => received(row, rank, 0) != sent(row, root, rank),
+        Exchange::Allgather => given(row, rank) != given(row, 0),
+        Exchange::Allgatherv => allgatherv_differs(row, rank),
+        Exchange::Alltoallv => alltoallv_differs(row, rank),
+    }
+}
+
+fn reduction_differs(row: &Row<'_>, reduction: Reduction, rank: usize) -> bool
+    requires { rank < length row.now }
+    ensures { result ≡ is_missed (asked_of_reduction reduction row.now (post_at row.now rank)) }
+{
+    match reduction {
+        Reduction::ReduceScatterBlock => received(row, rank, 0) != received(row, 0, 0),
+        Reduction::ReduceScatter => {
             row.post(rank).rcounts().as_slice() != row.post(0).rcounts().as_slice()
         }
-        Kind::NeighborAllgather => along_edges(birth, row, Neighbourhood::Allgather, rank),
-        Kind::NeighborAllgatherv => along_edges(birth, row, Neighbourhood::Allgatherv, rank),
-        Kind::NeighborAlltoall => along_edges(birth, row, Neighbourhood::Alltoall, rank),
-        Kind::NeighborAlltoallv => along_edges(birth, row, Neighbourhood::Alltoallv, rank),
+        Reduction::Reduce | Reduction::Allreduce | Reduction::Scan | Reduction::Exscan => {
+            given(row, rank) != given(row, 0)
+        }
     }
 }
 
 // Whether on some edge from this rank another number of items is awaited than sent.
 fn along_edges(birth: &Birth, row: &Row<'_>, exchange: Neighbourhood, rank: usize) -> bool
     requires { rank < length row.now }
-    ensures { result ≡ along_edges_differ exchange birth.now.topology row.now rank (post_at row.now rank) }
+    ensures { result ≡ is_missed (asked_on_edges exchange birth.now.topology row.now rank (post_at row.now rank)) }
 {
     match birth.topology() {
         None => false,
@@ -55,7 +70,7 @@ fn along_edges(birth: &Birth, row: &Row<'_>, exchange: Neighbourhood, rank: usiz
 
 fn along_each(topology: &Topology, row: &Row<'_>, exchange: Neighbourhood, rank: u8) -> bool
     requires { rank < length row.now }
-    ensures { result ≡ along_edges_differ exchange (Some topology.now) row.now rank (post_at row.now rank) }
+    ensures { result ≡ is_missed (asked_on_edges exchange (Some topology.now) row.now rank (post_at row.now rank)) }
 {
     prove!(topology.size() <= 64);
     let destinations = topology.destinations(rank);
@@ -94,7 +109,7 @@ fn awaited_on(row: &Row<'_>, exchange: Neighbourhood, rank: usize, place: usize)
 
 // Whether some receiver awaits another number of items of this rank than it gives.
 fn allgatherv_differs(row: &Row<'_>, rank: usize) -> bool
-    ensures { result ≡ differ None Kind.Allgatherv row.now rank (post_at row.now rank) }
+    ensures { result ≡ is_missed (asked_of_exchange Exchange.Allgatherv row.now rank (post_at row.now rank)) }
 {
     for receiver in 0..row.len() {
         if given(row, rank) != received(row, receiver, rank) {
@@ -106,7 +121,7 @@ fn allgatherv_differs(row: &Row<'_>, rank: usize) -> bool
 
 // Whether some receiver awaits another number of items of this rank than it sends it.
 fn alltoallv_differs(row: &Row<'_>, rank: usize) -> bool
-    ensures { result ≡ differ None Kind.Alltoallv row.now rank (post_at row.now rank) }
+    ensures { result ≡ is_missed (asked_of_exchange Exchange.Alltoallv row.now rank (post_at row.now rank)) }
 {
     for receiver in 0..row.len() {
         if sent(row, rank, receiver) != received(row, receiver, rank) {

@@ -2,7 +2,7 @@
 ghost use Rattle.std.specs.Prelude.{◌≡◌, ◌<◌, true, None, length};
 ghost use Rattle.mpx_post.specs.Agreement.{AllSuit, IsFineWith, post_at};
 ghost use Rattle.mpx_post.specs.Equality.{same_types as have_same_types};
-ghost use Rattle.mpx_match.specs.Questions.{answer, edges_differ, is_faulty as faulty, least_rank};
+ghost use Rattle.mpx_match.specs.Questions.{differs_in, edges_differ, is_faulty as faulty, least_rank};
 ghost use Rattle.mpx_match.specs.Verdicts.{IsFirstFault, questions, told_as as told, verdict};
 
 use crate::amounts::amounts_differ;
@@ -17,26 +17,10 @@ use mpx_post::{Post, Row, have_same_op};
 // What is asked of each post of a row.
 #[derive(Clone, Copy)]
 enum RowQuestion {
-    /// Whether it doesn't fit its communicator, or its operation isn't for its type.
+    /// Whether it fits its communicator, and its operation is for its type.
     Fit,
-    /// Whether it is of another kind than rank 0's.
-    Kind,
-    /// Whether it has another mode.
-    Mode,
-    /// Whether it names another root.
-    Root,
-    /// Whether it names another operation.
-    Op,
-    /// Whether its items are of another type.
-    ItemType,
-    /// Whether its amounts differ from what rank 0's kind asks of them.
-    Amount,
-    /// Whether its edges have weights where rank 0's have none, or the other way round.
-    Weights,
-    /// Whether another member tells the edges between the two otherwise.
-    Edges,
-    /// Whether a member of the group that it gives gives another.
-    Groups,
+    /// Whether it agrees with the others in this.
+    Agree(FaultKind),
 }
 
 /// Whether the posts of a row fit a communicator that came to be so, and together, or their first fault. It takes no memory.
@@ -46,10 +30,6 @@ pub fn verdict(birth: &Birth, row: &Row<'_>, ops: &Ops) -> Verdict
     ensures suits { result ≡ Verdict.Fine → AllSuit (⟦<Ops as Listing>⟧.operations ops.now) row.now }
     ensures computed { result ≡ verdict (⟦<Ops as Listing>⟧.operations ops.now) birth.now.topology row.now }
 {
-    prove!(match birth.topology() {
-        None => true,
-        Some(topology) => topology.size() <= 64,
-    });
     first_fault(birth, row, ops)
 }
 
@@ -59,15 +39,15 @@ fn first_fault(birth: &Birth, row: &Row<'_>, ops: &Ops) -> Verdict
 {
     let questions = [
         RowQuestion::Fit,
-        RowQuestion::Kind,
-        RowQuestion::Mode,
-        RowQuestion::Root,
-        RowQuestion::Op,
-        RowQuestion::ItemType,
-        RowQuestion::Amount,
-        RowQuestion::Weights,
-        RowQuestion::Edges,
-        RowQuestion::Groups,
+        RowQuestion::Agree(FaultKind::Kind),
+        RowQuestion::Agree(FaultKind::Mode),
+        RowQuestion::Agree(FaultKind::Root),
+        RowQuestion::Agree(FaultKind::Op),
+        RowQuestion::Agree(FaultKind::ItemType),
+        RowQuestion::Agree(FaultKind::Amount),
+        RowQuestion::Agree(FaultKind::Weights),
+        RowQuestion::Agree(FaultKind::Edges),
+        RowQuestion::Agree(FaultKind::Groups),
     ];
     for question in questions {
         if let Some(rank) = least_rank(birth, row, question, ops) {
@@ -86,21 +66,13 @@ fn told_as(question: RowQuestion) -> FaultKind
 {
     match question {
         RowQuestion::Fit => FaultKind::Amount,
-        RowQuestion::Kind => FaultKind::Kind,
-        RowQuestion::Mode => FaultKind::Mode,
-        RowQuestion::Root => FaultKind::Root,
-        RowQuestion::Op => FaultKind::Op,
-        RowQuestion::ItemType => FaultKind::ItemType,
-        RowQuestion::Amount => FaultKind::Amount,
-        RowQuestion::Weights => FaultKind::Weights,
-        RowQuestion::Edges => FaultKind::Edges,
-        RowQuestion::Groups => FaultKind::Groups,
+        RowQuestion::Agree(what) => what,
     }
 }
 
 // The least rank of whose post the answer is yes.
 fn least_rank(birth: &Birth, row: &Row<'_>, question: RowQuestion, ops: &Ops) -> Option<u8>
-    ensures { result ≡ answer (⟦<Ops as Listing>⟧.operations ops.now) birth.now.topology question row.now }
+    ensures { result ≡ least_rank (faulty (⟦<Ops as Listing>⟧.operations ops.now) birth.now.topology question row.now) row.now }
 {
     if is_settled(row, question) {
         return None;
@@ -115,10 +87,10 @@ fn least_rank(birth: &Birth, row: &Row<'_>, question: RowQuestion, ops: &Ops) ->
 
 // Whether one look at each post tells that there is none.
 fn is_settled(row: &Row<'_>, question: RowQuestion) -> bool
-    ensures { result ≡ true → (question ≡ RowQuestion.Edges) × (least_rank (edges_differ row.now) row.now ≡ None) }
+    ensures { result ≡ true → (question ≡ RowQuestion.Agree FaultKind.Edges) × (least_rank (edges_differ row.now) row.now ≡ None) }
 {
     match question {
-        RowQuestion::Edges => names_no_neighbours(row),
+        RowQuestion::Agree(FaultKind::Edges) => names_no_neighbours(row),
         _ => false,
     }
 }
@@ -129,18 +101,29 @@ fn is_faulty(birth: &Birth, row: &Row<'_>, question: RowQuestion, rank: usize, o
     ensures { result ≡ faulty (⟦<Ops as Listing>⟧.operations ops.now) birth.now.topology question row.now rank (post_at row.now rank) }
 {
     let post = row.post(rank);
-    let first = row.post(0);
     match question {
         RowQuestion::Fit => !(fits(birth, row.len(), rank as u8, post) && suits(post, ops)),
-        RowQuestion::Kind => post.kind() != first.kind(),
-        RowQuestion::Mode => post.mode() != first.mode(),
-        RowQuestion::Root => post.root() != first.root(),
-        RowQuestion::Op => !have_same_op(post.op(), first.op()),
-        RowQuestion::ItemType => !same_types(post, first),
-        RowQuestion::Amount => amounts_differ(birth, row, first.kind(), rank),
-        RowQuestion::Weights => post.weighted() != first.weighted(),
-        RowQuestion::Edges => edges_differ(row, rank),
-        RowQuestion::Groups => groups_differ(row, post),
+        RowQuestion::Agree(what) => differs_in(birth, row, what, rank),
+    }
+}
+
+// Whether the post of this rank differs in this.
+fn differs_in(birth: &Birth, row: &Row<'_>, what: FaultKind, rank: usize) -> bool
+    requires { rank < length row.now }
+    ensures { result ≡ differs_in what birth.now.topology row.now rank (post_at row.now rank) }
+{
+    let post = row.post(rank);
+    let first = row.post(0);
+    match what {
+        FaultKind::Kind => post.kind() != first.kind(),
+        FaultKind::Mode => post.mode() != first.mode(),
+        FaultKind::Root => post.root() != first.root(),
+        FaultKind::Op => !have_same_op(post.op(), first.op()),
+        FaultKind::ItemType => !same_types(post, first),
+        FaultKind::Amount => amounts_differ(birth, row, first.kind(), rank),
+        FaultKind::Weights => post.weighted() != first.weighted(),
+        FaultKind::Edges => edges_differ(row, rank),
+        FaultKind::Groups => groups_differ(row, post),
     }
 }
 

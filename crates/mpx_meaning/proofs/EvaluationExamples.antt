@@ -9,6 +9,8 @@ use Rattle.mpx_kind.specs.declared.kinds.Kind.{Kind}
 use Rattle.mpx_kind.specs.declared.kinds.Kind.TheVariants as K
 use Rattle.mpx_kind.specs.declared.kinds.Call.TheVariants as C
 use Rattle.mpx_kind.specs.declared.kinds.Exchange.TheVariants as E
+use Rattle.mpx_kind.specs.declared.kinds.Reduction.TheVariants as R
+use Rattle.mpx_kind.specs.declared.kinds.NewCommunicator.TheVariants as N
 use Rattle.mpx_kind.specs.declared.kinds.Mode.TheVariants.{Nonblocking}
 use Rattle.mpx_group.specs.declared.ranks.Rank.TheVariants.{At, ProcNull, Undefined}
 use Rattle.mpx_name.specs.declared.steps.Step.TheVariants.{Child, Gathering}
@@ -19,8 +21,6 @@ use Rattle.mpx_kind.specs.Kinds.{blocking}
 use Rattle.mpx_match.specs.declared.faults.FaultKind.{FaultKind}
 use Rattle.mpx_match.specs.declared.faults.FaultKind.TheVariants as F
 use Rattle.mpx_match.specs.Verdicts.{verdict}
-use Rattle.mpx_fold.specs.Folds.{fold_value}
-use Rattle.mpx_move.specs.Moves.{move_value}
 use Rattle.mpx_value.specs.declared.outcomes.Outcome.TheVariants as O
 use Rattle.mpx_graph.specs.Graphs.{general}
 use Rattle.mpx_value.specs.Children.{children}
@@ -40,14 +40,14 @@ abbrev call : Kind → (root : ℤ) → (rcounts items : List ℤ) → Statement
 call kind root rcounts items = Post (Call (codes "world") (record { call = blocking kind; root = root; op = Sum; ty = I64; scounts = []; rcounts = rcounts; items = items; colour = None; key = pos 0; group = []; graph = None }))
 
 abbrev sum : List ℤ → Statement
-sum items = call K.Allreduce (pos 0) [] items
+sum items = call (K.Reduction R.Allreduce) (pos 0) [] items
 
 abbrev barrier : Statement
-barrier = call K.Barrier (pos 0) [] []
+barrier = call (K.Exchange E.Barrier) (pos 0) [] []
 
 -- a graph of the world, for `loop`, with an edge from rank 0 to itself
 abbrev loop : Statement
-loop = Post (New (codes "world") (record { call = blocking K.DistGraph; root = pos 0; op = Sum; ty = I64; scounts = []; rcounts = []; items = []; colour = None; key = pos 0; group = []; graph = Some (record { weighted = true; edges = record { source = pos 0; destination = pos 0; weight = pos 5 } ∷ []; sources = []; destinations = [] }) }) (codes "loop"))
+loop = Post (New (codes "world") (record { call = blocking (K.NewCommunicator N.DistGraph); root = pos 0; op = Sum; ty = I64; scounts = []; rcounts = []; items = []; colour = None; key = pos 0; group = []; graph = Some (record { weighted = true; edges = record { source = pos 0; destination = pos 0; weight = pos 5 } ∷ []; sources = []; destinations = [] }) }) (codes "loop"))
 
 -- a nonblocking one of one number from rank 0
 abbrev ibcast : (items : List ℤ) → (request : List ℕ) → Statement
@@ -55,7 +55,7 @@ ibcast items request = Post (Start (codes "world") (record { call = C.Exchange E
 
 -- a copy of the world, for `copy`
 abbrev copy : Statement
-copy = Post (New (codes "world") (record { call = blocking K.Dup; root = pos 0; op = Sum; ty = I64; scounts = []; rcounts = []; items = []; colour = None; key = pos 0; group = []; graph = None }) (codes "copy"))
+copy = Post (New (codes "world") (record { call = blocking (K.NewCommunicator N.Dup); root = pos 0; op = Sum; ty = I64; scounts = []; rcounts = []; items = []; colour = None; key = pos 0; group = []; graph = None }) (codes "copy"))
 
 -- the end of a communicator
 abbrev free : (on : List ℕ) → Statement
@@ -99,13 +99,13 @@ record Examples : Type 0 where
   refused : lines_after (0 ∷ 0 ∷ 1 ∷ 0 ∷ 1 ∷ []) (sum (pos (2 ^ 63) ∷ []) ∷ sum (pos 1 ∷ []) ∷ []) (sum (pos 2 ∷ []) ∷ [])
       ≡ (Refused ItemOutOfRange ∷ tells_items 0 (pos 3 ∷ []) ∷ []) ∷ (tells_items 0 (pos 3 ∷ []) ∷ []) ∷ []
   -- a barrier gives nothing, and the last rank of a scan that leaves out its own items gets those of the first
-  nothing : lines_after (0 ∷ 1 ∷ 0 ∷ 1 ∷ 0 ∷ 1 ∷ 0 ∷ 1 ∷ []) (barrier ∷ call K.Exscan (pos 0) [] (pos 7 ∷ []) ∷ []) (barrier ∷ call K.Exscan (pos 0) [] (pos 8 ∷ []) ∷ [])
+  nothing : lines_after (0 ∷ 1 ∷ 0 ∷ 1 ∷ 0 ∷ 1 ∷ 0 ∷ 1 ∷ []) (barrier ∷ call (K.Reduction R.Exscan) (pos 0) [] (pos 7 ∷ []) ∷ []) (barrier ∷ call (K.Reduction R.Exscan) (pos 0) [] (pos 8 ∷ []) ∷ [])
       ≡ (Told [] 0 O.Nothing ∷ Told [] 1 O.Absent ∷ []) ∷ (Told [] 0 O.Nothing ∷ tells_items 1 (pos 7 ∷ []) ∷ []) ∷ []
   -- all get what the root gives, and rank 2 isn't one of two
-  roots : lines_after (0 ∷ 0 ∷ 1 ∷ 0 ∷ 1 ∷ []) (call K.Bcast (pos 2) (pos 1 ∷ []) [] ∷ call K.Bcast (pos 1) (pos 2 ∷ []) [] ∷ []) (call K.Bcast (pos 1) (pos 2 ∷ []) (pos 4 ∷ pos 5 ∷ []) ∷ [])
+  roots : lines_after (0 ∷ 0 ∷ 1 ∷ 0 ∷ 1 ∷ []) (call (K.Exchange E.Bcast) (pos 2) (pos 1 ∷ []) [] ∷ call (K.Exchange E.Bcast) (pos 1) (pos 2 ∷ []) [] ∷ []) (call (K.Exchange E.Bcast) (pos 1) (pos 2 ∷ []) (pos 4 ∷ pos 5 ∷ []) ∷ [])
       ≡ (Refused RootOutOfRange ∷ tells_items 0 (pos 4 ∷ pos 5 ∷ []) ∷ []) ∷ (tells_items 0 (pos 4 ∷ pos 5 ∷ []) ∷ []) ∷ []
   -- each gets its own row of blocks
-  blocks : lines_after (0 ∷ 1 ∷ 0 ∷ 1 ∷ []) (call K.Alltoall (pos 0) (pos 1 ∷ []) (pos 1 ∷ pos 2 ∷ []) ∷ []) (call K.Alltoall (pos 0) (pos 1 ∷ []) (pos 3 ∷ pos 4 ∷ []) ∷ [])
+  blocks : lines_after (0 ∷ 1 ∷ 0 ∷ 1 ∷ []) (call (K.Exchange E.Alltoall) (pos 0) (pos 1 ∷ []) (pos 1 ∷ pos 2 ∷ []) ∷ []) (call (K.Exchange E.Alltoall) (pos 0) (pos 1 ∷ []) (pos 3 ∷ pos 4 ∷ []) ∷ [])
       ≡ (tells_items 0 (pos 1 ∷ pos 3 ∷ []) ∷ []) ∷ (tells_items 0 (pos 2 ∷ pos 4 ∷ []) ∷ []) ∷ []
   -- a barrier and a sum don't match
   kinds : lines_after (0 ∷ 1 ∷ 1 ∷ 0 ∷ []) (barrier ∷ []) (sum [] ∷ []) ≡ (tells_fault 0 F.Kind 1 ∷ []) ∷ (tells_fault 0 F.Kind 1 ∷ []) ∷ []
@@ -138,7 +138,7 @@ record Examples : Type 0 where
   ranks : line_text (Translated (At 0 ∷ Undefined ∷ At 1 ∷ ProcNull ∷ [])) ≡ codes "0 undefined 1 null"
 
 examples : Examples
-unfolding lines_after lines_alone lines_of_first children general checked gathering digits value verdict fold_value move_value elementwise predefined combined into_range
+unfolding lines_after lines_alone lines_of_first children general checked gathering digits value verdict elementwise predefined combined into_range
 examples = record {
   sums = refl;
   alone = refl;

@@ -22,7 +22,7 @@ use Rattle.mpx_post.specs.Drafts.{at, checked}
 use Rattle.mpx_post.specs.Gatherings.{GatheringView, gathering}
 use Rattle.mpx_post.specs.Rows.{all_of}
 use Rattle.mpx_value.specs.declared.outcomes.Outcome.{Outcome}
-use Rattle.mpx_value.specs.declared.outcomes.Outcome.TheVariants.{Nothing, Absent, Items, NewComm, Null, Fault}
+use Rattle.mpx_value.specs.declared.outcomes.Outcome.TheVariants.{NewComm}
 use Rattle.mpx_value.specs.Histories.{Made, has_freed, posts_on, Answer, Results}
 use Rattle.mpx_statement.specs.declared.statement.Posting.{Posting}
 use Rattle.mpx_statement.specs.declared.statement.Side.{Side}
@@ -135,9 +135,8 @@ module _ (ops : List Operation) where
 
   -- what a statement that posts comes to on what its word is bound to: a post, or why there is none
   abbrev pub attempt_on : (me : ℕ) → List Made → Posting → Option Bound → Result Made PostError
-  attempt_on me made posting None = Err NotMember
-  attempt_on me made posting (Some NullCommunicator) = Err NotMember
   attempt_on me made posting (Some (Communicator name birth)) = attempt_in me made (draft_of posting) (gathers_of posting) name birth
+  attempt_on me made posting bound = Err NotMember
 
   -- what such a statement of a rank comes to, with these bindings and after these posts
   abbrev pub attempt : (me : ℕ) → Bindings → List Made → Posting → Result Made PostError
@@ -160,9 +159,8 @@ told_to side birth (Some rank) = told_by side birth.topology rank
 
 -- a communicator, where a word is bound to one: its name, and how it came to be
 abbrev pub communicator_of : Option Bound → Option (Name × BirthView)
-communicator_of None = None
-communicator_of (Some NullCommunicator) = None
 communicator_of (Some (Communicator name birth)) = Some (name, birth)
+communicator_of bound = None
 
 -- what a word stands for that is asked about, by whether the rank has posted a free there, and by what is known of its communicator
 
@@ -175,9 +173,8 @@ found_as freed known = cond freed W.Freed (open_or_null known)
 
 -- what it stands for by what it is bound to, after these posts
 abbrev pub found_of : List Made → Option Bound → Found (Name × BirthView)
-found_of made None = W.Null
-found_of made (Some NullCommunicator) = W.Null
-found_of made (Some (Communicator name birth)) = found_as (has_freed name made) (Some (name, birth))
+found_of made (Some (Communicator name birth)) = cond (has_freed name made) W.Freed (W.Open (name, birth))
+found_of made bound = W.Null
 
 -- the same of something else that is known of it
 abbrev pub found_map : {A B : Type 0} → (A → B) → Found A → Found B
@@ -193,20 +190,14 @@ line_of tell (W.Open c) = tell c
 
 -- of two: one is none, or else one is freed
 abbrev pub line_of_two : {A : Type 0} → (A → A → Line) → (first second : Found A) → Line
-line_of_two tell W.Null second = Refused NotMember
-line_of_two tell W.Freed W.Null = Refused NotMember
-line_of_two tell W.Freed W.Freed = Refused Closed
-line_of_two tell W.Freed (W.Open d) = Refused Closed
-line_of_two tell (W.Open c) W.Null = Refused NotMember
-line_of_two tell (W.Open c) W.Freed = Refused Closed
 line_of_two tell (W.Open c) (W.Open d) = tell c d
+line_of_two tell W.Null second = Refused NotMember
+line_of_two tell first W.Null = Refused NotMember
+line_of_two tell first second = Refused Closed
 
 -- the line of a rank's neighbours in a communicator
 abbrev pub neighbours_in : (me : ℕ) → Side → Name × BirthView → Line
 neighbours_in me side c = told_to side c.1 (rank_in me c.1.members)
-
-abbrev pub neighbours_told : (me : ℕ) → Side → Found (Name × BirthView) → Line
-neighbours_told me side found = line_of (neighbours_in me side) found
 
 -- how two communicators compare: by their contexts, then by their groups (MPI 4.1, section 7.4.1)
 abbrev pub relation_of : (same_context : Bool) → Comparison → Relation
@@ -217,9 +208,6 @@ relation_of false G.Unequal = Unequal
 
 abbrev pub comparison_in : (first second : Name × BirthView) → Line
 comparison_in c d = Compared (relation_of (same_name c.0 d.0) (comparison_of c.1.members d.1.members))
-
-abbrev pub comparison_told : (first second : Found (Name × BirthView)) → Line
-comparison_told first second = line_of_two comparison_in first second
 
 -- a rank of a communicator of this size, or none
 abbrev pub rank_asked : (size : ℕ) → Option ℤ → Option Rank
@@ -234,14 +222,11 @@ translated_told from to (Some ranks) = Translated (map (translated from to) rank
 abbrev pub translation_in : List (Option ℤ) → (from to : Name × BirthView) → Line
 translation_in ranks from to = translated_told from.1.members to.1.members (all_of (rank_asked (length from.1.members)) ranks)
 
-abbrev pub translation_told : List (Option ℤ) → (from to : Found (Name × BirthView)) → Line
-translation_told ranks from to = line_of_two (translation_in ranks) from to
-
 -- the line that answers a question, where words stand for this
 abbrev pub answered_by : (me : ℕ) → (List ℕ → Found (Name × BirthView)) → Question → Line
-answered_by me found (Neighbours on side) = neighbours_told me side (found on)
-answered_by me found (Compare first second) = comparison_told (found first) (found second)
-answered_by me found (Translate from to ranks) = translation_told ranks (found from) (found to)
+answered_by me found (Neighbours on side) = line_of (neighbours_in me side) (found on)
+answered_by me found (Compare first second) = line_of_two comparison_in (found first) (found second)
+answered_by me found (Translate from to ranks) = line_of_two (translation_in ranks) (found from) (found to)
 
 -- what a statement that asks prints at a rank with these bindings, after these posts
 abbrev pub answered : (me : ℕ) → Bindings → List Made → Question → Line
@@ -283,12 +268,7 @@ waited_lines requests (word ∷ words) answers = line_then (named requests word)
 -- the communicator that a call gave, the null communicator where it gave none
 abbrev pub bound_by : Outcome → Option BirthView → Bound
 bound_by (NewComm name size rank) (Some birth) = Communicator name birth
-bound_by (NewComm name size rank) None = NullCommunicator
-bound_by Nothing born = NullCommunicator
-bound_by Absent born = NullCommunicator
-bound_by (Items items) born = NullCommunicator
-bound_by Null born = NullCommunicator
-bound_by (Fault fault) born = NullCommunicator
+bound_by outcome born = NullCommunicator
 
 -- the word, where there is one, is bound to this
 abbrev pub bind : Option (List ℕ) → Bound → Bindings → Bindings

@@ -5,7 +5,7 @@ ghost use Rattle.mpx_group.specs.Group.{comparison_of};
 ghost use Rattle.mpx_name.specs.Name.{same_name};
 ghost use Rattle.mpx_birth.specs.Births.{rank_in};
 ghost use Rattle.mpx_post.specs.Rows.{all_of};
-ghost use Rattle.mpx_meaning.specs.Ranks.{Compared, comparison_told, found_map, neighbours_at, neighbours_told, rank_asked, relation_of, told_to, translated_told, translation_told};
+ghost use Rattle.mpx_meaning.specs.Ranks.{Compared, comparison_in, found_map, line_of, line_of_two, neighbours_at, neighbours_in, rank_asked, relation_of, told_to, translated_told, translation_in};
 ghost use Rattle.mpx_meaning.specs.Transcripts.{line_text};
 
 use crate::transcript::{
@@ -53,7 +53,7 @@ pub fn neighbours_answer(
     side: Side,
     communicator: Found<(&Name, &Birth)>,
 ) -> Result<String, OutOfMemory>
-    ensures { IfOk result (λ text. string_bytes text ≡ line_text (neighbours_told me side (found_map (λ c. (c.0.now, c.1.now)) communicator.entry))) }
+    ensures { IfOk result (λ text. string_bytes text ≡ line_text (line_of (neighbours_in me side) (found_map (λ c. (c.0.now, c.1.now)) communicator.entry))) }
 {
     match communicator {
         Found::Null => refused_line(alloc, PostError::NotMember),
@@ -94,7 +94,7 @@ pub fn comparison_answer(
     second: Found<(&Name, &Birth)>,
 ) -> Result<String, OutOfMemory>
     ensures { IfOk result (λ text. string_bytes text
-        ≡ line_text (comparison_told (found_map (λ c. (c.0.now, c.1.now)) first.entry) (found_map (λ c. (c.0.now, c.1.now)) second.entry))) }
+        ≡ line_text (line_of_two comparison_in (found_map (λ c. (c.0.now, c.1.now)) first.entry) (found_map (λ c. (c.0.now, c.1.now)) second.entry))) }
 {
     match first {
         Found::Null => refused_line(alloc, PostError::NotMember),
@@ -154,7 +154,7 @@ pub fn translation_answer(
     to: Found<(&Name, &Birth)>,
 ) -> Result<String, OutOfMemory>
     ensures { IfOk result (λ text. string_bytes text
-        ≡ line_text (translation_told ranks.now (found_map (λ c. (c.0.now, c.1.now)) from.entry) (found_map (λ c. (c.0.now, c.1.now)) to.entry))) }
+        ≡ line_text (line_of_two (translation_in ranks.now) (found_map (λ c. (c.0.now, c.1.now)) from.entry) (found_map (λ c. (c.0.now, c.1.now)) to.entry))) }
 {
     match from {
         Found::Null => refused_line(alloc, PostError::NotMember),

@@ -3,16 +3,16 @@ use Rattle.std.proofs.Common.{◌≡◌, ℕ, ◌*◌, ◌<◌, Bool, true, fals
 use Rattle.mpx_num.specs.declared.types.Ty.{Ty}
 use Rattle.mpx_num.specs.Types.{item_len}
 use Rattle.mpx_kind.specs.declared.kinds.Kind.{Kind}
-use Rattle.mpx_kind.specs.declared.kinds.Kind.TheVariants.{Scatter, Scatterv, Alltoall, Alltoallv}
+use Rattle.mpx_kind.specs.declared.kinds.Kind.TheVariants as K
+use Rattle.mpx_kind.specs.declared.kinds.Exchange.TheVariants as E
 use Rattle.mpx_kind.specs.Kinds.{fields_of, is_had}
 use Rattle.mpx_post.specs.Posts.{Given, type_of, numbers_of}
 use Rattle.mpx_post.specs.Blocks.{IsBlock, block_at, blocks_sent, part, repeated}
 use Rattle.mpx_post.specs.Rows.{RowView}
 use Rattle.mpx_birth.specs.Topologies.{TopologyView}
-use Rattle.mpx_post.specs.Agreement.{count_at, fill, is_fit, is_root, post_at, seat_of, IsFine}
+use Rattle.mpx_post.specs.Agreement.{count_at, counts_sent, fill, is_fit, is_root, post_at, seat_of, IsFine}
 use Rattle.mpx_post.proofs.Blocks.{block_at-part, block_at-repeated, block_within, count_alone, filled_as, length-repeated, rcounts_as, repeated_within}
 use Rattle.mpx_post.specs.declared.block.Block.{Block}
-use Rattle.mpx_move.specs.Moves.{counts_sent}
 use Rattle.mpx_move.specs.Senders.{IsSender, sends_blocks}
 
 -- the blocks' numbers of items, by the kind
@@ -48,32 +48,32 @@ by_root false size counts l each = absurd (omega arith)
 
 module _ (topology : Option TopologyView) (given : Given) (size sender : ℕ) (fit : is_fit topology size sender given ≡ true) where
   one_count : (kind : Kind) → given.kind ≡ kind → sends_blocks kind ≡ true → is_had (fields_of kind).scounts ≡ false → length given.rcounts ≡ 1
-  one_count Scatter is sends had = rcounts_as topology Scatter size sender given is fit
-  one_count Alltoall is sends had = rcounts_as topology Alltoall size sender given is fit
-  one_count Scatterv is sends had = cc had
-  one_count Alltoallv is sends had = cc had
+  one_count (K.Exchange E.Scatter) is sends had = rcounts_as topology (K.Exchange E.Scatter) size sender given is fit
+  one_count (K.Exchange E.Alltoall) is sends had = rcounts_as topology (K.Exchange E.Alltoall) size sender given is fit
+  one_count (K.Exchange E.Scatterv) is sends had = cc had
+  one_count (K.Exchange E.Alltoallv) is sends had = cc had
   one_count kind is sends had = cc sends
 
   sent_scounts : (kind : Kind) → 0 < size → sends_blocks kind ≡ true → is_had (fields_of kind).scounts ≡ true → length (sent_as kind size sender given) ≡ size → sent_as kind size sender given ≡ given.scounts
-  sent_scounts Scatterv l sends had each = by_root (is_root sender given) size given.scounts l each
-  sent_scounts Alltoallv l sends had each = by_root true size given.scounts l each
-  sent_scounts Scatter l sends had each = cc had
-  sent_scounts Alltoall l sends had each = cc had
+  sent_scounts (K.Exchange E.Scatterv) l sends had each = by_root (is_root sender given) size given.scounts l each
+  sent_scounts (K.Exchange E.Alltoallv) l sends had each = by_root true size given.scounts l each
+  sent_scounts (K.Exchange E.Scatter) l sends had each = cc had
+  sent_scounts (K.Exchange E.Alltoall) l sends had each = cc had
   sent_scounts kind l sends had each = cc sends
 
   module _ (receiver first count : ℕ) (l : receiver < size) where
     equal_block : (kind : Kind) → given.kind ≡ kind → sends_blocks kind ≡ true → is_had (fields_of kind).scounts ≡ false → length (sent_as kind size sender given) ≡ size → first ≡ receiver * count → count ≡ count_at given.rcounts 0 → IsBlock (type_of given) (sent_as kind size sender given) receiver (length (numbers_of given)) (record { first = first; count = count })
-    equal_block Scatter is sends had each f e = by_one given size receiver _ first count l (one_count Scatter is sends had) each (filled_as topology Scatter size sender given is fit) f e
-    equal_block Alltoall is sends had each f e = by_one given size receiver _ first count l (one_count Alltoall is sends had) each (filled_as topology Alltoall size sender given is fit) f e
-    equal_block Scatterv is sends had each f e = cc had
-    equal_block Alltoallv is sends had each f e = cc had
+    equal_block (K.Exchange E.Scatter) is sends had each f e = by_one given size receiver _ first count l (one_count (K.Exchange E.Scatter) is sends had) each (filled_as topology (K.Exchange E.Scatter) size sender given is fit) f e
+    equal_block (K.Exchange E.Alltoall) is sends had each f e = by_one given size receiver _ first count l (one_count (K.Exchange E.Alltoall) is sends had) each (filled_as topology (K.Exchange E.Alltoall) size sender given is fit) f e
+    equal_block (K.Exchange E.Scatterv) is sends had each f e = cc had
+    equal_block (K.Exchange E.Alltoallv) is sends had each f e = cc had
     equal_block kind is sends had each f e = cc sends
 
     counted_block : (kind : Kind) → given.kind ≡ kind → sends_blocks kind ≡ true → is_had (fields_of kind).scounts ≡ true → length (sent_as kind size sender given) ≡ size → first ≡ sum (take receiver given.scounts) → count ≡ count_at given.scounts receiver → IsBlock (type_of given) (sent_as kind size sender given) receiver (length (numbers_of given)) (record { first = first; count = count })
-    counted_block Scatterv is sends had each f e = by_each given size receiver _ first count l (sent_scounts Scatterv (omega arith) sends had each) each (filled_as topology Scatterv size sender given is fit) f e
-    counted_block Alltoallv is sends had each f e = by_each given size receiver _ first count l (sent_scounts Alltoallv (omega arith) sends had each) each (filled_as topology Alltoallv size sender given is fit) f e
-    counted_block Scatter is sends had each f e = cc had
-    counted_block Alltoall is sends had each f e = cc had
+    counted_block (K.Exchange E.Scatterv) is sends had each f e = by_each given size receiver _ first count l (sent_scounts (K.Exchange E.Scatterv) (omega arith) sends had each) each (filled_as topology (K.Exchange E.Scatterv) size sender given is fit) f e
+    counted_block (K.Exchange E.Alltoallv) is sends had each f e = by_each given size receiver _ first count l (sent_scounts (K.Exchange E.Alltoallv) (omega arith) sends had each) each (filled_as topology (K.Exchange E.Alltoallv) size sender given is fit) f e
+    counted_block (K.Exchange E.Scatter) is sends had each f e = cc had
+    counted_block (K.Exchange E.Alltoall) is sends had each f e = cc had
     counted_block kind is sends had each f e = cc sends
 
 -- what is in a block, by the type and the numbers of the items
@@ -91,8 +91,8 @@ module _ (row : RowView) (sender : ℕ) (fine : IsFine row) (l : sender < length
   each_sent had = ap length (sym (sent_scounts fine.topology (post_at row sender) (length row) sender (fine.with.each sender l).fit (post_at row sender).kind (omega arith) of_kind had sends.each)) ∙ sends.each
 
   module _ (receiver first count : ℕ) (r : receiver < length row) where
-    pub equal_place : is_had (fields_of (post_at row sender).kind).scounts ≡ false → first ≡ receiver * count → count ≡ count_at (post_at row sender).rcounts 0 → IsBlock (type_of (post_at row sender)) (counts_sent row sender) receiver (length (numbers_of (post_at row sender))) (record { first = first; count = count })
+    pub equal_place : is_had (fields_of (post_at row sender).kind).scounts ≡ false → first ≡ receiver * count → count ≡ count_at (post_at row sender).rcounts 0 → IsBlock (type_of (post_at row sender)) (counts_sent None row sender) receiver (length (numbers_of (post_at row sender))) (record { first = first; count = count })
     equal_place had f e = equal_block fine.topology (post_at row sender) (length row) sender (fine.with.each sender l).fit receiver first count r (post_at row sender).kind refl of_kind had sends.each f e
 
-    pub counted_place : is_had (fields_of (post_at row sender).kind).scounts ≡ true → first ≡ sum (take receiver (post_at row sender).scounts) → count ≡ count_at (post_at row sender).scounts receiver → IsBlock (type_of (post_at row sender)) (counts_sent row sender) receiver (length (numbers_of (post_at row sender))) (record { first = first; count = count })
+    pub counted_place : is_had (fields_of (post_at row sender).kind).scounts ≡ true → first ≡ sum (take receiver (post_at row sender).scounts) → count ≡ count_at (post_at row sender).scounts receiver → IsBlock (type_of (post_at row sender)) (counts_sent None row sender) receiver (length (numbers_of (post_at row sender))) (record { first = first; count = count })
     counted_place had f e = counted_block fine.topology (post_at row sender) (length row) sender (fine.with.each sender l).fit receiver first count r (post_at row sender).kind refl of_kind had sends.each f e

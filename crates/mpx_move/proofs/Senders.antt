@@ -3,7 +3,8 @@ use Rattle.std.proofs.Common.{◌≡◌, ℕ, ◌<◌, Bool, true, false, Option
 use Rattle.std.specs.Option.{option_map_or}
 use Rattle.std.specs.Prelude.{◌==◌}
 use Rattle.mpx_kind.specs.declared.kinds.Kind.{Kind}
-use Rattle.mpx_kind.specs.declared.kinds.Kind.TheVariants.{Scatter, Scatterv, Alltoall, Alltoallv}
+use Rattle.mpx_kind.specs.declared.kinds.Kind.TheVariants as K
+use Rattle.mpx_kind.specs.declared.kinds.Exchange.TheVariants as E
 use Rattle.mpx_kind.specs.Kinds.{fields_of}
 use Rattle.mpx_post.specs.Posts.{Given}
 use Rattle.mpx_post.specs.Rows.{RowView}
@@ -19,13 +20,13 @@ cond_size root size is = rw is refl
 
 module _ (topology : Option TopologyView) (given : Given) (size sender : ℕ) (fit : is_fit topology size sender given ≡ true) where
   sends_each : (kind : Kind) → given.kind ≡ kind → sends_blocks kind ≡ true → ((fields_of kind).root ≡ true → is_root sender given ≡ true) → length (sent_as kind size sender given) ≡ size
-  sends_each Scatter is sends rooted = length-alone _ given.rcounts (rcounts_as topology Scatter size sender given is fit) ∙ cond_size (is_root sender given) size (rooted refl)
-  sends_each Scatterv is sends rooted =
+  sends_each (K.Exchange E.Scatter) is sends rooted = length-alone _ given.rcounts (rcounts_as topology (K.Exchange E.Scatter) size sender given is fit) ∙ cond_size (is_root sender given) size (rooted refl)
+  sends_each (K.Exchange E.Scatterv) is sends rooted =
       let root = rooted refl in
       let all : repeated (cond (is_root sender given) 1 0) given.scounts ≡ given.scounts = rw root (append-nil given.scounts) in
-      ap length all ∙ scounts_as topology Scatterv size sender given is fit ∙ cond_size (is_root sender given) size root
-  sends_each Alltoall is sends rooted = length-alone size given.rcounts (rcounts_as topology Alltoall size sender given is fit)
-  sends_each Alltoallv is sends rooted = ap length (append-nil given.scounts) ∙ scounts_as topology Alltoallv size sender given is fit
+      ap length all ∙ scounts_as topology (K.Exchange E.Scatterv) size sender given is fit ∙ cond_size (is_root sender given) size root
+  sends_each (K.Exchange E.Alltoall) is sends rooted = length-alone size given.rcounts (rcounts_as topology (K.Exchange E.Alltoall) size sender given is fit)
+  sends_each (K.Exchange E.Alltoallv) is sends rooted = ap length (append-nil given.scounts) ∙ scounts_as topology (K.Exchange E.Alltoallv) size sender given is fit
   sends_each kind is sends rooted = cc sends
 
 pub is_sender : (row : RowView) (sender : ℕ) → IsFine row → sender < length row → sends_blocks (first_of row).kind ≡ true → ((fields_of (first_of row).kind).root ≡ true → (first_of row).root ≡ Some sender) → IsSender row sender

@@ -1,15 +1,15 @@
 //! What exchanges give each member.
-ghost use Rattle.std.specs.Prelude.{◌≡◌, ◌<◌, ◌≤◌, ◌++◌, IfOk, OnOk, Some, ℕ, length, true};
-ghost use Rattle.mpx_post.specs.Agreement.{IsFine, count_at, first_of, post_at};
-ghost use Rattle.mpx_kind.specs.Kinds.{exchange_kind, fields_of};
+ghost use Rattle.std.specs.Prelude.{◌≡◌, ◌<◌, ◌≤◌, ◌++◌, IfOk, OnOk, Some, None, ℕ, length, true};
+ghost use Rattle.mpx_post.specs.Agreement.{IsFine, count_at, counts_sent, first_of, post_at};
+ghost use Rattle.mpx_kind.specs.Kinds.{fields_of};
 ghost use Rattle.mpx_post.specs.Posts.{most_items, numbers_of, type_of};
 ghost use Rattle.mpx_post.specs.Blocks.{IsBlock};
 ghost use Rattle.mpx_post.specs.Values.{GivesValue, as_items};
-ghost use Rattle.mpx_move.specs.Moves.{block_for, blocks_for, counts_sent, joined, move_of, move_value};
+ghost use Rattle.mpx_move.specs.Moves.{block_for, blocks_for, joined, move_of, move_value};
 ghost use Rattle.mpx_move.specs.Senders.{IsSender};
 
 use join_core::OutOfMemory;
-use mpx_kind::{Exchange, Family};
+use mpx_kind::{Exchange, Kind};
 use mpx_num::Items;
 use mpx_post::{Block, Post, Row, Value};
 use std::alloc::Global;
@@ -19,10 +19,10 @@ use std::alloc::Global;
 pub fn move_value(alloc: Global, row: &Row<'_>, rank: u8) -> Result<Value, OutOfMemory>
     requires fine { IsFine row.now }
     requires rank { rank < length row.now }
-    ensures { GivesValue (move_value row.now rank) result }
+    ensures { GivesValue (move_value (first_of row.now).kind row.now rank) result }
 {
-    match row.family() {
-        Family::Exchange(exchange) => value_of(alloc, row, exchange, rank),
+    match row.kind() {
+        Kind::Exchange(exchange) => value_of(alloc, row, exchange, rank),
         _ => Ok(Value::Nothing),
     }
 }
@@ -35,7 +35,7 @@ fn value_of(
     rank: u8,
 ) -> Result<Value, OutOfMemory>
     requires fine { IsFine row.now }
-    requires kind { (first_of row.now).kind ≡ exchange_kind exchange }
+    requires kind { (first_of row.now).kind ≡ Kind.Exchange exchange }
     requires rank { rank < length row.now }
     ensures { GivesValue (move_of exchange row.now rank) result }
 {
@@ -131,7 +131,7 @@ fn block_of(row: &Row<'_>, sender: usize, receiver: u8) -> Block
     requires sender { sender < length row.now }
     requires sends { IsSender row.now sender }
     requires receiver { receiver < length row.now }
-    ensures { IsBlock (type_of (post_at row.now sender)) (counts_sent row.now sender) receiver (length (numbers_of (post_at row.now sender))) result }
+    ensures { IsBlock (type_of (post_at row.now sender)) (counts_sent None row.now sender) receiver (length (numbers_of (post_at row.now sender))) result }
 {
     let post = row.post(sender);
     let place = usize::from(receiver);

@@ -2,7 +2,6 @@
 ghost use Rattle.std.specs.Prelude.{◌≡◌};
 ghost use Rattle.mpx_name.specs.declared.errors.NameError.TheVariants.{OutOfMemory};
 
-use std::alloc::{AllocError, AllocFailed};
 use thiserror::Error;
 
 /// Why a name was not made. Of two reasons the first in this order is told.
@@ -13,22 +12,6 @@ pub enum NameError {
     DepthUsedUp,
     #[error("out of memory")]
     OutOfMemory,
-}
-
-impl From<AllocError> for NameError {
-    ghost from_gives = { λ _ e. e ≡ OutOfMemory };
-
-    fn from(_e: AllocError) -> NameError {
-        NameError::OutOfMemory
-    }
-}
-
-impl<T: Drop> From<AllocFailed<T>> for NameError {
-    ghost from_gives = { λ _ e. e ≡ OutOfMemory };
-
-    fn from(_e: AllocFailed<T>) -> NameError {
-        NameError::OutOfMemory
-    }
 }
 
 impl From<join_core::OutOfMemory> for NameError {

@@ -8,6 +8,7 @@ ghost use Rattle.join_core.specs.Laws.{never_between, never_joined};
 ghost use Rattle.mpx_name.specs.declared.steps.Step.{Step};
 ghost use Rattle.mpx_name.specs.declared.steps.Step.TheVariants.{Child, Gathering};
 ghost use Rattle.mpx_name.specs.Order.{name_cmp, name_total, name_exact, name_equality};
+ghost use Rattle.mpx_name.specs.Kept.{kept};
 ghost use Rattle.mpx_name.specs.Name.{IsStep, IsName, is_gathering, parent_of};
 
 use crate::{NameError, Step};
@@ -21,26 +22,35 @@ use std::marker::Model;
 const DEPTH: usize = 8;
 
 /// The steps that lead from the world to a context, kept oldest first; contracts see the newest first.
+/// One step is kept in place.
 #[derive(Debug, Drop)]
 pub struct Name {
-    steps: Vec<Step>,
+    steps: KeptSteps,
+}
+
+// How the steps are kept: of no or one step without memory of their own.
+#[derive(Debug, Drop)]
+enum KeptSteps {
+    None,
+    One([Step; 1]),
+    Many(Vec<Step>),
 }
 
 impl Model for Name {
     ghost Value = { List Step };
 
-    ghost view = { λ n. reverse n.steps.items };
+    ghost view = { λ n. reverse (kept n.steps) };
 
-    ghost invariant = { λ n. IsName n.steps.items };
+    ghost invariant = { λ n. IsName (kept n.steps) };
 }
 
 impl Name {
     /// The name of the communicator of all ranks.
-    pub fn world(alloc: Global) -> Self
+    pub fn world(_alloc: Global) -> Self
         ensures { result ≡ [] }
     {
         Name {
-            steps: Vec::new(alloc),
+            steps: KeptSteps::None,
         }
     }
 
@@ -49,7 +59,9 @@ impl Name {
         requires { IsName steps.items }
         ensures { result ≡ reverse steps.items }
     {
-        Name { steps }
+        Name {
+            steps: kept_steps(steps),
+        }
     }
 
     /// The communicator of this colour that the call with this number on this context makes.
@@ -82,10 +94,10 @@ impl Name {
         ensures parent { IfOk result (λ parent. parent ≡ parent_of self.now) }
         ensures memory { OnErr result (self.now ≢ []) }
     {
-        match self.steps.split_last() {
+        match self.steps().split_last() {
             None => Ok(None),
             Some((_, earlier)) => Ok(Some(Name {
-                steps: copied(alloc, earlier)?,
+                steps: kept_steps(copied(alloc, earlier)?),
             })),
         }
     }
@@ -95,14 +107,14 @@ impl Name {
         ensures depth { result ≡ length self.now }
         ensures name { IsName self.now }
     {
-        self.steps.len()
+        slice_of(&self.steps).len()
     }
 
     /// Whether its newest step is a gathering.
     pub fn is_gathering(&self) -> bool
         ensures { result ≡ is_gathering self.now }
     {
-        matches!(self.steps.last(), Some(Step::Gathering { .. }))
+        matches!(self.steps().last(), Some(Step::Gathering { .. }))
     }
 
     /// Step i from 0, the oldest first; none from the depth on.
@@ -110,7 +122,7 @@ impl Name {
         ensures step { option_copied result ≡ slice_get (reverse self.now) i }
         ensures fits { IfSome result (λ step. IsStep step.now) }
     {
-        self.steps.get(i)
+        self.steps().get(i)
     }
 
     /// The steps, the oldest first.
@@ -118,7 +130,7 @@ impl Name {
         ensures value { result.now ≡ reverse self.now }
         ensures name { IsName result.now }
     {
-        self.steps.as_slice()
+        slice_of(&self.steps)
     }
 
     fn room(&self) -> Result<(), NameError>
@@ -137,9 +149,39 @@ impl Name {
         requires fits { IsStep step }
         ensures { IfOk result (λ name. name ≡ step ∷ self.now) }
     {
-        let mut steps = copied(alloc, &self.steps)?;
+        if self.steps().is_empty() {
+            return Ok(Name {
+                steps: KeptSteps::One([step]),
+            });
+        }
+        let mut steps = copied(alloc, self.steps())?;
         steps.push(step)?;
-        Ok(Name { steps })
+        Ok(Name {
+            steps: KeptSteps::Many(steps),
+        })
+    }
+}
+
+fn slice_of(steps: &KeptSteps) -> &[Step]
+    ensures { result.now ≡ kept steps.now }
+{
+    match steps {
+        KeptSteps::None => &[],
+        KeptSteps::One(one) => one,
+        KeptSteps::Many(steps) => steps.as_slice(),
+    }
+}
+
+// The same steps; the vector of one step or none is let go.
+fn kept_steps(mut steps: Vec<Step>) -> KeptSteps
+    ensures { kept result ≡ steps.items }
+{
+    if steps.len() > 1 {
+        return KeptSteps::Many(steps);
+    }
+    match steps.pop() {
+        None => KeptSteps::None,
+        Some(step) => KeptSteps::One([step]),
     }
 }
 
@@ -163,7 +205,7 @@ impl Ord for Name {
     ghost matches_eq = { λ a b. refl };
 
     fn cmp(&self, other: &Name) -> Ordering {
-        self.steps.cmp(&other.steps)
+        self.steps().cmp(other.steps())
     }
 }
 
@@ -207,7 +249,11 @@ impl Exact for Name {
     }
 
     fn copy(&self, alloc: Global) -> Result<Name, OutOfMemory> {
-        let steps = copied(alloc, &self.steps)?;
+        let steps = match &self.steps {
+            KeptSteps::None => KeptSteps::None,
+            KeptSteps::One([step]) => KeptSteps::One([step.copy(alloc)?]),
+            KeptSteps::Many(steps) => KeptSteps::Many(copied(alloc, steps)?),
+        };
         Ok(Name { steps })
     }
 

@@ -11,14 +11,14 @@ use Rattle.mpx_birth.specs.Ends.{place_of, sent_at}
 use Rattle.mpx_birth.proofs.Meeting.{sent_meets, source_is_rank}
 use Rattle.mpx_birth.proofs.Passes.{sources_mutual, meet_one, none_met}
 use Rattle.mpx_post.specs.declared.block.Block.{Block}
-use Rattle.mpx_kind.specs.Kinds.{neighbourhood_kind}
 use Rattle.mpx_post.specs.Posts.{numbers_of, type_of}
 use Rattle.mpx_post.specs.Rows.{RowView}
-use Rattle.mpx_post.specs.Agreement.{IsFineWith, count_at, first_of, post_at}
+use Rattle.mpx_post.specs.Agreement.{counts_sent, IsFineWith, count_at, first_of, post_at}
 use Rattle.mpx_post.specs.Blocks.{IsBlock, repeated}
 use Rattle.mpx_post.proofs.Blocks.{block_at-part, block_within, count_alone, repeated-replicate}
+use Rattle.mpx_kind.specs.declared.kinds.Kind.TheVariants as K
 use Rattle.mpx_neigh.specs.Cursors.{AreTaken, CursorsView, IsMet, sends_blocks}
-use Rattle.mpx_neigh.specs.Neighbourhoods.{counts_sent, source_at}
+use Rattle.mpx_neigh.specs.Neighbourhoods.{source_at}
 use Rattle.mpx_neigh.proofs.Senders.{fills, sends_each}
 
 -- the block at this place of blocks of so many items each
@@ -27,29 +27,29 @@ placed counts place = record { first = sum (take place counts); count = count_at
 
 -- what is so once the block for the rank from the source at this place is taken: it stands at this place of what the sender sends
 pub record IsStep (topology : TopologyView) (row : RowView) (rank place : ℕ) (cursors : CursorsView) (sender sent : ℕ) : Type 0 where
-  pub within : sent < length (counts_sent topology row sender)
-  pub degree : length (counts_sent topology row sender) ≡ length (destinations_at topology sender)
-  pub block : (block : Block) → block ≡ placed (counts_sent topology row sender) sent → IsMet topology row rank place block
-  pub taken : (block : Block) → block ≡ placed (counts_sent topology row sender) sent
+  pub within : sent < length (counts_sent (Some topology) row sender)
+  pub degree : length (counts_sent (Some topology) row sender) ≡ length (destinations_at topology sender)
+  pub block : (block : Block) → block ≡ placed (counts_sent (Some topology) row sender) sent → IsMet topology row rank place block
+  pub taken : (block : Block) → block ≡ placed (counts_sent (Some topology) row sender) sent
       → AreTaken topology row rank (place + 1) (record { next = set cursors.next sender (sent + 1); before = set cursors.before sender (block.first + block.count) })
 
 -- the items before each sender's next place, one block later
 before_more : (topology : TopologyView) (row : RowView) (cursors : CursorsView) (sender sent total : ℕ)
-    → ((s : ℕ) → s < 64 → get_or cursors.before s 0 ≡ sum (take (get_or cursors.next s 0) (counts_sent topology row s))) → length cursors.before ≡ 64 → length cursors.next ≡ 64 → sender < 64
-    → total ≡ sum (take (sent + 1) (counts_sent topology row sender)) → (s : ℕ) → s < 64
-    → get_or (set cursors.before sender total) s 0 ≡ sum (take (get_or (set cursors.next sender (sent + 1)) s 0) (counts_sent topology row s))
+    → ((s : ℕ) → s < 64 → get_or cursors.before s 0 ≡ sum (take (get_or cursors.next s 0) (counts_sent (Some topology) row s))) → length cursors.before ≡ 64 → length cursors.next ≡ 64 → sender < 64
+    → total ≡ sum (take (sent + 1) (counts_sent (Some topology) row sender)) → (s : ℕ) → s < 64
+    → get_or (set cursors.before sender total) s 0 ≡ sum (take (get_or (set cursors.next sender (sent + 1)) s 0) (counts_sent (Some topology) row s))
 before_more topology row cursors sender sent total before long all small e s l = elim (cases_eq s sender) [
   | inl is ↦
       let here : get_or (set cursors.before sender total) s 0 ≡ total = ap (λ (n : ℕ). get_or (set cursors.before sender total) n 0) is ∙ get_or-set_same cursors.before sender total 0 (omega (arith, long, small)) in
       let next : get_or (set cursors.next sender (sent + 1)) s 0 ≡ sent + 1 = ap (λ (n : ℕ). get_or (set cursors.next sender (sent + 1)) n 0) is ∙ get_or-set_same cursors.next sender (sent + 1) 0 (omega (arith, all, small)) in
-      here ∙ e ∙ sym (λ i. sum (take (next i) (counts_sent topology row (is i))))
+      here ∙ e ∙ sym (λ i. sum (take (next i) (counts_sent (Some topology) row (is i))))
   | inr other ↦
       get_or-set_other cursors.before sender s total 0 other
       ∙ before s l
-      ∙ ap (λ (n : ℕ). sum (take n (counts_sent topology row s))) (sym (get_or-set_other cursors.next sender s (sent + 1) 0 other))
+      ∙ ap (λ (n : ℕ). sum (take n (counts_sent (Some topology) row s))) (sym (get_or-set_other cursors.next sender s (sent + 1) 0 other))
 ]
 
-module _ (topology : TopologyView) (row : RowView) (exchange : Neighbourhood) (fine : IsFineWith (Some topology) row) (size : length row ≡ length topology.ranks) (kind : (first_of row).kind ≡ neighbourhood_kind exchange) (blocks : sends_blocks exchange ≡ true)
+module _ (topology : TopologyView) (row : RowView) (exchange : Neighbourhood) (fine : IsFineWith (Some topology) row) (size : length row ≡ length topology.ranks) (kind : (first_of row).kind ≡ K.Neighbourhood exchange) (blocks : sends_blocks exchange ≡ true)
     (rank place : ℕ) (promise : AgreesAtBothEnds topology.ranks) (few : length row ≤ 64) (there : place < length (sources_at topology rank)) (cursors : CursorsView) (taken : AreTaken topology row rank place cursors) where
   abbrev sender : ℕ
   sender = source_at topology rank place
@@ -59,7 +59,7 @@ module _ (topology : TopologyView) (row : RowView) (exchange : Neighbourhood) (f
       let l : sender < length row = (let w = source_is_rank topology.ranks promise rank place there in omega (arith, w, size)) in
       let small : sender < 64 = omega (arith, l, few) in
       let met = meet_one taken.met sent (sources_at topology rank) (destinations_at topology sender) refl there refl e in
-      let counts : List ℕ = counts_sent topology row sender in
+      let counts : List ℕ = counts_sent (Some topology) row sender in
       let degree = sends_each topology row sender fine l exchange kind blocks in
       let meets = sent_meets topology promise rank place there in
       let at : sent ≡ sent_at topology rank place = met.there in
@@ -91,7 +91,7 @@ pub none_taken : (topology : TopologyView) (row : RowView) (rank : ℕ) → IsTo
 none_taken topology row rank kept = record {
   met = none_met (sources_mutual topology kept.agree kept.few rank);
   long = length-replicate {A = ℕ} 64 0;
-  before = λ s l. get_or-replicate 64 s 0 0 l ∙ ap (λ (n : ℕ). sum (take n (counts_sent topology row s))) (sym (get_or-replicate 64 s 0 0 l));
+  before = λ s l. get_or-replicate 64 s 0 0 l ∙ ap (λ (n : ℕ). sum (take n (counts_sent (Some topology) row s))) (sym (get_or-replicate 64 s 0 0 l));
 }
 
 -- ONE COUNT FOR ALL BLOCKS

@@ -3,13 +3,12 @@ ghost use Rattle.std.specs.Prelude.{◌≡◌, ◌<◌, ◌≤◌, ◌+◌, ◌*
 ghost use Rattle.std.specs.List.{All, sum};
 ghost use Rattle.mpx_birth.specs.Topologies.{most_neighbours, sources_at};
 ghost use Rattle.mpx_post.specs.Agreement.{IsFineWith, count_at, first_of};
-ghost use Rattle.mpx_kind.specs.Kinds.{neighbourhood_kind};
 ghost use Rattle.mpx_post.specs.Posts.{most_counts, most_items};
 ghost use Rattle.mpx_neigh.specs.Cursors.{AreTaken, IsMet, sends_blocks};
 ghost use Rattle.mpx_neigh.specs.Neighbourhoods.{source_at};
 
 use mpx_birth::{EdgePass, Topology};
-use mpx_kind::Neighbourhood;
+use mpx_kind::{Kind, Neighbourhood};
 use mpx_post::{Block, Row};
 use std::marker::Model;
 
@@ -53,7 +52,7 @@ impl Cursors {
     ) -> Block
         requires fine { IsFineWith (Some topology.now) row.now }
         requires size { length row.now ≡ length topology.now.ranks }
-        requires kind { (first_of row.now).kind ≡ neighbourhood_kind exchange }
+        requires kind { (first_of row.now).kind ≡ Kind.Neighbourhood exchange }
         requires blocks { sends_blocks exchange ≡ true }
         requires place { place < length (sources_at topology.now rank) }
         requires sender { sender ≡ source_at topology.now rank place }

@@ -2,15 +2,15 @@
 ghost use Rattle.std.specs.Prelude.{◌≡◌, ◌<◌, ◌≤◌, IfOk, Some, length, true};
 ghost use Rattle.mpx_birth.specs.Topologies.{sources_at};
 ghost use Rattle.mpx_post.specs.Agreement.{IsFineWith, first_of};
-ghost use Rattle.mpx_kind.specs.Kinds.{fields_of, neighbourhood_kind};
+ghost use Rattle.mpx_kind.specs.Kinds.{fields_of};
 ghost use Rattle.mpx_post.specs.Values.{GivesValue, as_items};
 ghost use Rattle.mpx_neigh.specs.Cursors.{sends_blocks};
-ghost use Rattle.mpx_neigh.specs.Neighbourhoods.{blocks_met, joined, neigh_of, neigh_value, source_at};
+ghost use Rattle.mpx_neigh.specs.Neighbourhoods.{blocks_met, neigh_of, neigh_value, source_at, sources_joined};
 
 use crate::cursors::Cursors;
 use join_core::OutOfMemory;
 use mpx_birth::{Birth, Topology};
-use mpx_kind::{Family, Neighbourhood};
+use mpx_kind::{Kind, Neighbourhood};
 use mpx_num::Items;
 use mpx_post::{Row, Value};
 use std::alloc::Global;
@@ -26,13 +26,13 @@ pub fn neigh_value(
     requires fine { IsFineWith birth.now.topology row.now }
     requires members { length row.now ≡ length birth.now.members }
     requires rank { rank < length row.now }
-    ensures { GivesValue (neigh_value birth.now.topology row.now rank) result }
+    ensures { GivesValue (neigh_value (first_of row.now).kind birth.now.topology row.now rank) result }
 {
     let Some(topology) = birth.topology() else {
         return Ok(Value::Nothing);
     };
-    match row.family() {
-        Family::Neighbourhood(exchange) => value_of(alloc, topology, row, exchange, rank),
+    match row.kind() {
+        Kind::Neighbourhood(exchange) => value_of(alloc, topology, row, exchange, rank),
         _ => Ok(Value::Nothing),
     }
 }
@@ -47,7 +47,7 @@ fn value_of(
 ) -> Result<Value, OutOfMemory>
     requires fine { IsFineWith (Some topology.now) row.now }
     requires size { length row.now ≡ length topology.now.ranks }
-    requires kind { (first_of row.now).kind ≡ neighbourhood_kind exchange }
+    requires kind { (first_of row.now).kind ≡ Kind.Neighbourhood exchange }
     requires rank { rank < length row.now }
     ensures { IfOk result (λ value. value ≡ as_items row.now (neigh_of exchange topology.now row.now rank)) }
 {
@@ -73,7 +73,7 @@ fn joined_value(
     requires size { length row.now ≡ length topology.now.ranks }
     requires items { (fields_of (first_of row.now).kind).items ≡ true }
     requires rank { rank < length row.now }
-    ensures { IfOk result (λ value. value ≡ as_items row.now (joined topology.now row.now rank)) }
+    ensures { IfOk result (λ value. value ≡ as_items row.now (sources_joined topology.now row.now rank)) }
 {
     let mut items = Items::empty(row.given(0).ty());
     for source in topology.sources(rank) {
@@ -93,7 +93,7 @@ fn blocks_value(
 ) -> Result<Value, OutOfMemory>
     requires fine { IsFineWith (Some topology.now) row.now }
     requires size { length row.now ≡ length topology.now.ranks }
-    requires kind { (first_of row.now).kind ≡ neighbourhood_kind exchange }
+    requires kind { (first_of row.now).kind ≡ Kind.Neighbourhood exchange }
     requires blocks { sends_blocks exchange ≡ true }
     requires rank { rank < length row.now }
     ensures { IfOk result (λ value. value ≡ as_items row.now (blocks_met topology.now row.now rank)) }

@@ -25,7 +25,7 @@ use Rattle.mpx_node.specs.declared.opened.Opened.{Opened}
 use Rattle.mpx_node.specs.declared.node.Harvest.{Harvest}
 use Rattle.mpx_node.specs.declared.node.Harvest.TheVariants as H
 use Rattle.mpx_node.specs.declared.finished.Finished.{Finished}
-use Rattle.mpx_node.specs.Nodes.{NodeView, OpenedView, checked_by, checked_there, checked_on, posted_by, posted_on, results_by, front_on, post_at, Posts, next_of, next_result, result_of, add_result, children_on}
+use Rattle.mpx_node.specs.Nodes.{NodeView, OpenedView, checked_by, checked_there, checked_on, posted_by, posted_on, results_by, front_on, with_post, Posts, next_of, next_result, result_of, add_result, children_on}
 use Rattle.mpx_node.specs.Harvests.{Harvests, HarvestsOpened}
 use Rattle.mpx_node.proofs.Nexts.{no_result}
 use Rattle.mpx_node.specs.Opened.{opened_of, opened_by}
@@ -113,7 +113,7 @@ module _ (name : Name) (old new : NodeView) where
   pub posts_turned_down : (r : Result Given PostError) (result : Result ℕ PostError) (e : PostError) → Checks r (Err e) → result ≡ Err e → new ≡ old → Posts name r result old new
   posts_turned_down r result e answered is same = subst (λ x. Posts name r x old new) (sym is) (turned_down r e answered same)
 
-  pub posts_made : (r : Result Given PostError) (given : Given) (call : ℕ) → r ≡ Ok given → call ≡ posted_on old name → new ≡ post_at name given old → Posts name r (Ok call) old new
+  pub posts_made : (r : Result Given PostError) (given : Given) (call : ℕ) → r ≡ Ok given → call ≡ posted_on old name → new ≡ with_post name given old → Posts name r (Ok call) old new
   posts_made r given call rg k made = subst (λ x. Posts name x (Ok call) old new) (sym rg) (k, made)
 
   pub posts_wants : (r : Result Given PostError) (given : Given) → r ≡ Ok given → new ≡ old → Posts name r (Err R.OutOfMemory) old new
@@ -140,7 +140,7 @@ module _ (ops : List Operation) (name : Name) (draft : Draft) (old new : NodeVie
     asked_made : (given : Given) → Checks (checked ops birth old.me (at name o.posted false) draft) (Ok given) → checked_on ops old name draft ≡ Ok given
     asked_made given checks = checks_post (checked_on ops old name draft) given (subst (λ r. Checks r (Ok given)) (sym there) checks)
 
-    pub draft_posted : (given : Given) → Checks (checked ops birth old.me (at name o.posted false) draft) (Ok given) → new ≡ post_at name given old → Posts name (checked_on ops old name draft) (Ok o.posted) old new
+    pub draft_posted : (given : Given) → Checks (checked ops birth old.me (at name o.posted false) draft) (Ok given) → new ≡ with_post name given old → Posts name (checked_on ops old name draft) (Ok o.posted) old new
     draft_posted given checks made = posts_made name old new (checked_on ops old name draft) given o.posted (asked_made given checks) (sym (ap posted_by here)) made
 
     pub draft_wants : (given : Given) → Checks (checked ops birth old.me (at name o.posted false) draft) (Ok given) → new ≡ old → Posts name (checked_on ops old name draft) (Err R.OutOfMemory) old new

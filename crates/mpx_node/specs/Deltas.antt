@@ -8,6 +8,7 @@ use Rattle.mpx_board.specs.Looks.{look, parts_of}
 use Rattle.mpx_board.specs.Raised.{Raises}
 use Rattle.mpx_format.specs.Encoding.{length_told}
 use Rattle.mpx_parts.specs.Facts.{OnlyFactsOf}
+use Rattle.mpx_parts.specs.Pieces.{NoNeighboursFit}
 use Rattle.mpx_delta.specs.Lacking.{AreSpelled}
 use Rattle.mpx_delta.specs.Digests.{IsDigest, Numbers, common_on, without}
 use Rattle.mpx_node.specs.Nodes.{NodeView, acknowledge}
@@ -36,6 +37,7 @@ pub record LacksOn (limit : ℕ) (node : NodeView) (said : Raised) (parts : List
   pub facts : All (λ part. OnlyFactsOf (look part) after.board) parts
   pub fit : All (λ part. length_told (parts_of part) ≤ limit) parts
   pub join : join_all (map look parts) ≡ lacking_on after
+  pub few : NoNeighboursFit limit parts
 
 -- the frames of such parts
 pub record LackFrames (limit : ℕ) (node : NodeView) (said : Raised) (frames : List (List ℕ)) : Type 0 where
@@ -49,4 +51,5 @@ pub record AreLacked (limit : ℕ) (node : NodeView) (frames : List (List ℕ)) 
   pub facts : All (λ part. OnlyFactsOf (look part) node.board) parts
   pub fit : All (λ part. length_told (parts_of part) ≤ limit) parts
   pub join : join_all (map look parts) ≡ lacking_on node
+  pub few : NoNeighboursFit limit parts
   pub spelled : AreSpelled frames parts

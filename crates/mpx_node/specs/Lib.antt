@@ -2,6 +2,6 @@ pub mod Nodes
 pub mod Opened
 pub mod Shown
 pub mod Harvests
-pub mod Bounded
+pub mod laws
 pub mod Parts
 pub mod Deltas

@@ -18,7 +18,7 @@ use Rattle.mpx_board.specs.Boards.{Look, IsBetween, join, join_all, only, told, 
 use Rattle.mpx_delta.specs.Digests.{Numbers}
 use Rattle.mpx_node.specs.declared.finished.Finished.{Finished}
 use Rattle.mpx_value.specs.declared.outcomes.Outcome.{Outcome}
-use Rattle.mpx_value.specs.declared.outcomes.Outcome.TheVariants.{Nothing, Absent, Items, NewComm, Null, Fault}
+use Rattle.mpx_value.specs.declared.outcomes.Outcome.TheVariants.{Nothing}
 use Rattle.mpx_value.specs.Children.{children, named_children}
 use Rattle.mpx_value.specs.Histories.{value_for}
 pub use Rattle.mpx_value.specs.Histories.{gathering_name}
@@ -102,8 +102,8 @@ abbrev pub posts_more : Given → OpenedView → OpenedView
 posts_more given o = record o { posted = o.posted + 1; freed = o.freed || is_free given }
 
 -- it makes its next post on a context
-abbrev pub post_at : Name → Given → NodeView → NodeView
-post_at name given node = learn (only (Held name (posted_on node name) node.me (known given))) (does_on name (posts_more given) node)
+abbrev pub with_post : Name → Given → NodeView → NodeView
+with_post name given node = learn (only (Held name (posted_on node name) node.me (known given))) (does_on name (posts_more given) node)
 
 -- with these operations of the job's own
 module _ (ops : List Operation) where
@@ -123,7 +123,7 @@ module _ (ops : List Operation) where
 -- what a post comes to: the refusal of the draft, or its call number, or want of memory; it changes the node only where it is made
 abbrev pub Posts : Name → Result Given PostError → Result ℕ PostError → NodeView → NodeView → Type 0
 Posts name (Err refusal) result old new = (result ≡ Err refusal) × (new ≡ old)
-Posts name (Ok given) (Ok call) old new = (call ≡ posted_on old name) × (new ≡ post_at name given old)
+Posts name (Ok given) (Ok call) old new = (call ≡ posted_on old name) × (new ≡ with_post name given old)
 Posts name (Ok given) (Err e) old new = (e ≡ OutOfMemory) × (new ≡ old)
 
 module _ (ops : List Operation) where
@@ -193,11 +193,7 @@ add_result name finished made node = opens (is_new_to node.me made) (learn (harv
 
 abbrev pub is_nothing : Outcome → Bool
 is_nothing Nothing = true
-is_nothing Absent = false
-is_nothing (Items items) = false
-is_nothing (NewComm name size rank) = false
-is_nothing Null = false
-is_nothing (Fault fault) = false
+is_nothing outcome = false
 
 -- the result of a free whose row is fine: a row that isn't would have given a fault
 abbrev pub is_fine_free : Finished → Bool

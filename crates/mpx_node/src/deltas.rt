@@ -1,9 +1,10 @@
 //! What a node says that it has, and what it gives of its board: all of it, or what others may lack.
-ghost use Rattle.std.specs.Prelude.{◌≡◌, ◌↔◌, ◌≤◌, false, map, All, OnOk, OnErr, IfOk, IsErrOf, IsTrue};
+ghost use Rattle.std.specs.Prelude.{◌≡◌, ◌↔◌, ◌≤◌, ◌∷◌, [], false, map, All, OnOk, OnErr, IfOk, IsErrOf, IsTrue};
 ghost use Rattle.mpx_board.specs.Boards.{join_all};
 ghost use Rattle.mpx_board.specs.Looks.{look, parts_of};
 ghost use Rattle.mpx_format.specs.Encoding.{length_told};
 ghost use Rattle.mpx_parts.specs.Facts.{OnlyFactsOf};
+ghost use Rattle.mpx_parts.specs.Pieces.{NoNeighboursFit};
 ghost use Rattle.mpx_node.specs.Nodes.{NodeView};
 
 use crate::node::Node;
@@ -32,7 +33,7 @@ impl Node {
     }
 
     /// The board in parts, each of which has only facts of the board and a frame of at most `limit` bytes, and whose join is the
-    /// board: the board itself where it fits. The limit is from 524,288 to 1,048,576 bytes, here and in all calls that have one. An `Err`
+    /// board: the board itself where it fits, and else no two parts beside each other whose join would. The limit is from 524,288 to 1,048,576 bytes, here and in all calls that have one. An `Err`
     /// is want of memory.
     pub fn parts(&self, alloc: Global, limit: usize) -> Result<Vec<Board>, OutOfMemory>
         requires least { 524288 ≤ limit }
@@ -40,6 +41,8 @@ impl Node {
         ensures facts { IfOk result (λ made. All (λ part. OnlyFactsOf (look part) (node_of self.now).board) made.items) }
         ensures fit { IfOk result (λ made. All (λ part. length_told (parts_of part) ≤ limit) made.items) }
         ensures join { IfOk result (λ made. join_all (map look made.items) ≡ (node_of self.now).board) }
+        ensures whole { IfOk result (λ made. length_told (parts_on self.now) ≤ limit → map look made.items ≡ (node_of self.now).board ∷ []) }
+        ensures few { IfOk result (λ made. NoNeighboursFit limit made.items) }
     {
         parts(alloc, &self.board, limit)
     }
@@ -97,6 +100,7 @@ impl Node {
         ensures facts { IfOk result (λ made. All (λ part. OnlyFactsOf (look part) (node_of self.new).board) made.items) }
         ensures fit { IfOk result (λ made. All (λ part. length_told (parts_of part) ≤ limit) made.items) }
         ensures join { IfOk result (λ made. join_all (map look made.items) ≡ lacking_on (node_of self.new)) }
+        ensures few { IfOk result (λ made. NoNeighboursFit limit made.items) }
         ensures err { OnErr result (node_of self.new ≡ node_of self.old) }
     {
         let NewList { said, parts } = self.lacking(alloc, limit)?;

@@ -1,11 +1,10 @@
 -- An operation of a job's own means, on items, what its object says, and gives items of the type.
-use Rattle.std.proofs.Common.{◌≡◌, ℕ, ◌+◌, ◌*◌, ◌/◌, ◌%◌, ◌^◌, ◌<◌, ◌≤◌, Bool, true, false, if◌then◌else◌, List, [], ◌∷◌, map, get_or, length, drop, ltb, ℤ, pos, refl, sym, ◌∙◌, ap, subst, arith, IsTrue, unsigned_abs}
+use Rattle.std.proofs.Common.{◌≡◌, ℕ, ◌+◌, ◌*◌, ◌/◌, ◌%◌, ◌^◌, ◌<◌, ◌≤◌, Bool, true, false, if◌then◌else◌, List, [], map, get_or, length, drop, ltb, ℤ, pos, refl, sym, ◌∙◌, ap, arith}
 use Rattle.std.specs.List.{range_with_len}
 use Rattle.std.proofs.lemmas.Bool.{ltb-true, ltb-false}
 use Rattle.std.proofs.lemmas.List.{drop_more, get_or-map, get_or_past, length-map}
 use Rattle.std.proofs.lemmas.Simd.{map-map}
-use Rattle.std.proofs.lemmas.Int.{ints}
-use Rattle.std.proofs.lemmas.Nat.{pow_pos, pow-add}
+use Rattle.std.proofs.lemmas.Nat.{pow_pos}
 use Rattle.std.proofs.lemmas.List.FromFn.{get_or-map-range_with_len}
 use Rattle.mpx_num.specs.declared.types.Ty.{Ty}
 use Rattle.mpx_num.specs.declared.types.Ty.TheVariants.{I8, I16, I32, I64, U8, U16, U32, U64, TwoInt}
@@ -14,8 +13,7 @@ use Rattle.mpx_num.specs.Types.{IsInRange, width, is_paired}
 use Rattle.mpx_num.specs.Wrapping.{into_range}
 use Rattle.mpx_num.specs.Bits.{bits_of}
 use Rattle.mpx_num.specs.TypeCodes.{code_of_type, type_at}
-use Rattle.mpx_num.specs.Own.{IsItem, IsSecond, item_bits, item_with, most_bits, most_bits_is, no_operation, number_of_place, operation_of, own_at, own_fits, own_combined}
-use Rattle.mpx_num.specs.declared.own.Place.{Place}
+use Rattle.mpx_num.specs.Own.{IsItem, IsSecond, item_bits, item_with, most_bits, most_bits_is, no_operation, operation_of, own_at, own_fits, own_combined}
 use Rattle.mpx_num.specs.OwnWords.{place_named, place_of_word}
 use Rattle.mpx_num.proofs.Codes.{type_forth}
 use Rattle.mpx_num.proofs.Ranges.{into_range-in_range, into_range-same, span_small}
@@ -102,32 +100,32 @@ own_combined-of word fits f ty a b h k made =
     ∙ item_with-bits ty (f ty a b) made
 
 -- the operation at the place of an object
-module _ {X : Type 0} (W : X → List ℕ) (P : X → Ty → Bool) (C : X → Ty → ℤ × ℤ → ℤ × ℤ → ℤ × ℤ) (xs ys : List X) (place : Place) (n : ℕ) where
-  own_at-some : (x : X) → ys ≡ xs → n ≡ number_of_place place → true ≡ ltb n (length ys) → x ≡ get_or ys n x →
+module _ {X : Type 0} (W : X → List ℕ) (P : X → Ty → Bool) (C : X → Ty → ℤ × ℤ → ℤ × ℤ → ℤ × ℤ) (xs ys : List X) (place : ℕ) (n : ℕ) where
+  own_at-some : (x : X) → ys ≡ xs → n ≡ place → true ≡ ltb n (length ys) → x ≡ get_or ys n x →
       own_at (map (λ b. operation_of (W b) (P b) (C b)) xs) place ≡ operation_of (W x) (P x) (C x)
   unfolding own_at
   own_at-some x e p inside is =
       let within : n < length ys = ltb-true _ _ (sym inside) in
-      let short : number_of_place place < length xs = rw (← p, ← e) within in
-      let there : x ≡ get_or xs (number_of_place place) x = rw (← p, ← e) is in
-      get_or-map (λ b. operation_of (W b) (P b) (C b)) xs (number_of_place place) x no_operation short
+      let short : place < length xs = rw (← p, ← e) within in
+      let there : x ≡ get_or xs (place) x = rw (← p, ← e) is in
+      get_or-map (λ b. operation_of (W b) (P b) (C b)) xs (place) x no_operation short
       ∙ ap (λ b. operation_of (W b) (P b) (C b)) (sym there)
 
-  pub own_fits-at : (x : X) (ty : Ty) → ys ≡ xs → n ≡ number_of_place place → true ≡ ltb n (length ys) → x ≡ get_or ys n x →
+  pub own_fits-at : (x : X) (ty : Ty) → ys ≡ xs → n ≡ place → true ≡ ltb n (length ys) → x ≡ get_or ys n x →
       own_fits (own_at (map (λ b. operation_of (W b) (P b) (C b)) xs) place) ty ≡ P x ty
   own_fits-at x ty e p inside is = ap (λ o. own_fits o ty) (own_at-some x e p inside is) ∙ own_fits-of (W x) (P x) (C x) ty
 
-  pub own_combined-at : (x : X) (ty : Ty) (a b : ℤ × ℤ) → ys ≡ xs → n ≡ number_of_place place → true ≡ ltb n (length ys) → x ≡ get_or ys n x →
+  pub own_combined-at : (x : X) (ty : Ty) (a b : ℤ × ℤ) → ys ≡ xs → n ≡ place → true ≡ ltb n (length ys) → x ≡ get_or ys n x →
       IsItem ty a → IsItem ty b → IsItem ty (C x ty a b) → own_combined (own_at (map (λ b. operation_of (W b) (P b) (C b)) xs) place) ty a b ≡ C x ty a b
   own_combined-at x ty a b e p inside is h k made = ap (λ o. own_combined o ty a b) (own_at-some x e p inside is) ∙ own_combined-of (W x) (P x) (C x) ty a b h k made
 
   -- where no object has it, no type fits
-  pub own_fits-none : (ty : Ty) → ys ≡ xs → n ≡ number_of_place place → false ≡ ltb n (length ys) → own_fits (own_at (map (λ b. operation_of (W b) (P b) (C b)) xs) place) ty ≡ false
+  pub own_fits-none : (ty : Ty) → ys ≡ xs → n ≡ place → false ≡ ltb n (length ys) → own_fits (own_at (map (λ b. operation_of (W b) (P b) (C b)) xs) place) ty ≡ false
   unfolding own_at own_fits
   own_fits-none ty e p outside =
       let past : length ys ≤ n = ltb-false _ _ (sym outside) in
-      let beyond : length (map (λ b. operation_of (W b) (P b) (C b)) xs) ≤ number_of_place place = rw (length-map xs (λ b. operation_of (W b) (P b) (C b)), ← p, ← e) past in
-      ap (λ (o : Operation). get_or o.types (code_of_type ty) false) (get_or_past (map (λ b. operation_of (W b) (P b) (C b)) xs) (number_of_place place) no_operation beyond) ∙ get_or_past [] (code_of_type ty) false (omega arith)
+      let beyond : length (map (λ b. operation_of (W b) (P b) (C b)) xs) ≤ place = rw (length-map xs (λ b. operation_of (W b) (P b) (C b)), ← p, ← e) past in
+      ap (λ (o : Operation). get_or o.types (code_of_type ty) false) (get_or_past (map (λ b. operation_of (W b) (P b) (C b)) xs) (place) no_operation beyond) ∙ get_or_past [] (code_of_type ty) false (omega arith)
 
 -- the place of a word is that of the object that has it
 module _ {X : Type 0} (W : X → List ℕ) (P : X → Ty → Bool) (C : X → Ty → ℤ × ℤ → ℤ × ℤ → ℤ × ℤ) (xs ys : List X) (word : List ℕ) where

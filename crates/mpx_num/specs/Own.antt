@@ -1,10 +1,8 @@
 -- What an operation of a job's own means, by a table of its results: data, which stands in a world or on a queue as numbers do.
-use Rattle.std.specs.Prelude.{◌≡◌, ℕ, zero, suc, ◌+◌, ◌*◌, ◌/◌, ◌%◌, ◌^◌, Bool, true, false, if◌then◌else◌, List, [], ◌∷◌, map, slice_index_or, ℤ, pos}
+use Rattle.std.specs.Prelude.{◌≡◌, ℕ, ◌+◌, ◌*◌, ◌/◌, ◌%◌, ◌^◌, Bool, true, false, if◌then◌else◌, List, [], map, slice_index_or, ℤ, pos}
 use Rattle.std.specs.List.{range_with_len}
 use Rattle.mpx_num.specs.declared.types.Ty.{Ty}
 use Rattle.mpx_num.specs.declared.own.Operation.{Operation}
-use Rattle.mpx_num.specs.declared.own.Place.{Place}
-use Rattle.mpx_num.specs.declared.own.Place.TheVariants.{P0, P1, P2, P3, P4, P5, P6, P7, P8, P9, P10, P11, P12, P13, P14, P15}
 use Rattle.mpx_num.specs.Types.{IsInRange, is_paired}
 use Rattle.mpx_num.specs.Wrapping.{into_range}
 use Rattle.mpx_num.specs.Bits.{bits_of}
@@ -52,47 +50,10 @@ own_fits op ty = slice_index_or op.types (code_of_type ty) false
 unfoldable pub own_combined : Operation → Ty → ℤ × ℤ → ℤ × ℤ → ℤ × ℤ
 own_combined op ty a b = item_with ty (slice_index_or (slice_index_or (slice_index_or op.results (code_of_type ty) []) (item_bits ty a) []) (item_bits ty b) 0)
 
-abbrev pub number_of_place : Place → ℕ
-number_of_place P0 = 0
-number_of_place P1 = 1
-number_of_place P2 = 2
-number_of_place P3 = 3
-number_of_place P4 = 4
-number_of_place P5 = 5
-number_of_place P6 = 6
-number_of_place P7 = 7
-number_of_place P8 = 8
-number_of_place P9 = 9
-number_of_place P10 = 10
-number_of_place P11 = 11
-number_of_place P12 = 12
-number_of_place P13 = 13
-number_of_place P14 = 14
-number_of_place P15 = 15
-
--- the place with this number, of greater ones the last
-abbrev pub place_at : ℕ → Place
-place_at zero = P0
-place_at (suc zero) = P1
-place_at (suc (suc zero)) = P2
-place_at (suc (suc (suc zero))) = P3
-place_at (suc (suc (suc (suc zero)))) = P4
-place_at (suc (suc (suc (suc (suc zero))))) = P5
-place_at (suc (suc (suc (suc (suc (suc zero)))))) = P6
-place_at (suc (suc (suc (suc (suc (suc (suc zero))))))) = P7
-place_at (suc (suc (suc (suc (suc (suc (suc (suc zero)))))))) = P8
-place_at (suc (suc (suc (suc (suc (suc (suc (suc (suc zero))))))))) = P9
-place_at (suc (suc (suc (suc (suc (suc (suc (suc (suc (suc zero)))))))))) = P10
-place_at (suc (suc (suc (suc (suc (suc (suc (suc (suc (suc (suc zero))))))))))) = P11
-place_at (suc (suc (suc (suc (suc (suc (suc (suc (suc (suc (suc (suc zero)))))))))))) = P12
-place_at (suc (suc (suc (suc (suc (suc (suc (suc (suc (suc (suc (suc (suc zero))))))))))))) = P13
-place_at (suc (suc (suc (suc (suc (suc (suc (suc (suc (suc (suc (suc (suc (suc zero)))))))))))))) = P14
-place_at (suc (suc (suc (suc (suc (suc (suc (suc (suc (suc (suc (suc (suc (suc (suc n))))))))))))))) = P15
-
 -- no type fits it
 abbrev pub no_operation : Operation
 no_operation = record { word = []; types = []; results = [] }
 
 -- the operation at the place
-unfoldable pub own_at : List Operation → Place → Operation
-own_at ops place = slice_index_or ops (number_of_place place) no_operation
+unfoldable pub own_at : List Operation → ℕ → Operation
+own_at ops place = slice_index_or ops place no_operation

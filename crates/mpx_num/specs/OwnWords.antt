@@ -2,8 +2,6 @@
 use Rattle.std.specs.Prelude.{ℕ, ◌+◌, Bool, true, false, not, ◌&&◌, ◌||◌, nat_le, ◌==◌, cond, List, [], ◌∷◌, map, length, codes, bytes_eq, Option, Some, None}
 use Rattle.std.specs.List.{list_all}
 use Rattle.mpx_num.specs.declared.own.Operation.{Operation}
-use Rattle.mpx_num.specs.declared.own.Place.{Place}
-use Rattle.mpx_num.specs.Own.{place_at}
 
 -- a to z
 abbrev pub is_small_letter : ℕ → Bool
@@ -38,11 +36,11 @@ abbrev pub are_own_words : List (List ℕ) → Bool
 are_own_words [] = true
 are_own_words (word ∷ more) = is_own_word word && not (is_among more word) && are_own_words more
 
--- the place of the first of these words, of which the first has the place with this number, that is the word
-abbrev pub place_of_word : ℕ → List (List ℕ) → List ℕ → Option Place
+-- the place of the first of these words, of which the first has this place, that is the word
+abbrev pub place_of_word : ℕ → List (List ℕ) → List ℕ → Option ℕ
 place_of_word n [] word = None
-place_of_word n (own ∷ more) word = cond (bytes_eq word own) (Some (place_at n)) (place_of_word (n + 1) more word)
+place_of_word n (own ∷ more) word = cond (bytes_eq word own) (Some n) (place_of_word (n + 1) more word)
 
 -- the place of the operation of a job's own that has the word
-unfoldable pub place_named : List Operation → List ℕ → Option Place
+unfoldable pub place_named : List Operation → List ℕ → Option ℕ
 place_named ops word = place_of_word 0 (map (λ (op : Operation). op.word) ops) word

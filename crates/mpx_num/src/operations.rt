@@ -4,7 +4,6 @@ ghost use Rattle.mpx_num.specs.Codes.{code_of_operation, operation_at};
 ghost use Rattle.mpx_num.specs.Operations.{fits, is_for};
 
 use crate::ops::{Listing, Ops};
-use crate::own::Place;
 use crate::types::Ty;
 
 /// A reduction operation: a predefined one (MPI 4.1, sections 6.9.2 and 6.9.4), or one of a job's own (section 6.9.5).
@@ -34,13 +33,13 @@ pub enum Op {
     Maxloc,
     /// The lesser value with its index, for equal values the lesser index.
     Minloc,
-    /// The job's own operation at this place.
-    Own(Place),
+    /// The job's own operation at this place in its list, which is below 16.
+    Own(u8),
 }
 
 impl Op {
     /// The number by which frames spell the operation.
-    pub fn code(self) -> u8
+    pub fn code(self) -> u16
         ensures { result ≡ code_of_operation self }
     {
         match self {
@@ -56,7 +55,7 @@ impl Op {
             Op::Bxor => 10,
             Op::Maxloc => 11,
             Op::Minloc => 12,
-            Op::Own(place) => place.code(),
+            Op::Own(place) => u16::from(place) + 16,
         }
     }
 
@@ -66,7 +65,7 @@ impl Op {
         ensures { result ≡ operation_at code }
     {
         if 16 <= code {
-            return Op::Own(Place::at(usize::from(code - 16)));
+            return Op::Own(code - 16);
         }
         match code {
             0 => Op::Max,
@@ -91,24 +90,23 @@ impl Op {
 }
 
 /// Whether the operation may stand beside the type: `Maxloc` and `Minloc` beside pairs, each other predefined one beside
-/// single numbers, and one of a job's own beside each.
+/// single numbers, and one of a job's own, whose place is below 16, beside each.
 pub fn may_stand(op: Op, ty: Ty) -> bool
     ensures { result ≡ fits op ty }
 {
     match op {
-        Op::Own(_) => true,
+        Op::Own(place) => place < 16,
         Op::Maxloc | Op::Minloc => ty.is_paired(),
         _ => !ty.is_paired(),
     }
 }
 
-/// Whether the operation is for the type: a predefined one where it may stand beside it, one of a job's own where its object
-/// says so.
+/// Whether the operation is for the type: it may stand beside it, and where it is one of a job's own, its object says so.
 pub fn op_fits(op: Op, ty: Ty, ops: &Ops) -> bool
     ensures { result ≡ is_for (⟦<Ops as Listing>⟧.operations ops.now) op ty }
 {
     match op {
-        Op::Own(place) => ops.fits(place, ty),
+        Op::Own(place) => place < 16 && ops.fits(place, ty),
         _ => may_stand(op, ty),
     }
 }

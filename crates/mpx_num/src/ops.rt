@@ -2,10 +2,10 @@
 ghost use Rattle.std.specs.Prelude.{◌≡◌, ◌<◌, ◌≤◌, ◌↔◌, ℤ, Bool, List, length, map, pos, IsTrue, IsOk, IfOk, true, false, []};
 ghost use Rattle.std.specs.Result.{IsErrOf};
 ghost use Rattle.mpx_num.specs.Types.{IsInRange, is_paired};
-ghost use Rattle.mpx_num.specs.Own.{IsItem, operation_of, own_at, own_combined, own_fits, number_of_place};
+ghost use Rattle.mpx_num.specs.Own.{IsItem, operation_of, own_at, own_combined, own_fits};
 ghost use Rattle.mpx_num.specs.OwnWords.{are_own_words, is_among, place_named, place_of_word};
 
-use crate::own::{OwnOp, Place};
+use crate::own::OwnOp;
 use crate::types::Ty;
 use crate::words::is_own_word;
 use std::alloc::Global;
@@ -17,6 +17,7 @@ pub const MOST_OPS: usize = 16;
 #[derive(Drop)]
 pub struct Ops {
     list: Vec<Box<dyn OwnOp + Send + Sync + Drop>>,
+    ghost few: { length list.items ≤ 16 },
 }
 
 /// What lists of operations mean, for contracts: `⟦<Ops as Listing>⟧.operations`.
@@ -72,17 +73,17 @@ impl Ops {
     }
 
     /// Whether the operation at the place is for the type. None is where no object has the place.
-    pub fn fits(&self, place: Place, ty: Ty) -> bool
+    pub fn fits(&self, place: u8, ty: Ty) -> bool
         ensures { result ≡ own_fits (own_at (⟦<Ops as Listing>⟧.operations self.now) place) ty }
     {
-        match self.list.get(place.number()) {
+        match self.list.get(usize::from(place)) {
             Some(op) => object_fits(op, ty),
             None => false,
         }
     }
 
     /// The place of the operation that has the word, where there is one.
-    pub fn place_named(&self, word: &[u8]) -> Option<Place>
+    pub fn place_named(&self, word: &[u8]) -> Option<u8>
         ensures { result ≡ place_named (⟦<Ops as Listing>⟧.operations self.now) word.now }
     {
         place_of_word(&self.list, word)
@@ -91,7 +92,7 @@ impl Ops {
     // What the operation at the place makes of two items.
     pub(crate) fn combined(
         &self,
-        place: Place,
+        place: u8,
         ty: Ty,
         left: (i128, i128),
         right: (i128, i128),
@@ -101,7 +102,7 @@ impl Ops {
         requires right { IsItem ty right }
         ensures { result ≡ own_combined (own_at (⟦<Ops as Listing>⟧.operations self.now) place) ty left right }
     {
-        match self.list.get(place.number()) {
+        match self.list.get(usize::from(place)) {
             Some(op) => object_combines(op, ty, left, right),
             None => left,
         }
@@ -139,12 +140,13 @@ fn word_of(op: &Box<dyn OwnOp + Send + Sync + Drop>) -> &[u8]
 }
 
 // The place of the first object that has the word.
-fn place_of_word(list: &[Box<dyn OwnOp + Send + Sync + Drop>], word: &[u8]) -> Option<Place>
+fn place_of_word(list: &[Box<dyn OwnOp + Send + Sync + Drop>], word: &[u8]) -> Option<u8>
+    requires { length list.now ≤ 16 }
     ensures { result ≡ place_of_word 0 (map (λ b. word_bytes b) list.now) word.now }
 {
     for i in 0..list.len() {
         if word == word_of(&list[i]) {
-            return Some(Place::at(i));
+            return Some(i as u8);
         }
     }
     None

@@ -19,7 +19,7 @@ use Rattle.mpx_kind.specs.declared.kinds.Number.{Number}
 use Rattle.mpx_kind.specs.declared.kinds.Number.TheVariants.{Zero, One, OneAtRoot, Members, MembersAtRoot, Indegree, Outdegree}
 use Rattle.mpx_kind.specs.declared.kinds.Seat.{Seat}
 use Rattle.mpx_birth.specs.Births.{BirthView, rank_in}
-use Rattle.mpx_kind.specs.Kinds.{family_of, fields_of, is_gathered, kind_of, makes_communicators, number_in}
+use Rattle.mpx_kind.specs.Kinds.{fields_of, is_gathered, kind_of, makes_communicators, number_in}
 use Rattle.mpx_post.specs.Posts.{Given, IsMaking, most_counts, most_items}
 use Rattle.mpx_post.specs.Seats.{lacks_topology}
 use Rattle.mpx_birth.specs.Topologies.{most_neighbours}
@@ -143,7 +143,7 @@ module _ (seat : Seat) (at : At) (draft : Draft) where
   place_is_fine = first_that_holds (place_refusals seat.size at draft) ≡ None
 
   abbrev misplaced : Bool
-  misplaced = is_misplaced at.gathering (is_gathered (family_of (kind_of draft.call)))
+  misplaced = is_misplaced at.gathering (is_gathered (kind_of draft.call))
 
   abbrev ranked : Bool
   ranked = are_ranks seat.size (ranks_in (fields_of (kind_of draft.call)).makes draft)
@@ -157,8 +157,8 @@ module _ (seat : Seat) (at : At) (draft : Draft) where
   abbrev uncoloured : Bool
   uncoloured = not (has_colour_and_key (fields_of (kind_of draft.call)).makes draft)
 
-  place_parts : place_is_fine → PlacePassed (at.call == most_calls) (makes_communicators (family_of (kind_of draft.call)) && nat_le most_steps at.depth) (misplaced || not ranked) (not joined) crowded uncoloured
-  place_parts h = place_passed (at.call == most_calls) (makes_communicators (family_of (kind_of draft.call)) && nat_le most_steps at.depth) (misplaced || not ranked) (not joined) crowded uncoloured h
+  place_parts : place_is_fine → PlacePassed (at.call == most_calls) (makes_communicators (kind_of draft.call) && nat_le most_steps at.depth) (misplaced || not ranked) (not joined) crowded uncoloured
+  place_parts h = place_passed (at.call == most_calls) (makes_communicators (kind_of draft.call) && nat_le most_steps at.depth) (misplaced || not ranked) (not joined) crowded uncoloured h
 
   pub making_passed : seat.size ≤ 64 → place_is_fine → has_making (fields_of (kind_of draft.call)).makes draft ≡ true
   making_passed l h =
@@ -213,7 +213,7 @@ module _ (seat : Seat) (at : At) (draft : Draft) where
     pub accepted_place : (given : Given) → answer ≡ Ok given → place_is_fine
     accepted_place given h = none_after rootless opless (not (as_many_sent && as_many_received)) misfilled (cut draft) (strange draft) (many draft) (not (counted draft)) (place_refusals seat.size at draft) (none_told (first_that_holds (refusals for_type seat at draft)) (given_by draft) given h)
 
-    room_below : (given : Given) → answer ≡ Ok given → makes_communicators (family_of (kind_of draft.call)) ≡ true → at.depth < 8
+    room_below : (given : Given) → answer ≡ Ok given → makes_communicators (kind_of draft.call) ≡ true → at.depth < 8
     room_below given h makes =
         let shallow = (place_parts (accepted_place given h)).depth in
         let deep : nat_le most_steps at.depth ≡ false = rw makes at shallow in
@@ -247,7 +247,7 @@ accepted_in ops (Some rank) birth at draft given h =
     ]
 
 -- an accepted call that makes communicators has room for one more step
-pub room : (ops : List Operation) (birth : BirthView) (me : ℕ) (at : At) (draft : Draft) (given : Given) → checked ops birth me at draft ≡ Ok given → makes_communicators (family_of (kind_of draft.call)) ≡ true → at.depth < 8
+pub room : (ops : List Operation) (birth : BirthView) (me : ℕ) (at : At) (draft : Draft) (given : Given) → checked ops birth me at draft ≡ Ok given → makes_communicators (kind_of draft.call) ≡ true → at.depth < 8
 unfolding checked
 room ops birth me at draft given h makes = let found = accepted_in ops (rank_in me birth.members) birth at draft given h in room_below found.0 at draft (is_for ops draft.op draft.ty) given found.1 makes
 

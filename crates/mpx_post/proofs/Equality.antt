@@ -9,20 +9,15 @@ use Rattle.std.proofs.lemmas.Int.{to_z-of_z}
 use Rattle.std.proofs.lemmas.Bool.Decides.{same_from_decides, Decides-eqb, Decides-int_eq, Decides-like}
 use denote.Enum.Declared.{Declared}
 use denote.Enum.Bare.{Bare, sameb, same_true, true_same}
-use Rattle.mpx_kind.specs.declared.kinds.Kind.{Kind}
-use Rattle.mpx_kind.specs.contracts.kinds.Kind as kind
 use Rattle.mpx_kind.specs.declared.kinds.Mode.{Mode}
 use Rattle.mpx_kind.specs.contracts.kinds.Mode as mode
 use Rattle.mpx_kind.specs.declared.kinds.Makes.{Makes}
 use Rattle.mpx_kind.specs.contracts.kinds.Makes as makes
-use Rattle.mpx_post.specs.Equality.{same_kind, same_makes, makes_decided, same_mode, same_option, kinds_decided, modes_decided}
+use Rattle.mpx_post.specs.Equality.{same_makes, makes_decided, same_mode, same_option, modes_decided}
 
 -- of enums without fields
 variants_decided : (D : Declared) → Bare D.parts → (a b : D.D) → Decides (sameb D a b) (a ≡ b)
 variants_decided D bare a b = (same_true D bare a b, true_same D a b)
-
-pub kinds_test : (a b : Kind) → sameb kind.the_type a b ≡ same_kind a b
-kinds_test a b = same_from_decides _ _ (variants_decided kind.the_type (search rules) a b) (kinds_decided a b)
 
 pub modes_test : (a b : Mode) → sameb mode.the_type a b ≡ same_mode a b
 modes_test a b = same_from_decides _ _ (variants_decided mode.the_type (search rules) a b) (modes_decided a b)

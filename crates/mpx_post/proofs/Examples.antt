@@ -6,7 +6,10 @@ use Rattle.mpx_post.specs.declared.draft.At.{At}
 use Rattle.mpx_post.specs.declared.draft.Draft.{Draft}
 use Rattle.mpx_post.specs.declared.draft.PostError.TheVariants.{BadGroup, BadTag, Closed, DepthUsedUp, NotMember}
 use Rattle.mpx_kind.specs.declared.kinds.Kind.{Kind}
-use Rattle.mpx_kind.specs.declared.kinds.Kind.TheVariants.{Barrier, Create, CreateGroup, Dup, Free, NeighborAllgather, Split}
+use Rattle.mpx_kind.specs.declared.kinds.Kind.TheVariants as K
+use Rattle.mpx_kind.specs.declared.kinds.Exchange.TheVariants as E
+use Rattle.mpx_kind.specs.declared.kinds.NewCommunicator.TheVariants as N
+use Rattle.mpx_kind.specs.declared.kinds.Neighbourhood.TheVariants as H
 use Rattle.mpx_post.specs.declared.making.Making.TheVariants as Making
 use Rattle.mpx_birth.specs.Births.{BirthView, of_members}
 use Rattle.mpx_post.specs.Drafts.{checked}
@@ -31,55 +34,55 @@ drafted kind colour key group = record { call = blocking kind; root = pos 0; op 
 
 -- POSTS
 
-dup : checked [] four 2 (first_on 7 false) (drafted Dup None (pos 0) []) ≡ Ok (record nothing_given { kind = Dup })
+dup : checked [] four 2 (first_on 7 false) (drafted (K.NewCommunicator N.Dup) None (pos 0) []) ≡ Ok (record nothing_given { kind = K.NewCommunicator N.Dup })
 unfolding checked
 dup = refl
 
-dup_too_deep : checked [] four 2 (first_on 8 false) (drafted Dup None (pos 0) []) ≡ Err DepthUsedUp
+dup_too_deep : checked [] four 2 (first_on 8 false) (drafted (K.NewCommunicator N.Dup) None (pos 0) []) ≡ Err DepthUsedUp
 unfolding checked
 dup_too_deep = refl
 
-greatest_colour : checked [] four 2 (first_on 0 false) (drafted Split (Some (pos 2147483647)) (negsuc 0) []) ≡ Ok (record nothing_given { kind = Split; making = Making.Split (Some 2147483647) (negsuc 0) })
+greatest_colour : checked [] four 2 (first_on 0 false) (drafted (K.NewCommunicator N.Split) (Some (pos 2147483647)) (negsuc 0) []) ≡ Ok (record nothing_given { kind = K.NewCommunicator N.Split; making = Making.Split (Some 2147483647) (negsuc 0) })
 unfolding checked
 greatest_colour = refl
 
-colour_beyond : checked [] four 2 (first_on 0 false) (drafted Split (Some (pos 2147483648)) (pos 0) []) ≡ Err BadTag
+colour_beyond : checked [] four 2 (first_on 0 false) (drafted (K.NewCommunicator N.Split) (Some (pos 2147483648)) (pos 0) []) ≡ Err BadTag
 unfolding checked
 colour_beyond = refl
 
-group_in_its_order : checked [] four 2 (first_on 0 false) (drafted Create None (pos 0) (pos 3 ∷ pos 0 ∷ [])) ≡ Ok (record nothing_given { kind = Create; making = Making.Group (3 ∷ 0 ∷ []) })
+group_in_its_order : checked [] four 2 (first_on 0 false) (drafted (K.NewCommunicator N.Create) None (pos 0) (pos 3 ∷ pos 0 ∷ [])) ≡ Ok (record nothing_given { kind = K.NewCommunicator N.Create; making = Making.Group (3 ∷ 0 ∷ []) })
 unfolding checked
 group_in_its_order = refl
 
-rank_twice : checked [] four 2 (first_on 0 false) (drafted Create None (pos 0) (pos 1 ∷ pos 1 ∷ [])) ≡ Err BadGroup
+rank_twice : checked [] four 2 (first_on 0 false) (drafted (K.NewCommunicator N.Create) None (pos 0) (pos 1 ∷ pos 1 ∷ [])) ≡ Err BadGroup
 unfolding checked
 rank_twice = refl
 
-no_gathering : checked [] four 2 (first_on 1 false) (drafted CreateGroup None (pos 0) []) ≡ Err BadGroup
+no_gathering : checked [] four 2 (first_on 1 false) (drafted (K.NewCommunicator N.CreateGroup) None (pos 0) []) ≡ Err BadGroup
 unfolding checked
 no_gathering = refl
 
-barrier_on_a_gathering : checked [] four 2 (first_on 1 true) (drafted Barrier None (pos 0) []) ≡ Err BadGroup
+barrier_on_a_gathering : checked [] four 2 (first_on 1 true) (drafted (K.Exchange E.Barrier) None (pos 0) []) ≡ Err BadGroup
 unfolding checked
 barrier_on_a_gathering = refl
 
-free : checked [] four 2 (first_on 0 false) (drafted Free None (pos 0) []) ≡ Ok (record nothing_given { kind = Free })
+free : checked [] four 2 (first_on 0 false) (drafted K.Free None (pos 0) []) ≡ Ok (record nothing_given { kind = K.Free })
 unfolding checked
 free = refl
 
-free_on_a_gathering : checked [] four 2 (first_on 1 true) (drafted Free None (pos 0) []) ≡ Err BadGroup
+free_on_a_gathering : checked [] four 2 (first_on 1 true) (drafted K.Free None (pos 0) []) ≡ Err BadGroup
 unfolding checked
 free_on_a_gathering = refl
 
-free_twice : checked [] four 2 behind_free (drafted Free None (pos 0) []) ≡ Err Closed
+free_twice : checked [] four 2 behind_free (drafted K.Free None (pos 0) []) ≡ Err Closed
 unfolding checked
 free_twice = refl
 
-closed_before_topology : checked [] four 2 behind_free (drafted NeighborAllgather None (pos 0) []) ≡ Err Closed
+closed_before_topology : checked [] four 2 behind_free (drafted (K.Neighbourhood H.Allgather) None (pos 0) []) ≡ Err Closed
 unfolding checked
 closed_before_topology = refl
 
-no_member_before_closed : checked [] four 4 behind_free (drafted Barrier None (pos 0) []) ≡ Err NotMember
+no_member_before_closed : checked [] four 4 behind_free (drafted (K.Exchange E.Barrier) None (pos 0) []) ≡ Err NotMember
 unfolding checked
 no_member_before_closed = refl
 

@@ -15,7 +15,11 @@ use Rattle.mpx_num.specs.ItemList.{ItemList}
 use Rattle.mpx_num.specs.Operations.{fits, is_for}
 use Rattle.mpx_num.specs.Types.{item_len}
 use Rattle.mpx_kind.specs.declared.kinds.Kind.{Kind}
-use Rattle.mpx_kind.specs.declared.kinds.Kind.TheVariants.{Barrier, Bcast, Gather, Gatherv, Scatter, Scatterv, Allgather, Allgatherv, Alltoall, Alltoallv, Reduce, Allreduce, ReduceScatterBlock, ReduceScatter, Scan, Exscan, Dup, Split, Create, CreateGroup, DistGraph, DistGraphAdjacent, NeighborAllgather, NeighborAllgatherv, NeighborAlltoall, NeighborAlltoallv, Free}
+use Rattle.mpx_kind.specs.declared.kinds.Kind.TheVariants as K
+use Rattle.mpx_kind.specs.declared.kinds.Exchange.TheVariants as E
+use Rattle.mpx_kind.specs.declared.kinds.Reduction.TheVariants as R
+use Rattle.mpx_kind.specs.declared.kinds.NewCommunicator.TheVariants as N
+use Rattle.mpx_kind.specs.declared.kinds.Neighbourhood.TheVariants as H
 use Rattle.mpx_kind.specs.Kinds.{fields_of}
 use Rattle.mpx_post.specs.Posts.{AreCounts, NoneUnless, few_items, most_counts, most_items}
 use Rattle.mpx_post.specs.Drafts.{is_count, is_rank, natural, naturals, where_had}
@@ -67,38 +71,38 @@ counts_given false numbers = refl
 
 -- an operation that is for a type may stand beside it
 pub is_for-fits : (ops : List Operation) (op : Op) (ty : Ty) → is_for ops op ty ≡ true → fits op ty ≡ true
-is_for-fits ops (Own place) ty h = refl
+is_for-fits ops (Own place) ty h = (and_parts (nat_lt place 16) _ h).0
 is_for-fits ops op ty h = h
 
 -- a kind with an operation has items
 typed : (kind : Kind) → (fields_of kind).op ≡ true → (fields_of kind).items ≡ true
-typed Barrier h = cc
-typed Bcast h = cc
-typed Gather h = cc
-typed Gatherv h = cc
-typed Scatter h = cc
-typed Scatterv h = cc
-typed Allgather h = cc
-typed Allgatherv h = cc
-typed Alltoall h = cc
-typed Alltoallv h = cc
-typed Reduce h = refl
-typed Allreduce h = refl
-typed ReduceScatterBlock h = refl
-typed ReduceScatter h = refl
-typed Scan h = refl
-typed Exscan h = refl
-typed Dup h = cc
-typed Split h = cc
-typed Create h = cc
-typed CreateGroup h = cc
-typed DistGraph h = cc
-typed DistGraphAdjacent h = cc
-typed NeighborAllgather h = cc
-typed NeighborAllgatherv h = cc
-typed NeighborAlltoall h = cc
-typed NeighborAlltoallv h = cc
-typed Free h = cc
+typed (K.Exchange E.Barrier) h = cc
+typed (K.Exchange E.Bcast) h = cc
+typed (K.Exchange E.Gather) h = cc
+typed (K.Exchange E.Gatherv) h = cc
+typed (K.Exchange E.Scatter) h = cc
+typed (K.Exchange E.Scatterv) h = cc
+typed (K.Exchange E.Allgather) h = cc
+typed (K.Exchange E.Allgatherv) h = cc
+typed (K.Exchange E.Alltoall) h = cc
+typed (K.Exchange E.Alltoallv) h = cc
+typed (K.Reduction R.Reduce) h = refl
+typed (K.Reduction R.Allreduce) h = refl
+typed (K.Reduction R.ReduceScatterBlock) h = refl
+typed (K.Reduction R.ReduceScatter) h = refl
+typed (K.Reduction R.Scan) h = refl
+typed (K.Reduction R.Exscan) h = refl
+typed (K.NewCommunicator N.Dup) h = cc
+typed (K.NewCommunicator N.Split) h = cc
+typed (K.NewCommunicator N.Create) h = cc
+typed (K.NewCommunicator N.CreateGroup) h = cc
+typed (K.NewCommunicator N.DistGraph) h = cc
+typed (K.NewCommunicator N.DistGraphAdjacent) h = cc
+typed (K.Neighbourhood H.Allgather) h = cc
+typed (K.Neighbourhood H.Allgatherv) h = cc
+typed (K.Neighbourhood H.Alltoall) h = cc
+typed (K.Neighbourhood H.Alltoallv) h = cc
+typed K.Free h = cc
 
 type_where : (with_op with_items : Bool) (op : Op) (ty : Ty) (nums : List ℤ) → (with_op ≡ true → with_items ≡ true) → cond with_op (fits op ty) true ≡ true → option_map_or (λ o. fits o (option_map_or (λ (items : ItemList). items.ty) (where_had with_items (record { ty = ty; nums = nums })) I8)) (where_had with_op op) true ≡ true
 type_where true true op ty nums both h = h

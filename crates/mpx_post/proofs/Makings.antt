@@ -8,18 +8,11 @@ use Rattle.std.proofs.lemmas.Bool.Decides.{nat_tests}
 use Rattle.mpx_group.specs.Group.{has_twice}
 use Rattle.mpx_kind.specs.declared.kinds.Call.{Call}
 use Rattle.mpx_kind.specs.declared.kinds.Call.TheVariants as C
-use Rattle.mpx_kind.specs.declared.kinds.Exchange.{Exchange}
-use Rattle.mpx_kind.specs.declared.kinds.Exchange.TheVariants as E
-use Rattle.mpx_kind.specs.declared.kinds.Family.TheVariants as F
 use Rattle.mpx_kind.specs.declared.kinds.Makes.{Makes}
 use Rattle.mpx_kind.specs.declared.kinds.Makes.TheVariants as M
 use Rattle.mpx_kind.specs.declared.kinds.Mode.TheVariants.{Blocking, Nonblocking}
-use Rattle.mpx_kind.specs.declared.kinds.Neighbourhood.{Neighbourhood}
-use Rattle.mpx_kind.specs.declared.kinds.Neighbourhood.TheVariants as H
-use Rattle.mpx_kind.specs.declared.kinds.Reduction.{Reduction}
-use Rattle.mpx_kind.specs.declared.kinds.Reduction.TheVariants as R
 use Rattle.mpx_post.specs.Drafts.{are_edges, are_ranks, edge_count, is_colour, is_rank, making_of, natural, naturals}
-use Rattle.mpx_kind.specs.Kinds.{exchange_kind, family_of, kind_of, may_be, mode_of, reduction_kind, neighbourhood_kind}
+use Rattle.mpx_kind.specs.Kinds.{kind_of, may_be, mode_of}
 use Rattle.mpx_post.specs.Graphs.{GraphView, most_edges}
 use Rattle.mpx_post.specs.Posts.{IsColour, IsMaking}
 use Rattle.mpx_post.specs.Ranks.{AreRanks}
@@ -42,41 +35,15 @@ AreRanks-from ranks h =
 
 -- MODES
 
-exchange_family : (exchange : Exchange) → family_of (exchange_kind exchange) ≡ F.Exchange exchange
-exchange_family E.Barrier = refl
-exchange_family E.Bcast = refl
-exchange_family E.Gather = refl
-exchange_family E.Gatherv = refl
-exchange_family E.Scatter = refl
-exchange_family E.Scatterv = refl
-exchange_family E.Allgather = refl
-exchange_family E.Allgatherv = refl
-exchange_family E.Alltoall = refl
-exchange_family E.Alltoallv = refl
-
-reduction_family : (reduction : Reduction) → family_of (reduction_kind reduction) ≡ F.Reduction reduction
-reduction_family R.Reduce = refl
-reduction_family R.Allreduce = refl
-reduction_family R.ReduceScatterBlock = refl
-reduction_family R.ReduceScatter = refl
-reduction_family R.Scan = refl
-reduction_family R.Exscan = refl
-
-neighbourhood_family : (exchange : Neighbourhood) → family_of (neighbourhood_kind exchange) ≡ F.Neighbourhood exchange
-neighbourhood_family H.Allgather = refl
-neighbourhood_family H.Allgatherv = refl
-neighbourhood_family H.Alltoall = refl
-neighbourhood_family H.Alltoallv = refl
-
--- a call has a mode of its family
-pub has_mode : (call : Call) → may_be (mode_of call) (family_of (kind_of call)) ≡ true
+-- a call has a mode that calls of its kind may be of
+pub has_mode : (call : Call) → may_be (mode_of call) (kind_of call) ≡ true
 has_mode (C.Exchange exchange Blocking) = refl
-has_mode (C.Exchange exchange Nonblocking) = ap (may_be Nonblocking) (exchange_family exchange)
+has_mode (C.Exchange exchange Nonblocking) = refl
 has_mode (C.Reduction reduction Blocking) = refl
-has_mode (C.Reduction reduction Nonblocking) = ap (may_be Nonblocking) (reduction_family reduction)
+has_mode (C.Reduction reduction Nonblocking) = refl
 has_mode (C.NewCommunicator new) = refl
 has_mode (C.Neighbourhood exchange Blocking) = refl
-has_mode (C.Neighbourhood exchange Nonblocking) = ap (may_be Nonblocking) (neighbourhood_family exchange)
+has_mode (C.Neighbourhood exchange Nonblocking) = refl
 has_mode C.Free = refl
 
 -- MAKINGS

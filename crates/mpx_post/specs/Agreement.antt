@@ -1,5 +1,5 @@
 -- When the posts of a row fit together (MPI 4.1, sections 6.2 to 6.12, 7.4, 8.5 and 8.6).
-use Rattle.std.specs.Prelude.{◌≡◌, ℕ, ◌*◌, ◌<◌, ◌==◌, ◌&&◌, nat_lt, Bool, true, false, List, length, Option, Some, None, slice_get, slice_index_or, not}
+use Rattle.std.specs.Prelude.{◌≡◌, ℕ, ◌*◌, ◌<◌, ◌==◌, ◌&&◌, nat_lt, Bool, true, false, List, [], length, Option, Some, None, slice_get, slice_index_or, unwrap_or, not}
 use Rattle.std.specs.List.{sum, list_all}
 use Rattle.mpx_group.specs.Group.{has_twice}
 use Rattle.std.specs.Option.{option_map, option_map_or}
@@ -8,14 +8,18 @@ use Rattle.mpx_num.specs.declared.types.Ty.{Ty}
 use Rattle.mpx_num.specs.ItemList.{ItemList}
 use Rattle.mpx_num.specs.Types.{item_len}
 use Rattle.mpx_kind.specs.declared.kinds.Kind.{Kind}
-use Rattle.mpx_kind.specs.declared.kinds.Kind.TheVariants.{Barrier, Bcast, Gather, Gatherv, Scatter, Scatterv, Allgather, Allgatherv, Alltoall, Alltoallv, Reduce, Allreduce, ReduceScatterBlock, ReduceScatter, Scan, Exscan, Dup, Split, Create, CreateGroup, DistGraph, DistGraphAdjacent, NeighborAllgather, NeighborAllgatherv, NeighborAlltoall, NeighborAlltoallv, Free}
+use Rattle.mpx_kind.specs.declared.kinds.Kind.TheVariants as K
+use Rattle.mpx_kind.specs.declared.kinds.Exchange.{Exchange}
+use Rattle.mpx_kind.specs.declared.kinds.Exchange.TheVariants as E
+use Rattle.mpx_kind.specs.declared.kinds.Reduction.{Reduction}
+use Rattle.mpx_kind.specs.declared.kinds.Reduction.TheVariants as R
 use Rattle.mpx_kind.specs.declared.kinds.Neighbourhood.{Neighbourhood}
 use Rattle.mpx_kind.specs.declared.kinds.Neighbourhood.TheVariants as H
 use Rattle.mpx_kind.specs.declared.kinds.Seat.{Seat}
 use Rattle.mpx_kind.specs.Kinds.{fields_of, number_in}
 use Rattle.mpx_post.specs.Seats.{lacks_topology, seat_at}
-use Rattle.mpx_birth.specs.Topologies.{TopologyView}
-use Rattle.mpx_birth.specs.Ends.{Meet}
+use Rattle.mpx_birth.specs.Topologies.{TopologyView, destinations_at}
+use Rattle.mpx_birth.specs.Ends.{rank_at, taken_at}
 use Rattle.mpx_post.specs.Posts.{Given, nothing_given, root_of, type_of, numbers_of, count_of, destinations_of, edges_of, fits_root, fits_type, group_of, sources_of, suits, weighted_of}
 use Rattle.mpx_birth.specs.declared.edges.Edge.{Edge}
 use Rattle.mpx_birth.specs.declared.edges.Neighbour.{Neighbour}
@@ -63,6 +67,10 @@ seat_of topology size rank given = seat_at topology size rank (is_root rank give
 abbrev pub blocks_of : Seat → Given → Option (List ℕ)
 blocks_of seat given = blocks_sent (fields_of given.kind).sent seat given.scounts given.rcounts
 
+-- the blocks' numbers of items of what the member with this rank sends
+abbrev pub counts_sent : Option TopologyView → RowView → (sender : ℕ) → List ℕ
+counts_sent topology row sender = unwrap_or (blocks_of (seat_of topology (length row) sender (post_at row sender)) (post_at row sender)) []
+
 -- as many numbers as the blocks have
 abbrev pub fill : Option (List ℕ) → Given → Bool
 fill None given = true
@@ -99,52 +107,64 @@ is_fit topology size rank given = fits_root size given
 
 -- how many items are sent on the edge at this place among the sender's destinations
 abbrev pub sent_on : Neighbourhood → Given → (place : ℕ) → ℕ
-sent_on H.Allgather given place = count_of given
-sent_on H.Allgatherv given place = count_of given
 sent_on H.Alltoall given place = count_at given.scounts 0
 sent_on H.Alltoallv given place = count_at given.scounts place
+sent_on exchange given place = count_of given
 
 -- how many items are awaited on the edge at this place among the receiver's sources
 abbrev pub awaited_on : Neighbourhood → Given → (place : ℕ) → ℕ
-awaited_on H.Allgather given place = received given
 awaited_on H.Allgatherv given place = count_at given.rcounts place
-awaited_on H.Alltoall given place = received given
 awaited_on H.Alltoallv given place = count_at given.rcounts place
+awaited_on exchange given place = received given
+
+-- what is asked of the amounts of a post: nothing, or that what it gives is the same as this, a number, the counts, or a number
+-- at each of so many places
+pub data Asked : Type 0 where
+  Any : Asked
+  Same : (given asked : ℕ) → Asked
+  SameCounts : (given asked : List ℕ) → Asked
+  SameAtEach : (places : ℕ) → (given asked : ℕ → ℕ) → Asked
+
+abbrev pub asked_of_exchange : Exchange → RowView → (rank : ℕ) → Given → Asked
+asked_of_exchange E.Barrier row rank given = Any
+asked_of_exchange E.Bcast row rank given = Same (received given) (received (first_of row))
+asked_of_exchange E.Gather row rank given = Same (count_of given) (count_of (root_post row))
+asked_of_exchange E.Gatherv row rank given = Same (count_of given) (count_at (root_post row).rcounts rank)
+asked_of_exchange E.Scatter row rank given = Same (received given) (received (root_post row))
+asked_of_exchange E.Scatterv row rank given = Same (received given) (count_at (root_post row).scounts rank)
+asked_of_exchange E.Allgather row rank given = Same (count_of given) (count_of (first_of row))
+asked_of_exchange E.Allgatherv row rank given = SameAtEach (length row) (λ receiver. count_of given) (λ receiver. count_at (post_at row receiver).rcounts rank)
+asked_of_exchange E.Alltoall row rank given = Same (received given) (received (first_of row))
+asked_of_exchange E.Alltoallv row rank given = SameAtEach (length row) (count_at given.scounts) (λ receiver. count_at (post_at row receiver).rcounts rank)
+
+abbrev pub asked_of_reduction : Reduction → RowView → Given → Asked
+asked_of_reduction R.ReduceScatterBlock row given = Same (received given) (received (first_of row))
+asked_of_reduction R.ReduceScatter row given = SameCounts given.rcounts (first_of row).rcounts
+asked_of_reduction reduction row given = Same (count_of given) (count_of (first_of row))
 
 -- on each edge from the member as many items are awaited at its other end as are sent (MPI 4.1 section 8.6)
-abbrev pub AlongEdges : Neighbourhood → Option TopologyView → RowView → ℕ → Given → Type 0
-AlongEdges exchange None row rank given = Unit {0}
-AlongEdges exchange (Some topology) row rank given = (place other theirs : ℕ) → Meet topology rank place other theirs → sent_on exchange given place ≡ awaited_on exchange (post_at row other) theirs
+abbrev pub asked_on_edges : Neighbourhood → Option TopologyView → RowView → ℕ → Given → Asked
+asked_on_edges exchange None row rank given = Any
+asked_on_edges exchange (Some topology) row rank given =
+    let destinations = destinations_at topology rank in
+    SameAtEach (length destinations) (sent_on exchange given) (λ place. awaited_on exchange (post_at row (rank_at destinations place)) (taken_at topology rank place))
 
--- the amounts of the member's post are what its kind asks of them
-abbrev pub AmountsAgree : Option TopologyView → Kind → RowView → ℕ → Given → Type 0
-AmountsAgree topology Barrier row rank given = Unit {0}
-AmountsAgree topology Bcast row rank given = received given ≡ received (first_of row)
-AmountsAgree topology Gather row rank given = count_of given ≡ count_of (root_post row)
-AmountsAgree topology Gatherv row rank given = count_of given ≡ count_at (root_post row).rcounts rank
-AmountsAgree topology Scatter row rank given = received given ≡ received (root_post row)
-AmountsAgree topology Scatterv row rank given = received given ≡ count_at (root_post row).scounts rank
-AmountsAgree topology Allgather row rank given = count_of given ≡ count_of (first_of row)
-AmountsAgree topology Allgatherv row rank given = (receiver : ℕ) → receiver < length row → count_of given ≡ count_at (post_at row receiver).rcounts rank
-AmountsAgree topology Alltoall row rank given = received given ≡ received (first_of row)
-AmountsAgree topology Alltoallv row rank given = (receiver : ℕ) → receiver < length row → count_at given.scounts receiver ≡ count_at (post_at row receiver).rcounts rank
-AmountsAgree topology Reduce row rank given = count_of given ≡ count_of (first_of row)
-AmountsAgree topology Allreduce row rank given = count_of given ≡ count_of (first_of row)
-AmountsAgree topology ReduceScatterBlock row rank given = received given ≡ received (first_of row)
-AmountsAgree topology ReduceScatter row rank given = given.rcounts ≡ (first_of row).rcounts
-AmountsAgree topology Scan row rank given = count_of given ≡ count_of (first_of row)
-AmountsAgree topology Exscan row rank given = count_of given ≡ count_of (first_of row)
-AmountsAgree topology Dup row rank given = Unit {0}
-AmountsAgree topology Split row rank given = Unit {0}
-AmountsAgree topology Create row rank given = Unit {0}
-AmountsAgree topology CreateGroup row rank given = Unit {0}
-AmountsAgree topology DistGraph row rank given = Unit {0}
-AmountsAgree topology DistGraphAdjacent row rank given = Unit {0}
-AmountsAgree topology NeighborAllgather row rank given = AlongEdges H.Allgather topology row rank given
-AmountsAgree topology NeighborAllgatherv row rank given = AlongEdges H.Allgatherv topology row rank given
-AmountsAgree topology NeighborAlltoall row rank given = AlongEdges H.Alltoall topology row rank given
-AmountsAgree topology NeighborAlltoallv row rank given = AlongEdges H.Alltoallv topology row rank given
-AmountsAgree topology Free row rank given = Unit {0}
+-- what its kind asks of the amounts of the member's post
+abbrev pub asked_of : Option TopologyView → Kind → RowView → (rank : ℕ) → Given → Asked
+asked_of topology (K.Exchange exchange) row rank given = asked_of_exchange exchange row rank given
+asked_of topology (K.Reduction reduction) row rank given = asked_of_reduction reduction row given
+asked_of topology (K.Neighbourhood exchange) row rank given = asked_on_edges exchange topology row rank given
+asked_of topology kind row rank given = Any
+
+-- it is given
+abbrev pub IsGiven : Asked → Type 0
+IsGiven Any = Unit {0}
+IsGiven (Same given asked) = given ≡ asked
+IsGiven (SameCounts given asked) = given ≡ asked
+IsGiven (SameAtEach places given asked) = (place : ℕ) → place < places → given place ≡ asked place
+
+abbrev pub AmountsAgree : Option TopologyView → Kind → RowView → (rank : ℕ) → Given → Type 0
+AmountsAgree topology kind row rank given = IsGiven (asked_of topology kind row rank given)
 
 -- each member of the group that the post gives, if any, gives the same group (MPI 4.1 section 7.4.2)
 abbrev pub GroupsAgree : RowView → Given → Type 0

@@ -8,13 +8,15 @@ use Rattle.mpx_num.specs.declared.own.Operation.{Operation}
 use Rattle.mpx_num.specs.Operations.{fits, is_for}
 use Rattle.mpx_num.specs.Types.{least, greatest, item_len}
 use Rattle.mpx_num.specs.declared.types.Ty.{Ty}
-use Rattle.mpx_num.specs.declared.types.Ty.TheVariants.{I32}
+use Rattle.mpx_num.specs.declared.types.Ty.TheVariants.{I8, I32}
+use Rattle.mpx_num.specs.declared.operations.Op.TheVariants.{Sum}
 use Rattle.mpx_post.specs.declared.draft.At.{At}
 use Rattle.mpx_post.specs.declared.draft.Draft.{Draft}
 use Rattle.mpx_post.specs.declared.draft.PostError.{PostError}
 use Rattle.mpx_post.specs.declared.draft.PostError.TheVariants.{NotMember, Closed, RootOutOfRange, OpNotForType, CountsLength, ItemsLength, ItemOutOfRange, TooManyItems, NoTopology, CallsUsedUp, DepthUsedUp, BadGroup, BadEdge, TooManyEdges, BadTag, OutOfMemory}
 use Rattle.mpx_kind.specs.declared.kinds.Number.{Number}
 use Rattle.mpx_kind.specs.declared.kinds.Seat.{Seat}
+use Rattle.mpx_kind.specs.declared.kinds.Call.{Call}
 use Rattle.mpx_kind.specs.declared.kinds.Makes.{Makes}
 use Rattle.mpx_kind.specs.declared.kinds.Makes.TheVariants as M
 use Rattle.mpx_post.specs.declared.making.Making.{Making}
@@ -23,7 +25,7 @@ use Rattle.mpx_group.specs.Group.{has_twice}
 use Rattle.mpx_name.specs.Name.{Name, is_gathering}
 use Rattle.mpx_birth.specs.Births.{BirthView, rank_in}
 use Rattle.mpx_post.specs.Seats.{lacks_topology, seat_at}
-use Rattle.mpx_kind.specs.Kinds.{family_of, fields_of, number_in, is_had, kind_of, mode_of, makes_communicators, is_gathered}
+use Rattle.mpx_kind.specs.Kinds.{fields_of, number_in, is_had, kind_of, mode_of, makes_communicators, is_gathered}
 use Rattle.mpx_post.specs.Blocks.{blocks_sent}
 use Rattle.mpx_birth.specs.declared.edges.Edge.{Edge}
 use Rattle.mpx_birth.specs.declared.edges.Neighbour.{Neighbour}
@@ -49,6 +51,10 @@ most_steps = 8
 abbrev pub at : Name → ℕ → (closed : Bool) → At
 at name call closed = record { call = call; depth = length name; closed = closed; gathering = is_gathering name }
 
+-- the draft of a call that tells nothing else
+abbrev pub empty_draft : Call → Draft
+empty_draft call = record { call = call; root = pos 0; op = Sum; ty = I8; scounts = []; rcounts = []; items = []; colour = None; key = pos 0; group = []; graph = None }
+
 -- WHAT A DRAFT HAS. A field that its kind hasn't is not looked at.
 
 abbrev pub sent_counts : Draft → List ℤ
@@ -62,11 +68,8 @@ drafted_numbers draft = cond (fields_of (kind_of draft.call)).items draft.items 
 
 -- the ranks of its group
 abbrev pub ranks_in : Makes → Draft → List ℤ
-ranks_in M.Nothing draft = []
-ranks_in M.Colour draft = []
 ranks_in M.Group draft = draft.group
-ranks_in M.Edges draft = []
-ranks_in M.Neighbours draft = []
+ranks_in makes draft = []
 
 -- its graph: unweighted and without edges where it has none
 abbrev pub graph_of : Draft → GraphView
@@ -133,11 +136,8 @@ is_tag z = int_le (pos 0) z && nat_lt (natural z) (2 ^ 15)
 
 -- the colour and the key are within their limits, where the kind has them
 abbrev pub has_colour_and_key : Makes → Draft → Bool
-has_colour_and_key M.Nothing draft = true
 has_colour_and_key M.Colour draft = option_map_or is_colour draft.colour true && is_key draft.key
-has_colour_and_key M.Group draft = true
-has_colour_and_key M.Edges draft = true
-has_colour_and_key M.Neighbours draft = true
+has_colour_and_key makes draft = true
 
 -- a weight: from 0 to 2^31 - 1, where edges have weights
 abbrev pub is_weight : (weighted : Bool) → ℤ → Bool
@@ -152,19 +152,15 @@ is_neighbour size weighted neighbour = is_rank size neighbour.rank && is_weight 
 
 -- the edges that the kind looks at are between ranks of so many, with weights
 abbrev pub are_edges : Makes → (size : ℕ) → GraphView → Bool
-are_edges M.Nothing size graph = true
-are_edges M.Colour size graph = true
-are_edges M.Group size graph = true
 are_edges M.Edges size graph = list_all (is_edge size graph.weighted) graph.edges
 are_edges M.Neighbours size graph = list_all (is_neighbour size graph.weighted) graph.sources && list_all (is_neighbour size graph.weighted) graph.destinations
+are_edges makes size graph = true
 
 -- how many edges the kind looks at
 abbrev pub edge_count : Makes → GraphView → ℕ
-edge_count M.Nothing graph = 0
-edge_count M.Colour graph = 0
-edge_count M.Group graph = 0
 edge_count M.Edges graph = length graph.edges
 edge_count M.Neighbours graph = length graph.sources + length graph.destinations
+edge_count makes graph = 0
 
 -- calls of create_group are made on gatherings, and no others are
 abbrev pub is_misplaced : (gathering gathered : Bool) → Bool
@@ -172,13 +168,13 @@ is_misplaced gathering gathered = cond gathering (not gathered) gathered
 
 -- such calls aren't made there, or a rank of the group is none of so many or stands twice
 abbrev pub has_bad_group : (size : ℕ) → At → Draft → Bool
-has_bad_group size at draft = is_misplaced at.gathering (is_gathered (family_of (kind_of draft.call))) || not (are_ranks size (ranks_in (fields_of (kind_of draft.call)).makes draft))
+has_bad_group size at draft = is_misplaced at.gathering (is_gathered (kind_of draft.call)) || not (are_ranks size (ranks_in (fields_of (kind_of draft.call)).makes draft))
 
 -- what is asked last, of the place of the call and of the new communicator
 abbrev pub place_refusals : (size : ℕ) → At → Draft → List (Bool × PostError)
 place_refusals size at draft =
     (at.call == most_calls, CallsUsedUp)
-    ∷ (makes_communicators (family_of (kind_of draft.call)) && nat_le most_steps at.depth, DepthUsedUp)
+    ∷ (makes_communicators (kind_of draft.call) && nat_le most_steps at.depth, DepthUsedUp)
     ∷ (has_bad_group size at draft, BadGroup)
     ∷ (not (are_edges (fields_of (kind_of draft.call)).makes size (graph_of draft)), BadEdge)
     ∷ (nat_lt most_edges (edge_count (fields_of (kind_of draft.call)).makes (graph_of draft)), TooManyEdges)

@@ -32,9 +32,8 @@ same_kind a b = code_of_kind a == code_of_kind b
 
 abbrev pub same_mode : Mode → Mode → Bool
 same_mode Blocking Blocking = true
-same_mode Blocking Nonblocking = false
-same_mode Nonblocking Blocking = false
 same_mode Nonblocking Nonblocking = true
+same_mode a b = false
 
 abbrev pub same_type : Ty → Ty → Bool
 same_type a b = code_of_type a == code_of_type b
@@ -45,9 +44,8 @@ same_operation a b = code_of_operation a == code_of_operation b
 -- both have none, or both the same
 abbrev pub same_option : {A : Type 0} → (A → A → Bool) → Option A → Option A → Bool
 same_option same None None = true
-same_option same None (Some b) = false
-same_option same (Some a) None = false
 same_option same (Some a) (Some b) = same a b
+same_option same a b = false
 
 abbrev pub same_root : Option ℕ → Option ℕ → Bool
 same_root a b = same_option nat_eq a b

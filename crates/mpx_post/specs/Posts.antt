@@ -12,7 +12,8 @@ use Rattle.mpx_num.specs.ItemList.{AreItems, ItemList, item_count}
 use Rattle.mpx_num.specs.declared.own.Operation.{Operation}
 use Rattle.mpx_num.specs.Operations.{fits, is_for}
 use Rattle.mpx_kind.specs.declared.kinds.Kind.{Kind}
-use Rattle.mpx_kind.specs.declared.kinds.Kind.TheVariants.{Barrier}
+use Rattle.mpx_kind.specs.declared.kinds.Kind.TheVariants as K
+use Rattle.mpx_kind.specs.declared.kinds.Exchange.TheVariants as E
 use Rattle.mpx_kind.specs.declared.kinds.Mode.{Mode}
 use Rattle.mpx_kind.specs.declared.kinds.Mode.TheVariants.{Blocking}
 use Rattle.mpx_kind.specs.declared.kinds.Makes.{Makes}
@@ -22,7 +23,7 @@ use Rattle.mpx_post.specs.declared.making.Making.TheVariants.{Nothing, Split, Gr
 use Rattle.mpx_birth.specs.declared.edges.Edge.{Edge}
 use Rattle.mpx_birth.specs.declared.edges.Neighbour.{Neighbour}
 use Rattle.mpx_post.specs.Graphs.{AreEdges, AreNeighbours}
-use Rattle.mpx_kind.specs.Kinds.{family_of, fields_of, frees, is_had, may_be}
+use Rattle.mpx_kind.specs.Kinds.{fields_of, frees, is_had, may_be}
 
 -- what one member gives to one call: the kind with its fields
 pub record Given : Type 0 where
@@ -81,7 +82,7 @@ pub record IsMaking (makes : Makes) (making : Making) : Type 0 where
 
 -- whether it frees its communicator
 abbrev pub is_free : Given → Bool
-is_free given = frees (family_of given.kind)
+is_free given = frees given.kind
 
 -- the rank of the root, of a post that has one
 abbrev pub root_of : Given → ℕ
@@ -104,53 +105,33 @@ abbrev pub count_of : Given → ℕ
 count_of given = item_count (type_of given) (numbers_of given)
 
 abbrev pub colour_in : Making → Option ℕ
-colour_in Nothing = None
 colour_in (Split colour key) = colour
-colour_in (Group ranks) = None
-colour_in (Edges edges) = None
-colour_in (Neighbours near) = None
+colour_in making = None
 
 abbrev pub key_in : Making → ℤ
-key_in Nothing = pos 0
 key_in (Split colour key) = key
-key_in (Group ranks) = pos 0
-key_in (Edges edges) = pos 0
-key_in (Neighbours near) = pos 0
+key_in making = pos 0
 
 abbrev pub group_in : Making → List ℕ
-group_in Nothing = []
-group_in (Split colour key) = []
 group_in (Group ranks) = ranks
-group_in (Edges edges) = []
-group_in (Neighbours near) = []
+group_in making = []
 
 abbrev pub weighted_in : Making → Bool
-weighted_in Nothing = false
-weighted_in (Split colour key) = false
-weighted_in (Group ranks) = false
 weighted_in (Edges edges) = edges.weighted
 weighted_in (Neighbours near) = near.weighted
+weighted_in making = false
 
 abbrev pub edges_in : Making → List Edge
-edges_in Nothing = []
-edges_in (Split colour key) = []
-edges_in (Group ranks) = []
 edges_in (Edges edges) = edges.edges
-edges_in (Neighbours near) = []
+edges_in making = []
 
 abbrev pub sources_in : Making → List Neighbour
-sources_in Nothing = []
-sources_in (Split colour key) = []
-sources_in (Group ranks) = []
-sources_in (Edges edges) = []
 sources_in (Neighbours near) = near.sources
+sources_in making = []
 
 abbrev pub destinations_in : Making → List Neighbour
-destinations_in Nothing = []
-destinations_in (Split colour key) = []
-destinations_in (Group ranks) = []
-destinations_in (Edges edges) = []
 destinations_in (Neighbours near) = near.destinations
+destinations_in making = []
 
 -- the colour, of a post that has one and in which it isn't undefined
 abbrev pub colour_of : Given → Option ℕ
@@ -203,7 +184,7 @@ abbrev pub are_items_of : Option ItemList → Type 0
 are_items_of None = Unit {0}
 are_items_of (Some items) = AreItems items.ty items.nums
 
--- it has the fields of its kind and no others, a mode of its family, a root below 64, an operation that may stand beside the
+-- it has the fields of its kind and no others, a mode that its calls may be of, a root below 64, an operation that may stand beside the
 -- items' type, and not too many items
 pub record IsPost (given : Given) : Type 0 where
   pub root : is_some given.root ≡ (fields_of given.kind).root
@@ -214,9 +195,9 @@ pub record IsPost (given : Given) : Type 0 where
   pub rcounts : NoneUnless (is_had (fields_of given.kind).rcounts) given.rcounts
   pub items : is_some given.items ≡ (fields_of given.kind).items
   pub few : few_items given.items
-  pub mode : may_be given.mode (family_of given.kind) ≡ true
+  pub mode : may_be given.mode given.kind ≡ true
   pub making : IsMaking (fields_of given.kind).makes given.making
 
 -- what stands where nothing is given
 abbrev pub nothing_given : Given
-nothing_given = record { kind = Barrier; mode = Blocking; root = None; op = None; scounts = []; rcounts = []; items = None; making = Nothing }
+nothing_given = record { kind = K.Exchange E.Barrier; mode = Blocking; root = None; op = None; scounts = []; rcounts = []; items = None; making = Nothing }

@@ -2,7 +2,7 @@
 use Rattle.std.specs.Prelude.{ℕ, Bool, Option, ◌&&◌, not, is_some}
 use Rattle.mpx_kind.specs.declared.kinds.Kind.{Kind}
 use Rattle.mpx_kind.specs.declared.kinds.Seat.{Seat}
-use Rattle.mpx_kind.specs.Kinds.{family_of, needs_topology}
+use Rattle.mpx_kind.specs.Kinds.{needs_topology}
 use Rattle.mpx_birth.specs.Topologies.{TopologyView, indegree_in, outdegree_in}
 
 -- of the member with this rank, of so many
@@ -11,4 +11,4 @@ seat_at topology size rank at_root = record { size = size; at_root = at_root; in
 
 -- a call along edges, where there are none
 abbrev pub lacks_topology : Option TopologyView → Kind → Bool
-lacks_topology topology kind = needs_topology (family_of kind) && not (is_some topology)
+lacks_topology topology kind = needs_topology kind && not (is_some topology)

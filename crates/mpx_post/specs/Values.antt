@@ -2,7 +2,7 @@
 use Rattle.std.specs.Prelude.{◌≡◌, List, ℤ, Result, Ok, Err}
 use Rattle.join_core.specs.declared.memory.OutOfMemory.{OutOfMemory}
 use Rattle.mpx_post.specs.declared.value.Value.{Value}
-use Rattle.mpx_post.specs.declared.value.Value.TheVariants.{Nothing, Absent, Items}
+use Rattle.mpx_post.specs.declared.value.Value.TheVariants.{Items}
 use Rattle.mpx_post.specs.Posts.{type_of}
 use Rattle.mpx_post.specs.Rows.{RowView}
 use Rattle.mpx_post.specs.Agreement.{first_of}
@@ -13,9 +13,8 @@ as_items row nums = Items (record { ty = type_of (first_of row); nums = nums })
 
 -- whether a value has items: the others are told without memory
 abbrev pub HasItems : Value → Type 0
-HasItems Nothing = ⊥
-HasItems Absent = ⊥
 HasItems (Items items) = Unit {0}
+HasItems value = ⊥
 
 -- an answer is the value, or want of memory in the place of one with items
 abbrev pub GivesValue : Value → Result Value OutOfMemory → Type 0

@@ -6,7 +6,7 @@ ghost use Rattle.mpx_num.specs.Operations.{fits};
 ghost use Rattle.mpx_kind.specs.Kinds.{fields_of, kind_of};
 ghost use Rattle.mpx_post.specs.Seats.{lacks_topology};
 ghost use Rattle.mpx_birth.specs.Topologies.{most_neighbours};
-ghost use Rattle.mpx_post.specs.Drafts.{is_count, naturals, drafted_making, Checks, refusal_of, at, given_by, has_making, most_calls, numbers_refusal, checked, checked_in, is_rank as is_rank_of, is_drafted_root, drafted_seat, sent_counts, received_counts, unless};
+ghost use Rattle.mpx_post.specs.Drafts.{empty_draft, is_count, naturals, drafted_making, Checks, refusal_of, at, given_by, has_making, most_calls, numbers_refusal, checked, checked_in, is_rank as is_rank_of, is_drafted_root, drafted_seat, sent_counts, received_counts, unless};
 ghost use Rattle.mpx_post.specs.declared.draft.PostError.TheVariants.{TooManyItems};
 ghost use Rattle.mpx_post.specs.Posts.{most_counts};
 
@@ -121,6 +121,25 @@ pub enum PostError {
 pub const MOST_CALLS: u32 = 4_294_967_295;
 
 impl Draft {
+    /// The draft of this call that tells nothing else: it has no items, no counts and no graph. It takes no memory.
+    pub fn of(call: Call) -> Draft
+        ensures { result ≡ empty_draft call }
+    {
+        Draft {
+            call,
+            root: 0,
+            op: Op::Sum,
+            ty: Ty::I8,
+            scounts: Numbers::none(),
+            rcounts: Numbers::none(),
+            items: Numbers::none(),
+            colour: None,
+            key: 0,
+            group: Numbers::none(),
+            graph: None,
+        }
+    }
+
     /// The post of this draft, or the first reason why the process may not post it as its next call.
     pub fn check(
         self,

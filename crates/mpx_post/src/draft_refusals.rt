@@ -1,7 +1,7 @@
 //! Why a draft is refused: what is asked of it, in the order in which it is told.
 ghost use Rattle.std.specs.Prelude.{◌≡◌, ◌≤◌, ◌&&◌, nat_le, Some, not, length};
 ghost use Rattle.mpx_post.specs.Drafts.{asked_first, first_that_holds, has_bad_group, has_colour_and_key, has_its_counts, is_misfilled, is_rank as is_rank_of, most_steps, numbers_refusal, place_refusals, ranks_in, received_counts, sent_counts, stray_refusals};
-ghost use Rattle.mpx_kind.specs.Kinds.{family_of, fields_of, kind_of, makes_communicators};
+ghost use Rattle.mpx_kind.specs.Kinds.{fields_of, kind_of, makes_communicators};
 ghost use Rattle.mpx_birth.specs.Topologies.{most_neighbours};
 
 use crate::counts::are_counts;
@@ -143,7 +143,7 @@ impl Draft {
 
     // Whether the new communicator's name would have too many steps.
     fn is_too_deep(&self, at: &At) -> bool
-        ensures { result ≡ (makes_communicators (family_of (kind_of self.now.call)) && nat_le most_steps at.now.depth) }
+        ensures { result ≡ (makes_communicators (kind_of self.now.call) && nat_le most_steps at.now.depth) }
     {
         self.call.kind().makes_communicators() & (8 <= at.depth)
     }
@@ -163,10 +163,7 @@ impl Draft {
     {
         match self.call.kind().fields().makes {
             Makes::Group => self.group.as_slice(),
-            Makes::Nothing => &[],
-            Makes::Colour => &[],
-            Makes::Edges => &[],
-            Makes::Neighbours => &[],
+            _ => &[],
         }
     }
 
@@ -176,10 +173,7 @@ impl Draft {
     {
         match self.call.kind().fields().makes {
             Makes::Colour => is_colour(self.colour) & is_key(self.key),
-            Makes::Nothing => true,
-            Makes::Group => true,
-            Makes::Edges => true,
-            Makes::Neighbours => true,
+            _ => true,
         }
     }
 }

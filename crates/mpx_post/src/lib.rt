@@ -1,7 +1,7 @@
 //! What a process gives to a call: drafts, posts and the rows that they make.
 //!
 //! A [`Kind`] of call has one row in a table (`mpx_kind`): which fields its posts have, how many counts, and how their items
-//! are cut into blocks; and one row that says its [`Family`], by which its value is found. A post is seen by contracts as the
+//! are cut into blocks. A post is seen by contracts as the
 //! record of its fields (`specs/Posts.antt`), a row as the list of its posts in rank order (`specs/Rows.antt`), and a
 //! communicator as its members and their topology (`mpx_birth`). A draft is accepted or refused by one list of conditions in
 //! the order in which they are told, or, where no communicator is at hand, by the limits of all (`specs/Drafts.antt`), and a
@@ -37,8 +37,8 @@ pub use graph_parts::{Edges, OwnNeighbours};
 pub use making::Making;
 pub use mpx_birth::{Birth, Edge, Neighbour, Neighbours, Topology};
 pub use mpx_kind::{
-    Call, Exchange, Family, Fields, Kind, Makes, Mode, Neighbourhood, NewCommunicator, Number,
-    Reduction, Seat, Sent,
+    Call, Exchange, Fields, Kind, Makes, Mode, Neighbourhood, NewCommunicator, Number, Reduction,
+    Seat, Sent,
 };
 pub use post::{Post, have_same_op};
 pub use ranks::Ranks;

@@ -60,11 +60,8 @@ impl Making {
         ensures { result ≡ colour_in self.now }
     {
         match self {
-            Making::Nothing => None,
             Making::Split { colour, .. } => *colour,
-            Making::Group(_) => None,
-            Making::Edges(_) => None,
-            Making::Neighbours(_) => None,
+            _ => None,
         }
     }
 
@@ -73,11 +70,8 @@ impl Making {
         ensures { result ≡ key_in self.now }
     {
         match self {
-            Making::Nothing => 0,
             Making::Split { key, .. } => *key,
-            Making::Group(_) => 0,
-            Making::Edges(_) => 0,
-            Making::Neighbours(_) => 0,
+            _ => 0,
         }
     }
 
@@ -86,11 +80,8 @@ impl Making {
         ensures { result.now ≡ group_in self.now }
     {
         match self {
-            Making::Nothing => &[],
-            Making::Split { .. } => &[],
             Making::Group(ranks) => ranks.as_slice(),
-            Making::Edges(_) => &[],
-            Making::Neighbours(_) => &[],
+            _ => &[],
         }
     }
 
@@ -99,11 +90,9 @@ impl Making {
         ensures { result ≡ weighted_in self.now }
     {
         match self {
-            Making::Nothing => false,
-            Making::Split { .. } => false,
-            Making::Group(_) => false,
             Making::Edges(edges) => edges.weighted(),
             Making::Neighbours(own) => own.weighted(),
+            _ => false,
         }
     }
 
@@ -112,11 +101,8 @@ impl Making {
         ensures { result.now ≡ edges_in self.now }
     {
         match self {
-            Making::Nothing => &[],
-            Making::Split { .. } => &[],
-            Making::Group(_) => &[],
             Making::Edges(edges) => edges.as_slice(),
-            Making::Neighbours(_) => &[],
+            _ => &[],
         }
     }
 
@@ -125,11 +111,8 @@ impl Making {
         ensures { result.now ≡ sources_in self.now }
     {
         match self {
-            Making::Nothing => &[],
-            Making::Split { .. } => &[],
-            Making::Group(_) => &[],
-            Making::Edges(_) => &[],
             Making::Neighbours(own) => own.sources(),
+            _ => &[],
         }
     }
 
@@ -138,11 +121,8 @@ impl Making {
         ensures { result.now ≡ destinations_in self.now }
     {
         match self {
-            Making::Nothing => &[],
-            Making::Split { .. } => &[],
-            Making::Group(_) => &[],
-            Making::Edges(_) => &[],
             Making::Neighbours(own) => own.destinations(),
+            _ => &[],
         }
     }
 

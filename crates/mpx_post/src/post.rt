@@ -59,7 +59,7 @@ impl Exact for Post {
     ghost between = { never_between };
 
     fn same(&self, other: &Post) -> bool {
-        (self.kind == other.kind)
+        (self.kind.code() == other.kind.code())
             & (self.mode == other.mode)
             & (self.root == other.root)
             & have_same_op(self.op, other.op)

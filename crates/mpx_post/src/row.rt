@@ -1,11 +1,11 @@
 //! The posts of all members to one call.
 ghost use Rattle.std.specs.Prelude.{◌≡◌, ◌<◌, ◌≤◌, Some, map, length, slice_get, true};
 ghost use Rattle.mpx_post.specs.Agreement.{IsFine, first_of, post_at};
-ghost use Rattle.mpx_kind.specs.Kinds.{family_of, fields_of};
+ghost use Rattle.mpx_kind.specs.Kinds.{fields_of};
 ghost use Rattle.mpx_post.specs.Posts.{numbers_of, type_of};
 
 use crate::post::Post;
-use mpx_kind::Family;
+use mpx_kind::Kind;
 use mpx_num::Items;
 use std::marker::Model;
 
@@ -54,12 +54,12 @@ impl<'a> Row<'a> {
         self.posts[rank]
     }
 
-    /// The family of the kind that rank 0 posts.
-    pub fn family(&self) -> Family
-        ensures { result ≡ family_of (first_of self.now).kind }
+    /// The kind that rank 0 posts.
+    pub fn kind(&self) -> Kind
+        ensures { result ≡ (first_of self.now).kind }
     {
         prove!(0 < self.len());
-        self.post(0).kind().family()
+        self.post(0).kind()
     }
 
     /// What the member with this rank gives, in a fine row of a kind whose posts have items.

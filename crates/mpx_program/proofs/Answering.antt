@@ -7,6 +7,9 @@ use Rattle.mpx_run.specs.Texts.{TakesInput}
 use Rattle.mpx_run.specs.declared.end.End.{End}
 use Rattle.mpx_run.specs.declared.texts.RunError.{RunError}
 use Rattle.mpx_run.specs.declared.texts.RunError.TheVariants.{Memory}
+use Rattle.mpx_run.specs.Founded.{IsFounded}
+use Rattle.mpx_run.specs.Reports.{IsPrinted}
+use Rattle.mpx_run.proofs.Less.{runs_printed}
 use Rattle.mpx_run.proofs.Pieces.{runs_input}
 use Rattle.mpx_program.specs.Jobs.{AnswersText, DoesJobWith, Exits, StrictBy, StrictOn}
 use Rattle.mpx_program.specs.Strict.{IsStrict}
@@ -18,7 +21,7 @@ kept (Some xs) = refl
 
 -- without memory nothing is done
 pub starved : (ops : List Operation) (call : Call) (text : List ℕ) (old : Option (List ℕ)) (more : List ℕ) (code : ℕ) (Says : List ℕ → Type 0) → Exits (Err Memory) false call.flags.explain more code Says
-    → AnswersText ops call text old old code Says
+    → AnswersText IsFounded ops call text old old code Says
 starved ops call text old more code Says exits = record {
   answer = Err Memory;
   prints = kept old;
@@ -30,11 +33,11 @@ starved ops call text old more code Says exits = record {
 }
 
 -- what is done with a text is done with what the reader gives
-pub does_text : (ops : List Operation) (call : Call) (there left old new : Option (List ℕ)) (text now : List ℕ) (code : ℕ) (Says : List ℕ → Type 0) → TakesInput there left text → now ≡ text → AnswersText ops call now old new code Says
-    → DoesJobWith ops call there left old new code Says
+pub does_text : (ops : List Operation) (call : Call) (there left old new : Option (List ℕ)) (text now : List ℕ) (code : ℕ) (Says : List ℕ → Type 0) → TakesInput there left text → now ≡ text → AnswersText IsFounded ops call now old new code Says
+    → DoesJobWith IsFounded ops call there left old new code Says
 does_text ops call there left old new text now code Says taken same a = record {
   answer = a.answer;
-  runs = runs_input ops nowhere call.job there left old new text now a.answer taken same a.prints;
+  runs = runs_input IsFounded ops nowhere call.job there left old new text now a.answer taken same a.prints;
   ungated = a.ungated;
   complains = a.complains;
   strict = by_answer a.answer a.complains a.strict;
@@ -44,3 +47,15 @@ does_text ops call there left old new text now code Says taken same a = record {
   by_answer : (answer : Result End RunError) (complains : Bool) → StrictOn ops call now answer complains → StrictBy ops call there left answer complains
   by_answer (Ok end) complains s = (text, taken, subst (λ xs. IsStrict ops call xs complains) same s)
   by_answer (Err error) complains s = tt
+
+-- what is printed, without that on which it stands
+pub does_printed : (ops : List Operation) (call : Call) (there left old new : Option (List ℕ)) (code : ℕ) (Says : List ℕ → Type 0) → DoesJobWith IsFounded ops call there left old new code Says → DoesJobWith IsPrinted ops call there left old new code Says
+does_printed ops call there left old new code Says d = record {
+  answer = d.answer;
+  runs = runs_printed ops nowhere call.job there left old new d.answer d.runs;
+  ungated = d.ungated;
+  complains = d.complains;
+  strict = d.strict;
+  more = d.more;
+  exits = d.exits;
+}

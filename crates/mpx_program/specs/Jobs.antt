@@ -5,7 +5,7 @@ use Rattle.clap.specs.declared.error.kind.ErrorKind.{ErrorKind}
 use Rattle.clap.specs.declared.error.kind.ErrorKind.TheVariants as kind
 use Rattle.mpx_num.specs.declared.own.Operation.{Operation}
 use Rattle.mpx_threads.specs.Gates.{nowhere}
-use Rattle.mpx_run.specs.Texts.{Prints, Runs, TakesInput}
+use Rattle.mpx_run.specs.Texts.{OfRuns, Prints, Runs, TakesInput}
 use Rattle.mpx_run.specs.declared.end.End.{End}
 use Rattle.mpx_run.specs.declared.texts.RunError.{RunError}
 use Rattle.mpx_run.specs.declared.texts.RunError.TheVariants.{GateGaveUp}
@@ -26,9 +26,9 @@ StrictOn ops call text (Ok end) complains = IsStrict ops call text complains
 StrictOn ops call text (Err error) complains = Unit {0}
 
 -- a call's job is done with a text by the job's own operations, and no gate ends it
-pub record AnswersText (ops : List Operation) (call : Call) (text : List ℕ) (old new : Option (List ℕ)) (code : ℕ) (Says : List ℕ → Type 0) : Type 0 where
+pub record AnswersText (Is : OfRuns) (ops : List Operation) (call : Call) (text : List ℕ) (old new : Option (List ℕ)) (code : ℕ) (Says : List ℕ → Type 0) : Type 0 where
   pub answer : Result End RunError
-  pub prints : Prints ops nowhere call.job text old new answer
+  pub prints : Prints Is ops nowhere call.job text old new answer
   pub ungated : answer ≢ Err GateGaveUp
   pub complains : Bool
   pub strict : StrictOn ops call text answer complains
@@ -43,9 +43,9 @@ StrictBy ops call there left (Err error) complains = Unit {0}
 -- a call's job is done with a script by the job's own operations, no gate ends it, and its answer gives the status and what is said. What is asked for
 -- beside the job changes nothing of what is printed: by `--strict` the status is 6 where it is 0 or 3 else and the script has calls to complain of, and by
 -- `--explain` the standard error is told more
-pub record DoesJobWith (ops : List Operation) (call : Call) (there left old new : Option (List ℕ)) (code : ℕ) (Says : List ℕ → Type 0) : Type 0 where
+pub record DoesJobWith (Is : OfRuns) (ops : List Operation) (call : Call) (there left old new : Option (List ℕ)) (code : ℕ) (Says : List ℕ → Type 0) : Type 0 where
   pub answer : Result End RunError
-  pub runs : Runs ops nowhere call.job there left old new answer
+  pub runs : Runs Is ops nowhere call.job there left old new answer
   pub ungated : answer ≢ Err GateGaveUp
   pub complains : Bool
   pub strict : StrictBy ops call there left answer complains
@@ -67,11 +67,11 @@ pub record RefusesWords (words : List (List ℕ)) (there left old new : Option (
   pub unwritten : new ≡ old
 
 -- the words ask for a job, and for what is beside it
-pub record DoesWords (ops : List Operation) (words : List (List ℕ)) (there left old new : Option (List ℕ)) (code : ℕ) (Says : List ℕ → Type 0) : Type 0 where
+pub record DoesWords (Is : OfRuns) (ops : List Operation) (words : List (List ℕ)) (there left old new : Option (List ℕ)) (code : ℕ) (Says : List ℕ → Type 0) : Type 0 where
   pub call : Call
   pub asks : call_in words ≡ Some call
-  pub does : DoesJobWith ops call there left old new code Says
+  pub does : DoesJobWith Is ops call there left old new code Says
 
 -- the words ask for a job, or are refused
-abbrev pub DoesJob : (ops : List Operation) (words : List (List ℕ)) (there left old new : Option (List ℕ)) (code : ℕ) (Says : List ℕ → Type 0) → Type 0
-DoesJob ops words there left old new code Says = DoesWords ops words there left old new code Says ⊎ RefusesWords words there left old new code Says
+abbrev pub DoesJob : (Is : OfRuns) (ops : List Operation) (words : List (List ℕ)) (there left old new : Option (List ℕ)) (code : ℕ) (Says : List ℕ → Type 0) → Type 0
+DoesJob Is ops words there left old new code Says = DoesWords Is ops words there left old new code Says ⊎ RefusesWords words there left old new code Says

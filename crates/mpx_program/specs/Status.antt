@@ -4,7 +4,7 @@ use Rattle.std.specs.List.{flat_map}
 use Rattle.std.specs.Fmt.{decimal}
 use Rattle.clap.specs.declared.error.kind.ErrorKind.{ErrorKind}
 use Rattle.clap.specs.declared.error.kind.ErrorKind.TheVariants as kind
-use Rattle.mpx_run.specs.Texts.{error_text}
+use Rattle.mpx_run.specs.Texts.{run_error_text}
 use Rattle.mpx_run.specs.declared.end.Cause.{Cause}
 use Rattle.mpx_run.specs.declared.end.Cause.TheVariants.{InEveryRun, TurnsUsedUp, AllLost, Unknown}
 use Rattle.mpx_run.specs.declared.end.End.{End}
@@ -33,18 +33,18 @@ refusal_status kind.OutOfMemory = 4
 refusal_status other = 1
 
 -- the ranks, each after a space
-abbrev pub ranks_text : List ℕ → List ℕ
-ranks_text ranks = flat_map (λ rank. codes " " ++ decimal rank) ranks
+abbrev pub waiting_ranks : List ℕ → List ℕ
+waiting_ranks ranks = flat_map (λ rank. codes " " ++ decimal rank) ranks
 
 -- the line of the ranks that wait
 abbrev pub waiting_text : List ℕ → List ℕ
-waiting_text ranks = codes "waiting:" ++ ranks_text ranks ++ codes "\n"
+waiting_text ranks = codes "waiting:" ++ waiting_ranks ranks ++ codes "\n"
 
 -- what is said of a job: nothing where it is finished
 abbrev pub message : Result End RunError → List ℕ
 message (Ok Finished) = []
 message (Ok (Waiting ranks cause)) = waiting_text ranks.items
-message (Err error) = error_text error ++ codes "\n"
+message (Err error) = run_error_text error ++ codes "\n"
 
 -- MORE
 

@@ -3,7 +3,7 @@ ghost use Rattle.std.specs.Prelude.{◌≡◌, [], false};
 
 use join_core::OutOfMemory;
 use mpx_eval::{certain_refusals, examine};
-use mpx_explain::{explain_calls, explain_refusals};
+use mpx_explain::{explain_calls, explain_refusals, explain_results};
 use mpx_num::Ops;
 use mpx_run::Command;
 use mpx_script::{ReadScriptError, Script, read_script};
@@ -11,7 +11,7 @@ use mpx_words::Call;
 use std::alloc::Global;
 
 /// Further lines, where `--explain` is asked for: of a refused script its refused lines, else its calls that are refused or are
-/// faults. Where memory is wanting, fewer lines.
+/// faults, and results that are past their types. Where memory is wanting, fewer lines.
 pub(crate) fn explained(alloc: Global, call: &Call, text: &[u8], ops: &Ops) -> Vec<u8>
     ensures { call.now.flags.explain ≡ false → result.items ≡ [] }
 {
@@ -50,5 +50,6 @@ fn push_calls(
     }
     let found = examine(alloc, script, ops)?;
     explain_calls(alloc, text, script, &found.complaints, false, told)?;
-    explain_calls(alloc, text, script, &found.unheard, true, told)
+    explain_calls(alloc, text, script, &found.unheard, true, told)?;
+    explain_results(alloc, text, script, &found, told)
 }

@@ -2,6 +2,8 @@
 ghost use Rattle.std.specs.Prelude.{OnOk, map, string_bytes};
 ghost use Rattle.std.specs.Io.KnownBytes.{Appends};
 ghost use Rattle.clap.specs.Words.{kind_of};
+ghost use Rattle.mpx_run.specs.Founded.{IsFounded};
+ghost use Rattle.mpx_run.specs.Reports.{IsPrinted};
 ghost use Rattle.mpx_program.specs.Jobs.{AnswersText, DoesJob, DoesJobWith, Exits, IsRefused};
 
 use crate::explaining::explained;
@@ -26,6 +28,9 @@ pub struct Exit {
 
 /// Does the job that the words ask for: reads the script from `reader`, writes what it comes to to `out`, and tells `err`
 /// what is to be said. Where the words ask for none, `err` is told why, and nothing is read or written besides.
+///
+/// Who asks what is printed, and with which status, reads `prints` alone. On which nodes or ports a run stands, and how many turns were
+/// made by the seed and the loss, says `founded`.
 pub fn run_job<T: Threads + Wait + Sync, R: Read, W: Write, E: Write>(
     rt: &T,
     alloc: Global,
@@ -35,7 +40,9 @@ pub fn run_job<T: Threads + Wait + Sync, R: Read, W: Write, E: Write>(
     err: &mut E,
     ops: &Ops,
 ) -> Exit
-    ensures { DoesJob (⟦<Ops as Listing>⟧.operations ops.now) (map string_bytes words.now) (R.remaining reader.old) (R.remaining reader.new) (W.contents out.old) (W.contents out.new)
+    ensures prints { DoesJob IsPrinted (⟦<Ops as Listing>⟧.operations ops.now) (map string_bytes words.now) (R.remaining reader.old) (R.remaining reader.new) (W.contents out.old) (W.contents out.new)
+        result.status (λ said. OnOk result.told (Appends (E.contents err.old) (E.contents err.new) said)) }
+    ensures founded { DoesJob IsFounded (⟦<Ops as Listing>⟧.operations ops.now) (map string_bytes words.now) (R.remaining reader.old) (R.remaining reader.new) (W.contents out.old) (W.contents out.new)
         result.status (λ said. OnOk result.told (Appends (E.contents err.old) (E.contents err.new) said)) }
 {
     run_job_observed(rt, alloc, words, reader, out, err, &mut Unobserved, ops)
@@ -53,7 +60,9 @@ pub fn run_job_observed<T: Threads + Wait + Sync, R: Read, W: Write, E: Write>(
     observer: &mut dyn Observer,
     ops: &Ops,
 ) -> Exit
-    ensures { DoesJob (⟦<Ops as Listing>⟧.operations ops.now) (map string_bytes words.now) (R.remaining reader.old) (R.remaining reader.new) (W.contents out.old) (W.contents out.new)
+    ensures prints { DoesJob IsPrinted (⟦<Ops as Listing>⟧.operations ops.now) (map string_bytes words.now) (R.remaining reader.old) (R.remaining reader.new) (W.contents out.old) (W.contents out.new)
+        result.status (λ said. OnOk result.told (Appends (E.contents err.old) (E.contents err.new) said)) }
+    ensures founded { DoesJob IsFounded (⟦<Ops as Listing>⟧.operations ops.now) (map string_bytes words.now) (R.remaining reader.old) (R.remaining reader.new) (W.contents out.old) (W.contents out.new)
         result.status (λ said. OnOk result.told (Appends (E.contents err.old) (E.contents err.new) said)) }
 {
     match call_of(alloc, words) {
@@ -83,7 +92,7 @@ fn do_call<T: Threads + Wait + Sync, R: Read, W: Write, E: Write>(
     observer: &mut dyn Observer,
     ops: &Ops,
 ) -> Exit
-    ensures { DoesJobWith (⟦<Ops as Listing>⟧.operations ops.now) call.now (R.remaining reader.old) (R.remaining reader.new) (W.contents out.old) (W.contents out.new)
+    ensures { DoesJobWith IsFounded (⟦<Ops as Listing>⟧.operations ops.now) call.now (R.remaining reader.old) (R.remaining reader.new) (W.contents out.old) (W.contents out.new)
         result.status (λ said. OnOk result.told (Appends (E.contents err.old) (E.contents err.new) said)) }
 {
     match read_bytes(alloc, reader) {
@@ -109,7 +118,7 @@ fn do_text<T: Threads + Wait + Sync, W: Write, E: Write>(
     observer: &mut dyn Observer,
     ops: &Ops,
 ) -> Exit
-    ensures { AnswersText (⟦<Ops as Listing>⟧.operations ops.now) call.now text.now (W.contents out.old) (W.contents out.new)
+    ensures { AnswersText IsFounded (⟦<Ops as Listing>⟧.operations ops.now) call.now text.now (W.contents out.old) (W.contents out.new)
         result.status (λ said. OnOk result.told (Appends (E.contents err.old) (E.contents err.new) said)) }
 {
     let Ok(complains) = complains(alloc, call, text, ops) else {

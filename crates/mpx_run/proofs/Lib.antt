@@ -1,2 +1,4 @@
+mod Waiting
 mod Reporting
+pub mod Less
 pub mod Pieces

@@ -10,7 +10,7 @@ use Rattle.mpx_run.specs.declared.end.End.{End}
 use Rattle.mpx_job.specs.declared.Job.{Job}
 use Rattle.mpx_script.specs.Words.{bytes_limit}
 use Rattle.mpx_threads.specs.declared.gate.Step.{Step}
-use Rattle.mpx_run.specs.Texts.{Prints, TakesInput, TakesPart, Runs}
+use Rattle.mpx_run.specs.Texts.{OfRuns, Prints, TakesInput, TakesPart, Runs}
 use Rattle.mpx_run.specs.declared.texts.RunError.{RunError}
 use Rattle.mpx_run.specs.declared.texts.RunError.TheVariants as E
 
@@ -125,11 +125,13 @@ takes_part None left text t = ([], omega arith, tt)
 takes_part (Some all) left text t = (text, subst (λ xs. length xs ≤ bytes_limit + 1) (sym t.0) (within_take (bytes_limit + 1) all), t.1)
 
 -- the answer of a text's run is that of a reader which gives the text
-pub runs_input : (ops : List Operation) (gives_up : ℕ → Step → ℕ → Type 0) (job : Job) (there left old new : Option (List ℕ)) (text now : List ℕ) (answer : Result End RunError) → TakesInput there left text → now ≡ text → Prints ops gives_up job now old new answer → Runs ops gives_up job there left old new answer
-runs_input ops gives_up job there left old new text now (Ok end) t e p = record { text = text; taken = t; prints = subst (λ xs. Prints ops gives_up job xs old new (Ok end)) e p }
-runs_input ops gives_up job there left old new text now (Err (E.Script refusal)) t e p = record { text = text; taken = t; prints = subst (λ xs. Prints ops gives_up job xs old new (Err (E.Script refusal))) e p }
-runs_input ops gives_up job there left old new text now (Err E.TooManyProcesses) t e p = record { text = text; taken = t; prints = subst (λ xs. Prints ops gives_up job xs old new (Err E.TooManyProcesses)) e p }
-runs_input ops gives_up job there left old new text now (Err E.Memory) t e p = (takes_part there left text t, p)
-runs_input ops gives_up job there left old new text now (Err E.Read) t e p = absurd p
-runs_input ops gives_up job there left old new text now (Err E.Write) t e p = record { text = text; taken = t; prints = subst (λ xs. Prints ops gives_up job xs old new (Err E.Write)) e p }
-runs_input ops gives_up job there left old new text now (Err E.GateGaveUp) t e p = record { text = text; taken = t; prints = subst (λ xs. Prints ops gives_up job xs old new (Err E.GateGaveUp)) e p }
+pub runs_input : (Is : OfRuns) (ops : List Operation) (gives_up : ℕ → Step → ℕ → Type 0) (job : Job) (there left old new : Option (List ℕ)) (text now : List ℕ) (answer : Result End RunError) → TakesInput there left text → now ≡ text → Prints Is ops gives_up job now old new answer → Runs Is ops gives_up job there left old new answer
+runs_input Is ops gives_up job there left old new text now answer t e p = by_answer answer (subst (λ xs. Prints Is ops gives_up job xs old new answer) e p) where
+  by_answer : (a : Result End RunError) → Prints Is ops gives_up job text old new a → Runs Is ops gives_up job there left old new a
+  by_answer (Ok end) q = record { text = text; taken = t; prints = q }
+  by_answer (Err (E.Script refusal)) q = record { text = text; taken = t; prints = q }
+  by_answer (Err E.TooManyProcesses) q = record { text = text; taken = t; prints = q }
+  by_answer (Err E.Memory) q = (takes_part there left text t, q)
+  by_answer (Err E.Read) q = absurd q
+  by_answer (Err E.Write) q = record { text = text; taken = t; prints = q }
+  by_answer (Err E.GateGaveUp) q = record { text = text; taken = t; prints = q }

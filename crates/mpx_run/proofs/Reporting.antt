@@ -1,5 +1,5 @@
 -- What is reported of a run.
-use Rattle.std.proofs.Common.{◌≡◌, ℕ, zero, suc, ◌<◌, Bool, true, false, nat_le, List, [], ◌++◌, length, Some, refl, sym, ap, ◌∙◌, subst, arith}
+use Rattle.std.proofs.Common.{◌≡◌, ℕ, zero, suc, ◌<◌, ◌≤◌, Bool, true, false, nat_le, List, [], ◌++◌, length, Some, refl, sym, ap, ◌∙◌, subst, arith}
 use Rattle.std.specs.Prelude.{slice_get, unwrap_or, IfOk, Result, Ok, Err, if◌then◌else◌}
 use Rattle.std.proofs.lemmas.Bool.Decides.{nat_tests}
 use Rattle.mpx_num.specs.declared.own.Operation.{Operation}
@@ -14,12 +14,14 @@ use Rattle.mpx_eval.specs.Evaluated.{IsEvaluated}
 use Rattle.mpx_job.specs.declared.Options.{Options}
 use Rattle.mpx_sim.specs.Ends.{AllMadeOr}
 use Rattle.mpx_sim.specs.Turns.{AreAfter}
-use Rattle.mpx_system.specs.Runs.{IsRun, IsOver, Begin, AreAll, AreWhole}
+use Rattle.mpx_system.specs.Runs.{IsRun, IsOver, Begin, AreAll, AreWhole, IsEvaluationOf}
 use Rattle.mpx_system.proofs.Results.{some_at}
 use Rattle.mpx_threads.specs.ThreadRuns.{IsThreadRun}
-use Rattle.mpx_run.specs.Reports.{IsAllOf, IsBy, IsForGood, IsReport, IsThreadReport, IsEvaluatedText, EndsSo, cause_of, lines_at, thread_cause}
+use Rattle.mpx_run.specs.Founded.{IsSimulated, IsThreaded, cause_of, thread_cause}
+use Rattle.mpx_run.specs.Reports.{EachWaits, IsAllOf, IsBy, IsForGood, IsOfRun, IsEvaluatedText, EndsSo, MayEnd, MayTell, lines_at}
+use Rattle.mpx_run.proofs.Waiting.{simulated_waits, threaded_waits}
 use Rattle.mpx_run.specs.declared.end.Cause.{Cause}
-use Rattle.mpx_run.specs.declared.end.Cause.TheVariants.{InEveryRun, TurnsUsedUp, AllLost}
+use Rattle.mpx_run.specs.declared.end.Cause.TheVariants.{InEveryRun, TurnsUsedUp, AllLost, Unknown}
 use Rattle.mpx_run.specs.declared.end.End.{End}
 use Rattle.mpx_run.specs.declared.end.End.TheVariants.{Finished, Waiting}
 
@@ -68,62 +70,97 @@ all_of script transcripts waiting end text e size lines ends all = record {
   ends = subst (EndsSo end) all.who ends;
 }
 
-pub reported : (ops : List Operation) (script : ScriptView) (options : Options) (nodes : List NodeView) (transcripts : List (List (List ℕ))) (waiting : List ℕ) (turns : ℕ) (end : End) (text : List ℕ) → IsRun ops script options.relays nodes transcripts waiting
-    → ((e : State) → IsEvaluation ops script.statements script.ranks e → Begin transcripts e) → ((e : State) → IsEvaluation ops script.statements script.ranks e → AreWhole transcripts waiting e)
-    → AreAfter ops script options.relays options.seed options.loss turns nodes → AllMadeOr turns options.turns (IsOver options.loss nodes waiting)
-    → (turns < options.turns → options.loss < 100 → (e : State) → IsEvaluation ops script.statements script.ranks e → AreAll transcripts waiting script.ranks e)
-    → text ≡ text_upto (lines_at transcripts) script.ranks → EndsSo end waiting → IsBy (cause_of turns options) end → IsReport ops script options end text
-reported ops script options nodes transcripts waiting turns end text run begins whole after ended rests lines ends by = record {
-  nodes = nodes;
-  transcripts = transcripts;
-  waiting = waiting;
-  turns = turns;
-  run = run;
-  lines = lines;
-  ends = ends;
-  begins = begins;
-  whole = λ e is finished.
-      let none = nobody end waiting ends finished in
-      lines ∙ text_of_state transcripts e script.ranks run.ranks_are (λ p said at. whole e is p said at (λ place w. cc (w, none)));
-  after = after;
-  ended = ended;
-  cause = by;
-  rests = λ good e is.
-      let left = turns_are_left turns options (for_good end (cause_of turns options) by good) in
-      all_of script transcripts waiting end text e run.ranks_are lines ends (rests left.0 left.1 e is);
-}
+-- who may be told so may be told so by the end
+may_end : (options : Options) (end : End) (cause : Cause) → IsBy cause end → MayTell options cause → MayEnd options end
+may_end options Finished cause by may = tt
+may_end options (Waiting ranks told) cause by may = subst (MayTell options) (sym by) may
+
+-- a simulated run tells a cause that it may tell
+may_tell : (made : ℕ) (options : Options) → options.threads ≡ false → MayTell options (cause_of made options)
+may_tell made options alone = by_turns (nat_le options.turns made) (nat_le 100 options.loss) refl where
+  by_turns : (t l : Bool) → nat_le 100 options.loss ≡ l → MayTell options (if t then TurnsUsedUp options.turns else (if l then AllLost else InEveryRun))
+  by_turns true l e = (alone, refl)
+  by_turns false true e = let lost : 100 ≤ options.loss = grind (arith, nat_tests) in (alone, lost)
+  by_turns false false e = tt
+
+-- and so does a run in threads
+may_tell_in_threads : (rests : Bool) (options : Options) → options.threads ≡ true → MayTell options (thread_cause rests)
+may_tell_in_threads true options threads = tt
+may_tell_in_threads false options threads = threads
+
+-- what is printed of lines, and of those who wait for a cause
+module _ (ops : List Operation) (options : Options) (script : ScriptView) (transcripts : List (List (List ℕ))) (waiting : List ℕ) (size : length transcripts ≡ script.ranks)
+    (begins : (e : State) → IsEvaluationOf ops script e → Begin transcripts e) (done : (e : State) → IsEvaluationOf ops script e → AreWhole transcripts waiting e)
+    (waits : (e : State) → IsEvaluationOf ops script e → EachWaits waiting script.ranks e) (cause : Cause) (may : MayTell options cause) (all : cause ≡ InEveryRun → (e : State) → IsEvaluationOf ops script e → AreAll transcripts waiting script.ranks e)
+    (end : End) (text : List ℕ) (lines : text ≡ text_upto (lines_at transcripts) script.ranks) (ends : EndsSo end waiting) (by : IsBy cause end) where
+  pub of_run : IsOfRun ops options script transcripts waiting end text
+  of_run = record {
+    ranks_are = size;
+    lines = lines;
+    ends = ends;
+    cause = may_end options end cause by may;
+    begins = begins;
+    done = done;
+    waits = waits;
+    whole = λ e is finished.
+        let none = nobody end waiting ends finished in
+        lines ∙ text_of_state transcripts e script.ranks size (λ p said at. done e is p said at (λ place w. cc (w, none)));
+    rests = λ good e is. all_of script transcripts waiting end text e size lines ends (all (for_good end cause by good) e is);
+  }
+
+module _ (ops : List Operation) (options : Options) (script : ScriptView) (nodes : List NodeView) (transcripts : List (List (List ℕ))) (waiting : List ℕ) (turns : ℕ)
+    (run : IsRun ops script options.relays nodes transcripts waiting) (after : AreAfter ops script options.relays options.seed options.loss turns nodes)
+    (ended : AllMadeOr turns options.turns (IsOver options.loss nodes waiting)) (alone : options.threads ≡ false)
+    (begins : (e : State) → IsEvaluationOf ops script e → Begin transcripts e) (done : (e : State) → IsEvaluationOf ops script e → AreWhole transcripts waiting e)
+    (all : turns < options.turns → options.loss < 100 → (e : State) → IsEvaluationOf ops script e → AreAll transcripts waiting script.ranks e)
+    (end : End) (text : List ℕ) (lines : text ≡ text_upto (lines_at transcripts) script.ranks) (ends : EndsSo end waiting) (by : IsBy (cause_of turns options) end) where
+  pub simulated : IsSimulated ops options script end text
+  simulated = record {
+    nodes = nodes;
+    transcripts = transcripts;
+    waiting = waiting;
+    turns = turns;
+    run = run;
+    prints = of_run ops options script transcripts waiting run.ranks_are begins done (simulated_waits ops script options.relays nodes transcripts waiting run) (cause_of turns options) (may_tell turns options alone)
+        (λ e. let left = turns_are_left turns options e in all left.0 left.1) end text lines ends by;
+    after = after;
+    ended = ended;
+    cause = by;
+  }
 
 -- a run in threads of which that is told rests
 was_at_rest : (rests : Bool) → thread_cause rests ≡ InEveryRun → rests ≡ true
 was_at_rest true e = refl
 was_at_rest false e = cc e
 
-pub threads_reported : (ops : List Operation) (script : ScriptView) (options : Options) (table : TableId) (ports : List PortView) (transcripts : List (List (List ℕ))) (waiting : List ℕ) (rests : Bool) (end : End) (text : List ℕ) → IsThreadRun ops script options.relays table ports transcripts waiting
-    → ((e : State) → IsEvaluation ops script.statements script.ranks e → Begin transcripts e) → ((e : State) → IsEvaluation ops script.statements script.ranks e → AreWhole transcripts waiting e)
-    → (rests ≡ true → (e : State) → IsEvaluation ops script.statements script.ranks e → AreAll transcripts waiting script.ranks e)
-    → text ≡ text_upto (lines_at transcripts) script.ranks → EndsSo end waiting → IsBy (thread_cause rests) end → IsThreadReport ops script options end text
-threads_reported ops script options table ports transcripts waiting rests end text run begins whole all lines ends by = record {
-  table = table;
-  ports = ports;
-  transcripts = transcripts;
-  waiting = waiting;
-  run = run;
-  lines = lines;
-  ends = ends;
-  begins = begins;
-  whole = λ e is finished.
-      let none = nobody end waiting ends finished in
-      lines ∙ text_of_state transcripts e script.ranks run.ranks_are (λ p said at. whole e is p said at (λ place w. cc (w, none)));
-  rests = λ good e is. all_of script transcripts waiting end text e run.ranks_are lines ends (all (was_at_rest rests (for_good end (thread_cause rests) by good)) e is);
-}
+module _ (ops : List Operation) (options : Options) (script : ScriptView) (table : TableId) (ports : List PortView) (transcripts : List (List (List ℕ))) (waiting : List ℕ) (rests : Bool)
+    (run : IsThreadRun ops script options.relays table ports transcripts waiting rests) (threads : options.threads ≡ true)
+    (begins : (e : State) → IsEvaluationOf ops script e → Begin transcripts e) (done : (e : State) → IsEvaluationOf ops script e → AreWhole transcripts waiting e)
+    (all : rests ≡ true → (e : State) → IsEvaluationOf ops script e → AreAll transcripts waiting script.ranks e)
+    (end : End) (text : List ℕ) (lines : text ≡ text_upto (lines_at transcripts) script.ranks) (ends : EndsSo end waiting) (by : IsBy (thread_cause rests) end) where
+  pub threaded : IsThreaded ops options script end text
+  threaded = record {
+    table = table;
+    ports = ports;
+    transcripts = transcripts;
+    waiting = waiting;
+    rests = rests;
+    run = run;
+    prints = of_run ops options script transcripts waiting run.ranks_are begins done (threaded_waits ops script options.relays table ports transcripts waiting rests run)
+        (thread_cause rests) (may_tell_in_threads rests options threads) (λ e. all (was_at_rest rests e)) end text lines ends by;
+    cause = by;
+  }
+
+pub if_ok_then : {T E : Type 0} {P Q : T → Type 0} (r : Result T E) → IfOk r P → ((x : T) → P x → Q x) → IfOk r Q
+if_ok_then (Ok x) p f = f x p
+if_ok_then (Err e) p f = tt
 
 pub evaluated : (ops : List Operation) (script : ScriptView) (transcripts : List (List (List ℕ))) (waiting : List ℕ) (end : End) (text : List ℕ) → IsEvaluated ops script transcripts waiting
     → text ≡ text_upto (lines_at transcripts) script.ranks → EndsSo end waiting → IsBy InEveryRun end → IsEvaluatedText ops script end text
 evaluated ops script transcripts waiting end text v lines ends by = record {
   evaluation = v.end;
   is = v.evaluation;
-  lines = lines ∙ text_of_state transcripts v.end script.ranks v.ranks_are v.lines;
-  ends = subst (EndsSo end) v.waiting_are ends;
+  all = record { lines = lines ∙ text_of_state transcripts v.end script.ranks v.ranks_are v.lines; ends = subst (EndsSo end) v.waiting_are ends };
   cause = by;
 }
 

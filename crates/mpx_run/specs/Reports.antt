@@ -1,18 +1,12 @@
 -- The text of a run and of an evaluation, how it ends, and why.
-use Rattle.std.specs.Prelude.{◌≡◌, ◌≢◌, ℕ, Bool, true, false, List, [], if◌then◌else◌, nat_le, slice_get, unwrap_or}
-use Rattle.atomic_table.specs.Seated.{TableId}
+use Rattle.std.specs.Prelude.{◌≡◌, ◌≢◌, ℕ, ◌<◌, ◌≤◌, true, false, List, [], length, Some, slice_get, unwrap_or}
 use Rattle.mpx_num.specs.declared.own.Operation.{Operation}
-use Rattle.mpx_node.specs.Nodes.{NodeView}
-use Rattle.mpx_bus.specs.Ports.{PortView}
 use Rattle.mpx_job.specs.declared.Options.{Options}
 use Rattle.mpx_script.specs.ScriptView.{ScriptView}
-use Rattle.mpx_meaning.specs.Evaluation.{State, IsEvaluation}
-use Rattle.mpx_meaning.specs.Reports.{lines_in, waiting_in}
+use Rattle.mpx_meaning.specs.Evaluation.{State}
+use Rattle.mpx_meaning.specs.Reports.{is_left, lines_in, waiting_in}
 use Rattle.mpx_meaning.specs.Transcripts.{text_upto}
-use Rattle.mpx_system.specs.Runs.{IsRun, IsOver, Begin}
-use Rattle.mpx_sim.specs.Ends.{AllMadeOr}
-use Rattle.mpx_sim.specs.Turns.{AreAfter}
-use Rattle.mpx_threads.specs.ThreadRuns.{IsThreadRun}
+use Rattle.mpx_system.specs.Runs.{AreWhole, Begin, IsEvaluationOf}
 use Rattle.mpx_run.specs.declared.end.Cause.{Cause}
 use Rattle.mpx_run.specs.declared.end.Cause.TheVariants.{InEveryRun, TurnsUsedUp, AllLost, Unknown}
 use Rattle.mpx_run.specs.declared.end.End.{End}
@@ -36,17 +30,20 @@ abbrev pub IsForGood : End → Type 0
 IsForGood Finished = ⊥
 IsForGood (Waiting ranks told) = told ≡ InEveryRun
 
--- the cause where so many turns of a simulated run were made
-abbrev pub cause_of : (made : ℕ) → Options → Cause
-cause_of made options =
-    if nat_le options.turns made then TurnsUsedUp options.turns else
-    if nat_le 100 options.loss then AllLost else
-    InEveryRun
+-- with these options it may be told that ranks wait for this cause
+abbrev pub MayTell : Options → Cause → Type 0
+MayTell options InEveryRun = Unit {0}
+MayTell options (TurnsUsedUp turns) = (options.threads ≡ false) × (turns ≡ options.turns)
+MayTell options AllLost = (options.threads ≡ false) × (100 ≤ options.loss)
+MayTell options Unknown = options.threads ≡ true
 
--- the cause where a run in threads rests, or where that isn't known
-abbrev pub thread_cause : (rests : Bool) → Cause
-thread_cause true = InEveryRun
-thread_cause false = Unknown
+abbrev pub MayEnd : Options → End → Type 0
+MayEnd options Finished = Unit {0}
+MayEnd options (Waiting ranks told) = MayTell options told
+
+-- each rank that has something left there is one of these
+abbrev pub EachWaits : (waiting : List ℕ) → (ranks : ℕ) → State → Type 0
+EachWaits waiting ranks s = (p : ℕ) → p < ranks → is_left (s p).todo ≡ true → (place : ℕ) × (slice_get waiting place ≡ Some p)
 
 -- the text and the end are those of the evaluation: all its lines rank by rank, and who waits there
 pub record IsAllOf (script : ScriptView) (end : End) (text : List ℕ) (evaluation : State) : Type 0 where
@@ -56,38 +53,26 @@ pub record IsAllOf (script : ScriptView) (end : End) (text : List ℕ) (evaluati
 -- the text and the end of a script's evaluation by the job's own operations; who waits there does in every run
 pub record IsEvaluatedText (ops : List Operation) (script : ScriptView) (end : End) (text : List ℕ) : Type 0 where
   pub evaluation : State
-  pub is : IsEvaluation ops script.statements script.ranks evaluation
-  pub lines : text ≡ text_upto (lines_in evaluation) script.ranks
-  pub ends : EndsSo end (waiting_in evaluation script.ranks)
+  pub is : IsEvaluationOf ops script evaluation
+  pub all : IsAllOf script end text evaluation
   pub cause : IsBy InEveryRun end
 
--- the text and the end of a simulated run with these options: its lines rank by rank, and who waits. It begins, and where nobody waits is, that
--- of the evaluation. So many turns were made by what is drawn of the seed, and the cause follows from them; where it is told that those who wait do in every run, the
--- text and the end are the evaluation's
-pub record IsReport (ops : List Operation) (script : ScriptView) (options : Options) (end : End) (text : List ℕ) : Type 0 where
-  pub nodes : List NodeView
-  pub transcripts : List (List (List ℕ))
-  pub waiting : List ℕ
-  pub turns : ℕ
-  pub run : IsRun ops script options.relays nodes transcripts waiting
+-- the text and the end of a run with these options: the lines of its ranks, rank by rank, and who waits. The lines begin the evaluation's; those of a rank that doesn't
+-- wait are all that it has there, and who has something left there waits. Where nobody waits the text is the evaluation's, and where it is told that those who wait do
+-- in every run, text and end are
+pub record IsOfRun (ops : List Operation) (options : Options) (script : ScriptView) (transcripts : List (List (List ℕ))) (waiting : List ℕ) (end : End) (text : List ℕ) : Type 0 where
+  pub ranks_are : length transcripts ≡ script.ranks
   pub lines : text ≡ text_upto (lines_at transcripts) script.ranks
   pub ends : EndsSo end waiting
-  pub begins : (evaluation : State) → IsEvaluation ops script.statements script.ranks evaluation → Begin transcripts evaluation
-  pub whole : (evaluation : State) → IsEvaluation ops script.statements script.ranks evaluation → end ≡ Finished → text ≡ text_upto (lines_in evaluation) script.ranks
-  pub after : AreAfter ops script options.relays options.seed options.loss turns nodes
-  pub ended : AllMadeOr turns options.turns (IsOver options.loss nodes waiting)
-  pub cause : IsBy (cause_of turns options) end
-  pub rests : IsForGood end → (evaluation : State) → IsEvaluation ops script.statements script.ranks evaluation → IsAllOf script end text evaluation
+  pub cause : MayEnd options end
+  pub begins : (evaluation : State) → IsEvaluationOf ops script evaluation → Begin transcripts evaluation
+  pub done : (evaluation : State) → IsEvaluationOf ops script evaluation → AreWhole transcripts waiting evaluation
+  pub waits : (evaluation : State) → IsEvaluationOf ops script evaluation → EachWaits waiting script.ranks evaluation
+  pub whole : (evaluation : State) → IsEvaluationOf ops script evaluation → end ≡ Finished → text ≡ text_upto (lines_in evaluation) script.ranks
+  pub rests : IsForGood end → (evaluation : State) → IsEvaluationOf ops script evaluation → IsAllOf script end text evaluation
 
--- the same of a run in threads, in which each process counts its turns
-pub record IsThreadReport (ops : List Operation) (script : ScriptView) (options : Options) (end : End) (text : List ℕ) : Type 0 where
-  pub table : TableId
-  pub ports : List PortView
+-- what is printed of a run with these options, in threads or simulated
+pub record IsPrinted (ops : List Operation) (options : Options) (script : ScriptView) (end : End) (text : List ℕ) : Type 0 where
   pub transcripts : List (List (List ℕ))
   pub waiting : List ℕ
-  pub run : IsThreadRun ops script options.relays table ports transcripts waiting
-  pub lines : text ≡ text_upto (lines_at transcripts) script.ranks
-  pub ends : EndsSo end waiting
-  pub begins : (evaluation : State) → IsEvaluation ops script.statements script.ranks evaluation → Begin transcripts evaluation
-  pub whole : (evaluation : State) → IsEvaluation ops script.statements script.ranks evaluation → end ≡ Finished → text ≡ text_upto (lines_in evaluation) script.ranks
-  pub rests : IsForGood end → (evaluation : State) → IsEvaluation ops script.statements script.ranks evaluation → IsAllOf script end text evaluation
+  pub prints : IsOfRun ops options script transcripts waiting end text

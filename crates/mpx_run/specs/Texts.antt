@@ -1,11 +1,11 @@
 -- What a job reads and writes.
-use Rattle.std.specs.Prelude.{◌≡◌, Bool, true, false, ◌<◌, ◌≤◌, ℕ, zero, suc, pos, ◌+◌, List, [], ◌++◌, length, slice_index_or, codes, take, Option, Result, Ok, Err, IfSome}
+use Rattle.std.specs.Prelude.{◌≡◌, true, ◌<◌, ◌≤◌, ℕ, zero, suc, pos, ◌+◌, List, [], ◌++◌, length, slice_index_or, codes, take, Option, Result, Ok, Err, IfSome}
 use Rattle.std.specs.Io.KnownBytes.{Appends, Consumes, Keeps}
 use Rattle.mpx_num.specs.declared.own.Operation.{Operation}
 use Rattle.mpx_num.specs.Text.{number_text}
 use Rattle.mpx_statement.specs.declared.statement.Statement.{Statement}
 use Rattle.mpx_script.specs.ScriptView.{ScriptView}
-use Rattle.mpx_script.specs.Faults.{error_text as refusal_text}
+use Rattle.mpx_script.specs.Faults.{error_text}
 use Rattle.mpx_script.specs.declared.faults.ReadScriptError.{ReadScriptError}
 use Rattle.mpx_script.specs.declared.faults.ReadScriptError.TheVariants as R
 use Rattle.mpx_script.specs.Reading.{reading}
@@ -22,7 +22,7 @@ use Rattle.mpx_run.specs.declared.texts.RunError.{RunError}
 use Rattle.mpx_run.specs.declared.texts.RunError.TheVariants as E
 use Rattle.mpx_threads.specs.declared.gate.Step.{Step}
 use Rattle.mpx_threads.specs.Gates.{GivesUpAmong}
-use Rattle.mpx_run.specs.Reports.{IsEvaluatedText, IsReport, IsThreadReport}
+use Rattle.mpx_run.specs.Reports.{IsEvaluatedText}
 
 -- the bytes that are read, where it is known what there is: one more than a script may have, or all
 abbrev pub IsInput : Option (List ℕ) → List ℕ → Type 0
@@ -47,13 +47,13 @@ script_told R.OutOfMemory = E.Memory
 script_told (R.Refused refusal) = E.Script refusal
 
 -- an error as text
-abbrev pub error_text : RunError → List ℕ
-error_text (E.Script refusal) = refusal_text refusal
-error_text E.TooManyProcesses = codes "too many processes"
-error_text E.Memory = codes "out of memory"
-error_text E.Read = codes "read fault"
-error_text E.Write = codes "write fault"
-error_text E.GateGaveUp = codes "gate gave up"
+abbrev pub run_error_text : RunError → List ℕ
+run_error_text (E.Script refusal) = error_text refusal
+run_error_text E.TooManyProcesses = codes "too many processes"
+run_error_text E.Memory = codes "out of memory"
+run_error_text E.Read = codes "read fault"
+run_error_text E.Write = codes "write fault"
+run_error_text E.GateGaveUp = codes "gate gave up"
 
 -- how many statements the first n ranks have
 abbrev pub statements_upto : List (List Statement) → ℕ → ℕ
@@ -64,22 +64,21 @@ statements_upto statements (suc n) = statements_upto statements n + length (slic
 abbrev pub check_text : ScriptView → List ℕ
 check_text script = codes "ok " ++ number_text (pos script.ranks) ++ codes " ranks " ++ number_text (pos (statements_upto script.statements script.ranks)) ++ codes " statements\n"
 
--- to which end and text a run with these options comes by the job's own operations, in threads or simulated
-abbrev pub RunsTo : (ops : List Operation) (threads : Bool) → Options → ScriptView → End → List ℕ → Type 0
-RunsTo ops true options script end out = IsThreadReport ops script options end out
-RunsTo ops false options script end out = IsReport ops script options end out
+-- what is said of the end and the text to which a run of a script comes by the job's own operations, with these options
+abbrev pub OfRuns : Type 1
+OfRuns = List Operation → Options → ScriptView → End → List ℕ → Type 0
 
 -- to which end and text a script comes: a run, its evaluation, or the script alone
-abbrev pub ComesTo : List Operation → Command → Options → ScriptView → End → List ℕ → Type 0
-ComesTo ops Run options script end out = (script.ranks + options.relays ≤ 64) × RunsTo ops options.threads options script end out
-ComesTo ops Eval options script end out = IsEvaluatedText ops script end out
-ComesTo ops Check options script end out = (end ≡ Finished) × (out ≡ check_text script)
+abbrev pub ComesTo : OfRuns → List Operation → Command → Options → ScriptView → End → List ℕ → Type 0
+ComesTo Is ops Run options script end out = (script.ranks + options.relays ≤ 64) × Is ops options script end out
+ComesTo Is ops Eval options script end out = IsEvaluatedText ops script end out
+ComesTo Is ops Check options script end out = (end ≡ Finished) × (out ≡ check_text script)
 
 -- a text is read as a script, with which the job comes to that end and text
-pub record DoneTo (ops : List Operation) (job : Job) (text : List ℕ) (end : End) (out : List ℕ) : Type 0 where
+pub record DoneTo (Is : OfRuns) (ops : List Operation) (job : Job) (text : List ℕ) (end : End) (out : List ℕ) : Type 0 where
   pub script : ScriptView
   pub read : reading ops text ≡ Ok script
-  pub comes : ComesTo ops job.command job.options script end out
+  pub comes : ComesTo Is ops job.command job.options script end out
 
 -- a text is read as a script that has too many ranks to be run with so many relays
 pub record HasTooMany (ops : List Operation) (job : Job) (text : List ℕ) : Type 0 where
@@ -89,16 +88,16 @@ pub record HasTooMany (ops : List Operation) (job : Job) (text : List ℕ) : Typ
   pub many : 64 < script.ranks + job.options.relays
 
 -- all that comes of the text is out
-pub record PrintsWhole (ops : List Operation) (job : Job) (text : List ℕ) (old new : Option (List ℕ)) (end : End) : Type 0 where
+pub record PrintsWhole (Is : OfRuns) (ops : List Operation) (job : Job) (text : List ℕ) (old new : Option (List ℕ)) (end : End) : Type 0 where
   pub out : List ℕ
-  pub comes : DoneTo ops job text end out
+  pub comes : DoneTo Is ops job text end out
   pub written : Appends old new out
 
 -- a beginning of it is out
-pub record PrintsPart (ops : List Operation) (job : Job) (text : List ℕ) (old new : Option (List ℕ)) : Type 0 where
+pub record PrintsPart (Is : OfRuns) (ops : List Operation) (job : Job) (text : List ℕ) (old new : Option (List ℕ)) : Type 0 where
   pub end : End
   pub out : List ℕ
-  pub comes : DoneTo ops job text end out
+  pub comes : DoneTo Is ops job text end out
   pub count : ℕ
   pub written : Appends old new (take count out)
 
@@ -118,27 +117,23 @@ pub record IsGivenUp (ops : List Operation) (gives_up : ℕ → Step → ℕ →
   pub at : GivesUpAmong gives_up (script.ranks + job.options.relays) job.options.turns
 
 -- what is out after a job with a text, by the answer, where the gate gives up there
-abbrev pub Prints : (ops : List Operation) (gives_up : ℕ → Step → ℕ → Type 0) (job : Job) (text : List ℕ) (old new : Option (List ℕ)) → Result End RunError → Type 0
-Prints ops gives_up job text old new (Ok end) = PrintsWhole ops job text old new end
-Prints ops gives_up job text old new (Err (E.Script refusal)) = (reading ops text ≡ Err refusal) × Keeps old new
-Prints ops gives_up job text old new (Err E.TooManyProcesses) = HasTooMany ops job text × Keeps old new
-Prints ops gives_up job text old new (Err E.Memory) = Keeps old new
-Prints ops gives_up job text old new (Err E.Read) = ⊥
-Prints ops gives_up job text old new (Err E.Write) = PrintsPart ops job text old new
-Prints ops gives_up job text old new (Err E.GateGaveUp) = IsGivenUp ops gives_up job text × Keeps old new
+abbrev pub Prints : (Is : OfRuns) (ops : List Operation) (gives_up : ℕ → Step → ℕ → Type 0) (job : Job) (text : List ℕ) (old new : Option (List ℕ)) → Result End RunError → Type 0
+Prints Is ops gives_up job text old new (Ok end) = PrintsWhole Is ops job text old new end
+Prints Is ops gives_up job text old new (Err (E.Script refusal)) = (reading ops text ≡ Err refusal) × Keeps old new
+Prints Is ops gives_up job text old new (Err E.TooManyProcesses) = HasTooMany ops job text × Keeps old new
+Prints Is ops gives_up job text old new (Err E.Memory) = Keeps old new
+Prints Is ops gives_up job text old new (Err E.Read) = ⊥
+Prints Is ops gives_up job text old new (Err E.Write) = PrintsPart Is ops job text old new
+Prints Is ops gives_up job text old new (Err E.GateGaveUp) = IsGivenUp ops gives_up job text × Keeps old new
 
 -- the reader's text is taken, and the job done with it
-pub record RunsInput (ops : List Operation) (gives_up : ℕ → Step → ℕ → Type 0) (job : Job) (there left old new : Option (List ℕ)) (answer : Result End RunError) : Type 0 where
+pub record RunsInput (Is : OfRuns) (ops : List Operation) (gives_up : ℕ → Step → ℕ → Type 0) (job : Job) (there left old new : Option (List ℕ)) (answer : Result End RunError) : Type 0 where
   pub text : List ℕ
   pub taken : TakesInput there left text
-  pub prints : Prints ops gives_up job text old new answer
+  pub prints : Prints Is ops gives_up job text old new answer
 
 -- what a reader has left and what is out after a job, by the answer, where the gate gives up there
-abbrev pub Runs : (ops : List Operation) (gives_up : ℕ → Step → ℕ → Type 0) (job : Job) (there left old new : Option (List ℕ)) → Result End RunError → Type 0
-Runs ops gives_up job there left old new (Ok end) = RunsInput ops gives_up job there left old new (Ok end)
-Runs ops gives_up job there left old new (Err (E.Script refusal)) = RunsInput ops gives_up job there left old new (Err (E.Script refusal))
-Runs ops gives_up job there left old new (Err E.TooManyProcesses) = RunsInput ops gives_up job there left old new (Err E.TooManyProcesses)
-Runs ops gives_up job there left old new (Err E.Memory) = TakesPart there left × Keeps old new
-Runs ops gives_up job there left old new (Err E.Read) = TakesPart there left × Keeps old new
-Runs ops gives_up job there left old new (Err E.Write) = RunsInput ops gives_up job there left old new (Err E.Write)
-Runs ops gives_up job there left old new (Err E.GateGaveUp) = RunsInput ops gives_up job there left old new (Err E.GateGaveUp)
+abbrev pub Runs : (Is : OfRuns) (ops : List Operation) (gives_up : ℕ → Step → ℕ → Type 0) (job : Job) (there left old new : Option (List ℕ)) → Result End RunError → Type 0
+Runs Is ops gives_up job there left old new (Err E.Memory) = TakesPart there left × Keeps old new
+Runs Is ops gives_up job there left old new (Err E.Read) = TakesPart there left × Keeps old new
+Runs Is ops gives_up job there left old new answer = RunsInput Is ops gives_up job there left old new answer

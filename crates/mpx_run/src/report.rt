@@ -1,9 +1,10 @@
 //! The text of a run or an evaluation.
-ghost use Rattle.std.specs.Prelude.{◌≡◌, ◌++◌, ◌≤◌, ◌+◌, IfErr, IfOk, OnOk, length, map, string_bytes};
+ghost use Rattle.std.specs.Prelude.{◌≡◌, ◌++◌, ◌≤◌, ◌+◌, false, true, IfErr, IfOk, OnOk, length, map, string_bytes};
 ghost use Rattle.mpx_meaning.specs.Reports.{transcripts_of};
 ghost use Rattle.mpx_meaning.specs.Transcripts.{rank_text, text_upto};
 ghost use Rattle.mpx_threads.specs.Gates.{GivesUpAmong};
-ghost use Rattle.mpx_run.specs.Reports.{EndsSo, IsBy, IsEvaluatedText, IsReport, IsThreadReport, cause_of, lines_at, thread_cause};
+ghost use Rattle.mpx_run.specs.Founded.{IsSimulated, IsThreaded, cause_of, thread_cause};
+ghost use Rattle.mpx_run.specs.Reports.{EndsSo, IsBy, IsEvaluatedText, lines_at};
 
 use crate::end::{Cause, End};
 use join_core::OutOfMemory;
@@ -26,17 +27,19 @@ pub(crate) struct Printed {
 }
 
 /// The lines of all ranks of a simulated run, each as `RANK: LINE`, rank by rank, and who waits, and why.
-pub(crate) fn print(
+pub(crate) fn print<T: Threads + Sync>(
+    rt: &T,
     alloc: Global,
     script: &Script,
     options: &Options,
     observer: &mut dyn Observer,
     ops: &Ops,
 ) -> Result<Printed, OutOfMemory>
-    requires { script.now.ranks + options.now.relays ≤ 64 }
-    ensures { IfOk result (λ printed. IsReport (⟦<Ops as Listing>⟧.operations ops.now) script.now options.now printed.end (string_bytes printed.text)) }
+    requires few { script.now.ranks + options.now.relays ≤ 64 }
+    requires alone { options.now.threads ≡ false }
+    ensures { IfOk result (λ printed. IsSimulated (⟦<Ops as Listing>⟧.operations ops.now) options.now script.now printed.end (string_bytes printed.text)) }
 {
-    let run = run_sim_observed(alloc, script, options, observer, ops)?;
+    let run = run_sim_observed(rt, alloc, script, options, observer, ops)?;
     let cause = cause_of(run.turns, options);
     print_report(alloc, run.report, script.ranks(), cause)
 }
@@ -63,8 +66,9 @@ pub(crate) fn print_threads<T: Threads + Wait + Sync, G: Gate + Sync>(
     gate: &G,
     ops: &Ops,
 ) -> Result<Printed, ThreadsError>
-    requires { script.now.ranks + options.now.relays ≤ 64 }
-    ensures printed { IfOk result (λ printed. IsThreadReport (⟦<Ops as Listing>⟧.operations ops.now) script.now options.now printed.end (string_bytes printed.text)) }
+    requires few { script.now.ranks + options.now.relays ≤ 64 }
+    requires threads { options.now.threads ≡ true }
+    ensures founded { IfOk result (λ printed. IsThreaded (⟦<Ops as Listing>⟧.operations ops.now) options.now script.now printed.end (string_bytes printed.text)) }
     ensures gave_up { IfErr result (λ e. e ≡ ThreadsError.GateGaveUp → GivesUpAmong (G.gives_up gate.now) (script.now.ranks + options.now.relays) options.now.turns) }
 {
     let run = run_threads(rt, alloc, script, options, gate, ops)?;

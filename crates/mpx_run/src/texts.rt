@@ -1,7 +1,9 @@
 //! A job from the bytes of a script to what it prints.
 ghost use Rattle.std.specs.Prelude.{◌≡◌, ◌≢◌, ◌+◌, ◌<◌, ◌≤◌, IfErr, IfOk, IsFalse, IsTrue, Some, false, string_bytes};
 ghost use Rattle.mpx_threads.specs.Gates.{nowhere};
-ghost use Rattle.mpx_run.specs.Texts.{ComesTo, IsEndedByGate, IsGated, Prints, Runs, error_text, script_told, told};
+ghost use Rattle.mpx_run.specs.Founded.{IsFounded};
+ghost use Rattle.mpx_run.specs.Reports.{IsPrinted};
+ghost use Rattle.mpx_run.specs.Texts.{ComesTo, IsEndedByGate, IsGated, Prints, Runs, run_error_text, script_told, told};
 
 use crate::check::check_text;
 use crate::end::End;
@@ -40,7 +42,7 @@ pub enum RunError {
 }
 
 impl fmt::Display for RunError {
-    ghost output = { λ error. Some (error_text error) };
+    ghost output = { λ error. Some (run_error_text error) };
 
     fn fmt<W: fmt::Write>(&self, f: &mut fmt::Formatter<W>) -> fmt::Result {
         match self {
@@ -95,7 +97,8 @@ pub fn run_text<T: Threads + Wait + Sync, R: Read, W: Write>(
     writer: &mut W,
     ops: &Ops,
 ) -> Result<End, RunError>
-    ensures runs { Runs (⟦<Ops as Listing>⟧.operations ops.now) nowhere job.now (R.remaining reader.old) (R.remaining reader.new) (W.contents writer.old) (W.contents writer.new) result }
+    ensures prints { Runs IsPrinted (⟦<Ops as Listing>⟧.operations ops.now) nowhere job.now (R.remaining reader.old) (R.remaining reader.new) (W.contents writer.old) (W.contents writer.new) result }
+    ensures founded { Runs IsFounded (⟦<Ops as Listing>⟧.operations ops.now) nowhere job.now (R.remaining reader.old) (R.remaining reader.new) (W.contents writer.old) (W.contents writer.new) result }
     ensures never { IfErr result (λ e. e ≢ RunError.GateGaveUp) }
 {
     run_text_observed(
@@ -122,7 +125,8 @@ pub fn run_text_observed<T: Threads + Wait + Sync, R: Read, W: Write, G: Gate + 
     gate: &G,
     ops: &Ops,
 ) -> Result<End, RunError>
-    ensures { Runs (⟦<Ops as Listing>⟧.operations ops.now) (G.gives_up gate.now) job.now (R.remaining reader.old) (R.remaining reader.new) (W.contents writer.old) (W.contents writer.new) result }
+    ensures prints { Runs IsPrinted (⟦<Ops as Listing>⟧.operations ops.now) (G.gives_up gate.now) job.now (R.remaining reader.old) (R.remaining reader.new) (W.contents writer.old) (W.contents writer.new) result }
+    ensures founded { Runs IsFounded (⟦<Ops as Listing>⟧.operations ops.now) (G.gives_up gate.now) job.now (R.remaining reader.old) (R.remaining reader.new) (W.contents writer.old) (W.contents writer.new) result }
 {
     let text = read_bytes(alloc, reader)?;
     run_bytes_observed(rt, alloc, job, &text, writer, observer, gate, ops)
@@ -138,7 +142,8 @@ pub fn run_bytes<T: Threads + Wait + Sync, W: Write>(
     writer: &mut W,
     ops: &Ops,
 ) -> Result<End, RunError>
-    ensures prints { Prints (⟦<Ops as Listing>⟧.operations ops.now) nowhere job.now text.now (W.contents writer.old) (W.contents writer.new) result }
+    ensures prints { Prints IsPrinted (⟦<Ops as Listing>⟧.operations ops.now) nowhere job.now text.now (W.contents writer.old) (W.contents writer.new) result }
+    ensures founded { Prints IsFounded (⟦<Ops as Listing>⟧.operations ops.now) nowhere job.now text.now (W.contents writer.old) (W.contents writer.new) result }
     ensures never { IfErr result (λ e. e ≢ RunError.GateGaveUp) }
 {
     run_bytes_observed(
@@ -165,7 +170,8 @@ pub fn run_bytes_observed<T: Threads + Wait + Sync, W: Write, G: Gate + Sync>(
     gate: &G,
     ops: &Ops,
 ) -> Result<End, RunError>
-    ensures { Prints (⟦<Ops as Listing>⟧.operations ops.now) (G.gives_up gate.now) job.now text.now (W.contents writer.old) (W.contents writer.new) result }
+    ensures prints { Prints IsPrinted (⟦<Ops as Listing>⟧.operations ops.now) (G.gives_up gate.now) job.now text.now (W.contents writer.old) (W.contents writer.new) result }
+    ensures founded { Prints IsFounded (⟦<Ops as Listing>⟧.operations ops.now) (G.gives_up gate.now) job.now text.now (W.contents writer.old) (W.contents writer.new) result }
 {
     let script = read_script(alloc, text, ops)?;
     if has_too_many(job, script.ranks()) {
@@ -196,6 +202,7 @@ fn has_too_many(job: &Job, ranks: u8) -> bool
 }
 
 // What a script comes to.
+#[tactic(auto, using(crate::proofs::Less::comes_printed))]
 fn printed_of<T: Threads + Wait + Sync, G: Gate + Sync>(
     rt: &T,
     alloc: Global,
@@ -206,13 +213,14 @@ fn printed_of<T: Threads + Wait + Sync, G: Gate + Sync>(
     ops: &Ops,
 ) -> Result<Printed, ThreadsError>
     requires { job.now.command ≡ Command.Run → script.now.ranks + job.now.options.relays ≤ 64 }
-    ensures text { IfOk result (λ printed. ComesTo (⟦<Ops as Listing>⟧.operations ops.now) job.now.command job.now.options script.now printed.end (string_bytes printed.text)) }
+    ensures prints { IfOk result (λ printed. ComesTo IsPrinted (⟦<Ops as Listing>⟧.operations ops.now) job.now.command job.now.options script.now printed.end (string_bytes printed.text)) }
+    ensures founded { IfOk result (λ printed. ComesTo IsFounded (⟦<Ops as Listing>⟧.operations ops.now) job.now.command job.now.options script.now printed.end (string_bytes printed.text)) }
     ensures gave_up { IfErr result (λ e. e ≡ ThreadsError.GateGaveUp → IsEndedByGate (G.gives_up gate.now) job.now script.now) }
 {
     if is_in_threads(job) {
         return print_threads(rt, alloc, script, &job.options, gate, ops);
     }
-    match printed_alone(alloc, script, job, observer, ops) {
+    match printed_alone(rt, alloc, script, job, observer, ops) {
         Ok(printed) => Ok(printed),
         Err(_) => Err(ThreadsError::OutOfMemory),
     }
@@ -231,7 +239,8 @@ fn is_in_threads(job: &Job) -> bool
 }
 
 // What a script comes to where no thread is started.
-fn printed_alone(
+fn printed_alone<T: Threads + Sync>(
+    rt: &T,
     alloc: Global,
     script: &Script,
     job: &Job,
@@ -240,10 +249,10 @@ fn printed_alone(
 ) -> Result<Printed, OutOfMemory>
     requires few { job.now.command ≡ Command.Run → script.now.ranks + job.now.options.relays ≤ 64 }
     requires alone { job.now.command ≡ Command.Run → job.now.options.threads ≡ false }
-    ensures { IfOk result (λ printed. ComesTo (⟦<Ops as Listing>⟧.operations ops.now) job.now.command job.now.options script.now printed.end (string_bytes printed.text)) }
+    ensures { IfOk result (λ printed. ComesTo IsFounded (⟦<Ops as Listing>⟧.operations ops.now) job.now.command job.now.options script.now printed.end (string_bytes printed.text)) }
 {
     match job.command {
-        Command::Run => print(alloc, script, &job.options, observer, ops),
+        Command::Run => print(rt, alloc, script, &job.options, observer, ops),
         Command::Eval => print_evaluation(alloc, script, ops),
         Command::Check => Ok(Printed {
             text: check_text(alloc, script)?,

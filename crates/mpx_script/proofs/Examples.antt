@@ -3,17 +3,18 @@ use Rattle.std.proofs.Common.{◌≡◌, ℕ, true, List, [], ◌∷◌, ◌++�
 use Rattle.mpx_num.specs.Text.{number_of, magnitude}
 use Rattle.mpx_num.specs.OwnWords.{is_name, place_named}
 use Rattle.mpx_num.specs.declared.own.Operation.{Operation}
-use Rattle.mpx_num.specs.declared.own.Place.TheVariants.{P0, P1}
-use Rattle.mpx_num.specs.declared.types.Ty.TheVariants.{I8, I32, I64, U8, U64, TwoInt}
-use Rattle.mpx_num.specs.declared.operations.Op.TheVariants.{Sum, Max, Own}
+use Rattle.mpx_num.specs.declared.types.Ty.TheVariants.{I32, I64, U8, U64, TwoInt}
+use Rattle.mpx_num.specs.declared.operations.Op.TheVariants.{Max, Own}
 use Rattle.mpx_kind.specs.declared.kinds.Call.TheVariants.{Exchange, Reduction, Neighbourhood}
 use Rattle.mpx_kind.specs.declared.kinds.Exchange.TheVariants as E
 use Rattle.mpx_kind.specs.declared.kinds.Kind.{Kind}
 use Rattle.mpx_kind.specs.declared.kinds.Mode.TheVariants.{Nonblocking}
 use Rattle.mpx_kind.specs.declared.kinds.Neighbourhood.TheVariants as H
 use Rattle.mpx_kind.specs.declared.kinds.Reduction.TheVariants as R
-use Rattle.mpx_kind.specs.declared.kinds.Kind.TheVariants.{Barrier, Bcast, Gatherv, Scatterv, Allreduce, ReduceScatter, Dup, Split, Create, DistGraph, DistGraphAdjacent, NeighborAlltoall, NeighborAlltoallv, Free}
+use Rattle.mpx_kind.specs.declared.kinds.Kind.TheVariants as K
+use Rattle.mpx_kind.specs.declared.kinds.NewCommunicator.TheVariants as N
 use Rattle.mpx_post.specs.declared.draft.Draft.{Draft}
+use Rattle.mpx_post.specs.Drafts.{empty_draft}
 use Rattle.mpx_post.specs.declared.drafted_edges.DraftedEdge.{DraftedEdge}
 use Rattle.mpx_post.specs.declared.drafted_edges.DraftedNeighbour.{DraftedNeighbour}
 use Rattle.mpx_post.specs.Graphs.{GraphView, no_graph}
@@ -23,7 +24,7 @@ use Rattle.mpx_script.specs.Grammar.{ranks_number, kind_named, started_named, lo
 use Rattle.mpx_script.specs.Fields.{operation_named, predefined_named, type_named, list_named, rank_named, ranks_named, colour_named}
 use Rattle.mpx_script.specs.Syntax.{new_in, call_in, ask_in, statements_in}
 use Rattle.mpx_script.specs.Graphs.{edge_named, neighbour_named, is_weighted, entries_in, edges_graph, neighbours_graph, graph_in}
-use Rattle.mpx_script.specs.Refusals.{lacks_ranks, has_ranks_out_of_range, has_rank_out_of_range, is_unknown, has_wrong_words, has_bad_number, has_bad_list}
+use Rattle.mpx_script.specs.Refusals.{lacks_ranks, has_ranks_out_of_range, has_rank_out_of_range, is_unknown_line, has_wrong_words, has_bad_number, has_bad_list}
 use Rattle.mpx_script.specs.Meanings.{names_rank, statement_in}
 use Rattle.mpx_script.specs.Naming.{has_bad_name, has_unknown_name, has_taken_name}
 use Rattle.mpx_script.specs.ScriptView.{ScriptView}
@@ -53,10 +54,10 @@ refused_at line what = Err (record { line = line; what = what })
 
 -- a draft that tells its kind alone
 abbrev blank : Kind → Draft
-blank kind = record { call = blocking kind; root = pos 0; op = Sum; ty = I8; scounts = []; rcounts = []; items = []; colour = None; key = pos 0; group = []; graph = None }
+blank kind = empty_draft (blocking kind)
 
 sum_of : List ℕ → Statement
-sum_of items = Post (Call (codes "world") (record (blank Allreduce) { ty = I64; items = map pos items }))
+sum_of items = Post (Call (codes "world") (record (blank (K.Reduction R.Allreduce)) { ty = I64; items = map pos items }))
 
 -- one rank with this statement
 says : Draft → Result ScriptView ScriptError
@@ -72,17 +73,17 @@ asks question = Ok (record { ranks = 1; statements = (Ask question ∷ []) ∷ [
 
 -- a barrier, and a sum, whose requests are these names
 barrier_as : List ℕ → Posting
-barrier_as request = Start (codes "world") (record (blank Barrier) { call = Exchange E.Barrier Nonblocking }) request
+barrier_as request = Start (codes "world") (record (blank (K.Exchange E.Barrier)) { call = Exchange E.Barrier Nonblocking }) request
 
 sum_as : List ℕ → Posting
-sum_as request = Start (codes "world") (record (blank Allreduce) { call = Reduction R.Allreduce Nonblocking; ty = I32; items = pos 1 ∷ pos 2 ∷ [] }) request
+sum_as request = Start (codes "world") (record (blank (K.Reduction R.Allreduce)) { call = Reduction R.Allreduce Nonblocking; ty = I32; items = pos 1 ∷ pos 2 ∷ [] }) request
 
 -- a graph of any edges, and one of a rank's own neighbours, for `a`
 of_edges : GraphView → Posting
-of_edges graph = New (codes "world") (record (blank DistGraph) { graph = Some graph }) (codes "a")
+of_edges graph = New (codes "world") (record (blank (K.NewCommunicator N.DistGraph)) { graph = Some graph }) (codes "a")
 
 of_neighbours : GraphView → Posting
-of_neighbours graph = New (codes "world") (record (blank DistGraphAdjacent) { graph = Some graph }) (codes "a")
+of_neighbours graph = New (codes "world") (record (blank (K.NewCommunicator N.DistGraphAdjacent)) { graph = Some graph }) (codes "a")
 
 edge : (source destination weight : ℕ) → DraftedEdge
 edge source destination weight = record { source = pos source; destination = pos destination; weight = pos weight }
@@ -103,14 +104,14 @@ record Examples : Type 0 where
       ≡ Ok (record { ranks = 3; statements = (sum_of (1 ∷ 2 ∷ []) ∷ []) ∷ (sum_of (3 ∷ 4 ∷ []) ∷ []) ∷ (sum_of (5 ∷ 6 ∷ []) ∷ []) ∷ [] })
   every_rank : reading [] (script (codes "ranks 2" ∷ codes "0: allreduce world sum i64 9223372036854775808" ∷ codes "*: allreduce world sum i64 1" ∷ []))
       ≡ Ok (record { ranks = 2; statements = (sum_of (9223372036854775808 ∷ []) ∷ sum_of (1 ∷ []) ∷ []) ∷ (sum_of (1 ∷ []) ∷ []) ∷ [] })
-  no_items : reading [] (alone (codes "0: barrier world")) ≡ says (blank Barrier)
+  no_items : reading [] (alone (codes "0: barrier world")) ≡ says (blank (K.Exchange E.Barrier))
   root_and_count : reading [] (alone (codes "0: bcast world 1 2int 2 7 0 -3 1"))
-      ≡ says (record (blank Bcast) { root = pos 1; ty = TwoInt; rcounts = pos 2 ∷ []; items = pos 7 ∷ pos 0 ∷ negsuc 2 ∷ pos 1 ∷ [] })
+      ≡ says (record (blank (K.Exchange E.Bcast)) { root = pos 1; ty = TwoInt; rcounts = pos 2 ∷ []; items = pos 7 ∷ pos 0 ∷ negsuc 2 ∷ pos 1 ∷ [] })
   list_and_count : reading [] (alone (codes "0: scatterv world 0 u8 1,2 1 5 6 7"))
-      ≡ says (record (blank Scatterv) { ty = U8; scounts = pos 1 ∷ pos 2 ∷ []; rcounts = pos 1 ∷ []; items = pos 5 ∷ pos 6 ∷ pos 7 ∷ [] })
-  no_counts : reading [] (alone (codes "0: gatherv world -1 i32 - 4")) ≡ says (record (blank Gatherv) { root = negsuc 0; ty = I32; items = pos 4 ∷ [] })
+      ≡ says (record (blank (K.Exchange E.Scatterv)) { ty = U8; scounts = pos 1 ∷ pos 2 ∷ []; rcounts = pos 1 ∷ []; items = pos 5 ∷ pos 6 ∷ pos 7 ∷ [] })
+  no_counts : reading [] (alone (codes "0: gatherv world -1 i32 - 4")) ≡ says (record (blank (K.Exchange E.Gatherv)) { root = negsuc 0; ty = I32; items = pos 4 ∷ [] })
   operation_and_list : reading [] (alone (codes "0: reduce_scatter world max u64 1,0 9"))
-      ≡ says (record (blank ReduceScatter) { op = Max; ty = U64; rcounts = pos 1 ∷ pos 0 ∷ []; items = pos 9 ∷ [] })
+      ≡ says (record (blank (K.Reduction R.ReduceScatter)) { op = Max; ty = U64; rcounts = pos 1 ∷ pos 0 ∷ []; items = pos 9 ∷ [] })
   passed_over : reading [] (13 ∷ 10 ∷ codes " # ranks 9" ++ 10 ∷ 9 ∷ codes "ranks 1") ≡ Ok (record { ranks = 1; statements = [] ∷ [] })
   too_many_ranks : reading [] (codes "ranks 65") ≡ refused_at 1 RanksOutOfRange
   nothing : reading [] [] ≡ refused_at 1 NoRanksLine
@@ -124,10 +125,10 @@ record Examples : Type 0 where
   list_for_a_count : reading [] (alone (codes "0: bcast world 0 i32 1,2 3")) ≡ refused_at 2 BadNumber
   gap_in_a_list : reading [] (alone (codes "0: alltoallv world i32 1,,2 1 3")) ≡ refused_at 2 BadList
   not_bound : reading [] (script (codes "ranks 1" ∷ codes "-0: allreduce a_1 sum i64" ∷ codes "x" ∷ [])) ≡ refused_at 2 NameUnknown
-  dup : reading [] (alone (codes "0: dup world -> a")) ≡ makes (New (codes "world") (blank Dup) (codes "a"))
-  split : reading [] (alone (codes "0: split world -1 7 -> b_2")) ≡ makes (New (codes "world") (record (blank Split) { colour = Some (negsuc 0); key = pos 7 }) (codes "b_2"))
-  no_colour : reading [] (alone (codes "0: split world undefined 0 -> null")) ≡ makes (New (codes "world") (blank Split) (codes "null"))
-  create : reading [] (alone (codes "0: create world 2,0 -> a")) ≡ makes (New (codes "world") (record (blank Create) { group = pos 2 ∷ pos 0 ∷ [] }) (codes "a"))
+  dup : reading [] (alone (codes "0: dup world -> a")) ≡ makes (New (codes "world") (blank (K.NewCommunicator N.Dup)) (codes "a"))
+  split : reading [] (alone (codes "0: split world -1 7 -> b_2")) ≡ makes (New (codes "world") (record (blank (K.NewCommunicator N.Split)) { colour = Some (negsuc 0); key = pos 7 }) (codes "b_2"))
+  no_colour : reading [] (alone (codes "0: split world undefined 0 -> null")) ≡ makes (New (codes "world") (blank (K.NewCommunicator N.Split)) (codes "null"))
+  create : reading [] (alone (codes "0: create world 2,0 -> a")) ≡ makes (New (codes "world") (record (blank (K.NewCommunicator N.Create)) { group = pos 2 ∷ pos 0 ∷ [] }) (codes "a"))
   create_group : reading [] (alone (codes "0: create_group world 9 - -> a")) ≡ makes (CreateGroup (codes "world") (pos 9) [] (codes "a"))
   edges : reading [] (alone (codes "0: dist_graph world 0>1,2>2 -> a")) ≡ makes (of_edges (record no_graph { edges = edge 0 1 0 ∷ edge 2 2 0 ∷ [] }))
   weighted_edge : reading [] (alone (codes "0: dist_graph world 3>1:7 -> a")) ≡ makes (of_edges (record no_graph { weighted = true; edges = edge 3 1 7 ∷ [] }))
@@ -140,7 +141,7 @@ record Examples : Type 0 where
   edge_without_end : reading [] (alone (codes "0: dist_graph world 0,1 -> a")) ≡ refused_at 2 BadList
   edge_for_a_neighbour : reading [] (alone (codes "0: dist_graph_adjacent world 0>1 - -> a")) ≡ refused_at 2 BadList
   one_list_left_out : reading [] (alone (codes "0: dist_graph_adjacent world 0 -> a")) ≡ refused_at 2 WrongWords
-  bound_before : reading [] (script (codes "ranks 1" ∷ codes "*: dup world -> a" ∷ codes "0: barrier a" ∷ [])) ≡ Ok (record { ranks = 1; statements = (Post (New (codes "world") (blank Dup) (codes "a")) ∷ Post (Call (codes "a") (blank Barrier)) ∷ []) ∷ [] })
+  bound_before : reading [] (script (codes "ranks 1" ∷ codes "*: dup world -> a" ∷ codes "0: barrier a" ∷ [])) ≡ Ok (record { ranks = 1; statements = (Post (New (codes "world") (blank (K.NewCommunicator N.Dup)) (codes "a")) ∷ Post (Call (codes "a") (blank (K.Exchange E.Barrier))) ∷ []) ∷ [] })
   bound_elsewhere : reading [] (script (codes "ranks 2" ∷ codes "0: dup world -> a" ∷ codes "*: barrier a" ∷ [])) ≡ refused_at 3 NameUnknown
   bound_already : reading [] (script (codes "ranks 2" ∷ codes "1: dup world -> a" ∷ codes "*: dup world -> a" ∷ [])) ≡ refused_at 3 NameTaken
   bound_later : reading [] (alone (codes "0: dup a -> a")) ≡ refused_at 2 NameUnknown
@@ -152,12 +153,12 @@ record Examples : Type 0 where
   tag_and_list : reading [] (alone (codes "0: create_group world 1,2 x -> a")) ≡ refused_at 2 BadNumber
   strange_rank : reading [] (alone (codes "0: create_group world 1 0,x -> a")) ≡ refused_at 2 BadList
   strange_name : reading [] (alone (codes "0: dup nope -> Zz")) ≡ refused_at 2 BadName
-  freed : reading [] (alone (codes "0: free world")) ≡ says (blank Free)
+  freed : reading [] (alone (codes "0: free world")) ≡ says (blank K.Free)
   nonblocking_free : reading [] (alone (codes "0: ifree world -> r")) ≡ refused_at 2 UnknownStatement
   word_behind_free : reading [] (alone (codes "0: free world 1")) ≡ refused_at 2 WrongWords
   bound_behind_free : reading [] (script (codes "ranks 1" ∷ codes "0: dup world -> a" ∷ codes "0: free a" ∷ codes "0: dup world -> a" ∷ [])) ≡ refused_at 4 NameTaken
-  counts_of_neighbours : reading [] (alone (codes "0: neighbor_alltoall world i32 1 2 5")) ≡ says (record (blank NeighborAlltoall) { ty = I32; scounts = pos 1 ∷ []; rcounts = pos 2 ∷ []; items = pos 5 ∷ [] })
-  lists_of_neighbours : reading [] (alone (codes "0: neighbor_alltoallv world i32 1,0 - 5")) ≡ says (record (blank NeighborAlltoallv) { ty = I32; scounts = pos 1 ∷ pos 0 ∷ []; items = pos 5 ∷ [] })
+  counts_of_neighbours : reading [] (alone (codes "0: neighbor_alltoall world i32 1 2 5")) ≡ says (record (blank (K.Neighbourhood H.Alltoall)) { ty = I32; scounts = pos 1 ∷ []; rcounts = pos 2 ∷ []; items = pos 5 ∷ [] })
+  lists_of_neighbours : reading [] (alone (codes "0: neighbor_alltoallv world i32 1,0 - 5")) ≡ says (record (blank (K.Neighbourhood H.Alltoallv)) { ty = I32; scounts = pos 1 ∷ pos 0 ∷ []; items = pos 5 ∷ [] })
   list_for_a_send_count : reading [] (alone (codes "0: neighbor_alltoall world i32 1,0 x 5")) ≡ refused_at 2 BadNumber
   asked : reading [] (script (codes "ranks 2" ∷ codes "*: sources world" ∷ codes "1: destinations world" ∷ []))
       ≡ Ok (record { ranks = 2; statements = (Ask (Neighbours (codes "world") Sources) ∷ []) ∷ (Ask (Neighbours (codes "world") Sources) ∷ Ask (Neighbours (codes "world") Destinations) ∷ []) ∷ [] })
@@ -165,7 +166,7 @@ record Examples : Type 0 where
   nonblocking_sources : reading [] (alone (codes "0: isources world")) ≡ refused_at 2 UnknownStatement
   nonblocking_sum : reading [] (alone (codes "0: iallreduce world sum i32 1 2 -> r")) ≡ makes (sum_as (codes "r"))
   nonblocking_barrier : reading [] (alone (codes "0: ibarrier world -> r ")) ≡ makes (barrier_as (codes "r"))
-  nonblocking_neighbours : reading [] (alone (codes "0: ineighbor_alltoallv world i8 - 3 -> r")) ≡ makes (Start (codes "world") (record (blank NeighborAlltoallv) { call = Neighbourhood H.Alltoallv Nonblocking; rcounts = pos 3 ∷ [] }) (codes "r"))
+  nonblocking_neighbours : reading [] (alone (codes "0: ineighbor_alltoallv world i8 - 3 -> r")) ≡ makes (Start (codes "world") (record (blank (K.Neighbourhood H.Alltoallv)) { call = Neighbourhood H.Alltoallv Nonblocking; rcounts = pos 3 ∷ [] }) (codes "r"))
   request_for_an_operation : reading [] (alone (codes "0: iallreduce world -> r")) ≡ refused_at 2 UnknownStatement
   request_for_a_type : reading [] (alone (codes "0: iallreduce world sum -> r")) ≡ refused_at 2 UnknownStatement
   request_for_a_count : reading [] (alone (codes "0: ialltoall world i32 -> r")) ≡ refused_at 2 WrongWords
@@ -193,14 +194,14 @@ record Examples : Type 0 where
   none_translated : reading [] (alone (codes "0: translate world world -")) ≡ asks (Translate (codes "world") (codes "world") [])
   undefined_translated : reading [] (alone (codes "0: translate world world 0,undefined")) ≡ refused_at 2 BadList
   null_in_a_list : reading [] (alone (codes "0: create world 0,null -> a")) ≡ refused_at 2 BadList
-  own_operation : reading own_two (alone (codes "0: allreduce world affine 2int 3 -1")) ≡ says (record (blank Allreduce) { op = Own P0; ty = TwoInt; items = pos 3 ∷ negsuc 0 ∷ [] })
-  second_own_operation : reading own_two (alone (codes "0: allreduce world later_2 i64 1")) ≡ says (record (blank Allreduce) { op = Own P1; ty = I64; items = pos 1 ∷ [] })
+  own_operation : reading own_two (alone (codes "0: allreduce world affine 2int 3 -1")) ≡ says (record (blank (K.Reduction R.Allreduce)) { op = Own 0; ty = TwoInt; items = pos 3 ∷ negsuc 0 ∷ [] })
+  second_own_operation : reading own_two (alone (codes "0: allreduce world later_2 i64 1")) ≡ says (record (blank (K.Reduction R.Allreduce)) { op = Own 1; ty = I64; items = pos 1 ∷ [] })
   own_operation_of_another_job : reading [] (alone (codes "0: allreduce world affine 2int 3 -1")) ≡ refused_at 2 UnknownStatement
   no_operation_of_this_job : reading own_two (alone (codes "0: allreduce world later_3 i64 1")) ≡ refused_at 2 UnknownStatement
   translated_to_nobody : reading [] (alone (codes "0: translate world a 0")) ≡ refused_at 2 NameUnknown
 
 examples : Examples
-unfolding script alone with_word own_two refused_at sum_of says makes asks barrier_as sum_as of_edges of_neighbours edge neighbour number_of magnitude words counts is_ascii ranks_number kind_named started_named local_named operation_named predefined_named place_named type_named list_named rank_named ranks_named new_in call_in ask_in label_of statements_in is_name colour_named edge_named neighbour_named is_weighted entries_in edges_graph neighbours_graph graph_in lacks_ranks has_ranks_out_of_range has_rank_out_of_range is_unknown has_wrong_words has_bad_number has_bad_list has_bad_name has_unknown_name has_taken_name names_rank statement_in reading
+unfolding script alone with_word own_two refused_at sum_of says makes asks barrier_as sum_as of_edges of_neighbours edge neighbour number_of magnitude words counts is_ascii ranks_number kind_named started_named local_named operation_named predefined_named place_named type_named list_named rank_named ranks_named new_in call_in ask_in label_of statements_in is_name colour_named edge_named neighbour_named is_weighted entries_in edges_graph neighbours_graph graph_in lacks_ranks has_ranks_out_of_range has_rank_out_of_range is_unknown_line has_wrong_words has_bad_number has_bad_list has_bad_name has_unknown_name has_taken_name names_rank statement_in reading
 examples = record {
   three_ranks = refl;
   every_rank = refl;

@@ -11,10 +11,10 @@ use Rattle.std.proofs.lemmas.List.FromFn.{get_or-map-range_with_len}
 use Rattle.mpx_num.specs.declared.own.Operation.{Operation}
 use Rattle.mpx_script.specs.Words.{words, counts, counting, script_lines, with_first_line, bytes_limit}
 use Rattle.mpx_script.specs.Syntax.{DirectiveSyntax, directive_in, form_in, label_in}
-use Rattle.mpx_script.specs.Refusals.{is_unknown, is_unknown_as}
-use Rattle.mpx_script.specs.Meanings.{given_to, names_rank, statement_in}
+use Rattle.mpx_script.specs.Refusals.{is_unknown_line, is_unknown_as}
+use Rattle.mpx_script.specs.Meanings.{line_gives, names_rank, statement_in}
 use Rattle.mpx_script.specs.LinesGiven.{Give, NumberedLine, lines_given, naming, numbered_counting, words_at}
-use Rattle.mpx_script.specs.Reading.{LineContext, context_at, error_at, errors, first_holding, on_further, ranks_settled, ranks_told, read_as, reading, refusal, refusals, script_of}
+use Rattle.mpx_script.specs.Reading.{LineContext, context_at, error_at, errors, first_holding, on_further, ranks_settled, ranks_told, read_as, reading, refusal, reading_refusals, script_of}
 use Rattle.mpx_script.specs.ScriptView.{ScriptView}
 use Rattle.mpx_script.specs.declared.faults.ScriptFault.{ScriptFault}
 use Rattle.mpx_script.specs.declared.faults.ScriptFault.TheVariants.{UnknownStatement}
@@ -94,14 +94,14 @@ none_holds (x ∷ asked) e i one f = by_test (none_holds asked) x.1 refl where
   by_test again false g = by_place (λ k h. again (sym (ap (λ b. cond b (Some x.0) (first_holding asked)) g) ∙ e) k one h) g i f
 
 -- a further line that counts and isn't refused has a statement
-known_line : (ops : List Operation) (p : LineContext) (n : ℕ) → refusal ops p ≡ None → counts (words p.line) ≡ true → p.ranks ≡ Some n → is_unknown ops (directive_in (words p.line)) ≡ false
+known_line : (ops : List Operation) (p : LineContext) (n : ℕ) → refusal ops p ≡ None → counts (words p.line) ≡ true → p.ranks ≡ Some n → is_unknown_line ops (directive_in (words p.line)) ≡ false
 known_line ops p n e c r =
-    let held : on_further p (λ ranks directive. is_unknown ops directive) ≡ false = none_holds (refusals ops p) e 5 (UnknownStatement, on_further p (λ ranks directive. is_unknown ops directive)) refl in
-    sym (ap (λ (o : Option ℕ). option_map_or (λ ranks. is_unknown ops (directive_in (words p.line))) o false) r)
-    ∙ sym (ap (λ b. b && option_map_or (λ ranks. is_unknown ops (directive_in (words p.line))) p.ranks false) c) ∙ held
+    let held : on_further p (λ ranks directive. is_unknown_line ops directive) ≡ false = none_holds (reading_refusals ops p) e 5 (UnknownStatement, on_further p (λ ranks directive. is_unknown_line ops directive)) refl in
+    sym (ap (λ (o : Option ℕ). option_map_or (λ ranks. is_unknown_line ops (directive_in (words p.line))) o false) r)
+    ∙ sym (ap (λ b. b && option_map_or (λ ranks. is_unknown_line ops (directive_in (words p.line))) p.ranks false) c) ∙ held
 
-has_statement : (ops : List Operation) (d : DirectiveSyntax) → is_unknown ops d ≡ false → (x : Statement) × (statement_in ops d ≡ Some x)
-unfolding is_unknown statement_in
+has_statement : (ops : List Operation) (d : DirectiveSyntax) → is_unknown_line ops d ≡ false → (x : Statement) × (statement_in ops d ≡ Some x)
+unfolding is_unknown_line statement_in
 has_statement ops d e = by_form (form_in d) refl (or_parts (is_none (label_in d)) (option_map_or (λ form. is_unknown_as ops form d.behind) (form_in d) true) e).1 where
   by_form : (o : Option Form) → form_in d ≡ o → option_map_or (λ form. is_unknown_as ops form d.behind) (form_in d) true ≡ false → (x : Statement) × (statement_in ops d ≡ Some x)
   by_form None f g = let yes : true ≡ false = sym (ap (λ (o : Option Form). option_map_or (λ form. is_unknown_as ops form d.behind) o true) f) ∙ g in cc yes
@@ -121,7 +121,7 @@ module _ (ops : List Operation) (text : List ℕ) (rank : ℕ) (clean : (i : ℕ
   all = script_lines text
 
   abbrev given : List (List ℕ) → Option Statement
-  given ws = given_to ops rank (directive_in ws)
+  given ws = line_gives ops rank (directive_in ws)
 
   abbrev by_numbers : List ℕ → List (Option Statement)
   by_numbers numbers = map (λ number. given (words_at text number)) numbers
@@ -152,8 +152,8 @@ module _ (ops : List Operation) (text : List ℕ) (rank : ℕ) (clean : (i : ℕ
   stated : (i : ℕ) (line : List ℕ) (more : List (List ℕ)) → Here i line more → 0 < length (counting (take i all)) → counts (words line) ≡ true → (x : Statement) × (statement_in ops (directive_in (words line)) ≡ Some x)
   stated i line more h some c =
       let settled = settled_some (counting (take i all)) some in
-      let known : is_unknown ops (directive_in (words (get_or all i []))) ≡ false = known_line ops (context_at ops text i) settled.0 (clean i h.within) (ap (λ l. counts (words l)) h.is ∙ c) settled.1 in
-      has_statement ops (directive_in (words line)) (sym (ap (λ l. is_unknown ops (directive_in (words l))) h.is) ∙ known)
+      let known : is_unknown_line ops (directive_in (words (get_or all i []))) ≡ false = known_line ops (context_at ops text i) settled.0 (clean i h.within) (ap (λ l. counts (words l)) h.is ∙ c) settled.1 in
+      has_statement ops (directive_in (words line)) (sym (ap (λ l. is_unknown_line ops (directive_in (words l))) h.is) ∙ known)
 
   more_counted : (i : ℕ) (line : List ℕ) (more : List (List ℕ)) → Here i line more → 0 < length (counting (take i all)) → 0 < length (counting (take (i + 1) all))
   more_counted i line more h some = subst (λ xs. 0 < length xs) (sym h.counted) (longer (counting (take i all)) (filter counts (words line ∷ [])) some) where
@@ -194,9 +194,9 @@ module _ (ops : List Operation) (text : List ℕ) (rank : ℕ) (clean : (i : ℕ
     by_test rest false e = rw e rest
     by_test rest true e = rw e (further_given (i + 1) more h.rest (first_counted i line more h e))
 
-statements_are : (ops : List Operation) (lines : List (List (List ℕ))) (rank : ℕ) → rank < (script_of ops lines).ranks → get_or (script_of ops lines).statements rank [] ≡ filter_map (λ ws. given_to ops rank (directive_in ws)) (drop 1 lines)
+statements_are : (ops : List Operation) (lines : List (List (List ℕ))) (rank : ℕ) → rank < (script_of ops lines).ranks → get_or (script_of ops lines).statements rank [] ≡ filter_map (λ ws. line_gives ops rank (directive_in ws)) (drop 1 lines)
 statements_are ops [] rank l = absurd (omega (arith, l))
-statements_are ops (opening ∷ more) rank l = get_or-map-range_with_len (λ k. filter_map (λ ws. given_to ops k (directive_in ws)) more) 0 (ranks_told opening) rank rank [] l (omega arith)
+statements_are ops (opening ∷ more) rank l = get_or-map-range_with_len (λ k. filter_map (λ ws. line_gives ops k (directive_in ws)) more) 0 (ranks_told opening) rank rank [] l (omega arith)
 
 -- the numbers are those of the lines that give the statements
 pub give : (ops : List Operation) (text : List ℕ) (rank : ℕ) (script : ScriptView) → reading ops text ≡ Ok script → rank < script.ranks → Give ops text rank (lines_given rank text) (slice_index_or script.statements rank [])

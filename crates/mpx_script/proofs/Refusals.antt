@@ -10,7 +10,7 @@ use Rattle.mpx_kind.specs.Kinds.{fields_of}
 use Rattle.mpx_script.specs.Words.{words, counts, is_ascii}
 use Rattle.mpx_script.specs.Grammar.{form_named, shape_of}
 use Rattle.mpx_script.specs.Syntax.{DirectiveSyntax, NewSyntax, CallSyntax, directive_in, form_in, label_in, ranks_meant, statements_in}
-use Rattle.mpx_script.specs.Refusals.{has_rank_out_of_range, is_past, is_unknown, has_unknown_word, has_wrong_words, has_wrong_new_words, has_wrong_count, has_wrong_end, has_bad_number, has_bad_list}
+use Rattle.mpx_script.specs.Refusals.{has_rank_out_of_range, is_past, is_unknown_line, has_unknown_word, has_wrong_words, has_wrong_new_words, has_wrong_count, has_wrong_end, has_bad_number, has_bad_list}
 use Rattle.mpx_script.specs.Meanings.{statement_in, statement_as}
 use Rattle.mpx_script.specs.Naming.{BoundNames, has_bad_name, has_unknown_name, has_taken_name, ranks_labelled}
 use Rattle.mpx_script.specs.Reading.{refusal, first_holding, plain_context, statements_limit}
@@ -25,11 +25,11 @@ use Rattle.mpx_script.proofs.Accepted.{read_nothing, read_says}
 
 -- a statement that is known is refused as one of its form
 pub refusal_of_form : (ops : List Operation) (p : DirectiveSyntax) (form : Form) → is_none (label_in p) ≡ false → form_in p ≡ Some form → statement_refusal ops p ≡ form_refusal ops form p.behind
-unfolding statement_refusal is_unknown has_wrong_words has_bad_number has_bad_list
+unfolding statement_refusal is_unknown_line has_wrong_words has_bad_number has_bad_list
 refusal_of_form ops p form label known = rw (label, known) refl
 
 pub refusal_of_no_word : (ops : List Operation) (p : DirectiveSyntax) → is_none (label_in p) ≡ false → form_in p ≡ None → statement_refusal ops p ≡ Some UnknownStatement
-unfolding statement_refusal is_unknown
+unfolding statement_refusal is_unknown_line
 refusal_of_no_word ops p label no_form = rw (label, no_form) refl
 
 module _ (ops : List Operation) (kind : Kind) (mode : Mode) (communicator : Option (List ℕ)) (new : NewSyntax) (call : CallSyntax) (known : has_unknown_word ops call ≡ false) (there : is_none communicator ≡ false) (named : has_wrong_new_words (shape_of kind) new ≡ false) (counted : has_wrong_count (fields_of kind) call ≡ false) (ended : has_wrong_end mode call ≡ false) where
@@ -77,7 +77,7 @@ unfolding statement_refusal
 refusal_of_further ops line n k bound ascii counted =
     let p : DirectiveSyntax = directive_in (words line) in
     rw (ascii, counted) (ap (λ rest. cond (nat_lt statements_limit (k + statements_in n p)) (Some TooLarge) (cond (has_rank_out_of_range n p) (Some RankOutOfRange) rest))
-    (first_of_both ((UnknownStatement, is_unknown ops p) ∷ (WrongWords, has_wrong_words p) ∷ (BadNumber, has_bad_number p) ∷ (BadList, has_bad_list p) ∷ []) ((BadName, has_bad_name ops p) ∷ (NameUnknown, has_unknown_name ops bound n p) ∷ (NameTaken, has_taken_name ops bound n p) ∷ [])))
+    (first_of_both ((UnknownStatement, is_unknown_line ops p) ∷ (WrongWords, has_wrong_words p) ∷ (BadNumber, has_bad_number p) ∷ (BadList, has_bad_list p) ∷ []) ((BadName, has_bad_name ops p) ∷ (NameUnknown, has_unknown_name ops bound n p) ∷ (NameTaken, has_taken_name ops bound n p) ∷ [])))
 
 module _ (ops : List Operation) (line : List ℕ) (n k : ℕ) (bound : List BoundNames) (ascii : is_ascii line ≡ true) (counted : counts (words line) ≡ true) where
   pub refusal_of_many : nat_lt statements_limit (k + statements_in n (directive_in (words line))) ≡ true → refusal ops (plain_context line (Some n) k bound) ≡ Some TooLarge
@@ -86,7 +86,7 @@ module _ (ops : List Operation) (line : List ℕ) (n k : ℕ) (bound : List Boun
   module _ (few : nat_lt statements_limit (k + statements_in n (directive_in (words line))) ≡ false) where
     -- no rank, or no label
     pub refusal_of_label : (e : LineError) → ((e ≡ Fault RankOutOfRange) × (is_past n (label_in (directive_in (words line))) ≡ true)) ⊎ ((e ≡ Fault UnknownStatement) × (label_in (directive_in (words line)) ≡ None)) → IsLineRefusal (refusal ops (plain_context line (Some n) k bound)) e
-    unfolding has_rank_out_of_range statement_refusal is_unknown
+    unfolding has_rank_out_of_range statement_refusal is_unknown_line
     refusal_of_label e (inl h) = rw h.0 (refusal_of_further ops line n k bound ascii counted ∙ rw (few, h.1))
     refusal_of_label e (inr h) = rw h.0 (refusal_of_further ops line n k bound ascii counted ∙ rw (few, h.1))
 

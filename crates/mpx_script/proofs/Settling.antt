@@ -7,7 +7,7 @@ use Rattle.std.proofs.lemmas.List.Sums.{sum_by_push}
 use Rattle.mpx_num.specs.declared.own.Operation.{Operation}
 use Rattle.mpx_script.specs.Words.{counts}
 use Rattle.mpx_script.specs.Syntax.{directive_in, statements_in}
-use Rattle.mpx_script.specs.Meanings.{given_to}
+use Rattle.mpx_script.specs.Meanings.{line_gives}
 use Rattle.mpx_script.specs.ScriptView.{ScriptView, Adds}
 use Rattle.mpx_script.specs.Reading.{ranks_told, script_of}
 use Rattle.mpx_script.specs.Sentences.{IsAssignment}
@@ -16,9 +16,9 @@ use Rattle.mpx_script.specs.declared.script_line.Assignment.{Assignment}
 use Rattle.mpx_script.specs.declared.reader.PartialScript.{PartialScript}
 
 -- what one more line gives a rank
-one_given : (ops : List Operation) (rank n : ℕ) (ws : List (List ℕ)) (assignment : Assignment) → rank < n → IsAssignment ops n (directive_in ws) assignment → filter_map (λ line. given_to ops rank (directive_in line)) (ws ∷ []) ≡ cond (leb assignment.from rank && ltb rank assignment.to) (assignment.statement ∷ []) []
+one_given : (ops : List Operation) (rank n : ℕ) (ws : List (List ℕ)) (assignment : Assignment) → rank < n → IsAssignment ops n (directive_in ws) assignment → filter_map (λ line. line_gives ops rank (directive_in line)) (ws ∷ []) ≡ cond (leb assignment.from rank && ltb rank assignment.to) (assignment.statement ∷ []) []
 one_given ops rank n ws assignment h is =
-    elim (leb assignment.from rank && ltb rank assignment.to) as (λ v. (leb assignment.from rank && ltb rank assignment.to) ≡ v → filter_map (λ line. given_to ops rank (directive_in line)) (ws ∷ []) ≡ cond v (assignment.statement ∷ []) [])
+    elim (leb assignment.from rank && ltb rank assignment.to) as (λ v. (leb assignment.from rank && ltb rank assignment.to) ≡ v → filter_map (λ line. line_gives ops rank (directive_in line)) (ws ∷ []) ≡ cond v (assignment.statement ∷ []) [])
     [ true ↦ λ e. rw (is.named rank h ∙ e, is.statement) | false ↦ λ e. rw (is.named rank h ∙ e) ] refl
 
 -- the script of one line more
@@ -26,17 +26,17 @@ script_more : (ops : List Operation) (opening : List (List ℕ)) (further : List
 script_more ops opening further ws old new assignment is ranks adds gives =
     let n : ℕ = ranks_told opening in
     let same : old.ranks ≡ n = ap (λ s. s.ranks) is in
-    let lists_are : old.statements ≡ map (λ rank. filter_map (λ line. given_to ops rank (directive_in line)) further) (range_with_len 0 n) = ap (λ s. s.statements) is in
-    let long : length old.statements ≡ n = ap length lists_are ∙ length-map-range_with_len (λ rank. filter_map (λ line. given_to ops rank (directive_in line)) further) 0 n in
-    let filled : new.statements ≡ map (λ rank. filter_map (λ line. given_to ops rank (directive_in line)) (further ++ ws ∷ [])) (range_with_len 0 n) =
-    fill_by_all (λ rank. filter_map (λ line. given_to ops rank (directive_in line)) (further ++ ws ∷ [])) new.statements n [] (adds.len ∙ long) (λ rank h.
+    let lists_are : old.statements ≡ map (λ rank. filter_map (λ line. line_gives ops rank (directive_in line)) further) (range_with_len 0 n) = ap (λ s. s.statements) is in
+    let long : length old.statements ≡ n = ap length lists_are ∙ length-map-range_with_len (λ rank. filter_map (λ line. line_gives ops rank (directive_in line)) further) 0 n in
+    let filled : new.statements ≡ map (λ rank. filter_map (λ line. line_gives ops rank (directive_in line)) (further ++ ws ∷ [])) (range_with_len 0 n) =
+    fill_by_all (λ rank. filter_map (λ line. line_gives ops rank (directive_in line)) (further ++ ws ∷ [])) new.statements n [] (adds.len ∙ long) (λ rank h.
     let within : rank < length old.statements = omega arith in
-    let before : get_or old.statements rank [] ≡ filter_map (λ line. given_to ops rank (directive_in line)) further =
-    ap (λ xs. get_or xs rank []) lists_are ∙ get_or-map-range_with_len (λ k. filter_map (λ line. given_to ops k (directive_in line)) further) 0 n rank rank [] h (omega arith) in
+    let before : get_or old.statements rank [] ≡ filter_map (λ line. line_gives ops rank (directive_in line)) further =
+    ap (λ xs. get_or xs rank []) lists_are ∙ get_or-map-range_with_len (λ k. filter_map (λ line. line_gives ops k (directive_in line)) further) 0 n rank rank [] h (omega arith) in
     let inside : rank < old.ranks = omega arith in
     adds.at rank within ∙ ap (λ xs. xs ++ cond (leb assignment.from rank && ltb rank assignment.to) (assignment.statement ∷ []) []) before
-    ∙ ap (λ xs. filter_map (λ line. given_to ops rank (directive_in line)) further ++ xs) (sym (one_given ops rank old.ranks ws assignment inside gives))
-    ∙ sym (filter_map-append (λ line. given_to ops rank (directive_in line)) further (ws ∷ []))) in
+    ∙ ap (λ xs. filter_map (λ line. line_gives ops rank (directive_in line)) further ++ xs) (sym (one_given ops rank old.ranks ws assignment inside gives))
+    ∙ sym (filter_map-append (λ line. line_gives ops rank (directive_in line)) further (ws ∷ []))) in
     let ranks_are : new.ranks ≡ n = ranks ∙ same in
     λ i. record { ranks = ranks_are i; statements = filled i }
 

@@ -5,13 +5,12 @@ use Rattle.std.specs.Option.{option_map}
 use Rattle.mpx_num.specs.Text.{number_of}
 use Rattle.mpx_num.specs.OwnWords.{place_named}
 use Rattle.mpx_num.specs.declared.own.Operation.{Operation}
-use Rattle.mpx_num.specs.declared.own.Place.{Place}
 use Rattle.mpx_num.specs.declared.types.Ty.{Ty}
 use Rattle.mpx_num.specs.declared.types.Ty.TheVariants as T
 use Rattle.mpx_num.specs.declared.operations.Op.{Op}
 use Rattle.mpx_num.specs.declared.operations.Op.TheVariants as O
 use Rattle.mpx_kind.specs.declared.kinds.Number.{Number}
-use Rattle.mpx_kind.specs.declared.kinds.Number.TheVariants.{Zero, One, OneAtRoot, Members, MembersAtRoot, Indegree, Outdegree}
+use Rattle.mpx_kind.specs.declared.kinds.Number.TheVariants.{One}
 use Rattle.mpx_post.specs.Rows.{all_of}
 use Rattle.mpx_statement.specs.Lookups.{named}
 
@@ -33,7 +32,7 @@ predefined_named word = named (
     ∷ []) word
 
 -- it, or else the one in this place of a job's own
-abbrev pub or_own : Option Op → Option Place → Option Op
+abbrev pub or_own : Option Op → Option ℕ → Option Op
 or_own (Some op) place = Some op
 or_own None place = option_map O.Own place
 
@@ -56,13 +55,8 @@ type_named word = named (
 
 -- just one count
 abbrev pub is_one : Number → Bool
-is_one Zero = false
 is_one One = true
-is_one OneAtRoot = false
-is_one Members = false
-is_one MembersAtRoot = false
-is_one Indegree = false
-is_one Outdegree = false
+is_one number = false
 
 -- numbers with commas (44) between them, or `-` for none
 unfoldable pub list_named : List ℕ → Option (List ℤ)

@@ -8,11 +8,12 @@ use Rattle.mpx_kind.specs.declared.kinds.Mode.{Mode}
 use Rattle.mpx_kind.specs.declared.kinds.Mode.TheVariants.{Blocking, Nonblocking}
 use Rattle.mpx_kind.specs.declared.kinds.Call.{Call as KindOfCall}
 use Rattle.mpx_kind.specs.declared.kinds.Call.TheVariants as C
-use Rattle.mpx_kind.specs.declared.kinds.Family.{Family}
-use Rattle.mpx_kind.specs.declared.kinds.Family.TheVariants as F
+use Rattle.mpx_kind.specs.declared.kinds.Exchange.TheVariants as E
+use Rattle.mpx_kind.specs.declared.kinds.Reduction.TheVariants as R
+use Rattle.mpx_kind.specs.declared.kinds.Neighbourhood.TheVariants as H
 use Rattle.mpx_kind.specs.declared.kinds.NewCommunicator.{NewCommunicator}
 use Rattle.mpx_kind.specs.declared.kinds.NewCommunicator.TheVariants as N
-use Rattle.mpx_kind.specs.Kinds.{family_of, may_be}
+use Rattle.mpx_kind.specs.Kinds.{may_be}
 use Rattle.mpx_script.specs.declared.grammar.Asked.{Asked}
 use Rattle.mpx_script.specs.declared.grammar.Asked.TheVariants as A
 use Rattle.mpx_script.specs.declared.grammar.Form.{Form}
@@ -48,38 +49,38 @@ ranks_number words = do
 
 unfoldable pub kind_named : List ℕ → Option Kind
 kind_named word = named (
-    (codes "barrier", K.Barrier)
-    ∷ (codes "bcast", K.Bcast)
-    ∷ (codes "gather", K.Gather)
-    ∷ (codes "gatherv", K.Gatherv)
-    ∷ (codes "scatter", K.Scatter)
-    ∷ (codes "scatterv", K.Scatterv)
-    ∷ (codes "allgather", K.Allgather)
-    ∷ (codes "allgatherv", K.Allgatherv)
-    ∷ (codes "alltoall", K.Alltoall)
-    ∷ (codes "alltoallv", K.Alltoallv)
-    ∷ (codes "reduce", K.Reduce)
-    ∷ (codes "allreduce", K.Allreduce)
-    ∷ (codes "reduce_scatter_block", K.ReduceScatterBlock)
-    ∷ (codes "reduce_scatter", K.ReduceScatter)
-    ∷ (codes "scan", K.Scan)
-    ∷ (codes "exscan", K.Exscan)
-    ∷ (codes "dup", K.Dup)
-    ∷ (codes "split", K.Split)
-    ∷ (codes "create", K.Create)
-    ∷ (codes "create_group", K.CreateGroup)
-    ∷ (codes "dist_graph", K.DistGraph)
-    ∷ (codes "dist_graph_adjacent", K.DistGraphAdjacent)
-    ∷ (codes "neighbor_allgather", K.NeighborAllgather)
-    ∷ (codes "neighbor_allgatherv", K.NeighborAllgatherv)
-    ∷ (codes "neighbor_alltoall", K.NeighborAlltoall)
-    ∷ (codes "neighbor_alltoallv", K.NeighborAlltoallv)
+    (codes "barrier", K.Exchange E.Barrier)
+    ∷ (codes "bcast", K.Exchange E.Bcast)
+    ∷ (codes "gather", K.Exchange E.Gather)
+    ∷ (codes "gatherv", K.Exchange E.Gatherv)
+    ∷ (codes "scatter", K.Exchange E.Scatter)
+    ∷ (codes "scatterv", K.Exchange E.Scatterv)
+    ∷ (codes "allgather", K.Exchange E.Allgather)
+    ∷ (codes "allgatherv", K.Exchange E.Allgatherv)
+    ∷ (codes "alltoall", K.Exchange E.Alltoall)
+    ∷ (codes "alltoallv", K.Exchange E.Alltoallv)
+    ∷ (codes "reduce", K.Reduction R.Reduce)
+    ∷ (codes "allreduce", K.Reduction R.Allreduce)
+    ∷ (codes "reduce_scatter_block", K.Reduction R.ReduceScatterBlock)
+    ∷ (codes "reduce_scatter", K.Reduction R.ReduceScatter)
+    ∷ (codes "scan", K.Reduction R.Scan)
+    ∷ (codes "exscan", K.Reduction R.Exscan)
+    ∷ (codes "dup", K.NewCommunicator N.Dup)
+    ∷ (codes "split", K.NewCommunicator N.Split)
+    ∷ (codes "create", K.NewCommunicator N.Create)
+    ∷ (codes "create_group", K.NewCommunicator N.CreateGroup)
+    ∷ (codes "dist_graph", K.NewCommunicator N.DistGraph)
+    ∷ (codes "dist_graph_adjacent", K.NewCommunicator N.DistGraphAdjacent)
+    ∷ (codes "neighbor_allgather", K.Neighbourhood H.Allgather)
+    ∷ (codes "neighbor_allgatherv", K.Neighbourhood H.Allgatherv)
+    ∷ (codes "neighbor_alltoall", K.Neighbourhood H.Alltoall)
+    ∷ (codes "neighbor_alltoallv", K.Neighbourhood H.Alltoallv)
     ∷ (codes "free", K.Free)
     ∷ []) word
 
 -- the kind, if there are nonblocking calls of it
 abbrev pub if_nonblocking : Kind → Option Kind
-if_nonblocking kind = if may_be Nonblocking (family_of kind) then Some kind else None
+if_nonblocking kind = if may_be Nonblocking kind then Some kind else None
 
 -- the kind of a nonblocking call: behind an `i` (105) its blocking call's word
 unfoldable pub started_named : List ℕ → Option Kind
@@ -112,15 +113,9 @@ shape_of_new N.DistGraph = record { colour = false; tag = false; ranks = false; 
 shape_of_new N.DistGraphAdjacent = record { colour = false; tag = false; ranks = false; edges = false; neighbours = true; target = true }
 
 -- other calls have none of them
-abbrev pub shape_in : Family → Shape
-shape_in (F.Exchange exchange) = record { colour = false; tag = false; ranks = false; edges = false; neighbours = false; target = false }
-shape_in (F.Reduction reduction) = record { colour = false; tag = false; ranks = false; edges = false; neighbours = false; target = false }
-shape_in (F.NewCommunicator new) = shape_of_new new
-shape_in (F.Neighbourhood exchange) = record { colour = false; tag = false; ranks = false; edges = false; neighbours = false; target = false }
-shape_in F.Free = record { colour = false; tag = false; ranks = false; edges = false; neighbours = false; target = false }
-
 abbrev pub shape_of : Kind → Shape
-shape_of kind = shape_in (family_of kind)
+shape_of (K.NewCommunicator new) = shape_of_new new
+shape_of kind = record { colour = false; tag = false; ranks = false; edges = false; neighbours = false; target = false }
 
 abbrev pub is_nonblocking : Mode → Bool
 is_nonblocking Blocking = false
@@ -128,13 +123,11 @@ is_nonblocking Nonblocking = true
 
 abbrev pub has_second : Asked → Bool
 has_second (A.Neighbours side) = false
-has_second A.Compare = true
-has_second A.Translate = true
+has_second asked = true
 
 abbrev pub has_ranks : Asked → Bool
-has_ranks (A.Neighbours side) = false
-has_ranks A.Compare = false
 has_ranks A.Translate = true
+has_ranks asked = false
 
 -- `*` for every rank, or a number
 abbrev pub label_named : List ℕ → Option Label
@@ -144,10 +137,10 @@ label_named word = if bytes_eq word (codes "*") then Some Every else option_map 
 unfoldable pub label_of : List ℕ → Option Label
 label_of word = if slice_index word (length word - 1) == 58 then label_named (take (length word - 1) word) else None
 
--- the call of a family's kind that blocks, or one that doesn't where there is such a call
-abbrev pub call_with : Mode → Family → KindOfCall
-call_with mode (F.Exchange exchange) = C.Exchange exchange mode
-call_with mode (F.Reduction reduction) = C.Reduction reduction mode
-call_with mode (F.NewCommunicator new) = C.NewCommunicator new
-call_with mode (F.Neighbourhood exchange) = C.Neighbourhood exchange mode
-call_with mode F.Free = C.Free
+-- the call of a kind that blocks, or one that doesn't where there is such a call
+abbrev pub call_with : Mode → Kind → KindOfCall
+call_with mode (K.Exchange exchange) = C.Exchange exchange mode
+call_with mode (K.Reduction reduction) = C.Reduction reduction mode
+call_with mode (K.NewCommunicator new) = C.NewCommunicator new
+call_with mode (K.Neighbourhood exchange) = C.Neighbourhood exchange mode
+call_with mode K.Free = C.Free

@@ -69,8 +69,7 @@ neighbours_graph from to = do
 abbrev pub graph_at : (edges sources destinations : Option (List ℕ)) → Option (Option GraphView)
 graph_at (Some edges) sources destinations = option_map Some (edges_graph edges)
 graph_at None (Some sources) (Some destinations) = option_map Some (neighbours_graph sources destinations)
-graph_at None (Some sources) None = Some None
-graph_at None None destinations = Some None
+graph_at edges sources destinations = Some None
 
 unfoldable pub graph_in : NewSyntax → Option (Option GraphView)
 graph_in new = graph_at new.edges new.sources new.destinations

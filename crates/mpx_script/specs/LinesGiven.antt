@@ -4,7 +4,7 @@ use Rattle.std.specs.List.{filter}
 use Rattle.mpx_num.specs.declared.own.Operation.{Operation}
 use Rattle.mpx_script.specs.Words.{counts, script_lines, words}
 use Rattle.mpx_script.specs.Syntax.{directive_in}
-use Rattle.mpx_script.specs.Meanings.{given_to, names_rank}
+use Rattle.mpx_script.specs.Meanings.{line_gives, names_rank}
 use Rattle.mpx_statement.specs.declared.statement.Statement.{Statement}
 
 -- a line's number, and its words
@@ -34,4 +34,4 @@ words_at text number = words (slice_index_or (script_lines text) (number - 1) []
 
 -- the lines with these numbers give the rank these statements, each line one, in this order
 abbrev pub Give : List Operation → (text : List ℕ) (rank : ℕ) (numbers : List ℕ) → List Statement → Type 0
-Give ops text rank numbers statements = map (λ number. given_to ops rank (directive_in (words_at text number))) numbers ≡ map Some statements
+Give ops text rank numbers statements = map (λ number. line_gives ops rank (directive_in (words_at text number))) numbers ≡ map Some statements

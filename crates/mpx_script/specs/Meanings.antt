@@ -1,5 +1,5 @@
 -- What a line that isn't refused says.
-use Rattle.std.specs.Prelude.{ℕ, Bool, true, false, ◌==◌, List, [], Option, Some, None, unwrap_or, option_and_then, ℤ, pos, negsuc, if◌then◌else◌}
+use Rattle.std.specs.Prelude.{ℕ, Bool, true, false, ◌==◌, List, [], Option, Some, None, unwrap_or, option_and_then, ℤ, pos, if◌then◌else◌}
 use Rattle.std.specs.List.{filter_map}
 use Rattle.std.specs.Option.{option_map}
 use Rattle.mpx_num.specs.Text.{number_of}
@@ -9,12 +9,12 @@ use Rattle.mpx_num.specs.declared.operations.Op.TheVariants as O
 use Rattle.mpx_kind.specs.declared.kinds.Kind.{Kind}
 use Rattle.mpx_kind.specs.declared.kinds.Mode.{Mode}
 use Rattle.mpx_kind.specs.declared.kinds.Mode.TheVariants.{Blocking, Nonblocking}
-use Rattle.mpx_kind.specs.declared.kinds.Family.{Family}
-use Rattle.mpx_kind.specs.declared.kinds.Family.TheVariants as F
+use Rattle.mpx_kind.specs.declared.kinds.Kind.TheVariants as K
 use Rattle.mpx_kind.specs.declared.kinds.NewCommunicator.{NewCommunicator}
 use Rattle.mpx_kind.specs.declared.kinds.NewCommunicator.TheVariants as N
 use Rattle.mpx_post.specs.declared.draft.Draft.{Draft}
-use Rattle.mpx_kind.specs.Kinds.{family_of, fields_of}
+use Rattle.mpx_post.specs.Drafts.{empty_draft}
+use Rattle.mpx_kind.specs.Kinds.{fields_of}
 use Rattle.mpx_script.specs.declared.grammar.Asked.{Asked}
 use Rattle.mpx_script.specs.declared.grammar.Asked.TheVariants as A
 use Rattle.mpx_script.specs.declared.grammar.Form.{Form}
@@ -33,10 +33,9 @@ use Rattle.mpx_script.specs.Syntax.{NewSyntax, CallSyntax, AskSyntax, ask_in, co
 use Rattle.mpx_script.specs.Graphs.{graph_in}
 
 abbrev pub is_meant : ℕ → Option Label → Bool
-is_meant rank None = false
 is_meant rank (Some Every) = true
 is_meant rank (Some (Numbered (pos n))) = n == rank
-is_meant rank (Some (Numbered (negsuc n))) = false
+is_meant rank label = false
 
 -- the line is for the rank
 unfoldable pub names_rank : ℕ → DirectiveSyntax → Bool
@@ -48,18 +47,13 @@ said meaning other word = unwrap_or (option_and_then meaning word) other
 
 -- the draft of a call by its fields; a field that the kind hasn't is 0, sum, i8, no counts or no graph
 abbrev pub call_draft_in : List Operation → Kind → Mode → CallSyntax → Draft
-call_draft_in ops kind mode call = record {
-  call = call_with mode (family_of kind);
+call_draft_in ops kind mode call = record (empty_draft (call_with mode kind)) {
   root = said number_of (pos 0) call.root;
   op = said (operation_named ops) O.Sum call.operation;
   ty = said type_named T.I8 call.ty;
   scounts = said (counts_named (fields_of kind).scounts) [] call.scounts;
   rcounts = said (counts_named (fields_of kind).rcounts) [] call.rcounts;
   items = filter_map number_of call.items;
-  colour = None;
-  key = pos 0;
-  group = [];
-  graph = None;
 }
 
 -- with what it says of a new communicator
@@ -78,24 +72,17 @@ call_posted Nonblocking on draft request = Start on draft request
 
 -- what one posts that makes one
 abbrev pub new_posted : NewCommunicator → (on : List ℕ) → Draft → (tag : ℤ) → (target : List ℕ) → Posting
-new_posted N.Dup on draft tag target = New on draft target
-new_posted N.Split on draft tag target = New on draft target
-new_posted N.Create on draft tag target = New on draft target
 new_posted N.CreateGroup on draft tag target = CreateGroup on tag draft.group target
-new_posted N.DistGraph on draft tag target = New on draft target
-new_posted N.DistGraphAdjacent on draft tag target = New on draft target
+new_posted new on draft tag target = New on draft target
 
--- what a statement of a kind's family posts on a communicator, with this draft, this tag, and these names for the new one and for
--- the request
-abbrev pub posting_of : Family → Mode → (on : List ℕ) → Draft → (tag : ℤ) → (target request : List ℕ) → Posting
-posting_of (F.Exchange exchange) mode on draft tag target request = call_posted mode on draft request
-posting_of (F.Reduction reduction) mode on draft tag target request = call_posted mode on draft request
-posting_of (F.NewCommunicator new) mode on draft tag target request = new_posted new on draft tag target
-posting_of (F.Neighbourhood exchange) mode on draft tag target request = call_posted mode on draft request
-posting_of F.Free mode on draft tag target request = call_posted mode on draft request
+-- what a statement of a kind posts on a communicator, with this draft, this tag, and these names for the new one and for the
+-- request
+abbrev pub posting_of : Kind → Mode → (on : List ℕ) → Draft → (tag : ℤ) → (target request : List ℕ) → Posting
+posting_of (K.NewCommunicator new) mode on draft tag target request = new_posted new on draft tag target
+posting_of kind mode on draft tag target request = call_posted mode on draft request
 
 abbrev pub posting_said : List Operation → Kind → Mode → Option (List ℕ) → NewSyntax → CallSyntax → Posting
-posting_said ops kind mode communicator new call = posting_of (family_of kind) mode (unwrap_or communicator []) (draft_in ops kind mode new call) (said number_of (pos 0) new.tag) (unwrap_or new.target []) (unwrap_or call.request [])
+posting_said ops kind mode communicator new call = posting_of kind mode (unwrap_or communicator []) (draft_in ops kind mode new call) (said number_of (pos 0) new.tag) (unwrap_or new.target []) (unwrap_or call.request [])
 
 abbrev pub question_said : Asked → AskSyntax → Question
 question_said (A.Neighbours side) ask = Neighbours (unwrap_or ask.first []) side
@@ -112,5 +99,5 @@ unfoldable pub statement_in : List Operation → DirectiveSyntax → Option Stat
 statement_in ops directive = option_map (λ form. statement_as ops form directive.behind) (form_in directive)
 
 -- what the line gives the rank
-abbrev pub given_to : List Operation → ℕ → DirectiveSyntax → Option Statement
-given_to ops rank directive = if names_rank rank directive then statement_in ops directive else None
+abbrev pub line_gives : List Operation → ℕ → DirectiveSyntax → Option Statement
+line_gives ops rank directive = if names_rank rank directive then statement_in ops directive else None

@@ -1,5 +1,5 @@
 -- Names: which are bound, and what a line's names are refused for.
-use Rattle.std.specs.Prelude.{ℕ, Bool, false, not, ◌||◌, List, [], ◌∷◌, ◌++◌, map, slice_index_or, codes, bytes_eq, Option, Some, None, pos, negsuc}
+use Rattle.std.specs.Prelude.{ℕ, Bool, false, not, ◌||◌, List, [], ◌∷◌, ◌++◌, map, slice_index_or, codes, bytes_eq, Option, Some, None, pos}
 use Rattle.std.specs.List.{filter_map, list_any, range_with_len}
 use Rattle.std.specs.Option.{option_map_or, option_to_list}
 use Rattle.mpx_num.specs.OwnWords.{is_name}
@@ -55,10 +55,9 @@ takes_name statement names = list_any (λ word. is_bound names.communicators wor
 
 -- the ranks that a label names
 abbrev pub ranks_labelled : ℕ → Option Label → List ℕ
-ranks_labelled ranks None = []
 ranks_labelled ranks (Some Every) = range_with_len 0 ranks
 ranks_labelled ranks (Some (Numbered (pos n))) = n ∷ []
-ranks_labelled ranks (Some (Numbered (negsuc n))) = []
+ranks_labelled ranks label = []
 
 -- that holds of the names of one of these ranks
 abbrev pub at_some_rank : List BoundNames → List ℕ → (BoundNames → Bool) → Bool

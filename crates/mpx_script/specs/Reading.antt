@@ -4,9 +4,9 @@ use Rattle.std.specs.List.{filter_map, range_with_len}
 use Rattle.std.specs.Option.{option_map, option_map_or}
 use Rattle.mpx_num.specs.declared.own.Operation.{Operation}
 use Rattle.mpx_script.specs.Words.{words, counts, counting, is_ascii, is_over_limit, script_lines}
-use Rattle.mpx_script.specs.Syntax.{DirectiveSyntax, directive_in, statements_in, ranks_in}
-use Rattle.mpx_script.specs.Refusals.{lacks_ranks, has_ranks_out_of_range, has_rank_out_of_range, is_unknown, has_wrong_words, has_bad_number, has_bad_list}
-use Rattle.mpx_script.specs.Meanings.{given_to}
+use Rattle.mpx_script.specs.Syntax.{DirectiveSyntax, directive_in, statements_in, opening_ranks}
+use Rattle.mpx_script.specs.Refusals.{lacks_ranks, has_ranks_out_of_range, has_rank_out_of_range, is_unknown_line, has_wrong_words, has_bad_number, has_bad_list}
+use Rattle.mpx_script.specs.Meanings.{line_gives}
 use Rattle.mpx_script.specs.Naming.{BoundNames, has_bad_name, has_unknown_name, has_taken_name, names_bound}
 use Rattle.mpx_script.specs.ScriptView.{ScriptView}
 use Rattle.mpx_script.specs.declared.faults.ScriptFault.{ScriptFault}
@@ -40,14 +40,14 @@ abbrev pub on_further : LineContext → (ℕ → DirectiveSyntax → Bool) → B
 on_further p test = counts (words p.line) && option_map_or (λ ranks. test ranks (directive_in (words p.line))) p.ranks false
 
 -- what the line may be refused for, in the order in which that is asked
-abbrev pub refusals : List Operation → LineContext → List (ScriptFault × Bool)
-refusals ops p =
+abbrev pub reading_refusals : List Operation → LineContext → List (ScriptFault × Bool)
+reading_refusals ops p =
     (NotAscii, not (is_ascii p.line))
     ∷ (TooLarge, p.is_cut || on_further p (λ ranks directive. nat_lt statements_limit (p.statements + statements_in ranks directive)))
     ∷ (NoRanksLine, p.is_bare || on_opening p lacks_ranks)
     ∷ (RanksOutOfRange, on_opening p has_ranks_out_of_range)
     ∷ (RankOutOfRange, on_further p has_rank_out_of_range)
-    ∷ (UnknownStatement, on_further p (λ ranks directive. is_unknown ops directive))
+    ∷ (UnknownStatement, on_further p (λ ranks directive. is_unknown_line ops directive))
     ∷ (WrongWords, on_further p (λ ranks directive. has_wrong_words directive))
     ∷ (BadNumber, on_further p (λ ranks directive. has_bad_number directive))
     ∷ (BadList, on_further p (λ ranks directive. has_bad_list directive))
@@ -62,7 +62,7 @@ first_holding [] = None
 first_holding (asked ∷ more) = if asked.1 then Some asked.0 else first_holding more
 
 abbrev pub refusal : List Operation → LineContext → Option ScriptFault
-refusal ops p = first_holding (refusals ops p)
+refusal ops p = first_holding (reading_refusals ops p)
 
 -- a line of a script that isn't bare
 abbrev pub bounded_context : List ℕ → Bool → Option ℕ → ℕ → List BoundNames → LineContext
@@ -74,7 +74,7 @@ plain_context line ranks statements bound = bounded_context line false ranks sta
 
 -- the number of ranks that the first line that counts tells
 abbrev pub ranks_told : List (List ℕ) → ℕ
-ranks_told opening = unwrap_or (ranks_in opening) 0
+ranks_told opening = unwrap_or (opening_ranks opening) 0
 
 abbrev pub ranks_settled : List (List (List ℕ)) → Option ℕ
 ranks_settled [] = None
@@ -90,7 +90,7 @@ abbrev pub script_of : List Operation → List (List (List ℕ)) → ScriptView
 script_of ops [] = record { ranks = 0; statements = [] }
 script_of ops (opening ∷ further) = record {
   ranks = ranks_told opening;
-  statements = map (λ rank. filter_map (λ words. given_to ops rank (directive_in words)) further) (range_with_len 0 (ranks_told opening));
+  statements = map (λ rank. filter_map (λ words. line_gives ops rank (directive_in words)) further) (range_with_len 0 (ranks_told opening));
 }
 
 -- the names that each rank has bound by the lines that count

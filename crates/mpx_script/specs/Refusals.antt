@@ -11,14 +11,14 @@ use Rattle.mpx_script.specs.declared.grammar.Asked.{Asked}
 use Rattle.mpx_script.specs.declared.grammar.Form.{Form}
 use Rattle.mpx_script.specs.declared.grammar.Form.TheVariants as M
 use Rattle.mpx_script.specs.declared.grammar.Label.{Label}
-use Rattle.mpx_script.specs.declared.grammar.Label.TheVariants.{Every, Numbered}
+use Rattle.mpx_script.specs.declared.grammar.Label.TheVariants.{Numbered}
 use Rattle.mpx_script.specs.declared.grammar.Shape.{Shape}
 use Rattle.mpx_script.specs.declared.grammar.Waited.{Waited}
 use Rattle.mpx_script.specs.declared.grammar.Waited.TheVariants as W
 use Rattle.mpx_statement.specs.Lookups.{below}
 use Rattle.mpx_script.specs.Grammar.{ranks_number, shape_of, is_nonblocking, has_second, has_ranks}
 use Rattle.mpx_script.specs.Fields.{operation_named, type_named, is_one, counts_named, ranks_named, colour_named, is_arrow, is_number, is_list}
-use Rattle.mpx_script.specs.Syntax.{NewSyntax, CallSyntax, AskSyntax, ask_in, communicator_in, new_of, call_of, DirectiveSyntax, form_in, label_in, ranks_in}
+use Rattle.mpx_script.specs.Syntax.{NewSyntax, CallSyntax, AskSyntax, ask_in, communicator_in, new_of, call_of, DirectiveSyntax, form_in, label_in, opening_ranks}
 use Rattle.mpx_script.specs.Graphs.{graph_in}
 
 -- there is such a word, and it fails the test
@@ -30,12 +30,11 @@ unfoldable pub lacks_ranks : List (List ℕ) → Bool
 lacks_ranks words = is_none (ranks_number words)
 
 unfoldable pub has_ranks_out_of_range : List (List ℕ) → Bool
-has_ranks_out_of_range words = is_none (ranks_in words)
+has_ranks_out_of_range words = is_none (opening_ranks words)
 
 abbrev pub is_past : ℕ → Option Label → Bool
-is_past ranks None = false
-is_past ranks (Some Every) = false
 is_past ranks (Some (Numbered z)) = is_none (below ranks z)
+is_past ranks label = false
 
 unfoldable pub has_rank_out_of_range : ℕ → DirectiveSyntax → Bool
 has_rank_out_of_range ranks directive = is_past ranks (label_in directive)
@@ -46,12 +45,11 @@ has_unknown_word ops call = fails (λ word. is_some (operation_named ops word)) 
 
 abbrev pub is_unknown_as : List Operation → Form → List (List ℕ) → Bool
 is_unknown_as ops (M.Call kind mode) words = has_unknown_word ops (call_of kind mode words)
-is_unknown_as ops (M.Wait waited) words = false
-is_unknown_as ops (M.Ask asked) words = false
+is_unknown_as ops form words = false
 
 -- no `R: STATEMENT`, or another statement, operation or type
-unfoldable pub is_unknown : List Operation → DirectiveSyntax → Bool
-is_unknown ops directive = is_none (label_in directive) || option_map_or (λ form. is_unknown_as ops form directive.behind) (form_in directive) true
+unfoldable pub is_unknown_line : List Operation → DirectiveSyntax → Bool
+is_unknown_line ops directive = is_none (label_in directive) || option_map_or (λ form. is_unknown_as ops form directive.behind) (form_in directive) true
 
 -- a word is asked for and isn't there
 abbrev pub lacks : Bool → Option (List ℕ) → Bool
@@ -119,8 +117,7 @@ has_strange_number fields call = fails is_number call.root
 
 abbrev pub has_bad_number_as : Form → List (List ℕ) → Bool
 has_bad_number_as (M.Call kind mode) words = has_strange_new_number (new_of kind words) || has_strange_number (fields_of kind) (call_of kind mode words)
-has_bad_number_as (M.Wait waited) words = false
-has_bad_number_as (M.Ask asked) words = false
+has_bad_number_as form words = false
 
 unfoldable pub has_bad_number : DirectiveSyntax → Bool
 has_bad_number directive = option_map_or (λ form. has_bad_number_as form directive.behind) (form_in directive) false

@@ -8,8 +8,8 @@ use Rattle.mpx_kind.specs.Kinds.{fields_of}
 use Rattle.mpx_script.specs.Words.{counts}
 use Rattle.mpx_script.specs.Grammar.{shape_of}
 use Rattle.mpx_script.specs.Fields.{is_one}
-use Rattle.mpx_script.specs.Syntax.{DirectiveSyntax, NewSyntax, CallSyntax, directive_in, ranks_in, statements_in}
-use Rattle.mpx_script.specs.Refusals.{is_unknown, is_unknown_as, has_wrong_words, has_wrong_words_as, has_bad_number, has_bad_number_as, has_bad_list, has_bad_list_as, has_unknown_word, has_wrong_new_words, has_wrong_count, has_wrong_end, has_strange_choice, has_strange_new_number, has_strange_count, has_strange_number, has_strange_list, has_strange_new_list}
+use Rattle.mpx_script.specs.Syntax.{DirectiveSyntax, NewSyntax, CallSyntax, directive_in, opening_ranks, statements_in}
+use Rattle.mpx_script.specs.Refusals.{is_unknown_line, is_unknown_as, has_wrong_words, has_wrong_words_as, has_bad_number, has_bad_number_as, has_bad_list, has_bad_list_as, has_unknown_word, has_wrong_new_words, has_wrong_count, has_wrong_end, has_strange_choice, has_strange_new_number, has_strange_count, has_strange_number, has_strange_list, has_strange_new_list}
 use Rattle.mpx_script.specs.Meanings.{names_rank, statement_in}
 use Rattle.mpx_script.specs.Naming.{BoundNames, at_some_rank, lacks_name, misnames, takes_name}
 use Rattle.mpx_script.specs.Reading.{statements_limit, first_holding}
@@ -34,7 +34,7 @@ pub record IsAssignment (ops : List Operation) (ranks : ℕ) (directive : Direct
 -- what a line says that isn't refused, with so many ranks and statements before it
 abbrev pub Says : List Operation → Option ℕ → ℕ → List (List ℕ) → Sentence → Type 0
 Says ops ranks statements ws Passed = counts ws ≡ false
-Says ops ranks statements ws (Opening n) = (ranks ≡ None) × (counts ws ≡ true) × (ranks_in ws ≡ Some n) × (1 ≤ n) × (n ≤ 64)
+Says ops ranks statements ws (Opening n) = (ranks ≡ None) × (counts ws ≡ true) × (opening_ranks ws ≡ Some n) × (1 ≤ n) × (n ≤ 64)
 Says ops ranks statements ws (Further assignment) = (counts ws ≡ true) × (statements + (assignment.to - assignment.from) ≤ statements_limit) × IsSomeAnd ranks (λ n. IsAssignment ops n (directive_in ws) assignment)
 
 -- the line is refused for that, unless memory ran out
@@ -45,7 +45,7 @@ IsLineRefusal found (Fault what) = found ≡ Some what
 -- what the words behind the label are refused for
 unfoldable pub statement_refusal : List Operation → DirectiveSyntax → Option ScriptFault
 statement_refusal ops directive = first_holding (
-    (UnknownStatement, is_unknown ops directive)
+    (UnknownStatement, is_unknown_line ops directive)
     ∷ (WrongWords, has_wrong_words directive)
     ∷ (BadNumber, has_bad_number directive)
     ∷ (BadList, has_bad_list directive)

@@ -150,5 +150,5 @@ ranks_meant ranks (Some (Numbered z)) = 1
 unfoldable pub statements_in : ℕ → DirectiveSyntax → ℕ
 statements_in ranks directive = if is_some directive.statement then ranks_meant ranks (label_in directive) else 0
 
-abbrev pub ranks_in : List (List ℕ) → Option ℕ
-ranks_in words = option_and_then rank_count (ranks_number words)
+abbrev pub opening_ranks : List (List ℕ) → Option ℕ
+opening_ranks words = option_and_then rank_count (ranks_number words)

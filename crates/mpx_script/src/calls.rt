@@ -3,7 +3,7 @@ ghost use Rattle.std.specs.Prelude.{◌≡◌, [], true, false, not, pos, if◌t
 ghost use Rattle.std.specs.List.{filter_map, list_any};
 ghost use Rattle.std.specs.Option.{option_copied};
 ghost use Rattle.mpx_num.specs.Text.{number_of};
-ghost use Rattle.mpx_kind.specs.Kinds.{family_of};
+ghost use Rattle.mpx_post.specs.Drafts.{empty_draft};
 ghost use Rattle.mpx_script.specs.Words.{words};
 ghost use Rattle.mpx_script.specs.Grammar.{call_with};
 ghost use Rattle.mpx_script.specs.Fields.{is_number, is_one, list_named, counts_named, operation_named, type_named, colour_named};
@@ -48,7 +48,7 @@ fn list_at(alloc: Global, word: Option<&[u8]>) -> Result<Option<Numbers>, AllocE
 {
     match word {
         Some(word) => list_named(alloc, word),
-        None => Ok(Some(Numbers::new(alloc, Vec::new(alloc))?)),
+        None => Ok(Some(Numbers::none())),
     }
 }
 
@@ -62,8 +62,7 @@ fn counts_named(alloc: Global, number: Number, word: &[u8]) -> Result<Option<Num
     let Some(count) = parse_number(word) else {
         return Ok(None);
     };
-    let counts = Vec::from_slice(alloc, [count].as_slice())?;
-    Ok(Some(Numbers::new(alloc, counts)?))
+    Ok(Some(Numbers::one(count)))
 }
 
 // The counts of a word, none where there is no word.
@@ -76,7 +75,7 @@ fn counts_at(
 {
     match word {
         Some(word) => counts_named(alloc, number, word),
-        None => Ok(Some(Numbers::new(alloc, Vec::new(alloc))?)),
+        None => Ok(Some(Numbers::none())),
     }
 }
 
@@ -175,13 +174,11 @@ fn call_draft_in(
         Ok(counts) => counts,
         Err(e) => return Err(e),
     };
-    let draft = plain_draft(alloc, kind, mode, call, root, counts, items, ops)?;
-    Ok(draft)
+    Ok(plain_draft(kind, mode, call, root, counts, items, ops))
 }
 
 // The draft with these parts, which says nothing of a new communicator.
 fn plain_draft(
-    alloc: Global,
     kind: Kind,
     mode: Mode,
     call: &CallSyntax<'_>,
@@ -189,35 +186,25 @@ fn plain_draft(
     counts: (Numbers, Numbers),
     items: Numbers,
     ops: &Ops,
-) -> Result<Draft, AllocError>
-    ensures { IfOk result (λ draft. draft ≡ record {
-      call = call_with mode (family_of kind);
+) -> Draft
+    ensures { result ≡ record (empty_draft (call_with mode kind)) {
       root = root;
       op = said (operation_named (⟦<Ops as Listing>⟧.operations ops.now)) Op.Sum call.now.operation;
       ty = said type_named Ty.I8 call.now.ty;
       scounts = counts.0;
       rcounts = counts.1;
       items = items;
-      colour = None;
-      key = pos 0;
-      group = [];
-      graph = None;
-    }) }
+    } }
 {
-    let group = Numbers::new(alloc, Vec::new(alloc))?;
-    Ok(Draft {
-        call: call_with(mode, kind),
+    Draft {
         root,
         op: operation_at(call.operation, ops),
         ty: type_at(call.ty),
         scounts: counts.0,
         rcounts: counts.1,
         items,
-        colour: None,
-        key: 0,
-        group,
-        graph: None,
-    })
+        ..Draft::of(call_with(mode, kind))
+    }
 }
 
 /// The draft of a call by its words.

@@ -1,12 +1,11 @@
 //! What the first words of a line stand for: the number of ranks, a label, or a statement's word.
 ghost use Rattle.std.specs.Prelude.{◌≡◌, map};
-ghost use Rattle.mpx_kind.specs.Kinds.{family_of};
-ghost use Rattle.mpx_script.specs.Grammar.{call_with, rank_count, ranks_number, label_of, kind_named, started_named, local_named, form_named, is_nonblocking, has_second, has_ranks, shape_in, shape_of, shape_of_new};
+ghost use Rattle.mpx_script.specs.Grammar.{call_with, rank_count, ranks_number, label_of, kind_named, started_named, local_named, form_named, is_nonblocking, has_second, has_ranks, shape_of, shape_of_new};
 ghost use Rattle.mpx_statement.specs.Lookups.{below, named};
 ghost use Rattle.mpx_script.specs.Words.{words};
 
 use crate::words::first_word;
-use mpx_kind::{Call, Family, Kind, Mode, NewCommunicator};
+use mpx_kind::{Call, Exchange, Kind, Mode, Neighbourhood, NewCommunicator, Reduction};
 use mpx_num::parse_number;
 use mpx_statement::Side;
 
@@ -88,32 +87,56 @@ pub fn named<T: Copy>(table: &[(&[u8], T)], word: &[u8]) -> Option<T>
 
 // The words of the kinds of calls.
 const KINDS: &[(&[u8], Kind)] = &[
-    (b"barrier", Kind::Barrier),
-    (b"bcast", Kind::Bcast),
-    (b"gather", Kind::Gather),
-    (b"gatherv", Kind::Gatherv),
-    (b"scatter", Kind::Scatter),
-    (b"scatterv", Kind::Scatterv),
-    (b"allgather", Kind::Allgather),
-    (b"allgatherv", Kind::Allgatherv),
-    (b"alltoall", Kind::Alltoall),
-    (b"alltoallv", Kind::Alltoallv),
-    (b"reduce", Kind::Reduce),
-    (b"allreduce", Kind::Allreduce),
-    (b"reduce_scatter_block", Kind::ReduceScatterBlock),
-    (b"reduce_scatter", Kind::ReduceScatter),
-    (b"scan", Kind::Scan),
-    (b"exscan", Kind::Exscan),
-    (b"dup", Kind::Dup),
-    (b"split", Kind::Split),
-    (b"create", Kind::Create),
-    (b"create_group", Kind::CreateGroup),
-    (b"dist_graph", Kind::DistGraph),
-    (b"dist_graph_adjacent", Kind::DistGraphAdjacent),
-    (b"neighbor_allgather", Kind::NeighborAllgather),
-    (b"neighbor_allgatherv", Kind::NeighborAllgatherv),
-    (b"neighbor_alltoall", Kind::NeighborAlltoall),
-    (b"neighbor_alltoallv", Kind::NeighborAlltoallv),
+    (b"barrier", Kind::Exchange(Exchange::Barrier)),
+    (b"bcast", Kind::Exchange(Exchange::Bcast)),
+    (b"gather", Kind::Exchange(Exchange::Gather)),
+    (b"gatherv", Kind::Exchange(Exchange::Gatherv)),
+    (b"scatter", Kind::Exchange(Exchange::Scatter)),
+    (b"scatterv", Kind::Exchange(Exchange::Scatterv)),
+    (b"allgather", Kind::Exchange(Exchange::Allgather)),
+    (b"allgatherv", Kind::Exchange(Exchange::Allgatherv)),
+    (b"alltoall", Kind::Exchange(Exchange::Alltoall)),
+    (b"alltoallv", Kind::Exchange(Exchange::Alltoallv)),
+    (b"reduce", Kind::Reduction(Reduction::Reduce)),
+    (b"allreduce", Kind::Reduction(Reduction::Allreduce)),
+    (
+        b"reduce_scatter_block",
+        Kind::Reduction(Reduction::ReduceScatterBlock),
+    ),
+    (b"reduce_scatter", Kind::Reduction(Reduction::ReduceScatter)),
+    (b"scan", Kind::Reduction(Reduction::Scan)),
+    (b"exscan", Kind::Reduction(Reduction::Exscan)),
+    (b"dup", Kind::NewCommunicator(NewCommunicator::Dup)),
+    (b"split", Kind::NewCommunicator(NewCommunicator::Split)),
+    (b"create", Kind::NewCommunicator(NewCommunicator::Create)),
+    (
+        b"create_group",
+        Kind::NewCommunicator(NewCommunicator::CreateGroup),
+    ),
+    (
+        b"dist_graph",
+        Kind::NewCommunicator(NewCommunicator::DistGraph),
+    ),
+    (
+        b"dist_graph_adjacent",
+        Kind::NewCommunicator(NewCommunicator::DistGraphAdjacent),
+    ),
+    (
+        b"neighbor_allgather",
+        Kind::Neighbourhood(Neighbourhood::Allgather),
+    ),
+    (
+        b"neighbor_allgatherv",
+        Kind::Neighbourhood(Neighbourhood::Allgatherv),
+    ),
+    (
+        b"neighbor_alltoall",
+        Kind::Neighbourhood(Neighbourhood::Alltoall),
+    ),
+    (
+        b"neighbor_alltoallv",
+        Kind::Neighbourhood(Neighbourhood::Alltoallv),
+    ),
     (b"free", Kind::Free),
 ];
 
@@ -214,14 +237,14 @@ pub fn is_nonblocking(mode: Mode) -> bool
 
 /// The call of a kind with a mode; one that makes communicators, or frees one, only blocks.
 pub fn call_with(mode: Mode, kind: Kind) -> Call
-    ensures { result ≡ call_with mode (family_of kind) }
+    ensures { result ≡ call_with mode kind }
 {
-    match kind.family() {
-        Family::Exchange(exchange) => Call::Exchange(exchange, mode),
-        Family::Reduction(reduction) => Call::Reduction(reduction, mode),
-        Family::NewCommunicator(new) => Call::NewCommunicator(new),
-        Family::Neighbourhood(exchange) => Call::Neighbourhood(exchange, mode),
-        Family::Free => Call::Free,
+    match kind {
+        Kind::Exchange(exchange) => Call::Exchange(exchange, mode),
+        Kind::Reduction(reduction) => Call::Reduction(reduction, mode),
+        Kind::NewCommunicator(new) => Call::NewCommunicator(new),
+        Kind::Neighbourhood(exchange) => Call::Neighbourhood(exchange, mode),
+        Kind::Free => Call::Free,
     }
 }
 
@@ -232,8 +255,7 @@ impl Asked {
     {
         match self {
             Asked::Neighbours(_) => false,
-            Asked::Compare => true,
-            Asked::Translate => true,
+            _ => true,
         }
     }
 
@@ -242,9 +264,8 @@ impl Asked {
         ensures { result ≡ has_ranks self }
     {
         match self {
-            Asked::Neighbours(_) => false,
-            Asked::Compare => false,
             Asked::Translate => true,
+            _ => false,
         }
     }
 }
@@ -269,17 +290,16 @@ pub struct Shape {
 pub fn shape_of(kind: Kind) -> Shape
     ensures { result ≡ shape_of kind }
 {
-    match kind.family() {
-        Family::Exchange(_) | Family::Reduction(_) | Family::Neighbourhood(_) | Family::Free =>
-            Shape {
-                colour: false,
-                tag: false,
-                ranks: false,
-                edges: false,
-                neighbours: false,
-                target: false,
-            },
-        Family::NewCommunicator(new) => shape_of_new(new),
+    match kind {
+        Kind::NewCommunicator(new) => shape_of_new(new),
+        _ => Shape {
+            colour: false,
+            tag: false,
+            ranks: false,
+            edges: false,
+            neighbours: false,
+            target: false,
+        },
     }
 }
 

@@ -4,7 +4,7 @@ ghost use Rattle.std.specs.Option.{option_copied};
 ghost use Rattle.mpx_script.specs.PartialScripts.{context_behind, ranks_of_script};
 ghost use Rattle.mpx_script.specs.Words.{words, counts, is_ascii};
 ghost use Rattle.mpx_script.specs.Fields.{ranks_named};
-ghost use Rattle.mpx_script.specs.Syntax.{ask_in, directive_in, label_in, ranks_in};
+ghost use Rattle.mpx_script.specs.Syntax.{ask_in, directive_in, label_in, opening_ranks};
 ghost use Rattle.mpx_script.specs.Meanings.{call_posted, new_posted, posting_said, question_said, said, statement_as, statement_in};
 ghost use Rattle.mpx_script.specs.Naming.{names_bound};
 ghost use Rattle.mpx_script.specs.Reading.{refusal, plain_context};
@@ -23,7 +23,7 @@ use crate::syntax::{
 };
 use crate::words::{counts, first_word, is_ascii};
 use join_core::OutOfMemory;
-use mpx_kind::{Family, Kind, Mode, NewCommunicator};
+use mpx_kind::{Kind, Mode, NewCommunicator};
 use mpx_num::{Listing, Ops};
 use mpx_post::Draft;
 use mpx_statement::{Posting, Question, RankList, Statement, Word, WordList};
@@ -56,7 +56,7 @@ fn opening_line(line: &[u8]) -> Result<u8, LineError>
     requires ascii { is_ascii line.now ≡ true }
     requires counts { counts (words line.now) ≡ true }
     ensures accepted { OnOk result (refusal [] (plain_context line.now None 0 []) ≡ None) }
-    ensures ranks { IfOk result (λ n. (ranks_in (words line.now) ≡ Some n) × (1 ≤ n) × (n ≤ 64)) }
+    ensures ranks { IfOk result (λ n. (opening_ranks (words line.now) ≡ Some n) × (1 ≤ n) × (n ≤ 64)) }
     ensures refused { IfErr result (IsLineRefusal (refusal [] (plain_context line.now None 0 []))) }
 {
     let Some(number) = ranks_number(line) else {
@@ -146,11 +146,9 @@ fn call_of(
         Err(e) => return Err(e),
     };
     let on = word_at(alloc, communicator)?;
-    match kind.family() {
-        Family::NewCommunicator(made) => {
-            Ok(new_posted(alloc, made, on, draft, tag, new.target)?)
-        }
-        Family::Exchange(_) | Family::Reduction(_) | Family::Neighbourhood(_) | Family::Free => {
+    match kind {
+        Kind::NewCommunicator(made) => { Ok(new_posted(alloc, made, on, draft, tag, new.target)?) }
+        Kind::Exchange(_) | Kind::Reduction(_) | Kind::Neighbourhood(_) | Kind::Free => {
             Ok(call_posted(alloc, mode, on, draft, call.request)?)
         }
     }

@@ -14,7 +14,8 @@ use Rattle.mpx_board.specs.Changes.{pruned_on}
 use Rattle.mpx_board.specs.Looks.{look}
 use Rattle.mpx_node.specs.declared.finished.Finished.{Finished}
 use Rattle.mpx_node.specs.Nodes.{checked_on, gathering_fact, gathers_on, harvest_part, next_result, prune_part}
-use Rattle.mpx_world.specs.Worlds.{ProcessView, drops, made_next, makes, opens_gathering, post_fact, stores, takes}
+use Rattle.mpx_world.specs.Drafted.{makes_checked}
+use Rattle.mpx_world.specs.Worlds.{ProcessView, drops, made_next, opens_gathering, post_fact, stores, takes}
 use Rattle.mpx_bus.specs.declared.act.Act.{Act}
 use Rattle.mpx_bus.specs.declared.act.Act.TheVariants as A
 use Rattle.mpx_bus.specs.Acts.{act_on, after, part_of, said_on}
@@ -44,7 +45,7 @@ listed_living board names name (inr found) = by_dead (answer (board.contexts nam
 gone_joined : (a b : Look) (name : Name) → IsGone a name → IsGone (join a b) name
 gone_joined a b name e = ap (λ d. (cond (d || (b.contexts name).dead) gone (join_live (a.contexts name) (b.contexts name))).dead) e
 
-gone_makes : (name : Name) (r : Result Given PostError) (v : ProcessView) (n : Name) → IsGone v.node.board n → IsGone (makes name r v).node.board n
+gone_makes : (name : Name) (r : Result Given PostError) (v : ProcessView) (n : Name) → IsGone v.node.board n → IsGone (makes_checked name r v).node.board n
 gone_makes name (Ok given) v n e = gone_joined v.node.board (post_fact name given v.node) n e
 gone_makes name (Err refusal) v n e = e
 

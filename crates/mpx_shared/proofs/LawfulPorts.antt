@@ -16,7 +16,8 @@ use Rattle.mpx_board.specs.Boards.{IsGone, Look, told}
 use Rattle.mpx_value.specs.Histories.{Made, has_freed, posts_on}
 use Rattle.mpx_node.specs.declared.finished.Finished.{Finished}
 use Rattle.mpx_node.specs.Nodes.{NodeView, Posts, checked_on, freed_on, front_on, posted_on, results_on}
-use Rattle.mpx_world.specs.Worlds.{ProcessView, makes}
+use Rattle.mpx_world.specs.Drafted.{makes_checked}
+use Rattle.mpx_world.specs.Worlds.{ProcessView}
 use Rattle.mpx_bus.specs.declared.act.Act.{Act}
 use Rattle.mpx_bus.specs.declared.act.Act.TheVariants as A
 use Rattle.mpx_bus.specs.declared.act.Setup.{Setup}
@@ -248,7 +249,7 @@ made_posted : (setup : Setup) (me : ℕ) (journal : List Act) (name : Name) (dra
     → (process_at setup me (journal ++ A.Posted name draft ∷ [])).made ≡ (process_at setup me journal).made ++ record { name = name; given = given } ∷ []
 made_posted setup me journal name draft given is =
     ap (λ (v : ProcessView). v.made) (after-append setup.operations journal (A.Posted name draft ∷ []) (at_start setup me))
-    ∙ ap (λ r. (makes name r (process_at setup me journal)).made) is
+    ∙ ap (λ r. (makes_checked name r (process_at setup me journal)).made) is
 
 -- the post that a draft comes to is the next of the plan
 next_made : (setup : Setup) (me : ℕ) (journal : List Act) (count : ℕ) (name : Name) (draft : Draft) (given : Given) → Stood setup me journal → IsPlanned setup me journal → length (process_at setup me journal).made ≡ count

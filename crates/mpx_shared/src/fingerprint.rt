@@ -1,4 +1,5 @@
-//! What a board says, in one number: to see whether it has changed, and whether boards say the same. Nothing is claimed of it.
+//! A number of 64 bits made from what a board says: to guess whether it has changed, and whether boards say the same. Boards that say the same
+//! give the same number, others may too. Nothing is proved of it.
 use join_core::Pair;
 use join_nest::Lift;
 use mpx_board::{Acks, Board, CallPosts, Entry, Lifted, VersionVector, is_told};

@@ -146,8 +146,9 @@ impl<L: PortLock> SharedPort<L> {
         self.held.lock(rt).put(rt, alloc, bus)
     }
 
-    /// What the port's board says, in one number: where it stays the same, the board almost surely says nothing new, and where two
-    /// ports have the same, their boards say the same.
+    /// A number of 64 bits made from what the port's board says. Boards that say the same give the same number; boards that don't may give
+    /// the same one too. So where it changes the board says something new. Where it stays the board almost surely says nothing new, and where
+    /// two ports have one number their boards almost surely say the same: that is a guess, and nothing is proved of it.
     pub fn fingerprint<R: Wait>(&self, rt: &R) -> u64 {
         self.held.lock(rt).fingerprint()
     }

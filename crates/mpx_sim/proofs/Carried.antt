@@ -38,8 +38,8 @@ use Rattle.mpx_rank.proofs.Stepping.{GoesBy, IsOn, move_steps}
 use Rattle.mpx_rank.proofs.Words.{bound_there, communicator_same}
 use Rattle.mpx_world.specs.Worlds.{WorldView, births, goes_on as goes_on_world}
 use Rattle.mpx_system.specs.Systems.{System, Drives, posts_bound, posts_of, world_tells}
-use Rattle.mpx_system.proofs.Coupling.{Couples, answer_born, bound_so, driven, goes_on-other}
-use Rattle.mpx_system.proofs.Posting.{IsBoundSo, not_same}
+use Rattle.mpx_system.proofs.Coupling.{Couples, answer_born, bound_so, goes_on-other}
+use Rattle.mpx_system.proofs.Posting.{IsBoundSo, driven_bound, not_same}
 use Rattle.mpx_sim.specs.declared.desk.RunDesk.{RunDesk}
 use Rattle.mpx_sim.specs.Carrying.{Tries, desk_terms, hears_more, hears_nothing, known_to, outcomes_on, tried_on}
 use Rattle.mpx_sim.specs.Turns.{Alone, Moment}
@@ -73,8 +73,8 @@ module _ (ops : List Operation) (script : Script) (ranks : ℕ) (s : System) (c 
   made = (s.ranks p).made
 
   -- a statement that posts is tried
-  pub tried_here : (posting : Posting) (b : Option Bound) → IsBoundSo s.world p b → IsTried s.world p (posts_bound p (s.world.each p).made posting b) (attempt_on ops p (s.world.each p).made posting b) (tried_on ops posting (name_of (communicator_of b)) here)
-  tried_here posting b is = subst (λ o. IsTried s.world p (posts_bound p (s.world.each p).made posting b) (attempt_on o p (s.world.each p).made posting b) (tried_on o posting (name_of (communicator_of b)) here)) c.operations (tried_bound s.world c.upheld p posting b is)
+  pub tried_here : (posting : Posting) (b : Option Bound) → IsBoundSo s.world p b → IsTried s.world p (posts_bound s.world.operations p (s.world.each p).made posting b) (attempt_on ops p (s.world.each p).made posting b) (tried_on ops posting (name_of (communicator_of b)) here)
+  tried_here posting b is = subst (λ o. IsTried s.world p (posts_bound s.world.operations p (s.world.each p).made posting b) (attempt_on o p (s.world.each p).made posting b) (tried_on o posting (name_of (communicator_of b)) here)) c.operations (tried_bound s.world c.upheld p posting b is)
 
   tried_so : (posting : Posting) (on : Option CommunicatorView) → IsOn (s.ranks p) posting on → (tried_on ops posting (name_of on) here).answer ≡ answered_so made (attempt_by ops p made posting on)
   tried_so posting None is = refl
@@ -105,12 +105,12 @@ module _ (ops : List Operation) (script : Script) (ranks : ℕ) (s : System) (c 
 
   -- what its next move gives its node to post changes no other node
   record Apart (todo : List Todo) : Type 0 where
-    nodes : (q : ℕ) → (q ≡ p → ⊥) → ((goes_on_world s.world (posts_of p (s.world.each p).made (s.ranks p).bound todo)).each q).node ≡ (s.world.each q).node
-    parts : (goes_on_world s.world (posts_of p (s.world.each p).made (s.ranks p).bound todo)).parts ≡ s.world.parts
+    nodes : (q : ℕ) → (q ≡ p → ⊥) → ((goes_on_world s.world (posts_of s.world.operations p (s.world.each p).made (s.ranks p).bound todo)).each q).node ≡ (s.world.each q).node
+    parts : (goes_on_world s.world (posts_of s.world.operations p (s.world.each p).made (s.ranks p).bound todo)).parts ≡ s.world.parts
 
   apart : (todo : List Todo) → Apart todo
   apart [] = record { nodes = λ q other. refl; parts = refl }
-  apart (Do (Post posting) ∷ rest) = let d = driven ops script ranks s c p l posting in record { nodes = d.nodes; parts = d.parts }
+  apart (Do (Post posting) ∷ rest) = let d = driven_bound s.world c.upheld p posting (named (s.ranks p).bound (posted_on posting)) (bound_so ops script ranks s c p l (posted_on posting)) in record { nodes = d.nodes; parts = d.parts }
   apart (Do (Wait words) ∷ rest) = record { nodes = λ q other. refl; parts = refl }
   apart (Do (Ask question) ∷ rest) = record { nodes = λ q other. refl; parts = refl }
   apart (Await name call target ∷ rest) = record { nodes = λ q other. refl; parts = refl }
@@ -166,7 +166,7 @@ module _ (ops : List Operation) (script : Script) (ranks size : ℕ) (begun : Mo
 
   -- after the move the node is that of the world in which the move has been made
   abbrev IsMoved : NodeView → Type 0
-  IsMoved m = m ≡ ((goes_on_world w (posts_of p (w.each p).made local.bound local.todo)).each p).node
+  IsMoved m = m ≡ ((goes_on_world w (posts_of w.operations p (w.each p).made local.bound local.todo)).each p).node
 
   moves : (s : RankView Comm) (bound : List ℕ → Option (Option CommunicatorView)) (m : NodeView) → s.me ≡ r.me → ((word : List ℕ) → option_map name_in (s.bound word) ≡ option_map name_of (bound word)) → Move (node_terms ops (births w)) seen node (with_births bound s) m → IsMoved m
       → IsUnderWay ops script ranks size begun Alone (set processes p (record { rank = s; node = m })) frames
@@ -188,8 +188,8 @@ module _ (ops : List Operation) (script : Script) (ranks size : ℕ) (begun : Mo
       })
 
   -- nothing is posted
-  rests : (todo : List Todo) → local.todo ≡ todo → posts_of p (w.each p).made local.bound todo ≡ [] → IsMoved node
-  rests todo e none = node_is ∙ ap (λ hs. ((goes_on_world w hs).each p).node) (sym (ap (posts_of p (w.each p).made local.bound) e ∙ none))
+  rests : (todo : List Todo) → local.todo ≡ todo → posts_of w.operations p (w.each p).made local.bound todo ≡ [] → IsMoved node
+  rests todo e none = node_is ∙ ap (λ hs. ((goes_on_world w hs).each p).node) (sym (ap (posts_of w.operations p (w.each p).made local.bound) e ∙ none))
 
   hears_next : (wait : WaitView) (outcome : Outcome) (text : List ℕ) (to : Option Comm) (f : Finished) → r.waits ≡ Some wait → outcomes_on node wait.name wait.call ≡ Some outcome → text ≡ outcome_text outcome → result_at node wait.name wait.call ≡ Some f → to ≡ comm_of f.outcome
       → IsUnderWay ops script ranks size begun Alone (set processes p (record { rank = heard r wait text to; node = node })) frames
@@ -210,13 +210,13 @@ module _ (ops : List Operation) (script : Script) (ranks size : ℕ) (begun : Mo
     on_is : name_in (communicator_in (r.bound (posted_on posting))) ≡ name_of on
     on_is = names_on (r.bound (posted_on posting)) (stands.bound (posted_on posting)) (stands.names (posted_on posting))
 
-    tried_next : (tried_on ops posting (name_of on) node).node ≡ ((goes_on_world w (posts_of p (w.each p).made local.bound local.todo)).each p).node
+    tried_next : (tried_on ops posting (name_of on) node).node ≡ ((goes_on_world w (posts_of w.operations p (w.each p).made local.bound local.todo)).each p).node
     tried_next =
         let b = named local.bound (posted_on posting) in
         let same : on ≡ communicator_of b = sym (communicator_same (stands.bound (posted_on posting))) ∙ ap communicator_of (stands.stands.bound (posted_on posting)) in
         (λ i. (tried_on ops posting (name_of (same i)) (node_is i)).node)
         ∙ (tried_here ops script ranks run.system coupled p l posting b (bound_so ops script ranks run.system coupled p l (posted_on posting))).node
-        ∙ ap (λ todo. ((goes_on_world w (posts_of p (w.each p).made local.bound todo)).each p).node) (sym (todo_is None (Post posting ∷ rest) waits todo))
+        ∙ ap (λ todo. ((goes_on_world w (posts_of w.operations p (w.each p).made local.bound todo)).each p).node) (sym (todo_is None (Post posting ∷ rest) waits todo))
 
     posts_next : (name : Name) (call : ℕ) (m : NodeView) → started_as posting ≡ None → Tries (tried_on ops posting (name_in (communicator_in (r.bound (posted_on posting)))) node) (Ok (name, call)) m
         → IsUnderWay ops script ranks size begun Alone (set processes p (record { rank = posted r posting rest name call; node = m })) frames

@@ -8,4 +8,5 @@ pub mod Spelled
 pub mod Starting
 pub mod Resting
 pub mod Results
+pub mod SideBySide
 pub mod Ends

@@ -15,9 +15,9 @@ use Rattle.mpx_node.specs.Nodes.{checked_on, freed_on, gathering_name, posted_on
 use Rattle.mpx_statement.specs.declared.statement.Posting.{Posting}
 use Rattle.mpx_statement.specs.Statements.{Gathers as Asked, draft_of, gathers_of}
 use Rattle.mpx_meaning.specs.Ranks.{Bound, Communicator, NullCommunicator, attempt_in, attempt_on, communicator_of, found_as, made_on, next_call, post_gathered, post_on}
-use Rattle.mpx_world.specs.Worlds.{WorldView, Happening, Gathers, Posts, births, goes_on, happens, makes, posts, ProcessView as InWorld}
+use Rattle.mpx_world.specs.Worlds.{WorldView, Happening, Gathers, births, goes_on, happens, makes, ProcessView as InWorld}
 use Rattle.mpx_world.proofs.Steps.{at_here}
-use Rattle.mpx_system.specs.Systems.{posts_bound, posts_gathered, posts_in}
+use Rattle.mpx_system.specs.Systems.{posts_bound, posts_gathered, posts_in, posts_made}
 use Rattle.mpx_system.proofs.Posting.{IsBoundSo, IsGathered, Upheld, checks_so, freed_or_told, gathers_so, is_gathered}
 use Rattle.mpx_sim.specs.Carrying.{Tried, known_to, tried_gathered, tried_in, tried_on, tried_post}
 use Rattle.mpx_sim.specs.Running.{name_of}
@@ -46,45 +46,46 @@ pub record IsTried (w : WorldView) (p : ℕ) (hs : List Happening) (o : Result M
 refused_so : (w : WorldView) (p : ℕ) (refusal : PostError) → IsTried w p [] (Err refusal) (record { node = (w.each p).node; answer = Err refusal })
 refused_so w p refusal = record { node = refl; answer = refl }
 
-tries_node : (name : Name) (r : Result Given PostError) (v : InWorld) → (tried_post name r v.node).node ≡ (makes name r v).node
-tries_node name (Ok given) v = refl
-tries_node name (Err refusal) v = refl
+tries_node : (w : WorldView) (p : ℕ) (name : Name) (r : Result Given PostError) → (tried_post name r (w.each p).node).node ≡ ((goes_on w (posts_made p (made_on name r))).each p).node
+tries_node w p name (Ok given) = ap (λ (x : InWorld). x.node) (sym (at_here w p (makes name given)))
+tries_node w p name (Err refusal) = refl
 
 answers_so : (name : Name) (r : Result Given PostError) (v : InWorld) → posted_on v.node name ≡ next_call name v.made → (tried_post name r v.node).answer ≡ answered v.made (made_on name r)
 answers_so name (Ok given) v e = ap (λ k. let a : Result (Name × ℕ) PostError = Ok (name, k) in a) e
 answers_so name (Err refusal) v e = refl
 
 posted_so : (w : WorldView) → Upheld w → (p : ℕ) (name : Name) (birth : BirthView) → IsTrue (is_some ((w.each p).node.opened name)) → births w name ≡ Some birth → (draft : Draft)
-    → IsTried w p (Posts p name draft ∷ []) (post_on w.operations p (w.each p).made draft name birth) (tried_post name (checked_on w.operations (w.each p).node name draft) (w.each p).node)
+    → IsTried w p (posts_made p (post_on w.operations p (w.each p).made draft name birth)) (post_on w.operations p (w.each p).made draft name birth) (tried_post name (checked_on w.operations (w.each p).node name draft) (w.each p).node)
 posted_so w u p name birth t b draft =
-    let v = w.each p in
-    let r = checked_on w.operations v.node name draft in
-    subst (λ x. IsTried w p (Posts p name draft ∷ []) (made_on name x) (tried_post name r v.node)) (checks_so w u p name birth t b draft) (record {
-      node = tries_node name r v ∙ ap (λ (x : InWorld). x.node) (sym (at_here w p (posts w.operations name draft)));
-      answer = answers_so name r v ((u.holds.processes p).counted name);
+    let r = checked_on w.operations (w.each p).node name draft in
+    subst (λ x. IsTried w p (posts_made p (made_on name x)) (made_on name x) (tried_post name r (w.each p).node)) (checks_so w u p name birth t b draft) (record {
+      node = tries_node w p name r;
+      answer = answers_so name r (w.each p) ((u.holds.processes p).counted name);
     })
 
 gathered_so : (w : WorldView) (p : ℕ) (name : Name) (draft : Draft) (asked : Asked) (g : GatheringView) → IsGathered w p name asked g
-    → IsTried w p (posts_gathered p draft name asked (Ok g)) (post_gathered w.operations p (w.each p).made draft name (Ok g)) (tried_gathered w.operations name draft (Ok g) (w.each p).node)
+    → IsTried w p (posts_gathered w.operations p (w.each p).made draft name asked (Ok g)) (post_gathered w.operations p (w.each p).made draft name (Ok g)) (tried_gathered w.operations name draft (Ok g) (w.each p).node)
 gathered_so w p name draft asked g is =
     let at_new = gathering_name name g in
-    let d = posted_so (happens w (Gathers p name asked.tag asked.ranks)) is.upheld p at_new (of_members g.members) is.there is.born draft in
+    let new = happens w (Gathers p name asked.tag asked.ranks) in
+    let d = posted_so new is.upheld p at_new (of_members g.members) is.there is.born draft in
     record {
-      node = (λ i. (tried_post at_new (checked_on w.operations (sym is.node i) at_new draft) (sym is.node i)).node) ∙ d.node;
+      node = (λ i. (tried_post at_new (checked_on w.operations (sym is.node i) at_new draft) (sym is.node i)).node) ∙ d.node
+          ∙ ap (λ ms. ((goes_on new (posts_made p (post_on w.operations p ms draft at_new (of_members g.members)))).each p).node) is.made;
       answer = (λ i. (tried_post at_new (checked_on w.operations (sym is.node i) at_new draft) (sym is.node i)).answer) ∙ d.answer ∙ (λ i. answered (is.made i) (post_on w.operations p (is.made i) draft at_new (of_members g.members)));
     }
 
 module _ (w : WorldView) (u : Upheld w) (p : ℕ) (name : Name) (birth : BirthView) (t : IsTrue (is_some ((w.each p).node.opened name))) (b : births w name ≡ Some birth) where
   gathers_then : (draft : Draft) (asked : Asked) (x : Result GatheringView PostError) → gathering birth p (length name) (has_freed name (w.each p).made) asked.tag asked.ranks ≡ x
-      → IsTried w p (posts_gathered p draft name asked x) (post_gathered w.operations p (w.each p).made draft name x) (tried_gathered w.operations name draft x (w.each p).node)
+      → IsTried w p (posts_gathered w.operations p (w.each p).made draft name asked x) (post_gathered w.operations p (w.each p).made draft name x) (tried_gathered w.operations name draft x (w.each p).node)
   gathers_then draft asked (Ok g) e = gathered_so w p name draft asked g (is_gathered w u p name birth t b asked g e)
   gathers_then draft asked (Err refusal) e = refused_so w p refusal
 
-  tried_there : (draft : Draft) (asked : Option Asked) → IsTried w p (posts_in p (w.each p).made draft asked name birth) (attempt_in w.operations p (w.each p).made draft asked name birth) (tried_in w.operations draft asked name (w.each p).node)
+  tried_there : (draft : Draft) (asked : Option Asked) → IsTried w p (posts_in w.operations p (w.each p).made draft asked name birth) (attempt_in w.operations p (w.each p).made draft asked name birth) (tried_in w.operations draft asked name (w.each p).node)
   tried_there draft None = posted_so w u p name birth t b draft
   tried_there draft (Some asked) =
       let x = gathering birth p (length name) (has_freed name (w.each p).made) asked.tag asked.ranks in
-      subst (λ y. IsTried w p (posts_gathered p draft name asked x) (post_gathered w.operations p (w.each p).made draft name x) (tried_gathered w.operations name draft y (w.each p).node)) (sym (gathers_so w u p name birth t b asked.tag asked.ranks)) (gathers_then draft asked x refl)
+      subst (λ y. IsTried w p (posts_gathered w.operations p (w.each p).made draft name asked x) (post_gathered w.operations p (w.each p).made draft name x) (tried_gathered w.operations name draft y (w.each p).node)) (sym (gathers_so w u p name birth t b asked.tag asked.ranks)) (gathers_then draft asked x refl)
 
   -- a question finds the context freed, or how it came to be
   pub found_there : found_as (freed_on (w.each p).node name) (known_to (w.each p).node name) ≡ found_as (freed_on (w.each p).node name) (Some (name, birth))
@@ -96,7 +97,7 @@ module _ (w : WorldView) (u : Upheld w) (p : ℕ) (name : Name) (birth : BirthVi
 
 -- what a statement comes to on what its word is bound to
 pub tried_bound : (w : WorldView) → Upheld w → (p : ℕ) (posting : Posting) (bound : Option Bound) → IsBoundSo w p bound
-    → IsTried w p (posts_bound p (w.each p).made posting bound) (attempt_on w.operations p (w.each p).made posting bound) (tried_on w.operations posting (name_of (communicator_of bound)) (w.each p).node)
+    → IsTried w p (posts_bound w.operations p (w.each p).made posting bound) (attempt_on w.operations p (w.each p).made posting bound) (tried_on w.operations posting (name_of (communicator_of bound)) (w.each p).node)
 tried_bound w u p posting None h = refused_so w p NotMember
 tried_bound w u p posting (Some NullCommunicator) h = refused_so w p NotMember
 tried_bound w u p posting (Some (Communicator name birth)) h = let x = h name birth refl in tried_there w u p name birth x.0 x.1 (draft_of posting) (gathers_of posting)

@@ -1,9 +1,8 @@
 -- A run that rests has come to the end of the evaluation.
-use Rattle.std.proofs.Common.{◌≡◌, ℕ, zero, suc, ◌<◌, ◌≤◌, Bool, true, false, not, List, [], ◌∷◌, length, Option, Some, None, refl, sym, ap, ◌∙◌, subst, arith}
-use Rattle.std.specs.Prelude.{slice_get, is_some, ◌&&◌, IfOk, Result, Ok, Err}
-use Rattle.std.specs.List.{list_all}
+use Rattle.std.proofs.Common.{◌≡◌, ℕ, ◌<◌, ◌≤◌, Bool, true, false, not, List, [], ◌∷◌, length, Option, Some, None, refl, sym, ap, ◌∙◌, subst, arith}
+use Rattle.std.specs.Prelude.{slice_get, is_some, IfOk, Result, Ok, Err}
 use Rattle.std.specs.Option.{option_map}
-use Rattle.std.proofs.lemmas.Option.{same_Some, slice_get-map}
+use Rattle.std.proofs.lemmas.Option.{slice_get-map}
 use Rattle.mpx_num.specs.declared.own.Operation.{Operation}
 use Rattle.mpx_name.specs.Name.{Name}
 use Rattle.mpx_board.specs.Boards.{Look, IsBoardBelow}
@@ -31,21 +30,12 @@ use Rattle.mpx_meaning.proofs.Tells.{mapped_some}
 use Rattle.mpx_system.specs.Systems.{System}
 use Rattle.mpx_system.specs.Runs.{HaveOneBoard}
 use Rattle.mpx_system.specs.Rest.{AreAtHand}
-use Rattle.mpx_system.proofs.Results.{some_at}
+use Rattle.mpx_system.proofs.Results.{behind_first, none_mapped, one_fails, some_at}
 use Rattle.mpx_system.proofs.Settled.{rest_ends}
 use Rattle.mpx_sim.specs.Ends.{AllLack, Lacks, OneIsOpen, awaits, has_ended, nodes_of, waits_for}
 use Rattle.mpx_sim.specs.Turns.{Alone, Moment}
 use Rattle.mpx_sim.specs.Running.{IsAt, IsUnderWay, ProcessView, StandsBy}
 use Rattle.mpx_sim.proofs.Running.{couples}
-
--- where one doesn't pass, not all pass
-one_fails : {A : Type 0} (f : A → Bool) (xs : List A) (i : ℕ) (x : A) → slice_get xs i ≡ Some x → f x ≡ false → list_all f xs ≡ false
-one_fails f [] i x e none = cc e
-one_fails f (y ∷ ys) zero x e none = ap (λ b. b && list_all f ys) (ap f (same_Some y x e) ∙ none)
-one_fails f (y ∷ ys) (suc i) x e none = by_first (f y) (one_fails f ys i x e none) where
-  by_first : (b : Bool) → list_all f ys ≡ false → (b && list_all f ys) ≡ false
-  by_first true rest = rest
-  by_first false rest = refl
 
 -- a status that is false is that of a call that is pending
 pub status_pends : (done : Bool) (request : Request) (node : NodeView) → HasStatus done request node → not done ≡ true → IsPending node request.name request.call
@@ -62,17 +52,9 @@ awaited_lacks v call e pending =
     let found = mapped_some place_of v.rank.waits call e in
     awaits found.0 found.1 (subst (λ (c : Name × ℕ). IsPending v.node c.0 c.1) (sym found.2) pending)
 
-none_awaited : (o : Option WaitView) → option_map place_of o ≡ None → o ≡ None
-none_awaited None e = refl
-none_awaited (Some w) e = cc e
-
-behind_first : (xs : List Statement) (x : Statement) → slice_get xs 0 ≡ Some x → (rest : List Statement) × (xs ≡ x ∷ rest)
-behind_first [] x e = cc e
-behind_first (y ∷ ys) x e = (ys, ap (λ z. z ∷ ys) (same_Some y x e))
-
 -- it stands at a wait
 pub waiting_lacks : (v : ProcessView) (words : List (List ℕ)) → option_map place_of v.rank.waits ≡ None → slice_get v.rank.todo 0 ≡ Some (Wait words) → OneIsOpen v.node v.rank.requests words → Lacks v
-waiting_lacks v words none first one = let behind = behind_first v.rank.todo (Wait words) first in waits_for words behind.0 (none_awaited v.rank.waits none) behind.1 one
+waiting_lacks v words none first one = let behind = behind_first v.rank.todo (Wait words) first in waits_for words behind.0 (none_mapped place_of v.rank.waits none) behind.1 one
 
 -- A RANK THAT LACKS A CALL HAS NO MOVE
 

@@ -1,5 +1,5 @@
 -- What the steps of a process keep of a run.
-use Rattle.std.proofs.Common.{◌≡◌, ℕ, ◌<◌, ◌≤◌, Bool, true, false, List, [], ◌∷◌, ◌++◌, length, set, get_or, Option, Some, None, refl, sym, ap, ◌∙◌, subst}
+use Rattle.std.proofs.Common.{◌≡◌, ℕ, ◌<◌, ◌≤◌, Bool, true, false, List, [], ◌∷◌, ◌++◌, length, set, get_or, Option, Some, None, refl, sym, ap, ◌∙◌, inl, subst}
 use Rattle.std.specs.Prelude.{slice_get, is_some, Result, Ok, Err, OnOk, OnErr}
 use Rattle.std.specs.List.{All}
 use Rattle.std.proofs.lemmas.List.{length-set}
@@ -20,13 +20,11 @@ use Rattle.mpx_node.specs.declared.node.Harvest.{Harvest}
 use Rattle.mpx_node.specs.declared.node.Harvest.TheVariants.{Done, NotYet, NotOpened}
 use Rattle.mpx_node.specs.Harvests.{Harvests as HarvestsOn}
 use Rattle.mpx_node.specs.Nodes.{NodeView, acknowledge, add_result, children_on, front_on, learn, learn_some, next_result, prune_part}
-use Rattle.mpx_world.specs.declared.events.Event.TheVariants as E
-use Rattle.mpx_world.specs.declared.events.Cut.TheVariants as C
 use Rattle.mpx_world.specs.Worlds.{WorldView, Happening, IsNoPost, MayHappen, happens, stores, drops, takes, acknowledges, harvests, prunes, Harvests, Prunes, Sends, Takes, Acknowledges, at_process, ProcessView as InWorld}
 use Rattle.mpx_world.proofs.Kept.{taken_node}
 use Rattle.mpx_world.proofs.Lists.{slice_get-push}
 use Rattle.mpx_world.proofs.Steps.{at_here}
-use Rattle.mpx_world.proofs.Reached.{may_happen}
+use Rattle.mpx_world.proofs.Reached.{own_seen}
 use Rattle.mpx_meaning.specs.Evaluation.{Script}
 use Rattle.mpx_rank.specs.Moves.{RankView}
 use Rattle.mpx_system.specs.Systems.{System, Doing, Nets, does, MayDo, start_system}
@@ -41,10 +39,11 @@ use Rattle.mpx_sim.proofs.Phases.{begins, comes_now, goes_now, since_draws, sinc
 
 -- LISTS
 
-all_at : {A : Type 0} (P : A → Type 0) (xs : List A) (i : ℕ) (x : A) → slice_get xs i ≡ Some x → All P xs → P x
-all_at P xs i x e h =
-    let l : i < length xs = slice_get_within xs i x e in
-    subst P (same_Some (get_or xs i x) x (sym (slice_get-get_or xs i x l) ∙ e)) (h i x l)
+pub read_at : {A : Type 0} (xs : List A) (i : ℕ) (d x : A) → slice_get xs i ≡ Some x → get_or xs i d ≡ x
+read_at xs i d x e = same_Some (get_or xs i d) x (sym (slice_get-get_or xs i d (slice_get_within xs i x e)) ∙ e)
+
+pub all_at : {A : Type 0} (P : A → Type 0) (xs : List A) (i : ℕ) (x : A) → slice_get xs i ≡ Some x → All P xs → P x
+all_at P xs i x e h = subst P (read_at xs i x x e) (h i x (slice_get_within xs i x e))
 
 all_more : {A : Type 0} (P Q : A → Type 0) → ((x : A) → P x → Q x) → (xs : List A) → All P xs → All Q xs
 all_more P Q f xs h k d l = f (get_or xs k d) (h k d l)
@@ -111,7 +110,7 @@ run_sends ops script ranks size begun t processes frames run p v part kept at on
     let d : Doing = Nets (Sends p part) in
     let new = s.world.parts ++ part ∷ [] in
     let here : OnlyFactsOf part (s.world.each p).node.board = subst (λ (n : NodeView). OnlyFactsOf part n.board) (run.each p v at).node only in
-    let may : MayDo ranks s d = (tt, λ f has. may_happen s.world (E.Send p C.Whole) (couples ops script ranks size begun (Going t) processes frames run).upheld.holds f (here f has)) in
+    let may : MayDo ranks s d = (tt, λ f has. inl (own_seen s.world p (s.world.each p) f ((couples ops script ranks size begun (Going t) processes frames run).upheld.holds.processes p) (here f has))) in
     record {
       system = does s d;
       led = leads_on ranks (start_system ops script ranks size) s d run.led may;

@@ -19,7 +19,7 @@ use Rattle.mpx_comm.specs.declared.comm.Comm.{Comm}
 use Rattle.mpx_comm.proofs.Harvesting.{harvested_none, harvested_then}
 use Rattle.mpx_comm.proofs.Steps.{later_more, later_none}
 use Rattle.mpx_node.specs.declared.finished.Finished.{Finished}
-use Rattle.mpx_node.specs.Nodes.{NodeView, checked_on, freed_on, gathering_name, gathers_on, open_gathering_node, post_at, posted_on}
+use Rattle.mpx_node.specs.Nodes.{NodeView, checked_on, freed_on, gathering_name, gathers_on, open_gathering_node, with_post, posted_on}
 use Rattle.mpx_node.specs.Shown.{node_of}
 use Rattle.mpx_statement.specs.declared.statement.Posting.{Posting}
 use Rattle.mpx_statement.specs.Statements.{Gathers, draft_of, gathers_of}
@@ -35,7 +35,7 @@ pub record Tried : Type 0 where
   pub answer : Result (Name × ℕ) PostError
 
 abbrev pub tried_post : Name → Result Given PostError → NodeView → Tried
-tried_post name (Ok given) node = record { node = post_at name given node; answer = Ok (name, posted_on node name) }
+tried_post name (Ok given) node = record { node = with_post name given node; answer = Ok (name, posted_on node name) }
 tried_post name (Err refusal) node = record { node = node; answer = Err refusal }
 
 abbrev pub tried_gathered : List Operation → (parent : Name) → Draft → Result GatheringView PostError → NodeView → Tried

@@ -15,7 +15,7 @@ use Rattle.mpx_rank.specs.Moves.{RankView, is_waiting}
 use Rattle.mpx_rank.specs.Places.{CommunicatorView, StandsInScript}
 use Rattle.mpx_system.specs.Systems.{System, Leads, start_system}
 use Rattle.mpx_sim.specs.Draws.{IsLater, ScheduleView, generator}
-use Rattle.mpx_sim.specs.Turns.{Alone, AreTurns, Moment, Phase, Since}
+use Rattle.mpx_sim.specs.Turns.{Alone, AreTurns, IsTurn, Moment, Phase, Since}
 
 -- a process: its rank, and its node
 pub record ProcessView : Type 0 where
@@ -72,6 +72,12 @@ pub record AreOfRun (ops : List Operation) (script : ScriptView) (relays seed lo
   pub made : AreTurns turns script.ranks (record { system = start_system ops script.statements script.ranks (script.ranks + relays); schedule = first }) begun
   pub frames : List Look
   pub run : IsUnderWay ops script.statements script.ranks (script.ranks + relays) begun Alone processes frames
+
+-- the turn that began there is made, with this schedule behind it, and what is under way is that of the next one
+pub record HasTurned (ops : List Operation) (script : Script) (ranks size : ℕ) (begun : Moment) (schedule : ScheduleView) (processes : List ProcessView) (frames : List Look) : Type 0 where
+  pub next : System
+  pub turn : IsTurn ranks begun (record { system = next; schedule = schedule })
+  pub run : IsUnderWay ops script ranks size (record { system = next; schedule = schedule }) Alone processes frames
 
 -- in place of the one in a run stands the other, in this phase of a turn
 abbrev pub Keeps : Phase → List Operation → (old new : ProcessView) → Type 0

@@ -25,7 +25,7 @@ call_in (Ok request) = Ok (call_of request)
 call_in (Err refusal) = Err refusal
 
 abbrev pub process_of : Process → ProcessView
-process_of p = record { rank = rank_of call_of p.rank; node = node_of p.desk.desk.host }
+process_of p = record { rank = rank_of call_of p.rank; node = node_of p.carrier.desk.host }
 
 -- the board that a frame's bytes spell
 abbrev pub part_of : FrameUnderWay → Look

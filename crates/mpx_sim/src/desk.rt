@@ -285,7 +285,7 @@ fn post_on(
 ) -> Result<Request, PostError>
     ensures { Tries (tried_post on.now.name (checked_on (⟦<Ops as Listing>⟧.operations ops.now) (node_of desk.old.host) on.now.name (draft_of posting.now)) (node_of desk.old.host)) (call_in result) (node_of desk.new.host) }
 {
-    let Ok(draft) = posting.draft(alloc) else {
+    let Ok(draft) = posting.draft() else {
         return Err(PostError::OutOfMemory);
     };
     desk.post(alloc, on, draft, ops)

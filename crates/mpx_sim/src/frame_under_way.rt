@@ -1,5 +1,5 @@
 //! A frame on its way.
-ghost use Rattle.std.specs.Prelude.{is_ok, IsTrue};
+ghost use Rattle.std.specs.Prelude.{◌≡◌, is_ok, IsTrue};
 ghost use Rattle.mpx_format.specs.Decoding.{decoded};
 
 use crate::observer::FrameSeen;
@@ -16,6 +16,15 @@ pub(crate) struct FrameUnderWay {
 }
 
 impl FrameUnderWay {
+    ghost use Rattle.mpx_sim.specs.SideBySide.{comes};
+
+    /// Whether it comes to the process of this number in this turn.
+    pub(crate) fn comes_to(&self, place: usize, turn: u64) -> bool
+        ensures { result ≡ comes place turn self.now }
+    {
+        self.to == place && self.turn == turn
+    }
+
     /// As whoever looks on is told of it.
     pub(crate) fn seen(&self) -> FrameSeen {
         FrameSeen {

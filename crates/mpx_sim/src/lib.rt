@@ -2,18 +2,22 @@
 //! reordered, and what each rank writes begins what it writes in the script's evaluation.
 //!
 //! In the order of reading: [`run_sim`], which answers a [`Run`]; its processes are `Process`es, each a rank
-//! whose posts a `RunDesk` carries, or a relay; what they send is a `FrameUnderWay` each, which a `Network` carries.
+//! whose posts a `RunDesk` carries, or a relay; they work side by side, in threads where they are many; what they send is a `FrameUnderWay`
+//! each, which a `Network` carries.
 #![tactic(auto)]
 
 mod desk;
 mod frame_under_way;
 mod frames;
 mod network;
+mod notes;
 mod observer;
 mod process;
 mod report;
 mod schedule;
 mod sender;
+mod side_by_side;
+mod start;
 mod turns;
 
 pub use observer::{FrameSeen, Observer, Progress, Unobserved};

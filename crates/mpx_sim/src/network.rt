@@ -3,30 +3,30 @@ ghost use Rattle.std.specs.Prelude.{◌≡◌, ◌<◌, ◌↔◌, ◌≤◌, �
 ghost use Rattle.std.proofs.Common.{set};
 ghost use Rattle.std.specs.List.Sorted.{IsPermutation};
 ghost use Rattle.mpx_num.specs.declared.own.Operation.{Operation};
-ghost use Rattle.mpx_board.specs.Boards.{Look, join_all};
+ghost use Rattle.mpx_board.specs.Boards.{Look};
 ghost use Rattle.mpx_parts.specs.Facts.{OnlyFactsOf};
-ghost use Rattle.mpx_node.specs.Deltas.{lacking_on};
 ghost use Rattle.mpx_meaning.specs.Evaluation.{Script as Statements};
 ghost use Rattle.mpx_sim.specs.Draws.{AreDrawn, ScheduleView, generator};
-ghost use Rattle.mpx_sim.specs.Running.{IsUnderWay, Keeps, ProcessView};
+ghost use Rattle.mpx_sim.specs.Running.{IsUnderWay, ProcessView};
 ghost use Rattle.mpx_sim.specs.Shown.{part_of, process_of, schedule_of};
+ghost use Rattle.mpx_sim.specs.SideBySide.{HasToSend};
 ghost use Rattle.mpx_sim.specs.Turns.{Coming, Going, Moment};
 
 use crate::frame_under_way::FrameUnderWay;
-use crate::frames::frames_with;
 use crate::observer::Observer;
 use crate::process::Process;
 use crate::schedule::Schedule;
 use join_core::OutOfMemory;
 use mpx_job::Options;
 use std::alloc::Global;
+use std::mem;
 
 /// What goes from process to process: the frames that are under way, the bytes of those that have come, and what is drawn.
 #[derive(Drop)]
 pub(crate) struct Network {
     frames: Vec<FrameUnderWay>,
-    spare: Vec<Vec<u8>>,
-    schedule: Schedule,
+    pub(crate) spare: Vec<Vec<u8>>,
+    pub(crate) schedule: Schedule,
 }
 
 impl Network {
@@ -54,6 +54,13 @@ impl Network {
         self.schedule.loses_all()
     }
 
+    /// The frames that are still to come: none, where those of this turn have come one after the other.
+    pub(crate) fn coming(&self, in_order: bool) -> &[FrameUnderWay]
+        ensures { (result.now ≡ []) ⊎ (result.now ≡ self.now.frames.items) }
+    {
+        if in_order { &[] } else { &self.frames }
+    }
+
     /// Brings the frames into an order that is drawn.
     pub(crate) fn mix(&mut self)
         ensures frames { IsPermutation self.old.frames.items self.new.frames.items }
@@ -64,62 +71,61 @@ impl Network {
     }
 }
 
-/// Every process whose last list is out sends the frames of what others may lack of its board, one a turn, to a process that is drawn.
+/// Every process that has no spare bytes to write its next frame over gets some, where there are such.
+pub(crate) fn hand_out(processes: &mut [Process<'_>], spare: &mut Vec<Vec<u8>>)
+    ensures { map process_of processes.new ≡ map process_of processes.old }
+{
+    for p in 0..processes.len() {
+        hand_to(&mut processes[p], spare);
+    }
+}
+
+// A process gets some, where it has none. Where memory for that is refused, they go.
+fn hand_to(process: &mut Process<'_>, spare: &mut Vec<Vec<u8>>)
+    ensures { process_of process.new ≡ process_of process.old }
+{
+    if !process.notes.spare.is_empty() {
+        return;
+    }
+    if let Some(bytes) = spare.pop() {
+        let _ = process.notes.spare.push(bytes);
+    }
+}
+
+/// The frames that every process has made go out, where they aren't lost.
 pub(crate) fn send_all(
     alloc: Global,
     processes: &mut [Process<'_>],
     network: &mut Network,
-    turn: u64,
     observer: &mut dyn Observer,
 ) -> Result<(), OutOfMemory>
+    requires { All HasToSend processes.old }
     ensures run { OnOk result ((operations : List Operation) (script : Statements) (ranks size : ℕ) (begun : Moment) → IsUnderWay operations script ranks size begun (Going (schedule_of network.old.schedule)) (map process_of processes.old) (map part_of network.old.frames.items)
         → IsUnderWay operations script ranks size begun (Going (schedule_of network.new.schedule)) (map process_of processes.new) (map part_of network.new.frames.items)) }
+    ensures same { OnOk result (map process_of processes.new ≡ map process_of processes.old) }
     ensures loss { OnOk result (network.new.schedule.loss ≡ network.old.schedule.loss) }
 {
-    let count = processes.len();
-    for p in 0..count {
-        send_from(alloc, &mut processes[p], p, count, network, turn, observer)?;
+    for p in 0..processes.len() {
+        send_from(alloc, &mut processes[p], network, observer)?;
     }
     Ok(())
 }
 
-// So does one of so many.
+// So do those that one has made.
 fn send_from(
     alloc: Global,
     process: &mut Process<'_>,
-    from: usize,
-    processes: usize,
     network: &mut Network,
-    turn: u64,
     observer: &mut dyn Observer,
 ) -> Result<(), OutOfMemory>
-    requires { from < processes }
-    ensures run { OnOk result ((operations : List Operation) (script : Statements) (ranks size : ℕ) (begun : Moment) (others : List ProcessView) (p : ℕ) → slice_get others p ≡ Some (process_of process.old) → IsUnderWay operations script ranks size begun (Going (schedule_of network.old.schedule)) others (map part_of network.old.frames.items)
-        → IsUnderWay operations script ranks size begun (Going (schedule_of network.new.schedule)) (set others p (process_of process.new)) (map part_of network.new.frames.items)) }
+    requires { HasToSend process.old }
+    ensures run { OnOk result ((operations : List Operation) (script : Statements) (ranks size : ℕ) (begun : Moment) (processes : List ProcessView) (p : ℕ) → slice_get processes p ≡ Some (process_of process.old) → IsUnderWay operations script ranks size begun (Going (schedule_of network.old.schedule)) processes (map part_of network.old.frames.items)
+        → IsUnderWay operations script ranks size begun (Going (schedule_of network.new.schedule)) processes (map part_of network.new.frames.items)) }
+    ensures same { process_of process.new ≡ process_of process.old }
     ensures loss { OnOk result (network.new.schedule.loss ≡ network.old.schedule.loss) }
 {
-    if !process.is_free(turn) {
-        return Ok(());
-    }
-    let to = network.schedule.receiver(from, process.lists(), processes);
-    let made = made_by(alloc, process, to, turn, &mut network.spare)?;
+    let made = mem::replace(&mut process.notes.made, Vec::new(alloc));
     send_each(made, network, observer)
-}
-
-// The frames of what others may lack of a process's board, written over spare bytes.
-fn made_by(
-    alloc: Global,
-    process: &mut Process<'_>,
-    to: usize,
-    turn: u64,
-    spare: &mut Vec<Vec<u8>>,
-) -> Result<Vec<FrameUnderWay>, OutOfMemory>
-    ensures keeps { OnOk result ((t : ScheduleView) (operations : List Operation) → Keeps (Going t) operations (process_of process.old) (process_of process.new)) }
-    ensures facts { IfOk result (λ made. All (λ frame. OnlyFactsOf (part_of frame) (process_of process.new).node.board) made.items) }
-    ensures join { IfOk result (λ made. join_all (map part_of made.items) ≡ lacking_on (process_of process.new).node) }
-{
-    let lists = process.deltas(alloc, turn, spare)?;
-    frames_with(alloc, lists, process.me(), to, turn)
 }
 
 // Frames with facts of a process's board go out, where they aren't lost.
@@ -161,17 +167,21 @@ fn send(
     Ok(())
 }
 
-/// The turn's frames reach their processes.
+/// The turn's frames reach their processes, one after the other, where they are to come in their order.
 pub(crate) fn deliver(
     alloc: Global,
     processes: &mut [Process<'_>],
     network: &Network,
     turn: u64,
+    in_order: bool,
     observer: &mut dyn Observer,
 ) -> Result<(), OutOfMemory>
     ensures { OnOk result ((operations : List Operation) (script : Statements) (ranks size : ℕ) (begun : Moment) → IsUnderWay operations script ranks size begun (Coming (schedule_of network.now.schedule)) (map process_of processes.old) (map part_of network.now.frames.items)
         → IsUnderWay operations script ranks size begun (Coming (schedule_of network.now.schedule)) (map process_of processes.new) (map part_of network.now.frames.items)) }
 {
+    if !in_order {
+        return Ok(());
+    }
     for i in 0..network.frames.len() {
         arrive(alloc, processes, &network.frames[i], turn, observer)?;
     }

@@ -33,10 +33,16 @@ pub trait Observer: Drop {
     /// A turn was made: its number, from 1 on, and how far the run is.
     fn turn(&mut self, number: u32, progress: Progress);
 
+    /// Whether it is to be told of each frame that came, and of the node there. Those of a turn then come one after the other, in their order;
+    /// else each process takes its own by itself.
+    fn follows_frames(&self) -> bool {
+        false
+    }
+
     /// A frame was made, and goes out, or it was drawn to be lost.
     fn sent(&mut self, _frame: FrameSeen, _lost: bool) {}
 
-    /// A frame came, for the first time or again, and was joined to the board of its process: this is the node there, as it then stands.
+    /// Where it follows frames: a frame came, for the first time or again, and was joined to the board of its process: this is the node there, as it then stands.
     fn taken(&mut self, _frame: FrameSeen, _again: bool, _node: &Node) {}
 
     /// A rank has new lines in this turn, from 1 on, be it the one that ends the run: all its lines so far.

@@ -1,7 +1,9 @@
 //! A process of a run: a rank, which goes on with its statements, or a relay, which has none.
-ghost use Rattle.std.specs.Prelude.{◌≡◌, ◌<◌, ◌≤◌, [], List, IfOk, OnOk, Some, map, slice_get, string_bytes, true};
+ghost use Rattle.std.specs.Prelude.{◌≡◌, ◌↔◌, ◌<◌, ◌≤◌, [], All, List, IfOk, IsTrue, OnOk, Some, false, map, slice_get, string_bytes, true};
 ghost use Rattle.mpx_num.specs.declared.own.Operation.{Operation};
-ghost use Rattle.mpx_node.specs.Deltas.{AreLacked};
+ghost use Rattle.mpx_board.specs.Boards.{join_all};
+ghost use Rattle.mpx_parts.specs.Facts.{OnlyFactsOf};
+ghost use Rattle.mpx_node.specs.Deltas.{AreLacked, lacking_on};
 ghost use Rattle.mpx_node.specs.Nodes.{learn};
 ghost use Rattle.mpx_node.specs.Shown.{node_of};
 ghost use Rattle.mpx_meaning.specs.Evaluation.{Script as Statements, start};
@@ -10,7 +12,9 @@ ghost use Rattle.mpx_sim.specs.Shown.{part_of};
 
 use crate::desk::RunDesk;
 use crate::frame_under_way::FrameUnderWay;
-use crate::frames::MOST_BYTES;
+use crate::frames::{MOST_BYTES, frames_with};
+use crate::notes::Notes;
+use crate::schedule::Schedule;
 use crate::sender::Sender;
 use join_core::OutOfMemory;
 use mpx_board::Board;
@@ -22,12 +26,14 @@ use mpx_rank::Interpreter;
 use mpx_statement::Statement;
 use std::alloc::Global;
 
-/// A process of a run: the desk over its node, its rank, and how far it has come with sending. A relay has no statements.
+/// A process of a run: the carrier of its posts, over its node, its rank, how far it has come with sending, and what it notes of its steps. A relay has no
+/// statements.
 #[derive(Drop)]
 pub(crate) struct Process<'a> {
-    desk: RunDesk,
+    carrier: RunDesk,
     rank: Interpreter<'a, RunDesk>,
     sender: Sender,
+    pub(crate) notes: Notes,
 }
 
 impl<'a> Process<'a> {
@@ -36,6 +42,7 @@ impl<'a> Process<'a> {
     ghost use Rattle.mpx_rank.specs.Moves.{is_waiting};
     ghost use Rattle.mpx_sim.specs.Ends.{Lacks};
     ghost use Rattle.mpx_sim.specs.Running.{Keeps, Moves};
+    ghost use Rattle.mpx_sim.specs.SideBySide.{GoesOn, Makes, taken, took};
     ghost use Rattle.mpx_sim.specs.Shown.{process_of};
     ghost use Rattle.mpx_sim.specs.Draws.{ScheduleView};
     ghost use Rattle.mpx_sim.specs.Turns.{Alone, Going};
@@ -58,8 +65,8 @@ impl<'a> Process<'a> {
     {
         let world = world_of(alloc, me, ranks);
         let me = Proc::new(me);
-        let desk = match RunDesk::new(alloc, me, ranks, processes) {
-            Ok(desk) => desk,
+        let carrier = match RunDesk::new(alloc, me, ranks, processes) {
+            Ok(carrier) => carrier,
             Err(e) => {
                 drop(world);
                 return Err(e);
@@ -67,12 +74,13 @@ impl<'a> Process<'a> {
         };
         match Interpreter::new(alloc, me, world, todo) {
             Ok(rank) => Ok(Process {
-                desk,
+                carrier,
                 rank,
                 sender: Sender::new(),
+                notes: Notes::new(alloc),
             }),
             Err(e) => {
-                drop(desk);
+                drop(carrier);
                 Err(e)
             }
         }
@@ -83,8 +91,8 @@ impl<'a> Process<'a> {
     pub(crate) fn go_on(&mut self, alloc: Global, ops: &Ops) -> Result<bool, OutOfMemory>
         ensures { OnOk result (Moves (⟦<Ops as Listing>⟧.operations ops.now) (process_of self.old) (process_of self.new)) }
     {
-        self.desk.harvest(alloc, ops)?;
-        self.rank.go_on(alloc, &mut self.desk, ops)
+        self.carrier.harvest(alloc, ops)?;
+        self.rank.go_on(alloc, &mut self.carrier, ops)
     }
 
     /// Whether its rank has nothing left, or waits for a call that isn't done and can't be by what its board has.
@@ -93,14 +101,14 @@ impl<'a> Process<'a> {
         ensures lacks { IfOk result (λ lacks. lacks ≡ true → Lacks (process_of self.new)) }
     {
         if let Some(call) = self.rank.awaited() {
-            return self.desk.is_open(alloc, call, ops);
+            return self.carrier.is_open(alloc, call, ops);
         }
         let Some(statement) = self.rank.todo().first() else {
             return Ok(true);
         };
         match statement {
             Statement::Wait(words) => {
-                self.desk
+                self.carrier
                     .one_is_open(alloc, self.rank.requests(), words.as_slice(), ops)
             }
             Statement::Post(_) => Ok(false),
@@ -113,12 +121,32 @@ impl<'a> Process<'a> {
     pub(crate) fn prune(&mut self) -> bool
         ensures { (operations : List Operation) → Keeps Alone operations (process_of self.old) (process_of self.new) }
     {
-        self.desk.prune()
+        self.carrier.prune()
+    }
+
+    /// Goes on by itself: with its statements, where it is one of so many ranks, and by dropping what it may. It answers whether it did any of that.
+    pub(crate) fn step(
+        &mut self,
+        alloc: Global,
+        place: usize,
+        ranks: usize,
+        ops: &Ops,
+    ) -> Result<bool, OutOfMemory>
+        ensures { OnOk result (GoesOn (⟦<Ops as Listing>⟧.operations ops.now) ranks place (process_of self.old) (process_of self.new)) }
+    {
+        if place >= ranks {
+            return Ok(self.prune());
+        }
+        let moved = self.go_on(alloc, ops)?;
+        let pruned = self.prune();
+        Ok(moved | pruned)
     }
 
     /// Whether the frames of its last list are out before this turn.
-    pub(crate) fn is_free(&self, turn: u64) -> bool {
-        self.sender.is_free(turn)
+    pub(crate) fn has_sent(&self, turn: u64) -> bool
+        ensures { IsTrue result ↔ (self.now.sender.out ≤ turn) }
+    {
+        self.sender.has_sent(turn)
     }
 
     /// How many lists of frames it has made.
@@ -128,18 +156,130 @@ impl<'a> Process<'a> {
 
     /// Says what the process has, and gives the frames of what others may lack of its board: its next list, which goes out from this turn
     /// on. They are written over spare bytes.
-    pub(crate) fn deltas(
+    pub(crate) fn make_list(
         &mut self,
         alloc: Global,
         turn: u64,
-        spare: &mut Vec<Vec<u8>>,
     ) -> Result<Vec<Vec<u8>>, OutOfMemory>
         ensures keeps { OnOk result ((t : ScheduleView) (operations : List Operation) → Keeps (Going t) operations (process_of self.old) (process_of self.new)) }
         ensures frames { IfOk result (λ made. AreLacked 1048576 (process_of self.new).node (map (λ frame. frame.items) made.items)) }
     {
-        let made = self.desk.desk.framed_deltas(alloc, MOST_BYTES, spare)?;
+        let made = self
+            .carrier
+            .desk
+            .framed_deltas(alloc, MOST_BYTES, &mut self.notes.spare)?;
         self.sender.sends(turn, made.len());
         Ok(made)
+    }
+
+    /// The frames of its next list, which go to another process.
+    pub(crate) fn make_frames(
+        &mut self,
+        alloc: Global,
+        to: usize,
+        turn: u64,
+    ) -> Result<Vec<FrameUnderWay>, OutOfMemory>
+        ensures keeps { OnOk result ((t : ScheduleView) (operations : List Operation) → Keeps (Going t) operations (process_of self.old) (process_of self.new)) }
+        ensures facts { IfOk result (λ made. All (λ frame. OnlyFactsOf (part_of frame) (process_of self.new).node.board) made.items) }
+        ensures join { IfOk result (λ made. join_all (map part_of made.items) ≡ lacking_on (process_of self.new).node) }
+    {
+        let list = self.make_list(alloc, turn)?;
+        frames_with(alloc, list, self.me(), to, turn)
+    }
+
+    /// Where its last list is out, notes the frames of the next one, which go to the process that is next; else notes none. It notes where memory
+    /// is wanting.
+    pub(crate) fn make(
+        &mut self,
+        alloc: Global,
+        place: usize,
+        processes: usize,
+        schedule: &Schedule,
+        turn: u64,
+    )
+        requires { place < processes }
+        ensures { self.new.notes.failed ≡ false → Makes turn self.old self.new }
+    {
+        if !self.has_sent(turn) {
+            self.notes.made = Vec::new(alloc);
+            return;
+        }
+        let to = schedule.receiver(place, self.lists(), processes);
+        match self.make_frames(alloc, to, turn) {
+            Ok(made) => self.notes.made = made,
+            Err(_) => self.notes.failed = true,
+        }
+    }
+
+    /// Takes the frames among these that come to it in this turn, and goes on by itself then. It notes whether it did, how many of its lines were
+    /// told before, and where memory is wanting.
+    pub(crate) fn take_and_go_on(
+        &mut self,
+        alloc: Global,
+        place: usize,
+        ranks: usize,
+        frames: &[FrameUnderWay],
+        turn: u64,
+        ops: &Ops,
+    )
+        ensures { self.new.notes.failed ≡ false → GoesOn (⟦<Ops as Listing>⟧.operations ops.now) ranks place (taken place turn frames.now (process_of self.old)) (process_of self.new) }
+    {
+        self.notes.told = self.lines().len();
+        match self.take_then_step(alloc, place, ranks, frames, turn, ops) {
+            Ok(changed) => self.notes.changed = changed,
+            Err(_) => self.notes.failed = true,
+        }
+    }
+
+    // Takes these frames, and goes on then.
+    fn take_then_step(
+        &mut self,
+        alloc: Global,
+        place: usize,
+        ranks: usize,
+        frames: &[FrameUnderWay],
+        turn: u64,
+        ops: &Ops,
+    ) -> Result<bool, OutOfMemory>
+        ensures { OnOk result (GoesOn (⟦<Ops as Listing>⟧.operations ops.now) ranks place (taken place turn frames.now (process_of self.old)) (process_of self.new)) }
+    {
+        self.receive_all(alloc, place, frames, turn)?;
+        self.step(alloc, place, ranks, ops)
+    }
+
+    // Takes the frames among these that come to it in this turn, one after the other.
+    fn receive_all(
+        &mut self,
+        alloc: Global,
+        place: usize,
+        frames: &[FrameUnderWay],
+        turn: u64,
+    ) -> Result<(), OutOfMemory>
+        ensures { OnOk result (process_of self.new ≡ taken place turn frames.now (process_of self.old)) }
+    {
+        let mut rest = frames;
+        while let [frame, more @ ..] = rest {
+            self.receive_own(alloc, place, frame, turn)?;
+            rest = more;
+        }
+        Ok(())
+    }
+
+    // Takes the frame, where it comes to it in this turn.
+    fn receive_own(
+        &mut self,
+        alloc: Global,
+        place: usize,
+        frame: &FrameUnderWay,
+        turn: u64,
+    ) -> Result<(), OutOfMemory>
+        ensures { OnOk result (process_of self.new ≡ took place turn frame.now (process_of self.old)) }
+    {
+        if frame.comes_to(place, turn) {
+            self.receive(alloc, frame)
+        } else {
+            Ok(())
+        }
     }
 
     /// Takes a frame: what its bytes say is joined to the board as they are read.
@@ -150,7 +290,7 @@ impl<'a> Process<'a> {
     ) -> Result<(), OutOfMemory>
         ensures { OnOk result (process_of self.new ≡ record { rank = (process_of self.old).rank; node = learn (part_of frame.now) (process_of self.old).node }) }
     {
-        self.desk.desk.take_frame(alloc, frame.bytes.as_slice())
+        self.carrier.desk.take_frame(alloc, frame.bytes.as_slice())
     }
 
     /// Its number.
@@ -160,7 +300,7 @@ impl<'a> Process<'a> {
 
     /// Its node.
     pub(crate) fn node(&self) -> &Node {
-        self.desk.desk.host()
+        self.carrier.desk.host()
     }
 
     /// Its lines so far.
@@ -177,7 +317,7 @@ impl<'a> Process<'a> {
     pub(crate) fn board(&self) -> &Board
         ensures { look result.now ≡ (process_of self.now).node.board }
     {
-        self.desk.desk.host().board()
+        self.carrier.desk.host().board()
     }
 
     /// Whether it waits for an outcome, or has statements left.
@@ -192,8 +332,8 @@ impl<'a> Process<'a> {
         ensures node { node_of result.0 ≡ (process_of self.entry).node }
         ensures lines { map string_bytes result.1.items ≡ (process_of self.entry).rank.lines }
     {
-        let Process { desk, rank, .. } = self;
-        (desk.into_node(), rank.into_lines())
+        let Process { carrier, rank, .. } = self;
+        (carrier.into_node(), rank.into_lines())
     }
 }
 

@@ -21,6 +21,7 @@ use mpx_num::{Listing, Ops};
 use mpx_rank::push_where;
 use mpx_script::Script;
 use std::alloc::Global;
+use std::thread::Threads;
 
 /// What a run comes to, and the node of each process: first those of the ranks, then the relays'.
 #[derive(Drop)]
@@ -48,7 +49,8 @@ pub struct Run {
 /// loses each; and `seed`, from which all that is drawn follows. That ranks still wait at the end is no error: `report.waiting`
 /// has them; where turns were left and not every frame is lost, they wait in every run: the lines are all lines of the evaluation, and those
 /// wait that have something left there. An `Err` is want of memory, and leaves nothing of the run.
-pub fn run_sim(
+pub fn run_sim<R: Threads + Sync>(
+    rt: &R,
     alloc: Global,
     script: &Script,
     options: &Options,
@@ -62,12 +64,13 @@ pub fn run_sim(
     ensures ended { IfOk result (λ run. AllMadeOr run.turns options.now.turns (IsOver options.now.loss (map node_of run.nodes.items) run.report.waiting.items)) }
     ensures rests { IfOk result (λ run. run.turns < options.now.turns → options.now.loss < 100 → (evaluation : State) → IsEvaluationOf (⟦<Ops as Listing>⟧.operations ops.now) script.now evaluation → AreAll (transcripts_of run.report) run.report.waiting.items script.now.ranks evaluation) }
 {
-    run_sim_observed(alloc, script, options, &mut Unobserved, ops)
+    run_sim_observed(rt, alloc, script, options, &mut Unobserved, ops)
 }
 
 /// The same run with the same error, at which somebody looks on: `observer` is told of each frame that is made and of each that came, of
 /// each rank's new lines, of each turn but the one that ends the run before its last, and once, in any case, that the run is over.
-pub fn run_sim_observed(
+pub fn run_sim_observed<R: Threads + Sync>(
+    rt: &R,
     alloc: Global,
     script: &Script,
     options: &Options,
@@ -82,7 +85,7 @@ pub fn run_sim_observed(
     ensures ended { IfOk result (λ run. AllMadeOr run.turns options.now.turns (IsOver options.now.loss (map node_of run.nodes.items) run.report.waiting.items)) }
     ensures rests { IfOk result (λ run. run.turns < options.now.turns → options.now.loss < 100 → (evaluation : State) → IsEvaluationOf (⟦<Ops as Listing>⟧.operations ops.now) script.now evaluation → AreAll (transcripts_of run.report) run.report.waiting.items script.now.ranks evaluation) }
 {
-    let ran = simulate(alloc, script, options, observer, ops);
+    let ran = simulate(rt, alloc, script, options, observer, ops);
     observer.over();
     let (processes, turns) = ran?;
     let ranks = script.ranks();

@@ -4,25 +4,34 @@ ghost use Rattle.mpx_num.specs.declared.own.Operation.{Operation};
 ghost use Rattle.mpx_board.specs.Boards.{Look};
 ghost use Rattle.mpx_meaning.specs.Evaluation.{Script as Statements};
 ghost use Rattle.mpx_system.specs.Runs.{HaveOneBoard};
-ghost use Rattle.mpx_system.specs.Systems.{System, start_system};
+ghost use Rattle.mpx_system.specs.Systems.{System};
 ghost use Rattle.mpx_sim.specs.Ends.{AllLack, AllMadeOr, HaveFinished, OneWaits, RestsBy, nodes_of};
-ghost use Rattle.mpx_sim.specs.Draws.{ScheduleView};
-ghost use Rattle.mpx_sim.specs.Running.{AreOfRun, IsAt, IsUnderWay};
+ghost use Rattle.mpx_sim.specs.Running.{AreOfRun, HasTurned, IsUnderWay};
 ghost use Rattle.mpx_sim.specs.Shown.{moment_of, part_of, process_of, schedule_of};
 ghost use Rattle.mpx_sim.specs.Turns.{Alone, Coming, Moment};
 
-use crate::network::{Network, deliver, keep_some, send_all};
+use crate::network::{Network, deliver, hand_out, keep_some, send_all};
 use crate::observer::{Observer, Progress};
 use crate::process::Process;
+use crate::side_by_side::{go_on_all, make_all};
+use crate::start::start;
 use join_core::{Exact, OutOfMemory};
 use mpx_job::Options;
 use mpx_num::{Listing, Ops};
 use mpx_script::Script;
 use std::alloc::Global;
+use std::thread::{Threads, available_parallelism};
+
+// With fewer processes than this more than one thread doesn't pay.
+const FEW_PROCESSES: usize = 32;
+
+// A thread that isn't asked for pays with so many processes.
+const PROCESSES_OF_A_THREAD: usize = 8;
 
 /// The processes of a script's run after its last turn, and how many turns were made: all turns are used up, all ranks have
 /// finished, or no turn to come changes anything.
-pub(crate) fn simulate<'a>(
+pub(crate) fn simulate<'a, R: Threads + Sync>(
+    rt: &R,
     alloc: Global,
     script: &'a Script,
     options: &Options,
@@ -35,112 +44,201 @@ pub(crate) fn simulate<'a>(
 {
     let mut processes = start(alloc, script, options.relays)?;
     let mut network = Network::new(alloc, options, processes.len())?;
-    let ranks = usize::from(script.ranks());
-    let all = left_of(&processes);
-    let mut made = 0;
+    let plan = Plan {
+        workers: workers_of(rt, options, processes.len()),
+        ranks: usize::from(script.ranks()),
+        statements: left_of(&processes),
+        turns: options.turns,
+        in_order: observer.follows_frames(),
+    };
+    let mut changed = first(rt, alloc, &plan, &mut processes, observer, ops)?;
     for number in 0..options.turns {
-        let goes_on = turn(
+        let over = is_over(alloc, &mut processes, plan.ranks, changed, &network, ops)?;
+        if over {
+            return Ok((processes, number));
+        }
+        exchange(
+            rt,
             alloc,
+            &plan,
             &mut processes,
-            ranks,
             &mut network,
-            u64::from(number),
+            number,
+            observer,
+        )?;
+        observer.turn(number + 1, progress(&processes, &plan));
+        changed = go_further(
+            rt,
+            alloc,
+            &plan,
+            &mut processes,
+            &mut network,
+            number,
             observer,
             ops,
         )?;
-        if !goes_on {
-            return Ok((processes, made));
-        }
-        made += 1;
-        observer.turn(made, progress(&processes, ranks, all));
     }
-    Ok((processes, made))
+    Ok((processes, options.turns))
 }
 
-// A turn: every rank goes on until it must wait, every process drops what it may and sends what others may lack of its board
-// where its last list is out, and the turn's frames come. It answers whether there is need of another.
-//
-// Where nobody moved or dropped anything, all boards are equal and no rank has at hand what it waits for, a turn more would bring acknowledgements at
-// most, of which no call, front or result comes; and where every frame is lost, it would bring nothing.
-fn turn(
-    alloc: Global,
-    processes: &mut [Process<'_>],
-    count: usize,
-    network: &mut Network,
-    number: u64,
-    observer: &mut dyn Observer,
-    ops: &Ops,
-) -> Result<bool, OutOfMemory>
-    requires few { count ≤ length processes.old }
-    requires number { number < 4294967296 }
-    ensures turns { IfOk result (λ goes_on. goes_on ≡ true → (script : Statements) (ranks size : ℕ) (begun : System) → count ≤ ranks
-        → IsUnderWay (⟦<Ops as Listing>⟧.operations ops.now) script ranks size (moment_of begun network.old.schedule) Alone (map process_of processes.old) (map part_of network.old.frames.items)
-        → IsUnderWay (⟦<Ops as Listing>⟧.operations ops.now) script ranks size (moment_of begun network.old.schedule) (Coming (schedule_of network.new.schedule)) (map process_of processes.new) (map part_of network.new.frames.items)) }
-    ensures ends { IfOk result (λ goes_on. goes_on ≡ false → (script : Statements) (ranks size : ℕ) (begun : Moment) → count ≤ ranks
-        → IsUnderWay (⟦<Ops as Listing>⟧.operations ops.now) script ranks size begun Alone (map process_of processes.old) (map part_of network.old.frames.items)
-        → IsUnderWay (⟦<Ops as Listing>⟧.operations ops.now) script ranks size begun Alone (map process_of processes.new) (map part_of network.new.frames.items)) }
-    ensures rest { IfOk result (λ goes_on. goes_on ≡ false → RestsBy network.old.schedule.loss count (map process_of processes.new)) }
-    ensures loss { OnOk result (network.new.schedule.loss ≡ network.old.schedule.loss) }
+// How a run is made: in so many threads, with so many ranks, so many statements in all and so many turns at most; and whether frames come one after
+// the other, in their order.
+#[derive(Drop)]
+struct Plan {
+    workers: usize,
+    ranks: usize,
+    statements: usize,
+    turns: u32,
+    in_order: bool,
+}
+
+impl Plan {
+    // Whether the turn of this number is the last that may be made.
+    fn is_last(&self, number: u32) -> bool {
+        number >= self.turns.saturating_sub(1)
+    }
+}
+
+// In how many threads processes work side by side.
+fn workers_of<R: Threads>(rt: &R, options: &Options, processes: usize) -> usize
+    ensures { 0 < result }
 {
-    let moved = go_round(alloc, processes, count, number, observer, ops)?;
-    let pruned = prune_all(processes);
-    let rests = is_at_rest(alloc, processes, count, moved | pruned, network, ops)?;
-    if rests {
-        return Ok(false);
+    if let Some(workers) = options.workers {
+        return usize::from(workers).max(1);
     }
-    if are_finished(processes, count) {
-        return Ok(false);
+    if processes < FEW_PROCESSES {
+        return 1;
     }
-    send_all(alloc, processes, network, number, observer)?;
-    network.mix();
-    deliver(alloc, processes, network, number, observer)?;
-    keep_some(network, number);
-    Ok(true)
+    match available_parallelism(rt) {
+        Ok(processors) => processors
+            .get()
+            .min(processes / PROCESSES_OF_A_THREAD)
+            .max(1),
+        Err(_) => 1,
+    }
 }
 
-// Every rank in order goes on until it must wait. It answers whether one moved.
-fn go_round(
+// Each process goes on by itself before the first turn, where there is one. It answers whether one moved or dropped anything.
+fn first<R: Threads + Sync>(
+    rt: &R,
     alloc: Global,
+    plan: &Plan,
     processes: &mut [Process<'_>],
-    count: usize,
-    number: u64,
     observer: &mut dyn Observer,
     ops: &Ops,
 ) -> Result<bool, OutOfMemory>
-    requires { count ≤ length processes.old }
-    ensures { OnOk result ((script : Statements) (ranks size : ℕ) (begun : Moment) (frames : List Look) → count ≤ ranks → IsUnderWay (⟦<Ops as Listing>⟧.operations ops.now) script ranks size begun Alone (map process_of processes.old) frames
+    requires workers { 0 < plan.now.workers }
+    requires count { plan.now.ranks ≤ length processes.old }
+    ensures { OnOk result ((script : Statements) (ranks size : ℕ) (begun : Moment) (frames : List Look) → plan.now.ranks ≤ ranks → IsUnderWay (⟦<Ops as Listing>⟧.operations ops.now) script ranks size begun Alone (map process_of processes.old) frames
         → IsUnderWay (⟦<Ops as Listing>⟧.operations ops.now) script ranks size begun Alone (map process_of processes.new) frames) }
 {
-    let mut changed = false;
-    for p in 0..count {
-        let told = processes[p].lines().len();
-        let moved = processes[p].go_on(alloc, ops)?;
-        tell_more(&processes[p], told, number, observer);
-        changed |= moved;
+    if plan.turns == 0 {
+        return Ok(false);
     }
+    let changed = go_on_all(rt, alloc, plan.workers, processes, plan.ranks, &[], 0, ops)?;
+    tell_more(processes, plan.ranks, 0, observer);
     Ok(changed)
 }
 
-// Tells whoever looks on of a rank's lines, where there are more than so many.
-fn tell_more(process: &Process<'_>, told: usize, number: u64, observer: &mut dyn Observer) {
-    let lines = process.lines();
-    if lines.len() > told {
-        let turn = u32::try_from(number.saturating_add(1)).unwrap_or(u32::MAX);
-        observer.told(turn, process.me(), lines);
+// Every process whose last list is out makes the frames of its next one, they go out, and those that come are mixed. Where they are to come in
+// their order, or no turn is made behind this one, they come.
+fn exchange<R: Threads + Sync>(
+    rt: &R,
+    alloc: Global,
+    plan: &Plan,
+    processes: &mut [Process<'_>],
+    network: &mut Network,
+    number: u32,
+    observer: &mut dyn Observer,
+) -> Result<(), OutOfMemory>
+    requires { 0 < plan.now.workers }
+    ensures run { OnOk result ((operations : List Operation) (script : Statements) (ranks size : ℕ) (begun : System) → plan.now.ranks ≤ ranks → OneWaits plan.now.ranks (map process_of processes.old)
+        → IsUnderWay operations script ranks size (moment_of begun network.old.schedule) Alone (map process_of processes.old) (map part_of network.old.frames.items)
+        → IsUnderWay operations script ranks size (moment_of begun network.old.schedule) (Coming (schedule_of network.new.schedule)) (map process_of processes.new) (map part_of network.new.frames.items)) }
+    ensures loss { OnOk result (network.new.schedule.loss ≡ network.old.schedule.loss) }
+{
+    let turn = u64::from(number);
+    hand_out(processes, &mut network.spare);
+    make_all(rt, alloc, plan.workers, processes, &network.schedule, turn)?;
+    send_all(alloc, processes, network, observer)?;
+    network.mix();
+    let in_order = plan.in_order | plan.is_last(number);
+    deliver(alloc, processes, network, turn, in_order, observer)
+}
+
+// Where a turn is made behind this one, each process takes the frames that still come to it, and goes on by itself then; one in four of the frames
+// comes again. It answers whether one moved or dropped anything.
+fn go_further<R: Threads + Sync>(
+    rt: &R,
+    alloc: Global,
+    plan: &Plan,
+    processes: &mut [Process<'_>],
+    network: &mut Network,
+    number: u32,
+    observer: &mut dyn Observer,
+    ops: &Ops,
+) -> Result<bool, OutOfMemory>
+    requires workers { 0 < plan.now.workers }
+    requires count { plan.now.ranks ≤ length processes.old }
+    ensures run { OnOk result ((script : Statements) (ranks size : ℕ) (begun : Moment) → plan.now.ranks ≤ ranks
+        → IsUnderWay (⟦<Ops as Listing>⟧.operations ops.now) script ranks size begun (Coming (schedule_of network.old.schedule)) (map process_of processes.old) (map part_of network.old.frames.items)
+        → HasTurned (⟦<Ops as Listing>⟧.operations ops.now) script ranks size begun (schedule_of network.new.schedule) (map process_of processes.new) (map part_of network.new.frames.items)) }
+    ensures loss { OnOk result (network.new.schedule.loss ≡ network.old.schedule.loss) }
+{
+    if plan.is_last(number) {
+        return Ok(false);
+    }
+    let turn = u64::from(number);
+    let changed = go_on_all(
+        rt,
+        alloc,
+        plan.workers,
+        processes,
+        plan.ranks,
+        network.coming(plan.in_order),
+        turn,
+        ops,
+    )?;
+    keep_some(network, turn);
+    tell_more(processes, plan.ranks, number.saturating_add(1), observer);
+    Ok(changed)
+}
+
+// Tells whoever looks on of ranks' new lines, in the turn behind so many.
+fn tell_more(processes: &[Process<'_>], ranks: usize, turns: u32, observer: &mut dyn Observer)
+    requires { ranks ≤ length processes.now }
+{
+    for p in 0..ranks {
+        let lines = processes[p].lines();
+        if lines.len() > processes[p].notes.told {
+            observer.told(turns.saturating_add(1), processes[p].me(), lines);
+        }
     }
 }
 
-// Every process drops what it may. It answers whether one did.
-fn prune_all(processes: &mut [Process<'_>]) -> bool
-    ensures { (operations : List Operation) (script : Statements) (ranks size : ℕ) (begun : Moment) (frames : List Look) → IsUnderWay operations script ranks size begun Alone (map process_of processes.old) frames
-        → IsUnderWay operations script ranks size begun Alone (map process_of processes.new) frames }
+// Whether the run ends here: nobody can hear anything new, or every rank has finished.
+//
+// Where nobody moved or dropped anything, all boards are equal and no rank has at hand what it waits for, a turn more would bring acknowledgements at
+// most, of which no call, front or result comes; and where every frame is lost, it would bring nothing.
+fn is_over(
+    alloc: Global,
+    processes: &mut [Process<'_>],
+    count: usize,
+    changed: bool,
+    network: &Network,
+    ops: &Ops,
+) -> Result<bool, OutOfMemory>
+    requires { count ≤ length processes.old }
+    ensures run { OnOk result ((script : Statements) (ranks size : ℕ) (begun : Moment) (frames : List Look) → IsUnderWay (⟦<Ops as Listing>⟧.operations ops.now) script ranks size begun Alone (map process_of processes.old) frames
+        → IsUnderWay (⟦<Ops as Listing>⟧.operations ops.now) script ranks size begun Alone (map process_of processes.new) frames) }
+    ensures over { IfOk result (λ over. over ≡ true → RestsBy network.now.schedule.loss count (map process_of processes.new)) }
+    ensures further { IfOk result (λ over. over ≡ false → OneWaits count (map process_of processes.new)) }
 {
-    let mut changed = false;
-    for p in 0..processes.len() {
-        let pruned = processes[p].prune();
-        changed |= pruned;
+    let rests = is_at_rest(alloc, processes, count, changed, network, ops)?;
+    if rests {
+        return Ok(true);
     }
-    changed
+    Ok(are_finished(processes, count))
 }
 
 // Whether nobody can hear anything new: nobody has just moved or dropped anything, and every frame is lost, or all boards are equal and no rank has at
@@ -195,13 +293,13 @@ fn all_lack(
     Ok(true)
 }
 
-// How far the run is, with so many statements in all.
-fn progress(processes: &[Process<'_>], ranks: usize, all: usize) -> Progress {
+// How far the run is.
+fn progress(processes: &[Process<'_>], plan: &Plan) -> Progress {
     Progress {
-        finished: finished(processes, ranks),
-        ranks,
-        done: all.saturating_sub(left_of(processes)),
-        all,
+        finished: finished(processes, plan.ranks),
+        ranks: plan.ranks,
+        done: plan.statements.saturating_sub(left_of(processes)),
+        all: plan.statements,
     }
 }
 
@@ -247,37 +345,4 @@ fn are_same(processes: &[Process<'_>]) -> bool
         }
     }
     true
-}
-
-// A process before the first turn: a relay has no statements.
-fn start_at<'a>(
-    alloc: Global,
-    script: &'a Script,
-    me: u8,
-    size: u8,
-) -> Result<Process<'a>, OutOfMemory>
-    requires me { me < size }
-    requires ranks { script.now.ranks ≤ size }
-    requires few { size ≤ 64 }
-    ensures { IfOk result (λ process. (operations : List Operation) → IsAt script.now.ranks (start_system operations script.now.statements script.now.ranks size) me (process_of process)) }
-{
-    let ranks = script.ranks();
-    if me >= ranks {
-        return Process::new(alloc, me, ranks, size, &script.statements(0)[..0]);
-    }
-    Process::new(alloc, me, ranks, size, script.statements(me))
-}
-
-// The processes before the first turn, when no frame is under way.
-fn start<'a>(alloc: Global, script: &'a Script, relays: u8) -> Result<Vec<Process<'a>>, OutOfMemory>
-    requires { script.now.ranks + relays ≤ 64 }
-    ensures { IfOk result (λ processes. (operations : List Operation) (first : ScheduleView)
-        → IsUnderWay operations script.now.statements script.now.ranks (script.now.ranks + relays) (record { system = start_system operations script.now.statements script.now.ranks (script.now.ranks + relays); schedule = first }) Alone (map process_of processes.items) []) }
-{
-    let mut processes = Vec::new(alloc);
-    let ranks = script.ranks();
-    for me in 0..ranks + relays {
-        processes.push(start_at(alloc, script, me, ranks + relays)?)?;
-    }
-    Ok(processes)
 }

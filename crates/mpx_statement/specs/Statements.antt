@@ -1,8 +1,7 @@
 -- What a statement of a script posts or asks for, on which communicator, and what it binds.
-use Rattle.std.specs.Prelude.{ℕ, ℤ, pos, List, [], ◌∷◌, Option, Some, None}
-use Rattle.mpx_num.specs.declared.types.Ty.TheVariants.{I8}
-use Rattle.mpx_num.specs.declared.operations.Op.TheVariants.{Sum}
+use Rattle.std.specs.Prelude.{ℕ, ℤ, List, [], ◌∷◌, Option, Some, None}
 use Rattle.mpx_post.specs.declared.draft.Draft.{Draft}
+use Rattle.mpx_post.specs.Drafts.{empty_draft}
 use Rattle.mpx_kind.specs.declared.kinds.Call.TheVariants as C
 use Rattle.mpx_kind.specs.declared.kinds.NewCommunicator.TheVariants as N
 use Rattle.mpx_statement.specs.declared.statement.Posting.{Posting}
@@ -14,7 +13,7 @@ use Rattle.mpx_statement.specs.declared.statement.Statement.TheVariants.{Post, W
 
 -- the draft of create_group, whose kind has no fields
 abbrev pub create_group_draft : Draft
-create_group_draft = record { call = C.NewCommunicator N.CreateGroup; root = pos 0; op = Sum; ty = I8; scounts = []; rcounts = []; items = []; colour = None; key = pos 0; group = []; graph = None }
+create_group_draft = empty_draft (C.NewCommunicator N.CreateGroup)
 
 -- the draft that it posts
 abbrev pub draft_of : Posting → Draft
@@ -25,8 +24,7 @@ draft_of (CreateGroup on tag ranks to) = create_group_draft
 
 abbrev pub drafted_by : Statement → Option Draft
 drafted_by (Post posting) = Some (draft_of posting)
-drafted_by (Wait requests) = None
-drafted_by (Ask question) = None
+drafted_by statement = None
 
 -- the word of the communicator on which it is posted
 abbrev pub posted_on : Posting → List ℕ
@@ -36,48 +34,42 @@ posted_on (New on draft to) = on
 posted_on (CreateGroup on tag ranks to) = on
 
 -- the words of communicators that it asks about
-abbrev pub asked_of : Question → List (List ℕ)
-asked_of (Neighbours on side) = on ∷ []
-asked_of (Compare first second) = first ∷ second ∷ []
-asked_of (Translate from to ranks) = from ∷ to ∷ []
+abbrev pub asked_about : Question → List (List ℕ)
+asked_about (Neighbours on side) = on ∷ []
+asked_about (Compare first second) = first ∷ second ∷ []
+asked_about (Translate from to ranks) = from ∷ to ∷ []
 
 -- the words of communicators, and those of requests, that a statement uses
 
 abbrev pub communicators_of : Statement → List (List ℕ)
 communicators_of (Post posting) = posted_on posting ∷ []
 communicators_of (Wait requests) = []
-communicators_of (Ask question) = asked_of question
+communicators_of (Ask question) = asked_about question
 
 abbrev pub requests_of : Statement → List (List ℕ)
-requests_of (Post posting) = []
 requests_of (Wait requests) = requests
-requests_of (Ask question) = []
+requests_of statement = []
 
 -- the word that it binds to a new communicator
 
 abbrev pub bound_to : Posting → Option (List ℕ)
-bound_to (Call on draft) = None
-bound_to (Start on draft request) = None
 bound_to (New on draft to) = Some to
 bound_to (CreateGroup on tag ranks to) = Some to
+bound_to posting = None
 
 abbrev pub target_of : Statement → Option (List ℕ)
 target_of (Post posting) = bound_to posting
-target_of (Wait requests) = None
-target_of (Ask question) = None
+target_of statement = None
 
 -- the word that it binds to its request
 
 abbrev pub started_as : Posting → Option (List ℕ)
-started_as (Call on draft) = None
 started_as (Start on draft request) = Some request
-started_as (New on draft to) = None
-started_as (CreateGroup on tag ranks to) = None
+started_as posting = None
 
 abbrev pub request_of : Statement → Option (List ℕ)
 request_of (Post posting) = started_as posting
-request_of (Wait requests) = None
-request_of (Ask question) = None
+request_of statement = None
 
 -- a tag, and ranks of the members that gather
 pub record Gathers : Type 0 where
@@ -86,7 +78,5 @@ pub record Gathers : Type 0 where
 
 -- which gathering of its communicator's members it opens to post there
 abbrev pub gathers_of : Posting → Option Gathers
-gathers_of (Call on draft) = None
-gathers_of (Start on draft request) = None
-gathers_of (New on draft to) = None
 gathers_of (CreateGroup on tag ranks to) = Some (record { tag = tag; ranks = ranks })
+gathers_of posting = None

@@ -1,7 +1,6 @@
 //! Statements of a script, and the draft that each posts.
-ghost use Rattle.std.specs.Prelude.{◌≡◌, [], ◌∷◌, IfOk};
+ghost use Rattle.std.specs.Prelude.{◌≡◌, ◌∷◌, IfOk};
 ghost use Rattle.std.specs.Option.{option_copied, option_to_list};
-ghost use Rattle.mpx_statement.specs.Statements.{create_group_draft};
 ghost use Rattle.mpx_statement.specs.declared.statement.Posting.TheVariants.{Call as BlockingCall, CreateGroup, New, Start};
 ghost use Rattle.mpx_statement.specs.declared.statement.Question.TheVariants.{Compare, Translate};
 
@@ -9,7 +8,7 @@ use crate::rank_list::RankList;
 use crate::word::{Word, WordList};
 use join_core::OutOfMemory;
 use mpx_kind::{Call, NewCommunicator};
-use mpx_num::{Numbers, Op, Ty};
+use mpx_num::Numbers;
 use mpx_post::Draft;
 use std::alloc::Global;
 
@@ -91,14 +90,16 @@ impl Posting {
     ghost use Rattle.mpx_statement.specs.Statements.{bound_to, draft_of, posted_on, started_as};
 
     /// The draft that the statement posts: on its communicator, or for `create_group` on the gathering.
-    pub fn draft(&self, alloc: Global) -> Result<Draft, OutOfMemory>
+    pub fn draft(&self) -> Result<Draft, OutOfMemory>
         ensures { IfOk result (λ draft. draft ≡ draft_of self.now) }
     {
         match self {
             Posting::Call { draft, .. } => draft.copy(),
             Posting::Start { draft, .. } => draft.copy(),
             Posting::New { draft, .. } => draft.copy(),
-            Posting::CreateGroup { .. } => create_group_draft(alloc),
+            Posting::CreateGroup { .. } => Ok(Draft::of(Call::NewCommunicator(
+                NewCommunicator::CreateGroup,
+            ))),
         }
     }
 
@@ -119,10 +120,9 @@ impl Posting {
         ensures { option_copied result ≡ bound_to self.now }
     {
         match self {
-            Posting::Call { .. } => None,
-            Posting::Start { .. } => None,
             Posting::New { to, .. } => Some(to),
             Posting::CreateGroup { to, .. } => Some(to),
+            _ => None,
         }
     }
 
@@ -131,10 +131,8 @@ impl Posting {
         ensures { option_copied result ≡ started_as self.now }
     {
         match self {
-            Posting::Call { .. } => None,
             Posting::Start { request, .. } => Some(request),
-            Posting::New { .. } => None,
-            Posting::CreateGroup { .. } => None,
+            _ => None,
         }
     }
 
@@ -153,11 +151,11 @@ impl Posting {
 }
 
 impl Question {
-    ghost use Rattle.mpx_statement.specs.Statements.{asked_of};
+    ghost use Rattle.mpx_statement.specs.Statements.{asked_about};
 
     /// The names of the communicators that it asks about: one or two.
     pub fn communicators(&self) -> (&Word, Option<&Word>)
-        ensures { result.0.now ∷ option_to_list (option_copied result.1) ≡ asked_of self.now }
+        ensures { result.0.now ∷ option_to_list (option_copied result.1) ≡ asked_about self.now }
     {
         match self {
             Question::Neighbours { on, .. } => (on, None),
@@ -184,13 +182,12 @@ impl Statement {
     ghost use Rattle.mpx_statement.specs.Statements.{drafted_by, request_of, target_of};
 
     /// The draft that it posts, where it posts one.
-    pub fn draft(&self, alloc: Global) -> Result<Option<Draft>, OutOfMemory>
+    pub fn draft(&self) -> Result<Option<Draft>, OutOfMemory>
         ensures { IfOk result (λ draft. draft ≡ drafted_by self.now) }
     {
         match self {
-            Statement::Post(posting) => Ok(Some(posting.draft(alloc)?)),
-            Statement::Wait(_) => Ok(None),
-            Statement::Ask(_) => Ok(None),
+            Statement::Post(posting) => Ok(Some(posting.draft()?)),
+            _ => Ok(None),
         }
     }
 
@@ -200,8 +197,7 @@ impl Statement {
     {
         match self {
             Statement::Post(posting) => posting.target(),
-            Statement::Wait(_) => None,
-            Statement::Ask(_) => None,
+            _ => None,
         }
     }
 
@@ -211,8 +207,7 @@ impl Statement {
     {
         match self {
             Statement::Post(posting) => posting.request(),
-            Statement::Wait(_) => None,
-            Statement::Ask(_) => None,
+            _ => None,
         }
     }
 
@@ -304,34 +299,4 @@ fn translate_copied(
     let (from, to) = words_copied(alloc, from, to)?;
     let ranks = ranks.copy(alloc)?;
     Ok(Question::Translate { from, to, ranks })
-}
-
-// Two lists of no numbers.
-fn two_empty_lists(alloc: Global) -> Result<(Numbers, Numbers), OutOfMemory>
-    ensures { IfOk result (λ lists. (lists.0 ≡ []) × (lists.1 ≡ [])) }
-{
-    let first = Numbers::new(alloc, Vec::new(alloc))?;
-    let second = first.copy()?;
-    Ok((first, second))
-}
-
-// The draft of `create_group`, whose kind has no fields.
-fn create_group_draft(alloc: Global) -> Result<Draft, OutOfMemory>
-    ensures { IfOk result (λ draft. draft ≡ create_group_draft) }
-{
-    let (scounts, rcounts) = two_empty_lists(alloc)?;
-    let (items, group) = two_empty_lists(alloc)?;
-    Ok(Draft {
-        call: Call::NewCommunicator(NewCommunicator::CreateGroup),
-        root: 0,
-        op: Op::Sum,
-        ty: Ty::I8,
-        scounts,
-        rcounts,
-        items,
-        colour: None,
-        key: 0,
-        group,
-        graph: None,
-    })
 }

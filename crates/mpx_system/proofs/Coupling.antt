@@ -74,10 +74,10 @@ module _ (ops : List Operation) (script : List (List Statement)) (ranks : ℕ) (
   attempts_same : (p : ℕ) (posting : Posting) → attempt ops (s.ranks p).me (s.ranks p).bound (s.ranks p).made posting ≡ attempt_at p posting
   attempts_same p posting = λ i. attempt_on ops (each-me ops script ranks s.ranks c.reached p i) (sym (c.made p) i) posting (named (s.ranks p).bound (word_of posting))
 
-  pub driven : (p : ℕ) → p < ranks → (posting : Posting) → Driven s.world p (posts_bound p (s.world.each p).made posting (named (s.ranks p).bound (word_of posting))) (attempt_at p posting)
+  pub driven : (p : ℕ) → p < ranks → (posting : Posting) → Driven s.world p (posts_bound ops p (s.world.each p).made posting (named (s.ranks p).bound (word_of posting))) (attempt_at p posting)
   driven p l posting =
       let to = named (s.ranks p).bound (word_of posting) in
-      subst (λ o. Driven s.world p (posts_bound p (s.world.each p).made posting to) (attempt_on o p (s.world.each p).made posting to)) c.operations
+      subst (λ o. Driven s.world p (posts_bound o p (s.world.each p).made posting to) (attempt_on o p (s.world.each p).made posting to)) c.operations
       (driven_bound s.world c.upheld p posting to (bound_so p l (word_of posting)))
 
 -- A RANK'S MOVE
@@ -225,7 +225,7 @@ module _ (ops : List Operation) (script : List (List Statement)) (ranks : ℕ) (
       couples_move p l s.world [] (done (s.ranks p) (heard (s.ranks p) name call target rest answer)) (step_hears ops (world_tells s.world p) (s.ranks p) name call target rest answer e f) refl (follows_itself s.world c.upheld p)
       (bound_more p l s.world (later_itself s.world) target (bound_by answer.outcome answer.born) (answer_opened p name call answer f))
 
-  couples_drive : (p : ℕ) → p < ranks → (todo : List Todo) → (s.ranks p).todo ≡ todo → Couples ops script ranks (driven_to p (posts_of p (s.world.each p).made (s.ranks p).bound todo))
+  couples_drive : (p : ℕ) → p < ranks → (todo : List Todo) → (s.ranks p).todo ≡ todo → Couples ops script ranks (driven_to p (posts_of ops p (s.world.each p).made (s.ranks p).bound todo))
   couples_drive p l [] e = couples_stay p (step_ends ops (world_tells s.world p) (s.ranks p) e)
   couples_drive p l (Await name call target ∷ rest) e = couples_hears p l name call target rest e (world_tells s.world p name call) refl
   couples_drive p l (Do (Post posting) ∷ rest) e = couples_posts p l posting rest e _ (attempt_at ops script ranks s c p posting) refl (driven ops script ranks s c p l posting)
@@ -235,8 +235,11 @@ module _ (ops : List Operation) (script : List (List Statement)) (ranks : ℕ) (
   pub couples_does : (d : Doing) → MayDo ranks s d → Couples ops script ranks (does s d)
   couples_does (Nets h) m = couples_net h m.0 m.1
   couples_does (Drives p) m =
-      let hs = posts_of p (s.world.each p).made (s.ranks p).bound (s.ranks p).todo in
-      subst (λ o. Couples ops script ranks (record { world = goes_on_world s.world hs; ranks = goes_on o s.ranks p (world_tells s.world p) })) (sym c.operations) (couples_drive p m (s.ranks p).todo refl)
+      let after : List Operation → System = λ o. record {
+        world = goes_on_world s.world (posts_of o p (s.world.each p).made (s.ranks p).bound (s.ranks p).todo);
+        ranks = goes_on o s.ranks p (world_tells s.world p);
+      } in
+      subst (λ o. Couples ops script ranks (after o)) (sym c.operations) (couples_drive p m (s.ranks p).todo refl)
 
   -- WHAT LINES TELL
 

@@ -14,14 +14,12 @@ use Rattle.mpx_value.specs.Histories.{Answer, answer_with}
 use Rattle.mpx_node.specs.declared.finished.Finished.{Finished}
 use Rattle.mpx_node.specs.Nodes.{OpenedView, front_on, has_next, next_of, next_result, results_on}
 use Rattle.mpx_node.proofs.Nexts.{next_is_there}
-use Rattle.mpx_world.specs.declared.events.Event.TheVariants as E
-use Rattle.mpx_world.specs.declared.events.Cut.TheVariants as C
 use Rattle.mpx_world.specs.Worlds.{ProcessView, WorldView, Harvests, Sends, Takes, births, happens, harvests, made_next, own_front, stores}
 use Rattle.mpx_world.proofs.Later.{Later, later_goes_on, later_happens, later_itself, later_then}
 use Rattle.mpx_world.proofs.Lists.{slice_get-push}
 use Rattle.mpx_world.proofs.Kept.{front_added}
 use Rattle.mpx_world.proofs.Progress.{taken_below}
-use Rattle.mpx_world.proofs.Reached.{may_happen}
+use Rattle.mpx_world.proofs.Reached.{own_seen}
 use Rattle.mpx_world.proofs.Steps.{at_here}
 use Rattle.mpx_statement.specs.declared.statement.Statement.{Statement}
 use Rattle.mpx_meaning.specs.Ranks.{Act, Asks, End, Local, Next, answers, done, next, step, step_by, weights}
@@ -77,7 +75,7 @@ may_do-append ranks (d ∷ early) late s m n = (m.0, may_do-append ranks early l
 
 later_does : (s : System) (d : Doing) → Later s.world (does s d).world
 later_does s (Nets h) = later_happens s.world h
-later_does s (Drives p) = later_goes_on (posts_of p (s.world.each p).made (s.ranks p).bound (s.ranks p).todo) s.world
+later_does s (Drives p) = later_goes_on (posts_of s.world.operations p (s.world.each p).made (s.ranks p).bound (s.ranks p).todo) s.world
 
 later_all : (ds : List Doing) (s : System) → Later s.world (does_all s ds).world
 later_all [] s = later_itself s.world
@@ -113,7 +111,7 @@ module _ (ops : List Operation) (script : List (List Statement)) (ranks : ℕ) w
     hears s c q =
         let board = (s.world.each q).node.board in
         let ds : List Doing = Nets (Sends q board) ∷ Nets (Takes p (length s.world.parts)) ∷ [] in
-        let may : MayDoAll ranks s ds = ((tt, λ f has. may_happen s.world (E.Send q C.Whole) c.upheld.holds f has), ((tt, tt), tt)) in
+        let may : MayDoAll ranks s ds = ((tt, λ f has. inl (own_seen s.world q (s.world.each q) f (c.upheld.holds.processes q) has)), ((tt, tt), tt)) in
         let then = couples_all ops script ranks ds s c may in
         record {
           ds = ds;

@@ -18,11 +18,12 @@ use Rattle.mpx_board.specs.Boards.{IsGone, told}
 use Rattle.mpx_value.specs.Histories.{Answer, Made, answer_with, gathered, has_freed, outcomes_by, posts_on, Within, results_of, value_for}
 use Rattle.mpx_node.specs.declared.finished.Finished.{Finished}
 use Rattle.mpx_node.specs.Nodes.{OpenedView, freed_by, freed_on, posted_by, results_on, checked_by, checked_on, checked_there, gathering_name, gathers_by, gathers_on, gathers_there, open_gathering_node}
-use Rattle.mpx_world.specs.Worlds.{ProcessView, WorldView, history, births, at_process, gathers, makes, opens_gathering, posts, Happening, Posts, Gathers, happens, MayHappen, goes_on as goes_on_world}
+use Rattle.mpx_world.specs.Worlds.{ProcessView, WorldView, history, births, at_process, gathers, makes, opens_gathering, Happening, Posts, Gathers, happens, MayGoOn, MayHappen, MayPost, goes_on as goes_on_world}
 use Rattle.mpx_world.specs.Soundness.{IsValue}
 use Rattle.mpx_world.proofs.Freeing.{all_of_at}
 use Rattle.mpx_world.proofs.Lists.{any_at, same_number}
 use Rattle.mpx_world.proofs.Later.{Later, births_grow, later_happens, later_itself, later_then, made_happens}
+use Rattle.mpx_world.proofs.Drafted.{checked_may}
 use Rattle.mpx_world.proofs.Steps.{Holds, board_so, holds_happens, at_here}
 use Rattle.mpx_world.proofs.Opened.{AllIn, gathering_opened, in_happens, is_in, member_ranked}
 use Rattle.mpx_statement.specs.declared.statement.Posting.{Posting}
@@ -30,7 +31,7 @@ use Rattle.mpx_statement.specs.Statements.{Gathers as Asked, draft_of, gathers_o
 use Rattle.mpx_meaning.specs.Ranks.{Bound, Communicator, NullCommunicator, attempt_in, attempt_on, made_on, next_call, post_gathered, post_on}
 use Rattle.std.proofs.lemmas.List.{append-nil}
 use Rattle.mpx_meaning.proofs.Tells.{mapped_some}
-use Rattle.mpx_system.specs.Systems.{posts_bound, posts_gathered, posts_in, world_tells}
+use Rattle.mpx_system.specs.Systems.{posts_bound, posts_gathered, posts_in, posts_made, world_tells}
 use Rattle.mpx_value.proofs.Histories.{same_answer, gathered_there}
 
 -- WORLDS
@@ -165,6 +166,7 @@ pub record Driven (w : WorldView) (p : ℕ) (hs : List Happening) (o : Result Ma
   pub follows : Follows p w (goes_on_world w hs) (added_by o)
   pub nodes : (q : ℕ) → (q ≡ p → ⊥) → ((goes_on_world w hs).each q).node ≡ (w.each q).node
   pub parts : (goes_on_world w hs).parts ≡ w.parts
+  pub may : MayGoOn w hs
 
 pub not_same : (q p : ℕ) → (q ≡ p → ⊥) → (q == p) ≡ false
 not_same q p other = by_test (q == p) refl where
@@ -180,24 +182,29 @@ pub follows_itself : (w : WorldView) → Upheld w → (p : ℕ) → Follows p w 
 follows_itself w u p = record { upheld = u; later = later_itself w; here = sym (append-nil (w.each p).made); others = λ q d. refl }
 
 driven_nothing : (w : WorldView) → Upheld w → (p : ℕ) (refusal : PostError) → Driven w p [] (Err refusal)
-driven_nothing w u p refusal = record { follows = follows_itself w u p; nodes = λ q other. refl; parts = refl }
+driven_nothing w u p refusal = record { follows = follows_itself w u p; nodes = λ q other. refl; parts = refl; may = tt }
 
 module _ (w : WorldView) (u : Upheld w) (p : ℕ) (name : Name) where
-  made_by : (r : Result Given PostError) (v : ProcessView) → (makes name r v).made ≡ v.made ++ added_by (made_on name r)
-  made_by (Ok given) v = refl
-  made_by (Err refusal) v = sym (append-nil v.made)
-
-  driven_post : (birth : BirthView) → IsTrue (is_some ((w.each p).node.opened name)) → births w name ≡ Some birth → (draft : Draft) → Driven w p (Posts p name draft ∷ []) (post_on w.operations p (w.each p).made draft name birth)
-  driven_post birth t b draft = subst (λ x. Driven w p (Posts p name draft ∷ []) (made_on name x)) (checks_so w u p name birth t b draft) (record {
+  driven_made : (given : Given) → MayPost ((w.each p).node.opened name) → Driven w p (Posts p name given ∷ []) (Ok (record { name = name; given = given }))
+  driven_made given may = record {
     follows = record {
-      upheld = upheld_happens w (Posts p name draft) u tt;
-      later = later_happens w (Posts p name draft);
-      here = ap (λ (x : ProcessView). x.made) (at_here w p (posts w.operations name draft)) ∙ made_by (checked_on w.operations (w.each p).node name draft) (w.each p);
-      others = λ q d. ap (λ b. (cond b (posts w.operations name draft (w.each q)) (w.each q)).made) d;
+      upheld = upheld_happens w (Posts p name given) u may;
+      later = later_happens w (Posts p name given);
+      here = ap (λ (x : ProcessView). x.made) (at_here w p (makes name given));
+      others = λ q d. ap (λ b. (cond b (makes name given (w.each q)) (w.each q)).made) d;
     };
-    nodes = λ q other. ap (λ (x : ProcessView). x.node) (each_other w p (posts w.operations name draft) q other);
+    nodes = λ q other. ap (λ (x : ProcessView). x.node) (each_other w p (makes name given) q other);
     parts = refl;
-  })
+    may = (may, tt);
+  }
+
+  driven_checked : (draft : Draft) (r : Result Given PostError) → checked_on w.operations (w.each p).node name draft ≡ r → Driven w p (posts_made p (made_on name r)) (made_on name r)
+  driven_checked draft (Ok given) e = driven_made given (checked_may w.operations (w.each p).node name draft given e)
+  driven_checked draft (Err refusal) e = driven_nothing w u p refusal
+
+  driven_post : (birth : BirthView) → IsTrue (is_some ((w.each p).node.opened name)) → births w name ≡ Some birth → (draft : Draft)
+      → Driven w p (posts_made p (post_on w.operations p (w.each p).made draft name birth)) (post_on w.operations p (w.each p).made draft name birth)
+  driven_post birth t b draft = driven_checked draft (checked w.operations birth p (at name (next_call name (w.each p).made) (has_freed name (w.each p).made)) draft) (checks_so w u p name birth t b draft)
 
 -- A GATHERING, AND THE POST THERE
 
@@ -222,28 +229,32 @@ module _ (w : WorldView) (u : Upheld w) (p : ℕ) (name : Name) (birth : BirthVi
         born = ap (option_and_then (gathered g.members)) (births_grow w (happens w h) (later_happens w h) name birth b) ∙ gathered_there birth p (length name) (has_freed name (w.each p).made) asked.tag asked.ranks g e;
       }
 
-  driven_gathering : (draft : Draft) (asked : Asked) (g : GatheringView) → IsGathered w p name asked g → Driven w p (posts_gathered p draft name asked (Ok g)) (post_gathered w.operations p (w.each p).made draft name (Ok g))
+  driven_gathering : (draft : Draft) (asked : Asked) (g : GatheringView) → IsGathered w p name asked g → Driven w p (posts_gathered w.operations p (w.each p).made draft name asked (Ok g)) (post_gathered w.operations p (w.each p).made draft name (Ok g))
   driven_gathering draft asked g is =
       let h : Happening = Gathers p name asked.tag asked.ranks in
       let new = happens w h in
       let at_new = gathering_name name g in
-      let d = driven_post new is.upheld p at_new (of_members g.members) is.there is.born draft in
+      let post = post_gathered w.operations p (w.each p).made draft name (Ok g) in
+      let d : Driven new p (posts_made p post) post = subst (λ ms. let o = post_on w.operations p ms draft at_new (of_members g.members) in Driven new p (posts_made p o) o) is.made
+      (driven_post new is.upheld p at_new (of_members g.members) is.there is.born draft) in
       record {
         follows = record {
           upheld = d.follows.upheld;
-          later = later_then w new (goes_on_world new (Posts p at_new draft ∷ [])) (later_happens w h) d.follows.later;
-          here = d.follows.here ∙ λ i. is.made i ++ added_by (post_on w.operations p (is.made i) draft at_new (of_members g.members));
+          later = later_then w new (goes_on_world new (posts_made p post)) (later_happens w h) d.follows.later;
+          here = d.follows.here ∙ ap (λ ms. ms ++ added_by post) is.made;
           others = λ q apart. d.follows.others q apart ∙ made_happens w h tt q;
         };
         nodes = λ q other. d.nodes q other ∙ ap (λ (x : ProcessView). x.node) (each_other w p (gathers name asked.tag asked.ranks) q other);
         parts = d.parts;
+        may = (tt, d.may);
       }
 
-  driven_gathers : (draft : Draft) (asked : Asked) (x : Result GatheringView PostError) → gathering birth p (length name) (has_freed name (w.each p).made) asked.tag asked.ranks ≡ x → Driven w p (posts_gathered p draft name asked x) (post_gathered w.operations p (w.each p).made draft name x)
+  driven_gathers : (draft : Draft) (asked : Asked) (x : Result GatheringView PostError) → gathering birth p (length name) (has_freed name (w.each p).made) asked.tag asked.ranks ≡ x
+      → Driven w p (posts_gathered w.operations p (w.each p).made draft name asked x) (post_gathered w.operations p (w.each p).made draft name x)
   driven_gathers draft asked (Ok g) e = driven_gathering draft asked g (is_gathered asked g e)
   driven_gathers draft asked (Err refusal) e = driven_nothing w u p refusal
 
-  driven_in : (draft : Draft) (asked : Option Asked) → Driven w p (posts_in p (w.each p).made draft asked name birth) (attempt_in w.operations p (w.each p).made draft asked name birth)
+  driven_in : (draft : Draft) (asked : Option Asked) → Driven w p (posts_in w.operations p (w.each p).made draft asked name birth) (attempt_in w.operations p (w.each p).made draft asked name birth)
   driven_in draft None = driven_post w u p name birth t b draft
   driven_in draft (Some asked) = driven_gathers draft asked (gathering birth p (length name) (has_freed name (w.each p).made) asked.tag asked.ranks) refl
 
@@ -252,7 +263,7 @@ abbrev pub IsBoundSo : WorldView → (p : ℕ) → Option Bound → Type 0
 IsBoundSo w p bound = (name : Name) (birth : BirthView) → bound ≡ Some (Communicator name birth) → IsTrue (is_some ((w.each p).node.opened name)) × (births w name ≡ Some birth)
 
 -- a statement on what its word is bound to
-pub driven_bound : (w : WorldView) → Upheld w → (p : ℕ) (posting : Posting) (bound : Option Bound) → IsBoundSo w p bound → Driven w p (posts_bound p (w.each p).made posting bound) (attempt_on w.operations p (w.each p).made posting bound)
+pub driven_bound : (w : WorldView) → Upheld w → (p : ℕ) (posting : Posting) (bound : Option Bound) → IsBoundSo w p bound → Driven w p (posts_bound w.operations p (w.each p).made posting bound) (attempt_on w.operations p (w.each p).made posting bound)
 driven_bound w u p posting None h = driven_nothing w u p NotMember
 driven_bound w u p posting (Some NullCommunicator) h = driven_nothing w u p NotMember
 driven_bound w u p posting (Some (Communicator name birth)) h = let x = h name birth refl in driven_in w u p name birth x.0 x.1 (draft_of posting) (gathers_of posting)

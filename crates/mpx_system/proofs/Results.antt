@@ -1,8 +1,10 @@
 -- Lists of transcripts, and of those who wait.
-use Rattle.std.proofs.Common.{◌≡◌, ℕ, zero, suc, ◌<◌, ◌≤◌, Bool, true, false, cond, List, [], ◌∷◌, ◌++◌, length, map, take, Some, refl, sym, ap, ◌∙◌, arith}
+use Rattle.std.proofs.Common.{◌≡◌, ℕ, zero, suc, ◌<◌, ◌≤◌, Bool, true, false, cond, ◌&&◌, List, [], ◌∷◌, ◌++◌, length, map, take, Option, Some, None, refl, sym, ap, ◌∙◌, arith}
 use Rattle.std.specs.Prelude.{slice_get, nat_lt}
+use Rattle.std.specs.List.{list_all}
+use Rattle.std.specs.Option.{option_map}
 use Rattle.std.proofs.lemmas.List.{map-append}
-use Rattle.std.proofs.lemmas.Option.{slice_get-map}
+use Rattle.std.proofs.lemmas.Option.{same_Some, slice_get-map}
 use Rattle.std.proofs.lemmas.Bool.Decides.{nat_tests}
 use Rattle.mpx_world.proofs.Lists.{slice_get-push}
 use Rattle.mpx_meaning.specs.Ranks.{Todo, Line}
@@ -35,6 +37,24 @@ pub some_at : {A : Type 0} (xs : List A) (p : ℕ) → p < length xs → (x : A)
 some_at [] p l = absurd (omega (arith, l))
 some_at (x ∷ xs) zero l = (x, refl)
 some_at (x ∷ xs) (suc p) l = some_at xs p (omega (arith, l))
+
+-- where one doesn't pass, not all pass
+pub one_fails : {A : Type 0} (f : A → Bool) (xs : List A) (i : ℕ) (x : A) → slice_get xs i ≡ Some x → f x ≡ false → list_all f xs ≡ false
+one_fails f [] i x e none = cc e
+one_fails f (y ∷ ys) zero x e none = ap (λ b. b && list_all f ys) (ap f (same_Some y x e) ∙ none)
+one_fails f (y ∷ ys) (suc i) x e none = by_first (f y) (one_fails f ys i x e none) where
+  by_first : (b : Bool) → list_all f ys ≡ false → (b && list_all f ys) ≡ false
+  by_first true rest = rest
+  by_first false rest = refl
+
+pub none_mapped : {A B : Type 0} (f : A → B) (o : Option A) → option_map f o ≡ None → o ≡ None
+none_mapped f None e = refl
+none_mapped f (Some x) e = cc e
+
+-- what is behind the first
+pub behind_first : {A : Type 0} (xs : List A) (x : A) → slice_get xs 0 ≡ Some x → (rest : List A) × (xs ≡ x ∷ rest)
+behind_first [] x e = cc e
+behind_first (y ∷ ys) x e = (ys, ap (λ z. z ∷ ys) (same_Some y x e))
 
 pub mapped_at : {A B : Type 0} (f : A → B) (xs : List A) (p : ℕ) (y : B) → slice_get (map f xs) p ≡ Some y → (x : A) × (slice_get xs p ≡ Some x) × (f x ≡ y)
 mapped_at f xs p y e = mapped_some f (slice_get xs p) y (sym (slice_get-map f xs p) ∙ e)

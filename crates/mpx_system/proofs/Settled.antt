@@ -31,7 +31,7 @@ use Rattle.mpx_meaning.proofs.Ends.{start_quiet}
 use Rattle.mpx_meaning.proofs.Tells.{mapped_some}
 use Rattle.mpx_system.specs.Systems.{System, Doing, MayDoAll, Leads, does_all, start_system}
 use Rattle.mpx_system.specs.Rest.{IsSettled, IsAtRest}
-use Rattle.mpx_system.proofs.Coupling.{Couples, couples_all}
+use Rattle.mpx_system.proofs.Coupling.{Couples, couples_all, couples_start}
 use Rattle.mpx_system.proofs.Happenings.{doings_lead}
 use Rattle.mpx_system.proofs.Leading.{coupled}
 use Rattle.mpx_system.proofs.Results.{some_at}
@@ -99,10 +99,10 @@ module _ (ops : List Operation) (script : List (List Statement)) (ranks size : �
   after = couples_all ops script ranks ds base before may
 
   first : LeadsTo (start_world ops ranks size) base.world
-  first = subst (λ (s : System). LeadsTo (start_world ops ranks size) s.world) led.reached (doings_lead ranks led.doings (start_system ops script ranks size) led.may)
+  first = subst (λ (s : System). LeadsTo (start_world ops ranks size) s.world) led.reached (doings_lead ops script ranks led.doings (start_system ops script ranks size) (couples_start ops script ranks size) led.may)
 
   then_on : LeadsTo base.world now.world
-  then_on = doings_lead ranks ds base may
+  then_on = doings_lead ops script ranks ds base before may
 
   abbrev happened : List Happening
   happened = first.happenings ++ then_on.happenings

@@ -10,14 +10,14 @@ use Rattle.mpx_post.specs.Gatherings.{GatheringView, gathering}
 use Rattle.mpx_value.specs.declared.outcomes.Outcome.{Outcome}
 use Rattle.mpx_value.specs.Histories.{Made, Results, answer_with, has_freed, posts_on}
 use Rattle.mpx_node.specs.declared.finished.Finished.{Finished}
-use Rattle.mpx_node.specs.Nodes.{NodeView, gathering_name, results_on}
+use Rattle.mpx_node.specs.Nodes.{NodeView, results_on}
 use Rattle.mpx_world.specs.Worlds.{WorldView, Happening, Posts, Gathers, IsNoPost, births, happens, MayHappen, MayGoOn, world_by, goes_on as goes_on_world, start as start_world}
 use Rattle.mpx_statement.specs.declared.statement.Posting.{Posting}
 use Rattle.mpx_statement.specs.declared.statement.Statement.{Statement}
-use Rattle.mpx_statement.specs.declared.statement.Statement.TheVariants.{Post, Wait, Ask}
+use Rattle.mpx_statement.specs.declared.statement.Statement.TheVariants.{Post}
 use Rattle.mpx_statement.specs.Statements.{Gathers as Asked, draft_of, gathers_of, posted_on}
 use Rattle.mpx_statement.specs.Lookups.{named}
-use Rattle.mpx_meaning.specs.Ranks.{Bindings, Bound, Communicator, NullCommunicator, Todo, Do, Await, Local, Told}
+use Rattle.mpx_meaning.specs.Ranks.{Bindings, Bound, Communicator, Todo, Do, Local, Told, post_gathered, post_on}
 use Rattle.mpx_meaning.specs.Evaluation.{State, start, goes_on}
 
 pub record System : Type 0 where
@@ -32,28 +32,31 @@ node_tells born node name k = option_map (λ (f : Finished). answer_with born f.
 abbrev pub world_tells : WorldView → (process : ℕ) → Results
 world_tells w p = node_tells (births w) (w.each p).node
 
--- the opening of a gathering and the post there; nothing where the gathering is refused
-abbrev pub posts_gathered : ℕ → Draft → (parent : Name) → Asked → Result GatheringView PostError → List Happening
-posts_gathered p draft parent asked (Ok g) = Gathers p parent asked.tag asked.ranks ∷ Posts p (gathering_name parent g) draft ∷ []
-posts_gathered p draft parent asked (Err refusal) = []
+-- the post that a statement comes to, where it comes to one
+abbrev pub posts_made : (process : ℕ) → Result Made PostError → List Happening
+posts_made p (Ok made) = Posts p made.name made.given ∷ []
+posts_made p (Err refusal) = []
 
-abbrev pub posts_in : ℕ → List Made → Draft → Option Asked → Name → BirthView → List Happening
-posts_in p made draft None name birth = Posts p name draft ∷ []
-posts_in p made draft (Some asked) name birth = posts_gathered p draft name asked (gathering birth p (length name) (has_freed name made) asked.tag asked.ranks)
+-- by the job's own operations
+module _ (ops : List Operation) where
+  -- the opening of a gathering and the post there; nothing where the gathering is refused
+  abbrev pub posts_gathered : (process : ℕ) → List Made → Draft → (parent : Name) → Asked → Result GatheringView PostError → List Happening
+  posts_gathered p made draft parent asked (Ok g) = Gathers p parent asked.tag asked.ranks ∷ posts_made p (post_gathered ops p made draft parent (Ok g))
+  posts_gathered p made draft parent asked (Err refusal) = []
 
--- what a statement that posts gives a node, after these posts, to post on what its word is bound to
-abbrev pub posts_bound : ℕ → List Made → Posting → Option Bound → List Happening
-posts_bound p made posting None = []
-posts_bound p made posting (Some NullCommunicator) = []
-posts_bound p made posting (Some (Communicator name birth)) = posts_in p made (draft_of posting) (gathers_of posting) name birth
+  abbrev pub posts_in : (process : ℕ) → List Made → Draft → Option Asked → Name → BirthView → List Happening
+  posts_in p made draft None name birth = posts_made p (post_on ops p made draft name birth)
+  posts_in p made draft (Some asked) name birth = posts_gathered p made draft name asked (gathering birth p (length name) (has_freed name made) asked.tag asked.ranks)
 
--- what the next move of a rank gives its node to post
-abbrev pub posts_of : ℕ → List Made → Bindings → List Todo → List Happening
-posts_of p made bound [] = []
-posts_of p made bound (Do (Post posting) ∷ rest) = posts_bound p made posting (named bound (posted_on posting))
-posts_of p made bound (Do (Wait requests) ∷ rest) = []
-posts_of p made bound (Do (Ask question) ∷ rest) = []
-posts_of p made bound (Await name call target ∷ rest) = []
+  -- what a statement that posts gives a node, after these posts, to post on what its word is bound to
+  abbrev pub posts_bound : (process : ℕ) → List Made → Posting → Option Bound → List Happening
+  posts_bound p made posting (Some (Communicator name birth)) = posts_in p made (draft_of posting) (gathers_of posting) name birth
+  posts_bound p made posting bound = []
+
+  -- what the next move of a rank gives its node to post
+  abbrev pub posts_of : (process : ℕ) → List Made → Bindings → List Todo → List Happening
+  posts_of p made bound (Do (Post posting) ∷ rest) = posts_bound p made posting (named bound (posted_on posting))
+  posts_of p made bound todo = []
 
 -- something that makes no post, or a rank's next move by what its node's results tell and by the world's own operations, with the
 -- posts that it makes there
@@ -64,7 +67,7 @@ pub data Doing : Type 0 where
 abbrev pub does : System → Doing → System
 does s (Nets h) = record { world = happens s.world h; ranks = s.ranks }
 does s (Drives p) = record {
-  world = goes_on_world s.world (posts_of p (s.world.each p).made (s.ranks p).bound (s.ranks p).todo);
+  world = goes_on_world s.world (posts_of s.world.operations p (s.world.each p).made (s.ranks p).bound (s.ranks p).todo);
   ranks = goes_on s.world.operations s.ranks p (world_tells s.world p);
 }
 

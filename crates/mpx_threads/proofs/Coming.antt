@@ -32,7 +32,7 @@ use Rattle.mpx_threads.specs.Rest.{AreAwaited}
 use Rattle.mpx_threads.specs.ToldCalls.{DeskView, MayPost, first_posts, is_among, thread_terms, told_more, told_of}
 use Rattle.mpx_threads.specs.Work.{HasCome}
 use Rattle.mpx_threads.proofs.Plans.{births_are, planned_is, posts_are, results_are}
-use Rattle.mpx_threads.proofs.Resting.{needs_it}
+use Rattle.mpx_threads.proofs.Resting.{waited_for}
 
 -- LISTS
 
@@ -169,7 +169,7 @@ module _ (script : ScriptView) (relays : ℕ) (setup : Setup) (plan : Plans scri
           goes = came.fits.goes;
           lines_are = lines_are ∙ came.stands.lines;
           waits_is = waits_is ∙ left_is s came.to came.stands;
-          needs = λ i call e. needs_it setup.operations s came.to came.stands call (awaited i call e);
+          calls_are = waited_for s came.to came.stands calls awaited;
           made_is = came.fits.made ∙ ap (first_posts setup me) count;
           tells = came.tells stay (λ i name call outcome e. cc e);
         } where

@@ -36,6 +36,7 @@ use Rattle.mpx_threads.specs.ThreadRuns.{IsDone}
 use Rattle.mpx_threads.specs.ToldCalls.{AllHeld, first_posts, is_among, is_at, planned_birth, told_of}
 use Rattle.mpx_threads.specs.Work.{HasCome, HasWorked}
 use Rattle.mpx_threads.proofs.Less.{Have, carries_out_less}
+use Rattle.mpx_threads.proofs.Resting.{starts_free}
 use Rattle.mpx_threads.proofs.Plans.{births_are, made_none, planned_is, posts_are, results_are, statements_at}
 
 -- AMONG
@@ -135,7 +136,7 @@ has_worked table script relays setup me port ts count lines waits calls lawful c
   done = λ plan. is_done table setup me port lawful (planned_is script relays setup plan) script relays plan ts count lines waits calls come counted held;
   lines_are = come.lines_are;
   waits_is = come.waits_is;
-  needs = come.needs;
+  calls_are = come.calls_are;
 }
 
 no_statements : (xs : List Statement) → doing xs ≡ [] → xs ≡ []
@@ -161,7 +162,7 @@ has_not_worked table script relays setup me port waits lawful e = record {
   };
   lines_are = refl;
   waits_is = e ∙ by_list (statements_of script.statements me);
-  needs = λ i call f. cc f;
+  calls_are = record { only = λ i call f. cc f; all = λ call waits. absurd (starts_free script.statements script.ranks me call waits) };
 } where
   by_list : (xs : List Statement) → has_statements xs ≡ is_left (doing xs)
   by_list [] = refl

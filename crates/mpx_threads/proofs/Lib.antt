@@ -7,6 +7,7 @@ pub mod Resting
 pub mod Reporting
 pub mod Telling
 pub mod Posting
+pub mod Calls
 pub mod Jobs
 pub mod Tasks
 pub mod Asking

@@ -1,8 +1,9 @@
 -- What all processes of a run come to together.
-use Rattle.std.proofs.Common.{◌≡◌, ℕ, ◌<◌, ◌≤◌, ◌⊎◌, List, [], length, map, take, true, false, Some, None, refl, sym, ap, ◌∙◌, subst, inl, inr, arith}
+use Rattle.std.proofs.Common.{◌≡◌, ℕ, ◌<◌, ◌≤◌, ◌⊎◌, Bool, List, [], length, map, take, true, false, Some, None, refl, sym, ap, ◌∙◌, subst, inl, inr, arith}
 use Rattle.std.specs.Prelude.{slice_get}
 use Rattle.std.proofs.lemmas.List.{length-map}
-use Rattle.std.proofs.lemmas.Option.{same_Some}
+use Rattle.std.specs.Option.{option_map}
+use Rattle.std.proofs.lemmas.Option.{same_Some, slice_get-map}
 use Rattle.atomic_table.specs.Seated.{TableId}
 use Rattle.mpx_num.specs.declared.own.Operation.{Operation}
 use Rattle.mpx_name.specs.Name.{Name}
@@ -23,11 +24,16 @@ use Rattle.mpx_system.specs.Runs.{AreAll, AreWhole, Begin}
 use Rattle.mpx_system.proofs.Results.{length_taken, mapped_at, nothing_left, prefix_map, some_at, taken_at, which_has, which_same}
 use Rattle.mpx_threads.specs.declared.worker.Worked.{Worked}
 use Rattle.mpx_threads.specs.Plans.{setup_by}
-use Rattle.mpx_threads.specs.Rest.{AreAtRest, HaveOneBoard, LacksOne, NeedsEach}
+use Rattle.mpx_threads.specs.Rest.{AreAtRest, AreWaitedFor, HaveBoardInCommon, HaveComeToRest, Lacks, LacksOne}
 use Rattle.mpx_threads.specs.ThreadRuns.{IsDone, IsThreadRun}
 use Rattle.mpx_threads.specs.Work.{AreWorked, HasWorked, lines_in, waits_at}
 use Rattle.mpx_threads.proofs.Plans.{lt_or_ge}
-use Rattle.mpx_threads.proofs.Resting.{HoldsPosts, at_end, unknown}
+use Rattle.mpx_threads.proofs.Resting.{HoldsPosts, at_end, needs_it, unknown}
+
+-- what isn't false is true
+told_so : (b : Bool) → (b ≡ false → ⊥) → b ≡ true
+told_so true never = refl
+told_so false never = absurd (never refl)
 
 module _ (script : ScriptView) (relays : ℕ) (setup : Setup) (table : TableId) (ws : List Worked) (are : AreWorked script relays setup table ws) where
   abbrev end : State
@@ -38,7 +44,7 @@ module _ (script : ScriptView) (relays : ℕ) (setup : Setup) (table : TableId) 
     done : IsDone setup.operations script end p w.port s
     lines : lines_in w ≡ map line_text s.lines
     waits : w.waits ≡ is_left s.todo
-    needs : NeedsEach setup.operations s w.calls.items
+    calls : AreWaitedFor s w.calls.items
 
   worked_at : (p : ℕ) → p < script.ranks → (w : Worked) × ((slice_get ws p ≡ Some w) × HasWorked script relays setup p w.port (lines_in w) w.waits w.calls.items)
   worked_at p l = let found = some_at ws p (omega (arith, l, are.count)) in (found.0, (found.1, (are.each p found.0 found.1).rank l))
@@ -55,7 +61,7 @@ module _ (script : ScriptView) (relays : ℕ) (setup : Setup) (table : TableId) 
   at_by p w e less (inl l) =
       let found = worked_at p l in
       let same : found.0 ≡ w = same_Some found.0 w (sym found.1.0 ∙ e) in
-      subst (λ v. IsAt p v found.1.1.to) same (record { done = found.1.1.done are.plan; lines = found.1.1.lines_are; waits = found.1.1.waits_is; needs = found.1.1.needs })
+      subst (λ v. IsAt p v found.1.1.to) same (record { done = found.1.1.done are.plan; lines = found.1.1.lines_are; waits = found.1.1.waits_is; calls = found.1.1.calls_are })
 
   at_local : (p : ℕ) (w : Worked) → slice_get ws p ≡ Some w → p < script.ranks → IsAt p w (local p)
   at_local p w e l = at_by p w e l (lt_or_ge p script.ranks)
@@ -76,20 +82,23 @@ module _ (script : ScriptView) (relays : ℕ) (setup : Setup) (table : TableId) 
   local_past : (p : ℕ) → script.ranks ≤ p → local p ≡ start script.statements script.ranks p
   local_past p g = past_by p g (lt_or_ge p script.ranks)
 
-  module _ (rest : AreAtRest script.ranks ws) where
+  none_left : (p : ℕ) → p < script.ranks → (w : Worked) → slice_get ws p ≡ Some w → w.waits ≡ false → (local p).todo ≡ []
+  none_left p l w e idle =
+      let none : is_left (local p).todo ≡ false = sym (at_local p w e l).waits ∙ idle in
+      nothing_left (local p).todo (λ left. let never : true ≡ false = sym left ∙ none in cc never)
+
+  module _ (rest : HaveComeToRest script.ranks ws) where
     abbrev holds_at : (p : ℕ) → p < script.ranks → HoldsPosts table setup p (local p)
     holds_at p l = let found = worked_at p l in record { port = found.0.port; lawful = (are.each p found.0 found.1.0).lawful; posts = (at_local p found.0 found.1.0 l).done.posts }
 
     ended : (p : ℕ) → p < script.ranks → (w : Worked) → slice_get ws p ≡ Some w → w.waits ≡ false → step setup.operations (known setup.operations script.ranks local p) (local p) ≡ None
-    ended p l w e idle =
-        let none : is_left (local p).todo ≡ false = sym (at_local p w e l).waits ∙ idle in
-        step_ends setup.operations (known setup.operations script.ranks local p) (local p) (nothing_left (local p).todo (λ left. let never : true ≡ false = sym left ∙ none in cc never))
+    ended p l w e idle = step_ends setup.operations (known setup.operations script.ranks local p) (local p) (none_left p l w e idle)
 
-    lacking : HaveOneBoard script.ranks ws → (p : ℕ) (l : p < script.ranks) → LacksOne (node_in (holds_at p l).port) (worked_at p l).0.calls.items → step setup.operations (known setup.operations script.ranks local p) (local p) ≡ None
+    lacking : HaveBoardInCommon script.ranks ws → (p : ℕ) (l : p < script.ranks) → LacksOne (node_in (holds_at p l).port) (worked_at p l).0.calls.items → step setup.operations (known setup.operations script.ranks local p) (local p) ≡ None
     lacking one p l o =
         let found = worked_at p l in
         let call : Name × ℕ = o.1.0 in
-        (at_local p found.0 found.1.0 l).needs o.0 call o.1.1.0 (known setup.operations script.ranks local p)
+        needs_it setup.operations (local p) call ((at_local p found.0 found.1.0 l).calls.only o.0 call o.1.1.0) (known setup.operations script.ranks local p)
         (unknown script relays setup are.plan table local
         (λ q. (goes-adds setup.operations script.statements script.ranks end are.plan.evaluation q (local q) (come q)).0)
         (λ q g. ap (λ (s : Local). s.made) (local_past q g))
@@ -128,8 +137,43 @@ module _ (script : ScriptView) (relays : ℕ) (setup : Setup) (table : TableId) 
     waiting_so = waiting_are ∙ which_same (λ p. waits_at (slice_get ws p)) (λ p. is_left (local p).todo) script.ranks (λ p l.
         let found = worked_at p l in ap waits_at found.1.0 ∙ (at_local p found.0 found.1.0 l).waits)
 
-    pub is_thread_run : IsThreadRun setup.operations script relays table ports said waiting
-    is_thread_run = record {
+    -- the port of a process that has worked
+    there : (p : ℕ) (w : Worked) → slice_get ws p ≡ Some w → slice_get ports p ≡ Some w.port
+    there p w e = ap (λ xs. slice_get xs p) ports_are ∙ slice_get-map (λ (w : Worked). w.port) ws p ∙ ap (option_map (λ (w : Worked). w.port)) e
+
+    -- they rest where the ports say so
+    ports_rest : HaveComeToRest script.ranks ws → AreAtRest script.ranks local ports
+    ports_rest rest = elim rest [
+      | inl all ↦ inl (λ p l. let found = worked_at p l in none_left p l found.0 found.1.0 (all p found.0 l found.1.0))
+      | inr some ↦ inr (
+        λ p q a b l m e f.
+            let one = port_at p a e in
+            let other = port_at q b f in
+            ap (λ x. (node_in x).board) (sym other.2) ∙ some.0 p q one.0 other.0 l m one.1 other.1 ∙ ap (λ x. (node_in x).board) one.2,
+        λ p port l e.
+            let found = port_at p port e in
+            elim (some.1 p found.0 l found.1) [
+              | inl idle ↦ inl (none_left p l found.0 found.1 idle)
+              | inr o ↦ inr (o.1.0, ((at_local p found.0 found.1 l).calls.only o.0 o.1.0 o.1.1.0, subst (λ x. Lacks (node_in x) o.1.0) found.2 o.1.1.1))
+            ],
+      )
+    ]
+
+    worked_rest : AreAtRest script.ranks local ports → HaveComeToRest script.ranks ws
+    worked_rest rest = elim rest [
+      | inl all ↦ inl (λ p w l e. (at_local p w e l).waits ∙ ap is_left (all p l))
+      | inr some ↦ inr (
+        λ p q w v l m e f. some.0 p q w.port v.port l m (there p w e) (there q v f),
+        λ p w l e.
+            elim (some.1 p w.port l (there p w e)) [
+              | inl none ↦ inl ((at_local p w e l).waits ∙ ap is_left none)
+              | inr x ↦ let among = (at_local p w e l).calls.all x.0 x.1.0 in inr (among.0, (x.0, (among.1, x.1.1)))
+            ],
+      )
+    ]
+
+    pub is_thread_run : (rests : Bool) → (rests ≡ true → HaveComeToRest script.ranks ws) → (rests ≡ false → HaveComeToRest script.ranks ws → ⊥) → IsThreadRun setup.operations script relays table ports said waiting rests
+    is_thread_run rests so never = record {
       end = end;
       evaluation = are.plan.evaluation;
       count = ap length ports_are ∙ length-map ws (λ (w : Worked). w.port) ∙ are.count;
@@ -142,6 +186,7 @@ module _ (script : ScriptView) (relays : ℕ) (setup : Setup) (table : TableId) 
       ranks_are = ap length lines_are ∙ length_taken script.ranks (map lines_in ws) (omega (arith, length-map ws lines_in, are.count));
       lines = λ p lines e. (lines_at p lines e).1;
       waiting_are = waiting_so;
+      rest = (λ e. ports_rest (so e), λ at. told_so rests (λ e. never e (worked_rest at)));
     }
 
     module _ (evaluation : State) (is : IsEvaluation setup.operations script.statements script.ranks evaluation) where
@@ -165,7 +210,7 @@ module _ (script : ScriptView) (relays : ℕ) (setup : Setup) (table : TableId) 
           other found.0 (ap (λ xs. slice_get xs found.0) waiting_so ∙ found.1)) in
           here.1 ∙ ap (λ (s : Local). map line_text s.lines) (goes-whole setup.operations script.statements script.ranks end are.plan.evaluation p (local p) (goes_at p here.0) todo) ∙ ap (λ (s : State). lines_of s p) one_end
 
-      pub are_all : AreAtRest script.ranks ws → AreAll said waiting script.ranks evaluation
+      pub are_all : HaveComeToRest script.ranks ws → AreAll said waiting script.ranks evaluation
       are_all rest = subst (AreAll said waiting script.ranks) (at_its_end rest ∙ one_end) (record { lines = λ p lines e. (lines_at p lines e).1; who = waiting_so })
 
 -- the same by the operations that are lent, which are the setup's
@@ -174,8 +219,8 @@ module _ (ops : List Operation) (script : ScriptView) (relays : ℕ) (setup : Se
   by_setup : (evaluation : State) → IsEvaluation ops script.statements script.ranks evaluation → IsEvaluation setup.operations script.statements script.ranks evaluation
   by_setup evaluation is = subst (λ o. IsEvaluation o script.statements script.ranks evaluation) lent is
 
-  pub run_lent : IsThreadRun ops script relays table ports said waiting
-  run_lent = subst (λ o. IsThreadRun o script relays table ports said waiting) (sym lent) (is_thread_run script relays setup table ws are ports said waiting ports_are lines_are waiting_are)
+  pub run_lent : (rests : Bool) → (rests ≡ true → HaveComeToRest script.ranks ws) → (rests ≡ false → HaveComeToRest script.ranks ws → ⊥) → IsThreadRun ops script relays table ports said waiting rests
+  run_lent rests so never = subst (λ o. IsThreadRun o script relays table ports said waiting rests) (sym lent) (is_thread_run script relays setup table ws are ports said waiting ports_are lines_are waiting_are rests so never)
 
   pub begins_lent : (evaluation : State) → IsEvaluation ops script.statements script.ranks evaluation → Begin said evaluation
   begins_lent evaluation is = begins script relays setup table ws are ports said waiting ports_are lines_are waiting_are evaluation (by_setup evaluation is)
@@ -183,5 +228,5 @@ module _ (ops : List Operation) (script : ScriptView) (relays : ℕ) (setup : Se
   pub whole_lent : (evaluation : State) → IsEvaluation ops script.statements script.ranks evaluation → AreWhole said waiting evaluation
   whole_lent evaluation is = are_whole script relays setup table ws are ports said waiting ports_are lines_are waiting_are evaluation (by_setup evaluation is)
 
-  pub all_lent : AreAtRest script.ranks ws → (evaluation : State) → IsEvaluation ops script.statements script.ranks evaluation → AreAll said waiting script.ranks evaluation
+  pub all_lent : HaveComeToRest script.ranks ws → (evaluation : State) → IsEvaluation ops script.statements script.ranks evaluation → AreAll said waiting script.ranks evaluation
   all_lent rest evaluation is = are_all script relays setup table ws are ports said waiting ports_are lines_are waiting_are evaluation (by_setup evaluation is) rest

@@ -1,7 +1,6 @@
 -- Ranks of which all ports say that none can go on have come to the evaluation's end.
-use Rattle.std.proofs.Common.{◌≡◌, ℕ, zero, suc, ◌<◌, ◌≤◌, ◌==◌, Bool, true, false, List, [], ◌∷◌, length, Option, Some, None, refl, sym, ap, ◌∙◌, subst, arith, inl, inr}
-use Rattle.std.specs.Prelude.{◌⊎◌, ◌&&◌, slice_get, is_some}
-use Rattle.std.specs.List.{list_all}
+use Rattle.std.proofs.Common.{◌≡◌, ℕ, zero, suc, ◌<◌, ◌≤◌, ◌==◌, false, List, [], ◌∷◌, length, Option, Some, None, refl, sym, ap, ◌∙◌, subst, arith, inl, inr}
+use Rattle.std.specs.Prelude.{◌⊎◌, slice_get, is_some}
 use Rattle.std.specs.Option.{option_map}
 use Rattle.std.proofs.lemmas.List.Quantifiers.{position-Some}
 use Rattle.std.proofs.lemmas.Option.{option_and_then_some, same_Some, slice_get-get_or}
@@ -30,7 +29,7 @@ use Rattle.mpx_statement.specs.declared.statement.Statement.{Statement}
 use Rattle.mpx_statement.specs.declared.statement.Statement.TheVariants.{Wait}
 use Rattle.mpx_statement.specs.Lookups.{named}
 use Rattle.mpx_meaning.specs.Ranks.{Await, Do, Local, answers, awaited_by, doing, step}
-use Rattle.mpx_meaning.specs.Evaluation.{IsEvaluation, IsPrefixOf, State, history, known, move, moves as moves_of, start}
+use Rattle.mpx_meaning.specs.Evaluation.{IsEvaluation, IsPrefixOf, State, history, known, move, moves as moves_of, start, statements_of}
 use Rattle.mpx_meaning.specs.Going.{Goes, stays, moves}
 use Rattle.mpx_meaning.specs.Standing.{WaitView, todo_of}
 use Rattle.mpx_meaning.proofs.Ahead.{goes_on_cases}
@@ -45,51 +44,72 @@ use Rattle.mpx_rank.specs.Moves.{RankView, are_done, is_done}
 use Rattle.mpx_rank.specs.Places.{CommunicatorView, StandsInScript}
 use Rattle.mpx_rank.specs.Shown.{place_of}
 use Rattle.mpx_rank.proofs.Words.{answers_done}
+use Rattle.mpx_system.proofs.Results.{behind_first, none_mapped, one_fails}
 use Rattle.mpx_threads.specs.Plans.{Plans}
-use Rattle.mpx_threads.specs.Rest.{IsAwaited, Lacks, Needs, awaits, waits_for}
+use Rattle.mpx_threads.specs.Rest.{AreAwaited, AreWaitedFor, IsAwaited, Lacks, WaitsFor, awaits, is_awaited, stands_at, waits_for}
 use Rattle.mpx_threads.specs.ToldCalls.{planned_birth}
 use Rattle.mpx_threads.proofs.Plans.{births_are, lt_or_ge, planned_is}
 
 -- WHO WAITS
 
-pub only_one : {A : Type 0} (x y : A) (i : ℕ) → slice_get (x ∷ []) i ≡ Some y → x ≡ y
-only_one x y zero e = same_Some x y e
-only_one x y (suc i) e = cc e
-
--- where one doesn't pass, not all pass
-one_fails : {A : Type 0} (f : A → Bool) (xs : List A) (i : ℕ) (x : A) → slice_get xs i ≡ Some x → f x ≡ false → list_all f xs ≡ false
-one_fails f [] i x e none = cc e
-one_fails f (y ∷ ys) zero x e none = ap (λ b. b && list_all f ys) (ap f (same_Some y x e) ∙ none)
-one_fails f (y ∷ ys) (suc i) x e none = by_first (f y) (one_fails f ys i x e none) where
-  by_first : (b : Bool) → list_all f ys ≡ false → (b && list_all f ys) ≡ false
-  by_first true rest = rest
-  by_first false rest = refl
-
-none_awaited : (o : Option WaitView) → option_map place_of o ≡ None → o ≡ None
-none_awaited None e = refl
-none_awaited (Some w) e = cc e
-
-behind_first : (xs : List Statement) (x : Statement) → slice_get xs 0 ≡ Some x → (rest : List Statement) × (xs ≡ x ∷ rest)
-behind_first [] x e = cc e
-behind_first (y ∷ ys) x e = (ys, ap (λ z. z ∷ ys) (same_Some y x e))
+-- who isn't told of this call has no move
+abbrev pub Needs : List Operation → Local → Name × ℕ → Type 0
+Needs ops s call = (told : Results) → told call.0 call.1 ≡ None → step ops told s ≡ None
 
 -- a rank has no move without a call that it waits for
-pub needs_it : (ops : List Operation) (r : RankView CommunicatorView) (s : Local) → StandsInScript r s → (call : Name × ℕ) → IsAwaited (option_map place_of r.waits) r.requests r.todo call → Needs ops s call
-needs_it ops r s stands call (awaits e) told none =
-    let found = mapped_some place_of r.waits call e in
-    let w = found.0 in
-    let todo : s.todo ≡ Await w.name w.call w.target ∷ doing r.todo = stands.todo ∙ ap (λ o. todo_of o r.todo) found.1 in
-    step_waits ops told s w.name w.call w.target (doing r.todo) todo (subst (λ (c : Name × ℕ). told c.0 c.1 ≡ None) (sym found.2) none)
-needs_it ops r s stands call (waits_for words free first asked) told none =
-    let behind = behind_first r.todo (Wait words) first in
-    let rest : List Statement = behind.0 in
+pub needs_it : (ops : List Operation) (s : Local) (call : Name × ℕ) → WaitsFor s call → Needs ops s call
+needs_it ops s call (awaits target rest todo) told none = step_waits ops told s call.0 call.1 target rest todo none
+needs_it ops s call (stands_at words rest todo asked) told none =
     let place : ℕ = asked.0 in
     let word : List ℕ = asked.1.0 in
-    let todo : s.todo ≡ Do (Wait words) ∷ doing rest = stands.todo ∙ λ i. todo_of (none_awaited r.waits free i) (behind.1 i) in
-    let there : named s.requests word ≡ Some call = sym (stands.requests word) ∙ asked.1.1.1 in
-    let missing : is_done (outcomes_of told) (named s.requests word) ≡ false = ap (is_done (outcomes_of told)) there ∙ ap (λ x. is_some (option_map (λ (a : Answer). a.outcome) x)) none in
+    let missing : is_done (outcomes_of told) (named s.requests word) ≡ false = ap (is_done (outcomes_of told)) asked.1.1.1 ∙ ap (λ x. is_some (option_map (λ (a : Answer). a.outcome) x)) none in
     let not_done : are_done (outcomes_of told) (named s.requests) words ≡ false = one_fails (λ w. is_done (outcomes_of told) (named s.requests w)) words place word asked.1.1.0 missing in
-    step_stays ops told s words (doing rest) todo (none_there (answers told (awaited_by s.requests words)) (answers_done told words s.requests ∙ not_done))
+    step_stays ops told s words rest todo (none_there (answers told (awaited_by s.requests words)) (answers_done told words s.requests ∙ not_done))
+
+-- the calls that a rank waits for are those that the code looks up
+module _ (r : RankView CommunicatorView) (s : Local) (stands : StandsInScript r s) where
+  only_these : (call : Name × ℕ) → IsAwaited (option_map place_of r.waits) r.requests r.todo call → WaitsFor s call
+  only_these call (is_awaited e) =
+      let found = mapped_some place_of r.waits call e in
+      let w : WaitView = found.0 in
+      let todo : s.todo ≡ Await w.name w.call w.target ∷ doing r.todo = stands.todo ∙ ap (λ o. todo_of o r.todo) found.1 in
+      awaits w.target (doing r.todo) (todo ∙ ap (λ (c : Name × ℕ). Await c.0 c.1 w.target ∷ doing r.todo) found.2)
+  only_these call (waits_for words free first asked) =
+      let behind = behind_first r.todo (Wait words) first in
+      stands_at words (doing behind.0) (stands.todo ∙ λ i. todo_of (none_mapped place_of r.waits free i) (behind.1 i)) (asked.0, (asked.1.0, (asked.1.1.0, sym (stands.requests asked.1.0) ∙ asked.1.1.1)))
+
+  all_these : (call : Name × ℕ) → WaitsFor s call → IsAwaited (option_map place_of r.waits) r.requests r.todo call
+  all_these call (awaits target rest todo) = by_wait r.waits refl r.todo refl where
+    by_wait : (o : Option WaitView) → r.waits ≡ o → (xs : List Statement) → r.todo ≡ xs → IsAwaited (option_map place_of r.waits) r.requests r.todo call
+    by_wait (Some w) e xs f =
+        let same : Await w.name w.call w.target ∷ doing r.todo ≡ Await call.0 call.1 target ∷ rest = ap (λ o. todo_of o r.todo) (sym e) ∙ sym stands.todo ∙ todo in
+        let name : w.name ≡ call.0 = cc same in
+        let number : w.call ≡ call.1 = cc same in
+        is_awaited (ap (option_map place_of) e ∙ λ i. Some (name i, number i))
+    by_wait None e [] f = let same : doing [] ≡ Await call.0 call.1 target ∷ rest = (λ i. todo_of (sym e i) (sym f i)) ∙ sym stands.todo ∙ todo in cc same
+    by_wait None e (x ∷ xs) f = let same : Do x ∷ doing xs ≡ Await call.0 call.1 target ∷ rest = (λ i. todo_of (sym e i) (sym f i)) ∙ sym stands.todo ∙ todo in cc same
+  all_these call (stands_at words rest todo asked) = by_wait r.waits refl r.todo refl where
+    by_wait : (o : Option WaitView) → r.waits ≡ o → (xs : List Statement) → r.todo ≡ xs → IsAwaited (option_map place_of r.waits) r.requests r.todo call
+    by_wait (Some w) e xs f = let same : Await w.name w.call w.target ∷ doing r.todo ≡ Do (Wait words) ∷ rest = ap (λ o. todo_of o r.todo) (sym e) ∙ sym stands.todo ∙ todo in cc same
+    by_wait None e [] f = let same : doing [] ≡ Do (Wait words) ∷ rest = (λ i. todo_of (sym e i) (sym f i)) ∙ sym stands.todo ∙ todo in cc same
+    by_wait None e (x ∷ xs) f =
+        let same : Do x ∷ doing xs ≡ Do (Wait words) ∷ rest = (λ i. todo_of (sym e i) (sym f i)) ∙ sym stands.todo ∙ todo in
+        let first : x ≡ Wait words = cc same in
+        waits_for words (ap (option_map place_of) e) (ap (λ ys. slice_get ys 0) f ∙ ap Some first) (asked.0, (asked.1.0, (asked.1.1.0, stands.requests asked.1.0 ∙ asked.1.1.1)))
+
+  pub waited_for : (calls : List (Name × ℕ)) → AreAwaited (option_map place_of r.waits) r.requests r.todo calls → AreWaitedFor s calls
+  waited_for calls are = record {
+    only = λ i call e. only_these call (are.only i call e);
+    all = λ call waits. are.all call (all_these call waits);
+  }
+
+-- who starts waits for no call
+pub starts_free : (script : List (List Statement)) (ranks p : ℕ) (call : Name × ℕ) → WaitsFor (start script ranks p) call → ⊥
+starts_free script ranks p call (awaits target rest todo) = by_list (statements_of script p) todo where
+  by_list : (xs : List Statement) → doing xs ≡ Await call.0 call.1 target ∷ rest → ⊥
+  by_list [] e = cc e
+  by_list (x ∷ xs) e = cc e
+starts_free script ranks p call (stands_at words rest todo asked) = cc asked.1.1.1
 
 -- WAYS
 

@@ -1,5 +1,5 @@
 -- What a run in threads comes to.
-use Rattle.std.specs.Prelude.{◌≡◌, ℕ, ◌<◌, ◌≤◌, ◌+◌, List, [], length, slice_get, Some}
+use Rattle.std.specs.Prelude.{◌≡◌, ◌↔◌, ℕ, ◌<◌, ◌≤◌, ◌+◌, Bool, true, List, [], length, slice_get, Some}
 use Rattle.atomic_table.specs.Seated.{TableId}
 use Rattle.mpx_num.specs.declared.own.Operation.{Operation}
 use Rattle.mpx_bus.specs.Ports.{PortView, node_in}
@@ -13,6 +13,7 @@ use Rattle.mpx_meaning.specs.Told.{CarriesOut}
 use Rattle.mpx_meaning.specs.Reports.{lines_in, waiting_in}
 use Rattle.mpx_system.specs.Systems.{TellsResults, node_tells}
 use Rattle.mpx_threads.specs.Plans.{setup_by}
+use Rattle.mpx_threads.specs.Rest.{AreAtRest}
 
 -- the rank has come there by answers of the evaluation, each of which is that of a result that its port's node holds, where
 -- communicators came to be as they do there; each line that tells an outcome tells that of a stored result, beside the rank's own
@@ -25,8 +26,8 @@ pub record IsDone (ops : List Operation) (script : ScriptView) (end : State) (p 
   pub no_others : s.todo ≡ [] → made_in port ≡ s.made
 
 -- all ports are of one bus, and what they posted is planned by the script's evaluation by the job's own operations, relays none; each rank has come so far in its
--- statements, and has these lines; and these ranks have something left
-pub record IsThreadRun (ops : List Operation) (script : ScriptView) (relays : ℕ) (table : TableId) (ports : List PortView) (transcripts : List (List (List ℕ))) (waiting : List ℕ) : Type 0 where
+-- statements, and has these lines; these ranks have something left; and it rests just where no rank can go on by what the ports say
+pub record IsThreadRun (ops : List Operation) (script : ScriptView) (relays : ℕ) (table : TableId) (ports : List PortView) (transcripts : List (List (List ℕ))) (waiting : List ℕ) (rests : Bool) : Type 0 where
   pub end : State
   pub evaluation : IsEvaluation ops script.statements script.ranks end
   pub count : length ports ≡ script.ranks + relays
@@ -37,3 +38,4 @@ pub record IsThreadRun (ops : List Operation) (script : ScriptView) (relays : �
   pub ranks_are : length transcripts ≡ script.ranks
   pub lines : (p : ℕ) (lines : List (List ℕ)) → slice_get transcripts p ≡ Some lines → lines ≡ lines_in ranks p
   pub waiting_are : waiting ≡ waiting_in ranks script.ranks
+  pub rest : (rests ≡ true) ↔ AreAtRest script.ranks ranks ports

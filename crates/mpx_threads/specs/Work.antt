@@ -21,28 +21,28 @@ use Rattle.mpx_threads.specs.declared.gossip.GossipEnd.{GossipEnd}
 use Rattle.mpx_threads.specs.declared.gossip.GossipEnd.TheVariants.{GaveUp}
 use Rattle.mpx_threads.specs.Gates.{GivesUpWithin}
 use Rattle.mpx_threads.specs.Plans.{Plans, planned_results}
-use Rattle.mpx_threads.specs.Rest.{NeedsEach}
+use Rattle.mpx_threads.specs.Rest.{AreWaitedFor}
 use Rattle.mpx_threads.specs.ThreadRuns.{IsDone}
 use Rattle.mpx_threads.specs.ToldCalls.{first_posts, told_of}
 
--- by what the plan's posts give it the rank has come there, with these lines, and something left or nothing; it has no move without
--- these calls; its posts are the first so many of the plan; and of each line that tells an outcome it was told that
+-- by what the plan's posts give it the rank has come there, with these lines, and something left or nothing; these are the
+-- calls that it waits for; its posts are the first so many of the plan; and of each line that tells an outcome it was told that
 pub record HasCome (script : ScriptView) (setup : Setup) (me : ℕ) (told : List ToldCall) (count : ℕ) (lines : List (List ℕ)) (waits : Bool) (calls : List (Name × ℕ)) : Type 0 where
   pub to : Local
   pub goes : Goes setup.operations (planned_results setup me) (start script.statements script.ranks me) to
   pub lines_are : lines ≡ map line_text to.lines
   pub waits_is : waits ≡ is_left to.todo
-  pub needs : NeedsEach setup.operations to calls
+  pub calls_are : AreWaitedFor to calls
   pub made_is : to.made ≡ first_posts setup me count
   pub tells : (i : ℕ) (name : Name) (call : ℕ) (outcome : Outcome) → slice_get to.lines i ≡ Some (Told name call outcome) → outcomes_of (told_of (planned_results setup me) told) name call ≡ Some outcome
 
--- the rank has come so far, and has no move without these calls; and its port holds what it was told
+-- the rank has come so far, and these are the calls that it waits for; and its port holds what it was told
 pub record HasWorked (script : ScriptView) (relays : ℕ) (setup : Setup) (me : ℕ) (port : PortView) (lines : List (List ℕ)) (waits : Bool) (calls : List (Name × ℕ)) : Type 0 where
   pub to : Local
   pub done : (plan : Plans script relays setup) → IsDone setup.operations script plan.end me port to
   pub lines_are : lines ≡ map line_text to.lines
   pub waits_is : waits ≡ is_left to.todo
-  pub needs : NeedsEach setup.operations to calls
+  pub calls_are : AreWaitedFor to calls
 
 -- the port of a process that has posted nothing yet, by the plan of the script's evaluation
 pub record IsReadyProcess (script : ScriptView) (relays : ℕ) (setup : Setup) (table : TableId) (j : ReadyProcess) : Type 0 where

@@ -342,7 +342,7 @@ fn post_on<L: PortLock, R: Wait>(
     requires next { IsNext L.setup L.me (L.before + poster.old.share.amount) name.now (draft_of posting.now) }
     ensures { PostsAs L.setup L.me L.before name.now (on_context L.setup.operations L.me posting.now name.now) result poster.old.share.amount poster.new.share.amount }
 {
-    let Ok(draft) = posting.draft(alloc) else {
+    let Ok(draft) = posting.draft() else {
         return Err(PostError::OutOfMemory);
     };
     match port.post(rt, alloc, poster, name, draft, ops) {

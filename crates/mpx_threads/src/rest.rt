@@ -1,9 +1,9 @@
 //! Whether no rank can go on, as all ports say once their threads have ended.
-ghost use Rattle.std.specs.Prelude.{◌≡◌, ◌≤◌, length, true};
+ghost use Rattle.std.specs.Prelude.{◌≡◌, ◌≤◌, false, length, true};
 ghost use Rattle.mpx_board.specs.Looks.{look};
 ghost use Rattle.mpx_node.specs.Shown.{node_of};
 ghost use Rattle.mpx_bus.specs.Ports.{node_in};
-ghost use Rattle.mpx_threads.specs.Rest.{AreAtRest, HasEndedOrLacks, HaveEnded, HaveEndedOrLack, HaveOneBoard, Lacks, OneLacks};
+ghost use Rattle.mpx_threads.specs.Rest.{EndedOrLacks, HaveBoardInCommon, HaveComeToRest, HaveEnded, HaveEndedOrLack, Lacks, OneLacks};
 
 use crate::worker::Worked;
 use join_core::Exact;
@@ -16,7 +16,8 @@ use mpx_node::Node;
 /// and each that has something left waits for a call of which that board lacks a post. What a run's threads told each other isn't asked.
 pub(crate) fn are_at_rest(worked: &[Worked], ranks: usize) -> bool
     requires { ranks ≤ length worked.now }
-    ensures { result ≡ true → AreAtRest ranks worked.now }
+    ensures yes { result ≡ true → HaveComeToRest ranks worked.now }
+    ensures no { result ≡ false → HaveComeToRest ranks worked.now → ⊥ }
 {
     if have_ended(worked, ranks) {
         return true;
@@ -29,7 +30,8 @@ pub(crate) fn are_at_rest(worked: &[Worked], ranks: usize) -> bool
 
 fn have_ended(worked: &[Worked], ranks: usize) -> bool
     requires { ranks ≤ length worked.now }
-    ensures { result ≡ true → HaveEnded ranks worked.now }
+    ensures yes { result ≡ true → HaveEnded ranks worked.now }
+    ensures no { result ≡ false → HaveEnded ranks worked.now → ⊥ }
 {
     for p in 0..ranks {
         if worked[p].waits {
@@ -41,7 +43,8 @@ fn have_ended(worked: &[Worked], ranks: usize) -> bool
 
 fn have_one_board(worked: &[Worked], ranks: usize) -> bool
     requires { ranks ≤ length worked.now }
-    ensures { result ≡ true → HaveOneBoard ranks worked.now }
+    ensures yes { result ≡ true → HaveBoardInCommon ranks worked.now }
+    ensures no { result ≡ false → HaveBoardInCommon ranks worked.now → ⊥ }
 {
     for p in 1..ranks {
         if !board_of(&worked[0]).same(board_of(&worked[p])) {
@@ -59,7 +62,8 @@ fn board_of(worked: &Worked) -> &Board
 
 fn have_ended_or_lack(worked: &[Worked], ranks: usize) -> bool
     requires { ranks ≤ length worked.now }
-    ensures { result ≡ true → HaveEndedOrLack ranks worked.now }
+    ensures yes { result ≡ true → HaveEndedOrLack ranks worked.now }
+    ensures no { result ≡ false → HaveEndedOrLack ranks worked.now → ⊥ }
 {
     for p in 0..ranks {
         if !has_ended_or_lacks(&worked[p]) {
@@ -71,7 +75,8 @@ fn have_ended_or_lack(worked: &[Worked], ranks: usize) -> bool
 
 // Whether a rank has nothing left, or its port lacks a call that it waits for.
 fn has_ended_or_lacks(worked: &Worked) -> bool
-    ensures { result ≡ true → HasEndedOrLacks worked.now }
+    ensures yes { result ≡ true → EndedOrLacks worked.now }
+    ensures no { result ≡ false → EndedOrLacks worked.now → ⊥ }
 {
     if !worked.waits {
         return true;
@@ -87,7 +92,8 @@ fn has_ended_or_lacks(worked: &Worked) -> bool
 
 // Whether the node has no result of the call, and its board lacks the post of a member.
 fn lacks(node: &Node, call: &(Name, u32)) -> bool
-    ensures { result ≡ true → Lacks (node_of node.now) call.now }
+    ensures yes { result ≡ true → Lacks (node_of node.now) call.now }
+    ensures no { result ≡ false → Lacks (node_of node.now) call.now → ⊥ }
 {
     let (name, number) = call;
     if node.result(name, *number).is_some() {
@@ -100,7 +106,8 @@ fn lacks(node: &Node, call: &(Name, u32)) -> bool
 }
 
 fn one_lacks(board: &Board, name: &Name, call: u32, members: &[Proc]) -> bool
-    ensures { result ≡ true → OneLacks (look board.now) name.now call members.now }
+    ensures yes { result ≡ true → OneLacks (look board.now) name.now call members.now }
+    ensures no { result ≡ false → OneLacks (look board.now) name.now call members.now → ⊥ }
 {
     for i in 0..members.len() {
         if board.holds(name, call, members[i]).is_none() {

@@ -41,7 +41,8 @@ pub struct ThreadRun {
     pub bus: Bus,
     /// The port of each process: first those of the ranks, then the relays'.
     pub ports: Vec<Port>,
-    /// Whether all ports say, once the threads have ended, that no rank can go on: then the lines are all lines of the evaluation, and the
+    /// Whether all ports say, once the threads have ended, that no rank can go on: all ranks have ended, or their ports have one board, and
+    /// each that has something left waits for a call of which its port lacks a post. Then the lines are all lines of the evaluation, and the
     /// ranks that wait, wait in every run. Where it is false the run may have ended too early, as for want of turns.
     pub rests: bool,
 }
@@ -84,7 +85,7 @@ pub fn run_threads<G: Gate + Sync, R: Threads + Wait + Sync>(
 ) -> Result<ThreadRun, ThreadsError>
     requires { script.now.ranks + options.now.relays ≤ 64 }
     ensures gate { IfErr result (λ e. e ≡ ThreadsError.GateGaveUp → GivesUpAmong (G.gives_up gate.now) (script.now.ranks + options.now.relays) options.now.turns) }
-    ensures run { IfOk result (λ run. IsThreadRun (⟦<Ops as Listing>⟧.operations ops.now) script.now options.now.relays (table_of run.bus) run.ports.items (transcripts_of run.report) run.report.waiting.items) }
+    ensures run { IfOk result (λ run. IsThreadRun (⟦<Ops as Listing>⟧.operations ops.now) script.now options.now.relays (table_of run.bus) run.ports.items (transcripts_of run.report) run.report.waiting.items run.rests) }
     ensures begins { IfOk result (λ run. (evaluation : State) → IsEvaluationOf (⟦<Ops as Listing>⟧.operations ops.now) script.now evaluation → Begin (transcripts_of run.report) evaluation) }
     ensures whole { IfOk result (λ run. (evaluation : State) → IsEvaluationOf (⟦<Ops as Listing>⟧.operations ops.now) script.now evaluation → AreWhole (transcripts_of run.report) run.report.waiting.items evaluation) }
     ensures rests { IfOk result (λ run. run.rests ≡ true → (evaluation : State) → IsEvaluationOf (⟦<Ops as Listing>⟧.operations ops.now) script.now evaluation → AreAll (transcripts_of run.report) run.report.waiting.items script.now.ranks evaluation) }

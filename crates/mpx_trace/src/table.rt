@@ -122,6 +122,10 @@ impl<W: Write + Drop> Observer for Table<W> {
         let _ = self.reach(frame.to);
     }
 
+    fn follows_frames(&self) -> bool {
+        true
+    }
+
     fn taken(&mut self, frame: FrameSeen, _again: bool, node: &Node) {
         let _ = self.take(frame, node);
     }

@@ -63,6 +63,10 @@ impl<W: Write + Drop> Observer for Trace<W> {
         let _ = self.tell_sent(frame, lost);
     }
 
+    fn follows_frames(&self) -> bool {
+        true
+    }
+
     fn taken(&mut self, frame: FrameSeen, again: bool, node: &Node) {
         let _ = self.tell_taken(frame, again, node);
     }

@@ -5,8 +5,9 @@ use Rattle.mpx_name.specs.Name.{Name}
 use Rattle.mpx_match.specs.declared.faults.FaultKind.{FaultKind}
 use Rattle.mpx_match.specs.declared.faults.FaultKind.TheVariants.{Amount, Groups, Kind}
 use Rattle.mpx_match.specs.Verdicts.{verdict}
-use Rattle.mpx_kind.specs.declared.kinds.Kind as K
-use Rattle.mpx_kind.specs.declared.kinds.Kind.TheVariants.{Dup, Split, Create, CreateGroup, DistGraph, DistGraphAdjacent}
+use Rattle.mpx_kind.specs.declared.kinds.Kind.TheVariants as K
+use Rattle.mpx_kind.specs.declared.kinds.NewCommunicator.{NewCommunicator}
+use Rattle.mpx_kind.specs.declared.kinds.NewCommunicator.TheVariants.{Dup, Split, Create, CreateGroup, DistGraph, DistGraphAdjacent}
 use Rattle.mpx_kind.specs.declared.kinds.Mode.TheVariants.{Blocking}
 use Rattle.mpx_post.specs.declared.making.Making.{Making}
 use Rattle.mpx_post.specs.declared.making.Making.TheVariants as M
@@ -22,8 +23,8 @@ use Rattle.mpx_value.specs.declared.outcomes.Outcome.TheVariants.{NewComm, Null,
 use Rattle.mpx_value.specs.Children.{children}
 use Rattle.mpx_value.specs.Values.{value}
 
-abbrev given : K.Kind → Making → Given
-given kind making = record { kind = kind; mode = Blocking; root = None; op = None; scounts = []; rcounts = []; items = None; making = making }
+abbrev given : NewCommunicator → Making → Given
+given new making = record { kind = K.NewCommunicator new; mode = Blocking; root = None; op = None; scounts = []; rcounts = []; items = None; making = making }
 
 abbrev split : Option ℕ → ℤ → Given
 split colour key = given Split (M.Split colour key)
@@ -31,8 +32,8 @@ split colour key = given Split (M.Split colour key)
 abbrev create : List ℕ → Given
 create group = given Create (M.Group group)
 
-abbrev plain : K.Kind → Given
-plain kind = given kind M.Nothing
+abbrev plain : NewCommunicator → Given
+plain new = given new M.Nothing
 
 -- what call 3 on the world of so many ranks gives this rank
 abbrev told : ℕ → RowView → (rank : ℕ) → Outcome

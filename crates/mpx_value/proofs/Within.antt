@@ -11,14 +11,13 @@ use Rattle.mpx_match.specs.declared.faults.Verdict.TheVariants as V
 use Rattle.mpx_match.specs.Verdicts.{verdict}
 use Rattle.mpx_match.proofs.FirstFault.{verdict-fine}
 use Rattle.mpx_post.proofs.Agreement.{fine_with}
-use Rattle.mpx_kind.specs.declared.kinds.Family.{Family}
-use Rattle.mpx_kind.specs.declared.kinds.Family.TheVariants as F
+use Rattle.mpx_kind.specs.declared.kinds.Kind.{Kind}
+use Rattle.mpx_kind.specs.declared.kinds.Kind.TheVariants as K
 use Rattle.mpx_kind.specs.declared.kinds.NewCommunicator.{NewCommunicator}
 use Rattle.mpx_kind.specs.declared.kinds.NewCommunicator.TheVariants as N
 use Rattle.mpx_birth.specs.Births.{BirthView, upto}
 use Rattle.mpx_birth.specs.Topologies.{TopologyView}
 use Rattle.mpx_graph.specs.Graphs.{adjacent, general}
-use Rattle.mpx_kind.specs.Kinds.{family_of}
 use Rattle.mpx_post.specs.Posts.{group_of}
 use Rattle.mpx_post.specs.Rows.{RowView}
 use Rattle.mpx_post.specs.Agreement.{IsFine, first_of, post_at}
@@ -50,15 +49,12 @@ module _ (birth : BirthView) (row : RowView) (long : length row ≡ length birth
   by_kind N.DistGraph is = all_members (Some (general row))
   by_kind N.DistGraphAdjacent is = all_members (Some (adjacent row))
 
-  by_family : (family : Family) → IsFine row → All Within (children_in family birth row)
-  by_family (F.Exchange exchange) is = All-nil Within
-  by_family (F.Reduction reduction) is = All-nil Within
-  by_family (F.NewCommunicator new) is = by_kind new is
-  by_family (F.Neighbourhood exchange) is = All-nil Within
-  by_family F.Free is = All-nil Within
+  in_kind : (kind : Kind) → IsFine row → All Within (children_in kind birth row)
+  in_kind (K.NewCommunicator new) is = by_kind new is
+  in_kind kind is = All-nil Within
 
-  by_verdict : (v : Verdict) → (v ≡ V.Fine → IsFine row) → All Within (unless_fault v (children_in (family_of (first_of row).kind) birth row))
-  by_verdict V.Fine fine = by_family (family_of (first_of row).kind) (fine refl)
+  by_verdict : (v : Verdict) → (v ≡ V.Fine → IsFine row) → All Within (unless_fault v (children_in (first_of row).kind birth row))
+  by_verdict V.Fine fine = in_kind (first_of row).kind (fine refl)
   by_verdict (V.Fault fault) fine = All-nil Within
 
   by_room : (b : Bool) (made : List ChildView) → All Within made → All Within (cond b made [])

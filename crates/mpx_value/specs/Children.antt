@@ -1,5 +1,5 @@
 -- The communicators that a call makes (MPI 4.1, sections 7.4.2 and 8.5.4).
-use Rattle.std.specs.Prelude.{◌≡◌, ℕ, ◌==◌, nat_eq, nat_lt, Bool, true, false, cond, List, [], ◌∷◌, map, length, filter, slice_get, slice_index_or, Option, Some, None}
+use Rattle.std.specs.Prelude.{◌≡◌, ℕ, ◌==◌, nat_eq, nat_lt, Bool, true, cond, List, [], ◌∷◌, map, length, filter, slice_get, slice_index_or, Option, Some, None}
 use Rattle.std.specs.List.{All, filter_map}
 use Rattle.std.specs.Option.{option_eq}
 use Rattle.std.specs.Ordering.{int_cmp, is_lt}
@@ -7,11 +7,11 @@ use Rattle.mpx_group.specs.Group.{has}
 use Rattle.mpx_name.specs.declared.steps.Step.TheVariants.{Child}
 use Rattle.mpx_name.specs.Name.{Name}
 use Rattle.mpx_num.specs.declared.own.Operation.{Operation}
-use Rattle.mpx_kind.specs.declared.kinds.Family.{Family}
-use Rattle.mpx_kind.specs.declared.kinds.Family.TheVariants as F
+use Rattle.mpx_kind.specs.declared.kinds.Kind.{Kind}
+use Rattle.mpx_kind.specs.declared.kinds.Kind.TheVariants as K
 use Rattle.mpx_kind.specs.declared.kinds.NewCommunicator.{NewCommunicator}
 use Rattle.mpx_kind.specs.declared.kinds.NewCommunicator.TheVariants as N
-use Rattle.mpx_kind.specs.Kinds.{family_of, makes_communicators}
+use Rattle.mpx_kind.specs.Kinds.{makes_communicators}
 use Rattle.mpx_birth.specs.Births.{BirthView, of_members, rank_in, upto}
 use Rattle.mpx_birth.specs.Topologies.{TopologyView}
 use Rattle.mpx_graph.specs.Graphs.{adjacent, general}
@@ -73,13 +73,9 @@ split birth row = map (split_child birth row) (colours_of row)
 
 -- MPI_COMM_CREATE: a child for each group that is given, of its members in its order; its colour is the rank of the first
 
-abbrev pub begins_with : ℕ → List ℕ → Bool
-begins_with rank [] = false
-begins_with rank (first ∷ ranks) = first == rank
-
 -- whether the member with this rank leads the group that it gives
 abbrev pub leads : RowView → (rank : ℕ) → Bool
-leads row rank = begins_with rank (group_of (post_at row rank))
+leads row rank = option_eq nat_eq (slice_get (group_of (post_at row rank)) 0) (Some rank)
 
 abbrev pub group_child : BirthView → RowView → (rank : ℕ) → ChildView
 group_child birth row rank = child_of_ranks birth rank (group_of (post_at row rank))
@@ -97,13 +93,10 @@ children_by N.CreateGroup birth row = only_child (of_members birth.members)
 children_by N.DistGraph birth row = only_child (with_topology birth (general row))
 children_by N.DistGraphAdjacent birth row = only_child (with_topology birth (adjacent row))
 
--- the other families make none
-abbrev pub children_in : Family → BirthView → RowView → List ChildView
-children_in (F.Exchange exchange) birth row = []
-children_in (F.Reduction reduction) birth row = []
-children_in (F.NewCommunicator new) birth row = children_by new birth row
-children_in (F.Neighbourhood exchange) birth row = []
-children_in F.Free birth row = []
+-- the other kinds make none
+abbrev pub children_in : Kind → BirthView → RowView → List ChildView
+children_in (K.NewCommunicator new) birth row = children_by new birth row
+children_in kind birth row = []
 
 -- none where the posts don't fit together
 abbrev pub unless_fault : Verdict → List ChildView → List ChildView
@@ -116,7 +109,7 @@ has_room name = nat_lt (length name) most_steps
 
 -- what a fine row makes, in rising order of colours
 abbrev pub children_made : BirthView → RowView → List ChildView
-children_made birth row = children_in (family_of (first_of row).kind) birth row
+children_made birth row = children_in (first_of row).kind birth row
 
 -- what the call with this row makes, by the job's own operations
 unfoldable pub children : List Operation → BirthView → RowView → Name → (call : ℕ) → List ChildView
@@ -124,7 +117,7 @@ children ops birth row name call = cond (has_room name) (unless_fault (verdict o
 
 -- the kind makes communicators, the posts fit together, and the name can have one step more
 pub record MakesSome (ops : List Operation) (birth : BirthView) (row : RowView) (name : Name) : Type 0 where
-  pub kind : makes_communicators (family_of (first_of row).kind) ≡ true
+  pub kind : makes_communicators (first_of row).kind ≡ true
   pub fine : verdict ops birth.topology row ≡ V.Fine
   pub room : has_room name ≡ true
 

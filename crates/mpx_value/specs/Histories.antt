@@ -11,7 +11,7 @@ use Rattle.mpx_birth.specs.Births.{BirthView, of_members, rank_in, upto}
 use Rattle.mpx_post.specs.Gatherings.{GatheringView}
 use Rattle.mpx_post.specs.Rows.{RowView, all_of}
 use Rattle.mpx_value.specs.declared.outcomes.Outcome.{Outcome}
-use Rattle.mpx_value.specs.declared.outcomes.Outcome.TheVariants.{Nothing, Absent, Items, NewComm, Null, Fault}
+use Rattle.mpx_value.specs.declared.outcomes.Outcome.TheVariants.{NewComm}
 use Rattle.mpx_value.specs.Children.{IsNewCommunicator, child}
 use Rattle.mpx_value.specs.Values.{value}
 
@@ -55,12 +55,10 @@ row_of h name birth k = all_of (h.post name k) birth.members
 abbrev pub child_of : History → Name → (call colour : ℕ) → BirthView → Option BirthView
 child_of h name call colour birth = option_and_then (λ row. child h.operations birth row name call colour) (row_of h name birth call)
 
--- whether these can gather below a context with this birth: some of its members, each once
-abbrev pub may_gather : List ℕ → BirthView → Bool
-may_gather members birth = nat_lt 0 (length members) && (not (has_twice members) && list_all (has birth.members) members)
-
+-- a gathering below a context with this birth: of some of its members, each once
 abbrev pub gathered : List ℕ → BirthView → Option BirthView
-gathered members birth = cond (may_gather members birth) (Some (of_members members)) None
+gathered members birth =
+    cond (nat_lt 0 (length members) && (not (has_twice members) && list_all (has birth.members) members)) (Some (of_members members)) None
 
 -- the gathering of these members below a context
 abbrev pub gathering_name : Name → GatheringView → Name
@@ -110,12 +108,8 @@ abbrev pub Within : Results → Results → Type 0
 Within r more = (name : Name) (k : ℕ) (answer : Answer) → r name k ≡ Some answer → more name k ≡ Some answer
 
 abbrev pub born_by : (Name → Option BirthView) → Outcome → Option BirthView
-born_by births Nothing = None
-born_by births Absent = None
-born_by births (Items items) = None
 born_by births (NewComm name size rank) = births name
-born_by births Null = None
-born_by births (Fault fault) = None
+born_by births outcome = None
 
 -- an outcome, where these births are known
 abbrev pub answer_with : (Name → Option BirthView) → Outcome → Answer

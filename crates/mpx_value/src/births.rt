@@ -6,7 +6,6 @@ ghost use Rattle.mpx_name.specs.declared.steps.Step.TheVariants.{Child};
 ghost use Rattle.mpx_post.specs.Agreement.{IsFine, first_of};
 ghost use Rattle.mpx_birth.specs.Births.{of_members};
 ghost use Rattle.mpx_post.specs.Drafts.{most_calls, most_steps};
-ghost use Rattle.mpx_kind.specs.Kinds.{family_of};
 ghost use Rattle.mpx_graph.specs.Graphs.{adjacent, general};
 ghost use Rattle.mpx_value.specs.Children.{MakesSome, children, children_made, has_room as has_room_for, named_children, only_child, processes, with_topology};
 
@@ -16,7 +15,7 @@ use join_core::{Exact, OutOfMemory};
 use mpx_birth::Birth;
 use mpx_graph::{topology_adjacent, topology_general};
 use mpx_group::Proc;
-use mpx_kind::{Family, NewCommunicator};
+use mpx_kind::{Kind, NewCommunicator};
 use mpx_match::{Verdict, verdict};
 use mpx_name::{Name, NameError};
 use mpx_num::{Listing, Ops};
@@ -43,7 +42,7 @@ pub fn children(
     ensures made { IfOk result (λ made. made.items ≡ named_children name.now call (children (⟦<Ops as Listing>⟧.operations ops.now) birth.now row.now name.now call)) }
     ensures memory { OnErr result (MakesSome (⟦<Ops as Listing>⟧.operations ops.now) birth.now row.now name.now) }
 {
-    let Family::NewCommunicator(new) = row.family() else {
+    let Kind::NewCommunicator(new) = row.kind() else {
         return Ok(Vec::new(alloc));
     };
     match verdict(birth, row, ops) {
@@ -75,7 +74,7 @@ pub(crate) fn made(
     call: u32,
 ) -> Result<Vec<(Name, Birth)>, OutOfMemory>
     requires fine { IsFine row.now }
-    requires family { family_of (first_of row.now).kind ≡ Family.NewCommunicator new }
+    requires kind { (first_of row.now).kind ≡ Kind.NewCommunicator new }
     requires room { length name.now < most_steps }
     requires members { length row.now ≡ length birth.now.members }
     requires call { call < most_calls }

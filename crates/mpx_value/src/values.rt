@@ -2,8 +2,7 @@
 ghost use Rattle.std.specs.Prelude.{◌≡◌, ◌<◌, length};
 ghost use Rattle.mpx_post.specs.Agreement.{AllSuit, IsFine, IsFineWith, first_of};
 ghost use Rattle.mpx_post.specs.Drafts.{most_calls};
-ghost use Rattle.mpx_kind.specs.Kinds.{family_of};
-ghost use Rattle.mpx_value.specs.Values.{GivesOutcome, given_to, new_communicator, outcome_of, told, value};
+ghost use Rattle.mpx_value.specs.Values.{GivesOutcome, as_outcome, given_as, new_communicator, place_among, value};
 
 use crate::births::{has_room, made};
 use crate::outcomes::Outcome;
@@ -11,7 +10,7 @@ use join_core::OutOfMemory;
 use mpx_birth::Birth;
 use mpx_fold::fold_value;
 use mpx_group::Proc;
-use mpx_kind::{Family, NewCommunicator};
+use mpx_kind::{Kind, NewCommunicator};
 use mpx_match::{Fault, FaultKind, Verdict, verdict};
 use mpx_move::move_value;
 use mpx_name::Name;
@@ -39,12 +38,12 @@ pub fn outcome(
 {
     match verdict(birth, row, ops) {
         Verdict::Fault(fault) => Ok(Outcome::Fault(fault)),
-        Verdict::Fine => given_to(alloc, birth, row, name, call, rank, ops),
+        Verdict::Fine => given_as(alloc, birth, row, name, call, rank, ops),
     }
 }
 
 // What a fine row gives the member.
-fn given_to(
+fn given_as(
     alloc: Global,
     birth: &Birth,
     row: &Row<'_>,
@@ -58,22 +57,22 @@ fn given_to(
     requires members { length row.now ≡ length birth.now.members }
     requires rank { rank < length row.now }
     requires call { call < most_calls }
-    ensures { GivesOutcome (given_to (⟦<Ops as Listing>⟧.operations ops.now) birth.now row.now name.now call rank) result }
+    ensures { GivesOutcome (given_as (first_of row.now).kind (⟦<Ops as Listing>⟧.operations ops.now) birth.now row.now name.now call rank) result }
 {
-    match row.family() {
-        Family::Exchange(_) => Ok(outcome_of(move_value(alloc, row, rank)?)),
-        Family::Reduction(_) => Ok(outcome_of(fold_value(alloc, row, rank, ops)?)),
-        Family::Neighbourhood(_) => Ok(outcome_of(neigh_value(alloc, birth, row, rank)?)),
-        Family::NewCommunicator(new) => {
+    match row.kind() {
+        Kind::Exchange(_) => Ok(as_outcome(move_value(alloc, row, rank)?)),
+        Kind::Reduction(_) => Ok(as_outcome(fold_value(alloc, row, rank, ops)?)),
+        Kind::Neighbourhood(_) => Ok(as_outcome(neigh_value(alloc, birth, row, rank)?)),
+        Kind::NewCommunicator(new) => {
             let process = birth.members()[usize::from(rank)];
             new_communicator(alloc, birth, row, new, name, call, process)
         }
-        Family::Free => Ok(Outcome::Nothing),
+        Kind::Free => Ok(Outcome::Nothing),
     }
 }
 
-fn outcome_of(value: Value) -> Outcome
-    ensures { result ≡ outcome_of value }
+fn as_outcome(value: Value) -> Outcome
+    ensures { result ≡ as_outcome value }
 {
     match value {
         Value::Nothing => Outcome::Nothing,
@@ -93,13 +92,13 @@ fn new_communicator(
     process: Proc,
 ) -> Result<Outcome, OutOfMemory>
     requires fine { IsFine row.now }
-    requires family { family_of (first_of row.now).kind ≡ Family.NewCommunicator new }
+    requires kind { (first_of row.now).kind ≡ Kind.NewCommunicator new }
     requires members { length row.now ≡ length birth.now.members }
     requires call { call < most_calls }
     ensures { GivesOutcome (new_communicator birth.now row.now name.now call process) result }
 {
     if has_room(name) {
-        Ok(told(made(alloc, birth, row, new, name, call)?, process))
+        Ok(place_among(made(alloc, birth, row, new, name, call)?, process))
     } else {
         Ok(Outcome::Fault(Fault {
             what: FaultKind::Amount,
@@ -109,8 +108,8 @@ fn new_communicator(
 }
 
 // Which of these communicators has the process.
-fn told(made: Vec<(Name, Birth)>, process: Proc) -> Outcome
-    ensures { result ≡ told made.items process }
+fn place_among(made: Vec<(Name, Birth)>, process: Proc) -> Outcome
+    ensures { result ≡ place_among made.items process }
 {
     for (name, birth) in made {
         if let Some(rank) = birth.rank_of(process) {

@@ -58,7 +58,7 @@ threads_alone : job_in (codes "gossipmpi" ∷ codes "run" ∷ codes "--threads" 
 threads_alone = refl
 
 threads_and_turns : job_in (codes "gossipmpi" ∷ codes "run" ∷ codes "--turns" ∷ codes "9" ∷ codes "--threads" ∷ codes "--relays" ∷ codes "2" ∷ [])
-    ≡ Some (record { command = Run; options = record { threads = true; seed = 1; loss = 0; relays = 2; turns = 9 } })
+    ≡ Some (record { command = Run; options = record { threads = true; seed = 1; loss = 0; relays = 2; turns = 9; workers = None } })
 unfolding number_of magnitude
 threads_and_turns = refl
 
@@ -70,7 +70,7 @@ threads_of_an_evaluation : job_in (codes "gossipmpi" ∷ codes "eval" ∷ codes 
 threads_of_an_evaluation = refl
 
 number_in_the_same_word : job_in (codes "gossipmpi" ∷ codes "run" ∷ codes "--seed=7" ∷ codes "--loss" ∷ codes "40" ∷ codes "--turns=9" ∷ [])
-    ≡ Some (record { command = Run; options = record { threads = false; seed = 7; loss = 40; relays = 0; turns = 9 } })
+    ≡ Some (record { command = Run; options = record { threads = false; seed = 7; loss = 40; relays = 0; turns = 9; workers = None } })
 unfolding number_of magnitude
 number_in_the_same_word = refl
 

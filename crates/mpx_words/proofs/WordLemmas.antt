@@ -12,21 +12,22 @@ take_whole (x ∷ xs) = ap (λ ys. x ∷ ys) (take_whole xs)
 told_of_first : {A B : Type 0} (f : A → B) (u x : A) (b : B) → x ≡ u → f x ≡ b → f u ≡ b
 told_of_first f u x b e h = sym (ap f e) ∙ h
 
--- where none of five tests holds
-none_of : {A : Type 0} (t a b c d : Bool) (v w x y z n : A) → (t || (a || (b || (c || d)))) ≡ false
-    → (if t then v else if a then w else if b then x else if c then y else if d then z else n) ≡ n
-none_of true a b c d v w x y z n h = absurd (true≢false h)
-none_of false true b c d v w x y z n h = absurd (true≢false h)
-none_of false false true c d v w x y z n h = absurd (true≢false h)
-none_of false false false true d v w x y z n h = absurd (true≢false h)
-none_of false false false false true v w x y z n h = absurd (true≢false h)
-none_of false false false false false v w x y z n h = refl
+-- where none of six tests holds
+none_of : {A : Type 0} (t a b c d e : Bool) (u v w x y z n : A) → (t || (a || (b || (c || (d || e))))) ≡ false
+    → (if t then u else if a then v else if b then w else if c then x else if d then y else if e then z else n) ≡ n
+none_of true a b c d e u v w x y z n h = absurd (true≢false h)
+none_of false true b c d e u v w x y z n h = absurd (true≢false h)
+none_of false false true c d e u v w x y z n h = absurd (true≢false h)
+none_of false false false true d e u v w x y z n h = absurd (true≢false h)
+none_of false false false false true e u v w x y z n h = absurd (true≢false h)
+none_of false false false false false true u v w x y z n h = absurd (true≢false h)
+none_of false false false false false false u v w x y z n h = refl
 
 -- a word that is no whole option gives none
 not_whole : (o : Options) (word : List ℕ) → is_whole word ≡ false → with_whole o word ≡ None
 not_whole o word h =
-    none_of (is_flag word) (begins_with word (codes "--seed=")) (begins_with word (codes "--loss=")) (begins_with word (codes "--relays=")) (begins_with word (codes "--turns="))
-    (Some (with_flag o word)) (with_option o (codes "--seed") (drop 7 word)) (with_option o (codes "--loss") (drop 7 word)) (with_option o (codes "--relays") (drop 9 word)) (with_option o (codes "--turns") (drop 8 word)) None h
+    none_of (is_flag word) (begins_with word (codes "--seed=")) (begins_with word (codes "--loss=")) (begins_with word (codes "--relays=")) (begins_with word (codes "--turns=")) (begins_with word (codes "--workers="))
+    (Some (with_flag o word)) (with_option o (codes "--seed") (drop 7 word)) (with_option o (codes "--loss") (drop 7 word)) (with_option o (codes "--relays") (drop 9 word)) (with_option o (codes "--turns") (drop 8 word)) (with_option o (codes "--workers") (drop 10 word)) None h
 
 -- the first word is whole
 pub one_whole : {A : Type 0} (f : A → List ℕ) (o more : Options) (words : List A) (x : A) → 1 ≤ length words → x ≡ get_or words 0 x → is_whole (f x) ≡ true → with_whole o (f x) ≡ Some more

@@ -19,7 +19,7 @@ asks_ranks word = bytes_eq word (codes "-n") || bytes_eq word (codes "-np")
 
 -- an option whose number is the next word
 abbrev pub is_option : Text → Bool
-is_option word = bytes_eq word (codes "--seed") || (bytes_eq word (codes "--loss") || (bytes_eq word (codes "--relays") || bytes_eq word (codes "--turns")))
+is_option word = bytes_eq word (codes "--seed") || (bytes_eq word (codes "--loss") || (bytes_eq word (codes "--relays") || (bytes_eq word (codes "--turns") || bytes_eq word (codes "--workers"))))
 
 -- whether a number is awaited behind a word of `run`; none where the word is no part of an option
 abbrev pub awaits_behind : (awaits : Bool) → Text → Option Bool

@@ -23,6 +23,22 @@ plain name = record (new_shape name) { rules = common }
 abbrev pub run_flags : List Rule
 run_flags = flag (codes "strict") ∷ flag (codes "explain") ∷ flag (codes "trace") ∷ flag (codes "table") ∷ flag (codes "threads") ∷ []
 
+-- an option that is followed by a value
+abbrev pub valued : Text → Rule
+valued name = record (new_rule name) { long = Some name }
+
+-- those, and what a run draws from
+abbrev pub run_draws : List Rule
+run_draws =
+    flag (codes "strict")
+    ∷ flag (codes "explain")
+    ∷ flag (codes "trace")
+    ∷ flag (codes "table")
+    ∷ flag (codes "threads")
+    ∷ valued (codes "seed")
+    ∷ valued (codes "loss")
+    ∷ []
+
 -- `run` with its options: each of the others is followed by a value
 abbrev pub run : Shape
 run = record (new_shape (codes "run")) {
@@ -31,10 +47,11 @@ run = record (new_shape (codes "run")) {
       ∷ flag (codes "trace")
       ∷ flag (codes "table")
       ∷ flag (codes "threads")
-      ∷ record (new_rule (codes "seed")) { long = Some (codes "seed") }
-      ∷ record (new_rule (codes "loss")) { long = Some (codes "loss") }
-      ∷ record (new_rule (codes "relays")) { long = Some (codes "relays") }
-      ∷ record (new_rule (codes "turns")) { long = Some (codes "turns") }
+      ∷ valued (codes "seed")
+      ∷ valued (codes "loss")
+      ∷ valued (codes "relays")
+      ∷ valued (codes "turns")
+      ∷ valued (codes "workers")
       ∷ [];
 }
 

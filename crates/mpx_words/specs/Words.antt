@@ -20,7 +20,7 @@ number_within least most word = option_and_then (in_range least most) (number_of
 
 -- without options
 abbrev pub usual : Options
-usual = record { threads = false; seed = 1; loss = 0; relays = 0; turns = 100000 }
+usual = record { threads = false; seed = 1; loss = 0; relays = 0; turns = 100000; workers = None }
 
 -- the option of a run that stands alone
 abbrev pub is_threads : Text → Bool
@@ -53,6 +53,7 @@ with_option o option value =
     if bytes_eq option (codes "--loss") then option_map (λ n. record o { loss = n }) (number_within 0 100 value) else
     if bytes_eq option (codes "--relays") then option_map (λ n. record o { relays = n }) (number_within 0 63 value) else
     if bytes_eq option (codes "--turns") then option_map (λ n. record o { turns = n }) (number_within 1 10000000 value) else
+    if bytes_eq option (codes "--workers") then option_map (λ n. record o { workers = Some n }) (number_within 1 64 value) else
     None
 
 -- OPTIONS IN ONE WORD
@@ -62,7 +63,7 @@ begins_with word start = bytes_eq start (take (length start) word)
 
 -- an option with its number behind `=`
 abbrev pub is_joined : Text → Bool
-is_joined word = begins_with word (codes "--seed=") || (begins_with word (codes "--loss=") || (begins_with word (codes "--relays=") || begins_with word (codes "--turns=")))
+is_joined word = begins_with word (codes "--seed=") || (begins_with word (codes "--loss=") || (begins_with word (codes "--relays=") || (begins_with word (codes "--turns=") || begins_with word (codes "--workers="))))
 
 -- these options with that one
 abbrev pub with_joined : Options → Text → Option Options
@@ -71,6 +72,7 @@ with_joined o word =
     if begins_with word (codes "--loss=") then with_option o (codes "--loss") (drop 7 word) else
     if begins_with word (codes "--relays=") then with_option o (codes "--relays") (drop 9 word) else
     if begins_with word (codes "--turns=") then with_option o (codes "--turns") (drop 8 word) else
+    if begins_with word (codes "--workers=") then with_option o (codes "--workers") (drop 10 word) else
     None
 
 -- an option that is whole in one word: one that stands alone, or one with its number behind `=`
@@ -145,7 +147,7 @@ call_in words = option_and_then (λ job. fitting job (flags_behind words)) (job_
 -- WHAT IS SAID OF WORDS THAT ASK FOR NO JOB
 
 abbrev pub no_pair : Text
-no_pair = codes "--seed, --loss, --relays and --turns are each followed by a number, and the other options stand alone"
+no_pair = codes "--seed, --loss, --relays, --turns and --workers are each followed by a number, and the other options stand alone"
 
 abbrev pub stands_alone : Text
 stands_alone = codes "this command stands alone, but for --strict and --explain"
@@ -164,6 +166,7 @@ limits_of option =
     if is_of option (codes "--loss") (codes "--loss=") then codes "--loss is followed by a number from 0 to 100" else
     if is_of option (codes "--relays") (codes "--relays=") then codes "--relays is followed by a number from 0 to 63" else
     if is_of option (codes "--turns") (codes "--turns=") then codes "--turns is followed by a number from 1 to 10000000" else
+    if is_of option (codes "--workers") (codes "--workers=") then codes "--workers is followed by a number from 1 to 64" else
     no_pair
 
 -- that of an option which gives none, else what is said of the rest

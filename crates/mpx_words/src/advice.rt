@@ -208,6 +208,7 @@ fn is_option(word: &[u8]) -> bool
         || word == b"--loss".as_slice()
         || word == b"--relays".as_slice()
         || word == b"--turns".as_slice()
+        || word == b"--workers".as_slice()
 }
 
 // Whether the word is the command that has options.

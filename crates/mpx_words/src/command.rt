@@ -12,7 +12,7 @@ use mpx_num::parse_number;
 use std::alloc::Global;
 
 /// What `words` ask for, of which the first is the program's own name and the second the command's: `run` with `--threads`, `--seed N`
-/// (any u64, else 1), `--loss P` (0 to 100, else 0), `--relays N` (0 to 63, else 0), `--turns N` (1 to 10,000,000, else 100,000), and
+/// (any u64, else 1), `--loss P` (0 to 100, else 0), `--relays N` (0 to 63, else 0), `--turns N` (1 to 10,000,000, else 100,000), `--workers N` (1 to 64), and
 /// `--trace` or `--table`, neither with `--threads`; or `eval` or `check`. Each command may have `--strict` and `--explain`. `--seed=N`
 /// is `--seed N`, and so of each option with a number. Of an option that is given twice the last counts. A refusal has clap's text, or
 /// is want of memory.
@@ -152,6 +152,7 @@ pub(crate) fn usual() -> Options
         loss: 0,
         relays: 0,
         turns: 100_000,
+        workers: None,
     }
 }
 
@@ -251,6 +252,7 @@ fn is_joined(word: &[u8]) -> bool
         || word.starts_with(b"--loss=")
         || word.starts_with(b"--relays=")
         || word.starts_with(b"--turns=")
+        || word.starts_with(b"--workers=")
 }
 
 // These options with that one.
@@ -268,6 +270,9 @@ fn with_joined(options: Options, word: &[u8]) -> Option<Options>
     }
     if word.starts_with(b"--turns=") {
         return with_option(options, b"--turns", behind(word, 8));
+    }
+    if word.starts_with(b"--workers=") {
+        return with_option(options, b"--workers", behind(word, 10));
     }
     None
 }
@@ -298,6 +303,10 @@ pub(crate) fn with_option(options: Options, option: &[u8], value: &[u8]) -> Opti
     if option == b"--turns".as_slice() {
         let turns = number_within(1, 10_000_000, value)? as u32;
         return Some(Options { turns, ..options });
+    }
+    if option == b"--workers".as_slice() {
+        let workers = Some(number_within(1, 64, value)? as u8);
+        return Some(Options { workers, ..options });
     }
     None
 }

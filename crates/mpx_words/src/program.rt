@@ -3,7 +3,7 @@ ghost use Rattle.std.specs.Prelude.{◌≡◌, [], ◌∷◌, IfOk, Some, codes,
 ghost use Rattle.clap.specs.Words.{app_of, new_rule, rule_of, shape_of};
 ghost use Rattle.clap.specs.declared.builder.command.Command.TheViews.{out-Command as fields_of};
 ghost use Rattle.clap.specs.Simple.{new_shape};
-ghost use Rattle.mpx_words.specs.Usage.{bare_usage, common, flag, plain, run, run_flags, usage};
+ghost use Rattle.mpx_words.specs.Usage.{bare_usage, common, flag, plain, run, run_draws, run_flags, usage, valued};
 
 use clap::{Arg, ArgAction, Command};
 use std::alloc::{AllocError, Global};
@@ -56,11 +56,20 @@ fn run<'a>(alloc: Global) -> Result<Command<'a>, AllocError>
     ensures shape { IfOk result (λ c. shape_of c ≡ run) }
     ensures local { IfOk result (λ c. (fields_of c).has_globals ≡ false) }
 {
+    with_draws(alloc)?
+        .arg(option(alloc, "relays", RELAYS))?
+        .arg(option(alloc, "turns", TURNS))?
+        .arg(option(alloc, "workers", WORKERS))
+}
+
+// `run` with its flags, and with what it draws from.
+fn with_draws<'a>(alloc: Global) -> Result<Command<'a>, AllocError>
+    ensures shape { IfOk result (λ c. shape_of c ≡ record (new_shape (codes "run")) { rules = run_draws }) }
+    ensures local { IfOk result (λ c. (fields_of c).has_globals ≡ false) }
+{
     with_run_flags(alloc)?
         .arg(option(alloc, "seed", SEED))?
-        .arg(option(alloc, "loss", LOSS))?
-        .arg(option(alloc, "relays", RELAYS))?
-        .arg(option(alloc, "turns", TURNS))
+        .arg(option(alloc, "loss", LOSS))
 }
 
 // `run` without the options that are followed by a number.
@@ -115,6 +124,9 @@ const RELAYS: &str = "How many processes only carry frames, 0 to 63 [default: 0]
 
 const TURNS: &str = "How many turns are made at most, 1 to 10000000 [default: 100000]";
 
+const WORKERS: &str =
+    "In how many threads the processes work side by side, 1 to 64, which changes nothing that is printed; not used with --threads [default: one for each processor from 32 processes on, else 1]";
+
 // A command without options.
 fn bare<'a>(alloc: Global, name: &'a str, about: &'a str) -> Command<'a>
     ensures shape { shape_of result ≡ new_shape name.entry.now }
@@ -133,7 +145,7 @@ fn flag<'a>(alloc: Global, name: &'a str, help: &'a str) -> Arg<'a>
 
 // An option that is followed by a value.
 fn option<'a>(alloc: Global, name: &'a str, help: &'a str) -> Arg<'a>
-    ensures rule { rule_of result ≡ record (new_rule name.entry.now) { long = Some name.entry.now } }
+    ensures rule { rule_of result ≡ valued name.entry.now }
     ensures local { result.global ≡ false }
 {
     Arg::new(alloc, name).long(name).help(help)

@@ -94,7 +94,7 @@ fn complaint(words: &[String]) -> &'static str
 }
 
 const NO_PAIR: &str =
-    "--seed, --loss, --relays and --turns are each followed by a number, and the other options stand alone";
+    "--seed, --loss, --relays, --turns and --workers are each followed by a number, and the other options stand alone";
 
 // Whether the word is an option of this name, with or without its number behind `=`.
 fn is_of(option: &[u8], name: &[u8], joined: &[u8]) -> bool
@@ -118,6 +118,9 @@ fn limits_of(option: &[u8]) -> &'static str
     }
     if is_of(option, b"--turns", b"--turns=") {
         return "--turns is followed by a number from 1 to 10000000";
+    }
+    if is_of(option, b"--workers", b"--workers=") {
+        return "--workers is followed by a number from 1 to 64";
     }
     NO_PAIR
 }

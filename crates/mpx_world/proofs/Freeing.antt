@@ -9,6 +9,9 @@ use Rattle.mpx_post.specs.Posts.{Given, is_free, nothing_given}
 use Rattle.mpx_birth.specs.Births.{BirthView, rank_in}
 use Rattle.mpx_post.specs.Rows.{RowView, all_of}
 use Rattle.mpx_birth.specs.Topologies.{TopologyView}
+use Rattle.mpx_match.specs.declared.faults.Verdict.TheVariants as V
+use Rattle.mpx_match.specs.Verdicts.{verdict}
+use Rattle.mpx_match.proofs.FirstFault.{verdict-fine}
 use Rattle.mpx_post.specs.Agreement.{IsFineWith, first_of, post_at}
 use Rattle.mpx_value.specs.declared.outcomes.Outcome.{Outcome}
 use Rattle.mpx_value.specs.declared.outcomes.Outcome.TheVariants.{Nothing, Absent, Items, NewComm, Null, Fault}
@@ -60,7 +63,7 @@ nothing_is Null t = cc t
 nothing_is (Fault fault) t = cc t
 
 -- who is given nothing has a rank, and the row is fine
-given_nothing : (ops : List Operation) (birth : BirthView) (p : ℕ) (row : RowView) (name : Name) (k : ℕ) → value_for ops birth p row name k ≡ Some Nothing → (rank : ℕ) × (rank_in p birth.members ≡ Some rank) × IsFineWith birth.topology row
+given_nothing : (ops : List Operation) (birth : BirthView) (p : ℕ) (row : RowView) (name : Name) (k : ℕ) → value_for ops birth p row name k ≡ Some Nothing → (rank : ℕ) × (rank_in p birth.members ≡ Some rank) × (verdict ops birth.topology row ≡ V.Fine)
 given_nothing ops birth p row name k e =
     option_and_then_some (λ rank. let o : Option Outcome = Some (value ops birth row name k rank) in o) (rank_in p birth.members) Nothing e (λ rank is given.
     (rank, is, nothing-fine ops birth row name k rank (same_Some (value ops birth row name k rank) Nothing given)))
@@ -85,6 +88,6 @@ free_done w p name k n r v t l done =
       born = v.born;
       whole = v.whole;
       fine = nothing.2;
-      frees = all_free v.birth.topology v.row nothing.2 nothing.0 own.0 own.2 (ap is_free mine ∙ both.0);
+      frees = all_free v.birth.topology v.row (verdict-fine w.operations v.birth.topology v.row nothing.2) nothing.0 own.0 own.2 (ap is_free mine ∙ both.0);
       harvested = λ rank q m. let far : n ≤ own_front w name q = (subst (HaveHarvested w name n) v.born done) rank q m in omega (arith, l, far);
     }

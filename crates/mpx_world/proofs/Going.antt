@@ -21,13 +21,14 @@ use Rattle.mpx_node.specs.declared.node.Harvest.{Harvest}
 use Rattle.mpx_node.specs.declared.node.Harvest.TheVariants as H
 use Rattle.mpx_node.specs.Deltas.{SaysWhatItHas}
 use Rattle.mpx_node.specs.Harvests.{Harvests, HarvestsOpened}
-use Rattle.mpx_node.specs.Nodes.{NodeView, Opens, Posts as MakesPost, StopsTaking, acknowledge, add_result, checked_on, gathers_on, learn, learn_some, next_result, open_gathering_node, post_at, prune_part, results_on}
-use Rattle.mpx_world.specs.Worlds.{ProcessView, WorldView, MayLeave, makes, made_next, stores, opens_gathering, drops, takes, learns, posts, harvests, gathers, prunes, acknowledges, Happening, Posts, Harvests as HappensHarvest, Gathers, Prunes, Sends, Takes, TakesPartly, Acknowledges, at_process, happens, MayHappen, MayGoOn, start, world_by}
+use Rattle.mpx_node.specs.Nodes.{NodeView, Opens, Posts as MakesPost, StopsTaking, acknowledge, add_result, checked_on, gathers_on, learn, learn_some, next_result, open_gathering_node, with_post, prune_part, results_on}
+use Rattle.mpx_world.specs.Worlds.{ProcessView, WorldView, MayLeave, MayPost, makes, made_next, stores, opens_gathering, drops, takes, learns, harvests, gathers, prunes, acknowledges, Happening, Posts, Harvests as HappensHarvest, Gathers, Prunes, Sends, Takes, TakesPartly, Acknowledges, at_process, happens, MayHappen, MayGoOn, start, world_by}
 use Rattle.mpx_world.specs.Soundness.{AgreeAcross, BoardsAgree}
 use Rattle.mpx_world.specs.Networks.{EachAgrees, AreAmong, AreKept, AreNew, DeadStaysOn, NodeGives, NetworkGoesOn, HasPruned, IsNetwork, IsNodeStep, IsTake, Network, NodesAgree, network_of, new_network, world_in}
 use Rattle.mpx_world.proofs.Lists.{cond_cases, itself, same_number, slice_get-push}
 use Rattle.mpx_world.proofs.Kept.{taken_node}
 use Rattle.mpx_world.proofs.Later.{Later, later_goes_on}
+use Rattle.mpx_world.proofs.Drafted.{checked_may}
 use Rattle.mpx_world.proofs.Reached.{agree_across, all_agree, dead_stays, own_seen}
 use Rattle.mpx_world.proofs.Covering.{digest_had}
 use Rattle.mpx_post.proofs.Lists.{set_cases, slice_get-append}
@@ -112,7 +113,7 @@ by_step n p old new step h s at m is new_is =
 
 -- CALLS OF A NODE
 
-post_cases : (name : Name) (r : Result Given PostError) (result : Result ℕ PostError) (old new : NodeView) → MakesPost name r result old new → (new ≡ old) ⊎ ((given : Given) × (r ≡ Ok given) × (new ≡ post_at name given old))
+post_cases : (name : Name) (r : Result Given PostError) (result : Result ℕ PostError) (old new : NodeView) → MakesPost name r result old new → (new ≡ old) ⊎ ((given : Given) × (r ≡ Ok given) × (new ≡ with_post name given old))
 post_cases name (Err refusal) result old new h = inl h.1
 post_cases name (Ok given) (Ok call) old new h = inr (given, refl, h.1)
 post_cases name (Ok given) (Err e) old new h = inl h.1
@@ -120,8 +121,9 @@ post_cases name (Ok given) (Err e) old new h = inl h.1
 pub post_step : (ops : List Operation) (old new : NodeView) (name : Name) (draft : Draft) (result : Result ℕ PostError) → MakesPost name (checked_on ops old name draft) result old new → IsNodeStep ops old new
 post_step ops old new name draft result h n s with_ops p at = elim (post_cases name (checked_on ops old name draft) result old new h) [
   | inl same ↦ unchanged_step ops old new same n s with_ops p at
-  | inr made ↦ by_step n p old new (posts (world_in n).operations name draft) (Posts p name draft) s at tt refl (let v = (world_in n).each p in let here = s.each p old at in
-      made.2 ∙ ap (post_at name made.0) here ∙ ap (λ r. (makes name r v).node) (sym (ap (λ x. checked_on (world_in n).operations x name draft) (sym here) ∙ ap (λ o. checked_on o old name draft) (operations_in n ∙ with_ops) ∙ made.1)))
+  | inr made ↦ let here = s.each p old at in
+      by_step n p old new (makes name made.0) (Posts p name made.0) s at (subst (λ (v : NodeView). MayPost (v.opened name)) here (checked_may ops old name draft made.0 made.1)) refl
+      (made.2 ∙ ap (with_post name made.0) here)
 ]
 
 opened_cases : (ops : List Operation) (name : Name) (next : Option Finished) (result : Result Harvest OutOfMemory) (old new : NodeView) → HarvestsOpened ops name next result old new → (new ≡ old) ⊎ ((finished : Finished) × (next ≡ Some finished) × (new ≡ add_result name finished (made_next ops name old) old))

@@ -1,20 +1,15 @@
 -- What a process has is so in a world, and its posts keep that.
 use Rattle.std.proofs.Common.{◌≡◌, ℕ, ◌+◌, Bool, true, false, cond, ◌||◌, List, [], ◌∷◌, ◌++◌, length, Option, Some, None, refl, sym, ap, ◌∙◌, subst, arith, length-append}
-use Rattle.std.specs.Prelude.{slice_get, is_some, IsTrue, Result, Ok, Err}
+use Rattle.std.specs.Prelude.{slice_get, is_some, IsTrue}
 use Rattle.std.specs.List.{list_any}
 use Rattle.mpx_post.specs.Posts.{Given, is_free}
-use Rattle.mpx_birth.specs.Births.{BirthView}
-use Rattle.mpx_post.specs.declared.draft.Draft.{Draft}
-use Rattle.mpx_post.specs.declared.draft.PostError.{PostError}
-use Rattle.mpx_post.specs.declared.draft.PostError.TheVariants.{Closed}
 use Rattle.mpx_name.specs.Name.{Name, same_name}
-use Rattle.mpx_num.specs.declared.own.Operation.{Operation}
-use Rattle.mpx_board.specs.Boards.{Look, join, join_all, told}
+use Rattle.mpx_board.specs.Boards.{Look, join, join_all}
 use Rattle.mpx_value.specs.declared.outcomes.Outcome.TheVariants.{NewComm}
 use Rattle.mpx_value.specs.Histories.{Made, has_freed, posts_on}
 use Rattle.mpx_node.specs.declared.finished.Finished.{Finished}
-use Rattle.mpx_node.specs.Nodes.{NodeView, OpenedView, freed_by, posted_on, results_on, freed_on, checked_by, checked_there, checked_on}
-use Rattle.mpx_world.specs.Worlds.{ProcessView, WorldView, history, learns, post_fact, makes, posts}
+use Rattle.mpx_node.specs.Nodes.{NodeView, OpenedView, freed_by, posted_on, results_on, freed_on}
+use Rattle.mpx_world.specs.Worlds.{ProcessView, WorldView, MayPost, history, learns, post_fact, makes}
 use Rattle.mpx_world.specs.Soundness.{IsValue}
 use Rattle.mpx_world.proofs.Lists.{any_at, any_push, cond_cases, name_itself, names_same, slice_get-push, slice_get-push_cases, join_all-push, posts_on-push}
 use Rattle.mpx_world.proofs.Kept.{Kept, kept_makes, results_posted, posted_posted, freed_posted}
@@ -94,7 +89,7 @@ ends_push xs x none k given e = slice_get-push_cases (λ y j. is_free y ≡ true
     (λ is last free. length-append xs (x ∷ []) ∙ omega (arith, last))
 
 -- the new post is there in the new world
-made_there : (w : WorldView) (p : ℕ) (name : Name) (given : Given) (v : ProcessView) → w.each p ≡ makes name (Ok given) v → Good w p v → (history w).post name (posted_on v.node name) p ≡ Some given
+made_there : (w : WorldView) (p : ℕ) (name : Name) (given : Given) (v : ProcessView) → w.each p ≡ makes name given v → Good w p v → (history w).post name (posted_on v.node name) p ≡ Some given
 made_there w p name given v here g =
     let new : Made = record { name = name; given = given } in
     let k = posted_on v.node name in
@@ -103,38 +98,27 @@ made_there w p name given v here g =
     ∙ ap (λ j. slice_get (posts_on name v.made ++ given ∷ []) j) (g.counted name)
     ∙ slice_get-push (posts_on name v.made) given
 
-pub good_makes : (w : WorldView) (p : ℕ) (name : Name) (given : Given) (v : ProcessView) (o : OpenedView) → w.each p ≡ makes name (Ok given) v → v.node.opened name ≡ Some o → o.freed ≡ false → Good w p v → Good w p (makes name (Ok given) v)
-good_makes w p name given v o here open' unfreed g =
+-- who may post has opened the context, and has posted no free there
+pub may_post : (x : Option OpenedView) → MayPost x → (o : OpenedView) × (x ≡ Some o) × (o.freed ≡ false)
+may_post None m = absurd m
+may_post (Some o) m = (o, refl, m)
+
+pub good_makes : (w : WorldView) (p : ℕ) (name : Name) (given : Given) (v : ProcessView) → w.each p ≡ makes name given v → MayPost (v.node.opened name) → Good w p v → Good w p (makes name given v)
+good_makes w p name given v here may g =
     let new : Made = record { name = name; given = given } in
+    let o = may_post (v.node.opened name) may in
     let there : (history w).post name (posted_on v.node name) v.node.me ≡ Some given = ap ((history w).post name (posted_on v.node name)) g.me_is ∙ made_there w p name given v here g in
     record {
       me_is = g.me_is;
       joined = joined_more w p v (post_fact name given v.node) g;
       learned_so = learned_more w p v (post_fact name given v.node) g (held_so w name (posted_on v.node name) v.node.me given there);
-      counted = λ n. posted_posted name n given v.node o open' ∙ count_more (same_name n name) (posted_on v.node n) (posts_on n v.made) given (g.counted n) ∙ sym (ap length (posts_on-push n v.made new));
-      closed = λ n. freed_posted name n given v.node o open' ∙ freed_more (same_name n name) (freed_on v.node n) (posts_on n v.made) given (g.closed n) ∙ sym (ap (list_any is_free) (posts_on-push n v.made new));
+      counted = λ n. posted_posted name n given v.node o.0 o.1 ∙ count_more (same_name n name) (posted_on v.node n) (posts_on n v.made) given (g.counted n) ∙ sym (ap length (posts_on-push n v.made new));
+      closed = λ n. freed_posted name n given v.node o.0 o.1 ∙ freed_more (same_name n name) (freed_on v.node n) (posts_on n v.made) given (g.closed n) ∙ sym (ap (list_any is_free) (posts_on-push n v.made new));
       ends = λ n k x e free. subst (λ xs. length xs ≡ k + 1) (sym (posts_on-push n v.made new))
           (cond_cases (λ xs. slice_get xs k ≡ Some x → length xs ≡ k + 1) (same_name n name) (posts_on n v.made ++ given ∷ []) (posts_on n v.made)
-          (λ t more. ends_push (posts_on n v.made) given (sym (g.closed n) ∙ ap (λ m. freed_on v.node m) (names_same n name t) ∙ ap freed_by open' ∙ unfreed) k x more free)
+          (λ t more. ends_push (posts_on n v.made) given (sym (g.closed n) ∙ ap (λ m. freed_on v.node m) (names_same n name t) ∙ ap freed_by o.1 ∙ o.2) k x more free)
           (λ t old. g.ends n k x old free)
           (subst (λ xs. slice_get xs k ≡ Some x) (posts_on-push n v.made new) e));
       values = λ n k r e. g.values n k r (subst (λ xs. slice_get xs k ≡ Some r) (results_posted name n given v.node) e);
-      opened_given = λ n k r e. opened_later v (makes name (Ok given) v) r (kept_makes name (Ok given) v) (g.opened_given n k r (subst (λ xs. slice_get xs k ≡ Some r) (results_posted name n given v.node) e));
+      opened_given = λ n k r e. opened_later v (makes name given v) r (kept_makes name given v) (g.opened_given n k r (subst (λ xs. slice_get xs k ≡ Some r) (results_posted name n given v.node) e));
     }
-
-not_closed : (freed : Bool) (r : Result Given PostError) (given : Given) → (let x : Result Given PostError = cond freed (Err Closed) r in x) ≡ Ok given → freed ≡ false
-not_closed true r given e = cc e
-not_closed false r given e = refl
-
--- a post is made on an opened context alone, and behind no own free
-checked_opened : (ops : List Operation) (x : Option OpenedView) (birth : Option BirthView) (me : ℕ) (name : Name) (draft : Draft) (given : Given) → checked_by ops x birth me name draft ≡ Ok given → (o : OpenedView) × (x ≡ Some o) × (o.freed ≡ false)
-checked_opened ops None birth me name draft given e = cc e
-checked_opened ops (Some o) birth me name draft given e = (o, refl, not_closed o.freed (checked_there ops o.posted birth me name draft) given e)
-
-pub good_posts : (w : WorldView) (p : ℕ) (name : Name) (draft : Draft) (v : ProcessView) → w.each p ≡ posts w.operations name draft v → Good w p v → Good w p (posts w.operations name draft v)
-good_posts w p name draft v here g = by_answer (checked_on w.operations v.node name draft) refl here where
-  by_answer : (r : Result Given PostError) → checked_on w.operations v.node name draft ≡ r → w.each p ≡ makes name r v → Good w p (makes name r v)
-  by_answer (Ok given) e h =
-      let o = checked_opened w.operations (v.node.opened name) (told (v.node.board.contexts name).birth) v.node.me name draft given e in
-      good_makes w p name given v o.0 h o.1 o.2 g
-  by_answer (Err refusal) e h = g

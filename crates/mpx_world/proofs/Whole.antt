@@ -1,13 +1,20 @@
 -- All that is kept along lists of events and of what happens.
-use Rattle.std.proofs.Common.{◌≡◌, ℕ, List, [], ◌∷◌, ◌++◌, refl, sym, ap, ◌∙◌, subst}
-use Rattle.std.specs.Prelude.{nat_lt}
+use Rattle.std.proofs.Common.{◌≡◌, ℕ, Bool, true, false, cond, List, [], ◌∷◌, ◌++◌, refl, sym, ap, ◌∙◌, subst}
+use Rattle.std.specs.Prelude.{Result, Ok, Err}
+use Rattle.mpx_name.specs.Name.{Name}
 use Rattle.mpx_num.specs.declared.own.Operation.{Operation}
+use Rattle.mpx_post.specs.Posts.{Given}
+use Rattle.mpx_post.specs.declared.draft.Draft.{Draft}
+use Rattle.mpx_post.specs.declared.draft.PostError.{PostError}
+use Rattle.mpx_node.specs.Nodes.{checked_on}
 use Rattle.mpx_world.specs.declared.events.Event.{Event}
-use Rattle.mpx_world.specs.Worlds.{WorldView, Happening, happens, MayHappen, goes_on, MayGoOn, start, world_by}
-use Rattle.mpx_world.specs.Events.{process_of, happening_of, does, does_all, world_after}
-use Rattle.mpx_world.proofs.Lists.{cond_same}
+use Rattle.mpx_world.specs.Worlds.{WorldView, Happening, Posts, at_process, happens, makes, MayHappen, goes_on, MayGoOn, start, world_by}
+use Rattle.mpx_world.specs.Drafted.{makes_checked, posts}
+use Rattle.mpx_world.specs.Events.{happened, happening_of, does, does_all, is_refusal, replies, reply, world_after}
+use Rattle.mpx_world.proofs.Lists.{cond_cases}
 use Rattle.mpx_world.proofs.Steps.{Holds, holds_start, holds_happens}
 use Rattle.mpx_world.proofs.Later.{Later, later_goes_on}
+use Rattle.mpx_world.proofs.Drafted.{at_itself, at_same, checked_may}
 use Rattle.mpx_world.proofs.Reached.{may_happen, later_does_all}
 use Rattle.mpx_world.proofs.Retention.{AllStore, stores_start, stores_happens}
 use Rattle.mpx_world.proofs.Opened.{AllIn, in_start, in_happens}
@@ -32,8 +39,12 @@ pub well_goes_on : (hs : List Happening) (w : WorldView) → MayGoOn w hs → Is
 well_goes_on [] w m s = s
 well_goes_on (h ∷ hs) w m s = well_goes_on hs (happens w h) m.1 (well_happens w h m.0 s)
 
+pub holds_goes_on : (hs : List Happening) (w : WorldView) → MayGoOn w hs → Holds w → Holds (goes_on w hs)
+holds_goes_on [] w m s = s
+holds_goes_on (h ∷ hs) w m s = holds_goes_on hs (happens w h) m.1 (holds_happens w h s m.0)
+
 pub well_does : (w : WorldView) (e : Event) → IsWell w → IsWell (does w e)
-well_does w e s = cond_same IsWell (nat_lt (process_of e) w.size) (happens w (happening_of w e)) w (well_happens w (happening_of w e) (may_happen w e s.holds) s) s
+well_does w e s = cond_cases IsWell (is_refusal (reply w e)) w (happens w (happening_of w e)) (λ t. s) (λ t. well_happens w (happening_of w e) (may_happen w e s.holds t) s)
 
 pub well_does_all : (es : List Event) (w : WorldView) → IsWell w → IsWell (does_all w es)
 well_does_all [] w s = s
@@ -75,13 +86,36 @@ leads_on from w to l m = record {
 pub leads_by : (w : WorldView) (h : Happening) → MayHappen w h → LeadsTo w (happens w h)
 leads_by w h m = record { happenings = h ∷ []; may = (m, tt); is = refl }
 
-leads_does : (w : WorldView) (e : Event) → Holds w → LeadsTo w (does w e)
-leads_does w e s = cond_same (LeadsTo w) (nat_lt (process_of e) w.size) (happens w (happening_of w e)) w (leads_by w (happening_of w e) (may_happen w e s)) (leads_nowhere w)
+-- a draft leads to its post, or nowhere
+pub leads_draft : (w : WorldView) (p : ℕ) (name : Name) (draft : Draft) → LeadsTo w (at_process p (posts w.operations name draft) w)
+leads_draft w p name draft = by_check (checked_on w.operations (w.each p).node name draft) refl where
+  by_check : (r : Result Given PostError) → checked_on w.operations (w.each p).node name draft ≡ r → LeadsTo w (at_process p (posts w.operations name draft) w)
+  by_check (Ok given) e = record {
+    happenings = Posts p name given ∷ [];
+    may = (checked_may w.operations (w.each p).node name draft given e, tt);
+    is = at_same w p (makes name given) (posts w.operations name draft) (ap (λ r. makes_checked name r (w.each p)) (sym e));
+  }
+  by_check (Err refusal) e = record { happenings = []; may = tt; is = sym (at_itself w p (posts w.operations name draft) (ap (λ r. makes_checked name r (w.each p)) e)) }
 
--- so events do
+-- by the events that aren't refused
+pub happened_is : (es : List Event) (w : WorldView) → goes_on w (happened w es (replies w es)) ≡ does_all w es
+happened_is [] w = refl
+happened_is (e ∷ es) w = by_answer (is_refusal (reply w e)) (happened_is es) where
+  by_answer : (b : Bool) → ((v : WorldView) → goes_on v (happened v es (replies v es)) ≡ does_all v es)
+      → (let after : WorldView = cond b w (happens w (happening_of w e)) in goes_on w (cond b (happened w es (replies after es)) (happening_of w e ∷ happened (happens w (happening_of w e)) es (replies after es))) ≡ does_all after es)
+  by_answer true rest = rest w
+  by_answer false rest = rest (happens w (happening_of w e))
+
+pub happened_may : (es : List Event) (w : WorldView) → IsWell w → MayGoOn w (happened w es (replies w es))
+happened_may [] w s = tt
+happened_may (e ∷ es) w s = by_answer (is_refusal (reply w e)) refl (happened_may es) where
+  by_answer : (b : Bool) → is_refusal (reply w e) ≡ b → ((v : WorldView) → IsWell v → MayGoOn v (happened v es (replies v es)))
+      → (let after : WorldView = cond b w (happens w (happening_of w e)) in MayGoOn w (cond b (happened w es (replies after es)) (happening_of w e ∷ happened (happens w (happening_of w e)) es (replies after es))))
+  by_answer true t rest = rest w s
+  by_answer false t rest = let m = may_happen w e s.holds t in (m, rest (happens w (happening_of w e)) (well_happens w (happening_of w e) m s))
+
 pub leads_all : (es : List Event) (w : WorldView) → IsWell w → LeadsTo w (does_all w es)
-leads_all [] w s = leads_nowhere w
-leads_all (e ∷ es) w s = leads_on w (does w e) (does_all (does w e) es) (leads_does w e s.holds) (leads_all es (does w e) (well_does w e s))
+leads_all es w s = record { happenings = happened w es (replies w es); may = happened_may es w s; is = happened_is es w }
 
 -- FROM THE START
 

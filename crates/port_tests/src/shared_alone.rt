@@ -18,7 +18,7 @@ use std::marker::Brand;
 use std::sync::Wait;
 use std::sync::ledger::Blank;
 use std::test::Fail;
-use test_drafts::{draft, just};
+use test_drafts::{draft, just, kinds};
 
 // What is told: of frames, of a gathering, of births, and of a free.
 type AllTold = (bool, bool, bool, bool);
@@ -90,7 +90,7 @@ fn gathers<L: PortLock, R: Wait>(
     requires ledger { (L.all ≡ L.parts) × (0 < L.parts) }
     requires bus { (L.setup.planned ≡ false) × (table_of bus.now ≡ L.table) }
 {
-    let drafted = draft(alloc, &just(Kind::CreateGroup))?;
+    let drafted = draft(alloc, &just(kinds::CREATE_GROUP))?;
     let ticket = post(rt, alloc, port, poster, gathering, drafted, ops)?;
     port.pull(rt, alloc, bus, ops);
     match port.test(rt, alloc, &ticket)? {
@@ -135,7 +135,7 @@ fn frees<L: PortLock, R: Wait>(
     let open = !port.is_closed(rt, poster, &world);
     let freed = !is_refused(rt, alloc, port, poster, &world, Kind::Free, ops)?;
     let closed = port.is_closed(rt, poster, &world) && !port.is_closed(rt, poster, gathering);
-    let refused = is_refused(rt, alloc, port, poster, &world, Kind::Barrier, ops)?;
+    let refused = is_refused(rt, alloc, port, poster, &world, kinds::BARRIER, ops)?;
     Ok(open && freed && closed && refused)
 }
 

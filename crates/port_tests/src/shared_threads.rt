@@ -7,7 +7,6 @@ ghost use Rattle.mpx_shared.specs.LawfulPorts.{IsLawful, made_in};
 use crate::fleets::one_port;
 use crate::shared_ports::{Shared, post, share};
 use mpx_bus::{Bus, Port};
-use mpx_kind::Kind;
 use mpx_name::Name;
 use mpx_num::{Listing, Ops};
 use mpx_post::PostError;
@@ -18,7 +17,7 @@ use std::sync::Wait;
 use std::sync::ledger::Blank;
 use std::test::Fail;
 use std::thread::{Threads, join};
-use test_drafts::{draft, just};
+use test_drafts::{draft, just, kinds};
 
 fn post_barrier<L: PortLock, R: Wait>(
     rt: &R,
@@ -31,7 +30,7 @@ fn post_barrier<L: PortLock, R: Wait>(
     requires ledger { (L.all ≡ L.parts) × (0 < L.parts) }
     requires plan { L.setup.planned ≡ false }
 {
-    let Ok(draft) = draft(alloc, &just(Kind::Barrier)) else {
+    let Ok(draft) = draft(alloc, &just(kinds::BARRIER)) else {
         return Err(PostError::OutOfMemory);
     };
     let _ticket = post(rt, alloc, port, poster, &Name::world(alloc), draft, ops)?;

@@ -9,36 +9,37 @@ use mpx_value::Outcome;
 use std::alloc::Global;
 use std::process::Abort;
 use std::test::Fail;
+use test_drafts::kinds;
 
 const SEVEN: &[i128] = &[7];
 
 // The kinds that are given one list, the items.
 const OF_ITEMS: [Kind; 12] = [
-    Kind::Bcast,
-    Kind::Gather,
-    Kind::Scatter,
-    Kind::Allgather,
-    Kind::Alltoall,
-    Kind::Reduce,
-    Kind::Allreduce,
-    Kind::ReduceScatterBlock,
-    Kind::Scan,
-    Kind::Exscan,
-    Kind::NeighborAllgather,
-    Kind::NeighborAlltoall,
+    kinds::BCAST,
+    kinds::GATHER,
+    kinds::SCATTER,
+    kinds::ALLGATHER,
+    kinds::ALLTOALL,
+    kinds::REDUCE,
+    kinds::ALLREDUCE,
+    kinds::REDUCE_SCATTER_BLOCK,
+    kinds::SCAN,
+    kinds::EXSCAN,
+    kinds::NEIGHBOR_ALLGATHER,
+    kinds::NEIGHBOR_ALLTOALL,
 ];
 
 // The kinds that are also given one list of counts.
 const OF_COUNTS: [Kind; 5] = [
-    Kind::Gatherv,
-    Kind::Scatterv,
-    Kind::Allgatherv,
-    Kind::ReduceScatter,
-    Kind::NeighborAllgatherv,
+    kinds::GATHERV,
+    kinds::SCATTERV,
+    kinds::ALLGATHERV,
+    kinds::REDUCE_SCATTER,
+    kinds::NEIGHBOR_ALLGATHERV,
 ];
 
 // The kinds that are given two lists of counts.
-const OF_BOTH_COUNTS: [Kind; 2] = [Kind::Alltoallv, Kind::NeighborAlltoallv];
+const OF_BOTH_COUNTS: [Kind; 2] = [kinds::ALLTOALLV, kinds::NEIGHBOR_ALLTOALLV];
 
 fn call_of_items(
     alloc: Global,
@@ -49,20 +50,29 @@ fn call_of_items(
     ops: &Ops,
 ) -> Result<Finished, CallError> {
     match kind {
-        Kind::Bcast => desk.bcast(alloc, comm, 0, Ty::I64, 1, items, 0, ops),
-        Kind::Gather => desk.gather(alloc, comm, 0, Ty::I64, items, 0, ops),
-        Kind::Scatter => desk.scatter(alloc, comm, 0, Ty::I64, 1, items, 0, ops),
-        Kind::Allgather => desk.allgather(alloc, comm, Ty::U8, items, 0, ops),
-        Kind::Alltoall => desk.alltoall(alloc, comm, Ty::U8, 1, items, 0, ops),
-        Kind::Reduce => desk.reduce(alloc, comm, 0, Op::Sum, Ty::I64, items, 0, ops),
-        Kind::Allreduce => desk.allreduce(alloc, comm, Op::Sum, Ty::I64, items, 0, ops),
-        Kind::ReduceScatterBlock => {
+        kinds::BCAST => desk.bcast(alloc, comm, 0, Ty::I64, 1, items, 0, ops),
+        kinds::GATHER => desk.gather(alloc, comm, 0, Ty::I64, items, 0, ops),
+        kinds::SCATTER => desk.scatter(alloc, comm, 0, Ty::I64, 1, items, 0, ops),
+        kinds::ALLGATHER => desk.allgather(alloc, comm, Ty::U8, items, 0, ops),
+        kinds::ALLTOALL => desk.alltoall(alloc, comm, Ty::U8, 1, items, 0, ops),
+        kinds::REDUCE => desk.reduce(alloc, comm, 0, Op::Sum, Ty::I64, items, 0, ops),
+        kinds::ALLREDUCE => desk.allreduce(alloc, comm, Op::Sum, Ty::I64, items, 0, ops),
+        kinds::REDUCE_SCATTER_BLOCK => {
             desk.reduce_scatter_block(alloc, comm, Op::Sum, Ty::I64, 1, items, 0, ops)
         }
-        Kind::Scan => desk.scan(alloc, comm, Op::Sum, Ty::I64, items, 0, ops),
-        Kind::Exscan => desk.exscan(alloc, comm, Op::Sum, Ty::I64, items, 0, ops),
-        Kind::NeighborAllgather => desk.neighbor_allgather(alloc, comm, Ty::I8, 1, items, 0, ops),
-        Kind::NeighborAlltoall => desk.neighbor_alltoall(alloc, comm, Ty::I8, 1, 1, items, 0, ops),
+        kinds::SCAN => desk.scan(alloc, comm, Op::Sum, Ty::I64, items, 0, ops),
+        kinds::EXSCAN => desk.exscan(alloc, comm, Op::Sum, Ty::I64, items, 0, ops),
+        kinds::NEIGHBOR_ALLGATHER => desk.neighbor_allgather(alloc, comm, Ty::I8, 1, items, 0, ops),
+        kinds::NEIGHBOR_ALLTOALL => desk.neighbor_alltoall(
+            alloc,
+            comm,
+            Ty::I8,
+            1,
+            1,
+            items,
+            0,
+            ops,
+        ),
         _ => Err(CallError::Refused(PostError::NotMember)),
     }
 }
@@ -76,20 +86,20 @@ fn start_of_items(
     ops: &Ops,
 ) -> Result<Request, PostError> {
     match kind {
-        Kind::Bcast => desk.ibcast(alloc, comm, 0, Ty::I64, 1, items, ops),
-        Kind::Gather => desk.igather(alloc, comm, 0, Ty::I64, items, ops),
-        Kind::Scatter => desk.iscatter(alloc, comm, 0, Ty::I64, 1, items, ops),
-        Kind::Allgather => desk.iallgather(alloc, comm, Ty::U8, items, ops),
-        Kind::Alltoall => desk.ialltoall(alloc, comm, Ty::U8, 1, items, ops),
-        Kind::Reduce => desk.ireduce(alloc, comm, 0, Op::Sum, Ty::I64, items, ops),
-        Kind::Allreduce => desk.iallreduce(alloc, comm, Op::Sum, Ty::I64, items, ops),
-        Kind::ReduceScatterBlock => {
+        kinds::BCAST => desk.ibcast(alloc, comm, 0, Ty::I64, 1, items, ops),
+        kinds::GATHER => desk.igather(alloc, comm, 0, Ty::I64, items, ops),
+        kinds::SCATTER => desk.iscatter(alloc, comm, 0, Ty::I64, 1, items, ops),
+        kinds::ALLGATHER => desk.iallgather(alloc, comm, Ty::U8, items, ops),
+        kinds::ALLTOALL => desk.ialltoall(alloc, comm, Ty::U8, 1, items, ops),
+        kinds::REDUCE => desk.ireduce(alloc, comm, 0, Op::Sum, Ty::I64, items, ops),
+        kinds::ALLREDUCE => desk.iallreduce(alloc, comm, Op::Sum, Ty::I64, items, ops),
+        kinds::REDUCE_SCATTER_BLOCK => {
             desk.ireduce_scatter_block(alloc, comm, Op::Sum, Ty::I64, 1, items, ops)
         }
-        Kind::Scan => desk.iscan(alloc, comm, Op::Sum, Ty::I64, items, ops),
-        Kind::Exscan => desk.iexscan(alloc, comm, Op::Sum, Ty::I64, items, ops),
-        Kind::NeighborAllgather => desk.ineighbor_allgather(alloc, comm, Ty::I8, 1, items, ops),
-        Kind::NeighborAlltoall => desk.ineighbor_alltoall(alloc, comm, Ty::I8, 1, 1, items, ops),
+        kinds::SCAN => desk.iscan(alloc, comm, Op::Sum, Ty::I64, items, ops),
+        kinds::EXSCAN => desk.iexscan(alloc, comm, Op::Sum, Ty::I64, items, ops),
+        kinds::NEIGHBOR_ALLGATHER => desk.ineighbor_allgather(alloc, comm, Ty::I8, 1, items, ops),
+        kinds::NEIGHBOR_ALLTOALL => desk.ineighbor_alltoall(alloc, comm, Ty::I8, 1, 1, items, ops),
         _ => Err(PostError::NotMember),
     }
 }
@@ -104,13 +114,13 @@ fn call_of_counts(
     ops: &Ops,
 ) -> Result<Finished, CallError> {
     match kind {
-        Kind::Gatherv => desk.gatherv(alloc, comm, 0, Ty::I64, counts, items, 0, ops),
-        Kind::Scatterv => desk.scatterv(alloc, comm, 0, Ty::I64, counts, 1, items, 0, ops),
-        Kind::Allgatherv => desk.allgatherv(alloc, comm, Ty::U8, counts, items, 0, ops),
-        Kind::ReduceScatter => {
+        kinds::GATHERV => desk.gatherv(alloc, comm, 0, Ty::I64, counts, items, 0, ops),
+        kinds::SCATTERV => desk.scatterv(alloc, comm, 0, Ty::I64, counts, 1, items, 0, ops),
+        kinds::ALLGATHERV => desk.allgatherv(alloc, comm, Ty::U8, counts, items, 0, ops),
+        kinds::REDUCE_SCATTER => {
             desk.reduce_scatter(alloc, comm, Op::Sum, Ty::I64, counts, items, 0, ops)
         }
-        Kind::NeighborAllgatherv => {
+        kinds::NEIGHBOR_ALLGATHERV => {
             desk.neighbor_allgatherv(alloc, comm, Ty::I8, counts, items, 0, ops)
         }
         _ => Err(CallError::Refused(PostError::NotMember)),
@@ -127,13 +137,13 @@ fn start_of_counts(
     ops: &Ops,
 ) -> Result<Request, PostError> {
     match kind {
-        Kind::Gatherv => desk.igatherv(alloc, comm, 0, Ty::I64, counts, items, ops),
-        Kind::Scatterv => desk.iscatterv(alloc, comm, 0, Ty::I64, counts, 1, items, ops),
-        Kind::Allgatherv => desk.iallgatherv(alloc, comm, Ty::U8, counts, items, ops),
-        Kind::ReduceScatter => {
+        kinds::GATHERV => desk.igatherv(alloc, comm, 0, Ty::I64, counts, items, ops),
+        kinds::SCATTERV => desk.iscatterv(alloc, comm, 0, Ty::I64, counts, 1, items, ops),
+        kinds::ALLGATHERV => desk.iallgatherv(alloc, comm, Ty::U8, counts, items, ops),
+        kinds::REDUCE_SCATTER => {
             desk.ireduce_scatter(alloc, comm, Op::Sum, Ty::I64, counts, items, ops)
         }
-        Kind::NeighborAllgatherv => {
+        kinds::NEIGHBOR_ALLGATHERV => {
             desk.ineighbor_allgatherv(alloc, comm, Ty::I8, counts, items, ops)
         }
         _ => Err(PostError::NotMember),
@@ -151,7 +161,7 @@ fn call_of_both_counts(
 ) -> Result<Finished, CallError> {
     let (scounts, rcounts) = counts;
     match kind {
-        Kind::Alltoallv => desk.alltoallv(alloc, comm, Ty::U8, scounts, rcounts, items, 0, ops),
+        kinds::ALLTOALLV => desk.alltoallv(alloc, comm, Ty::U8, scounts, rcounts, items, 0, ops),
         _ => desk.neighbor_alltoallv(alloc, comm, Ty::I8, scounts, rcounts, items, 0, ops),
     }
 }
@@ -167,7 +177,7 @@ fn start_of_both_counts(
 ) -> Result<Request, PostError> {
     let (scounts, rcounts) = counts;
     match kind {
-        Kind::Alltoallv => desk.ialltoallv(alloc, comm, Ty::U8, scounts, rcounts, items, ops),
+        kinds::ALLTOALLV => desk.ialltoallv(alloc, comm, Ty::U8, scounts, rcounts, items, ops),
         _ => desk.ineighbor_alltoallv(alloc, comm, Ty::I8, scounts, rcounts, items, ops),
     }
 }
@@ -176,8 +186,8 @@ fn start_of_both_counts(
 fn is_right(kind: Kind, finished: &Finished) -> bool {
     match &finished.outcome {
         Outcome::Items(items) => items.nums() == SEVEN,
-        Outcome::Nothing => kind == Kind::Barrier || kind == Kind::Free,
-        Outcome::Absent => kind == Kind::Exscan,
+        Outcome::Nothing => kind == kinds::BARRIER || kind == Kind::Free,
+        Outcome::Absent => kind == kinds::EXSCAN,
         _ => false,
     }
 }
@@ -260,9 +270,9 @@ fn ones(alloc: Global) -> Result<(Numbers, Numbers), Fail> {
 }
 
 fn barriers(alloc: Global, desk: &mut Desk<Node>, comm: &Comm, ops: &Ops) -> bool {
-    let called = gives(Kind::Barrier, desk.barrier(alloc, comm, 0, ops));
+    let called = gives(kinds::BARRIER, desk.barrier(alloc, comm, 0, ops));
     let answer = desk.ibarrier(alloc, comm, ops);
-    gives_later(alloc, desk, Kind::Barrier, answer, ops) && called
+    gives_later(alloc, desk, kinds::BARRIER, answer, ops) && called
 }
 
 // A free, behind which the communicator is closed.

@@ -7,7 +7,6 @@ use crate::world_rows::{WorldRow, go_on};
 use join_core::Exact;
 use mpx_board::{Board, PruneError};
 use mpx_group::Proc;
-use mpx_kind::Kind;
 use mpx_name::Name;
 use mpx_node::{Harvest, Node};
 use mpx_num::{Listing, Ops};
@@ -18,7 +17,7 @@ use std::marker::Brand;
 use std::process::Abort;
 use std::test::Fail;
 use test_drafts::contexts::{On, WORLD, name_of};
-use test_drafts::{draft, just, proc};
+use test_drafts::{draft, just, kinds, proc};
 
 const CHILD: On = On::Below(1);
 
@@ -83,7 +82,7 @@ fn take_both(alloc: Global, node: &mut Node, world: &World<Brand>) -> Result<(),
 }
 
 fn dup(alloc: Global, node: &mut Node, name: &Name, ops: &Ops) -> Result<u32, PostError> {
-    match draft(alloc, &just(Kind::Dup)) {
+    match draft(alloc, &just(kinds::DUP)) {
         Ok(draft) => node.post(alloc, name, draft, ops),
         Err(_) => Err(PostError::OutOfMemory),
     }

@@ -2,7 +2,6 @@
 use join_core::{Exact, OutOfMemory};
 use mpx_board::Board;
 use mpx_group::Proc;
-use mpx_kind::Kind;
 use mpx_name::Name;
 use mpx_node::Node;
 use mpx_num::Ops;
@@ -10,7 +9,7 @@ use mpx_wire::decode;
 use std::alloc::Global;
 use std::process::Abort;
 use std::test::Fail;
-use test_drafts::{draft, just, proc};
+use test_drafts::{draft, just, kinds, proc};
 
 // Whether the frame spells the part.
 fn spells(alloc: Global, frame: &[u8], part: &Board) -> Result<bool, Fail> {
@@ -53,7 +52,7 @@ fn takes(alloc: Global, one: &mut Node, other: &mut Node) -> Result<usize, OutOf
 }
 
 fn posts_a_barrier(alloc: Global, node: &mut Node, ops: &Ops) -> Result<(), Fail> {
-    let draft = draft(alloc, &just(Kind::Barrier))?;
+    let draft = draft(alloc, &just(kinds::BARRIER))?;
     node.post(alloc, &Name::world(alloc), draft, ops)?;
     Ok(())
 }

@@ -12,7 +12,7 @@ use std::alloc::Global;
 use std::marker::Brand;
 use std::test::Fail;
 use test_drafts::contexts::{On, WORLD, name_of, sum_of};
-use test_drafts::{Drafted, draft, just, proc};
+use test_drafts::{Drafted, draft, just, kinds, proc};
 
 // What a process does, on the context of all where it names none.
 #[derive(Clone, Copy)]
@@ -65,7 +65,7 @@ fn posts(alloc: Global, proc: Proc, on: On, drafted: &Drafted<'_>) -> Result<Eve
 fn creates_group(alloc: Global, proc: Proc) -> Result<Event, Fail> {
     let drafted = Drafted {
         group: &[0, 1],
-        ..just(Kind::CreateGroup)
+        ..just(kinds::CREATE_GROUP)
     };
     posts(alloc, proc, On::Gathering, &drafted)
 }
@@ -83,8 +83,8 @@ pub fn event(alloc: Global, number: u8, act: WorldAct) -> Result<Event, Fail> {
     let proc = proc(number);
     match act {
         WorldAct::Post(item) => posts(alloc, proc, WORLD, &sum_of(&[item])),
-        WorldAct::Barrier => posts(alloc, proc, WORLD, &just(Kind::Barrier)),
-        WorldAct::Dup(on) => posts(alloc, proc, on, &just(Kind::Dup)),
+        WorldAct::Barrier => posts(alloc, proc, WORLD, &just(kinds::BARRIER)),
+        WorldAct::Dup(on) => posts(alloc, proc, on, &just(kinds::DUP)),
         WorldAct::Free => posts(alloc, proc, WORLD, &just(Kind::Free)),
         WorldAct::CreateGroup => creates_group(alloc, proc),
         WorldAct::Harvest(on) => {

@@ -4,12 +4,11 @@ use mpx_birth::Birth;
 use mpx_board::Board;
 use mpx_delta::{deltas, digest_of};
 use mpx_group::Proc;
-use mpx_kind::Kind;
 use mpx_name::Name;
 use mpx_num::Ops;
 use mpx_post::Post;
 use std::alloc::Global;
-use test_drafts::proc;
+use test_drafts::{kinds, proc};
 use trials::drafts::post_of;
 use trials::makers::{born, child, next_child, other_board, some_board};
 use trials::trial::Trial;
@@ -75,7 +74,7 @@ fn acknowledge(alloc: Global, board: &mut Board) -> Result<(), Trouble> {
 
 fn fill_told(alloc: Global, told: &mut BoardFacts) -> Result<(), Trouble> {
     for _time in 0..2 {
-        told.posts.push(post_of(alloc, Kind::Barrier)?)?;
+        told.posts.push(post_of(alloc, kinds::BARRIER)?)?;
         told.births.push(born(alloc)?)?;
     }
     put(&mut told.part, other_board(alloc))

@@ -1,15 +1,14 @@
 //! What is made of boards: frames, parts, digests and rows.
 use join_core::{Exact, Join};
-use mpx_board::Board;
-use mpx_delta::{Digest, common, delta_for, digest_of};
-use mpx_kind::Kind;
+use mpx_board::{Acks, Board};
+use mpx_delta::{common, delta_for, digest_of};
 use mpx_name::Name;
 use mpx_num::{Ops, Ty};
 use mpx_parts::parts;
 use mpx_post::Post;
 use mpx_wire::{decode, encode, take_spelled};
 use std::alloc::Global;
-use test_drafts::{Drafted, bare, just, proc};
+use test_drafts::{Drafted, bare, just, kinds, proc};
 use trials::makers::{child, other_board, same_boards, some_board};
 use trials::trial::Trial;
 use trials::trouble::{Trouble, both, filled, put, tight};
@@ -37,7 +36,7 @@ pub struct Frames {
     both: Vec<Board>,
     names: Vec<Name>,
     bytes: Vec<u8>,
-    digest: Digest,
+    digest: Acks,
 }
 
 #[derive(Drop)]
@@ -46,7 +45,7 @@ pub enum FrameMade {
     Board(Board),
     Boards(Vec<Board>),
     Bytes(Vec<u8>),
-    Digest(Digest),
+    Digest(Acks),
     Posts(usize),
 }
 
@@ -55,7 +54,7 @@ fn long_sum(items: &[i128]) -> Drafted<'_> {
     Drafted {
         ty: Ty::I64,
         items,
-        ..just(Kind::Allreduce)
+        ..just(kinds::ALLREDUCE)
     }
 }
 
@@ -103,7 +102,7 @@ fn whole_board(alloc: Global) -> Result<Board, Trouble> {
 }
 
 // How far the other process's board knows the calls.
-fn digested(alloc: Global) -> Result<Digest, Trouble> {
+fn digested(alloc: Global) -> Result<Acks, Trouble> {
     let board = other_board(alloc)?;
     let digest = digest_of(alloc, &board);
     drop(board);

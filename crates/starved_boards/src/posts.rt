@@ -6,7 +6,7 @@ use mpx_name::Name;
 use mpx_num::Ops;
 use mpx_post::{Draft, Gathering, Post};
 use std::alloc::Global;
-use test_drafts::{proc, says};
+use test_drafts::{kinds, proc, says};
 use trials::drafts::{add_drafts, drafted, post_of};
 use trials::makers::all_near;
 use trials::trial::Trial;
@@ -42,7 +42,7 @@ pub enum PostMade {
 fn kind_of(call: &PostCall) -> Kind {
     match call {
         PostCall::Check(kind) => *kind,
-        _ => Kind::Alltoallv,
+        _ => kinds::ALLTOALLV,
     }
 }
 
@@ -142,12 +142,12 @@ impl Trial for PostCall {
 }
 
 pub const POST_CALLS: &[(&str, PostCall)] = &[
-    ("Draft::check of counts", PostCall::Check(Kind::Alltoallv)),
-    ("Draft::check of a group", PostCall::Check(Kind::Create)),
-    ("Draft::check of edges", PostCall::Check(Kind::DistGraph)),
+    ("Draft::check of counts", PostCall::Check(kinds::ALLTOALLV)),
+    ("Draft::check of a group", PostCall::Check(kinds::CREATE)),
+    ("Draft::check of edges", PostCall::Check(kinds::DIST_GRAPH)),
     (
         "Draft::check of neighbours",
-        PostCall::Check(Kind::DistGraphAdjacent),
+        PostCall::Check(kinds::DIST_GRAPH_ADJACENT),
     ),
     ("Draft::bare", PostCall::Bare),
     ("Draft::copy", PostCall::CopyDraft),

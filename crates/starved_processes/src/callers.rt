@@ -5,6 +5,7 @@ use mpx_node::{Finished, Node};
 use mpx_num::{Numbers, Op, Ops, Ty};
 use mpx_post::PostError;
 use std::alloc::Global;
+use test_drafts::kinds;
 
 fn seven() -> Numbers {
     Numbers::one(7)
@@ -23,21 +24,29 @@ pub fn plain(
     ops: &Ops,
 ) -> Result<Finished, CallError> {
     match kind {
-        Kind::Barrier => desk.barrier(alloc, comm, 0, ops),
+        kinds::BARRIER => desk.barrier(alloc, comm, 0, ops),
         Kind::Free => desk.free(alloc, comm, 0, ops),
-        Kind::Bcast => desk.bcast(alloc, comm, 0, Ty::I64, 1, seven(), 0, ops),
-        Kind::Gather => desk.gather(alloc, comm, 0, Ty::I64, seven(), 0, ops),
-        Kind::Scatter => desk.scatter(alloc, comm, 0, Ty::I64, 1, seven(), 0, ops),
-        Kind::Allgather => desk.allgather(alloc, comm, Ty::U8, seven(), 0, ops),
-        Kind::Alltoall => desk.alltoall(alloc, comm, Ty::U8, 1, seven(), 0, ops),
-        Kind::Reduce => desk.reduce(alloc, comm, 0, Op::Sum, Ty::I64, seven(), 0, ops),
-        Kind::Allreduce => desk.allreduce(alloc, comm, Op::Sum, Ty::I64, seven(), 0, ops),
-        Kind::ReduceScatterBlock => {
+        kinds::BCAST => desk.bcast(alloc, comm, 0, Ty::I64, 1, seven(), 0, ops),
+        kinds::GATHER => desk.gather(alloc, comm, 0, Ty::I64, seven(), 0, ops),
+        kinds::SCATTER => desk.scatter(alloc, comm, 0, Ty::I64, 1, seven(), 0, ops),
+        kinds::ALLGATHER => desk.allgather(alloc, comm, Ty::U8, seven(), 0, ops),
+        kinds::ALLTOALL => desk.alltoall(alloc, comm, Ty::U8, 1, seven(), 0, ops),
+        kinds::REDUCE => desk.reduce(alloc, comm, 0, Op::Sum, Ty::I64, seven(), 0, ops),
+        kinds::ALLREDUCE => desk.allreduce(alloc, comm, Op::Sum, Ty::I64, seven(), 0, ops),
+        kinds::REDUCE_SCATTER_BLOCK => {
             desk.reduce_scatter_block(alloc, comm, Op::Sum, Ty::I64, 1, seven(), 0, ops)
         }
-        Kind::Scan => desk.scan(alloc, comm, Op::Sum, Ty::I64, seven(), 0, ops),
-        Kind::Exscan => desk.exscan(alloc, comm, Op::Sum, Ty::I64, seven(), 0, ops),
-        Kind::NeighborAllgather => desk.neighbor_allgather(alloc, comm, Ty::I8, 1, seven(), 0, ops),
+        kinds::SCAN => desk.scan(alloc, comm, Op::Sum, Ty::I64, seven(), 0, ops),
+        kinds::EXSCAN => desk.exscan(alloc, comm, Op::Sum, Ty::I64, seven(), 0, ops),
+        kinds::NEIGHBOR_ALLGATHER => desk.neighbor_allgather(
+            alloc,
+            comm,
+            Ty::I8,
+            1,
+            seven(),
+            0,
+            ops,
+        ),
         _ => desk.neighbor_alltoall(alloc, comm, Ty::I8, 1, 1, seven(), 0, ops),
     }
 }
@@ -51,14 +60,14 @@ pub fn counted(
     ops: &Ops,
 ) -> Result<Finished, CallError> {
     match kind {
-        Kind::Gatherv => desk.gatherv(alloc, comm, 0, Ty::I64, one(), seven(), 0, ops),
-        Kind::Scatterv => desk.scatterv(alloc, comm, 0, Ty::I64, one(), 1, seven(), 0, ops),
-        Kind::Allgatherv => desk.allgatherv(alloc, comm, Ty::U8, one(), seven(), 0, ops),
-        Kind::Alltoallv => desk.alltoallv(alloc, comm, Ty::U8, one(), one(), seven(), 0, ops),
-        Kind::ReduceScatter => {
+        kinds::GATHERV => desk.gatherv(alloc, comm, 0, Ty::I64, one(), seven(), 0, ops),
+        kinds::SCATTERV => desk.scatterv(alloc, comm, 0, Ty::I64, one(), 1, seven(), 0, ops),
+        kinds::ALLGATHERV => desk.allgatherv(alloc, comm, Ty::U8, one(), seven(), 0, ops),
+        kinds::ALLTOALLV => desk.alltoallv(alloc, comm, Ty::U8, one(), one(), seven(), 0, ops),
+        kinds::REDUCE_SCATTER => {
             desk.reduce_scatter(alloc, comm, Op::Sum, Ty::I64, one(), seven(), 0, ops)
         }
-        Kind::NeighborAllgatherv => {
+        kinds::NEIGHBOR_ALLGATHERV => {
             desk.neighbor_allgatherv(alloc, comm, Ty::I8, one(), seven(), 0, ops)
         }
         _ => desk.neighbor_alltoallv(alloc, comm, Ty::I8, one(), one(), seven(), 0, ops),
@@ -74,20 +83,20 @@ pub fn start_plain(
     ops: &Ops,
 ) -> Result<Request, PostError> {
     match kind {
-        Kind::Barrier => desk.ibarrier(alloc, comm, ops),
-        Kind::Bcast => desk.ibcast(alloc, comm, 0, Ty::I64, 1, seven(), ops),
-        Kind::Gather => desk.igather(alloc, comm, 0, Ty::I64, seven(), ops),
-        Kind::Scatter => desk.iscatter(alloc, comm, 0, Ty::I64, 1, seven(), ops),
-        Kind::Allgather => desk.iallgather(alloc, comm, Ty::U8, seven(), ops),
-        Kind::Alltoall => desk.ialltoall(alloc, comm, Ty::U8, 1, seven(), ops),
-        Kind::Reduce => desk.ireduce(alloc, comm, 0, Op::Sum, Ty::I64, seven(), ops),
-        Kind::Allreduce => desk.iallreduce(alloc, comm, Op::Sum, Ty::I64, seven(), ops),
-        Kind::ReduceScatterBlock => {
+        kinds::BARRIER => desk.ibarrier(alloc, comm, ops),
+        kinds::BCAST => desk.ibcast(alloc, comm, 0, Ty::I64, 1, seven(), ops),
+        kinds::GATHER => desk.igather(alloc, comm, 0, Ty::I64, seven(), ops),
+        kinds::SCATTER => desk.iscatter(alloc, comm, 0, Ty::I64, 1, seven(), ops),
+        kinds::ALLGATHER => desk.iallgather(alloc, comm, Ty::U8, seven(), ops),
+        kinds::ALLTOALL => desk.ialltoall(alloc, comm, Ty::U8, 1, seven(), ops),
+        kinds::REDUCE => desk.ireduce(alloc, comm, 0, Op::Sum, Ty::I64, seven(), ops),
+        kinds::ALLREDUCE => desk.iallreduce(alloc, comm, Op::Sum, Ty::I64, seven(), ops),
+        kinds::REDUCE_SCATTER_BLOCK => {
             desk.ireduce_scatter_block(alloc, comm, Op::Sum, Ty::I64, 1, seven(), ops)
         }
-        Kind::Scan => desk.iscan(alloc, comm, Op::Sum, Ty::I64, seven(), ops),
-        Kind::Exscan => desk.iexscan(alloc, comm, Op::Sum, Ty::I64, seven(), ops),
-        Kind::NeighborAllgather => desk.ineighbor_allgather(alloc, comm, Ty::I8, 1, seven(), ops),
+        kinds::SCAN => desk.iscan(alloc, comm, Op::Sum, Ty::I64, seven(), ops),
+        kinds::EXSCAN => desk.iexscan(alloc, comm, Op::Sum, Ty::I64, seven(), ops),
+        kinds::NEIGHBOR_ALLGATHER => desk.ineighbor_allgather(alloc, comm, Ty::I8, 1, seven(), ops),
         _ => desk.ineighbor_alltoall(alloc, comm, Ty::I8, 1, 1, seven(), ops),
     }
 }
@@ -101,14 +110,14 @@ pub fn start_counted(
     ops: &Ops,
 ) -> Result<Request, PostError> {
     match kind {
-        Kind::Gatherv => desk.igatherv(alloc, comm, 0, Ty::I64, one(), seven(), ops),
-        Kind::Scatterv => desk.iscatterv(alloc, comm, 0, Ty::I64, one(), 1, seven(), ops),
-        Kind::Allgatherv => desk.iallgatherv(alloc, comm, Ty::U8, one(), seven(), ops),
-        Kind::Alltoallv => desk.ialltoallv(alloc, comm, Ty::U8, one(), one(), seven(), ops),
-        Kind::ReduceScatter => {
+        kinds::GATHERV => desk.igatherv(alloc, comm, 0, Ty::I64, one(), seven(), ops),
+        kinds::SCATTERV => desk.iscatterv(alloc, comm, 0, Ty::I64, one(), 1, seven(), ops),
+        kinds::ALLGATHERV => desk.iallgatherv(alloc, comm, Ty::U8, one(), seven(), ops),
+        kinds::ALLTOALLV => desk.ialltoallv(alloc, comm, Ty::U8, one(), one(), seven(), ops),
+        kinds::REDUCE_SCATTER => {
             desk.ireduce_scatter(alloc, comm, Op::Sum, Ty::I64, one(), seven(), ops)
         }
-        Kind::NeighborAllgatherv => {
+        kinds::NEIGHBOR_ALLGATHERV => {
             desk.ineighbor_allgatherv(alloc, comm, Ty::I8, one(), seven(), ops)
         }
         _ => desk.ineighbor_alltoallv(alloc, comm, Ty::I8, one(), one(), seven(), ops),
@@ -119,12 +128,12 @@ pub fn start_counted(
 pub fn has_counts(kind: Kind) -> bool {
     matches!(
         kind,
-        Kind::Gatherv
-            | Kind::Scatterv
-            | Kind::Allgatherv
-            | Kind::Alltoallv
-            | Kind::ReduceScatter
-            | Kind::NeighborAllgatherv
-            | Kind::NeighborAlltoallv
+        kinds::GATHERV
+            | kinds::SCATTERV
+            | kinds::ALLGATHERV
+            | kinds::ALLTOALLV
+            | kinds::REDUCE_SCATTER
+            | kinds::NEIGHBOR_ALLGATHERV
+            | kinds::NEIGHBOR_ALLTOALLV
     )
 }

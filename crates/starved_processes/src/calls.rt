@@ -12,6 +12,7 @@ use mpx_num::{Numbers, Ops};
 use mpx_post::{DraftedEdge, DraftedNeighbour, PostError};
 use mpx_value::Outcome;
 use std::alloc::Global;
+use test_drafts::kinds;
 use trials::trial::Trial;
 use trials::trouble::{Trouble, both, filled};
 
@@ -90,11 +91,11 @@ fn making(
 ) -> Result<Finished, CallError> {
     let (desk, comm) = (&mut caller.desk, &caller.comm);
     match kind {
-        Kind::Dup => desk.dup(alloc, comm, 0, ops),
-        Kind::Split => desk.split(alloc, comm, Some(3), -1, 0, ops),
-        Kind::Create => desk.create(alloc, comm, Numbers::one(0), 0, ops),
-        Kind::CreateGroup => desk.create_group(alloc, comm, 5, &[0], 0, ops),
-        Kind::DistGraph => match caller.edges.pop() {
+        kinds::DUP => desk.dup(alloc, comm, 0, ops),
+        kinds::SPLIT => desk.split(alloc, comm, Some(3), -1, 0, ops),
+        kinds::CREATE => desk.create(alloc, comm, Numbers::one(0), 0, ops),
+        kinds::CREATE_GROUP => desk.create_group(alloc, comm, 5, &[0], 0, ops),
+        kinds::DIST_GRAPH => match caller.edges.pop() {
             Some(edges) => desk.dist_graph(alloc, comm, false, edges, 0, ops),
             None => Err(CallError::Refused(PostError::NotMember)),
         },
@@ -189,10 +190,10 @@ fn begin(
 fn is_right(call: &NamedCall, finished: &Finished) -> bool {
     match (call, &finished.outcome) {
         (_, Outcome::Items(items)) => items.nums() == [7].as_slice(),
-        (Blocking(kind), Outcome::Nothing) => *kind == Kind::Barrier || *kind == Kind::Free,
-        (Nonblocking(kind), Outcome::Nothing) => *kind == Kind::Barrier,
-        (Blocking(kind), Outcome::Absent) => *kind == Kind::Exscan,
-        (Nonblocking(kind), Outcome::Absent) => *kind == Kind::Exscan,
+        (Blocking(kind), Outcome::Nothing) => *kind == kinds::BARRIER || *kind == Kind::Free,
+        (Nonblocking(kind), Outcome::Nothing) => *kind == kinds::BARRIER,
+        (Blocking(kind), Outcome::Absent) => *kind == kinds::EXSCAN,
+        (Nonblocking(kind), Outcome::Absent) => *kind == kinds::EXSCAN,
         (Blocking(kind), Outcome::NewComm { size, .. }) => {
             kind.makes_communicators() && *size == 1
         }
@@ -204,7 +205,7 @@ fn is_right(call: &NamedCall, finished: &Finished) -> bool {
 // Whether want of memory may leave more than what was before: a call that is posted, or a gathering that is opened.
 fn may_leave_more(call: &NamedCall, left: &Caller) -> bool {
     match call {
-        Blocking(Kind::CreateGroup) => true,
+        Blocking(kinds::CREATE_GROUP) => true,
         StartCreateGroup => true,
         _ => left.pending.is_some(),
     }
@@ -262,58 +263,67 @@ impl Trial for NamedCall {
 }
 
 pub const NAMED_CALLS: &[(&str, NamedCall)] = &[
-    ("barrier", Blocking(Kind::Barrier)),
-    ("bcast", Blocking(Kind::Bcast)),
-    ("gather", Blocking(Kind::Gather)),
-    ("gatherv", Blocking(Kind::Gatherv)),
-    ("scatter", Blocking(Kind::Scatter)),
-    ("scatterv", Blocking(Kind::Scatterv)),
-    ("allgather", Blocking(Kind::Allgather)),
-    ("allgatherv", Blocking(Kind::Allgatherv)),
-    ("alltoall", Blocking(Kind::Alltoall)),
-    ("alltoallv", Blocking(Kind::Alltoallv)),
-    ("reduce", Blocking(Kind::Reduce)),
-    ("allreduce", Blocking(Kind::Allreduce)),
-    ("reduce_scatter_block", Blocking(Kind::ReduceScatterBlock)),
-    ("reduce_scatter", Blocking(Kind::ReduceScatter)),
-    ("scan", Blocking(Kind::Scan)),
-    ("exscan", Blocking(Kind::Exscan)),
-    ("neighbor_allgather", Blocking(Kind::NeighborAllgather)),
-    ("neighbor_allgatherv", Blocking(Kind::NeighborAllgatherv)),
-    ("neighbor_alltoall", Blocking(Kind::NeighborAlltoall)),
-    ("neighbor_alltoallv", Blocking(Kind::NeighborAlltoallv)),
+    ("barrier", Blocking(kinds::BARRIER)),
+    ("bcast", Blocking(kinds::BCAST)),
+    ("gather", Blocking(kinds::GATHER)),
+    ("gatherv", Blocking(kinds::GATHERV)),
+    ("scatter", Blocking(kinds::SCATTER)),
+    ("scatterv", Blocking(kinds::SCATTERV)),
+    ("allgather", Blocking(kinds::ALLGATHER)),
+    ("allgatherv", Blocking(kinds::ALLGATHERV)),
+    ("alltoall", Blocking(kinds::ALLTOALL)),
+    ("alltoallv", Blocking(kinds::ALLTOALLV)),
+    ("reduce", Blocking(kinds::REDUCE)),
+    ("allreduce", Blocking(kinds::ALLREDUCE)),
+    (
+        "reduce_scatter_block",
+        Blocking(kinds::REDUCE_SCATTER_BLOCK),
+    ),
+    ("reduce_scatter", Blocking(kinds::REDUCE_SCATTER)),
+    ("scan", Blocking(kinds::SCAN)),
+    ("exscan", Blocking(kinds::EXSCAN)),
+    ("neighbor_allgather", Blocking(kinds::NEIGHBOR_ALLGATHER)),
+    ("neighbor_allgatherv", Blocking(kinds::NEIGHBOR_ALLGATHERV)),
+    ("neighbor_alltoall", Blocking(kinds::NEIGHBOR_ALLTOALL)),
+    ("neighbor_alltoallv", Blocking(kinds::NEIGHBOR_ALLTOALLV)),
     ("free", Blocking(Kind::Free)),
-    ("dup", Blocking(Kind::Dup)),
-    ("split", Blocking(Kind::Split)),
-    ("create", Blocking(Kind::Create)),
-    ("create_group", Blocking(Kind::CreateGroup)),
-    ("dist_graph", Blocking(Kind::DistGraph)),
-    ("dist_graph_adjacent", Blocking(Kind::DistGraphAdjacent)),
-    ("ibarrier", Nonblocking(Kind::Barrier)),
-    ("ibcast", Nonblocking(Kind::Bcast)),
-    ("igather", Nonblocking(Kind::Gather)),
-    ("igatherv", Nonblocking(Kind::Gatherv)),
-    ("iscatter", Nonblocking(Kind::Scatter)),
-    ("iscatterv", Nonblocking(Kind::Scatterv)),
-    ("iallgather", Nonblocking(Kind::Allgather)),
-    ("iallgatherv", Nonblocking(Kind::Allgatherv)),
-    ("ialltoall", Nonblocking(Kind::Alltoall)),
-    ("ialltoallv", Nonblocking(Kind::Alltoallv)),
-    ("ireduce", Nonblocking(Kind::Reduce)),
-    ("iallreduce", Nonblocking(Kind::Allreduce)),
+    ("dup", Blocking(kinds::DUP)),
+    ("split", Blocking(kinds::SPLIT)),
+    ("create", Blocking(kinds::CREATE)),
+    ("create_group", Blocking(kinds::CREATE_GROUP)),
+    ("dist_graph", Blocking(kinds::DIST_GRAPH)),
+    ("dist_graph_adjacent", Blocking(kinds::DIST_GRAPH_ADJACENT)),
+    ("ibarrier", Nonblocking(kinds::BARRIER)),
+    ("ibcast", Nonblocking(kinds::BCAST)),
+    ("igather", Nonblocking(kinds::GATHER)),
+    ("igatherv", Nonblocking(kinds::GATHERV)),
+    ("iscatter", Nonblocking(kinds::SCATTER)),
+    ("iscatterv", Nonblocking(kinds::SCATTERV)),
+    ("iallgather", Nonblocking(kinds::ALLGATHER)),
+    ("iallgatherv", Nonblocking(kinds::ALLGATHERV)),
+    ("ialltoall", Nonblocking(kinds::ALLTOALL)),
+    ("ialltoallv", Nonblocking(kinds::ALLTOALLV)),
+    ("ireduce", Nonblocking(kinds::REDUCE)),
+    ("iallreduce", Nonblocking(kinds::ALLREDUCE)),
     (
         "ireduce_scatter_block",
-        Nonblocking(Kind::ReduceScatterBlock),
+        Nonblocking(kinds::REDUCE_SCATTER_BLOCK),
     ),
-    ("ireduce_scatter", Nonblocking(Kind::ReduceScatter)),
-    ("iscan", Nonblocking(Kind::Scan)),
-    ("iexscan", Nonblocking(Kind::Exscan)),
-    ("ineighbor_allgather", Nonblocking(Kind::NeighborAllgather)),
+    ("ireduce_scatter", Nonblocking(kinds::REDUCE_SCATTER)),
+    ("iscan", Nonblocking(kinds::SCAN)),
+    ("iexscan", Nonblocking(kinds::EXSCAN)),
+    (
+        "ineighbor_allgather",
+        Nonblocking(kinds::NEIGHBOR_ALLGATHER),
+    ),
     (
         "ineighbor_allgatherv",
-        Nonblocking(Kind::NeighborAllgatherv),
+        Nonblocking(kinds::NEIGHBOR_ALLGATHERV),
     ),
-    ("ineighbor_alltoall", Nonblocking(Kind::NeighborAlltoall)),
-    ("ineighbor_alltoallv", Nonblocking(Kind::NeighborAlltoallv)),
+    ("ineighbor_alltoall", Nonblocking(kinds::NEIGHBOR_ALLTOALL)),
+    (
+        "ineighbor_alltoallv",
+        Nonblocking(kinds::NEIGHBOR_ALLTOALLV),
+    ),
     ("start_create_group", StartCreateGroup),
 ];

@@ -12,6 +12,7 @@ use mpx_post::Draft;
 use mpx_wire::decode;
 use std::alloc::{AllocFailed, Global};
 use std::mem;
+use test_drafts::kinds;
 use trials::drafts::add_drafts;
 use trials::makers::{other_board, same_boards};
 use trials::trial::Trial;
@@ -255,8 +256,8 @@ impl Trial for DeskCall {
 
     fn start(&self, alloc: Global, ops: &Ops) -> Result<Alone, Trouble> {
         match self {
-            DeskCall::PostGathered => ready(alloc, Kind::CreateGroup, ops),
-            _ => ready(alloc, Kind::Allreduce, ops),
+            DeskCall::PostGathered => ready(alloc, kinds::CREATE_GROUP, ops),
+            _ => ready(alloc, kinds::ALLREDUCE, ops),
         }
     }
 

@@ -10,6 +10,7 @@ use mpx_num::Ops;
 use mpx_post::Draft;
 use mpx_wire::{decode, encode};
 use std::alloc::Global;
+use test_drafts::kinds;
 use trials::drafts::{add_drafts, draft_of};
 use trials::makers::{child, gathering, group, same_boards};
 use trials::trial::Trial;
@@ -90,7 +91,7 @@ fn exchange(
     post(alloc, world, node, kind, ops)?;
     post(alloc, world, other, kind, ops)?;
     node.take(alloc, other.board())?;
-    post(alloc, world, other, Kind::Barrier, ops)?;
+    post(alloc, world, other, kinds::BARRIER, ops)?;
     Ok(other.board().copy(alloc)?)
 }
 
@@ -131,8 +132,8 @@ pub fn contexts(alloc: Global) -> Result<Vec<Name>, Trouble> {
 
 fn kind_of(call: &NodeCall) -> Kind {
     match call {
-        NodeCall::HarvestChild => Kind::Split,
-        _ => Kind::Allreduce,
+        NodeCall::HarvestChild => kinds::SPLIT,
+        _ => kinds::ALLREDUCE,
     }
 }
 
@@ -222,7 +223,7 @@ fn prepared(
 }
 
 fn fill(alloc: Global, call: &NodeCall, stand: &mut Stand, ops: &Ops) -> Result<(), Trouble> {
-    add_drafts(alloc, &mut stand.drafts, Kind::Allreduce)?;
+    add_drafts(alloc, &mut stand.drafts, kinds::ALLREDUCE)?;
     add_contexts(alloc, &mut stand.names)?;
     let part = exchanged(alloc, &mut stand.node, kind_of(call), ops);
     put(&mut stand.part, part)?;

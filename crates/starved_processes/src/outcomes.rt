@@ -5,7 +5,7 @@ use mpx_birth::{Birth, Topology};
 use mpx_board::Board;
 use mpx_fold::fold_value;
 use mpx_graph::{topology_adjacent, topology_general};
-use mpx_kind::{Family, Kind, NewCommunicator};
+use mpx_kind::{Kind, NewCommunicator};
 use mpx_match::{Verdict, verdict};
 use mpx_move::move_value;
 use mpx_name::Name;
@@ -14,7 +14,7 @@ use mpx_num::Ops;
 use mpx_post::{Row, Value};
 use mpx_value::{Outcome, children, outcome};
 use std::alloc::Global;
-use test_drafts::proc;
+use test_drafts::{kinds, proc};
 use trials::drafts::post_of;
 use trials::makers::all_near;
 use trials::trial::Trial;
@@ -86,17 +86,17 @@ fn outcome_of(alloc: Global, birth: &Birth, row: &Row<'_>, ops: &Ops) -> Result<
     Ok(given?)
 }
 
-// What a row that fits gives the second rank by its family.
+// What a row that fits gives the second rank by its kind.
 fn value_of(alloc: Global, birth: &Birth, row: &Row<'_>, ops: &Ops) -> Result<Value, Trouble> {
     if row.len() != birth.members().len() || row.len() < 2 {
         return Err(Trouble::Refused);
     }
     match verdict(birth, row, ops) {
         Verdict::Fault(_) => Err(Trouble::Refused),
-        Verdict::Fine => match row.family() {
-            Family::Reduction(_) => Ok(fold_value(alloc, row, 1, ops)?),
-            Family::Exchange(_) => Ok(move_value(alloc, row, 1)?),
-            Family::Neighbourhood(_) => Ok(neigh_value(alloc, birth, row, 1)?),
+        Verdict::Fine => match row.kind() {
+            Kind::Reduction(_) => Ok(fold_value(alloc, row, 1, ops)?),
+            Kind::Exchange(_) => Ok(move_value(alloc, row, 1)?),
+            Kind::Neighbourhood(_) => Ok(neigh_value(alloc, birth, row, 1)?),
             _ => Err(Trouble::Refused),
         },
     }
@@ -111,11 +111,11 @@ fn topology_of(
 ) -> Result<Topology, Trouble> {
     match verdict(birth, row, ops) {
         Verdict::Fault(_) => Err(Trouble::Refused),
-        Verdict::Fine => match row.family() {
-            Family::NewCommunicator(NewCommunicator::DistGraph) => {
+        Verdict::Fine => match row.kind() {
+            Kind::NewCommunicator(NewCommunicator::DistGraph) => {
                 Ok(topology_general(alloc, row)?)
             }
-            Family::NewCommunicator(NewCommunicator::DistGraphAdjacent) => {
+            Kind::NewCommunicator(NewCommunicator::DistGraphAdjacent) => {
                 Ok(topology_adjacent(alloc, row)?)
             }
             _ => Err(Trouble::Refused),
@@ -273,48 +273,48 @@ impl Trial for ValueCall {
 pub const VALUE_CALLS: &[(&str, ValueCall)] = &[
     (
         "outcome of a reduction",
-        ValueCall::Outcome(Kind::Allreduce),
+        ValueCall::Outcome(kinds::ALLREDUCE),
     ),
     (
         "outcome of an exchange",
-        ValueCall::Outcome(Kind::Alltoallv),
+        ValueCall::Outcome(kinds::ALLTOALLV),
     ),
     (
         "outcome of a neighbourhood exchange",
-        ValueCall::Outcome(Kind::NeighborAlltoallv),
+        ValueCall::Outcome(kinds::NEIGHBOR_ALLTOALLV),
     ),
-    ("mpx_fold fold_value", ValueCall::Value(Kind::Allreduce)),
+    ("mpx_fold fold_value", ValueCall::Value(kinds::ALLREDUCE)),
     (
         "mpx_fold fold_value of a block",
-        ValueCall::Value(Kind::ReduceScatter),
+        ValueCall::Value(kinds::REDUCE_SCATTER),
     ),
-    ("mpx_move move_value", ValueCall::Value(Kind::Alltoallv)),
+    ("mpx_move move_value", ValueCall::Value(kinds::ALLTOALLV)),
     (
         "mpx_neigh neigh_value",
-        ValueCall::Value(Kind::NeighborAlltoallv),
+        ValueCall::Value(kinds::NEIGHBOR_ALLTOALLV),
     ),
     (
         "outcome of a new communicator",
-        ValueCall::Outcome(Kind::Split),
+        ValueCall::Outcome(kinds::SPLIT),
     ),
-    ("Outcome::copy", ValueCall::Copy(Kind::Split)),
-    ("children of dup", ValueCall::Children(Kind::Dup)),
-    ("children of split", ValueCall::Children(Kind::Split)),
-    ("children of create", ValueCall::Children(Kind::Create)),
+    ("Outcome::copy", ValueCall::Copy(kinds::SPLIT)),
+    ("children of dup", ValueCall::Children(kinds::DUP)),
+    ("children of split", ValueCall::Children(kinds::SPLIT)),
+    ("children of create", ValueCall::Children(kinds::CREATE)),
     (
         "children of dist_graph",
-        ValueCall::Children(Kind::DistGraph),
+        ValueCall::Children(kinds::DIST_GRAPH),
     ),
     (
         "children of dist_graph_adjacent",
-        ValueCall::Children(Kind::DistGraphAdjacent),
+        ValueCall::Children(kinds::DIST_GRAPH_ADJACENT),
     ),
     (
         "mpx_graph topology_general",
-        ValueCall::Topology(Kind::DistGraph),
+        ValueCall::Topology(kinds::DIST_GRAPH),
     ),
     (
         "mpx_graph topology_adjacent",
-        ValueCall::Topology(Kind::DistGraphAdjacent),
+        ValueCall::Topology(kinds::DIST_GRAPH_ADJACENT),
     ),
 ];

@@ -7,7 +7,6 @@ use crate::fleets::two_ports;
 use crate::nodes::contexts;
 use crate::same::{is_between, same_nodes};
 use mpx_bus::{Bus, Frame, Pop, Port, Push};
-use mpx_kind::Kind;
 use mpx_name::Name;
 use mpx_node::Harvest;
 use mpx_num::{Listing, Ops};
@@ -16,6 +15,7 @@ use std::alloc::Global;
 use std::marker::Model;
 use std::sync::Wait;
 use std::test::Fail;
+use test_drafts::kinds;
 use trials::drafts::{draft_of, two_drafts};
 use trials::notes::Called;
 use trials::trial::{Trial, tries};
@@ -75,7 +75,7 @@ struct PortTrial<'a, R> {
 }
 
 fn new_fleet(alloc: Global) -> Result<Fleet, Trouble> {
-    let (drafts, names) = both(two_drafts(alloc, Kind::Allreduce), contexts(alloc))?;
+    let (drafts, names) = both(two_drafts(alloc, kinds::ALLREDUCE), contexts(alloc))?;
     match two_ports(alloc) {
         Ok((bus, first, second)) => Ok(Fleet {
             bus,
@@ -107,7 +107,7 @@ fn post_first(alloc: Global, port: &mut Port, ops: &Ops) -> Result<(), Trouble>
     requires list { ⟦<Ops as Listing>⟧.operations ops.now ≡ port.old.setup.operations }
     ensures { IsSamePort port.old port.new }
 {
-    let draft = draft_of(alloc, Kind::Allreduce)?;
+    let draft = draft_of(alloc, kinds::ALLREDUCE)?;
     drop(post(alloc, port, draft, ops)?);
     Ok(())
 }

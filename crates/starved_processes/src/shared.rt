@@ -8,7 +8,6 @@ use crate::fleets::one_port;
 use mpx_birth::Birth;
 use mpx_bus::{Bus, Port, Push};
 use mpx_group::Proc;
-use mpx_kind::Kind;
 use mpx_name::Name;
 use mpx_num::{Listing, Ops};
 use mpx_post::{Draft, PostError};
@@ -19,6 +18,7 @@ use std::process::Abort;
 use std::sync::Wait;
 use std::sync::ledger::Blank;
 use std::test::Fail;
+use test_drafts::kinds;
 use trials::drafts::two_drafts;
 use trials::notes::{Called, note};
 use trials::trouble::{Trouble, taken};
@@ -377,7 +377,7 @@ fn of_one_port<R: Abort + Wait>(
 fn shared_ports_stay(rt: HostRuntime) -> Result<(), Fail> {
     let alloc = rt.alloc();
     let ops = Ops::none(alloc);
-    let mut drafts = two_drafts(alloc, Kind::Dup)?;
+    let mut drafts = two_drafts(alloc, kinds::DUP)?;
     assert!(rt; of_one_port(&rt, alloc, &mut drafts, &ops)?);
     Ok(())
 }

@@ -10,7 +10,7 @@ use mpx_num::{Listing, Numbers, Ops};
 use mpx_world::{Cut, Event, Names, Reply, World};
 use std::alloc::Global;
 use std::marker::Brand;
-use test_drafts::proc;
+use test_drafts::{kinds, proc};
 use trials::drafts::draft_of;
 use trials::trial::Trial;
 use trials::trouble::{Trouble, filled};
@@ -92,7 +92,7 @@ fn send_names(alloc: Global) -> Result<Event, Trouble> {
 fn event_of(alloc: Global, call: &WorldCall) -> Result<Event, Trouble> {
     match call {
         WorldCall::New => Ok(send(0)),
-        WorldCall::Post => post(alloc, 0, Kind::Allreduce),
+        WorldCall::Post => post(alloc, 0, kinds::ALLREDUCE),
         WorldCall::Harvest => Ok(harvest(alloc)),
         WorldCall::HarvestChild => Ok(harvest(alloc)),
         WorldCall::Gather => gather(alloc),
@@ -124,7 +124,7 @@ fn add_opening(alloc: Global, events: &mut Vec<Event>, kind: Kind) -> Result<(),
     events.push(post(alloc, 1, kind)?)?;
     events.push(send(1))?;
     events.push(take(0))?;
-    events.push(post(alloc, 1, Kind::Barrier)?)?;
+    events.push(post(alloc, 1, kinds::BARRIER)?)?;
     events.push(send(1))?;
     Ok(())
 }
@@ -145,8 +145,8 @@ fn run(
 
 fn kind_of(call: &WorldCall) -> Kind {
     match call {
-        WorldCall::HarvestChild => Kind::Split,
-        _ => Kind::Allreduce,
+        WorldCall::HarvestChild => kinds::SPLIT,
+        _ => kinds::ALLREDUCE,
     }
 }
 

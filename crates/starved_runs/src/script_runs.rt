@@ -1,4 +1,6 @@
-//! Runs from a script to its report, in threads too: nothing is written where memory was wanting.
+//! Runs from a script to its report, by one worker and more, and in threads: nothing is written where memory was wanting.
+ghost use Rattle.std.specs.Prelude.{◌≡◌};
+
 use crate::same::same_reports;
 use crate::troubles::{ended, read, threaded};
 use mpx_job::{Command, Job, Options};
@@ -6,6 +8,7 @@ use mpx_meaning::Report;
 use mpx_num::Ops;
 use mpx_run::{End, run_bytes, run_text};
 use mpx_script::Script;
+use mpx_sim::{Run, run_sim};
 use mpx_threads::{OpenGate, run_threads};
 use std::alloc::Global;
 use std::io::{self, Write};
@@ -18,6 +21,7 @@ use trials::trouble::{Trouble, both};
 
 #[derive(Clone, Copy)]
 enum RunCall {
+    Simulated(u8),
     InThreads,
     Bytes(Command),
     Text(Command),
@@ -42,6 +46,7 @@ impl Write for Sink {
 
 #[derive(Drop)]
 enum RunMade {
+    Run(Run),
     Report(Report),
     End(End),
 }
@@ -54,13 +59,39 @@ const OPTIONS: Options = Options {
     loss: 0,
     relays: 0,
     turns: 1000,
+    workers: None,
 };
+
+// A process more than the script's ranks, and half of all frames lost.
+fn options_of(workers: u8) -> Options
+    ensures { result.relays ≡ 1 }
+{
+    Options {
+        loss: 50,
+        relays: 1,
+        workers: Some(workers),
+        ..OPTIONS
+    }
+}
 
 fn job_of(command: Command) -> Job {
     Job {
         command,
         options: OPTIONS,
     }
+}
+
+fn run_by<T: Threads + Sync>(
+    rt: &T,
+    alloc: Global,
+    script: &Script,
+    workers: u8,
+    ops: &Ops,
+) -> Result<Run, Trouble> {
+    if script.ranks() > 63 {
+        return Err(Trouble::Refused);
+    }
+    Ok(run_sim(rt, alloc, script, &options_of(workers), ops)?)
 }
 
 fn run_in_threads<T: Threads + Wait + Sync>(
@@ -97,6 +128,9 @@ fn same_ends(one: &End, other: &End) -> bool {
 
 fn are_alike(one: &RunMade, other: &RunMade) -> bool {
     match (one, other) {
+        (RunMade::Run(one), RunMade::Run(other)) => {
+            same_reports(&one.report, &other.report) && one.turns == other.turns
+        }
         (RunMade::Report(one), RunMade::Report(other)) => same_reports(one, other),
         (RunMade::End(one), RunMade::End(other)) => same_ends(one, other),
         _ => false,
@@ -112,6 +146,7 @@ fn make<T: Threads + Wait + Sync>(
     ops: &Ops,
 ) -> Result<RunMade, Trouble> {
     match call {
+        RunCall::Simulated(workers) => Ok(RunMade::Run(run_by(rt, alloc, script, workers, ops)?)),
         RunCall::InThreads => Ok(RunMade::Report(run_in_threads(rt, alloc, script, ops)?)),
         RunCall::Bytes(command) => {
             let job = job_of(command);
@@ -209,6 +244,18 @@ fn runs_stay(rt: HostRuntime) -> Result<(), Fail> {
 }
 
 const THREAD_CALLS: &[(&str, RunCall)] = &[("run_threads", RunCall::InThreads)];
+
+const SIMULATED_CALLS: &[(&str, RunCall)] = &[
+    ("run_sim", RunCall::Simulated(1)),
+    ("run_sim by three workers", RunCall::Simulated(3)),
+];
+
+// A simulated run can be made again where memory was refused, in a thread of it too.
+#[test]
+fn simulated_stay(rt: HostRuntime) -> Result<(), Fail> {
+    let ops = Ops::none(rt.alloc());
+    Ok(tries_runs(&rt, rt.alloc(), "mpx_sim ", SIMULATED_CALLS, &ops)?)
+}
 
 // A run in threads has ended where memory was refused in one of them, and can be made again.
 #[test]

@@ -1,12 +1,10 @@
-//! Scripts: read, copied, evaluated and run.
+//! Scripts: read, copied and evaluated.
 use crate::same::same_reports;
 use crate::troubles::read;
 use mpx_eval::{Findings, eval, examine};
-use mpx_job::Options;
 use mpx_meaning::Report;
 use mpx_num::Ops;
 use mpx_script::{Script, Statement, Word, statement_lines};
-use mpx_sim::{Run, run_sim};
 use std::alloc::Global;
 use trials::trial::Trial;
 use trials::trouble::Trouble;
@@ -20,7 +18,6 @@ pub enum ScriptCall {
     CopyWord,
     Eval,
     Examine,
-    RunSim,
 }
 
 #[derive(Drop)]
@@ -38,27 +35,18 @@ pub enum ScriptMade {
     Word(Word),
     Report(Report),
     Findings(Findings),
-    Run(Run),
 }
 
 // Each form of a statement. Rank 1 waits for the last call, which rank 0 doesn't make, and its first is refused.
 const TEXT: &[u8] =
     b"ranks 2\n1: bcast world 9 i32 1\n*: split world 0 0 -> a\n0: iscan a sum i32 5 -> r\n1: iscan a sum i32 6 -> r\n*: waitall r\n*: dist_graph a 0>1,1>0 -> g\n*: sources g\n*: compare world a\n*: translate world a 0,1\n*: create_group world 3 0,1 -> h\n1: barrier world\n";
 
-const OPTIONS: Options = Options {
-    threads: false,
-    seed: 1,
-    loss: 0,
-    relays: 1,
-    turns: 50,
-};
-
 fn script(alloc: Global, ops: &Ops) -> Result<Script, Trouble> {
     read(alloc, TEXT, ops)
 }
 
-fn has_draft(alloc: Global, statement: &Statement) -> Result<bool, Trouble> {
-    let draft = statement.draft(alloc)?;
+fn has_draft(statement: &Statement) -> Result<bool, Trouble> {
+    let draft = statement.draft()?;
     let is_there = draft.is_some();
     drop(draft);
     Ok(is_there)
@@ -74,7 +62,7 @@ fn is_copied(alloc: Global, statement: &Statement) -> Result<bool, Trouble> {
 fn drafted(alloc: Global, statements: &[Statement]) -> Result<ScriptMade, Trouble> {
     let mut count: usize = 0;
     for statement in statements {
-        if has_draft(alloc, statement)? {
+        if has_draft(statement)? {
             count = count.wrapping_add(1);
         }
     }
@@ -89,13 +77,6 @@ fn copied(alloc: Global, statements: &[Statement]) -> Result<ScriptMade, Trouble
         }
     }
     Ok(ScriptMade::Count(count))
-}
-
-fn run(alloc: Global, script: &Script, ops: &Ops) -> Result<Run, Trouble> {
-    if script.ranks() > 60 {
-        return Err(Trouble::Refused);
-    }
-    Ok(run_sim(alloc, script, &OPTIONS, ops)?)
 }
 
 // Whether the same was found, as far as numbers tell it.
@@ -137,7 +118,6 @@ impl Trial for ScriptCall {
             ScriptCall::CopyWord => Ok(ScriptMade::Word(reading.word.copy(alloc)?)),
             ScriptCall::Eval => Ok(ScriptMade::Report(eval(alloc, script_read, ops)?)),
             ScriptCall::Examine => Ok(ScriptMade::Findings(examine(alloc, script_read, ops)?)),
-            ScriptCall::RunSim => Ok(ScriptMade::Run(run(alloc, script_read, ops)?)),
         }
     }
 
@@ -154,9 +134,6 @@ impl Trial for ScriptCall {
             (ScriptMade::Report(one), ScriptMade::Report(other)) => same_reports(one, other),
             (ScriptMade::Findings(one), ScriptMade::Findings(other)) => {
                 same_findings(one, other)
-            }
-            (ScriptMade::Run(one), ScriptMade::Run(other)) => {
-                same_reports(&one.report, &other.report) && one.turns == other.turns
             }
             _ => false,
         }
@@ -181,5 +158,4 @@ pub const SCRIPT_CALLS: &[(&str, ScriptCall)] = &[
         ScriptCall::Eval,
     ),
     ("mpx_eval examine", ScriptCall::Examine),
-    ("mpx_sim run_sim", ScriptCall::RunSim),
 ];

@@ -1,7 +1,6 @@
 //! Contexts, and a draft, a post and a frame on them, for the tests of boards and of processes.
-use crate::{Drafted, bare, just, proc};
+use crate::{Drafted, bare, just, kinds, proc};
 use mpx_group::Group;
-use mpx_kind::Kind;
 use mpx_name::Name;
 use mpx_num::Ty;
 use mpx_post::Post;
@@ -55,7 +54,7 @@ pub fn sum_of(items: &[i128]) -> Drafted<'_> {
     Drafted {
         ty: Ty::I64,
         items,
-        ..just(Kind::Allreduce)
+        ..just(kinds::ALLREDUCE)
     }
 }
 

@@ -3,6 +3,7 @@
 #![tactic(auto)]
 
 pub mod contexts;
+pub mod kinds;
 
 use join_core::OutOfMemory;
 use mpx_birth::Birth;
@@ -61,7 +62,7 @@ pub fn just(kind: Kind) -> Drafted<'static> {
 pub fn sum_of(items: &[i128]) -> Drafted<'_> {
     Drafted {
         items,
-        ..just(Kind::Allreduce)
+        ..just(kinds::ALLREDUCE)
     }
 }
 

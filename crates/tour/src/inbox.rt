@@ -1,6 +1,6 @@
 //! A host of the program's own.
 ghost use Rattle.std.specs.Prelude.{◌≡◌, refl, drop};
-ghost use Rattle.mpx_node.specs.Bounded.{node_bounded};
+ghost use Rattle.mpx_node.specs.laws.Bounded.{node_bounded};
 ghost use Rattle.tour.specs.Turns.{take_more};
 
 use join_core::OutOfMemory;
@@ -24,6 +24,9 @@ impl Host for Inbox {
     ghost use Rattle.mpx_node.specs.Shown.{node_of};
 
     ghost node = { λ h. node_of h.node };
+
+    // It goes by the operations that are lent, as its node.
+    ghost goes_by = { λ h lent. lent };
 
     // So many turns take so many boards out of the inbox.
     ghost turned = { λ a n b. b.boards.items ≡ drop n a.boards.items };
@@ -72,6 +75,8 @@ impl Host for Inbox {
     }
 
     ghost bounded = { λ h name. node_bounded h.node name };
+
+    ghost stays_by = { λ a b n x. refl };
 
     ghost turns_none = { λ h. refl };
 

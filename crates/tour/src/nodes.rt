@@ -10,13 +10,13 @@ use mpx_group::Proc;
 use mpx_name::Name;
 use mpx_node::Node;
 use mpx_num::{Listing, Numbers, Op, Ops, Ty};
-use mpx_post::{Call, Draft, Kind};
+use mpx_post::{Call, Draft, Kind, Reduction};
 use std::alloc::Global;
 
 /// The draft of a number for the sum of all.
 pub fn sum_draft(number: i128) -> Draft {
     Draft {
-        call: Call::blocking(Kind::Allreduce),
+        call: Call::blocking(Kind::Reduction(Reduction::Allreduce)),
         root: 0,
         op: Op::Sum,
         ty: Ty::I32,

@@ -3,7 +3,7 @@ use crate::desks::{number_in, numbers, swap};
 use crate::stop::Stop;
 use mpx_comm::{Comm, Desk};
 use mpx_node::Node;
-use mpx_num::{Op, Ops, OwnOp, Place, Ty};
+use mpx_num::{Op, Ops, OwnOp, Ty};
 use std::alloc::Global;
 
 /// Gives the item of the last rank.
@@ -41,7 +41,7 @@ pub fn combined(
     ops: &Ops,
 ) -> Result<(i128, i128), Stop> {
     let (here, there) = worlds;
-    let op = Op::Own(Place::P0);
+    let op = Op::Own(0);
     let items = numbers(alloc, &[7])?;
     let mine = left.iallreduce(alloc, here, op, Ty::I32, items, ops)?;
     let items = numbers(alloc, &[8])?;

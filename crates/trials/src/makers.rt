@@ -8,7 +8,7 @@ use mpx_group::{Group, Proc};
 use mpx_kind::Kind;
 use mpx_name::Name;
 use std::alloc::Global;
-use test_drafts::proc;
+use test_drafts::{kinds, proc};
 
 /// The processes of these numbers.
 pub fn procs(alloc: Global, numbers: &[u8]) -> Result<Vec<Proc>, Trouble> {
@@ -92,7 +92,7 @@ pub fn all_near(alloc: Global) -> Result<Birth, Trouble> {
 fn fill(alloc: Global, board: &mut Board, world: &Name) -> Result<(), Trouble> {
     board.add_birth(alloc, world, Birth::world(alloc, 3)?)?;
     for number in 0..2 {
-        let post = post_of(alloc, Kind::Allreduce)?;
+        let post = post_of(alloc, kinds::ALLREDUCE)?;
         board.join_post(alloc, world, 0, proc(number), post)?;
     }
     board.raise_front(alloc, world, proc(1), 2)?;
@@ -121,7 +121,7 @@ fn free_next(alloc: Global, board: &mut Board, is_dead: bool) -> Result<(), Trou
 // The third has posted too, and again, and the first acknowledges; and a child of the world has a front.
 fn fill_other(alloc: Global, board: &mut Board, world: &Name, child: &Name) -> Result<(), Trouble> {
     for call in 0..2 {
-        let post = post_of(alloc, Kind::Alltoallv)?;
+        let post = post_of(alloc, kinds::ALLTOALLV)?;
         board.join_post(alloc, world, call, proc(2), post)?;
     }
     board.raise_front(alloc, child, proc(0), 1)?;

@@ -6,7 +6,7 @@ use mpx_num::{Op, Ty};
 use mpx_post::{Making, Post};
 use std::alloc::{AllocError, Global};
 use std::test::Fail;
-use test_drafts::{Drafted, GraphDraft, bare, just};
+use test_drafts::{Drafted, GraphDraft, bare, just, kinds};
 
 fn tells(alloc: Global, drafted: &Drafted<'_>, wanted: &PostTold<'_>) -> bool {
     match bare(alloc, drafted) {
@@ -30,7 +30,7 @@ fn reduce(root: i128, op: Op, ty: Ty, items: &'static [i128]) -> Drafted<'static
         op,
         ty,
         items,
-        ..just(Kind::Reduce)
+        ..just(kinds::REDUCE)
     }
 }
 
@@ -43,9 +43,9 @@ fn posts_tell_their_fields(rt: HostRuntime) {
         sent: 3,
         received_first: 4096,
         rcounts: &[4096, 0, 5],
-        ..kind_alone(Kind::Alltoallv)
+        ..kind_alone(kinds::ALLTOALLV)
     };
-    let no_fields = blocks(Kind::Barrier, &[-1], &[5000], &[1 << 40]);
+    let no_fields = blocks(kinds::BARRIER, &[-1], &[5000], &[1 << 40]);
     let coloured = split(Some(2147483647), -2147483648);
     let table = [
         (
@@ -53,10 +53,10 @@ fn posts_tell_their_fields(rt: HostRuntime) {
             reduced(63),
         ),
         (
-            blocks(Kind::Alltoallv, &[1, 2], &[4096, 0, 5], &[-6]),
+            blocks(kinds::ALLTOALLV, &[1, 2], &[4096, 0, 5], &[-6]),
             exchanged,
         ),
-        (no_fields, kind_alone(Kind::Barrier)),
+        (no_fields, kind_alone(kinds::BARRIER)),
         (coloured, has_split(Some(2147483647), -2147483648)),
         (create(&[63, 0]), has_created(&[63, 0])),
     ];
@@ -106,7 +106,7 @@ fn long<'a>(scounts: &'a [i128], rcounts: &'a [i128], items: &'a [i128]) -> Draf
         scounts,
         rcounts,
         items,
-        ..just(Kind::Alltoallv)
+        ..just(kinds::ALLTOALLV)
     }
 }
 
@@ -125,8 +125,8 @@ fn has_long(
 
 #[test]
 fn parts_of_graphs_and_long_lists(rt: HostRuntime) -> Result<(), Fail> {
-    let edge = graph(Kind::DistGraph, true, &[(63, 0, 2147483647)]);
-    let neighbours = just(Kind::DistGraphAdjacent);
+    let edge = graph(kinds::DIST_GRAPH, true, &[(63, 0, 2147483647)]);
+    let neighbours = just(kinds::DIST_GRAPH_ADJACENT);
     assert!(rt; has_part(rt.alloc(), &edge) & has_part(rt.alloc(), &neighbours));
     for (scounts, rcounts, items, wanted) in [
         (65535, 65535, 4096, true),

@@ -14,7 +14,7 @@ use mpx_post::{At, Post, PostError, Row};
 use mpx_value::{FaultKind, Outcome, children, outcome};
 use std::alloc::Global;
 use std::test::Fail;
-use test_drafts::{Drafted, birth, check, just};
+use test_drafts::{Drafted, birth, check, just, kinds};
 
 // What a call gives rank 0: a communicator by its colour, its size and the rank in it; or nothing, as a free does.
 enum GivenComm {
@@ -101,14 +101,14 @@ const CASES: &[Case] = &[
     Case {
         members: &[4, 2],
         place: CallPlace::World,
-        posted: &[Just(Kind::Dup), Just(Kind::Dup)],
+        posted: &[Just(kinds::DUP), Just(kinds::DUP)],
         made: &[(0, &[4, 2])],
         given: Comm(0, 2, 0),
     },
     Case {
         members: &[4, 2],
         place: CallPlace::Gathering,
-        posted: &[Just(Kind::CreateGroup), Just(Kind::CreateGroup)],
+        posted: &[Just(kinds::CREATE_GROUP), Just(kinds::CREATE_GROUP)],
         made: &[(0, &[4, 2])],
         given: Comm(0, 2, 0),
     },
@@ -116,14 +116,14 @@ const CASES: &[Case] = &[
     Case {
         members: &[0, 1],
         place: CallPlace::Below(7),
-        posted: &[Just(Kind::Dup), Just(Kind::Dup)],
+        posted: &[Just(kinds::DUP), Just(kinds::DUP)],
         made: &[(0, &[0, 1])],
         given: Comm(0, 2, 0),
     },
     Case {
         members: &[0, 1],
         place: CallPlace::Below(8),
-        posted: &[Just(Kind::Dup), Just(Kind::Dup)],
+        posted: &[Just(kinds::DUP), Just(kinds::DUP)],
         made: &[],
         given: GivenComm::Fault(FaultKind::Amount, 0),
     },
@@ -145,14 +145,14 @@ const CASES: &[Case] = &[
     Case {
         members: &[0, 1],
         place: CallPlace::World,
-        posted: &[Just(Kind::Free), Just(Kind::Barrier)],
+        posted: &[Just(Kind::Free), Just(kinds::BARRIER)],
         made: &[],
         given: GivenComm::Fault(FaultKind::Kind, 1),
     },
     Case {
         members: &[0, 1],
         place: CallPlace::World,
-        posted: &[Just(Kind::Dup), Just(Kind::Free)],
+        posted: &[Just(kinds::DUP), Just(Kind::Free)],
         made: &[],
         given: GivenComm::Fault(FaultKind::Kind, 1),
     },

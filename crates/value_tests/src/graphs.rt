@@ -14,7 +14,7 @@ use mpx_num::Ops;
 use mpx_post::Row;
 use std::alloc::Global;
 use std::test::Fail;
-use test_drafts::{Drafted, GraphDraft, just};
+use test_drafts::{Drafted, GraphDraft, just, kinds};
 
 // A rank's sources and destinations.
 type Beside = (&'static [u8], &'static [u8]);
@@ -43,7 +43,7 @@ fn made_of(alloc: Global, row: &Row<'_>) -> Result<Topology, OutOfMemory>
     requires fine { IsFine row.now }
 {
     prove!(0 < row.len());
-    if row.post(0).kind() == Kind::DistGraph {
+    if row.post(0).kind() == kinds::DIST_GRAPH {
         topology_general(alloc, row)
     } else {
         topology_adjacent(alloc, row)
@@ -95,7 +95,7 @@ fn general(edges: &'static [(i128, i128, i128)]) -> Drafted<'static> {
         sources: &[],
         destinations: &[],
     };
-    graph(Kind::DistGraph, part)
+    graph(kinds::DIST_GRAPH, part)
 }
 
 // The own neighbours.
@@ -109,7 +109,7 @@ fn adjacent(
         sources,
         destinations,
     };
-    graph(Kind::DistGraphAdjacent, part)
+    graph(kinds::DIST_GRAPH_ADJACENT, part)
 }
 
 // The edge from rank 1 to rank 2 is given twice, and those to rank 2 stand in the order of who gives them.

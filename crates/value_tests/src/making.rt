@@ -5,7 +5,7 @@ use mpx_kind::Kind;
 use mpx_num::Ops;
 use mpx_post::{At, Post, PostError};
 use std::alloc::{AllocError, Global};
-use test_drafts::{Drafted, check, just, proc};
+use test_drafts::{Drafted, check, just, kinds, proc};
 
 // The processes with these numbers.
 pub fn processes(alloc: Global, numbers: &[u8]) -> Result<Vec<Proc>, AllocError> {
@@ -76,7 +76,7 @@ pub fn reduce(root: i128) -> Drafted<'static> {
     Drafted {
         root,
         items: &[1],
-        ..just(Kind::Reduce)
+        ..just(kinds::REDUCE)
     }
 }
 
@@ -84,14 +84,14 @@ pub fn split(colour: Option<i128>, key: i128) -> Drafted<'static> {
     Drafted {
         colour,
         key,
-        ..just(Kind::Split)
+        ..just(kinds::SPLIT)
     }
 }
 
 pub fn create(group: &'static [i128]) -> Drafted<'static> {
     Drafted {
         group,
-        ..just(Kind::Create)
+        ..just(kinds::CREATE)
     }
 }
 

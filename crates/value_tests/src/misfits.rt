@@ -2,13 +2,12 @@
 //! the posts are compared.
 use crate::making::{add_post, blocks, create, in_world, lent};
 use mpx_birth::Birth;
-use mpx_kind::Kind;
 use mpx_match::{Fault, FaultKind, Verdict, verdict};
 use mpx_num::Ops;
 use mpx_post::{Post, PostError, Row};
 use std::alloc::Global;
 use std::test::Fail;
-use test_drafts::{Drafted, GraphDraft, check, just};
+use test_drafts::{Drafted, GraphDraft, check, just, kinds};
 
 // What ranks 0 and 1 of a world post.
 pub fn posts_on(
@@ -65,16 +64,16 @@ fn far() -> Drafted<'static> {
             sources: &[],
             destinations: &[(2, 0)],
         }),
-        ..just(Kind::DistGraphAdjacent)
+        ..just(kinds::DIST_GRAPH_ADJACENT)
     }
 }
 
 #[test]
 fn misfits_are_told_first(rt: HostRuntime) -> Result<(), Fail> {
-    let sum = blocks(Kind::Allreduce, &[], &[], &[7]);
-    let to_all = blocks(Kind::Alltoall, &[], &[1], &[7, 7, 7]);
-    let of_all = blocks(Kind::Allgatherv, &[], &[1, 1, 1], &[7]);
-    let root = rooted(blocks(Kind::Bcast, &[], &[0], &[]), 2);
+    let sum = blocks(kinds::ALLREDUCE, &[], &[], &[7]);
+    let to_all = blocks(kinds::ALLTOALL, &[], &[1], &[7, 7, 7]);
+    let of_all = blocks(kinds::ALLGATHERV, &[], &[1, 1, 1], &[7]);
+    let root = rooted(blocks(kinds::BCAST, &[], &[0], &[]), 2);
     let table = [
         ([root, sum], 0),
         ([sum, root], 1),
@@ -83,7 +82,7 @@ fn misfits_are_told_first(rt: HostRuntime) -> Result<(), Fail> {
         ([of_all, sum], 0),
         ([sum, of_all], 1),
         ([create(&[]), create(&[1, 2])], 1),
-        ([just(Kind::DistGraphAdjacent), far()], 1),
+        ([just(kinds::DIST_GRAPH_ADJACENT), far()], 1),
     ];
     let ops = Ops::none(rt.alloc());
     for (i, row) in table.iter().enumerate() {

@@ -3,21 +3,20 @@ use crate::making::{add_post, in_world, post_at};
 use crate::misfits::row_of;
 use mpx_affine::Affine;
 use mpx_birth::Birth;
-use mpx_kind::Kind;
 use mpx_match::{Fault, FaultKind, Verdict, verdict};
-use mpx_num::{Op, Ops, OwnOp, Place, Ty};
+use mpx_num::{Op, Ops, OwnOp, Ty};
 use mpx_post::{Post, PostError};
 use std::alloc::Global;
 use std::test::Fail;
-use test_drafts::{Drafted, bare, just};
+use test_drafts::{Drafted, bare, just, kinds};
 
 // All give one item of the type to this operation.
-fn folded(place: Place, ty: Ty) -> Drafted<'static> {
+fn folded(place: u8, ty: Ty) -> Drafted<'static> {
     Drafted {
         op: Op::Own(place),
         ty,
         items: if ty == Ty::TwoInt { &[2, 1] } else { &[2] },
-        ..just(Kind::Allreduce)
+        ..just(kinds::ALLREDUCE)
     }
 }
 
@@ -70,8 +69,8 @@ fn objects_are_asked_for_types(rt: HostRuntime) -> Result<(), Fail> {
         return Err(Fail::from("refused"));
     };
     let none = Ops::none(alloc);
-    let (one, other) = (folded(Place::P0, Ty::TwoInt), folded(Place::P1, Ty::TwoInt));
-    let (single, third) = (folded(Place::P0, Ty::I32), folded(Place::P2, Ty::TwoInt));
+    let (one, other) = (folded(0, Ty::TwoInt), folded(1, Ty::TwoInt));
+    let (single, third) = (folded(0, Ty::I32), folded(2, Ty::TwoInt));
     for (drafted, wanted) in [
         (one, None),
         (other, None),

@@ -1,6 +1,6 @@
 //! Folds by an operation of a job's own, in rank order and wrapped.
 use mpx_affine::Affine;
-use mpx_num::{Items, Numbers, Op, Ops, OwnOp, Place, Ty, apply, op_fits};
+use mpx_num::{Items, Numbers, Op, Ops, OwnOp, Ty, apply, op_fits};
 use std::alloc::Global;
 use std::test::Fail;
 
@@ -13,7 +13,7 @@ fn pair(alloc: Global, a: i128, b: i128) -> Option<Items> {
 
 // What the maps of ranks in order come to.
 pub fn folded(alloc: Global, ops: &Ops, maps: &[(i128, i128)]) -> Option<(i128, i128)> {
-    let op = Op::Own(Place::P0);
+    let op = Op::Own(0);
     if !op_fits(op, Ty::TwoInt, ops) {
         return None;
     }
@@ -63,8 +63,8 @@ fn maps_are_composed_in_rank_order(rt: HostRuntime) -> Result<(), Fail> {
         folded(alloc, &ops, &[(65536, 0), (65536, 0)]),
         Some((0, 0))
     );
-    assert!(rt; !op_fits(Op::Own(Place::P0), Ty::I32, &ops));
-    assert!(rt; !op_fits(Op::Own(Place::P1), Ty::TwoInt, &ops));
-    assert!(rt; !op_fits(Op::Own(Place::P0), Ty::TwoInt, &Ops::none(alloc)));
+    assert!(rt; !op_fits(Op::Own(0), Ty::I32, &ops));
+    assert!(rt; !op_fits(Op::Own(1), Ty::TwoInt, &ops));
+    assert!(rt; !op_fits(Op::Own(0), Ty::TwoInt, &Ops::none(alloc)));
     Ok(())
 }

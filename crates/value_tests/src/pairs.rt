@@ -1,12 +1,11 @@
 //! Posts beside others: copies, and posts that differ.
 use crate::making::{create, in_world, post_at, split};
 use join_core::Exact;
-use mpx_kind::Kind;
 use mpx_num::{Ops, Ty};
 use mpx_post::{Post, PostError};
 use std::alloc::Global;
 use std::test::Fail;
-use test_drafts::{Drafted, draft, just, says};
+use test_drafts::{Drafted, draft, just, kinds, says};
 
 // What is made of what process 0 drafts as the first call of world.
 fn post(alloc: Global, drafted: &Drafted<'_>, ops: &Ops) -> Result<Post, PostError> {
@@ -42,7 +41,7 @@ fn received(rcounts: &'static [i128]) -> Drafted<'static> {
         root: 1,
         ty: Ty::U8,
         rcounts,
-        ..just(Kind::Bcast)
+        ..just(kinds::BCAST)
     }
 }
 

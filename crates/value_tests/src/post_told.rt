@@ -2,6 +2,7 @@
 use mpx_kind::{Kind, Mode};
 use mpx_num::Op;
 use mpx_post::Post;
+use test_drafts::kinds;
 
 // What a post tells: beside the sums of all its send counts and of rank 0's receive count, that it blocks.
 #[derive(Clone, Copy)]
@@ -43,7 +44,7 @@ pub fn reduced(root: u8) -> PostTold<'static> {
         op: Some(Op::Maxloc),
         has_items: true,
         count: 2,
-        ..kind_alone(Kind::Reduce)
+        ..kind_alone(kinds::REDUCE)
     }
 }
 
@@ -51,14 +52,14 @@ pub fn has_split(colour: Option<u32>, key: i32) -> PostTold<'static> {
     PostTold {
         colour,
         key,
-        ..kind_alone(Kind::Split)
+        ..kind_alone(kinds::SPLIT)
     }
 }
 
 pub fn has_created(group: &'static [u8]) -> PostTold<'static> {
     PostTold {
         group,
-        ..kind_alone(Kind::Create)
+        ..kind_alone(kinds::CREATE)
     }
 }
 

@@ -6,7 +6,7 @@ use mpx_num::{Ops, Ty};
 use mpx_post::{At, Draft, PostError};
 use std::alloc::Global;
 use std::process::Abort;
-use test_drafts::{Drafted, draft, just, proc};
+use test_drafts::{Drafted, draft, just, kinds, proc};
 
 fn refusal(
     alloc: Global,
@@ -74,11 +74,11 @@ fn strangers_calls_used_up_and_contexts(rt: HostRuntime) {
     let at = in_world(0);
     let (last, past) = (in_world(4294967294), in_world(4294967295));
     let (freed, freed_last) = (behind_free(1), behind_free(4294967295));
-    let along_edges = blocks(Kind::NeighborAlltoallv, &[1], &[], &[7]);
+    let along_edges = blocks(kinds::NEIGHBOR_ALLTOALLV, &[1], &[], &[7]);
     let cut = Drafted {
         ty: Ty::TwoInt,
         items: &[i128::MAX],
-        ..just(Kind::Gather)
+        ..just(kinds::GATHER)
     };
     check_refusals(
         &rt,
@@ -88,33 +88,33 @@ fn strangers_calls_used_up_and_contexts(rt: HostRuntime) {
             (2, at, along_edges, Some(NotMember)),
             (0, past, along_edges, Some(NoTopology)),
             (0, at, cut, Some(ItemsLength)),
-            (0, last, just(Kind::Barrier), None),
-            (0, past, just(Kind::Barrier), Some(CallsUsedUp)),
+            (0, last, just(kinds::BARRIER), None),
+            (0, past, just(kinds::BARRIER), Some(CallsUsedUp)),
             (
                 0,
                 on(4294967295, 8, true),
-                just(Kind::Dup),
+                just(kinds::DUP),
                 Some(CallsUsedUp),
             ),
             // on a gathering `create_group` alone is called, and nowhere else
-            (0, plain, just(Kind::CreateGroup), Some(BadGroup)),
-            (0, gathering, just(Kind::CreateGroup), None),
-            (0, gathering, just(Kind::Barrier), Some(BadGroup)),
+            (0, plain, just(kinds::CREATE_GROUP), Some(BadGroup)),
+            (0, gathering, just(kinds::CREATE_GROUP), None),
+            (0, gathering, just(kinds::BARRIER), Some(BadGroup)),
             (0, gathering, just(Kind::Free), Some(BadGroup)),
-            (0, gathering, just(Kind::Dup), Some(BadGroup)),
-            (0, gathering, just(Kind::Split), Some(BadGroup)),
-            (0, gathering, just(Kind::Create), Some(BadGroup)),
-            (0, on(0, 8, true), just(Kind::Dup), Some(DepthUsedUp)),
+            (0, gathering, just(kinds::DUP), Some(BadGroup)),
+            (0, gathering, just(kinds::SPLIT), Some(BadGroup)),
+            (0, gathering, just(kinds::CREATE), Some(BadGroup)),
+            (0, on(0, 8, true), just(kinds::DUP), Some(DepthUsedUp)),
             (0, on(0, 7, true), split(Some(-1), 0), Some(BadGroup)),
             // a free is posted as any call, on the world too, and nothing behind it
             (0, at, just(Kind::Free), None),
             (1, on(7, 8, false), just(Kind::Free), None),
             (0, past, just(Kind::Free), Some(CallsUsedUp)),
             (0, freed, just(Kind::Free), Some(Closed)),
-            (1, freed, just(Kind::Barrier), Some(Closed)),
+            (1, freed, just(kinds::BARRIER), Some(Closed)),
             (0, freed, reduce(2), Some(Closed)),
             (0, freed, along_edges, Some(Closed)),
-            (0, freed_last, just(Kind::CreateGroup), Some(Closed)),
+            (0, freed_last, just(kinds::CREATE_GROUP), Some(Closed)),
             (2, freed, reduce(2), Some(NotMember)),
         ],
         &Ops::none(rt.alloc()),

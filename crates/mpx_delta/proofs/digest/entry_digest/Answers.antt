@@ -1,5 +1,5 @@
 -- One process more.
-use Rattle.std.proofs.Common.{arith, ◌≡◌, ℕ, ap, sym, ◌∙◌, subst, T}
+use Rattle.std.proofs.Common.{arith, ◌≡◌, ◌<◌, ◌||◌, cond, ℕ, ap, sym, ◌∙◌, subst, T}
 use Rattle.std.specs.FinMap.{is_sorted, from_sorted}
 use Rattle.std.specs.Ordering.{nat_cmp}
 use Rattle.join_nest.specs.Seen.{sorted_seen}
@@ -14,9 +14,12 @@ use Rattle.mpx_delta.proofs.digest.entry_digest.Goals.{then-number-ne0+in_ok-pus
 
 pub loop-process-preserved : goal.loop-process-preserved
 loop-process-preserved c =
-    let number = c.digest_number-number.ensures ∙ ap (digest_number (view_of_entry c.args.entry.now)) c.new.ensures in
+    let lt : c.loop-process.process < 64 = omega (arith, c.loop-process-test.true) in
+    let number : c.digest_number-number.result ≡ digest_number (view_of_entry c.args.entry.now) c.loop-process.process =
+    c.digest_number-number.ensures
+    ∙ (λ i. cond (c.members_of-are_members.ensures c.loop-process.process lt i || c.posters_of-have_posted.ensures c.loop-process.process lt i) (c.reaches-reached.ensures c.loop-process.process lt i) 0) in
     elim c.if-number-ne0.branch [
-      | then-number-ne0+in_ok-push w ↦ more_kept _ c.loop-process.process c.loop-process.made.items _ c.loop-process.invariant _ (ap (λ v. v.items) w.made-is ∙ w.in_ok-push.ensures.items) w.new-then-number-ne0.ensures (more_some _ _ number w.if-number-ne0.true)
+      | then-number-ne0+in_ok-push w ↦ more_kept _ c.loop-process.process c.loop-process.made.items _ c.loop-process.invariant _ (ap (λ v. v.items) w.made-is ∙ w.in_ok-push.ensures.items) w.new.ensures (more_some _ _ number w.if-number-ne0.true)
       | else-number-ne0 w ↦ same_kept _ c.loop-process.process c.loop-process.made.items _ c.loop-process.invariant (ap (λ v. v.items) w.made-is) (zero_none _ (sym number ∙ w.if-number-ne0.false))
     ]
 

@@ -22,5 +22,6 @@ returns c =
       facts = All-cons (λ part. OnlyFactsOf (look part) (look c.args.board.now)) c.args.board.now [] (λ f has. has) (All-nil (λ part. OnlyFactsOf (look part) (look c.args.board.now)));
       fit = All-cons (λ part. length_told (parts_of part) ≤ c.args.limit) c.args.board.now [] (subst (λ o. IfSome o (λ frame. length_told board ≤ c.args.limit)) c.in-Some.is c.in_ok-frame.ensures.fits) (All-nil (λ part. length_told (parts_of part) ≤ c.args.limit));
       join = one_join c.args.board.now c.args.board.now refl;
+      few = tt;
       spelled = rw (c.in_ok-push.ensures.items, c.new-made.ensures.items) (subst (λ o. IfSome o (λ frame. Spells Two frame.items board)) c.in-Some.is c.in_ok-frame.ensures.spelled, tt);
     }

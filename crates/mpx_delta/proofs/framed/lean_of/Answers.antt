@@ -10,12 +10,11 @@ use Rattle.mpx_delta.proofs.Framing.{lean_own}
 use Rattle.mpx_delta.proofs.framed.lean_of.Goals as goal
 
 pub from_tidy-requires : goal.from_tidy-requires
-from_tidy-requires c = lean_tidy (view_of_acks c.in_ok-shared.shared) (parts_of c.args.board.now) _ _ c.pair.ensures.tidy (c.in_ok-first.ensures ∙ ap (λ v. keep (lean_context (view_of_acks c.in_ok-shared.shared)) v.0) c.pair.ensures.value) c.new-second.ensures
+from_tidy-requires c = lean_tidy (view_of_acks c.args.shared.now) (parts_of c.args.board.now) _ _ c.pair.ensures.tidy (c.in_ok-first.ensures ∙ ap (λ v. keep (lean_context (view_of_acks c.args.shared.now)) v.0) c.pair.ensures.value) c.new-second.ensures
 
 pub returns : goal.returns
 returns c =
-    let digest = view_of_acks c.in_ok-shared.shared in
+    let digest = view_of_acks c.args.shared.now in
     let board = parts_of c.args.board.now in
     ap (λ v. look_of (v.0, board.1)) c.from_tidy.ensures
     ∙ lean_own digest board _ (c.in_ok-first.ensures ∙ ap (λ v. keep (lean_context digest) v.0) c.pair.ensures.value)
-    ∙ c.in_ok-shared.ensures

@@ -25,5 +25,6 @@ returns-in-Ok c =
       facts = subst (λ l. All (λ part. OnlyFactsOf (look part) l) c.in_ok-parts.parts.items) is
           (All-weaker (λ part. OnlyFactsOf (look part) (look c.in_ok-lean.lean)) (λ part. OnlyFactsOf (look part) lean) (λ part only f has. without_only (common_on c.args.processes (look c.in_ok-acks.acks)) lean f (subst (λ l. Has l f) c.in_ok-lean.ensures (only f has))) c.in_ok-parts.parts.items c.in_ok-parts.ensures.facts);
       fit = c.in_ok-parts.ensures.fit;
+      few = c.in_ok-parts.ensures.few;
       join = c.in_ok-parts.ensures.join ∙ c.in_ok-lean.ensures ∙ ap (λ l. without (common_on c.args.processes l) l) is;
     }

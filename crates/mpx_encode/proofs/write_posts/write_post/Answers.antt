@@ -12,7 +12,7 @@ pub returns : goal.returns
 returns c =
     let g = c.args.given.now in
     let old = c.args.out.now.items in
-    let a : c.write_u8.new.out.items ≡ old ++ code_of_kind g.kind ∷ [] = rw (c.code_of_kind.ensures, c.kind-2.ensures) at c.in_ok-write_u8.ensures in
+    let a : c.write_u8.new.out.items ≡ old ++ code_of_kind g.kind ∷ [] = rw (c.code.ensures, c.kind-2.ensures) at c.in_ok-write_u8.ensures in
     let b : c.write_u8-2.new.out.items ≡ c.write_u8.new.out.items ++ code_of_mode g.mode ∷ [] = rw (c.code_of_mode.ensures, c.mode.ensures) at c.in_ok-write_u8-2.ensures in
     let r : c.write_root.new.out.items ≡ c.write_u8-2.new.out.items ++ root_part g = c.in_ok-write_root.ensures in
     let o : c.write_operation.new.out.items ≡ c.write_root.new.out.items ++ operation_part g = c.in_ok-write_operation.ensures in

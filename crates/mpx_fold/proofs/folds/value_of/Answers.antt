@@ -3,13 +3,12 @@ use Rattle.std.specs.Option.{option_eq}
 use Rattle.std.specs.Prelude.{unwrap_or}
 use Rattle.std.proofs.lemmas.Bool.Decides.{nat_tests}
 use Rattle.mpx_kind.specs.declared.kinds.Kind.{Kind}
-use Rattle.mpx_kind.specs.declared.kinds.Family.TheVariants as F
+use Rattle.mpx_kind.specs.declared.kinds.Kind.TheVariants as K
 use Rattle.mpx_kind.specs.declared.kinds.Reduction.TheVariants.{Reduce}
-use Rattle.mpx_kind.specs.Kinds.{family_of, fields_of}
+use Rattle.mpx_kind.specs.Kinds.{fields_of}
 use Rattle.mpx_post.specs.Posts.{Given, root_of}
 use Rattle.mpx_post.specs.Rows.{RowView}
 use Rattle.mpx_post.specs.Agreement.{first_of}
-use Rattle.mpx_kind.proofs.Families.{kind_is}
 use Rattle.mpx_fold.proofs.Giving.{given_above, given_all, given_below, given_counted, given_elsewhere, given_equal, given_first, given_root}
 use Rattle.mpx_fold.proofs.folds.value_of.Goals as goal
 
@@ -18,22 +17,22 @@ is_rank : (root : Option ℕ) (rank : ℕ) → is_some root ≡ true → (rank =
 is_rank None rank there = cc there
 is_rank (Some root) rank there = grind (arith, nat_tests)
 
-at_root : (row : RowView) (rank : ℕ) (first : Given) (root : Option ℕ) → first ≡ first_of row → family_of (first_of row).kind ≡ F.Reduction Reduce → root ≡ first.root → is_some root ≡ (fields_of first.kind).root → (rank == root_of (first_of row)) ≡ option_eq nat_eq root (Some rank)
-at_root row rank first root e family r there =
+at_root : (row : RowView) (rank : ℕ) (first : Given) (root : Option ℕ) → first ≡ first_of row → (first_of row).kind ≡ K.Reduction Reduce → root ≡ first.root → is_some root ≡ (fields_of first.kind).root → (rank == root_of (first_of row)) ≡ option_eq nat_eq root (Some rank)
+at_root row rank first root e kind r there =
     ap (λ (given : Given). rank == root_of given) (sym e)
     ∙ ap (λ (o : Option ℕ). rank == unwrap_or o 0) (sym r)
-    ∙ is_rank root rank (there ∙ ap (λ (given : Given). (fields_of given.kind).root) e ∙ ap (λ (kind : Kind). (fields_of kind).root) (kind_is (first_of row).kind (F.Reduction Reduce) family))
+    ∙ is_rank root rank (there ∙ ap (λ (given : Given). (fields_of given.kind).root) e ∙ ap (λ (kind : Kind). (fields_of kind).root) kind)
 
 pub returns-then-eq : goal.returns-then-eq
 returns-then-eq g c =
     let row = c.args.row.now in
-    let root : (c.args.rank == root_of (first_of row)) ≡ true = at_root row c.args.rank c.post-first.result.now c.root.result c.post-first.ensures.value (c.requires.family ∙ ap F.Reduction c.in-Reduce.is) c.root.ensures.value c.root.ensures.there ∙ sym c.if-eq.ensures in
+    let root : (c.args.rank == root_of (first_of row)) ≡ true = at_root row c.args.rank c.post-first.result.now c.root.result c.post-first.ensures.value (c.requires.kind ∙ ap K.Reduction c.in-Reduce.is) c.root.ensures.value c.root.ensures.there ∙ sym c.if-eq.ensures in
     rw c.in-Reduce.is (given_root _ row c.args.rank _ c.folded_value.result root c.len.ensures.count c.folded_value.ensures)
 
 pub returns-else-eq : goal.returns-else-eq
 returns-else-eq g c =
     let row = c.args.row.now in
-    let root : (c.args.rank == root_of (first_of row)) ≡ false = at_root row c.args.rank c.post-first.result.now c.root.result c.post-first.ensures.value (c.requires.family ∙ ap F.Reduction c.in-Reduce.is) c.root.ensures.value c.root.ensures.there ∙ sym c.if-eq.ensures in
+    let root : (c.args.rank == root_of (first_of row)) ≡ false = at_root row c.args.rank c.post-first.result.now c.root.result c.post-first.ensures.value (c.requires.kind ∙ ap K.Reduction c.in-Reduce.is) c.root.ensures.value c.root.ensures.there ∙ sym c.if-eq.ensures in
     rw c.in-Reduce.is (given_elsewhere _ row c.args.rank root)
 
 pub returns-in-Allreduce : goal.returns-in-Allreduce

@@ -5,8 +5,9 @@ use Rattle.mpx_post.specs.Rows.{RowView}
 use Rattle.mpx_birth.specs.Topologies.{TopologyView}
 use Rattle.mpx_match.specs.declared.faults.Verdict.TheVariants.{Fault}
 use Rattle.mpx_match.specs.declared.verdicts.RowQuestion.{RowQuestion}
-use Rattle.mpx_match.specs.Questions.{answer}
-use Rattle.mpx_match.specs.Verdicts.{answers, first_fault, or_else, questions, told_as, verdict}
+use Rattle.mpx_match.specs.Questions.{is_faulty, least_rank}
+use Rattle.mpx_match.specs.Verdicts.{first_fault, questions, verdict}
+use Rattle.mpx_match.proofs.FirstFault.{told}
 use Rattle.mpx_match.proofs.verdicts.first_fault.Goals as goal
 
 pub loop-question-init : goal.loop-question-init
@@ -18,10 +19,10 @@ module _ (ops : List Operation) (topology : Option TopologyView) (row : RowView)
   next = get_or asked i d
 
   -- one question more
-  further : (o : Option ℕ) → answer ops topology next row ≡ o → first_fault (answers ops topology (drop i asked) row) ≡ or_else (told_as next) o (first_fault (answers ops topology (drop (i + 1) asked) row))
+  further : (o : Option ℕ) → least_rank (is_faulty ops topology next row) row ≡ o → first_fault ops topology (drop i asked) row ≡ told next o (first_fault ops topology (drop (i + 1) asked) row)
   further o e =
-      at_drop_more (λ (qs : List RowQuestion). first_fault (answers ops topology qs row)) asked i d l
-      ∙ ap (λ (found : Option ℕ). or_else (told_as next) found (first_fault (answers ops topology (drop (i + 1) asked) row))) e
+      at_drop_more (λ (qs : List RowQuestion). first_fault ops topology qs row) asked i d l
+      ∙ ap (λ (found : Option ℕ). told next found (first_fault ops topology (drop (i + 1) asked) row)) e
 
 pub returns-in-Some : goal.returns-in-Some
 returns-in-Some g c =

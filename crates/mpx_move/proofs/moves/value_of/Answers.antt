@@ -4,8 +4,9 @@ use Rattle.std.proofs.lemmas.Bool.Decides.{nat_tests}
 use Rattle.mpx_kind.specs.declared.kinds.Exchange.{Exchange}
 use Rattle.mpx_kind.specs.declared.kinds.Exchange.TheVariants.{Gather}
 use Rattle.mpx_kind.specs.declared.kinds.Kind.{Kind}
+use Rattle.mpx_kind.specs.declared.kinds.Kind.TheVariants as K
 use Rattle.mpx_post.specs.declared.value.Value.TheVariants.{Nothing, Items}
-use Rattle.mpx_kind.specs.Kinds.{exchange_kind, fields_of}
+use Rattle.mpx_kind.specs.Kinds.{fields_of}
 use Rattle.mpx_post.specs.Posts.{numbers_of, root_of}
 use Rattle.mpx_post.specs.Rows.{RowView}
 use Rattle.mpx_post.specs.Agreement.{first_of, post_at}
@@ -30,7 +31,7 @@ elsewhere : (row : RowView) (root rank : ℕ) → (first_of row).root ≡ Some r
 elsewhere row root rank e other = let is : root_of (first_of row) ≡ root = root_is row root e in grind (arith, nat_tests)
 
 abbrev sends : Exchange → Bool
-sends exchange = sends_blocks (exchange_kind exchange)
+sends exchange = sends_blocks (K.Exchange exchange)
 
 pub block_value-requires-clause-sends : goal.block_value-requires-clause-sends
 block_value-requires-clause-sends c =
@@ -40,7 +41,7 @@ block_value-requires-clause-sends c =
 pub blocks_value-requires-clause-senders : goal.blocks_value-requires-clause-senders
 blocks_value-requires-clause-senders c =
     let each : sends c.args.exchange ≡ true = elim c.in-Alltoall.is [ inl is ↦ ap sends is | inr is ↦ ap sends is ] in
-    let rooted : Exchange → Bool = λ e. (fields_of (exchange_kind e)).root in
+    let rooted : Exchange → Bool = λ e. (fields_of (K.Exchange e)).root in
     let no_root : rooted c.args.exchange ≡ false = elim c.in-Alltoall.is [ inl is ↦ ap rooted is | inr is ↦ ap rooted is ] in
     λ sender l. is_sender c.args.row.now sender c.requires.fine l (ap sends_blocks c.requires.kind ∙ each) (λ has. absurd (false≢true (sym no_root ∙ ap (λ (k : Kind). (fields_of k).root) (sym c.requires.kind) ∙ has)))
 

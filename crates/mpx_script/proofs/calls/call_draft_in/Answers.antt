@@ -26,5 +26,5 @@ returns-clause-draft g c =
     let sent : said (counts_named (fields_of c.args.kind).scounts) [] c.args.call.now.scounts ≡ c.in-Ok.counts.0 = said_is (counts_named (fields_of c.args.kind).scounts) [] c.args.call.now.scounts c.in-Ok.counts.0 (search rules) in
     let received : said (counts_named (fields_of c.args.kind).rcounts) [] c.args.call.now.rcounts ≡ c.in-Ok.counts.1 = said_is (counts_named (fields_of c.args.kind).rcounts) [] c.args.call.now.rcounts c.in-Ok.counts.1 (search rules) in
     let items : filter_map number_of c.args.call.now.items ≡ c.in-Some-2.items = search rules in
-    let draft = rw (to_z-of_z w128 c.in-Some.root (search rules)) at c.in_ok-draft.ensures in
+    let draft = rw (to_z-of_z w128 c.in-Some.root (search rules)) at c.plain_draft.ensures in
     rw (root, sent, received, items) draft

@@ -15,4 +15,4 @@ returns g c ops script ranks size begun t frames i got run =
     let old = get_or xs p c.index-processes-frame.result in
     subst (λ (rs : List ProcessView). IsUnderWay ops script ranks size begun (Coming t) rs frames) (written process_of xs p c.receive.new.self)
     (subst (λ (v : ProcessView). IsUnderWay ops script ranks size begun (Coming t) (set (map process_of xs) p v) frames) (sym c.in_ok-receive.ensures)
-    (run_takes ops script ranks size begun (Coming t) (map process_of xs) frames run (λ q place. tt) p (rank_of call_of old.rank) (node_of old.desk.desk.host) i (part_of c.args.frame.now) (element process_of xs p c.index-processes-frame.result (omega arith)) got))
+    (run_takes ops script ranks size begun (Coming t) (map process_of xs) frames run (λ q place. tt) p (rank_of call_of old.rank) (node_of old.carrier.desk.host) i (part_of c.args.frame.now) (element process_of xs p c.index-processes-frame.result (omega arith)) got))

@@ -1,14 +1,22 @@
-use Rattle.std.proofs.Common.{◌≡◌, ◌+◌, ◌≤◌, List, map, length, ap, sym, ◌∙◌, refl, inr, subst, arith}
+use Rattle.std.proofs.Common.{◌≡◌, ◌+◌, ◌≤◌, [], List, map, length, ap, sym, ◌∙◌, refl, inr, subst, arith}
 use Rattle.std.proofs.lemmas.List.{length-map}
 use Rattle.mpx_sim.specs.declared.process.Process.{Process}
-use Rattle.mpx_sim.specs.Ends.{RestsBy}
+use Rattle.mpx_sim.specs.Ends.{OneWaits, RestsBy}
 use Rattle.mpx_sim.specs.Shown.{moment_of, part_of, process_of, schedule_of}
 use Rattle.mpx_system.specs.Systems.{start_system}
 use Rattle.mpx_sim.specs.Turns.{Alone, Coming}
-use Rattle.mpx_sim.proofs.Running.{run_begins, run_same}
+use Rattle.mpx_sim.proofs.Running.{run_same}
 use Rattle.mpx_sim.proofs.Phases.{turns_more}
 use Rattle.mpx_sim.proofs.Sending.{written_back}
 use Rattle.mpx_sim.proofs.turns.simulate.Goals as goal
+
+pub first-requires-clause-count : goal.first-requires-clause-count
+first-requires-clause-count g c κs within =
+    let xs = c.in_ok-processes.processes.items in
+    let run = c.in_ok-processes.ensures [] (schedule_of c.in_ok-network.network.schedule) in
+    let many : length xs ≡ c.args.script.now.ranks + c.args.options.now.relays = sym (length-map xs process_of) ∙ run.count in
+    let lent : length c.deref_mut.result.now ≡ length xs = ap length c.deref_mut.ensures.value in
+    omega (arith, many, lent, c.from.ensures, c.ranks.ensures.ranks)
 
 pub loop-number-init : goal.loop-number-init
 loop-number-init g c =
@@ -17,59 +25,67 @@ loop-number-init g c =
     let xs = c.in_ok-processes.processes.items in
     let start = start_system _ script.statements script.ranks size in
     let schedule = c.in_ok-network.network.schedule in
-    let run = run_same _ script.statements script.ranks size (moment_of start schedule) Alone (map process_of xs) (map process_of xs) _ _ refl (ap (map part_of) (sym c.in_ok-network.ensures.frames)) (c.in_ok-processes.ensures _ (schedule_of schedule)) in
-    let many : length xs ≡ size = sym (length-map xs process_of) ∙ run.count in
-    record { count = omega (arith, many); made = refl; loss = c.in_ok-network.ensures.loss; run = (schedule_of schedule, start, (c.in_ok-network.ensures.loss, c.in_ok-network.ensures.seed), refl, run) }
+    let few : c.from.result ≤ script.ranks = omega (arith, c.ranks.ensures.ranks, c.from.ensures) in
+    let before = run_same _ script.statements script.ranks size (moment_of start schedule) Alone (map process_of xs) (map process_of c.deref_mut.result.now) _ _ (ap (map process_of) (sym c.deref_mut.ensures.value)) (ap (map part_of) (sym c.in_ok-network.ensures.frames)) (c.in_ok-processes.ensures _ (schedule_of schedule)) in
+    let gone = c.in_ok-changed.ensures script.statements script.ranks size (moment_of start schedule) (map part_of c.in_ok-network.network.frames.items) few before in
+    let lent : length c.deref_mut.result.now ≡ length xs = ap length c.deref_mut.ensures.value in
+    let kept = c.first.auto.processes ∙ lent in
+    let same = written_back c.in_ok-processes.processes.len xs c.first.new.processes kept (sym lent ∙ c.deref_mut.ensures.len) in
+    let run = run_same _ script.statements script.ranks size (moment_of start schedule) Alone _ _ _ _ (ap (map process_of) (sym same)) refl gone in
+    let first = c.in_ok-processes.ensures [] (schedule_of schedule) in
+    let many : length xs ≡ size = sym (length-map xs process_of) ∙ first.count in
+    record { count = omega (arith, ap length same, kept, many); loss = c.in_ok-network.ensures.loss; run = (schedule_of schedule, start, (c.in_ok-network.ensures.loss, c.in_ok-network.ensures.seed), refl, run) }
+
+pub returns-then-over-clause-run : goal.returns-then-over-clause-run
+returns-then-over-clause-run g c =
+    let script = c.args.script.now in
+    let size = script.ranks + c.args.options.now.relays in
+    let frames = map part_of c.loop-number.network.frames.items in
+    let before = c.loop-number.invariant.run in
+    let begun = moment_of before.1 c.loop-number.network.schedule in
+    let lent = c.deref_mut-in-loop-number.ensures in
+    let ran = c.in_ok-over.ensures.run script.statements script.ranks size begun frames (run_same _ script.statements script.ranks size begun Alone _ _ _ _ (ap (map process_of) (sym lent.value)) refl before.4) in
+    let same = written_back c.loop-number.processes.len c.loop-number.processes.items c.is_over.new.processes (c.is_over.auto.processes ∙ ap length lent.value) (sym (ap length lent.value) ∙ lent.len) in
+    record { first = before.0; seeded = before.2; begun = begun; made = before.3; frames = frames; run = run_same _ script.statements script.ranks size begun Alone _ _ _ _ (ap (map process_of) (sym same)) refl ran }
+
+pub returns-then-over-clause-ended : goal.returns-then-over-clause-ended
+returns-then-over-clause-ended g c =
+    let lent = c.deref_mut-in-loop-number.ensures in
+    let same = written_back c.loop-number.processes.len c.loop-number.processes.items c.is_over.new.processes (c.is_over.auto.processes ∙ ap length lent.value) (sym (ap length lent.value) ∙ lent.len) in
+    let rest = c.in_ok-over.ensures.over c.if-over.true in
+    inr (
+      omega (arith, c.loop-number-test.true),
+      subst (λ (ps : List Process). RestsBy c.args.options.now.loss c.args.script.now.ranks (map process_of ps)) (sym same)
+          (subst (λ n. RestsBy c.args.options.now.loss n (map process_of c.is_over.new.processes)) (c.from.ensures ∙ c.ranks.ensures.ranks)
+          (subst (λ n. RestsBy n c.from.result (map process_of c.is_over.new.processes)) c.loop-number.invariant.loss rest)),
+    )
 
 pub loop-number-preserved : goal.loop-number-preserved
 loop-number-preserved g c =
     let script = c.args.script.now in
     let size = script.ranks + c.args.options.now.relays in
-    let few : c.from-ranks.result ≤ script.ranks = omega (arith, c.ranks.ensures.ranks, c.from-ranks.ensures) in
+    let len = c.loop-number.processes.len in
+    let few : c.from.result ≤ script.ranks = omega (arith, c.ranks.ensures.ranks, c.from.ensures) in
+    let frames = map part_of c.loop-number.network.frames.items in
     let before = c.loop-number.invariant.run in
-    let came = c.in_ok-goes_on.ensures.turns c.if-not-goes_on.false script.statements script.ranks size before.1 few (run_same _ script.statements script.ranks size (moment_of before.1 c.loop-number.network.schedule) Alone _ _ _ _ (ap (map process_of) (sym c.deref_mut.ensures.value)) refl before.4) in
-    let kept = c.turn.auto.processes ∙ ap length c.deref_mut.ensures.value in
-    let same = written_back c.loop-number.processes.len c.loop-number.processes.items c.turn.new.processes kept (sym (ap length c.deref_mut.ensures.value) ∙ c.deref_mut.ensures.len) in
-    let many = ap length same ∙ kept in
-    let schedule = schedule_of c.turn.new.network.schedule in
     let begun = moment_of before.1 c.loop-number.network.schedule in
-    let ran = run_same _ script.statements script.ranks size begun (Coming schedule) _ _ _ _ (ap (map process_of) (sym same)) refl came in
+    let lent = c.deref_mut-in-loop-number.ensures in
+    let alone = c.in_ok-over.ensures.run script.statements script.ranks size begun frames (run_same _ script.statements script.ranks size begun Alone _ _ _ _ (ap (map process_of) (sym lent.value)) refl before.4) in
+    let same = written_back len c.loop-number.processes.items c.is_over.new.processes (c.is_over.auto.processes ∙ ap length lent.value) (sym (ap length lent.value) ∙ lent.len) in
+    let lent-2 = c.deref_mut-in-loop-number-2.ensures in
+    let there = ap (map process_of) (sym same ∙ sym lent-2.value) in
+    let one = subst (OneWaits c.from.result) there (c.in_ok-over.ensures.further c.if-over.false) in
+    let came = c.in_ok-exchange.ensures.run _ script.statements script.ranks size before.1 few one (run_same _ script.statements script.ranks size begun Alone _ _ _ _ there refl alone) in
+    let same-2 = written_back len _ c.exchange.new.processes (c.exchange.auto.processes ∙ ap length lent-2.value) (sym (ap length lent-2.value) ∙ lent-2.len) in
+    let lent-3 = c.deref_mut-in-loop-number-3.ensures in
+    let come = run_same _ script.statements script.ranks size begun (Coming (schedule_of c.exchange.new.network.schedule)) _ _ _ _ (ap (map process_of) (sym same-2 ∙ sym lent-3.value)) refl came in
+    let turned = c.in_ok-changed-2.ensures.run script.statements script.ranks size begun few come in
+    let same-3 = written_back len _ c.go_further.new.processes (c.go_further.auto.processes ∙ ap length lent-3.value) (sym (ap length lent-3.value) ∙ lent-3.len) in
+    let next = moment_of turned.next c.go_further.new.network.schedule in
+    let run = run_same _ script.statements script.ranks size next Alone _ _ _ _ (ap (map process_of) (sym same-3)) refl turned.run in
+    let many = sym (length-map _ process_of) ∙ run.count in
     record {
-      count = omega (arith, many, c.loop-number.invariant.count);
-      made = omega (arith, c.loop-number.invariant.made);
-      loss = c.in_ok-goes_on.ensures.loss ∙ c.loop-number.invariant.loss;
-      run = (
-        before.0,
-        ran.system,
-        before.2,
-        turns_more c.loop-number.made script.ranks _ begun (record { system = ran.system; schedule = schedule }) before.3 ran.since,
-        run_begins _ script.statements script.ranks size begun schedule _ _ ran,
-      );
+      count = omega (arith, many);
+      loss = c.in_ok-changed-2.ensures.loss ∙ c.in_ok-exchange.ensures.loss ∙ c.loop-number.invariant.loss;
+      run = (before.0, turned.next, before.2, turns_more c.loop-number.number script.ranks _ begun next before.3 turned.turn, run);
     }
-
-pub returns-then-not-goes_on-clause-run : goal.returns-then-not-goes_on-clause-run
-returns-then-not-goes_on-clause-run g c =
-    let script = c.args.script.now in
-    let size = script.ranks + c.args.options.now.relays in
-    let few : c.from-ranks.result ≤ script.ranks = omega (arith, c.ranks.ensures.ranks, c.from-ranks.ensures) in
-    let before = c.loop-number.invariant.run in
-    let ran = c.in_ok-goes_on.ensures.ends c.if-not-goes_on.true script.statements script.ranks size (moment_of before.1 c.loop-number.network.schedule) few (run_same _ script.statements script.ranks size (moment_of before.1 c.loop-number.network.schedule) Alone _ _ _ _ (ap (map process_of) (sym c.deref_mut.ensures.value)) refl before.4) in
-    let same = written_back c.loop-number.processes.len c.loop-number.processes.items c.turn.new.processes (c.turn.auto.processes ∙ ap length c.deref_mut.ensures.value) (sym (ap length c.deref_mut.ensures.value) ∙ c.deref_mut.ensures.len) in
-    let begun = moment_of before.1 c.loop-number.network.schedule in
-    record { first = before.0; seeded = before.2; begun = begun; made = before.3; frames = map part_of c.turn.new.network.frames.items; run = run_same _ script.statements script.ranks size begun Alone _ _ _ _ (ap (map process_of) (sym same)) refl ran }
-
-pub returns-clause-run : goal.returns-clause-run
-returns-clause-run g c =
-    let before = c.loop-number.invariant.run in
-    record { first = before.0; seeded = before.2; begun = moment_of before.1 c.loop-number.network.schedule; made = before.3; frames = map part_of c.loop-number.network.frames.items; run = before.4 }
-
-pub returns-then-not-goes_on-clause-ended : goal.returns-then-not-goes_on-clause-ended
-returns-then-not-goes_on-clause-ended g c =
-    let same = written_back c.loop-number.processes.len c.loop-number.processes.items c.turn.new.processes (c.turn.auto.processes ∙ ap length c.deref_mut.ensures.value) (sym (ap length c.deref_mut.ensures.value) ∙ c.deref_mut.ensures.len) in
-    let rest = c.in_ok-goes_on.ensures.rest c.if-not-goes_on.true in
-    inr (
-      omega (arith, c.loop-number.invariant.made, c.loop-number-test.true),
-      subst (λ (ps : List Process). RestsBy c.args.options.now.loss c.args.script.now.ranks (map process_of ps)) (sym same)
-          (subst (λ n. RestsBy c.args.options.now.loss n (map process_of c.turn.new.processes)) (c.from-ranks.ensures ∙ c.ranks.ensures.ranks)
-          (subst (λ n. RestsBy n c.from-ranks.result (map process_of c.turn.new.processes)) c.loop-number.invariant.loss rest)),
-    )

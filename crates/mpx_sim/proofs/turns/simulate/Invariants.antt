@@ -10,9 +10,8 @@ use Rattle.mpx_sim.proofs.turns.simulate.Given as goal
 abbrev pub invariant-loop-number : goal.invariant-loop-number
 invariant-loop-number g l = record {
   count : l.script.ranks ≤ length l.processes.items;
-  made : l.made ≡ l.number;
   loss : l.network.schedule.loss ≡ l.options.loss;
   run : (first : ScheduleView) × (begun : System) × IsLater (record { loss = l.options.loss; draws = generator l.options.seed }) first
-      × AreTurns l.made l.script.ranks (record { system = start_system (map (λ b. let o = goal.OwnOp-dyn g (b.vtable, b.value) in operation_of (o.word_bytes b.value) (o.fits_type b.value) (o.combination b.value)) l.ops.list.items) l.script.statements l.script.ranks (l.script.ranks + l.options.relays); schedule = first }) (moment_of begun l.network.schedule)
+      × AreTurns l.number l.script.ranks (record { system = start_system (map (λ b. let o = goal.OwnOp-dyn g (b.vtable, b.value) in operation_of (o.word_bytes b.value) (o.fits_type b.value) (o.combination b.value)) l.ops.list.items) l.script.statements l.script.ranks (l.script.ranks + l.options.relays); schedule = first }) (moment_of begun l.network.schedule)
       × IsUnderWay (map (λ b. let o = goal.OwnOp-dyn g (b.vtable, b.value) in operation_of (o.word_bytes b.value) (o.fits_type b.value) (o.combination b.value)) l.ops.list.items) l.script.statements l.script.ranks (l.script.ranks + l.options.relays) (moment_of begun l.network.schedule) Alone (map process_of l.processes.items) (map part_of l.network.frames.items);
 }

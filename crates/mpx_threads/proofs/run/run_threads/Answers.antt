@@ -4,7 +4,7 @@ use Rattle.mpx_bus.specs.Buses.{table_of}
 use Rattle.mpx_meaning.specs.Reports.{transcripts_of, which}
 use Rattle.mpx_system.proofs.Results.{map_taken}
 use Rattle.mpx_threads.specs.declared.worker.Worked.{Worked}
-use Rattle.mpx_threads.specs.Rest.{AreAtRest}
+use Rattle.mpx_threads.specs.Rest.{HaveComeToRest}
 use Rattle.mpx_threads.specs.Work.{gossip_at, lines_in, waits_at}
 use Rattle.mpx_threads.proofs.Jobs.{gave_up_among, if_err}
 use Rattle.mpx_threads.proofs.Reporting.{all_lent, begins_lent, run_lent, whole_lent}
@@ -25,7 +25,9 @@ returns-clause-run g c =
     let said = transcripts_of (record { transcripts = c.truncate.new.self; waiting = c.in_ok-waiting.waiting }) in
     let lines : said ≡ take script.ranks (map lines_in ws) = ap (map _) c.truncate.ensures.items ∙ map_taken _ c.ranks-3.result c.in_ok-transcripts.transcripts.items ∙ ap (take c.ranks-3.result) c.in_ok-transcripts.ensures.lines ∙ ap (λ n. take n (map lines_in ws)) c.ranks-3.ensures.ranks in
     let waiting : c.in_ok-waiting.waiting.items ≡ which (λ p. waits_at (slice_get ws p)) script.ranks = c.in_ok-waiting.ensures ∙ ap (λ xs. which (λ p. waits_at (slice_get xs p)) c.ranks.result) c.as_slice-2.ensures.value ∙ ap (which (λ p. waits_at (slice_get ws p))) c.ranks.ensures.ranks in
-    run_lent _ script c.args.options.now.relays made.0 (table_of c.in_ok-bus.bus) ws made.1.0 made.1.1 c.in_ok-transcripts.ports.items said c.in_ok-waiting.waiting.items c.in_ok-transcripts.ensures.ports lines waiting
+    run_lent _ script c.args.options.now.relays made.0 (table_of c.in_ok-bus.bus) ws made.1.0 made.1.1 c.in_ok-transcripts.ports.items said c.in_ok-waiting.waiting.items c.in_ok-transcripts.ensures.ports lines waiting c.are_at_rest-rests.result
+    (λ so. subst (λ (x : ℕ × List Worked). HaveComeToRest x.0 x.1) (λ i. (c.ranks-2.ensures.ranks i, c.as_slice-3.ensures.value i)) (c.are_at_rest-rests.ensures.yes so))
+    (λ so rest. c.are_at_rest-rests.ensures.no so (subst (λ (x : ℕ × List Worked). HaveComeToRest x.0 x.1) (λ i. (sym c.ranks-2.ensures.ranks i, sym c.as_slice-3.ensures.value i)) rest))
 
 pub returns-clause-begins : goal.returns-clause-begins
 returns-clause-begins g c =
@@ -55,5 +57,5 @@ returns-clause-rests g c so evaluation is =
     let said = transcripts_of (record { transcripts = c.truncate.new.self; waiting = c.in_ok-waiting.waiting }) in
     let lines : said ≡ take script.ranks (map lines_in ws) = ap (map _) c.truncate.ensures.items ∙ map_taken _ c.ranks-3.result c.in_ok-transcripts.transcripts.items ∙ ap (take c.ranks-3.result) c.in_ok-transcripts.ensures.lines ∙ ap (λ n. take n (map lines_in ws)) c.ranks-3.ensures.ranks in
     let waiting : c.in_ok-waiting.waiting.items ≡ which (λ p. waits_at (slice_get ws p)) script.ranks = c.in_ok-waiting.ensures ∙ ap (λ xs. which (λ p. waits_at (slice_get xs p)) c.ranks.result) c.as_slice-2.ensures.value ∙ ap (which (λ p. waits_at (slice_get ws p))) c.ranks.ensures.ranks in
-    let rest = subst (λ (x : ℕ × List Worked). AreAtRest x.0 x.1) (λ i. (c.ranks-2.ensures.ranks i, c.as_slice-3.ensures.value i)) (c.are_at_rest-rests.ensures so) in
+    let rest = subst (λ (x : ℕ × List Worked). HaveComeToRest x.0 x.1) (λ i. (c.ranks-2.ensures.ranks i, c.as_slice-3.ensures.value i)) (c.are_at_rest-rests.ensures.yes so) in
     all_lent _ script c.args.options.now.relays made.0 (table_of c.in_ok-bus.bus) ws made.1.0 made.1.1 c.in_ok-transcripts.ports.items said c.in_ok-waiting.waiting.items c.in_ok-transcripts.ensures.ports lines waiting rest evaluation is

@@ -6,11 +6,11 @@ use Rattle.crossbeam_queue.specs.Passes.{view}
 use Rattle.mpx_bus.specs.Views.{seat_of}
 use Rattle.mpx_bus.specs.Finished.{TellsFronts}
 use Rattle.mpx_bus.proofs.Fronts.{tells_at}
-use Rattle.mpx_bus.proofs.Meets.{merges, learns, have_met}
+use Rattle.mpx_bus.proofs.Meets.{merges, learns, have_met, one_stands}
 use Rattle.mpx_bus.proofs.port.Bus.meet.Goals as goal
 
 pub absorb-requires-clause-rule : goal.absorb-requires-clause-rule
-absorb-requires-clause-rule c = merges _ _ _ _ c.first.invariant.2.stands c.second.invariant.2.stands
+absorb-requires-clause-rule c = merges _ _ _ _ (one_stands _ c.first.invariant.2.stands) c.second.invariant.2.stands
 
 pub learn_as-requires-clause-rule : goal.learn_as-requires-clause-rule
 learn_as-requires-clause-rule c = learns _ _ (ap (λ (u : View). u.named) c.absorb.ensures.rule)

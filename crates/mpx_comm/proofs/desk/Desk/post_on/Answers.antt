@@ -1,8 +1,8 @@
-use Rattle.std.proofs.Common.{◌≡◌, ◌++◌, [], ◌∷◌, List, sym, ap, ◌∙◌, inr, refl}
+use Rattle.std.proofs.Common.{◌≡◌, ◌++◌, [], ◌∷◌, List, sym, ap, ◌∙◌, refl, subst}
 use Rattle.indexmap.specs.IndexSet.{insert_key}
 use Rattle.mpx_comm.specs.declared.request.Request.{Request}
-use Rattle.mpx_comm.specs.Requests.{same_request}
-use Rattle.mpx_comm.proofs.Posting.{ok_holds, post_done, posted_exactly, accepted, is_refused}
+use Rattle.mpx_comm.specs.Requests.{ArePosted, same_request}
+use Rattle.mpx_comm.proofs.Posting.{ok_holds, post_done, posted_exactly, posts_keep}
 use Rattle.mpx_node.specs.Nodes.{checked_on}
 use Rattle.mpx_comm.proofs.desk.Desk.post_on.Goals as goal
 
@@ -24,17 +24,18 @@ returns-clause-asks g c =
       posted_exactly _ (g.H.Host.node c.args.self.now.host) (g.H.Host.node c.post.new.self) c.args.name.now c.in_ok-call.call c.args.draft c.in_ok-call.ensures.posts,
     )
 
-pub returns-in-Some-clause-asks : goal.returns-in-Some-clause-asks
-returns-in-Some-clause-asks g c = (is_refused (checked_on _ (g.H.Host.node c.args.self.now.host) c.args.name.now c.args.draft) c.in-Some.refusal c.in-Some.ensures, refl, refl)
+pub returns-in_default-clause-asks : goal.returns-in_default-clause-asks
+returns-in_default-clause-asks g c = (c.refusal_or_memory.ensures (checked_on _ (g.H.Host.node c.args.self.now.host) c.args.name.now c.args.draft) c.refusal-refusal.ensures, refl, c.room_and_names.ensures.keys)
 
-pub returns-in-Some-clause-no_turn : goal.returns-in-Some-clause-no_turn
-returns-in-Some-clause-no_turn g c = g.met.H.Host.turns_none c.args.self.now.host
+pub returns-in_default-clause-no_turn : goal.returns-in_default-clause-no_turn
+returns-in_default-clause-no_turn g c = g.met.H.Host.turns_none c.args.self.now.host
 
-pub returns-in_default-room_and_names-clause-asks : goal.returns-in_default-room_and_names-clause-asks
-returns-in_default-room_and_names-clause-asks g c = (inr (refl, accepted (checked_on _ (g.H.Host.node c.args.self.now.host) c.args.name.now c.args.draft) c.in_default.ensures), refl, c.room_and_names.ensures.keys)
-
-pub returns-in_default-room_and_names-clause-no_turn : goal.returns-in_default-room_and_names-clause-no_turn
-returns-in_default-room_and_names-clause-no_turn g c = g.met.H.Host.turns_none c.args.self.now.host
+-- the open requests are as they were, and stay posted
+pub invariant_of-self-in-Break-1 : goal.invariant_of-self-in-Break-1
+invariant_of-self-in-Break-1 g c = record {
+  posted = subst (ArePosted (g.H.Host.node c.post.new.self)) (sym c.room_and_names.ensures.keys)
+      (posts_keep c.args.name.now (checked_on _ (g.H.Host.node c.args.self.now.host) c.args.name.now c.args.draft) c.post.result (g.H.Host.node c.args.self.now.host) (g.H.Host.node c.post.new.self) c.args.self.now.requests.keys c.post.ensures.posts c.args.self.now.posted);
+}
 
 pub returns-in_err-call-clause-no_turn : goal.returns-in_err-call-clause-no_turn
 returns-in_err-call-clause-no_turn g c = c.post.ensures.no_turn

@@ -18,4 +18,4 @@ returns-clause-frames c =
     let made = c.in_ok-said.ensures.made in
     let lacks = made.lacks in
     subst (λ n. AreLacked c.args.limit n (map (λ frame. frame.items) c.in_ok-said.field-0.frames.items)) (stored_there c.in_ok-said.field-0.said (node_of c.args.self.now) _ lacks.after _ c.in_ok-said.ensures.node lacks.stores c.acknowledge.ensures.gives)
-    (record { parts = made.parts; facts = lacks.facts; fit = lacks.fit; join = lacks.join; spelled = made.spelled })
+    (record { parts = made.parts; facts = lacks.facts; fit = lacks.fit; join = lacks.join; few = lacks.few; spelled = made.spelled })

@@ -17,4 +17,5 @@ returns c = IfOk-weaker c.new_list.result _ _ (λ made l. record {
   facts = l.facts;
   fit = l.fit;
   join = l.join;
+  few = l.few;
 }) c.new_list.ensures

@@ -21,6 +21,7 @@ returns-clause-made c = IfOk-weaker c.new_frames.result _ _ (λ made m.
         facts = l.facts;
         fit = l.fit;
         join = l.join;
+        few = l.few;
       };
       spelled = m.spelled;
     }) c.new_frames.ensures.made

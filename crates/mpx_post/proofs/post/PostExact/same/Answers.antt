@@ -1,6 +1,6 @@
-use Rattle.std.proofs.Common.{◌∙◌, nat_eq, refl, sym}
+use Rattle.std.proofs.Common.{◌∙◌, ◌==◌, nat_eq, refl, sym}
 use Rattle.mpx_post.specs.Equality.{same_given, same_items, same_option}
-use Rattle.mpx_post.proofs.Equality.{eight_tests, kinds_test, modes_test, options_test}
+use Rattle.mpx_post.proofs.Equality.{eight_tests, modes_test, options_test}
 use Rattle.mpx_post.proofs.post.PostExact.same.Goals as goal
 
 pub returns : goal.returns
@@ -8,9 +8,9 @@ returns c =
     let left = c.self.inside in
     let right = c.other.inside in
     let all = eight_tests
-    (c.eq.ensures ∙ kinds_test left.kind right.kind)
-    (c.eq-2.ensures ∙ modes_test left.mode right.mode)
-    (c.eq-3.ensures ∙ options_test nat_eq nat_eq (λ a b. refl) left.root right.root)
+    (λ i. c.code.ensures i == c.code-2.ensures i)
+    (c.eq.ensures ∙ modes_test left.mode right.mode)
+    (c.eq-2.ensures ∙ options_test nat_eq nat_eq (λ a b. refl) left.root right.root)
     c.have_same_op.ensures
     c.same.ensures
     c.same-2.ensures

@@ -14,7 +14,7 @@ use Rattle.mpx_sim.specs.Turns.{Alone}
 use Rattle.mpx_sim.proofs.process.Process.lacks.Goals as goal
 
 pub returns-in-Some-clause-keeps : goal.returns-in-Some-clause-keeps
-returns-in-Some-clause-keeps g c = on_each_ok c.is_open.result (λ h. keeps_harvested _ (node_of c.args.self.now.desk.desk.host) (node_of c.is_open.new.self.desk.host) h (rank_of call_of c.args.self.now.rank)) c.is_open.ensures.harvested
+returns-in-Some-clause-keeps g c = on_each_ok c.is_open.result (λ h. keeps_harvested _ (node_of c.args.self.now.carrier.desk.host) (node_of c.is_open.new.self.desk.host) h (rank_of call_of c.args.self.now.rank)) c.is_open.ensures.harvested
 
 pub returns-in-Some-clause-lacks : goal.returns-in-Some-clause-lacks
 returns-in-Some-clause-lacks g c =
@@ -22,16 +22,16 @@ returns-in-Some-clause-lacks g c =
     if_ok_then c.is_open.result (λ pends h e. awaited_lacks v (call_of c.in-Some.call.now) (sym c.awaited.ensures ∙ ap (λ o. option_map call_of (option_copied o)) c.in-Some.is) (h e)) c.is_open.ensures.pending
 
 pub returns-in_default-first-clause-keeps : goal.returns-in_default-first-clause-keeps
-returns-in_default-first-clause-keeps g c = keeps_node_itself Alone _ (node_of c.args.self.now.desk.desk.host) (node_of c.args.self.now.desk.desk.host) refl (rank_of call_of c.args.self.now.rank)
+returns-in_default-first-clause-keeps g c = keeps_node_itself Alone _ (node_of c.args.self.now.carrier.desk.host) (node_of c.args.self.now.carrier.desk.host) refl (rank_of call_of c.args.self.now.rank)
 
 pub returns-in-Wait-clause-keeps : goal.returns-in-Wait-clause-keeps
-returns-in-Wait-clause-keeps g c = on_each_ok c.one_is_open.result (λ h. keeps_harvested _ (node_of c.args.self.now.desk.desk.host) (node_of c.one_is_open.new.self.desk.host) h (rank_of call_of c.args.self.now.rank)) c.one_is_open.ensures.harvested
+returns-in-Wait-clause-keeps g c = on_each_ok c.one_is_open.result (λ h. keeps_harvested _ (node_of c.args.self.now.carrier.desk.host) (node_of c.one_is_open.new.self.desk.host) h (rank_of call_of c.args.self.now.rank)) c.one_is_open.ensures.harvested
 
 pub returns-in-Post-clause-keeps : goal.returns-in-Post-clause-keeps
-returns-in-Post-clause-keeps g c = keeps_node_itself Alone _ (node_of c.args.self.now.desk.desk.host) (node_of c.args.self.now.desk.desk.host) refl (rank_of call_of c.args.self.now.rank)
+returns-in-Post-clause-keeps g c = keeps_node_itself Alone _ (node_of c.args.self.now.carrier.desk.host) (node_of c.args.self.now.carrier.desk.host) refl (rank_of call_of c.args.self.now.rank)
 
 pub returns-in-Ask-clause-keeps : goal.returns-in-Ask-clause-keeps
-returns-in-Ask-clause-keeps g c = keeps_node_itself Alone _ (node_of c.args.self.now.desk.desk.host) (node_of c.args.self.now.desk.desk.host) refl (rank_of call_of c.args.self.now.rank)
+returns-in-Ask-clause-keeps g c = keeps_node_itself Alone _ (node_of c.args.self.now.carrier.desk.host) (node_of c.args.self.now.carrier.desk.host) refl (rank_of call_of c.args.self.now.rank)
 
 pub returns-in-Wait-clause-lacks : goal.returns-in-Wait-clause-lacks
 returns-in-Wait-clause-lacks g c =

@@ -1,0 +1,11 @@
+//! Tasks that are done at once, each in a thread of its own, and all of them joined.
+//!
+//! In the order of reading: [`Task`] and [`Calling`], what a thread does and what is known of what it gives; [`Stop`], who is told where
+//! not all of them can begin; [`all_at_once`], [`map_at_once`] and [`both`].
+#![tactic(auto)]
+
+mod at_once;
+mod task;
+
+pub use at_once::{AtOnceError, Stop, all_at_once, both, map_at_once};
+pub use task::{Calling, Task, TaskPromise};

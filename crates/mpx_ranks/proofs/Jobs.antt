@@ -1,0 +1,176 @@
+-- What comes of the work of all processes.
+use Rattle.std.proofs.Common.{◌≡◌, ℕ, zero, suc, ◌+◌, ◌<◌, ◌≤◌, List, [], ◌∷◌, ◌++◌, length, length-append, map, take, Option, Some, refl, sym, ap, ◌∙◌, subst, arith}
+use Rattle.std.specs.Prelude.{Err, IfOk, IfSome, Ok, OnOk, Result, remove, slice_get, slice_index_or}
+use Rattle.std.proofs.lemmas.List.{length-map}
+use Rattle.std.proofs.lemmas.Option.{same_Some}
+use Rattle.atomic_table.specs.Seated.{TableId}
+use Rattle.mpx_at_once.specs.Tasks.{AllGive}
+use Rattle.mpx_bus.specs.Acts.{node_at}
+use Rattle.mpx_bus.specs.Buses.{table_of}
+use Rattle.mpx_bus.specs.declared.act.Setup.{Setup}
+use Rattle.mpx_bus.specs.Meetings.{HaveAllMet}
+use Rattle.mpx_bus.specs.Ports.{IsFleet, IsNew, PortView, node_in}
+use Rattle.mpx_comm.specs.declared.comm.Comm.{Comm}
+use Rattle.mpx_comm.specs.Later.{Later}
+use Rattle.mpx_node.specs.Nodes.{NodeView, start_node}
+use Rattle.mpx_num.specs.declared.own.Operation.{Operation}
+use Rattle.mpx_world.proofs.Lists.{slice_get-push_cases, slice_get-take}
+use Rattle.mpx_world.proofs.Reached.{all_agree}
+use Rattle.mpx_world.proofs.Whole.{well_by}
+use Rattle.mpx_world.specs.Worlds.{ProcessView, world_by}
+use Rattle.mpx_node.specs.Shown.{node_of}
+use Rattle.mpx_ranks.specs.declared.job.Ran.{Ran}
+use Rattle.mpx_ranks.specs.declared.work.Work.{Work}
+use Rattle.mpx_ranks.specs.declared.work.Worked.{Worked}
+use Rattle.mpx_ranks.specs.Members.{IsSeated, setup_of}
+use Rattle.mpx_ranks.specs.Ranks.{Answers, AreOfOneHistory, Gives, HasWorked, HaveRun, IsReady, world_at}
+use Rattle.mpx_ranks.specs.Works.{AreOfBus, AreWorks, IsWork, answer_of, port_of}
+
+-- LISTS
+
+within_get : {A : Type 0} (xs : List A) (k : ℕ) (x : A) → slice_get xs k ≡ Some x → k < length xs
+within_get [] k x e = cc e
+within_get (y ∷ xs) zero x e = omega arith
+within_get (y ∷ xs) (suc k) x e = let l = within_get xs k x e in omega (arith, l)
+
+get_within : {A : Type 0} (xs : List A) (k : ℕ) → k < length xs → (x : A) × (slice_get xs k ≡ Some x)
+get_within [] k l = absurd (omega (arith, l))
+get_within (y ∷ xs) zero l = (y, refl)
+get_within (y ∷ xs) (suc k) l = get_within xs k (omega (arith, l))
+
+mapped_at : {A B : Type 0} (f : A → B) (xs : List A) (i : ℕ) (y : B) → slice_get (map f xs) i ≡ Some y → (x : A) × ((slice_get xs i ≡ Some x) × (f x ≡ y))
+mapped_at f [] i y e = cc e
+mapped_at f (x ∷ xs) zero y e = (x, (refl, same_Some (f x) y e))
+mapped_at f (x ∷ xs) (suc i) y e = mapped_at f xs i y e
+
+map_at : {A B : Type 0} (f : A → B) (xs : List A) (i : ℕ) (x : A) → slice_get xs i ≡ Some x → slice_get (map f xs) i ≡ Some (f x)
+map_at f [] i x e = cc e
+map_at f (y ∷ xs) zero x e = ap (λ z. Some (f z)) (same_Some y x e)
+map_at f (y ∷ xs) (suc i) x e = map_at f xs i x e
+
+length_take : {A : Type 0} (n : ℕ) (xs : List A) → n ≤ length xs → length (take n xs) ≡ n
+length_take zero xs l = refl
+length_take (suc n) [] l = absurd (omega (arith, l))
+length_take (suc n) (x ∷ xs) l = ap suc (length_take n xs (omega (arith, l)))
+
+-- WHAT EACH HAS TO DO
+
+pub one_work_more : {P R : Type 0} (program : P) (table : TableId) (ranks size : ℕ) (ports : List PortView) (works : List (Work P R)) (port : PortView) (work : Work P R)
+    → AreWorks program table ranks size ports works → IsWork program table ranks size (length works) port work → AreWorks program table ranks size (ports ++ port ∷ []) (works ++ work ∷ [])
+one_work_more {P} {R} program table ranks size ports works port work are is = record {
+  count = length-append works (work ∷ []) ∙ ap (λ n. n + 1) are.count ∙ sym (length-append ports (port ∷ []));
+  each = λ i p w e f. slice_get-push_cases (λ x k. slice_get (ports ++ port ∷ []) k ≡ Some p → IsWork program table ranks size k p x) works work i w f
+      (λ old e'. slice_get-push_cases (λ q k. slice_get works k ≡ Some w → IsWork program table ranks size k q w) ports port i p e'
+      (λ before g. are.each i p w before g)
+      (λ same last g. let l = within_get works i w g in absurd (omega (arith, l, last, are.count))) old)
+      (λ same last e'. slice_get-push_cases (λ q k. k ≡ length works → IsWork program table ranks size k q w) ports port i p e'
+      (λ before now. let l = within_get ports i p before in absurd (omega (arith, l, now, are.count)))
+      (λ here _ now. subst (λ (z : ℕ × (PortView × Work P R)). IsWork program table ranks size z.0 z.1.0 z.1.1) (λ k. (sym now k, (here k, same k))) is) last) e;
+}
+
+-- so each can begin
+pub ready_at : {P R : Type 0} (program : P) (operations : List Operation) (ranks size : ℕ) (table : TableId) (ports : List PortView) (works : List (Work P R)) → ranks ≤ 64 → IsFleet (setup_of operations ranks size) table size ports → AreWorks program table ranks size ports works
+    → (i : ℕ) (t : Work P R) → slice_get works i ≡ Some t → (t.ranks ≤ 64) × IsReady operations t.ranks t.size t.me (table_of t.bus.now) t.port
+ready_at program operations ranks size table ports works few fleet are i t e =
+    let l = within_get works i t e in
+    let p = get_within ports i (omega (arith, l, are.count)) in
+    let is = are.each i p.0 t p.1 e in
+    subst (λ (z : ℕ × (ℕ × (ℕ × (TableId × PortView)))). (z.0 ≤ 64) × IsReady operations z.0 z.1.0 z.1.1.0 z.1.1.1.0 z.1.1.1.1) (λ k. (sym is.ranks_is k, (sym is.size_is k, (sym is.me_is k, (sym is.bus_is k, sym is.port_is k))))) (few, fleet.each i p.0 p.1)
+
+-- a list by its first and the others
+pub first_and_others : (ports others : List PortView) (first : PortView) → 0 < length ports → first ≡ slice_index_or ports 0 first → others ≡ remove ports 0 → first ∷ others ≡ ports
+first_and_others [] others first l e is = absurd (omega (arith, l))
+first_and_others (p ∷ ports) others first l e is = λ k. e k ∷ is k
+
+-- ONE PROCESS
+
+-- a process before it does anything
+new_node : (setup : Setup) (table : TableId) (me : ℕ) (b : PortView) → IsNew setup table me b → node_in b ≡ start_node me setup.ranks setup.size
+new_node setup table me b new = λ k. node_at (new.setup_is k) (new.me_is k) (new.journal_is k)
+
+-- a program's answer, from where the rank began
+pub answers_of : {A : Type 0} (gives : Gives A) (setup : Setup) (table : TableId) (me ranks : ℕ) (port before : PortView) (after node : NodeView) (world : Comm) (answer : A) → IsNew setup table me port → setup.ranks ≡ ranks
+    → before ≡ port → world ≡ world_at ranks me → gives before.setup.operations world (node_in before) after answer → Later after node → Answers gives setup.operations ranks setup.size me answer node
+answers_of gives setup table me ranks port before after node world answer new count same is gave later =
+    let ops : before.setup.operations ≡ setup.operations = ap (λ (b : PortView). b.setup.operations) same ∙ ap (λ (s : Setup). s.operations) new.setup_is in
+    let began : node_in before ≡ start_node me ranks setup.size = ap node_in same ∙ new_node setup table me port new ∙ ap (λ n. start_node me n setup.size) count in
+    record {
+      after = after;
+      gave = subst (λ (z : List Operation × (Comm × NodeView)). gives z.0 z.1.0 z.1.1 after answer) (λ k. (ops k, (is k, began k))) gave;
+      later = later;
+    }
+
+-- its port and its answer, by what is lent
+pub has_worked : {A : Type 0} (gives : Gives A) (operations : List Operation) (ranks size me : ℕ) (table : TableId) (port b : PortView) (answer : Option A) → IsNew (setup_of operations ranks size) table me port → IsSeated port.table port.setup me b
+    → IfSome answer (λ a. Answers gives port.setup.operations ranks port.setup.size me a (node_in b)) → HasWorked gives port.setup.operations ranks size me table b answer
+has_worked gives operations ranks size me table port b answer new sits gave =
+    let again : port.setup ≡ setup_of port.setup.operations ranks size = new.setup_is ∙ sym (ap (λ (s : Setup). setup_of s.operations ranks size) new.setup_is) in
+    record {
+      sits = (sits.0 ∙ new.table_is, (sits.1.0 ∙ again, sits.1.1));
+      gave = subst (λ n. IfSome answer (λ a. Answers gives port.setup.operations ranks n me a (node_in b))) (ap (λ (s : Setup). s.size) new.setup_is) gave;
+    }
+
+-- WHAT EACH PROCESS DID
+
+module _ {P R A : Type 0} (gives : P → Gives A) (program : P) (operations : List Operation) (ranks size : ℕ) (table : TableId) (ports : List PortView) (works : List (Work P R)) (worked : List (Worked A))
+    (fleet : IsFleet (setup_of operations ranks size) table size ports) (are : AreWorks program table ranks size ports works)
+    (all : AllGive (λ (t : Work P R) (r : Worked A). HasWorked (gives t.program.now) t.port.setup.operations t.ranks t.size t.me (table_of t.bus.now) r.port r.answer) works worked) where
+  abbrev setup : Setup
+  setup = setup_of operations ranks size
+
+  pub counted : length worked ≡ size
+  counted = all.count ∙ are.count ∙ fleet.count
+
+  worked_at : (i : ℕ) (w : Worked A) → slice_get worked i ≡ Some w → HasWorked (gives program) operations ranks size i table w.port w.answer
+  worked_at i w e =
+      let l : i < length worked = within_get worked i w e in
+      let t = get_within works i (omega (arith, l, all.count)) in
+      let p = get_within ports i (omega (arith, l, all.count, are.count)) in
+      let is = are.each i p.0 t.0 p.1 t.1 in
+      let new : IsNew setup table i p.0 = fleet.each i p.0 p.1 in
+      let ops : t.0.port.setup.operations ≡ operations = ap (λ (b : PortView). b.setup.operations) is.port_is ∙ ap (λ (s : Setup). s.operations) new.setup_is in
+      subst (λ (z : P × (List Operation × (ℕ × (ℕ × (ℕ × TableId))))). HasWorked (gives z.0) z.1.0 z.1.1.0 z.1.1.1.0 z.1.1.1.1.0 z.1.1.1.1.1 w.port w.answer)
+      (λ k. (is.program_is k, (ops k, (is.ranks_is k, (is.size_is k, (is.me_is k, is.bus_is k)))))) (all.each i t.0 w t.1 e)
+
+  pub seated_at : (i : ℕ) (b : PortView) → slice_get (map port_of worked) i ≡ Some b → IsSeated table setup i b
+  seated_at i b e =
+      let w = mapped_at port_of worked i b e in
+      subst (IsSeated table setup i) w.1.1 (worked_at i w.0 w.1.0).sits
+
+  -- so all ports are of the one bus
+  pub of_bus : AreOfBus setup table (map port_of worked)
+  of_bus i b e = let s = seated_at i b e in (s.0, s.1.0)
+
+  module _ (answers : List A) (nodes : List NodeView) (some : ranks ≤ size) (told : map Some answers ≡ take ranks (map answer_of worked)) (nodes_are : nodes ≡ map node_in (map port_of worked)) (met : HaveAllMet setup (map port_of worked)) where
+    one_history : AreOfOneHistory operations ranks size nodes
+    one_history = record {
+      happenings = met.happenings;
+      may = met.may;
+      each = λ p node e.
+          let b = mapped_at node_in (map port_of worked) p node (ap (λ ns. slice_get ns p) (sym nodes_are) ∙ e) in
+          ap (λ k. ((world_by operations ranks size met.happenings).each k).node) (sym (seated_at p b.0 b.1.0).1.1) ∙ ap (λ (v : ProcessView). v.node) (met.each p b.0 b.1.0) ∙ b.1.1;
+      sound = met.sound;
+      agree = all_agree (world_by operations ranks size met.happenings) (well_by operations ranks size met.happenings met.may).holds;
+    }
+
+    answered_at : (rank : ℕ) (answer : A) (node : NodeView) → slice_get answers rank ≡ Some answer → slice_get nodes rank ≡ Some node → Answers (gives program) operations ranks size rank answer node
+    answered_at rank answer node e f =
+        let here : slice_get (map answer_of worked) rank ≡ Some (Some answer) = slice_get-take ranks (map answer_of worked) rank (Some answer) (ap (λ xs. slice_get xs rank) (sym told) ∙ map_at Some answers rank answer e) in
+        let w = mapped_at answer_of worked rank (Some answer) here in
+        let gave : IfSome (Some answer) (λ a. Answers (gives program) operations ranks size rank a (node_in w.0.port)) = subst (λ o. IfSome o (λ a. Answers (gives program) operations ranks size rank a (node_in w.0.port))) w.1.1 (worked_at rank w.0 w.1.0).gave in
+        let is : node_in w.0.port ≡ node = same_Some (node_in w.0.port) node (sym (map_at node_in (map port_of worked) rank w.0.port (map_at port_of worked rank w.0 w.1.0)) ∙ ap (λ ns. slice_get ns rank) (sym nodes_are) ∙ f) in
+        subst (Answers (gives program) operations ranks size rank answer) is gave
+
+    pub have_run : (relays : ℕ) → size ≡ ranks + relays → HaveRun (gives program) operations ranks relays answers nodes
+    have_run relays is = record {
+      answered = sym (length-map answers Some) ∙ ap length told ∙ length_take ranks (map answer_of worked) (let n = length-map worked answer_of in omega (arith, n, counted, some));
+      processes = ap length nodes_are ∙ length-map (map port_of worked) node_in ∙ length-map worked port_of ∙ counted ∙ is;
+      one = subst (λ n. AreOfOneHistory operations ranks n nodes) is one_history;
+      each = subst (λ n. (rank : ℕ) (answer : A) (node : NodeView) → slice_get answers rank ≡ Some answer → slice_get nodes rank ≡ Some node → Answers (gives program) operations ranks n rank answer node) is answered_at;
+    }
+
+  pub ran_so : {E : Type 0} (relays : ℕ) → size ≡ ranks + relays → (given : Setup) → given ≡ setup → (r : Result (Ran A) E) → IfOk r (λ (ran : Ran A). map Some ran.answers.items ≡ take ranks (map answer_of worked))
+      → IfOk r (λ (ran : Ran A). map node_of ran.nodes.items ≡ map node_in (map port_of worked)) → OnOk r (HaveAllMet given (map port_of worked))
+      → IfOk r (λ (ran : Ran A). HaveRun (gives program) operations ranks relays ran.answers.items (map node_of ran.nodes.items))
+  ran_so relays is given same (Ok ran) told nodes_are met = have_run ran.answers.items (map node_of ran.nodes.items) (omega (arith, is)) told nodes_are (subst (λ s. HaveAllMet s (map port_of worked)) same met) relays is
+  ran_so relays is given same (Err e) told nodes_are met = tt

@@ -1,0 +1,5 @@
+use Rattle.mpx_ranks.proofs.Quiet.{later_push}
+use Rattle.mpx_ranks.proofs.gossip.push.Goals as goal
+
+pub returns-clause-later : goal.returns-clause-later
+returns-clause-later g c = later_push _ c.push_own.result c.args.port.now c.push_own.new.port c.push_own.ensures.port.same c.push_own.ensures.next c.push_own.ensures.err

@@ -1,0 +1,10 @@
+use Rattle.std.proofs.Common.{◌+◌, map}
+use Rattle.mpx_num.specs.Own.{operation_of}
+use Rattle.mpx_ranks.specs.Members.{setup_of}
+use Rattle.mpx_ranks.proofs.job.ranks.Given as goal
+
+-- so many ranks, the operations that are lent, and no plan
+abbrev pub ghosts-run_by : goal.ghosts-run_by
+ghosts-run_by g a =
+    let ops = (map (λ b. let o = (g.dyn-1.0.entry b.vtable).1 in operation_of (o.word_bytes b.value) (o.fits_type b.value) (o.combination b.value)) a.ops.now.list.items) in
+    record { setup = setup_of ops a.ranks (a.ranks + a.relays) }

@@ -1,0 +1,6 @@
+use Rattle.mpx_bus.specs.Ports.{node_in}
+use Rattle.mpx_comm.specs.Later.{Later}
+use Rattle.mpx_ranks.proofs.member.Member.gossip_on.Given as goal
+
+abbrev pub invariant-loop : goal.invariant-loop
+invariant-loop g l = Later (node_in l.fn.self.port) (node_in l.self.port)

@@ -1,0 +1,4 @@
+pub mod Members
+pub mod Bounded
+pub mod Ranks
+pub mod Works

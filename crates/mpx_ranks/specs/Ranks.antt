@@ -1,0 +1,55 @@
+-- A job whose ranks all run one program.
+use Rattle.std.specs.Prelude.{◌≡◌, ◌+◌, ℕ, List, [], Some, Option, IfSome, length, slice_get}
+use Rattle.atomic_table.specs.Seated.{TableId}
+use Rattle.mpx_num.specs.declared.own.Operation.{Operation}
+use Rattle.mpx_bus.specs.Ports.{IsNew, PortView, node_in}
+use Rattle.mpx_comm.specs.declared.comm.Comm.{Comm}
+use Rattle.mpx_comm.specs.Later.{Later}
+use Rattle.mpx_node.specs.Nodes.{NodeView, start_node}
+use Rattle.mpx_world.specs.Soundness.{Agree, Sound}
+use Rattle.mpx_world.specs.Worlds.{Happening, MayGoOn, WorldView, start, world_by}
+use Rattle.mpx_ranks.specs.Members.{IsSeated, setup_of}
+
+-- what a program may answer: by these operations of the job's own, on this world, where the node is so before and so after
+abbrev pub Gives : (A : Type 0) → Type 1
+Gives A = List Operation → Comm → NodeView → NodeView → A → Type 0
+
+-- the communicator of all ranks, as one of them has it
+abbrev pub world_at : (ranks rank : ℕ) → Comm
+world_at ranks rank = record { name = []; size = ranks; rank = rank }
+
+-- a rank's answer is what the program may give it from where the rank begins; what its node had then, it has
+pub record Answers {A : Type 0} (gives : Gives A) (operations : List Operation) (ranks size rank : ℕ) (answer : A) (node : NodeView) : Type 0 where
+  pub after : NodeView
+  pub gave : gives operations (world_at ranks rank) (start_node rank ranks size) after answer
+  pub later : Later after node
+
+-- these nodes are those of one world, which by such operations can be reached: so what is in them is sound, and every two agree
+pub record AreOfOneHistory (operations : List Operation) (ranks size : ℕ) (nodes : List NodeView) : Type 0 where
+  pub happenings : List Happening
+  pub may : MayGoOn (start operations ranks size) happenings
+  pub each : (p : ℕ) (node : NodeView) → slice_get nodes p ≡ Some node → ((world_by operations ranks size happenings).each p).node ≡ node
+  pub sound : Sound (world_by operations ranks size happenings)
+  pub agree : (p q : ℕ) → Agree (world_by operations ranks size happenings) p q
+
+-- the world that it leads to
+abbrev pub world_in : (operations : List Operation) (ranks size : ℕ) (nodes : List NodeView) → AreOfOneHistory operations ranks size nodes → WorldView
+world_in operations ranks size nodes one = world_by operations ranks size one.happenings
+
+-- each rank has answered, in rank order, and the nodes of all processes are of one history
+pub record HaveRun {A : Type 0} (gives : Gives A) (operations : List Operation) (ranks relays : ℕ) (answers : List A) (nodes : List NodeView) : Type 0 where
+  pub answered : length answers ≡ ranks
+  pub processes : length nodes ≡ ranks + relays
+  pub one : AreOfOneHistory operations ranks (ranks + relays) nodes
+  pub each : (rank : ℕ) (answer : A) (node : NodeView) → slice_get answers rank ≡ Some answer → slice_get nodes rank ≡ Some node → Answers gives operations ranks (ranks + relays) rank answer node
+
+-- ONE PROCESS
+
+-- its port, before it has done anything
+abbrev pub IsReady : List Operation → (ranks size me : ℕ) → TableId → PortView → Type 0
+IsReady operations ranks size me table port = IsNew (setup_of operations ranks size) table me port
+
+-- its port in the end, and of a rank its answer, where it was let begin
+pub record HasWorked {A : Type 0} (gives : Gives A) (operations : List Operation) (ranks size me : ℕ) (table : TableId) (port : PortView) (answer : Option A) : Type 0 where
+  pub sits : IsSeated table (setup_of operations ranks size) me port
+  pub gave : IfSome answer (λ a. Answers gives operations ranks size me a (node_in port))

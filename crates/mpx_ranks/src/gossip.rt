@@ -1,0 +1,100 @@
+//! What a member's turn does to its port.
+ghost use Rattle.std.specs.Prelude.{◌≡◌, false};
+ghost use Rattle.mpx_bus.specs.Buses.{table_of};
+ghost use Rattle.mpx_bus.specs.Ports.{IsSamePort, node_in};
+ghost use Rattle.mpx_comm.specs.Later.{Later};
+
+use join_core::{Exact, OutOfMemory};
+use mpx_board::PruneError;
+use mpx_bus::{Bus, Pop, Port, Push};
+use mpx_name::Name;
+use mpx_node::Node;
+use std::alloc::Global;
+use std::sync::Wait;
+
+// The most bytes of a frame.
+const LIMIT: usize = 1_048_576;
+
+/// Takes a frame out of the queue, drops posts that every member has harvested, and puts a frame in. Where memory is wanting for the
+/// part of the frame that came, that one is lost.
+pub(crate) fn gossip<R: Wait>(
+    rt: &R,
+    alloc: Global,
+    bus: &Bus,
+    port: &mut Port,
+) -> Result<(), OutOfMemory>
+    requires queue { port.old.table ≡ table_of bus.now }
+    requires free { port.old.setup.planned ≡ false }
+    ensures same { IsSamePort port.old port.new }
+    ensures later { Later (node_in port.old) (node_in port.new) }
+{
+    let popped = pull(rt, alloc, bus, port);
+    prune(alloc, port);
+    let pushed = push(rt, alloc, bus, port);
+    came_to(popped, pushed)
+}
+
+// Want of memory, where it was wanting for either.
+fn came_to(popped: Pop, pushed: Result<Push, OutOfMemory>) -> Result<(), OutOfMemory> {
+    if let Pop::OutOfMemory(_) = popped {
+        return Err(OutOfMemory);
+    }
+    match pushed {
+        Ok(_) => Ok(()),
+        Err(OutOfMemory) => Err(OutOfMemory),
+    }
+}
+
+// A frame out of the queue.
+fn pull<R: Wait>(rt: &R, alloc: Global, bus: &Bus, port: &mut Port) -> Pop
+    requires queue { port.old.table ≡ table_of bus.now }
+    requires free { port.old.setup.planned ≡ false }
+    ensures same { IsSamePort port.old port.new }
+    ensures later { Later (node_in port.old) (node_in port.new) }
+{
+    bus.pop(rt, alloc, port)
+}
+
+// The next frame of what others may lack into the queue.
+fn push<R: Wait>(rt: &R, alloc: Global, bus: &Bus, port: &mut Port) -> Result<Push, OutOfMemory>
+    requires queue { port.old.table ≡ table_of bus.now }
+    requires free { port.old.setup.planned ≡ false }
+    ensures same { IsSamePort port.old port.new }
+    ensures later { Later (node_in port.old) (node_in port.new) }
+{
+    bus.push_own(rt, alloc, port, LIMIT)
+}
+
+// Drops the posts of one context that every member has harvested, where there are any.
+fn prune(alloc: Global, port: &mut Port)
+    ensures same { IsSamePort port.old port.new }
+    ensures later { Later (node_in port.old) (node_in port.new) }
+{
+    let Some((name, floor)) = first_to_drop(alloc, port.node()) else {
+        return;
+    };
+    let _ = prune_on(port, &name, floor);
+}
+
+// Drops posts of one context, where that may be.
+fn prune_on(port: &mut Port, name: &Name, number: u32) -> Result<(), PruneError>
+    ensures same { IsSamePort port.old port.new }
+    ensures later { Later (node_in port.old) (node_in port.new) }
+{
+    port.prune(name, number)
+}
+
+// A context of which every member has harvested a call that isn't dropped, with the number of those calls; none where memory is wanting
+// for its name.
+fn first_to_drop(alloc: Global, node: &Node) -> Option<(Name, u32)> {
+    let board = node.board();
+    for (name, _known) in board.pair().first.entries() {
+        let Some(floor) = board.floor(name) else {
+            continue;
+        };
+        if floor > board.dropped(name) || node.is_past_free(name, floor) {
+            return Some((name.copy(alloc).ok()?, floor));
+        }
+    }
+    None
+}

@@ -1,0 +1,20 @@
+//! What follows from the nodes' one history, as a call that does nothing.
+ghost use Rattle.std.specs.Prelude.{◌≡◌, ℕ, List, Some, slice_get};
+ghost use Rattle.mpx_name.specs.Name.{Name};
+ghost use Rattle.mpx_node.specs.declared.finished.Finished.{Finished};
+ghost use Rattle.mpx_node.specs.Nodes.{NodeView, results_on};
+ghost use Rattle.mpx_num.specs.declared.own.Operation.{Operation};
+ghost use Rattle.mpx_ranks.specs.Ranks.{AreOfOneHistory, world_in};
+ghost use Rattle.mpx_world.specs.Soundness.{IsValue, OfOneRow};
+
+/// Each result that a process of a job has is the standard's value of one whole row of the posts that the ranks made, beside its own post
+/// of that call; and two results of one call are of one row.
+pub fn one_row_for_all()
+    ensures values { (operations : List Operation) (ranks size : ℕ) (nodes : List NodeView) (one : AreOfOneHistory operations ranks size nodes)
+        (p : ℕ) (node : NodeView) (name : Name) (call : ℕ) (finished : Finished) → slice_get nodes p ≡ Some node
+        → slice_get (results_on node name) call ≡ Some finished → IsValue (world_in operations ranks size nodes one) p name call finished }
+    ensures one_row { (operations : List Operation) (ranks size : ℕ) (nodes : List NodeView) (one : AreOfOneHistory operations ranks size nodes)
+        (p q : ℕ) (first second : NodeView) (name : Name) (call : ℕ) (x y : Finished) → slice_get nodes p ≡ Some first → slice_get nodes q ≡ Some second
+        → slice_get (results_on first name) call ≡ Some x → slice_get (results_on second name) call ≡ Some y
+        → OfOneRow (world_in operations ranks size nodes one) p q name call x y }
+{}

@@ -1,0 +1,158 @@
+//! A member of a job: the host of a rank's desk in a thread of its own.
+ghost use Rattle.std.specs.Prelude.{◌≡◌, false};
+ghost use Rattle.mpx_bus.specs.Buses.{table_of};
+ghost use Rattle.mpx_bus.specs.Ports.{IsSamePort, node_in};
+ghost use Rattle.mpx_comm.specs.Later.{Later};
+
+use crate::crew::Crew;
+use crate::folds::Folds;
+use crate::gossip::gossip;
+use crate::news::News;
+use crate::seat::Seat;
+use join_core::OutOfMemory;
+use mpx_bus::{Bus, Port};
+use mpx_comm::Host;
+use mpx_name::Name;
+use mpx_node::{Finished, Harvest};
+use mpx_num::Ops;
+use mpx_post::{Draft, PostError};
+use std::alloc::Global;
+use std::marker::PhantomData;
+use std::sync::Wait;
+
+/// A port on a bus that is lent, with the job's own operations, what the threads tell each other, and the right to wait. A turn takes
+/// a frame out of the queue and puts one in, drops posts that every member has harvested, and rests, longer while it hears nothing new.
+#[derive(Drop)]
+pub(crate) struct Member<'a, L: Seat, O: Folds, R: Wait> {
+    pub(crate) rt: &'a R,
+    pub(crate) bus: &'a Bus,
+    pub(crate) ops: &'a O,
+    pub(crate) crew: &'a Crew,
+    pub(crate) port: Port,
+    pub(crate) news: News,
+    pub(crate) seat: PhantomData<L>,
+    ghost list_is: { O.operations ops.now ≡ L.setup.operations },
+    ghost bus_is: { table_of bus.now ≡ L.table },
+    ghost free: { L.setup.planned ≡ false },
+    ghost table_is: { port.table ≡ L.table },
+    ghost setup_is: { port.setup ≡ L.setup },
+    ghost me_is: { port.me ≡ L.me },
+}
+
+impl<'a, L: Seat, O: Folds, R: Wait> Member<'a, L, O, R> {
+    /// Whoever has this port.
+    pub(crate) fn new(
+        rt: &'a R,
+        bus: &'a Bus,
+        ops: &'a O,
+        crew: &'a Crew,
+        port: Port,
+    ) -> Member<'a, L, O, R>
+        requires bus { table_of bus.now ≡ L.table }
+        requires list { O.operations ops.now ≡ L.setup.operations }
+        requires free { L.setup.planned ≡ false }
+        requires table { port.table ≡ L.table }
+        requires setup { port.setup ≡ L.setup }
+        requires me { port.me ≡ L.me }
+        ensures { result.port ≡ port }
+    {
+        Member {
+            rt,
+            bus,
+            ops,
+            crew,
+            port,
+            news: News::new(),
+            seat: PhantomData,
+        }
+    }
+
+    /// Its port.
+    pub(crate) fn into_port(self) -> Port
+        ensures port { result ≡ self.entry.port }
+        ensures table { result.table ≡ L.table }
+        ensures setup { result.setup ≡ L.setup }
+        ensures me { result.me ≡ L.me }
+    {
+        self.port
+    }
+
+    /// Makes turns for the others, until none needs them more.
+    pub(crate) fn gossip_on(&mut self, alloc: Global)
+        ensures { Later (node_in self.old.port) (node_in self.new.port) }
+    {
+        let rt = self.rt;
+        for _ in rt.forever() {
+            if self.crew.is_over() {
+                return;
+            }
+            let _ = self.turn(alloc);
+        }
+        unreachable!()
+    }
+}
+
+impl<'a, L: Seat, O: Folds, R: Wait> Host for Member<'a, L, O, R> {
+    ghost use Rattle.mpx_ranks.specs.Bounded.{port_bounded};
+    ghost use Rattle.mpx_ranks.specs.Members.{by_port, same_itself, same_operations, same_then};
+
+    ghost node = { λ m. node_in m.port };
+
+    // By those of its job, whatever is lent.
+    ghost goes_by = { λ m. by_port m.port };
+
+    ghost turned = { λ a n b. IsSamePort a.port b.port };
+
+    ghost turn_refused = { λ a b. IsSamePort a.port b.port };
+
+    fn post(
+        &mut self,
+        alloc: Global,
+        name: &Name,
+        draft: Draft,
+        _ops: &Ops,
+    ) -> Result<u32, PostError> {
+        self.news.has_posted();
+        self.ops.post_to(alloc, &mut self.port, name, draft)
+    }
+
+    fn refusal(&self, name: &Name, draft: &Draft, _ops: &Ops) -> Option<PostError> {
+        self.ops.refusal_at(self.port.node(), name, draft)
+    }
+
+    fn open_gathering(
+        &mut self,
+        alloc: Global,
+        parent: &Name,
+        tag: i128,
+        ranks: &[i128],
+    ) -> Result<Name, PostError> {
+        self.port.open_gathering(alloc, parent, tag, ranks)
+    }
+
+    fn harvest(&mut self, alloc: Global, name: &Name, _ops: &Ops) -> Result<Harvest, OutOfMemory> {
+        self.ops.harvest_at(alloc, &mut self.port, name)
+    }
+
+    fn result(&self, name: &Name, call: u32) -> Option<&Finished> {
+        self.port.node().result(name, call)
+    }
+
+    fn turn(&mut self, alloc: Global) -> Result<(), OutOfMemory> {
+        if self.crew.has_stopped() {
+            return Err(OutOfMemory);
+        }
+        let turned = gossip(self.rt, alloc, self.bus, &mut self.port);
+        self.news.note(self.port.node().board());
+        self.news.rest(self.rt);
+        turned
+    }
+
+    ghost bounded = { λ m name. port_bounded m.port name };
+
+    ghost stays_by = { λ a b n same. same_operations a.port b.port same };
+
+    ghost turns_none = { λ m. same_itself m.port };
+
+    ghost turns_more = { λ a b c m n x y. same_then a.port b.port c.port x y };
+}

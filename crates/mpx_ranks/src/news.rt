@@ -1,0 +1,87 @@
+//! How a member rests while it hears nothing new.
+use join_core::Pair;
+use join_nest::Lift;
+use mpx_board::{Board, Entry, Lifted, is_told};
+use std::sync::Wait;
+use std::thread::{Parker, yield_now};
+use std::time::Duration;
+
+// After so many turns without news a member sleeps.
+const BUSY: u32 = 5;
+
+/// What a member has heard, and for how many turns it has heard nothing new.
+#[derive(Drop)]
+pub(crate) struct News {
+    heard: u64,
+    idle: u32,
+    parker: Parker,
+}
+
+impl News {
+    pub(crate) fn new() -> News {
+        News {
+            heard: 0,
+            idle: 0,
+            parker: Parker::new(),
+        }
+    }
+
+    /// A turn was made, and this is the board then.
+    pub(crate) fn note(&mut self, board: &Board) {
+        let heard = count_of(board);
+        if heard != self.heard {
+            self.heard = heard;
+            self.idle = 0;
+        } else {
+            self.idle = self.idle.saturating_add(1);
+        }
+    }
+
+    /// The member has posted, so that there is something to send.
+    pub(crate) fn has_posted(&mut self) {
+        self.idle = 0;
+    }
+
+    /// Lets the other threads have their turn; behind turns that brought nothing new it sleeps, longer each time, up to a millisecond.
+    pub(crate) fn rest<R: Wait>(&self, rt: &R) {
+        if self.idle < BUSY {
+            yield_now();
+        } else {
+            let micros = 1u64 << self.idle.min(10);
+            self.parker.park_timeout(rt, Duration::from_micros(micros));
+        }
+    }
+}
+
+// How much a board tells: it grows with each post, front and birth, also where posts are dropped.
+fn count_of(board: &Board) -> u64 {
+    let Pair { first, second: _ } = board.pair();
+    let mut all: u64 = 0;
+    for (_name, known) in first.entries() {
+        all = all.wrapping_add(count_in(known));
+    }
+    all
+}
+
+fn count_in(known: &Lifted) -> u64 {
+    match known {
+        Lift::Live(entry) => count_told(entry),
+        Lift::Dead => 1 << 40,
+    }
+}
+
+fn count_told(entry: &Entry) -> u64 {
+    let posts = &entry.second.second;
+    let mut all = u64::from(posts.dropped())
+        .wrapping_mul(65)
+        .wrapping_add(u64::from(is_told(&entry.first)));
+    for (_process, number) in entry.second.first.entries() {
+        all = all.wrapping_add(u64::from(number.0));
+    }
+    for (_call, made) in posts.entries() {
+        for (_process, _post) in made.entries() {
+            all = all.wrapping_add(1);
+        }
+    }
+    all
+}

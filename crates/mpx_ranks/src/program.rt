@@ -1,0 +1,29 @@
+//! What every rank of a job runs.
+ghost use Rattle.std.specs.Prelude.{List, ⊤};
+ghost use Rattle.mpx_num.specs.declared.own.Operation.{Operation};
+ghost use Rattle.mpx_comm.specs.declared.comm.Comm.{Comm as CommView};
+ghost use Rattle.mpx_node.specs.Nodes.{NodeView};
+
+use mpx_comm::{Comm, Desk, Host};
+use mpx_num::{Listing, Ops};
+use std::alloc::Global;
+
+/// What every rank of a job runs. It is written once, over any host.
+pub trait Program {
+    /// What a rank answers.
+    type Answer;
+
+    /// What it may answer, by these operations of the job's own, where it has this world, and its node is so before and so after. Who leaves
+    /// it out promises nothing.
+    ghost gives: { Self → List Operation → CommView → NodeView → NodeView → Self.Answer → Type 0 } = { λ p operations world before after answer. ⊤ };
+
+    /// The part of one rank. `world` is the communicator of all ranks, as this one has it; `ops` are the job's own operations.
+    fn run<H: Host>(
+        &self,
+        alloc: Global,
+        desk: &mut Desk<H>,
+        world: &Comm,
+        ops: &Ops,
+    ) -> Self::Answer
+        ensures { gives self.now (H.goes_by desk.old.host (⟦<Ops as Listing>⟧.operations ops.now)) world.now (H.node desk.old.host) (H.node desk.new.host) result };
+}

@@ -1,0 +1,23 @@
+use Rattle.std.proofs.Common.{◌≡◌, ◌∙◌, ap, sym, false}
+use Rattle.std.proofs.lemmas.List.{length-map}
+use Rattle.mpx_system.proofs.Results.{mapped_at}
+use Rattle.mpx_sim.specs.declared.process.Process.{Process}
+use Rattle.mpx_sim.specs.Shown.{process_of}
+use Rattle.mpx_sim.specs.SideBySide.{taken}
+use Rattle.mpx_sim.proofs.Running.{all_at}
+use Rattle.mpx_sim.proofs.SideBySide.{changed_at, goes_same}
+use Rattle.mpx_sim.proofs.side_by_side.go_on_all.Goals as goal
+
+pub returns : goal.returns
+returns g c =
+    let old = c.args.processes.now in
+    let new = c.for_each_mut.new.s in (
+      length-map new process_of ∙ c.for_each_mut.auto.s ∙ sym (length-map old process_of),
+      λ place v w a b.
+          let p = mapped_at process_of old place v a in
+          let q = mapped_at process_of new place w b in
+          let k = changed_at _ _ old new c.for_each_mut.ensures place p.0 q.0 p.1 q.1 in
+          let sound : q.0.notes.failed ≡ false = all_at (λ (x : Process). x.notes.failed ≡ false) new place q.0 q.1 c.in_ok-none_failed.ensures in
+          goes_same _ c.args.ranks place (taken place c.args.turn c.args.frames.now v) (taken place c.args.turn c.args.frames.now (process_of k.argument.now)) w (process_of k.after_call.now)
+          (ap (λ x. taken place c.args.turn c.args.frames.now (process_of x)) k.argument_is ∙ ap (taken place c.args.turn c.args.frames.now) p.2) (ap process_of k.left ∙ q.2) (k.call (ap (λ (x : Process). x.notes.failed) k.left ∙ sound)),
+    )

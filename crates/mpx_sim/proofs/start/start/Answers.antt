@@ -1,0 +1,28 @@
+use Rattle.std.proofs.Common.{◌≡◌, ◌+◌, ◌++◌, ◌∷◌, [], map, length, length-append, ap, sym, ◌∙◌, subst, arith}
+use Rattle.std.specs.Prelude.{slice_get}
+use Rattle.std.proofs.lemmas.List.{map-append}
+use Rattle.mpx_system.specs.Systems.{start_system}
+use Rattle.mpx_sim.specs.Running.{IsAt}
+use Rattle.mpx_sim.specs.Shown.{process_of}
+use Rattle.mpx_sim.proofs.Starting.{one_more, run_starts}
+use Rattle.mpx_sim.proofs.start.start.Goals as goal
+
+pub loop-me-preserved : goal.loop-me-preserved
+loop-me-preserved c =
+    let script = c.args.script.now in
+    let xs = c.loop-me.processes.items in
+    let v = process_of c.in_ok-start_at.field-0 in
+    let same : map process_of c.push.new.self.items ≡ map process_of xs ++ v ∷ [] = ap (map process_of) c.in_ok-push.ensures.items ∙ map-append process_of xs (c.in_ok-start_at.field-0 ∷ []) in
+    let size = script.ranks + c.args.relays in
+    record {
+      count = ap length same ∙ length-append (map process_of xs) (v ∷ []) ∙ omega (arith, c.loop-me.invariant.count);
+      each = λ ops p x e.
+          one_more ops script.statements script.ranks size (map process_of xs) v c.loop-me.me c.loop-me.invariant.count
+          (subst (λ n. IsAt script.ranks (start_system ops script.statements script.ranks (n + c.args.relays)) c.loop-me.me v) c.ranks-ranks.ensures.ranks (c.in_ok-start_at.ensures ops))
+          (c.loop-me.invariant.each ops) p x (ap (λ ys. slice_get ys p) (sym same) ∙ e);
+    }
+
+pub returns : goal.returns
+returns c ops first =
+    let script = c.args.script.now in
+    run_starts ops script.statements script.ranks (script.ranks + c.args.relays) first (map process_of c.loop-me.processes.items) (c.loop-me.invariant.count ∙ omega (arith, c.loop-me-test.false, c.ranks-ranks.ensures.ranks)) (c.loop-me.invariant.each ops)

@@ -1,0 +1,63 @@
+-- What the processes of a run do side by side, each by itself.
+use Rattle.std.specs.Prelude.{◌≡◌, ◌&&◌, ℕ, suc, ◌≤◌, Bool, nat_eq, List, [], ◌∷◌, length, map, Some, slice_get, if◌then◌else◌}
+use Rattle.std.proofs.Common.{set}
+use Rattle.std.specs.List.{All}
+use Rattle.mpx_num.specs.declared.own.Operation.{Operation}
+use Rattle.mpx_board.specs.Boards.{Look, join_all}
+use Rattle.mpx_parts.specs.Facts.{OnlyFactsOf}
+use Rattle.mpx_node.specs.Deltas.{lacking_on}
+use Rattle.mpx_node.specs.Nodes.{learn}
+use Rattle.mpx_meaning.specs.Evaluation.{Script}
+use Rattle.mpx_sim.specs.declared.frame_under_way.FrameUnderWay.{FrameUnderWay}
+use Rattle.mpx_sim.specs.declared.process.Process.{Process}
+use Rattle.mpx_sim.specs.Draws.{ScheduleView}
+use Rattle.mpx_sim.specs.Running.{IsUnderWay, Keeps, ProcessView}
+use Rattle.mpx_sim.specs.Shown.{part_of, process_of}
+use Rattle.mpx_sim.specs.Turns.{Alone, Going, Moment}
+
+-- FRAMES COME
+
+-- whether a frame comes to the process of this number in this turn
+abbrev pub comes : (place turn : ℕ) → FrameUnderWay → Bool
+comes place turn f = nat_eq f.to place && nat_eq f.turn turn
+
+-- the process of this number once the frame has come, where it comes to it in this turn
+abbrev pub took : (place turn : ℕ) → FrameUnderWay → ProcessView → ProcessView
+took place turn f v = if comes place turn f then record { rank = v.rank; node = learn (part_of f) v.node } else v
+
+-- the same of each of these frames, one after the other
+abbrev pub taken : (place turn : ℕ) → List FrameUnderWay → ProcessView → ProcessView
+taken place turn [] v = v
+taken place turn (f ∷ frames) v = taken place turn frames (took place turn f v)
+
+-- all processes, from this number on, once these frames have come to them
+abbrev pub all_taken : (place turn : ℕ) → List FrameUnderWay → List ProcessView → List ProcessView
+all_taken place turn frames [] = []
+all_taken place turn frames (v ∷ vs) = taken place turn frames v ∷ all_taken (suc place) turn frames vs
+
+-- EACH GOES ON
+
+-- the process of this number goes on by itself, where so many are ranks: in its place in a run stands the other
+abbrev pub GoesOn : List Operation → (count place : ℕ) → (old new : ProcessView) → Type 0
+GoesOn ops count place old new = (script : Script) (ranks size : ℕ) (begun : Moment) (processes : List ProcessView) (frames : List Look) → count ≤ ranks → slice_get processes place ≡ Some old
+    → IsUnderWay ops script ranks size begun Alone processes frames → IsUnderWay ops script ranks size begun Alone (set processes place new) frames
+
+-- each process takes the frames that come to it, and goes on by itself then
+abbrev pub AllGoOn : List Operation → (count turn : ℕ) → List FrameUnderWay → (old new : List ProcessView) → Type 0
+AllGoOn ops count turn frames old new = (length new ≡ length old) × ((place : ℕ) (v w : ProcessView) → slice_get old place ≡ Some v → slice_get new place ≡ Some w → GoesOn ops count place (taken place turn frames v) w)
+
+-- EACH MAKES ITS FRAMES
+
+-- a process has frames to send, which say only what its board has
+abbrev pub HasToSend : Process → Type 0
+HasToSend p = All (λ f. OnlyFactsOf (part_of f) (process_of p).node.board) p.notes.made.items
+
+-- a process whose last list is out before this turn says what it has, and makes frames of all that others may lack of its board
+pub record Makes (turn : ℕ) (old new : Process) : Type 0 where
+  pub says : (t : ScheduleView) (ops : List Operation) → Keeps (Going t) ops (process_of old) (process_of new)
+  pub facts : HasToSend new
+  pub whole : old.sender.out ≤ turn → join_all (map part_of new.notes.made.items) ≡ lacking_on (process_of new).node
+
+-- each process does
+abbrev pub AllMake : (turn : ℕ) → (old new : List Process) → Type 0
+AllMake turn old new = (length new ≡ length old) × ((place : ℕ) (p q : Process) → slice_get old place ≡ Some p → slice_get new place ≡ Some q → Makes turn p q)

@@ -1,0 +1,28 @@
+//! What a process notes of its steps.
+
+use crate::frame_under_way::FrameUnderWay;
+use std::alloc::Global;
+
+/// What a process notes of the steps that it makes beside others, for who looks at all of them between: whether it changed anything, whether
+/// memory was wanting, how many of its lines are told, and the frames that are to go out. The next ones are written over spare bytes.
+#[derive(Drop)]
+pub(crate) struct Notes {
+    pub(crate) changed: bool,
+    pub(crate) failed: bool,
+    pub(crate) told: usize,
+    pub(crate) made: Vec<FrameUnderWay>,
+    pub(crate) spare: Vec<Vec<u8>>,
+}
+
+impl Notes {
+    /// Nothing is noted yet.
+    pub(crate) fn new(alloc: Global) -> Notes {
+        Notes {
+            changed: false,
+            failed: false,
+            told: 0,
+            made: Vec::new(alloc),
+            spare: Vec::new(alloc),
+        }
+    }
+}

@@ -1,0 +1,81 @@
+//! What the processes of a run do side by side, each by itself, in threads.
+ghost use Rattle.std.specs.Prelude.{◌≡◌, ◌<◌, All, OnOk, false, map};
+ghost use Rattle.mpx_num.specs.Own.{operation_of};
+ghost use Rattle.mpx_sim.specs.Shown.{process_of};
+ghost use Rattle.mpx_sim.specs.SideBySide.{AllGoOn, AllMake, GoesOn, Makes, taken};
+
+use crate::frame_under_way::FrameUnderWay;
+use crate::process::Process;
+use crate::schedule::Schedule;
+use join_core::OutOfMemory;
+use mpx_num::{Listing, Ops};
+use std::alloc::Global;
+use std::thread::{Threads, for_each_mut};
+
+// The job's own operations, lent to threads: that they may share these is plain of this type alone, whatever else they see.
+#[derive(Drop)]
+struct Lent<'a> {
+    ops: &'a Ops,
+}
+
+/// Each process takes the frames among these that come to it in this turn, and goes on by itself then, where so many are ranks: in at most so
+/// many threads. It answers whether one moved or dropped anything.
+pub(crate) fn go_on_all<R: Threads + Sync>(
+    rt: &R,
+    alloc: Global,
+    threads: usize,
+    processes: &mut [Process<'_>],
+    ranks: usize,
+    frames: &[FrameUnderWay],
+    turn: u64,
+    ops: &Ops,
+) -> Result<bool, OutOfMemory>
+    requires { 0 < threads }
+    ensures { OnOk result (AllGoOn (⟦<Ops as Listing>⟧.operations ops.now) ranks turn frames.now (map process_of processes.old) (map process_of processes.new)) }
+{
+    let lent = &Lent { ops };
+    let work = |place: usize, process: &mut Process<'_>|
+        ensures { process.exit.now.notes.failed ≡ false → GoesOn (map (λ b. operation_of (word_bytes (b.vtable, b.value)) (fits_type (b.vtable, b.value)) (combination (b.vtable, b.value))) lent.entry.now.ops.now.list.items) ranks place (taken place turn frames.entry.now (process_of process.entry.now)) (process_of process.exit.now) }
+    { process.take_and_go_on(alloc, place, ranks, frames, turn, lent.ops) };
+    for_each_mut(rt, processes, threads, &work);
+    none_failed(processes)?;
+    Ok(one_changed(processes))
+}
+
+/// Each process whose last list is out makes the frames of the next one, in at most so many threads.
+pub(crate) fn make_all<R: Threads + Sync>(
+    rt: &R,
+    alloc: Global,
+    threads: usize,
+    processes: &mut [Process<'_>],
+    schedule: &Schedule,
+    turn: u64,
+) -> Result<(), OutOfMemory>
+    requires { 0 < threads }
+    ensures { OnOk result (AllMake turn processes.old processes.new) }
+{
+    let count = processes.len();
+    let work = |place: usize, process: &mut Process<'_>|
+        requires { place < count }
+        ensures { process.exit.now.notes.failed ≡ false → Makes turn process.entry.now process.exit.now }
+    { process.make(alloc, place, count, schedule, turn) };
+    for_each_mut(rt, processes, threads, &work);
+    none_failed(processes)
+}
+
+// Whether memory was wanting for none.
+fn none_failed(processes: &[Process<'_>]) -> Result<(), OutOfMemory>
+    ensures { OnOk result (All (λ p. p.notes.failed ≡ false) processes.now) }
+{
+    for process in processes {
+        if process.notes.failed {
+            return Err(OutOfMemory);
+        }
+    }
+    Ok(())
+}
+
+// Whether one moved or dropped anything.
+fn one_changed(processes: &[Process<'_>]) -> bool {
+    processes.iter().any(|process| process.notes.changed)
+}
