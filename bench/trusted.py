@@ -2,16 +2,18 @@
 """Counts, and prints, the definitions that a promise stands on: what a reader has to trust, besides the library's own.
 
     bench/trusted.py                        the promises of README, those of the table PROMISES below
-    bench/trusted.py NAME..                 what these say together: a promise of the table, as "boards and worlds", or a public function
+    bench/trusted.py NAME..                 what these say together: a promise of the table, as "the headline", or a public function
     bench/trusted.py --text NAME..          its definitions as one text, in order of use: each behind the first that names it
-    bench/trusted.py -v ..                  with the lines of each file
+    bench/trusted.py -v ..                  with the lines of each file, the lemmas by which equality tests aren't entered, and the names that
+                                            stand in two files
 
 A function is named as FUNCTION, or CRATE::FILE::FUNCTION where several are called so; FUNCTION.CLAUSE is one clause of it, as `run_job.done`.
 
 It follows names: from the clauses to the definitions that they name, in `specs/` of any crate, to the types of `src/` that these name, and so on.
 Words inside texts are no names, nor are fields: the record that a field belongs to is named by the type of what has it. Lines count that have
 something in them, without comments and without `use`. An equality test is not entered where a lemma of `specs/`, which the prover has checked, says
-that it is true of equal values alone: its signature counts, and the text names the lemma. What only the crates of threads lead to is counted apart."""
+that it is true of equal values alone: its signature counts, and `IsEquality`, and no more of it; how many tests that are is told with the count, and
+which lemmas by -v and in the text. What only the crates of threads lead to is counted apart."""
 import collections
 import pathlib
 import re
@@ -21,19 +23,18 @@ ROOT = pathlib.Path(__file__).resolve().parent.parent / "crates"
 WORD = re.compile(r"(?<![\w'.-])[^\W\d][\w'-]*(?:\.[^\W\d][\w'-]*)*")
 # What stands in a definition and names no other: texts, comments, and fields, where a record is made and where it is declared.
 NO_NAMES = re.compile(r' --.*$|"(?:[^"\\]|\\.)*"|(?<=[{;] )[\w\'-]+(?= =)|^ +(?:pub )?[\w\'-]+(?= : )', re.M)
-# README's first promises: a rank's lines are a beginning of what the evaluation gives it, and these where all ranks finish.
-HEADLINE = ["every_run_begins_the_evaluation.lines", "every_run_begins_the_evaluation.whole"]
-HEADLINE += ["run_sim.begins", "run_sim.whole", "run_threads.begins", "run_threads.whole"]
+# Joining boards is a semilattice; and after all that can happen what boards and results tell is so, processes agree, and results stay.
+HEADLINE = ["joining_boards_is_a_semilattice", "every_history_is_sound", "completed_results_are_permanent.histories", "processes_agree_at_any_time.histories"]
 PROMISES = {
     "the headline": HEADLINE,
+    "the headline, of events": [*HEADLINE, "mpx_world::world::run.happenings"],
     "every run": ["every_run_begins_the_evaluation"],
-    "boards and worlds": ["joining_boards_is_a_semilattice", "every_world_is_sound", "completed_results_are_permanent", "processes_agree_at_any_time"],
-    "what is printed": ["run_job", "every_run_begins_the_evaluation"],
+    "what is printed": ["run_job.prints"],
 }
 THREADS = {"mpx_bus", "mpx_shared", "mpx_threads"}
-# A lemma that decides an equality test, and the test's name in it.
+# A lemma that decides an equality test, and the test in it: its name, or in brackets what it is by definition.
 LEMMAS = [
-    re.compile(r"^(?:pub )?([\w'-]+) : IsEquality ([\w'-]+)$"),
+    re.compile(r"^(?:pub )?([\w'-]+) : IsEquality (?P<test>[\w'-]+|\([\w' -]+\))$"),
     re.compile(r"^(?:pub )?([\w'-]+) : \((\w+) (\w+) : [^()]+\) → Decides \((?P<test>[\w'-]+) \2 \3\) \(\2 ≡ \3\)$"),
 ]
 
@@ -94,7 +95,13 @@ class Specs:
         for form in LEMMAS:
             found = form.match(line)
             if found:
-                self.lemmas.setdefault(found.groupdict().get("test") or found.group(2), found.group(1))
+                self.lemmas.setdefault(found.group("test"), found.group(1))
+
+    def meaning(self, name):
+        """What a definition without arguments is, in brackets: `(eq_by_cmp name_cmp)`."""
+        lines = self.lines[name]
+        head, is_one, body = lines[-1].strip().partition(" = ")
+        return f"({body})" if len(lines) == 2 and is_one and head == name else None
 
 
 class House:
@@ -108,6 +115,8 @@ class House:
                 home = file if test in specs.lines else self.of_specs(*(specs.imports.get(test) or ("", "")))
                 if home:
                     self.lemmas.setdefault((home, test), (lemma, file))
+                elif test.startswith("("):
+                    self.lemmas.setdefault(test, (lemma, file))
 
     def of_specs(self, module, _):
         parts = module.split(".")
@@ -127,7 +136,7 @@ class House:
             # handed on by `pub use`
             path, there = specs.imports.get(name, (None, None))
             return self.found(path, there) if path and there else None
-        lines, lemma = specs.lines[name], self.lemmas.get((file, name))
+        lines, lemma = specs.lines[name], self.lemmas.get((file, name)) or self.lemmas.get(specs.meaning(name))
         lines = lines[:1] if lemma else lines
         used = names_in("\n".join(lines), specs, module)
         used += [("Rattle.join_core.specs.Laws", "IsEquality")] if lemma else []
@@ -213,6 +222,15 @@ def by_file(definitions):
     return total
 
 
+def twice(definitions):
+    """Names that stand in two files, and these files."""
+    found = collections.defaultdict(set)
+    for it in definitions:
+        if it.file:
+            found[it.name.split("::")[-1]].add(str(it.file.relative_to(ROOT)))
+    return {name: sorted(files) for name, files in sorted(found.items()) if len(files) > 1}
+
+
 def print_text(definitions):
     """The definitions as one text, each file named where it changes."""
     last = None
@@ -245,10 +263,16 @@ def main(words):
         total, apart = by_file(definitions), by_file(gathered(house, functions, THREADS))
         threads = sum(total.values()) - sum(apart.values())
         more = f", and {threads} for threads" * (threads > 0)
-        print(f"{what}: {sum(apart.values())} lines in {len(apart)} files{more}; {len(definitions)} definitions in all")
+        tests, again = [it for it in definitions if it.lemma], twice(definitions)
+        print(f"{what}: {sum(apart.values())} lines in {len(apart)} files{more}; {len(definitions)} definitions in all", end="")
+        print(f", {len(tests)} equality tests decided by lemmas, {len(again)} names in two files")
         if "-v" in flags:
             for place, lines in total.most_common():
                 print(f"    {lines:4} {place}")
+            for it in tests:
+                print(f"    not entered: {it.name}, decided by {it.lemma[0]} of {it.lemma[1].relative_to(ROOT)}")
+            for name, files in again.items():
+                print(f"    in two files: {name}, in {' and '.join(files)}")
     return 0
 
 
